@@ -1,1 +1,5 @@
 pub mod Causes
+pub mod Errors
+pub mod Maps
+pub mod Modes
+pub mod Names

@@ -8,14 +8,16 @@
 //! stream answers its failure only where its count of faults rose.
 #![tactic(auto)]
 
-
-
+mod elements;
+mod errors;
 mod lists;
+mod names;
+mod opening;
+mod reports;
 
-
-
-
-
-pub use lists::Bytes;
-
-
+pub use elements::{Cause, Content, Element, Entry, FileInfo, Fresh, Scope, StoreKind};
+pub use errors::{Holder, Limit, PerError, Unit};
+pub use lists::{Bytes, Numbers, Sequence, ValueText};
+pub use names::Name;
+pub use opening::{OpenKind, OpenMode, Origin};
+pub use reports::{Report, ReportKind};

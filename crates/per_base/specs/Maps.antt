@@ -1,0 +1,30 @@
+-- Finite maps from names to elements: lists of pairs in the order of the names, in the words that std has for a `BTreeMap`.
+use Rattle.std.specs.Prelude.{ℕ, ◌+◌, List, length, map, Bool, Option, sum_by, is_some}
+use Rattle.std.specs.BTreeMap.{insert_entry, is_at}
+use Rattle.std.specs.Map.{lookup, remove_entry}
+use Rattle.per_base.specs.declared.elements.Element.{Element}
+use Rattle.per_base.specs.Names.{name_cmp}
+
+abbrev pub Map : Type 0
+Map = List (List ℕ × Element)
+
+-- the element of this name
+abbrev pub element_at : Map → List ℕ → Option Element
+element_at m name = lookup (is_at (name_cmp name)) m
+
+abbrev pub has : Map → List ℕ → Bool
+has m name = is_some (element_at m name)
+
+-- the map with this element at this name, and with none there
+abbrev pub with_element : Map → List ℕ → Element → Map
+with_element m name element = insert_entry name_cmp m name element
+
+abbrev pub without : Map → List ℕ → Map
+without m name = remove_entry (is_at (name_cmp name)) m
+
+abbrev pub names_of : Map → List (List ℕ)
+names_of m = map (λ e. e.0) m
+
+-- names and contents, readable or not, in bytes
+abbrev pub size_of : Map → ℕ
+size_of m = sum_by (λ e. length e.0 + e.1.len) m

@@ -1,0 +1,19 @@
+-- The flags of an opening, read off the bits of the set: 1, 2, 4 and 8.
+use Rattle.std.specs.Prelude.{ℕ, Bool, ◌==◌}
+use Rattle.std.specs.Int.RustNames.{bit_and}
+use Rattle.per_base.specs.declared.opening.OpenMode.{OpenMode}
+
+abbrev pub bits_of : OpenMode → ℕ
+bits_of mode = mode.0
+
+abbrev pub at_beginning : OpenMode → Bool
+at_beginning mode = bit_and (bits_of mode) 1 == 1
+
+abbrev pub at_end : OpenMode → Bool
+at_end mode = bit_and (bits_of mode) 2 == 2
+
+abbrev pub truncates : OpenMode → Bool
+truncates mode = bit_and (bits_of mode) 4 == 4
+
+abbrev pub appends : OpenMode → Bool
+appends mode = bit_and (bits_of mode) 8 == 8
