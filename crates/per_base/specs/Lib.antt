@@ -3,3 +3,4 @@ pub mod Errors
 pub mod Maps
 pub mod Modes
 pub mod Names
+pub mod Streams

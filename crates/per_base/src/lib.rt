@@ -11,13 +11,17 @@
 mod elements;
 mod errors;
 mod lists;
+mod memory_streams;
 mod names;
 mod opening;
 mod reports;
+mod streams;
 
 pub use elements::{Cause, Content, Element, Entry, FileInfo, Fresh, Scope, StoreKind};
 pub use errors::{Holder, Limit, PerError, Unit};
 pub use lists::{Bytes, Numbers, Sequence, ValueText};
+pub use memory_streams::{MemSink, MemSource};
 pub use names::Name;
 pub use opening::{OpenKind, OpenMode, Origin};
 pub use reports::{Report, ReportKind};
+pub use streams::{Failed, Sink, Source};

@@ -1,0 +1,27 @@
+-- What the streams in memory know of themselves: a source with the bytes that are left, a sink with the bytes that it took.
+use Rattle.std.specs.Prelude.{ℕ, List, Bool, nat_eq}
+use Rattle.std.specs.List.{list_any}
+
+pub record SourceState : Type 0 where
+  pub left : List ℕ
+  -- the greatest number of bytes that a read gives
+  pub piece : ℕ
+  -- the numbers of the calls that fail, counted from 0
+  pub failing : List ℕ
+  pub calls : ℕ
+  pub faults : ℕ
+
+pub record SinkState : Type 0 where
+  pub written : List ℕ
+  -- the greatest number of bytes that a write takes
+  pub piece : ℕ
+  -- the numbers of the calls that fail, counted from 0
+  pub failing : List ℕ
+  pub calls : ℕ
+  pub faults : ℕ
+  -- how often memory ran out for the bytes
+  pub starved : ℕ
+
+-- whether the plan lets the call of this number fail
+abbrev pub is_failing : List ℕ → ℕ → Bool
+is_failing failing call = list_any (λ n. nat_eq n call) failing

@@ -1,0 +1,47 @@
+//! The two streams of the outside: a source of bytes and a sink for bytes, each with a count of its faults.
+
+ghost use Rattle.std.specs.Prelude.{◌≡◌, ◌<◌, ◌≤◌, ℕ, List, Option, IfOk, is_some, length};
+ghost use Rattle.std.specs.Io.KnownBytes.{ReadConsumes, WriteAppends};
+ghost use Rattle.per_base.specs.Causes.{HasCause, Rose};
+
+/// A source or a sink did not do its call.
+#[derive(Clone, Copy, Debug, PartialEq, Eq)]
+pub struct Failed;
+
+/// A stream of bytes that are read.
+pub trait Source {
+    /// The bytes that are left, where the source tells them.
+    ghost left: { Self → Option (List ℕ) };
+
+    /// How many calls failed. The count stops at the greatest `u64`.
+    ghost faults: { Self → ℕ };
+
+    /// Puts the next bytes at the front of `out` and says how many they are: 0 only at the end of the input, where there is room.
+    /// The rest of `out` may hold anything.
+    ///
+    /// Errors: `Failed` only where the count of faults rose; then nothing is taken from the source.
+    fn read(&mut self, out: &mut [u8]) -> Result<usize, Failed>
+        ensures bound { IfOk result (λ n. n ≤ length out.new) }
+        ensures bytes { ReadConsumes (left self.old) (left self.new) result out.new }
+        ensures told { is_some (left self.new) ≡ is_some (left self.old) }
+        ensures cause { HasCause (faults self.old) (faults self.new) result };
+}
+
+/// A stream of bytes that are written.
+pub trait Sink {
+    /// The bytes that were taken, where the sink tells them.
+    ghost written: { Self → Option (List ℕ) };
+
+    /// How many calls failed. The count stops at the greatest `u64`.
+    ghost faults: { Self → ℕ };
+
+    /// Takes bytes from the front of `bytes` and says how many they are. Where it takes none of some, its count of faults rises too.
+    ///
+    /// Errors: `Failed` only where the count of faults rose; then nothing is taken.
+    fn write(&mut self, bytes: &[u8]) -> Result<usize, Failed>
+        ensures bound { IfOk result (λ n. n ≤ length bytes.now) }
+        ensures bytes { WriteAppends (written self.old) (written self.new) result bytes.now }
+        ensures told { is_some (written self.new) ≡ is_some (written self.old) }
+        ensures cause { HasCause (faults self.old) (faults self.new) result }
+        ensures stuck { IfOk result (λ n. n ≡ 0 → 0 < length bytes.now → Rose (faults self.old) (faults self.new)) };
+}
