@@ -1,7 +1,10 @@
 //! Elements of a storage: keys and files, their contents and infos.
 
+ghost use Rattle.std.specs.Prelude.{◌≡◌, ◌+◌, ◌*◌, ◌<◌, ◌≤◌, IfOk, length, sum_by};
+
 use crate::lists::{Bytes, Numbers};
 use crate::names::Name;
+use std::alloc::AllocError;
 
 /// The kind of a storage.
 #[derive(Clone, Copy, Debug, PartialEq, Eq)]
@@ -73,4 +76,97 @@ pub struct Fresh {
     pub name: Name,
     pub info: Option<FileInfo>,
     pub bytes: Bytes,
+}
+
+impl Content {
+    /// A copy with the same bytes.
+    pub fn copy(&self) -> Result<Content, AllocError>
+        ensures { IfOk result (λ copy. copy ≡ self.now) }
+    {
+        match self {
+            Content::Good(bytes) => Ok(Content::Good(bytes.copy()?)),
+            Content::Bad(None) => Ok(Content::Bad(None)),
+            Content::Bad(Some(salvage)) => Ok(Content::Bad(Some(salvage.copy()?))),
+        }
+    }
+}
+
+impl Element {
+    /// A copy that is equal in all.
+    pub fn copy(&self) -> Result<Element, AllocError>
+        ensures { IfOk result (λ copy. copy ≡ self.now) }
+    {
+        let content = self.content.copy()?;
+        Ok(Element {
+            info: self.info,
+            len: self.len,
+            content,
+        })
+    }
+}
+
+impl Entry {
+    /// A copy that is equal in all.
+    pub fn copy(&self) -> Result<Entry, AllocError>
+        ensures { IfOk result (λ copy. copy ≡ self.now) }
+    {
+        let name = self.name.copy()?;
+        let content = self.content.copy()?;
+        let lacking = self.lacking.copy()?;
+        Ok(Entry {
+            name,
+            info: self.info,
+            changed: self.changed,
+            len: self.len,
+            content,
+            lacking,
+        })
+    }
+
+    /// The size of the element in bytes: its name and its encoding or content.
+    pub fn size(&self) -> u64
+        ensures size { result ≡ length self.now.name + self.now.len }
+        ensures bound { result ≤ ENTRY_SIZE }
+    {
+        element_size(&self.name, self.len)
+    }
+}
+
+impl Fresh {
+    /// A copy that is equal in all.
+    pub fn copy(&self) -> Result<Fresh, AllocError>
+        ensures { IfOk result (λ copy. copy ≡ self.now) }
+    {
+        let name = self.name.copy()?;
+        let bytes = self.bytes.copy()?;
+        Ok(Fresh {
+            name,
+            info: self.info,
+            bytes,
+        })
+    }
+}
+
+/// No element is larger, in bytes: 255 for the name and what a `u32` counts.
+pub const ENTRY_SIZE: u64 = 255 + 4_294_967_295;
+
+/// The size in bytes of an element with this name and this length.
+pub fn element_size(name: &Name, len: u32) -> u64
+    ensures size { result ≡ length name.now + len }
+    ensures bound { result ≤ ENTRY_SIZE }
+{
+    let text = name.as_str();
+    text.len() as u64 + len as u64
+}
+
+/// The size of a storage in bytes: the sum over its elements, which no list of them makes too great for a `u64`.
+pub fn storage_size(entries: &[Entry]) -> u64
+    requires { length entries.now ≤ 1024 }
+    ensures size { result ≡ sum_by (λ e. length e.name + e.len) entries.now }
+{
+    let mut total: u64 = 0;
+    for entry in entries {
+        total += entry.size();
+    }
+    total
 }

@@ -16,8 +16,13 @@ mod names;
 mod opening;
 mod reports;
 mod streams;
+#[cfg(test)]
+mod tests;
 
-pub use elements::{Cause, Content, Element, Entry, FileInfo, Fresh, Scope, StoreKind};
+pub use elements::{
+    Cause, Content, ENTRY_SIZE, Element, Entry, FileInfo, Fresh, Scope, StoreKind, element_size,
+    storage_size,
+};
 pub use errors::{Holder, Limit, PerError, Unit};
 pub use lists::{Bytes, Numbers, Sequence, ValueText};
 pub use memory_streams::{MemSink, MemSource};

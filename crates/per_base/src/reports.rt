@@ -1,7 +1,10 @@
 //! Reports of an opening.
 
+ghost use Rattle.std.specs.Prelude.{◌≡◌, IfOk};
+
 use crate::lists::Numbers;
 use crate::names::Name;
+use std::alloc::AllocError;
 
 /// What an opening found of a storage or an element.
 #[derive(Clone, Copy, Debug, PartialEq, Eq)]
@@ -23,4 +26,24 @@ pub struct Report {
     pub storage: Name,
     pub element: Option<Name>,
     pub copies: Numbers,
+}
+
+impl Report {
+    /// A copy that is equal in all.
+    pub fn copy(&self) -> Result<Report, AllocError>
+        ensures { IfOk result (λ copy. copy ≡ self.now) }
+    {
+        let storage = self.storage.copy()?;
+        let copies = self.copies.copy()?;
+        let element = match &self.element {
+            None => None,
+            Some(name) => Some(name.copy()?),
+        };
+        Ok(Report {
+            kind: self.kind,
+            storage,
+            element,
+            copies,
+        })
+    }
 }
