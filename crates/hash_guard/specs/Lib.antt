@@ -1,0 +1,4 @@
+pub mod SealedText
+pub mod Laws
+pub mod Inverse
+pub mod Samples

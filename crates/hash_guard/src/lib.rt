@@ -1,0 +1,26 @@
+//! A text under its hash, so that a reader tells a whole text from a torn or damaged one.
+//!
+//! A sealed text is 32 bytes of SHA-256 of all that follows, a generation of at least 1 in 8 bytes, the
+//! body's length in 4 bytes, and the body of at most [`MAX_BODY`] bytes. Numbers are little-endian.
+//! It stands at the front of a slot; what stands behind it there does not matter.
+//!
+//! [`verify`] answers a generation and a body exactly where a slot's front is a sealed text, and what
+//! [`seal`] writes verifies as what was sealed. Both hash in place, without a copy of the body, and
+//! only `seal` takes memory.
+//!
+//! The hash guards against damage, not against malice: it is no signature, and whoever can write a
+//! slot can seal a text.
+#![tactic(auto)]
+
+mod hashing;
+mod layout;
+mod sealing;
+mod verifying;
+
+pub use hashing::hash;
+pub use layout::{BLANK, HEADER, MAX_BODY};
+pub use sealing::{seal, seal_into};
+pub use verifying::{Sealed, verify};
+
+#[cfg(test)]
+mod tests;
