@@ -1,0 +1,3 @@
+pub mod Vote
+pub mod Laws
+pub mod Samples

@@ -1,0 +1,27 @@
+-- The vote among copies of a text: the first text, in order of copies, that at least m copies equal.
+use Rattle.std.specs.Prelude.{ℕ, List, Option, Some, None, nat_le, count_by, find, map, Bool, false, Vec}
+use Rattle.std.specs.Option.{option_map}
+use Rattle.std.specs.List.{filter_map}
+use Rattle.std.specs.Str.{bytes_eq}
+use Rattle.std.specs.declared.alloc.Global.{Global}
+
+-- the copies as texts
+abbrev pub texts_of : List (Option (Vec ℕ Global)) → List (Option (List ℕ))
+texts_of copies = map (λ copy. option_map (λ text. text.items) copy) copies
+
+-- whether a copy is this text
+abbrev pub is_text : List ℕ → Option (List ℕ) → Bool
+is_text text None = false
+is_text text (Some other) = bytes_eq other text
+
+-- how many of all the copies are this text
+abbrev pub holders : List (Option (List ℕ)) → List ℕ → ℕ
+holders copies text = count_by (is_text text) copies
+
+-- the first text among some of the copies that at least m of all the copies are
+abbrev pub first_agreed : ℕ → List (Option (List ℕ)) → List (Option (List ℕ)) → Option (List ℕ)
+first_agreed m copies some = find (λ text. nat_le m (holders copies text)) (filter_map (λ copy. copy) some)
+
+-- the first text, in order of copies, that at least m copies are
+unfoldable pub voted : ℕ → List (Option (List ℕ)) → Option (List ℕ)
+voted m copies = first_agreed m copies copies

@@ -1,0 +1,70 @@
+//! The vote among copies of a text: which text do at least m of the copies agree on?
+//!
+//! A copy that is missing or unreadable is `None`, and agrees with no text. Where several texts have
+//! m copies, the one whose first copy comes first wins, so that every reader of the same copies comes
+//! to the same answer.
+//!
+//! [`vote`] takes no memory. It compares each copy with every other, which is cheap for the few copies
+//! that a storage has.
+#![tactic(auto)]
+
+ghost use Rattle.std.specs.Prelude.{◌≡◌, ◌≤◌};
+ghost use Rattle.std.specs.Option.{option_copied};
+ghost use Rattle.m_of_n.specs.Vote.{holders, texts_of, voted};
+
+/// The first text, in order of copies, that at least `m` copies equal; `None` exactly where there is none.
+#[tactic(auto, unfolding(crate::specs::Vote::voted))]
+pub fn vote(m: u32, copies: &[Option<Vec<u8>>]) -> Option<&[u8]>
+    requires { 1 ≤ m }
+    ensures { option_copied result ≡ voted m (texts_of copies.now) }
+{
+    for copy in copies {
+        if let Some(text) = copy {
+            if count_holders(copies, text) >= m as usize {
+                return Some(text);
+            }
+        }
+    }
+    None
+}
+
+// How many copies are this text.
+fn count_holders(copies: &[Option<Vec<u8>>], text: &[u8]) -> usize
+    ensures { result ≡ holders (texts_of copies.now) text.now }
+{
+    let mut count = 0;
+    for copy in copies {
+        if let Some(other) = copy {
+            if other.as_slice() == text {
+                count += 1;
+            }
+        }
+    }
+    count
+}
+
+#[cfg(test)]
+mod tests {
+    use super::*;
+    use std::alloc::{AllocError, Global};
+    use std::test::Fail;
+
+    fn text(alloc: Global, bytes: &[u8]) -> Result<Option<Vec<u8>>, AllocError> {
+        let copied = Vec::from_slice(alloc, bytes)?;
+        Ok(Some(copied))
+    }
+
+    // Of a, b and b two agree on b; one copy is a; of a, none and b no two agree.
+    #[test]
+    fn worked_votes(rt: HostRuntime) -> Result<(), Fail> {
+        let alloc = rt.alloc();
+        let agreed = [text(alloc, b"a")?, text(alloc, b"b")?, text(alloc, b"b")?];
+        assert_eq!(rt; vote(2, &agreed), Some(b"b".as_slice()));
+        let one = [None, text(alloc, b"a")?];
+        assert_eq!(rt; vote(1, &one), Some(b"a".as_slice()));
+        let split = [text(alloc, b"a")?, None, text(alloc, b"b")?];
+        assert_eq!(rt; vote(2, &split), None);
+        assert_eq!(rt; vote(1, &[]), None);
+        Ok(())
+    }
+}
