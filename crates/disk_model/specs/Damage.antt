@@ -1,0 +1,23 @@
+-- Soundness and damage, for anything that counts as a piece of an image.
+use Rattle.std.specs.Prelude.{◌≡◌, ◌⊎◌, ℕ, suc, zero, ◌+◌, ◌*◌, ◌<◌, List, Contains}
+use Rattle.disk_model.specs.Image.{Image}
+use Rattle.disk_model.specs.Case.{Case}
+
+-- a crash makes no piece by chance: each one was there after the last sync, or the writes since then make it
+abbrev pub IsSoundFor : {X : Type 0} → (Piece : Image → X → Type 0) → Case → Type 0
+IsSoundFor {X} Piece c = (x : X) → Piece c.left x → Piece c.base x ⊎ Piece c.full x
+
+-- damage to the files of a list: every other file stays as it is, and no piece is new
+pub record DecaysFor {X : Type 0} (Piece : Image → X → Type 0) (damaged : List ℕ) (old new : Image) : Type 0 where
+  pub others : (f : ℕ) → ¬ (Contains damaged f) → new f ≡ old f
+  pub pieces : (x : X) → Piece new x → Piece old x
+
+-- none of the three files of a copy is damaged
+abbrev pub IsUndamaged : List ℕ → ℕ → ℕ → Type 0
+IsUndamaged damaged first copy = (k : ℕ) → k < 3 → ¬ (Contains damaged (first + 4 * copy + k))
+
+-- P holds of at least m of the first n copies
+abbrev pub AtLeast : (P : ℕ → Type 0) → ℕ → ℕ → Type 0
+AtLeast P n zero = Unit {0}
+AtLeast P zero (suc m) = ⊥
+AtLeast P (suc n) (suc m) = (P n × AtLeast P n m) ⊎ AtLeast P n (suc m)

@@ -1,0 +1,12 @@
+pub mod Image
+pub mod Written
+pub mod Case
+pub mod Medium
+pub mod Place
+pub mod Frame
+pub mod Damage
+pub mod History
+pub mod Orders
+pub mod HistoryLaws
+pub mod Memory
+pub mod Silence

@@ -1,0 +1,69 @@
+-- A disk at one moment, and what calls do to it.
+use Rattle.std.specs.Prelude.{◌≡◌, ◌⊎◌, ℕ, ◌≤◌, Bool, IsTrue}
+use Rattle.disk_model.specs.Image.{Image}
+use Rattle.disk_model.specs.Case.{Case, IsSettledAt}
+
+-- All that is said of a disk at one moment.
+pub record Medium : Type 1 where
+  -- what reads give
+  pub image : Image
+  -- what a crash now may leave
+  pub now : Case → Type 0
+  -- the clock
+  pub moment : ℕ
+  -- what a crash at this or at some later moment might have left
+  pub since : ℕ → Case → Type 0
+  -- how many calls have failed, up to the greatest u64
+  pub faults : ℕ
+  -- how many bytes were written
+  pub written : ℕ
+
+-- nothing is pending: a crash now leaves what reads give
+abbrev pub Quiet : Medium → Type 0
+Quiet m = (c : Case) → m.now c → IsSettledAt m.image c
+
+-- some crash now leaves this image
+abbrev pub IsOutcome : Medium → Image → Type 0
+IsOutcome m image = (c : Case) × m.now c × (c.left ≡ image)
+
+-- What is so of each disk that meets the model.
+pub record IsLawful (told : Bool) (m : Medium) : Type 0 where
+  -- this moment is one of those since an earlier one
+  pub counts_now : (t : ℕ) (c : Case) → t ≤ m.moment → m.now c → m.since t c
+  -- since this moment there is no other
+  pub only_now : (c : Case) → m.since m.moment c → m.now c
+  -- what reads give is what some crash now leaves
+  pub reads_one : IsTrue told → IsOutcome m m.image
+
+-- Time goes on: the cases since t are those from before and those since the start of the call, and no count falls.
+pub record Elapses (old new : Medium) : Type 0 where
+  pub later : old.moment ≤ new.moment
+  pub nothing_else : (t : ℕ) (c : Case) → t ≤ old.moment → new.since t c → old.since t c ⊎ new.since old.moment c
+  pub keeps : (t : ℕ) (c : Case) → t ≤ old.moment → old.since t c → new.since t c
+  pub adds : (t : ℕ) (c : Case) → t ≤ old.moment → new.since old.moment c → new.since t c
+  pub faults : old.faults ≤ new.faults
+  pub written : old.written ≤ new.written
+
+-- calls that change no byte, and after which a crash leaves nothing that it would not have left before
+pub record OnlyReads (old new : Medium) : Type 0 where
+  pub image : new.image ≡ old.image
+  pub now : (c : Case) → new.now c → old.now c
+  pub during : (c : Case) → new.since old.moment c → old.now c
+  pub written : new.written ≡ old.written
+
+-- calls that change no byte, as reads and syncs: a case since their start is one of the start or one of the end
+pub record WritesNothing (old new : Medium) : Type 0 where
+  pub image : new.image ≡ old.image
+  pub during : (c : Case) → new.since old.moment c → old.now c ⊎ new.now c
+  pub written : new.written ≡ old.written
+
+-- reads and syncs on a quiet disk: it stays quiet, and each crash meanwhile leaves what reads gave at the start
+pub record IsIdle (old new : Medium) : Type 0 where
+  pub image : new.image ≡ old.image
+  pub quiet : Quiet new
+  pub during : (c : Case) → new.since old.moment c → IsSettledAt old.image c
+  pub written : new.written ≡ old.written
+
+-- each crash since the start of a stretch of calls leaves what P says
+abbrev pub EachCase : (P : Case → Type 0) → Medium → Medium → Type 0
+EachCase P old new = (c : Case) → new.since old.moment c → P c

@@ -1,0 +1,134 @@
+-- A disk in memory: what it is as a disk, which calls fail, and how it answers.
+use Rattle.std.specs.Prelude.{◌≡◌, ◌⊎◌, ◌↔◌, ℕ, suc, ◌+◌, ◌-◌, ◌^◌, ◌≤◌, min, Bool, false, ◌||◌, List, [], true, IsTrue, IsFalse}
+use Rattle.disk_model.specs.declared.memory.MemDisk.{MemDisk}
+use Rattle.per_base.specs.Causes.{Rose}
+use Rattle.disk_model.specs.declared.history.Call.{Call}
+use Rattle.disk_model.specs.Image.{Image}
+use Rattle.disk_model.specs.Case.{Case}
+use Rattle.disk_model.specs.Medium.{Medium, Quiet, Elapses, OnlyReads}
+use Rattle.disk_model.specs.History.{image_of, start_of, recorded, base_after, pending_after, torn_after}
+use Rattle.disk_model.specs.Orders.{names, stops}
+
+-- what is said of it as a disk
+abbrev pub mem_medium : MemDisk → Medium
+mem_medium disk = recorded (image_of disk.files) (start_of disk.files disk.start) disk.calls.items disk.faults disk.written
+
+-- how many calls failed for want of memory
+abbrev pub starved_count : MemDisk → ℕ
+starved_count disk = disk.starved
+
+-- what reads gave after the last sync
+abbrev pub synced_image : MemDisk → Image
+synced_image disk = base_after disk.calls.items (start_of disk.files disk.start) (start_of disk.files disk.start)
+
+-- what is left where the writes since the last sync stand that the pattern says, and every file is as long as all of them make it
+abbrev pub torn_image : MemDisk → ℕ → Image
+torn_image disk pattern = torn_after pattern 0 (pending_after disk.calls.items []) (synced_image disk)
+
+-- whether the plan names call k, the next one being 0
+abbrev pub is_planned : MemDisk → ℕ → Bool
+is_planned disk k = names disk.orders k
+
+-- whether call k comes after the stop
+abbrev pub is_stopped : MemDisk → ℕ → Bool
+is_stopped disk k = stops disk.orders k
+
+-- whether the next call is to fail
+abbrev pub is_due : MemDisk → Bool
+is_due disk = is_planned disk 0 || is_stopped disk 0
+
+-- it has no plan and no stop
+pub record HasNoOrders (disk : MemDisk) : Type 0 where
+  pub planned : (k : ℕ) → is_planned disk k ≡ false
+  pub stopped : (k : ℕ) → is_stopped disk k ≡ false
+
+-- a disk that was just made: quiet, nothing counted, no plan and no stop
+pub record IsFresh (disk : MemDisk) : Type 0 where
+  pub quiet : Quiet (mem_medium disk)
+  pub faults : (mem_medium disk).faults ≡ 0
+  pub written : (mem_medium disk).written ≡ 0
+  pub starved : starved_count disk ≡ 0
+  pub orders : HasNoOrders disk
+
+-- no byte, no case and no count of bytes changed
+pub record IsUnchanged (old new : Medium) : Type 0 where
+  pub image : new.image ≡ old.image
+  pub now : (c : Case) → new.now c ↔ old.now c
+  pub moment : new.moment ≡ old.moment
+  pub since : (t : ℕ) (c : Case) → new.since t c ↔ old.since t c
+  pub written : new.written ≡ old.written
+
+-- the counts of faults and of want stay
+pub record KeepsCounts (old new : MemDisk) : Type 0 where
+  pub faults : (mem_medium new).faults ≡ (mem_medium old).faults
+  pub starved : starved_count new ≡ starved_count old
+
+-- a count goes up by one, and stops at the greatest u64
+abbrev pub raised : ℕ → ℕ
+raised count = min (count + 1) (2 ^ 64 - 1)
+
+-- How a call answers: it fails where the plan names it and where it comes after the stop, and else for want of memory alone,
+-- which is counted beside the fault.
+pub record Answers (old new : MemDisk) (failed : Bool) : Type 0 where
+  pub due : IsTrue (is_due old) → IsTrue failed × (starved_count new ≡ starved_count old)
+  pub starves : IsFalse (is_due old) → IsTrue failed → starved_count new ≡ raised (starved_count old)
+  pub fails : IsTrue failed → (mem_medium new).faults ≡ raised (mem_medium old).faults
+  pub passes : IsFalse failed → KeepsCounts old new
+  -- the next call is now number 0
+  pub planned : (k : ℕ) → is_planned new k ≡ is_planned old (suc k)
+  pub stopped : (k : ℕ) → is_stopped new k ≡ is_stopped old (suc k)
+
+-- a disk with no plan and no stop has none after the call either, and its faults rise only together with the count of want
+abbrev pub FailsForWant : MemDisk → MemDisk → Type 0
+FailsForWant old new = HasNoOrders old → HasNoOrders new
+    × (KeepsCounts old new ⊎ (((mem_medium new).faults ≡ raised (mem_medium old).faults) × (starved_count new ≡ raised (starved_count old))))
+
+-- a call that fails changes nothing but the counts and the orders
+pub record Fails (old new : MemDisk) : Type 0 where
+  pub unchanged : IsUnchanged (mem_medium old) (mem_medium new)
+  pub reads : OnlyReads (mem_medium old) (mem_medium new)
+  pub time : Elapses (mem_medium old) (mem_medium new)
+  pub cause : Rose (mem_medium old).faults (mem_medium new).faults
+  pub answers : Answers old new true
+  pub for_want : FailsForWant old new
+
+-- ---- what parts of a call do
+
+-- the files, the start of the record, the record and the count of bytes, in the words above
+pub record Shows (disk : MemDisk) (image start : Image) (calls : List Call) (written : ℕ) : Type 0 where
+  pub image_is : image_of disk.files ≡ image
+  pub start_is : start_of disk.files disk.start ≡ start
+  pub calls_are : disk.calls.items ≡ calls
+  pub written_is : disk.written ≡ written
+
+-- nothing but the counts and the orders changed
+abbrev pub SameRecord : MemDisk → MemDisk → Type 0
+SameRecord old new = Shows new (image_of old.files) (start_of old.files old.start) old.calls.items old.written
+
+-- a call is counted among the orders, and fails where they say so
+pub record Begins (old new : MemDisk) (failed : Bool) : Type 0 where
+  pub due : failed ≡ is_due old
+  pub later : (mem_medium old).faults ≤ (mem_medium new).faults
+  pub starved : starved_count new ≡ starved_count old
+  pub fails : IsTrue failed → (mem_medium new).faults ≡ raised (mem_medium old).faults
+  pub passes : IsFalse failed → (mem_medium new).faults ≡ (mem_medium old).faults
+  pub planned : (k : ℕ) → is_planned new k ≡ is_planned old (suc k)
+  pub stopped : (k : ℕ) → is_stopped new k ≡ is_stopped old (suc k)
+
+-- the rest of a call succeeds
+pub record Succeeds (old new : MemDisk) : Type 0 where
+  pub counts : KeepsCounts old new
+  pub orders : new.orders ≡ old.orders
+
+-- the rest of a call fails for want of memory
+pub record Wants (old new : MemDisk) : Type 0 where
+  pub later : (mem_medium old).faults ≤ (mem_medium new).faults
+  pub faults : (mem_medium new).faults ≡ raised (mem_medium old).faults
+  pub starved : starved_count new ≡ raised (starved_count old)
+  pub orders : new.orders ≡ old.orders
+
+-- a call that succeeds: it was not to fail, and the counts stay
+pub record Passes (old new : MemDisk) : Type 0 where
+  pub counts : KeepsCounts old new
+  pub answers : Answers old new false
+  pub for_want : FailsForWant old new

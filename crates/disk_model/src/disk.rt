@@ -1,0 +1,72 @@
+//! The trait of a disk: its calls, and what each says of bytes, crashes and faults.
+
+ghost use Rattle.std.specs.Prelude.{◌≡◌, ◌≤◌, ◌+◌, ◌-◌, Bool, IsTrue, IfOk, OnOk, OnErr, length, take, drop, min};
+ghost use Rattle.per_base.specs.Causes.{Rose};
+ghost use Rattle.disk_model.specs.Image.{put_image, TornImage};
+ghost use Rattle.disk_model.specs.Case.{WriteCase, WriteOrNot, Follows};
+ghost use Rattle.disk_model.specs.Medium.{Medium, Quiet, IsLawful, Elapses, OnlyReads, WritesNothing};
+
+/// A call of a disk failed, and its count of faults rose.
+#[derive(Clone, Copy, Debug, PartialEq, Eq)]
+pub struct DiskFailed;
+
+/// A disk of files that are named by numbers. A file that was never written is empty.
+///
+/// What is said of bytes holds where the disk tells them, and so does what is said of crashes: a disk that tells nothing names no
+/// case. Whether a disk tells is a constant of its type, so it never changes from call to call.
+pub trait Disk {
+    /// Whether a disk of this type tells its bytes.
+    ghost told: { Bool };
+
+    /// What reads give, what a crash may leave, the clock, and the counts of faults and of bytes written.
+    ghost medium: { Self → Medium };
+
+    /// Reads from the byte `at` on as many bytes as there are, and at most as many as `out` has room for. The rest of `out` is free.
+    fn read(&mut self, file: u32, at: u64, out: &mut [u8]) -> Result<usize, DiskFailed>
+        ensures count { IfOk result (λ n. n ≤ length out.old) }
+        ensures bytes { IsTrue told → IfOk result (λ n.
+            (n ≡ min (length out.old) (length ((medium self.old).image file) - at))
+            × (take n out.new ≡ take n (drop at ((medium self.old).image file)))) }
+
+        ensures reads { OnlyReads (medium self.old) (medium self.new) }
+        ensures time { Elapses (medium self.old) (medium self.new) }
+        ensures cause { OnErr result (Rose (medium self.old).faults (medium self.new).faults) };
+
+    /// Writes the bytes from the byte `at` on; a gap before them reads as zeros, and no bytes change nothing. They are durable after
+    /// the next `sync`. Where the call fails, the range may hold anything, as after a crash.
+    fn write_at(&mut self, file: u32, at: u64, bytes: &[u8]) -> Result<(), DiskFailed>
+        ensures image { IsTrue told → OnOk result
+            ((medium self.new).image ≡ put_image (medium self.old).image file at bytes.now) }
+        ensures torn { IsTrue told → OnErr result
+            (TornImage file at (length bytes.now) (medium self.old).image (medium self.new).image) }
+
+        // What a crash may leave after the call, and at any moment of it.
+        ensures now { OnOk result (Follows (WriteCase file at bytes.now) (medium self.old).now (medium self.new).now) }
+        ensures during { Follows (WriteOrNot file at bytes.now) (medium self.old).now
+            ((medium self.new).since (medium self.old).moment) }
+
+        ensures written { IsTrue told → OnOk result ((medium self.new).written ≡ (medium self.old).written + length bytes.now) }
+        ensures at_most { (medium self.new).written ≤ (medium self.old).written + length bytes.now }
+        ensures time { Elapses (medium self.old) (medium self.new) }
+        ensures cause { OnErr result (Rose (medium self.old).faults (medium self.new).faults) };
+
+    /// How many bytes the file has.
+    fn size(&mut self, file: u32) -> Result<u64, DiskFailed>
+        ensures size { IsTrue told → IfOk result (λ n. n ≡ length ((medium self.old).image file)) }
+
+        ensures reads { OnlyReads (medium self.old) (medium self.new) }
+        ensures time { Elapses (medium self.old) (medium self.new) }
+        ensures cause { OnErr result (Rose (medium self.old).faults (medium self.new).faults) };
+
+    /// Makes every write so far durable, in all files: afterwards a crash leaves what reads give.
+    fn sync(&mut self) -> Result<(), DiskFailed>
+        ensures quiet { OnOk result (Quiet (medium self.new)) }
+        ensures failed { OnErr result (OnlyReads (medium self.old) (medium self.new)) }
+
+        ensures writes_nothing { WritesNothing (medium self.old) (medium self.new) }
+        ensures time { Elapses (medium self.old) (medium self.new) }
+        ensures cause { OnErr result (Rose (medium self.old).faults (medium self.new).faults) };
+
+    /// This moment counts among those since an earlier one, since now there is no other, and what reads give is what some crash leaves.
+    ghost lawful: { (disk : Self) → IsLawful told (medium disk) };
+}
