@@ -1,0 +1,116 @@
+-- How flags are chosen, slot by slot, and texts seen.
+use Rattle.std.proofs.Common.{◌≡◌, ℕ, ◌+◌, ◌<◌, ◌≤◌, List, length, take, get_or, set, Bool, true, false, IsTrue, sym, ap, ◌∙◌, subst, ⊎_elim, arith, get_or-set_other, get_or-set_same, eq-eqb, min, drop, nat_eq, ◌-◌, ◌&&◌}
+use Rattle.std.specs.Str.{bytes_eq}
+use Rattle.std.proofs.lemmas.Slice.Eq.{bytes_eq-Decides}
+use Rattle.std.proofs.lemmas.Bool.{cases_lt}
+use Rattle.hash_guard.specs.SealedText.{VerifiesAs}
+use Rattle.std.proofs.lemmas.List.{take-take, take_all, length-set}
+use Rattle.hash_guard.specs.Laws.{verifies-take, verifies_alike, body_short, verifies_once}
+use Rattle.disk_model.proofs.Moments.{reads_on, elapses_on}
+use Rattle.disk_model.specs.Image.{Image}
+use Rattle.disk_model.specs.Medium.{Medium, OnlyReads, Elapses}
+use Rattle.disk_model.specs.Place.{slot}
+use Rattle.guarded_cell.specs.Register.{IsBlank}
+use Rattle.guarded_cell.specs.Slots.{front, IsFound, Tells, picked, HasNoOther}
+use Rattle.guarded_cell.specs.declared.slots.Found.{Found}
+use Rattle.guarded_cell.specs.declared.slots.Found.TheVariants.{Nothing, Wanted, Another}
+use Rattle.guarded_cell.specs.declared.slots.Pick.{Pick}
+use Rattle.guarded_cell.specs.declared.slots.Pick.TheVariants.{Lacking, Verifying, Others}
+
+-- what is found is told by the flag
+pub told_by : (pick : Pick) (found : Found) (bytes : List ℕ) (generation : ℕ) (text : List ℕ) → IsFound found bytes generation text
+    → Tells pick (picked pick found) bytes generation text
+told_by Lacking Nothing bytes generation text blank = λ v. blank generation text v
+told_by Lacking Wanted bytes generation text v = v
+told_by Lacking Another bytes generation text found = found.0
+told_by Verifying Nothing bytes generation text blank = blank
+told_by Verifying Wanted bytes generation text v = λ blank. blank generation text v
+told_by Verifying Another bytes generation text found = found.1
+told_by Others Nothing bytes generation text blank = λ g t v. absurd (blank g t v)
+told_by Others Wanted bytes generation text v = λ g t w. verifies_once bytes g generation t text w v
+told_by Others Another bytes generation text found = λ only. found.1 (λ g t v. found.0 (both only g t v))
+  where
+    both : HasNoOther bytes generation text → (g : ℕ) (t : List ℕ) → VerifiesAs bytes g t → VerifiesAs bytes generation text
+    both only g t v = let (e, f) = only g t v in subst (λ (x : ℕ). VerifiesAs bytes x text) e (subst (λ (y : List ℕ). VerifiesAs bytes g y) f v)
+
+-- a slot verifies as its front does
+pub front_is : (bytes : List ℕ) (g : ℕ) (t : List ℕ) → VerifiesAs (take front bytes) g t → VerifiesAs bytes g t
+front_is bytes g t v =
+    let short = body_short (take front bytes) g t v in
+    let within : 44 + length t ≤ front = omega (arith, short) in
+    verifies_alike (44 + length t) (take front bytes) bytes g t (omega arith) (take-take (44 + length t) front bytes within) v
+
+pub is_front : (bytes : List ℕ) (g : ℕ) (t : List ℕ) → VerifiesAs bytes g t → VerifiesAs (take front bytes) g t
+is_front bytes g t v =
+    let short = body_short bytes g t v in
+    verifies-take front bytes g t (omega (arith, short)) v
+
+-- the front of a slot tells what the slot holds
+pub front_tells : (found : Found) (bytes : List ℕ) (generation : ℕ) (text : List ℕ)
+    → IsFound found (take front bytes) generation text → IsFound found bytes generation text
+front_tells Nothing bytes generation text blank = λ g t v. blank g t (is_front bytes g t v)
+front_tells Wanted bytes generation text v = front_is bytes generation text v
+front_tells Another bytes generation text found =
+    ((λ v. found.0 (is_front bytes generation text v)), (λ blank. found.1 (λ g t v. blank g t (front_is bytes g t v))))
+
+-- what was read is the front
+pub read_is : (n len : ℕ) (out file : List ℕ) → len ≡ front → n ≡ min len (length file - 0) → take n out ≡ take n (drop 0 file)
+    → take n out ≡ take front file
+read_is n len out file long count same = same ∙ ⊎_elim
+    (λ small.
+    let all : length file ≤ n = omega (arith, count, long, small) in
+    take_all n file all ∙ sym (take_all front file (omega (arith, small))))
+    (λ large.
+    let e : n ≡ front = omega (arith, count, long, large) in
+    ap (λ (k : ℕ). take k file) e)
+    (cases_lt (length file) front)
+
+-- a text that is not the wanted one
+pub another : (bytes : List ℕ) (g h : ℕ) (text body : List ℕ) → VerifiesAs bytes h body → (nat_eq h g && bytes_eq body text) ≡ false
+    → ¬ (VerifiesAs bytes g text) × ¬ (IsBlank bytes)
+another bytes g h text body v differs = (
+  (λ w.
+      let same = verifies_once bytes h g body text v w in
+      let one : nat_eq h g ≡ true = eq-eqb h g same.0 in
+      let two : bytes_eq body text ≡ true = (bytes_eq-Decides body text).1 same.1 in
+      cc),
+  (λ blank. blank h body v),
+)
+
+-- what is so at the start of each turn of the loop that chooses
+pub record IsChoosing (pick : Pick) (chosen : List Bool) (told : Bool) (start now : Medium) (first parity k generation : ℕ) (text : List ℕ) : Type 0 where
+  pub long : length chosen ≡ 8
+  pub picks : IsTrue told → (copy : ℕ) → copy < k → Tells pick (get_or chosen copy false) (start.image (slot first copy parity)) generation text
+  pub reads : OnlyReads start now
+  pub time : Elapses start now
+
+chooses : (pick : Pick) (chosen : List Bool) (image start : Image) (first parity k generation : ℕ) (text : List ℕ) (found : Found)
+    → length chosen ≡ 8 → k < 8 → image ≡ start
+    → ((copy : ℕ) → copy < k → Tells pick (get_or chosen copy false) (start (slot first copy parity)) generation text)
+    → IsFound found (image (slot first k parity)) generation text
+    → (copy : ℕ) → copy < k + 1 → Tells pick (get_or (set chosen k (picked pick found)) copy false) (start (slot first copy parity)) generation text
+chooses pick chosen image start first parity k generation text found long lt same before here copy below = ⊎_elim
+    (λ earlier. subst (λ (b : Bool). Tells pick b (start (slot first copy parity)) generation text)
+    (sym (get_or-set_other chosen k copy (picked pick found) false (λ e. omega (arith, e, earlier)))) (before copy earlier))
+    (λ last.
+    let e : copy ≡ k = omega (arith, last, below) in
+    subst (λ (x : ℕ). Tells pick (get_or (set chosen k (picked pick found)) x false) (start (slot first x parity)) generation text) (sym e)
+    (subst (λ (b : Bool). Tells pick b (start (slot first k parity)) generation text) (sym (get_or-set_same chosen k (picked pick found) false (omega (arith, long, lt))))
+    (told_by pick found (start (slot first k parity)) generation text
+    (subst (λ (im : Image). IsFound found (im (slot first k parity)) generation text) same here))))
+    (cases_lt copy k)
+
+-- one turn of the loop
+pub chooses_on : {told : Bool} {start mid new : Medium} (pick : Pick) (chosen : List Bool) (first parity k generation : ℕ) (text : List ℕ) (found : Found) (b : Bool) (file : ℕ)
+    → k < 8 → b ≡ picked pick found → file ≡ slot first k parity
+    → IsChoosing pick chosen told start mid first parity k generation text
+    → (IsTrue told → IsFound found (mid.image file) generation text) → OnlyReads mid new → Elapses mid new
+    → IsChoosing pick (set chosen k b) told start new first parity (k + 1) generation text
+chooses_on {told} {start} {mid} {new} pick chosen first parity k generation text found b file lt flag is w here reads time = record {
+  long = length-set chosen k b ∙ w.long;
+  picks = λ tells. subst (λ (x : Bool). (copy : ℕ) → copy < k + 1 → Tells pick (get_or (set chosen k x) copy false) (start.image (slot first copy parity)) generation text) (sym flag)
+      (chooses pick chosen mid.image start.image first parity k generation text found w.long lt w.reads.image (w.picks tells)
+      (subst (λ (f : ℕ). IsFound found (mid.image f) generation text) is (here tells)));
+  reads = reads_on w.time w.reads time reads;
+  time = elapses_on w.time time;
+}

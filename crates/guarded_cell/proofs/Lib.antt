@@ -1,0 +1,11 @@
+pub mod Texts
+pub mod Writing
+pub mod Known
+pub mod Putting
+pub mod Sparing
+pub mod Choosing
+pub mod Blanked
+pub mod Anew
+pub mod Flags
+pub mod Seeing
+pub mod Opened

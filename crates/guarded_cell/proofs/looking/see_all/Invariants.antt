@@ -1,0 +1,13 @@
+use Rattle.std.proofs.Common.{◌≡◌, IsTrue, All}
+use Rattle.disk_model.specs.Medium.{OnlyReads, Elapses}
+use Rattle.guarded_cell.specs.Held.{held}
+use Rattle.guarded_cell.specs.Seens.{IsSealable}
+use Rattle.guarded_cell.proofs.looking.see_all.Given as goal
+
+abbrev pub invariant-loop-copy : goal.invariant-loop-copy
+invariant-loop-copy g l = record {
+  held : IsTrue g.D.Disk.told → l.seens.items ≡ held ((g.D.Disk.medium l.initial.disk).image) l.place.first l.copy;
+  sealable : All IsSealable l.seens.items;
+  reads : OnlyReads (g.D.Disk.medium l.initial.disk) (g.D.Disk.medium l.disk);
+  time : Elapses (g.D.Disk.medium l.initial.disk) (g.D.Disk.medium l.disk);
+}

@@ -1,0 +1,36 @@
+-- Bytes written over the fronts of chosen slots of one parity.
+use Rattle.std.specs.Prelude.{◌≡◌, ◌⊎◌, ℕ, ◌<◌, List, Bool, true, false, get_or}
+use Rattle.disk_model.specs.Image.{Image, put_bytes}
+use Rattle.disk_model.specs.Case.{Case, IsSettledAt}
+use Rattle.disk_model.specs.Medium.{Medium}
+use Rattle.disk_model.specs.Frame.{Spares}
+use Rattle.disk_model.specs.Place.{slot}
+
+-- a file that is the chosen slot of a copy
+pub record IsChosen (first parity copies : ℕ) (chosen : List Bool) (file : ℕ) : Type 0 where
+  pub copy : ℕ
+  pub within : copy < copies
+  pub flag : get_or chosen copy false ≡ true
+  pub is : file ≡ slot first copy parity
+
+-- some of these files took the bytes at their fronts, and every other is as it was
+pub record PutsSome (Files : ℕ → Type 0) (bytes : List ℕ) (old new : Image) : Type 0 where
+  pub each : (f : ℕ) → (new f ≡ old f) ⊎ (new f ≡ put_bytes (old f) 0 bytes)
+  pub others : (f : ℕ) → ¬ (Files f) → new f ≡ old f
+
+-- each chosen slot took the bytes at its front, and every other file is as it was
+pub record FrontsPut (first parity copies : ℕ) (chosen : List Bool) (bytes : List ℕ) (old new : Image) : Type 0 where
+  pub some : PutsSome (IsChosen first parity copies chosen) bytes old new
+  pub put : (copy : ℕ) → copy < copies → get_or chosen copy false ≡ true
+      → new (slot first copy parity) ≡ put_bytes (old (slot first copy parity)) 0 bytes
+
+-- the same in a case: done whole for some of the chosen slots, and cut short anywhere in what is left
+pub record FrontsCase (first parity copies : ℕ) (chosen : List Bool) (bytes : List ℕ) (old new : Case) : Type 0 where
+  pub base : new.base ≡ old.base
+  pub full : PutsSome (IsChosen first parity copies chosen) bytes old.full new.full
+  pub left : Spares (λ f. ¬ (IsChosen first parity copies chosen f)) old.left new.left
+
+-- a case while the fronts are written, or one after they were made durable
+abbrev pub IsFrontsCase : (first parity copies : ℕ) → List Bool → List ℕ → (old new : Medium) → (done : Type 0) → Case → Type 0
+IsFrontsCase first parity copies chosen bytes old new done c =
+    ((d : Case) × old.now d × FrontsCase first parity copies chosen bytes d c) ⊎ (done × IsSettledAt new.image c)

@@ -1,0 +1,61 @@
+-- The texts that the copies of a register hold, in order, and the one that stands. In lists copies are counted from 1.
+use Rattle.std.specs.Prelude.{ℕ, zero, suc, ◌+◌, ◌%◌, ◌==◌, List, [], ◌∷◌, ◌++◌, length, Bool, ◌&&◌, not, nat_eq, nat_le, nat_lt, Option, Some, None, find, if◌then◌else◌}
+use Rattle.std.specs.Str.{bytes_eq}
+use Rattle.hash_guard.specs.SealedText.{verified}
+use Rattle.disk_model.specs.Image.{Image}
+use Rattle.disk_model.specs.Place.{slot}
+use Rattle.guarded_cell.specs.declared.looking.Seen.{Seen}
+
+-- a generation and a text
+abbrev pub Text : Type 0
+Text = ℕ × List ℕ
+
+-- a text counts in the slots of its generation's parity alone
+abbrev pub of_parity : ℕ → Option Text → Option Text
+of_parity parity None = None
+of_parity parity (Some t) = if t.0 % 2 == parity then Some t else None
+
+-- the text that a copy holds in its slot of this parity
+abbrev pub text_in : Image → (first copy parity : ℕ) → Option Text
+text_in image first copy parity = of_parity parity (verified (image (slot first copy parity)))
+
+abbrev pub is_seen : Text → Seen → Bool
+is_seen t seen = nat_eq seen.generation t.0 && bytes_eq seen.text t.1
+
+-- whether the slot that would hold a text holds it
+abbrev pub is_text : Text → Option Text → Bool
+is_text t None = Bool.false
+is_text t (Some u) = nat_eq u.0 t.0 && bytes_eq u.1 t.1
+
+abbrev pub holds : Image → (first copy : ℕ) → Text → Bool
+holds image first copy t = is_text t (verified (image (slot first copy (t.0 % 2))))
+
+-- which of the first n copies pass a test, ascending and counted from 1
+abbrev pub copies_that : (ℕ → Bool) → ℕ → List ℕ
+copies_that test zero = []
+copies_that test (suc n) = copies_that test n ++ (if test n then (n + 1) ∷ [] else [])
+
+-- the copies that do not hold a text
+unfoldable pub lacking : Image → (first copies generation : ℕ) → List ℕ → List ℕ
+lacking image first copies generation text = copies_that (λ copy. not (holds image first copy (generation, text))) copies
+
+-- one copy more of a text, among texts that stand greatest generation first, and at one generation in the order of their first copies
+abbrev pub with_copy : ℕ → Text → List Seen → List Seen
+with_copy copy t [] = record { generation = t.0; text = t.1; copies = copy ∷ [] } ∷ []
+with_copy copy t (seen ∷ rest) =
+    if is_seen t seen then record seen { copies = seen.copies ++ copy ∷ [] } ∷ rest
+    else (if nat_lt seen.generation t.0 then record { generation = t.0; text = t.1; copies = copy ∷ [] } ∷ seen ∷ rest
+    else seen ∷ with_copy copy t rest)
+
+abbrev pub with_slot : ℕ → Option Text → List Seen → List Seen
+with_slot copy None seens = seens
+with_slot copy (Some t) seens = with_copy copy t seens
+
+-- every text that one of the first n copies holds, with those copies, greatest generation first, then by first copy
+unfoldable pub held : Image → (first copies : ℕ) → List Seen
+held image first zero = []
+held image first (suc copy) = with_slot (copy + 1) (text_in image first copy 1) (with_slot (copy + 1) (text_in image first copy 0) (held image first copy))
+
+-- the first of them that at least m copies hold
+unfoldable pub standing : Image → (first copies m : ℕ) → Option Seen
+standing image first copies m = find (λ seen. nat_le m (length seen.copies)) (held image first copies)

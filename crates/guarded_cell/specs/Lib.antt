@@ -1,0 +1,16 @@
+pub mod Register
+pub mod Held
+pub mod Stops
+pub mod Cells
+pub mod Slots
+pub mod Rights
+pub mod Fronts
+pub mod Seens
+pub mod Opens
+pub mod StopLaws
+pub mod CopyLaws
+pub mod SeenLaws
+pub mod HeldLaws
+pub mod FirstLaws
+pub mod Shown
+pub mod ShownLaws

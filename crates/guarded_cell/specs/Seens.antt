@@ -1,0 +1,21 @@
+-- Where a text belongs among texts that were seen.
+use Rattle.std.specs.Prelude.{◌≡◌, ◌⊎◌, ℕ, ◌<◌, ◌≤◌, List, length, true, false, slice_index_or}
+use Rattle.hash_guard.specs.SealedText.{max_body}
+use Rattle.guarded_cell.specs.declared.looking.Seen.{Seen}
+use Rattle.guarded_cell.specs.Held.{Text, is_seen}
+
+-- it can be sealed again
+pub record IsSealable (seen : Seen) : Type 0 where
+  pub positive : 1 ≤ seen.generation
+  pub short : length seen.text ≤ max_body
+
+-- the text is this one, or comes after it
+pub record IsBefore (t : Text) (seen : Seen) : Type 0 where
+  pub differs : is_seen t seen ≡ false
+  pub greater : t.0 ≤ seen.generation
+
+-- it belongs at this place: behind all that come before it, where it stands itself or texts begin that come after it
+pub record IsPlaceOf (t : Text) (seens : List Seen) (at : ℕ) : Type 0 where
+  pub within : at ≤ length seens
+  pub before : (i : ℕ) → i < at → (d : Seen) → IsBefore t (slice_index_or seens i d)
+  pub here : at < length seens → (d : Seen) → (is_seen t (slice_index_or seens at d) ≡ true) ⊎ ((slice_index_or seens at d).generation < t.0)

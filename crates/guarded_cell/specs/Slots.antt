@@ -1,0 +1,52 @@
+-- What is found in one slot, and which slots a pass over the copies picks.
+use Rattle.std.specs.Prelude.{◌≡◌, ℕ, ◌<◌, List, Bool, true, false, get_or}
+use Rattle.hash_guard.specs.SealedText.{VerifiesAs}
+use Rattle.disk_model.specs.Image.{Image}
+use Rattle.disk_model.specs.Place.{slot}
+use Rattle.guarded_cell.specs.declared.slots.Found.{Found}
+use Rattle.guarded_cell.specs.declared.slots.Found.TheVariants.{Nothing, Wanted, Another}
+use Rattle.guarded_cell.specs.declared.slots.Pick.{Pick}
+use Rattle.guarded_cell.specs.declared.slots.Pick.TheVariants.{Lacking, Verifying, Others}
+use Rattle.guarded_cell.specs.Register.{IsBlank}
+
+-- so many bytes of a slot are read
+abbrev pub front : ℕ
+front = 524288
+
+-- what is found in a slot, where this text is wanted
+abbrev pub IsFound : Found → List ℕ → ℕ → List ℕ → Type 0
+IsFound Nothing bytes generation text = IsBlank bytes
+IsFound Wanted bytes generation text = VerifiesAs bytes generation text
+IsFound Another bytes generation text = ¬ (VerifiesAs bytes generation text) × ¬ (IsBlank bytes)
+
+-- whether a slot with this in it is picked
+abbrev pub picked : Pick → Found → Bool
+picked Lacking Nothing = true
+picked Lacking Wanted = false
+picked Lacking Another = true
+picked Verifying Nothing = false
+picked Verifying Wanted = true
+picked Verifying Another = true
+picked Others Nothing = false
+picked Others Wanted = false
+picked Others Another = true
+
+-- nothing but this text verifies in the slot
+abbrev pub HasNoOther : List ℕ → ℕ → List ℕ → Type 0
+HasNoOther bytes generation text = (g : ℕ) (t : List ℕ) → VerifiesAs bytes g t → (g ≡ generation) × (t ≡ text)
+
+-- what a slot is that is not picked
+abbrev pub IsSpared : Pick → List ℕ → ℕ → List ℕ → Type 0
+IsSpared Lacking bytes generation text = VerifiesAs bytes generation text
+IsSpared Verifying bytes generation text = IsBlank bytes
+IsSpared Others bytes generation text = HasNoOther bytes generation text
+
+-- a slot is picked just where it is not to be spared
+abbrev pub Tells : Pick → Bool → List ℕ → ℕ → List ℕ → Type 0
+Tells pick true bytes generation text = ¬ (IsSpared pick bytes generation text)
+Tells pick false bytes generation text = IsSpared pick bytes generation text
+
+-- which of the copies are picked, by their slots of this parity
+abbrev pub Picks : Pick → (chosen : List Bool) → Image → (first copies parity generation : ℕ) → List ℕ → Type 0
+Picks pick chosen image first copies parity generation text = (copy : ℕ) → copy < copies
+    → Tells pick (get_or chosen copy false) (image (slot first copy parity)) generation text

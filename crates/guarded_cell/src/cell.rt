@@ -1,0 +1,128 @@
+//! A register in use, and writing its next text.
+
+ghost use Rattle.std.specs.Prelude.{◌≡◌, ◌≤◌, ◌<◌, ◌+◌, ◌*◌, ◌^◌, ℕ, List, IsTrue, IfOk, IfErr, OnErr, OnOk, length};
+ghost use Rattle.per_base.specs.Causes.{Rose};
+ghost use Rattle.hash_guard.specs.SealedText.{max_body, header};
+ghost use Rattle.disk_model.specs.Frame.{Spares};
+ghost use Rattle.disk_model.specs.Medium.{Quiet, EachCase, Elapses};
+ghost use Rattle.disk_model.specs.Place.{IsNoSlot};
+ghost use Rattle.guarded_cell.specs.Stops.{PutStops};
+
+use crate::errors::WriteFault;
+use crate::replacing::replace;
+use crate::slots::MAX_COPIES;
+use disk_model::{Disk, DiskFailed, Place};
+use hash_guard::{HEADER, seal_into};
+use std::alloc::{AllocError, Global};
+
+/// A register in use on its disk: where it lies, and under which generation each of its copies holds its text.
+#[derive(Debug, Drop)]
+pub struct Cell {
+    place: Place,
+    generation: u64,
+}
+
+impl Cell {
+    ghost use Rattle.guarded_cell.specs.Cells.{place_of, generation_of, CellAt, IsCellOf, HandsBack, IsDeviceFault};
+
+    // The cell of this place and generation.
+    pub(crate) fn new(place: Place, generation: u64) -> Cell
+        ensures { IsCellOf place generation result }
+    {
+        Cell { place, generation }
+    }
+
+    /// The generation of the text. Takes no memory.
+    pub fn generation(&self) -> u64
+        ensures { result ≡ generation_of self.now }
+    {
+        self.generation
+    }
+
+    /// Room for writing a text of so many bytes later, with [`Cell::write_in`].
+    pub fn room(alloc: Global, len: usize) -> Result<Vec<u8>, AllocError>
+        requires { len ≤ max_body }
+        ensures { IfOk result (λ room. length room.items ≡ header + len) }
+    {
+        let room = vec![in alloc; 0; HEADER + len]?;
+        Ok(room)
+    }
+
+    /// Writes the next text: under the next generation over the other slots of all copies, which is made durable, and then the old
+    /// slots are blanked, which is made durable too.
+    ///
+    /// # Errors
+    ///
+    /// `OutOfMemory` hands the cell back before any call of the disk. `Device` closes the cell.
+    pub fn write<D: Disk>(
+        self,
+        alloc: Global,
+        disk: &mut D,
+        text: &[u8],
+    ) -> Result<Cell, WriteFault>
+        requires short { length text.now ≤ max_body }
+        requires generation { generation_of self + 1 < 2 ^ 64 }
+        requires held { IsTrue D.told → (t : List ℕ) × CellAt (D.medium disk.old).image self t }
+
+        ensures next { IfOk result (IsCellOf (place_of self) (generation_of self + 1)) }
+        ensures held { IsTrue D.told → IfOk result (λ cell. CellAt (D.medium disk.new).image cell text.now) }
+        ensures quiet { OnOk result (Quiet (D.medium disk.new)) }
+
+        // A want of memory hands the cell back, and then nothing happened. Only a disk that failed closes the cell.
+        ensures memory { IfErr result (λ fault. HandsBack self fault (disk.new ≡ disk.old)) }
+        ensures cause { IfErr result (λ fault. IsDeviceFault fault → Rose (D.medium disk.old).faults (D.medium disk.new).faults) }
+
+        // Only slots of the place change, and a stop at any moment leaves the old text or the new one.
+        ensures elsewhere { IsTrue D.told
+            → Spares (IsNoSlot (place_of self).first (place_of self).copies) (D.medium disk.old).image (D.medium disk.new).image }
+        ensures any_moment { IsTrue D.told → Quiet (D.medium disk.old)
+            → EachCase (PutStops (place_of self).first (place_of self).copies (generation_of self + 1) text.now (D.medium disk.old).image)
+            (D.medium disk.old) (D.medium disk.new) }
+        ensures written { (D.medium disk.new).written
+            ≤ (D.medium disk.old).written + (place_of self).copies * (header + length text.now + header) }
+        ensures time { Elapses (D.medium disk.old) (D.medium disk.new) }
+    {
+        match Cell::room(alloc, text.len()) {
+            Err(_) => Err(WriteFault::OutOfMemory(self)),
+            Ok(mut room) => match self.write_in(disk, text, &mut room) {
+                Ok(cell) => Ok(cell),
+                Err(_) => Err(WriteFault::Device),
+            },
+        }
+    }
+
+    /// Writes the next text as [`Cell::write`] does, in room that [`Cell::room`] made. It takes no memory, and a failure of the disk
+    /// closes the cell.
+    pub fn write_in<D: Disk>(
+        self,
+        disk: &mut D,
+        text: &[u8],
+        room: &mut [u8],
+    ) -> Result<Cell, DiskFailed>
+        requires short { length text.now ≤ max_body }
+        requires room { length room.old ≡ header + length text.now }
+        requires generation { generation_of self + 1 < 2 ^ 64 }
+        requires held { IsTrue D.told → (t : List ℕ) × CellAt (D.medium disk.old).image self t }
+
+        ensures next { IfOk result (IsCellOf (place_of self) (generation_of self + 1)) }
+        ensures held { IsTrue D.told → IfOk result (λ cell. CellAt (D.medium disk.new).image cell text.now) }
+        ensures quiet { OnOk result (Quiet (D.medium disk.new)) }
+        ensures cause { OnErr result (Rose (D.medium disk.old).faults (D.medium disk.new).faults) }
+
+        // Only slots of the place change, and a stop at any moment leaves the old text or the new one.
+        ensures elsewhere { IsTrue D.told
+            → Spares (IsNoSlot (place_of self).first (place_of self).copies) (D.medium disk.old).image (D.medium disk.new).image }
+        ensures any_moment { IsTrue D.told → Quiet (D.medium disk.old)
+            → EachCase (PutStops (place_of self).first (place_of self).copies (generation_of self + 1) text.now (D.medium disk.old).image)
+            (D.medium disk.old) (D.medium disk.new) }
+        ensures written { (D.medium disk.new).written
+            ≤ (D.medium disk.old).written + (place_of self).copies * (header + length text.now + header) }
+        ensures time { Elapses (D.medium disk.old) (D.medium disk.new) }
+    {
+        let all = [true; MAX_COPIES];
+        let next = self.generation + 1;
+        seal_into(room, next, text);
+        replace(disk, self.place, next, text, room, &all, &all)?;
+        Ok(Cell::new(self.place, next))
+    }
+}

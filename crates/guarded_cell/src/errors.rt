@@ -1,0 +1,47 @@
+//! The errors of the calls on a register.
+
+ghost use Rattle.std.specs.Prelude.{◌≡◌};
+
+use crate::cell::Cell;
+use disk_model::DiskFailed;
+use std::alloc::AllocError;
+
+/// Why a register was not opened, read or changed.
+#[derive(Clone, Copy, Debug, PartialEq, Eq)]
+pub enum CellError {
+    /// The disk failed, and its count of faults rose.
+    Device,
+    /// No text stands.
+    Corrupt,
+    /// Memory ran out.
+    OutOfMemory,
+}
+
+impl From<DiskFailed> for CellError {
+    ghost use Rattle.guarded_cell.specs.declared.errors.CellError.{CellError};
+
+    ghost from_gives = { λ _ error. error ≡ CellError.Device };
+
+    fn from(_failed: DiskFailed) -> CellError {
+        CellError::Device
+    }
+}
+
+impl From<AllocError> for CellError {
+    ghost use Rattle.guarded_cell.specs.declared.errors.CellError.{CellError};
+
+    ghost from_gives = { λ _ error. error ≡ CellError.OutOfMemory };
+
+    fn from(_failed: AllocError) -> CellError {
+        CellError::OutOfMemory
+    }
+}
+
+/// Why a text was not written.
+#[derive(Debug, Drop)]
+pub enum WriteFault {
+    /// The disk failed, and its count of faults rose. The cell is closed.
+    Device,
+    /// Memory ran out before anything was written. The cell is as it was.
+    OutOfMemory(Cell),
+}

@@ -1,0 +1,76 @@
+//! Beginning anew.
+
+ghost use Rattle.std.specs.Prelude.{◌≡◌, ◌≤◌, IsTrue, IfOk, OnOk, OnErr, IsErrOf, length};
+ghost use Rattle.per_base.specs.Causes.{Rose};
+ghost use Rattle.hash_guard.specs.SealedText.{max_body, sealed};
+ghost use Rattle.disk_model.specs.Frame.{Spares};
+ghost use Rattle.disk_model.specs.Medium.{Quiet, EachCase, Elapses};
+ghost use Rattle.disk_model.specs.Place.{IsNoSlot};
+ghost use Rattle.guarded_cell.specs.Register.{IsAlone};
+ghost use Rattle.guarded_cell.specs.Cells.{CellAt, IsCellOf};
+ghost use Rattle.guarded_cell.specs.Stops.{FormatStops};
+
+use crate::cell::Cell;
+use crate::errors::CellError;
+use crate::fronts::{write_durably, write_fronts};
+use crate::slots::MAX_COPIES;
+use disk_model::{Disk, DiskFailed, Place};
+use hash_guard::{BLANK, seal};
+use std::alloc::Global;
+
+/// Gives up what the place held: all slots are blanked, which is made durable, and then every copy takes the text under generation 1.
+///
+/// # Errors
+///
+/// `OutOfMemory` comes before any call of the disk. Never `Corrupt`.
+pub fn format_cell<D: Disk>(
+    alloc: Global,
+    disk: &mut D,
+    place: Place,
+    text: &[u8],
+) -> Result<Cell, CellError>
+    requires { length text.now ≤ max_body }
+
+    ensures cell { IfOk result (IsCellOf place 1) }
+    ensures held { IsTrue D.told → IfOk result (λ cell. CellAt (D.medium disk.new).image cell text.now) }
+    ensures quiet { OnOk result (Quiet (D.medium disk.new)) }
+
+    ensures memory { IsErrOf result CellError.OutOfMemory → disk.new ≡ disk.old }
+    ensures never_corrupt { IsErrOf result CellError.Corrupt → ⊥ }
+    ensures cause { IsErrOf result CellError.Device → Rose (D.medium disk.old).faults (D.medium disk.new).faults }
+
+    // Only slots of the place change, and a stop at any moment leaves only what was held or only the new text.
+    ensures elsewhere { IsTrue D.told → Spares (IsNoSlot place.first place.copies) (D.medium disk.old).image (D.medium disk.new).image }
+    ensures any_moment { IsTrue D.told → Quiet (D.medium disk.old)
+        → EachCase (FormatStops place.first place.copies 1 text.now (D.medium disk.old).image) (D.medium disk.old) (D.medium disk.new) }
+    ensures time { Elapses (D.medium disk.old) (D.medium disk.new) }
+{
+    let sealed_text = seal(alloc, 1, text)?;
+    format_in(disk, place, text, &sealed_text)?;
+    Ok(Cell::new(place, 1))
+}
+
+// The same with all memory taken.
+fn format_in<D: Disk>(
+    disk: &mut D,
+    place: Place,
+    text: &[u8],
+    sealed_text: &[u8],
+) -> Result<(), DiskFailed>
+    requires short { length text.now ≤ max_body }
+    requires text { sealed_text.now ≡ sealed 1 text.now }
+
+    ensures alone { IsTrue D.told → OnOk result (IsAlone (D.medium disk.new).image place.first place.copies 1 text.now) }
+    ensures quiet { OnOk result (Quiet (D.medium disk.new)) }
+    ensures elsewhere { IsTrue D.told → Spares (IsNoSlot place.first place.copies) (D.medium disk.old).image (D.medium disk.new).image }
+    ensures any_moment { IsTrue D.told → Quiet (D.medium disk.old)
+        → EachCase (FormatStops place.first place.copies 1 text.now (D.medium disk.old).image) (D.medium disk.old) (D.medium disk.new) }
+    ensures time { Elapses (D.medium disk.old) (D.medium disk.new) }
+    ensures cause { OnErr result (Rose (D.medium disk.old).faults (D.medium disk.new).faults) }
+{
+    let all = [true; MAX_COPIES];
+    write_fronts(disk, place, 0, &all, &BLANK)?;
+    write_durably(disk, place, 1, &all, &BLANK)?;
+    write_durably(disk, place, 1, &all, sealed_text)?;
+    Ok(())
+}

@@ -1,0 +1,125 @@
+//! Taking every text away but one.
+
+ghost use Rattle.std.specs.Prelude.{◌≡◌, ◌≤◌, IsTrue, OnOk, OnErr, IsErrOf, length};
+ghost use Rattle.per_base.specs.Causes.{Rose};
+ghost use Rattle.disk_model.specs.Frame.{Spares};
+ghost use Rattle.disk_model.specs.Medium.{Quiet, EachCase, Elapses};
+ghost use Rattle.disk_model.specs.Place.{IsNoSlot};
+ghost use Rattle.guarded_cell.specs.Register.{IsKeptAlone, own, other};
+ghost use Rattle.guarded_cell.specs.Slots.{front, Picks};
+ghost use Rattle.guarded_cell.specs.declared.slots.Pick.TheVariants.{Others, Verifying};
+ghost use Rattle.guarded_cell.specs.Rights.{IsClear};
+ghost use Rattle.guarded_cell.specs.Stops.{KeepStops};
+
+use crate::errors::CellError;
+use crate::fronts::{write_durably, write_fronts};
+use crate::slots::{Pick, choose, front_room};
+use disk_model::{Disk, DiskFailed, Place};
+use hash_guard::BLANK;
+use std::alloc::Global;
+
+/// Blanks every slot that verifies and does not hold this text under this generation, and makes that durable. The copies that held the
+/// text hold it still.
+///
+/// # Errors
+///
+/// `OutOfMemory` comes before any call of the disk. Never `Corrupt`.
+pub fn keep_only<D: Disk>(
+    alloc: Global,
+    disk: &mut D,
+    place: Place,
+    generation: u64,
+    text: &[u8],
+) -> Result<(), CellError>
+    ensures alone { IsTrue D.told → OnOk result
+        (IsKeptAlone place.first place.copies generation text.now (D.medium disk.old).image (D.medium disk.new).image) }
+    ensures quiet { OnOk result (Quiet (D.medium disk.new)) }
+
+    ensures memory { IsErrOf result CellError.OutOfMemory → disk.new ≡ disk.old }
+    ensures never_corrupt { IsErrOf result CellError.Corrupt → ⊥ }
+    ensures cause { IsErrOf result CellError.Device → Rose (D.medium disk.old).faults (D.medium disk.new).faults }
+
+    // Only slots of the place change, and none that is clear already. At any moment the copies that held the text hold it.
+    ensures elsewhere { IsTrue D.told → Spares (IsNoSlot place.first place.copies) (D.medium disk.old).image (D.medium disk.new).image }
+    ensures right { IsTrue D.told → Spares (IsClear (D.medium disk.old).image place.first place.copies generation text.now)
+        (D.medium disk.old).image (D.medium disk.new).image }
+    ensures any_moment { IsTrue D.told → Quiet (D.medium disk.old)
+        → EachCase (KeepStops place.first place.copies generation text.now (D.medium disk.old).image)
+        (D.medium disk.old) (D.medium disk.new) }
+    ensures time { Elapses (D.medium disk.old) (D.medium disk.new) }
+{
+    let mut room = front_room(alloc)?;
+    keep_in(disk, place, generation, text, &mut room)?;
+    Ok(())
+}
+
+// The same with all memory taken.
+fn keep_in<D: Disk>(
+    disk: &mut D,
+    place: Place,
+    generation: u64,
+    text: &[u8],
+    room: &mut [u8],
+) -> Result<(), DiskFailed>
+    requires room { length room.old ≡ front }
+
+    ensures alone { IsTrue D.told → OnOk result
+        (IsKeptAlone place.first place.copies generation text.now (D.medium disk.old).image (D.medium disk.new).image) }
+    ensures quiet { OnOk result (Quiet (D.medium disk.new)) }
+    ensures elsewhere { IsTrue D.told → Spares (IsNoSlot place.first place.copies) (D.medium disk.old).image (D.medium disk.new).image }
+    ensures right { IsTrue D.told → Spares (IsClear (D.medium disk.old).image place.first place.copies generation text.now)
+        (D.medium disk.old).image (D.medium disk.new).image }
+    ensures any_moment { IsTrue D.told → Quiet (D.medium disk.old)
+        → EachCase (KeepStops place.first place.copies generation text.now (D.medium disk.old).image)
+        (D.medium disk.old) (D.medium disk.new) }
+    ensures time { Elapses (D.medium disk.old) (D.medium disk.new) }
+    ensures cause { OnErr result (Rose (D.medium disk.old).faults (D.medium disk.new).faults) }
+{
+    let parity = (generation % 2) as u32;
+    let others = choose(disk, place, parity, Pick::Others, generation, text, room)?;
+    let stale = choose(
+        disk,
+        place,
+        1 - parity,
+        Pick::Verifying,
+        generation,
+        text,
+        room,
+    )?;
+    blank_both(disk, place, generation, text, &others, &stale)?;
+    Ok(())
+}
+
+// Blanks the chosen slots of both parities.
+fn blank_both<D: Disk>(
+    disk: &mut D,
+    place: Place,
+    generation: u64,
+    text: &[u8],
+    others: &[bool],
+    stale: &[bool],
+) -> Result<(), DiskFailed>
+    requires others_flags { place.copies ≤ length others.now }
+    requires stale_flags { place.copies ≤ length stale.now }
+    requires others { IsTrue D.told
+        → Picks Others others.now (D.medium disk.old).image place.first place.copies (own generation) generation text.now }
+    requires stale { IsTrue D.told
+        → Picks Verifying stale.now (D.medium disk.old).image place.first place.copies (other generation) generation text.now }
+
+    ensures alone { IsTrue D.told → OnOk result
+        (IsKeptAlone place.first place.copies generation text.now (D.medium disk.old).image (D.medium disk.new).image) }
+    ensures quiet { OnOk result (Quiet (D.medium disk.new)) }
+    ensures elsewhere { IsTrue D.told → Spares (IsNoSlot place.first place.copies) (D.medium disk.old).image (D.medium disk.new).image }
+    ensures right { IsTrue D.told → Spares (IsClear (D.medium disk.old).image place.first place.copies generation text.now)
+        (D.medium disk.old).image (D.medium disk.new).image }
+    ensures any_moment { IsTrue D.told → Quiet (D.medium disk.old)
+        → EachCase (KeepStops place.first place.copies generation text.now (D.medium disk.old).image)
+        (D.medium disk.old) (D.medium disk.new) }
+    ensures time { Elapses (D.medium disk.old) (D.medium disk.new) }
+    ensures cause { OnErr result (Rose (D.medium disk.old).faults (D.medium disk.new).faults) }
+{
+    let parity = (generation % 2) as u32;
+    write_fronts(disk, place, parity, others, &BLANK)?;
+    write_durably(disk, place, 1 - parity, stale, &BLANK)?;
+    Ok(())
+}

@@ -1,0 +1,39 @@
+//! A register that keeps its text through stops and damage.
+//!
+//! A text with a generation is sealed into one of two slots of each copy of a [`Place`]: into the
+//! slot of the generation's parity. What at least m copies hold under the greatest generation stands.
+//! [`Cell::write`] puts the next text into the other slots, makes it durable, and only then blanks the
+//! old ones, so that a stop at any moment leaves the old text or the new one in every copy that is not
+//! damaged.
+//!
+//! [`open_cell`] finds the text that stands and brings every copy to it, [`look`] only shows what the
+//! copies hold, [`adopt`] and [`keep_only`] settle on a text that the caller chose, and
+//! [`format_cell`] begins anew. Each call changes slots of its place alone.
+//!
+//! Limits: a body of at most 524,244 bytes, generations up to the greatest `u64`, and one caller at a
+//! time. The hash guards against damage, not against malice.
+#![tactic(auto)]
+
+mod adopting;
+mod cell;
+mod errors;
+mod formatting;
+mod fronts;
+mod keeping;
+mod laws;
+mod looking;
+mod opening;
+mod replacing;
+mod slots;
+
+pub use adopting::adopt;
+pub use cell::Cell;
+pub use errors::{CellError, WriteFault};
+pub use formatting::format_cell;
+pub use keeping::keep_only;
+pub use laws::held_is_lawful;
+pub use looking::{Seen, look};
+pub use opening::{OpenedCell, open_cell};
+
+#[cfg(test)]
+mod tests;

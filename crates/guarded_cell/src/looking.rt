@@ -1,0 +1,191 @@
+//! What the copies hold.
+
+ghost use Rattle.std.specs.Prelude.{◌≡◌, ◌≤◌, ◌<◌, ◌+◌, ◌-◌, ◌++◌, ◌∷◌, [], IsTrue, IfOk, OnOk, IsErrOf, All, length};
+ghost use Rattle.per_base.specs.Causes.{Rose};
+ghost use Rattle.disk_model.specs.Medium.{Quiet, IsIdle, OnlyReads, Elapses};
+ghost use Rattle.guarded_cell.specs.Slots.{front};
+ghost use Rattle.guarded_cell.specs.Held.{held, of_parity, text_in, is_seen, with_copy, with_slot};
+ghost use Rattle.hash_guard.specs.SealedText.{verified, max_body};
+ghost use Rattle.guarded_cell.specs.Seens.{IsSealable, IsPlaceOf};
+
+use crate::errors::CellError;
+use crate::slots::{front_room, read_front, settle};
+use disk_model::{Disk, Place};
+use hash_guard::verify;
+use per_base::{Bytes, Numbers};
+use std::alloc::{AllocError, Global};
+use std::mem;
+
+/// A text that some copies hold.
+#[derive(Debug, Drop)]
+pub struct Seen {
+    /// At least 1.
+    pub generation: u64,
+    /// The bytes of the text, at most as many as one seal can hold.
+    pub text: Bytes,
+    /// Those that hold it, counted from 1 and ascending.
+    pub copies: Numbers,
+}
+
+/// Every text that some copy holds, greatest generation first, then by first copy. It begins with a sync and writes nothing.
+///
+/// # Errors
+///
+/// Never `Corrupt`.
+pub fn look<D: Disk>(alloc: Global, disk: &mut D, place: Place) -> Result<Vec<Seen>, CellError>
+    ensures held { IsTrue D.told → IfOk result (λ seens. seens.items ≡ held (D.medium disk.old).image place.first place.copies) }
+    ensures sealable { IfOk result (λ seens. All IsSealable seens.items) }
+
+    ensures quiet { OnOk result (Quiet (D.medium disk.new)) }
+    ensures image { (D.medium disk.new).image ≡ (D.medium disk.old).image }
+    ensures idle { Quiet (D.medium disk.old) → IsIdle (D.medium disk.old) (D.medium disk.new) }
+    ensures written { (D.medium disk.new).written ≡ (D.medium disk.old).written }
+
+    ensures never_corrupt { IsErrOf result CellError.Corrupt → ⊥ }
+    ensures cause { IsErrOf result CellError.Device → Rose (D.medium disk.old).faults (D.medium disk.new).faults }
+    ensures time { Elapses (D.medium disk.old) (D.medium disk.new) }
+{
+    settle(disk)?;
+    let mut room = front_room(alloc)?;
+    let seens = see_all(alloc, disk, place, &mut room)?;
+    Ok(seens)
+}
+
+// The texts of all copies.
+fn see_all<D: Disk>(
+    alloc: Global,
+    disk: &mut D,
+    place: Place,
+    room: &mut [u8],
+) -> Result<Vec<Seen>, CellError>
+    requires { length room.old ≡ front }
+    ensures held { IsTrue D.told → IfOk result (λ seens. seens.items ≡ held (D.medium disk.old).image place.first place.copies) }
+    ensures sealable { IfOk result (λ seens. All IsSealable seens.items) }
+    ensures reads { OnlyReads (D.medium disk.old) (D.medium disk.new) }
+    ensures never_corrupt { IsErrOf result CellError.Corrupt → ⊥ }
+    ensures cause { IsErrOf result CellError.Device → Rose (D.medium disk.old).faults (D.medium disk.new).faults }
+    ensures time { Elapses (D.medium disk.old) (D.medium disk.new) }
+{
+    let mut seens = Vec::new(alloc);
+    for copy in 0..place.copies {
+        see_slot(alloc, disk, place, copy, 0, room, &mut seens)?;
+        see_slot(alloc, disk, place, copy, 1, room, &mut seens)?;
+    }
+    Ok(seens)
+}
+
+// Adds what one slot holds.
+fn see_slot<D: Disk>(
+    alloc: Global,
+    disk: &mut D,
+    place: Place,
+    copy: u32,
+    parity: u32,
+    room: &mut [u8],
+    seens: &mut Vec<Seen>,
+) -> Result<(), CellError>
+    requires room { length room.old ≡ front }
+    requires copy { copy < place.copies }
+    requires parity { parity < 2 }
+    requires sealable { All IsSealable seens.old.items }
+    ensures seen { IsTrue D.told → OnOk result
+        (seens.new.items ≡ with_slot (copy + 1) (text_in (D.medium disk.old).image place.first copy parity) seens.old.items) }
+    ensures sealable { OnOk result (All IsSealable seens.new.items) }
+    ensures reads { OnlyReads (D.medium disk.old) (D.medium disk.new) }
+    ensures never_corrupt { IsErrOf result CellError.Corrupt → ⊥ }
+    ensures cause { IsErrOf result CellError.Device → Rose (D.medium disk.old).faults (D.medium disk.new).faults }
+    ensures time { Elapses (D.medium disk.old) (D.medium disk.new) }
+{
+    let count = read_front(disk, place.slot(copy, parity), room)?;
+    note_front(alloc, &room[..count], copy, parity, seens)?;
+    Ok(())
+}
+
+// Adds what the front of a slot holds, if its generation has the slot's parity.
+fn note_front(
+    alloc: Global,
+    bytes: &[u8],
+    copy: u32,
+    parity: u32,
+    seens: &mut Vec<Seen>,
+) -> Result<(), AllocError>
+    requires copy { copy < 8 }
+    requires sealable { All IsSealable seens.old.items }
+    ensures seen { OnOk result (seens.new.items ≡ with_slot (copy + 1) (of_parity parity (verified bytes.now)) seens.old.items) }
+    ensures sealable { OnOk result (All IsSealable seens.new.items) }
+{
+    match verify(bytes) {
+        None => Ok(()),
+        Some(found) => {
+            if found.generation % 2 != u64::from(parity) {
+                return Ok(());
+            }
+            note(alloc, copy + 1, found.generation, found.body, seens)?;
+            Ok(())
+        }
+    }
+}
+
+// Adds a copy of a text.
+fn note(
+    alloc: Global,
+    copy: u32,
+    generation: u64,
+    text: &[u8],
+    seens: &mut Vec<Seen>,
+) -> Result<(), AllocError>
+    requires positive { 1 ≤ generation }
+    requires short { length text.now ≤ max_body }
+    requires sealable { All IsSealable seens.old.items }
+    ensures seen { OnOk result (seens.new.items ≡ with_copy copy (generation, text.now) seens.old.items) }
+    ensures sealable { OnOk result (All IsSealable seens.new.items) }
+{
+    let at = place_in(seens, generation, text);
+    if at < seens.len() && is_text(&seens[at], generation, text) {
+        add_copy(alloc, &mut seens[at], copy)?;
+        return Ok(());
+    }
+    let new = first_seen(alloc, copy, generation, text)?;
+    seens.insert(at, new)?;
+    Ok(())
+}
+
+// Whether it is this text under this generation.
+fn is_text(seen: &Seen, generation: u64, text: &[u8]) -> bool
+    ensures { result ≡ is_seen (generation, text.now) seen.now }
+{
+    seen.generation == generation && seen.text.as_slice() == text
+}
+
+// Before how many texts, from the first on, this one does not come.
+fn place_in(seens: &[Seen], generation: u64, text: &[u8]) -> usize
+    ensures { IsPlaceOf (generation, text.now) seens.now result }
+{
+    for (i, seen) in seens.iter().enumerate() {
+        if is_text(seen, generation, text) || seen.generation < generation {
+            return i;
+        }
+    }
+    seens.len()
+}
+
+fn first_seen(alloc: Global, copy: u32, generation: u64, text: &[u8]) -> Result<Seen, AllocError>
+    ensures { IfOk result (λ seen. seen ≡ record { generation = generation; text = text.now; copies = copy ∷ [] }) }
+{
+    let text = Bytes::new(Vec::from_slice(alloc, text)?);
+    let copies = Numbers::new(vec![in alloc; copy]?);
+    Ok(Seen {
+        generation,
+        text,
+        copies,
+    })
+}
+
+fn add_copy(alloc: Global, seen: &mut Seen, copy: u32) -> Result<(), AllocError>
+    ensures { OnOk result (seen.new ≡ record seen.old { copies = seen.old.copies ++ copy ∷ [] }) }
+{
+    let mut copies = mem::replace(&mut seen.copies, Numbers::new(Vec::new(alloc))).into_vec();
+    copies.push(copy)?;
+    seen.copies = Numbers::new(copies);
+    Ok(())
+}

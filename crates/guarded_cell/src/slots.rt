@@ -1,0 +1,166 @@
+//! Reading slots: what one slot holds, and which copies a pass picks.
+
+ghost use Rattle.std.specs.Prelude.{◌≡◌, ◌≤◌, ◌<◌, IsTrue, IfOk, OnErr, OnOk, length, take, nat_eq, ◌&&◌};
+ghost use Rattle.std.specs.Str.{bytes_eq};
+ghost use Rattle.per_base.specs.Causes.{Rose};
+ghost use Rattle.disk_model.specs.Medium.{Quiet, IsIdle, OnlyReads, Elapses};
+ghost use Rattle.disk_model.specs.Place.{slot};
+ghost use Rattle.guarded_cell.specs.Slots.{front, IsFound, Tells, Picks, picked};
+
+use disk_model::{Disk, DiskFailed, Place};
+use hash_guard::{HEADER, MAX_BODY, Sealed, verify};
+use std::alloc::{AllocError, Global};
+
+/// At most so many bytes of a slot are read: those of the longest sealed text.
+pub(crate) const FRONT: usize = HEADER + MAX_BODY;
+
+/// The greatest number of copies of a place.
+pub(crate) const MAX_COPIES: usize = 8;
+
+/// What is found in a slot, where one text is wanted.
+#[derive(Clone, Copy, PartialEq, Eq)]
+pub(crate) enum Found {
+    /// No text.
+    Nothing,
+    /// The wanted text under its generation.
+    Wanted,
+    /// Another text or another generation.
+    Another,
+}
+
+/// Which slots a pass picks.
+#[derive(Clone, Copy)]
+pub(crate) enum Pick {
+    /// Those that do not hold the wanted text.
+    Lacking,
+    /// Those that hold any text.
+    Verifying,
+    /// Those that hold another text than the wanted one.
+    Others,
+}
+
+/// Room for the front of a slot.
+pub(crate) fn front_room(alloc: Global) -> Result<Vec<u8>, AllocError>
+    ensures { IfOk result (λ room. length room.items ≡ front) }
+{
+    let room = vec![in alloc; 0; FRONT]?;
+    Ok(room)
+}
+
+/// Makes everything durable before the first look.
+pub(crate) fn settle<D: Disk>(disk: &mut D) -> Result<(), DiskFailed>
+    ensures quiet { OnOk result (Quiet (D.medium disk.new)) }
+    ensures image { (D.medium disk.new).image ≡ (D.medium disk.old).image }
+    ensures idle { Quiet (D.medium disk.old) → IsIdle (D.medium disk.old) (D.medium disk.new) }
+    ensures written { (D.medium disk.new).written ≡ (D.medium disk.old).written }
+    ensures time { Elapses (D.medium disk.old) (D.medium disk.new) }
+    ensures cause { OnErr result (Rose (D.medium disk.old).faults (D.medium disk.new).faults) }
+{
+    disk.sync()?;
+    Ok(())
+}
+
+/// Reads the front of a slot, and says how long it is.
+pub(crate) fn read_front<D: Disk>(
+    disk: &mut D,
+    file: u32,
+    room: &mut [u8],
+) -> Result<usize, DiskFailed>
+    requires { length room.old ≡ front }
+    ensures within { IfOk result (λ n. n ≤ length room.new) }
+    ensures bytes { IsTrue D.told → IfOk result (λ n. take n room.new ≡ take front ((D.medium disk.old).image file)) }
+    ensures reads { OnlyReads (D.medium disk.old) (D.medium disk.new) }
+    ensures time { Elapses (D.medium disk.old) (D.medium disk.new) }
+    ensures cause { OnErr result (Rose (D.medium disk.old).faults (D.medium disk.new).faults) }
+{
+    let count = disk.read(file, 0, room)?;
+    Ok(count)
+}
+
+// What the front of a slot holds.
+fn find_text(bytes: &[u8], generation: u64, text: &[u8]) -> Found
+    ensures { IsFound result bytes.now generation text.now }
+{
+    match verify(bytes) {
+        None => Found::Nothing,
+        Some(found) => {
+            if is_wanted(found, generation, text) {
+                Found::Wanted
+            } else {
+                Found::Another
+            }
+        }
+    }
+}
+
+// Whether what was found is this text under this generation.
+fn is_wanted(found: Sealed<'_>, generation: u64, text: &[u8]) -> bool
+    ensures { result ≡ (nat_eq found.entry.generation generation && bytes_eq found.entry.body.now text.now) }
+{
+    found.generation == generation && found.body == text
+}
+
+// What a slot holds.
+fn look_at<D: Disk>(
+    disk: &mut D,
+    file: u32,
+    generation: u64,
+    text: &[u8],
+    room: &mut [u8],
+) -> Result<Found, DiskFailed>
+    requires { length room.old ≡ front }
+    ensures found { IsTrue D.told → IfOk result (λ found. IsFound found ((D.medium disk.old).image file) generation text.now) }
+    ensures reads { OnlyReads (D.medium disk.old) (D.medium disk.new) }
+    ensures time { Elapses (D.medium disk.old) (D.medium disk.new) }
+    ensures cause { OnErr result (Rose (D.medium disk.old).faults (D.medium disk.new).faults) }
+{
+    let count = read_front(disk, file, room)?;
+    let found = find_text(&room[..count], generation, text);
+    Ok(found)
+}
+
+// Whether a slot with this in it is picked.
+fn is_picked(pick: Pick, found: Found) -> bool
+    ensures { result ≡ picked pick found }
+{
+    match pick {
+        Pick::Lacking => match found {
+            Found::Wanted => false,
+            _ => true,
+        },
+        Pick::Verifying => match found {
+            Found::Nothing => false,
+            _ => true,
+        },
+        Pick::Others => match found {
+            Found::Another => true,
+            _ => false,
+        },
+    }
+}
+
+/// Which copies are picked, by their slots of this parity.
+pub(crate) fn choose<D: Disk>(
+    disk: &mut D,
+    place: Place,
+    parity: u32,
+    pick: Pick,
+    generation: u64,
+    text: &[u8],
+    room: &mut [u8],
+) -> Result<[bool; MAX_COPIES], DiskFailed>
+    requires parity { parity < 2 }
+    requires room { length room.old ≡ front }
+    ensures picks { IsTrue D.told → IfOk result (λ chosen.
+        Picks pick chosen (D.medium disk.old).image place.first place.copies parity generation text.now) }
+    ensures reads { OnlyReads (D.medium disk.old) (D.medium disk.new) }
+    ensures time { Elapses (D.medium disk.old) (D.medium disk.new) }
+    ensures cause { OnErr result (Rose (D.medium disk.old).faults (D.medium disk.new).faults) }
+{
+    let mut chosen = [false; MAX_COPIES];
+    for copy in 0..place.copies {
+        let found = look_at(disk, place.slot(copy, parity), generation, text, room)?;
+        chosen[copy as usize] = is_picked(pick, found);
+    }
+    Ok(chosen)
+}
