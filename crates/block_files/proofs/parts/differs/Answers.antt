@@ -1,0 +1,11 @@
+use Rattle.std.proofs.Common.{ap, ◌∙◌, not}
+use Rattle.std.specs.Str.{bytes_eq}
+use Rattle.block_files.specs.Parts.{is_changed, part}
+use Rattle.block_files.proofs.parts.differs.Goals as goal
+
+pub returns : goal.returns
+unfolding is_changed
+returns c =
+    c.ne.ensures
+    ∙ ap (λ x. not (bytes_eq x c.part_at-2.result.now)) c.part_at.ensures.value
+    ∙ ap (λ x. not (bytes_eq (part c.args.bytes.now c.args.i) x)) c.part_at-2.ensures.value

@@ -1,0 +1,51 @@
+-- Sets of blocks as contracts see them: a list of flags, true for each block that is taken.
+use Rattle.std.specs.Prelude.{◌≡◌, ◌≢◌, ℕ, ◌+◌, ◌<◌, ◌≤◌, List, [], ◌∷◌, length, slice_index, slice_index_or, Bool, true, false, not, count_by}
+use Rattle.block_files.specs.Parts.{is_changed}
+
+-- whether the block is in the set; no set holds a block past its capacity
+abbrev pub holds : List Bool → ℕ → Bool
+holds set block = slice_index_or set block false
+
+-- how many blocks below the capacity are free
+abbrev pub free_of : List Bool → ℕ
+free_of set = count_by not set
+
+-- the free blocks of a set whose flags begin at this block, ascending
+abbrev pub free_from : ℕ → List Bool → List ℕ
+free_from block [] = []
+free_from block (true ∷ flags) = free_from (block + 1) flags
+free_from block (false ∷ flags) = block ∷ free_from (block + 1) flags
+
+abbrev pub free_blocks : List Bool → List ℕ
+free_blocks set = free_from 0 set
+
+-- each is above those before it
+abbrev pub Ascend : List ℕ → Type 0
+Ascend numbers = (i j : ℕ) → i < j → j < length numbers → slice_index numbers i < slice_index numbers j
+
+-- no block occurs twice
+abbrev pub AreDistinct : List ℕ → Type 0
+AreDistinct blocks = (i j : ℕ) → i < j → j < length blocks → slice_index blocks i ≢ slice_index blocks j
+
+-- the block is none of these
+abbrev pub IsApart : List ℕ → ℕ → Type 0
+IsApart blocks k = (i : ℕ) → i < length blocks → k ≢ slice_index blocks i
+
+-- blocks that a set does not hold, each once
+pub record AreFree (set : List Bool) (blocks : List ℕ) : Type 0 where
+  pub below : (i : ℕ) → i < length blocks → slice_index blocks i < length set
+  pub free : (i : ℕ) → i < length blocks → holds set (slice_index blocks i) ≡ false
+  pub ascend : Ascend blocks
+
+-- the new set holds these blocks, and is otherwise as the old one
+pub record IsAdded (blocks : List ℕ) (old new : List Bool) : Type 0 where
+  pub added : (i : ℕ) → i < length blocks → holds new (slice_index blocks i) ≡ true
+  pub kept : (b : ℕ) → IsApart blocks b → holds new b ≡ holds old b
+  pub capacity : length new ≡ length old
+  pub free : free_of old ≤ free_of new + length blocks
+
+-- the blocks of a content beside an earlier one: the earlier block where the parts are equal, else one that the set does not hold
+pub record SharesBlocks (bytes was old_blocks : List ℕ) (set : List Bool) (blocks : List ℕ) : Type 0 where
+  pub equal : (i : ℕ) → i < length blocks → is_changed bytes was i ≡ false → slice_index blocks i ≡ slice_index old_blocks i
+  pub fresh : (i : ℕ) → i < length blocks → is_changed bytes was i ≡ true
+      → (slice_index blocks i < length set) × (holds set (slice_index blocks i) ≡ false)

@@ -1,0 +1,49 @@
+-- What the copies of a content agree on: the value, the salvage and the copies that lack it.
+use Rattle.std.specs.Prelude.{◌≡◌, ◌<◌, ◌≤◌, ℕ, suc, List, [], ◌∷◌, length, slice_index, slice_index_or, map, filter, Bool, true, false, cond, ◌&&◌, not, Option, Some, None, is_some}
+use Rattle.std.specs.List.{range_with_len}
+use Rattle.std.specs.Str.{bytes_eq}
+use Rattle.sha2.specs.Sha256.{sha256}
+use Rattle.disk_model.specs.Image.{Image}
+use Rattle.disk_model.specs.Place.{area}
+use Rattle.block_files.specs.Areas.{joined, within}
+
+-- a copy counts where its bytes have the hash: what it gives then
+unfoldable pub counting : (file blocks : List ℕ) (len : ℕ) (hash : List ℕ) → Option (List ℕ)
+counting file blocks len hash = cond (bytes_eq (sha256 (joined file blocks len)) hash) (Some (joined file blocks len)) None
+
+-- what each copy of a place gives, in order
+abbrev pub contents : (first copies : ℕ) (blocks : List ℕ) (len : ℕ) (hash : List ℕ) → Image → List (Option (List ℕ))
+contents first copies blocks len hash image = map (λ c. counting (image (area first c)) blocks len hash) (range_with_len 0 copies)
+
+-- the first content that some copy gives
+abbrev pub first_content : List (Option (List ℕ)) → Option (List ℕ)
+first_content [] = None
+first_content (Some text ∷ contents) = Some text
+first_content (None ∷ contents) = first_content contents
+
+-- whether a copy lacks the value: it does not count, or gives other bytes, or does not have them all within its file.
+-- Where there is no value, a copy lacks it that does not count.
+abbrev pub lacks : (value given : Option (List ℕ)) (inside : Bool) → Bool
+lacks None given inside = not (is_some given)
+lacks (Some value) None inside = true
+lacks (Some value) (Some given) inside = not (inside && bytes_eq given value)
+
+-- the copies that lack the value, counted from 1 and ascending
+abbrev pub lacking : (value : Option (List ℕ)) (first copies : ℕ) (blocks : List ℕ) (len : ℕ) (hash : List ℕ) → Image → List ℕ
+lacking value first copies blocks len hash image = map suc (filter
+    (λ c. lacks value (counting (image (area first c)) blocks len hash) (within (image (area first c)) blocks len))
+    (range_with_len 0 copies))
+
+-- the same, by what each copy gives and whether its file has it all
+abbrev pub lacking_in : (value : Option (List ℕ)) → List (Option (List ℕ)) → List Bool → List ℕ
+lacking_in value given inside = map suc (filter
+    (λ c. lacks value (slice_index_or given c None) (slice_index_or inside c false))
+    (range_with_len 0 (length given)))
+
+-- each is the number of one of so many copies, counted from 1
+abbrev pub AreCopies : ℕ → List ℕ → Type 0
+AreCopies copies numbers = (i : ℕ) → i < length numbers → (1 ≤ slice_index numbers i) × (slice_index numbers i ≤ copies)
+
+-- each content that is given has so many bytes
+abbrev pub HaveSize : ℕ → List (Option (List ℕ)) → Type 0
+HaveSize size given = (i : ℕ) (text : List ℕ) → slice_index_or given i None ≡ Some text → length text ≡ size

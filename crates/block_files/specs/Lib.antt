@@ -1,0 +1,6 @@
+pub mod Parts
+pub mod BlockSets
+pub mod Areas
+pub mod Contents
+pub mod Writes
+pub mod Aside

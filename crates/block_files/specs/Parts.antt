@@ -1,0 +1,30 @@
+-- Contents in parts of 256 bytes, one for each block, and which parts differ from those of an earlier content.
+use Rattle.std.specs.Prelude.{◌≡◌, ℕ, zero, suc, ◌+◌, ◌*◌, ◌/◌, ◌<◌, List, length, take, drop, slice_index, Bool, not, cond}
+use Rattle.std.specs.Str.{bytes_eq}
+
+-- how many blocks so many bytes take
+abbrev pub blocks_for : ℕ → ℕ
+blocks_for len = (len + 255) / 256
+
+-- the bytes of the i-th block: at most 256 from `256 * i` on
+abbrev pub part : List ℕ → ℕ → List ℕ
+part bytes i = take 256 (drop (256 * i) bytes)
+
+-- whether the i-th blocks of two contents differ
+unfoldable pub is_changed : List ℕ → List ℕ → ℕ → Bool
+is_changed bytes was i = not (bytes_eq (part bytes i) (part was i))
+
+-- how many of the first n blocks differ
+abbrev pub changed_to : List ℕ → List ℕ → ℕ → ℕ
+changed_to bytes was zero = 0
+changed_to bytes was (suc n) = changed_to bytes was n + cond (is_changed bytes was n) 1 0
+
+-- how many blocks of the new content differ from those of the old one
+abbrev pub changed : List ℕ → List ℕ → ℕ
+changed bytes was = changed_to bytes was (blocks_for (length bytes))
+
+-- the blocks of a content that shares with an earlier one: the earlier block where both are equal, else the next of the fresh ones
+pub record IsMerged (bytes was old fresh blocks : List ℕ) : Type 0 where
+  pub count : length blocks ≡ blocks_for (length bytes)
+  pub each : (i : ℕ) → i < length blocks
+      → slice_index blocks i ≡ cond (is_changed bytes was i) (slice_index fresh (changed_to bytes was i)) (slice_index old i)

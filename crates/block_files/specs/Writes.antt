@@ -1,0 +1,42 @@
+-- What calls that write blocks leave alone, at their end and where a crash or a failure stops them.
+use Rattle.std.specs.Prelude.{◌≡◌, ◌≢◌, ℕ, ◌+◌, ◌<◌, ◌≤◌, List, length, slice_index, Bool, true, IsTrue}
+use Rattle.per_base.specs.Causes.{Rose}
+use Rattle.disk_model.specs.Case.{Follows}
+use Rattle.disk_model.specs.Medium.{Medium, Elapses}
+use Rattle.disk_model.specs.Frame.{Keeps, Tears, KeepsCase}
+use Rattle.block_files.specs.BlockSets.{holds}
+use Rattle.block_files.specs.Parts.{is_changed}
+use Rattle.block_files.specs.Areas.{area_of}
+
+-- Writes that were all done, of at most n bytes: files that are spared and blocks that are apart read as before, and so they do in each
+-- case of a crash after the writes or at any moment of them, but for what a crash may leave past an old end.
+pub record Wrote (told : Bool) (spared apart : ℕ → Type 0) (n : ℕ) (old new : Medium) : Type 0 where
+  pub keeps : IsTrue told → Keeps spared apart old.image new.image
+  pub now : Follows (KeepsCase spared apart) old.now new.now
+  pub during : Follows (KeepsCase spared apart) old.now (new.since old.moment)
+  pub written : new.written ≤ old.written + n
+  pub time : Elapses old new
+
+-- Writes of which one failed: spared files and blocks apart read as before, but for what lies past an old end.
+pub record Tore (told : Bool) (spared apart : ℕ → Type 0) (n : ℕ) (old new : Medium) : Type 0 where
+  pub tears : IsTrue told → Tears spared apart old.image new.image
+  pub during : Follows (KeepsCase spared apart) old.now (new.since old.moment)
+  pub written : new.written ≤ old.written + n
+  pub time : Elapses old new
+  pub cause : Rose old.faults new.faults
+
+-- ---- files that are spared
+
+-- the file is the area of none of these copies, counted from 1
+abbrev pub IsNoneOf : (first : ℕ) (copies : List ℕ) (file : ℕ) → Type 0
+IsNoneOf first copies file = (i : ℕ) → i < length copies → file ≢ area_of first (slice_index copies i)
+
+-- ---- blocks that are apart
+
+-- the block was in the set
+abbrev pub IsTaken : List Bool → ℕ → Type 0
+IsTaken set k = holds set k ≡ true
+
+-- the block is none of those whose part differs from that of an earlier content
+abbrev pub IsApartFromChanged : (blocks bytes was : List ℕ) (k : ℕ) → Type 0
+IsApartFromChanged blocks bytes was k = (i : ℕ) → i < length blocks → is_changed bytes was i ≡ true → k ≢ slice_index blocks i

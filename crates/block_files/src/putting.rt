@@ -1,0 +1,169 @@
+//! Contents put into fresh blocks, or into fresh and shared ones.
+
+ghost use Rattle.std.specs.Prelude.{◌≡◌, ◌<◌, ◌≤◌, ◌+◌, ◌*◌, ℕ, List, true, IsTrue, IfOk, OnOk, OnErr, IsErrOf, length, slice_index};
+ghost use Rattle.sha2.specs.Sha256.{sha256};
+ghost use Rattle.disk_model.specs.Place.{IsNoArea};
+ghost use Rattle.block_files.specs.BlockSets.{holds, free_of, AreFree, AreDistinct, IsApart, IsAdded, SharesBlocks};
+ghost use Rattle.block_files.specs.Parts.{blocks_for, changed};
+ghost use Rattle.block_files.specs.Areas.{AllFull};
+ghost use Rattle.block_files.specs.Writes.{Wrote, Tore, IsTaken, IsApartFromChanged};
+
+use crate::block_set::BlockSet;
+use crate::choosing::{add, choose, merge};
+use crate::errors::BlobError;
+use crate::parts::{count_blocks, count_changed};
+use crate::writing::{write_blob, write_shared};
+use disk_model::{Disk, Place};
+use hash_guard::hash;
+use per_base::Numbers;
+use std::alloc::{AllocError, Global};
+
+/// Where a content was put, and its SHA-256.
+#[derive(Debug, Drop)]
+pub struct PutBlob {
+    /// The blocks of the content, in order.
+    pub blocks: Numbers,
+    /// The hash of the content's bytes.
+    pub hash: [u8; 32],
+}
+
+/// Chooses blocks for the bytes and adds them to `used`: all of a put but its writes, which are for `write_blob`.
+///
+/// # Errors
+///
+/// Only want of memory.
+pub fn reserve_blob(alloc: Global, used: &mut BlockSet, bytes: &[u8]) -> Result<PutBlob, AllocError>
+    requires { blocks_for (length bytes.now) ≤ free_of used.old }
+    ensures count { IfOk result (λ blob. length blob.blocks ≡ blocks_for (length bytes.now)) }
+    ensures free { IfOk result (λ blob. AreFree used.old blob.blocks) }
+    ensures hash { IfOk result (λ blob. blob.hash ≡ sha256 bytes.now) }
+    ensures used { IfOk result (λ blob. IsAdded blob.blocks used.old used.new) }
+    ensures memory { OnErr result (used.new ≡ used.old) }
+{
+    let blocks = choose(alloc, used, count_blocks(bytes.len()))?;
+    add(used, &blocks);
+    Ok(PutBlob {
+        blocks: Numbers::new(blocks),
+        hash: hash(bytes),
+    })
+}
+
+/// Writes the bytes into blocks outside `used` in every copy, and adds the blocks to `used`. The bytes are durable after the
+/// caller's next sync.
+///
+/// # Errors
+///
+/// `Device` where the disk fails; then `used` has the blocks that were chosen. `OutOfMemory` leaves `used` and the disk as they were.
+pub fn put_blob<D: Disk>(
+    alloc: Global,
+    disk: &mut D,
+    place: Place,
+    used: &mut BlockSet,
+    bytes: &[u8],
+) -> Result<PutBlob, BlobError>
+    requires { blocks_for (length bytes.now) ≤ free_of used.old }
+    // The blocks.
+    ensures count { IfOk result (λ blob. length blob.blocks ≡ blocks_for (length bytes.now)) }
+    ensures free { IfOk result (λ blob. AreFree used.old blob.blocks) }
+    ensures hash { IfOk result (λ blob. blob.hash ≡ sha256 bytes.now) }
+    ensures used { IfOk result (λ blob. IsAdded blob.blocks used.old used.new) }
+
+    // The disk.
+    ensures whole { IsTrue D.told → IfOk result (λ blob.
+        AllFull place.first place.copies blob.blocks bytes.now (D.medium disk.new).image) }
+    ensures done { IfOk result (λ blob. Wrote D.told (IsNoArea place.first place.copies) (IsApart blob.blocks)
+        (place.copies * (256 * length blob.blocks)) (D.medium disk.old) (D.medium disk.new)) }
+
+    // Errors.
+    ensures memory { IsErrOf result BlobError.OutOfMemory → (used.new ≡ used.old) × (disk.new ≡ disk.old) }
+    ensures failed { IsErrOf result BlobError.Device → Tore D.told (IsNoArea place.first place.copies) (IsTaken used.old)
+        (place.copies * (256 * blocks_for (length bytes.now))) (D.medium disk.old) (D.medium disk.new) }
+    ensures reserved { IsErrOf result BlobError.Device → (blocks : List ℕ)
+        × (length blocks ≡ blocks_for (length bytes.now)) × AreFree used.old blocks × IsAdded blocks used.old used.new }
+{
+    let blob = reserve_blob(alloc, used, bytes)?;
+    write_blob(disk, place, blob.blocks.as_slice(), bytes)?;
+    Ok(blob)
+}
+
+/// Chooses blocks for the bytes and adds them to `used`: all of a `put_shared` but its writes, which are for `write_shared`.
+///
+/// # Errors
+///
+/// Only want of memory.
+pub fn reserve_shared(
+    alloc: Global,
+    used: &mut BlockSet,
+    bytes: &[u8],
+    old_bytes: &[u8],
+    old_blocks: &[u32],
+) -> Result<PutBlob, AllocError>
+    requires room { length old_bytes.now ≤ 256 * length old_blocks.now }
+    requires taken { (i : ℕ) → i < length old_blocks.now → holds used.old (slice_index old_blocks.now i) ≡ true }
+    requires distinct { AreDistinct old_blocks.now }
+    requires free { changed bytes.now old_bytes.now ≤ free_of used.old }
+    ensures count { IfOk result (λ blob. length blob.blocks ≡ blocks_for (length bytes.now)) }
+    ensures shared { IfOk result (λ blob. SharesBlocks bytes.now old_bytes.now old_blocks.now used.old blob.blocks) }
+    ensures distinct { IfOk result (λ blob. AreDistinct blob.blocks) }
+    ensures hash { IfOk result (λ blob. blob.hash ≡ sha256 bytes.now) }
+    ensures used { IfOk result (λ blob. IsAdded blob.blocks used.old used.new) }
+    ensures free { OnOk result (free_of used.old ≤ free_of used.new + changed bytes.now old_bytes.now) }
+    ensures memory { OnErr result (used.new ≡ used.old) }
+{
+    let fresh = choose(alloc, used, count_changed(bytes, old_bytes))?;
+    let blocks = merge(alloc, bytes, old_bytes, old_blocks, &fresh)?;
+    add(used, &fresh);
+    Ok(PutBlob {
+        blocks: Numbers::new(blocks),
+        hash: hash(bytes),
+    })
+}
+
+/// Puts the bytes beside an earlier content: a block that is equal in both is shared, and the others are written into blocks outside
+/// `used`, which are added to it. The bytes are durable after the caller's next sync.
+///
+/// # Errors
+///
+/// `Device` where the disk fails; then `used` has the blocks that were chosen. `OutOfMemory` leaves `used` and the disk as they were.
+pub fn put_shared<D: Disk>(
+    alloc: Global,
+    disk: &mut D,
+    place: Place,
+    used: &mut BlockSet,
+    bytes: &[u8],
+    old_bytes: &[u8],
+    old_blocks: &[u32],
+) -> Result<PutBlob, BlobError>
+    requires whole { IsTrue D.told
+        → AllFull place.first place.copies old_blocks.now old_bytes.now (D.medium disk.old).image }
+    requires room { length old_bytes.now ≤ 256 * length old_blocks.now }
+    requires taken { (i : ℕ) → i < length old_blocks.now → holds used.old (slice_index old_blocks.now i) ≡ true }
+    requires distinct { AreDistinct old_blocks.now }
+    requires free { changed bytes.now old_bytes.now ≤ free_of used.old }
+    // The blocks.
+    ensures count { IfOk result (λ blob. length blob.blocks ≡ blocks_for (length bytes.now)) }
+    ensures shared { IfOk result (λ blob. SharesBlocks bytes.now old_bytes.now old_blocks.now used.old blob.blocks) }
+    ensures distinct { IfOk result (λ blob. AreDistinct blob.blocks) }
+    ensures hash { IfOk result (λ blob. blob.hash ≡ sha256 bytes.now) }
+    ensures used { IfOk result (λ blob. IsAdded blob.blocks used.old used.new) }
+    ensures free { OnOk result (free_of used.old ≤ free_of used.new + changed bytes.now old_bytes.now) }
+
+    // The disk.
+    ensures whole { IsTrue D.told → IfOk result (λ blob.
+        AllFull place.first place.copies blob.blocks bytes.now (D.medium disk.new).image) }
+    ensures done { IfOk result (λ blob.
+        Wrote D.told (IsNoArea place.first place.copies) (IsApartFromChanged blob.blocks bytes.now old_bytes.now)
+        (place.copies * (256 * changed bytes.now old_bytes.now)) (D.medium disk.old) (D.medium disk.new)) }
+
+    // Errors.
+    ensures memory { IsErrOf result BlobError.OutOfMemory → (used.new ≡ used.old) × (disk.new ≡ disk.old) }
+    ensures failed { IsErrOf result BlobError.Device → Tore D.told (IsNoArea place.first place.copies) (IsTaken used.old)
+        (place.copies * (256 * changed bytes.now old_bytes.now)) (D.medium disk.old) (D.medium disk.new) }
+    ensures reserved { IsErrOf result BlobError.Device → (blocks : List ℕ)
+        × (length blocks ≡ blocks_for (length bytes.now)) × SharesBlocks bytes.now old_bytes.now old_blocks.now used.old blocks
+        × IsAdded blocks used.old used.new }
+{
+    let blob = reserve_shared(alloc, used, bytes, old_bytes, old_blocks)?;
+    write_shared(disk, place, blob.blocks.as_slice(), bytes, old_bytes)?;
+    Ok(blob)
+}

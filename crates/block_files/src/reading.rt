@@ -1,0 +1,142 @@
+//! What the copies of a content hold.
+
+ghost use Rattle.std.specs.Prelude.{◌≡◌, ◌≤◌, ◌-◌, ◌*◌, ◌++◌, IsTrue, IfOk, IfSome, OnErr, IsErrOf, length, map, min, take, replicate};
+ghost use Rattle.std.specs.List.{range_with_len};
+ghost use Rattle.std.specs.Option.{option_map};
+ghost use Rattle.per_base.specs.Causes.{Rose};
+ghost use Rattle.disk_model.specs.Place.{area};
+ghost use Rattle.disk_model.specs.Medium.{Elapses, OnlyReads};
+ghost use Rattle.m_of_n.specs.Vote.{texts_of};
+ghost use Rattle.block_files.specs.Areas.{block, joined, is_within, within};
+ghost use Rattle.block_files.specs.Contents.{counting, contents, HaveSize};
+
+use crate::errors::BlobError;
+use crate::parts::BLOCK;
+use disk_model::{Disk, DiskFailed, Place};
+use hash_guard::hash as hash_of;
+use std::alloc::{AllocError, Global};
+
+/// What each copy of a content gives, in order: its bytes where they have the hash, and whether its file has them all.
+#[derive(Drop)]
+pub(crate) struct Looked {
+    pub(crate) texts: Vec<Option<Vec<u8>>>,
+    pub(crate) inside: Vec<bool>,
+}
+
+// Looks at every copy of a content.
+pub(crate) fn look<D: Disk>(
+    alloc: Global,
+    disk: &mut D,
+    place: Place,
+    blocks: &[u32],
+    len: u32,
+    hash: &[u8; 32],
+) -> Result<Looked, BlobError>
+    ensures texts { IsTrue D.told → IfOk result (λ looked. texts_of looked.texts.items
+        ≡ contents place.first place.copies blocks.now len hash.now (D.medium disk.old).image) }
+    ensures inside { IsTrue D.told → IfOk result (λ looked. looked.inside.items
+        ≡ map (λ c. within ((D.medium disk.old).image (area place.first c)) blocks.now len) (range_with_len 0 place.copies)) }
+    ensures copies { IfOk result (λ looked. (length looked.texts.items ≡ place.copies) × (length looked.inside.items ≡ place.copies)) }
+    ensures size { IfOk result (λ looked. HaveSize (min len (256 * length blocks.now)) (texts_of looked.texts.items)) }
+    ensures reads { OnlyReads (D.medium disk.old) (D.medium disk.new) }
+    ensures time { Elapses (D.medium disk.old) (D.medium disk.new) }
+    ensures cause { IsErrOf result BlobError.Device → Rose (D.medium disk.old).faults (D.medium disk.new).faults }
+{
+    let mut texts = Vec::new(alloc);
+    let mut inside = Vec::new(alloc);
+    for copy in 0..place.copies {
+        let file = place.area(copy);
+        let text = read_text(alloc, disk, file, blocks, len, hash)?;
+        texts.push(text)?;
+        let size = disk.size(file)?;
+        inside.push(is_inside(size, blocks, len as usize))?;
+    }
+    Ok(Looked { texts, inside })
+}
+
+// What one copy gives.
+fn read_text<D: Disk>(
+    alloc: Global,
+    disk: &mut D,
+    file: u32,
+    blocks: &[u32],
+    len: u32,
+    hash: &[u8; 32],
+) -> Result<Option<Vec<u8>>, BlobError>
+    ensures text { IsTrue D.told → IfOk result (λ text. option_map (λ t. t.items) text
+        ≡ counting ((D.medium disk.old).image file) blocks.now len hash.now) }
+    ensures size { IfOk result (λ text. IfSome text (λ t. length t.items ≡ min len (256 * length blocks.now))) }
+    ensures reads { OnlyReads (D.medium disk.old) (D.medium disk.new) }
+    ensures time { Elapses (D.medium disk.old) (D.medium disk.new) }
+    ensures cause { IsErrOf result BlobError.Device → Rose (D.medium disk.old).faults (D.medium disk.new).faults }
+{
+    let bytes = read_joined(alloc, disk, file, blocks, len as usize)?;
+    if hash_of(&bytes) != *hash {
+        return Ok(None);
+    }
+    Ok(Some(bytes))
+}
+
+// The bytes of the blocks, joined and cut to the length.
+fn read_joined<D: Disk>(
+    alloc: Global,
+    disk: &mut D,
+    file: u32,
+    blocks: &[u32],
+    len: usize,
+) -> Result<Vec<u8>, BlobError>
+    ensures bytes { IsTrue D.told → IfOk result (λ bytes. bytes.items ≡ joined ((D.medium disk.old).image file) blocks.now len) }
+    ensures size { IfOk result (λ bytes. length bytes.items ≡ min len (256 * length blocks.now)) }
+    ensures reads { OnlyReads (D.medium disk.old) (D.medium disk.new) }
+    ensures time { Elapses (D.medium disk.old) (D.medium disk.new) }
+    ensures cause { IsErrOf result BlobError.Device → Rose (D.medium disk.old).faults (D.medium disk.new).faults }
+{
+    let mut bytes = Vec::new(alloc);
+    for number in blocks {
+        let content = read_block(disk, file, *number)?;
+        let left = len.saturating_sub(bytes.len());
+        bytes.extend_from_slice(&content[..left.min(BLOCK)])?;
+    }
+    Ok(bytes)
+}
+
+// The bytes of a block, with zeros past the file's end.
+fn read_block<D: Disk>(disk: &mut D, file: u32, number: u32) -> Result<[u8; BLOCK], DiskFailed>
+    ensures bytes { IsTrue D.told → IfOk result (λ bytes. bytes ≡ block ((D.medium disk.old).image file) number) }
+    ensures long { IfOk result (λ bytes. length bytes ≡ 256) }
+    ensures reads { OnlyReads (D.medium disk.old) (D.medium disk.new) }
+    ensures time { Elapses (D.medium disk.old) (D.medium disk.new) }
+    ensures cause { OnErr result (Rose (D.medium disk.old).faults (D.medium disk.new).faults) }
+{
+    let mut content = [0; BLOCK];
+    let n = disk.read(file, BLOCK as u64 * u64::from(number), &mut content)?;
+    clear_from(&mut content, n);
+    Ok(content)
+}
+
+// Writes zeros from this byte on.
+fn clear_from(content: &mut [u8; BLOCK], n: usize)
+    requires { n ≤ 256 }
+    ensures { content.new ≡ take n content.old ++ replicate (256 - n) 0 }
+{
+    for i in n..BLOCK {
+        content[i] = 0;
+    }
+}
+
+// Whether a file of this size has all bytes of a content.
+fn is_inside(size: u64, blocks: &[u32], len: usize) -> bool
+    ensures { result ≡ is_within size blocks.now len }
+{
+    let mut left = len;
+    for number in blocks {
+        if left == 0 {
+            return true;
+        }
+        if BLOCK as u64 * u64::from(*number) + left.min(BLOCK) as u64 > size {
+            return false;
+        }
+        left = left.saturating_sub(BLOCK);
+    }
+    true
+}

@@ -1,0 +1,125 @@
+//! Writes of contents into the areas of copies. Nothing here takes memory.
+
+ghost use Rattle.std.specs.Prelude.{◌≢◌, ◌<◌, ◌≤◌, ◌*◌, ℕ, IsTrue, OnOk, OnErr, length, slice_index};
+ghost use Rattle.disk_model.specs.Place.{area, IsNoArea};
+ghost use Rattle.block_files.specs.BlockSets.{AreDistinct, IsApart};
+ghost use Rattle.block_files.specs.Parts.{changed};
+ghost use Rattle.block_files.specs.Areas.{HoldsBytes, HoldsShared, AllFull, NamedFull, area_of};
+ghost use Rattle.block_files.specs.Contents.{AreCopies};
+ghost use Rattle.block_files.specs.Writes.{Wrote, Tore, IsNoneOf, IsApartFromChanged};
+
+use crate::parts::{BLOCK, count_blocks, differs, part_at};
+use disk_model::{Disk, DiskFailed, Place};
+
+/// The numbers of the copies that a place can have.
+const NUMBERS: [u32; 8] = [1, 2, 3, 4, 5, 6, 7, 8];
+
+/// Writes the bytes into these blocks in every copy, for a caller who has chosen the blocks before. Takes no memory. The bytes are
+/// durable after the caller's next sync.
+///
+/// # Errors
+///
+/// Only a failure of the disk.
+pub fn write_blob<D: Disk>(
+    disk: &mut D,
+    place: Place,
+    blocks: &[u32],
+    bytes: &[u8],
+) -> Result<(), DiskFailed>
+    requires room { length bytes.now ≤ 256 * length blocks.now }
+    requires distinct { AreDistinct blocks.now }
+    ensures whole { IsTrue D.told → OnOk result
+        (AllFull place.first place.copies blocks.now bytes.now (D.medium disk.new).image) }
+    ensures done { OnOk result (Wrote D.told (IsNoArea place.first place.copies) (IsApart blocks.now)
+        (place.copies * (256 * length blocks.now)) (D.medium disk.old) (D.medium disk.new)) }
+    ensures failed { OnErr result (Tore D.told (IsNoArea place.first place.copies) (IsApart blocks.now)
+        (place.copies * (256 * length blocks.now)) (D.medium disk.old) (D.medium disk.new)) }
+{
+    write_shared(disk, place, blocks, bytes, &[])
+}
+
+/// Writes those parts of the bytes that differ from `was` into their blocks in every copy, for a caller who has chosen the blocks
+/// before. Takes no memory. The bytes are durable after the caller's next sync.
+///
+/// # Errors
+///
+/// Only a failure of the disk.
+pub fn write_shared<D: Disk>(
+    disk: &mut D,
+    place: Place,
+    blocks: &[u32],
+    bytes: &[u8],
+    was: &[u8],
+) -> Result<(), DiskFailed>
+    requires room { length bytes.now ≤ 256 * length blocks.now }
+    requires distinct { AreDistinct blocks.now }
+    requires shared { IsTrue D.told → (c : ℕ) → c < place.copies
+        → HoldsShared ((D.medium disk.old).image (area place.first c)) blocks.now bytes.now was.now }
+    ensures whole { IsTrue D.told → OnOk result
+        (AllFull place.first place.copies blocks.now bytes.now (D.medium disk.new).image) }
+    ensures done { OnOk result (Wrote D.told (IsNoArea place.first place.copies) (IsApartFromChanged blocks.now bytes.now was.now)
+        (place.copies * (256 * changed bytes.now was.now)) (D.medium disk.old) (D.medium disk.new)) }
+    ensures failed { OnErr result (Tore D.told (IsNoArea place.first place.copies) (IsApartFromChanged blocks.now bytes.now was.now)
+        (place.copies * (256 * changed bytes.now was.now)) (D.medium disk.old) (D.medium disk.new)) }
+{
+    write_copies(
+        disk,
+        place,
+        &NUMBERS[..place.copies as usize],
+        blocks,
+        bytes,
+        was,
+    )
+}
+
+// The same in these copies, counted from 1.
+pub(crate) fn write_copies<D: Disk>(
+    disk: &mut D,
+    place: Place,
+    copies: &[u32],
+    blocks: &[u32],
+    bytes: &[u8],
+    was: &[u8],
+) -> Result<(), DiskFailed>
+    requires copies { AreCopies place.copies copies.now }
+    requires room { length bytes.now ≤ 256 * length blocks.now }
+    requires distinct { AreDistinct blocks.now }
+    requires shared { IsTrue D.told → (i : ℕ) → i < length copies.now
+        → HoldsShared ((D.medium disk.old).image (area_of place.first (slice_index copies.now i))) blocks.now bytes.now was.now }
+    ensures whole { IsTrue D.told → OnOk result
+        (NamedFull place.first copies.now blocks.now bytes.now (D.medium disk.new).image) }
+    ensures done { OnOk result (Wrote D.told (IsNoneOf place.first copies.now) (IsApartFromChanged blocks.now bytes.now was.now)
+        (length copies.now * (256 * changed bytes.now was.now)) (D.medium disk.old) (D.medium disk.new)) }
+    ensures failed { OnErr result (Tore D.told (IsNoneOf place.first copies.now) (IsApartFromChanged blocks.now bytes.now was.now)
+        (length copies.now * (256 * changed bytes.now was.now)) (D.medium disk.old) (D.medium disk.new)) }
+{
+    for number in copies {
+        write_changed(disk, place.area(*number - 1), blocks, bytes, was)?;
+    }
+    Ok(())
+}
+
+// The same in one area file.
+fn write_changed<D: Disk>(
+    disk: &mut D,
+    file: u32,
+    blocks: &[u32],
+    bytes: &[u8],
+    was: &[u8],
+) -> Result<(), DiskFailed>
+    requires room { length bytes.now ≤ 256 * length blocks.now }
+    requires distinct { AreDistinct blocks.now }
+    requires shared { IsTrue D.told → HoldsShared ((D.medium disk.old).image file) blocks.now bytes.now was.now }
+    ensures holds { IsTrue D.told → OnOk result (HoldsBytes ((D.medium disk.new).image file) blocks.now bytes.now) }
+    ensures done { OnOk result (Wrote D.told (λ f. f ≢ file) (IsApartFromChanged blocks.now bytes.now was.now)
+        (256 * changed bytes.now was.now) (D.medium disk.old) (D.medium disk.new)) }
+    ensures failed { OnErr result (Tore D.told (λ f. f ≢ file) (IsApartFromChanged blocks.now bytes.now was.now)
+        (256 * changed bytes.now was.now) (D.medium disk.old) (D.medium disk.new)) }
+{
+    for i in 0..count_blocks(bytes.len()) {
+        if differs(bytes, was, i) {
+            disk.write_at(file, BLOCK as u64 * u64::from(blocks[i]), part_at(bytes, i))?;
+        }
+    }
+    Ok(())
+}
