@@ -1,0 +1,5 @@
+use Rattle.index_text.proofs.Lengths.{blocks_are_few as law}
+use Rattle.index_text.proofs.laws.blocks_are_few.Goals as goal
+
+pub returns : goal.returns
+returns c = law

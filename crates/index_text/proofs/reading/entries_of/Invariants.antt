@@ -1,0 +1,7 @@
+use Rattle.std.proofs.Common.{◌≡◌, ◌-◌}
+use Rattle.index_text.specs.Reading.{entry_at, many}
+use Rattle.index_text.proofs.Loop.{with_front}
+use Rattle.index_text.proofs.reading.entries_of.Given as goal
+
+abbrev pub invariant-loop : goal.invariant-loop
+invariant-loop l = with_front l.entries.items (many (entry_at l.header.format l.header.kind) (l.header.count - l.counter) l.rest) ≡ many (entry_at l.header.format l.header.kind) l.header.count l.bytes

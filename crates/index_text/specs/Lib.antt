@@ -1,0 +1,5 @@
+pub mod Samples
+pub mod Reading
+pub mod Rules
+pub mod Sizes
+pub mod Spelling

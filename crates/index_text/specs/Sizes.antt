@@ -1,0 +1,38 @@
+-- How long a text is, and the index of a storage of a given size.
+use Rattle.std.specs.Prelude.{ℕ, ◌+◌, ◌*◌, ◌/◌, List, length, sum_by, Bool, IsTrue, ◌&&◌, ◌==◌, nat_le, nat_lt, if◌then◌else◌}
+use Rattle.std.specs.List.{list_all}
+use Rattle.per_base.specs.declared.elements.StoreKind.{StoreKind}
+use Rattle.per_base.specs.declared.elements.StoreKind.TheVariants.{Keys, Files}
+use Rattle.index_text.specs.declared.entries.IndexEntry.{IndexEntry}
+use Rattle.index_text.specs.declared.entries.Index.{Index}
+use Rattle.index_text.specs.Rules.{blocks_of}
+use Rattle.index_text.specs.Spelling.{kind_code}
+
+-- names and contents, in bytes
+abbrev pub size_of : List IndexEntry → ℕ
+size_of es = sum_by (λ (e : IndexEntry). length e.name + e.len) es
+
+abbrev pub info_length : StoreKind → ℕ
+info_length Keys = 0
+info_length Files = 26
+
+abbrev pub changed_length : ℕ → ℕ
+changed_length format = if format == 2 then 8 else 0
+
+abbrev pub entry_length : ℕ → StoreKind → IndexEntry → ℕ
+entry_length format kind e = 37 + info_length kind + changed_length format + length e.name + 4 * length e.blocks
+
+-- the bytes of an index's text
+abbrev pub text_length : Index → ℕ
+text_length i = 4 + sum_by (entry_length i.format i.kind) i.entries
+
+-- the blocks of the area of a storage that allows this many bytes
+abbrev pub area_blocks : ℕ → ℕ
+area_blocks allowed = 2 * (allowed / 256 + 1024)
+
+-- an index of this kind whose names and contents are within the allowed bytes and whose blocks lie in the area
+abbrev pub fits : StoreKind → ℕ → Index → Bool
+fits kind allowed i = kind_code i.kind == kind_code kind && nat_le (size_of i.entries) allowed && list_all (λ b. nat_lt b (area_blocks allowed)) (blocks_of i.entries)
+
+abbrev pub Fits : StoreKind → ℕ → Index → Type 0
+Fits kind allowed i = IsTrue (fits kind allowed i)

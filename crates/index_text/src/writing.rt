@@ -1,0 +1,120 @@
+//! Writing an index as its text.
+
+ghost use Rattle.std.specs.Prelude.{◌≡◌, ◌≤◌, ◌<◌, ◌^◌, ◌++◌, IfOk, OnOk, Some, length};
+ghost use Rattle.std.specs.List.{AllByRecursion, flat_map};
+ghost use Rattle.std.specs.Int.{to_le_bytes, w32};
+ghost use Rattle.index_text.specs.Rules.{EntryInRange, InfoInRange, InfoIsInRange, IsIndex};
+ghost use Rattle.index_text.specs.Spelling.{cause_code, changed_text, entry_text, file_info_text, index_text, info_text, kind_code, name_text};
+ghost use Rattle.index_text.specs.Reading.{index_of};
+ghost use Rattle.index_text.specs.Sizes.{text_length};
+
+use crate::entries::{Index, IndexEntry};
+use per_base::{Cause, FileInfo, StoreKind};
+use std::alloc::{AllocError, Global};
+
+/// The one text of an index that keeps the rules: format 1 or 2, at most 1,024 entries with ascending names, contents within the
+/// limit of their kind, an info exactly for files, numbers of the last change in format 2 alone, and no block twice.
+pub fn write_index(alloc: Global, index: &Index) -> Result<Vec<u8>, AllocError>
+    requires { IsIndex index.now }
+    ensures text { IfOk result (λ text. text.items ≡ index_text index.now) }
+    ensures length { IfOk result (λ text. length text.items ≡ text_length index.now) }
+
+    // It spells this index, and so no other.
+    ensures spells { IfOk result (λ text. index_of text.items ≡ Some index.now) }
+{
+    let entries = index.entries.as_slice();
+    let mut text = Vec::new(alloc);
+    text.push(index.format)?;
+    text.push(kind_byte(index.kind))?;
+    text.extend_from_slice(&(entries.len() as u16).to_le_bytes())?;
+    for entry in entries {
+        put_entry(&mut text, index.format, entry)?;
+    }
+    Ok(text)
+}
+
+fn kind_byte(kind: StoreKind) -> u8
+    ensures { result ≡ kind_code kind }
+{
+    match kind {
+        StoreKind::Keys => 1,
+        StoreKind::Files => 2,
+    }
+}
+
+fn cause_byte(cause: Cause) -> u8
+    ensures { result ≡ cause_code cause }
+{
+    match cause {
+        Cause::Installation => 1,
+        Cause::Update => 2,
+        Cause::Reset => 3,
+        Cause::Recovery => 4,
+        Cause::Application => 5,
+    }
+}
+
+#[tactic(auto, unfolding(crate::specs::Spelling::entry_text))]
+fn put_entry(text: &mut Vec<u8>, format: u8, entry: &IndexEntry) -> Result<(), AllocError>
+    ensures text { OnOk result (text.new.items ≡ text.old.items ++ entry_text format entry.now) }
+    ensures in_range { OnOk result (EntryInRange entry.now) }
+{
+    put_name(text, entry.name.as_str())?;
+    put_info(text, &entry.info)?;
+    put_changed(text, format, entry.changed)?;
+    text.extend_from_slice(&entry.len.to_le_bytes())?;
+    text.extend_from_slice(&entry.hash)?;
+    put_blocks(text, entry.blocks.as_slice())?;
+    Ok(())
+}
+
+fn put_name(text: &mut Vec<u8>, name: &str) -> Result<(), AllocError>
+    requires { length name.now ≤ 255 }
+    ensures { OnOk result (text.new.items ≡ text.old.items ++ name_text name.now) }
+{
+    text.push(name.len() as u8)?;
+    text.extend_from_slice(name.as_bytes())?;
+    Ok(())
+}
+
+fn put_info(text: &mut Vec<u8>, info: &Option<FileInfo>) -> Result<(), AllocError>
+    ensures text { OnOk result (text.new.items ≡ text.old.items ++ info_text info.now) }
+    ensures in_range { OnOk result (InfoIsInRange info.now) }
+{
+    match info {
+        None => Ok(()),
+        Some(info) => put_file_info(text, info),
+    }
+}
+
+fn put_file_info(text: &mut Vec<u8>, info: &FileInfo) -> Result<(), AllocError>
+    ensures text { OnOk result (text.new.items ≡ text.old.items ++ file_info_text info.now) }
+    ensures in_range { OnOk result (InfoInRange info.now) }
+{
+    text.extend_from_slice(&info.created.to_le_bytes())?;
+    text.extend_from_slice(&info.modified.to_le_bytes())?;
+    text.extend_from_slice(&info.accessed.to_le_bytes())?;
+    let causes = [cause_byte(info.creation), cause_byte(info.modification)];
+    text.extend_from_slice(&causes)?;
+    Ok(())
+}
+
+fn put_changed(text: &mut Vec<u8>, format: u8, changed: u64) -> Result<(), AllocError>
+    ensures text { OnOk result (text.new.items ≡ text.old.items ++ changed_text format changed) }
+    ensures in_range { changed < 2 ^ 64 }
+{
+    if format == 2 {
+        text.extend_from_slice(&changed.to_le_bytes())?;
+    }
+    Ok(())
+}
+
+fn put_blocks(text: &mut Vec<u8>, blocks: &[u32]) -> Result<(), AllocError>
+    ensures text { OnOk result (text.new.items ≡ text.old.items ++ flat_map (to_le_bytes w32) blocks.now) }
+    ensures in_range { AllByRecursion (λ b. b < 2 ^ 32) blocks.now }
+{
+    for block in blocks {
+        text.extend_from_slice(&block.to_le_bytes())?;
+    }
+    Ok(())
+}
