@@ -1,0 +1,96 @@
+-- A kind is the type of a value, as plain data: how deep it nests, whether its groups have members, and its code in bytes.
+use Rattle.std.specs.Prelude.{ℕ, suc, max, List, [], ◌∷◌, ◌++◌, Bool, true, ◌&&◌, nat_le}
+use Rattle.std.specs.Int.{w8, w16, w32, w64}
+use mir.Syntax.{Width}
+
+-- the number of bytes of an integer
+pub data Size : Type 0 where
+  one : Size
+  two : Size
+  four : Size
+  eight : Size
+
+mutual
+  pub data Kind : Type 0 where
+    bool_kind : Kind
+    unsigned_kind : Size → Kind
+    signed_kind : Size → Kind
+    text_kind : Kind
+    bytes_kind : Kind
+    list_kind : Kind → Kind
+    fields_kind : Kinds → Kind
+
+  pub data Kinds : Type 0 where
+    no_kinds : Kinds
+    kind_then : Kind → Kinds → Kinds
+
+abbrev pub width : Size → Width
+width one = w8
+width two = w16
+width four = w32
+width eight = w64
+
+abbrev pub count_kinds : Kinds → ℕ
+count_kinds no_kinds = 0
+count_kinds (kind_then k ks) = suc (count_kinds ks)
+
+-- a scalar has depth 1; a list or a group of fields has one more than its deepest member
+abbrev mutual
+  pub kind_depth : Kind → ℕ
+  kind_depth bool_kind = 1
+  kind_depth (unsigned_kind s) = 1
+  kind_depth (signed_kind s) = 1
+  kind_depth text_kind = 1
+  kind_depth bytes_kind = 1
+  kind_depth (list_kind k) = suc (kind_depth k)
+  kind_depth (fields_kind ks) = suc (kinds_depth ks)
+
+  pub kinds_depth : Kinds → ℕ
+  kinds_depth no_kinds = 0
+  kinds_depth (kind_then k ks) = max (kind_depth k) (kinds_depth ks)
+
+-- a group of fields has 1 to 32 members
+abbrev pub is_group : ℕ → Bool
+is_group count = nat_le 1 count && nat_le count 32
+
+-- every group of fields in the kind is one
+abbrev mutual
+  pub kind_fits : Kind → Bool
+  kind_fits bool_kind = true
+  kind_fits (unsigned_kind s) = true
+  kind_fits (signed_kind s) = true
+  kind_fits text_kind = true
+  kind_fits bytes_kind = true
+  kind_fits (list_kind k) = kind_fits k
+  kind_fits (fields_kind ks) = is_group (count_kinds ks) && kinds_fit ks
+
+  pub kinds_fit : Kinds → Bool
+  kinds_fit no_kinds = true
+  kinds_fit (kind_then k ks) = kind_fits k && kinds_fit ks
+
+abbrev pub unsigned_code : Size → ℕ
+unsigned_code one = 2
+unsigned_code two = 3
+unsigned_code four = 4
+unsigned_code eight = 5
+
+abbrev pub signed_code : Size → ℕ
+signed_code one = 6
+signed_code two = 7
+signed_code four = 8
+signed_code eight = 9
+
+-- the code of a type: one byte, behind it the item's code, or the number of members and their codes
+abbrev mutual
+  pub type_code : Kind → List ℕ
+  type_code bool_kind = 1 ∷ []
+  type_code (unsigned_kind s) = unsigned_code s ∷ []
+  type_code (signed_kind s) = signed_code s ∷ []
+  type_code text_kind = 10 ∷ []
+  type_code bytes_kind = 11 ∷ []
+  type_code (list_kind k) = 12 ∷ type_code k
+  type_code (fields_kind ks) = 13 ∷ count_kinds ks ∷ type_codes ks
+
+  pub type_codes : Kinds → List ℕ
+  type_codes no_kinds = []
+  type_codes (kind_then k ks) = type_code k ++ type_codes ks

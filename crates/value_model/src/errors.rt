@@ -1,0 +1,59 @@
+//! Why there is no value.
+
+use std::alloc::{AllocError, AllocFailed};
+use thiserror::Error;
+
+/// Why a node is no value, or that there was no memory.
+#[derive(Clone, Copy, Debug, PartialEq, Eq, Error)]
+pub enum ValueError {
+    #[error("an item has another type than its list, or a group of fields has not 1 to 32 members")]
+    IllTyped,
+    #[error("the type nests more than 8 deep")]
+    TooDeep,
+    #[error("the encoding has more than 65,536 bytes")]
+    TooLong,
+    #[error("out of memory")]
+    OutOfMemory,
+}
+
+/// Why bytes or a text give no value, or no type.
+#[derive(Clone, Copy, Debug, PartialEq, Eq, Error)]
+pub enum DecodeError {
+    #[error("not a value")]
+    NotAValue,
+    #[error("out of memory")]
+    OutOfMemory,
+}
+
+impl From<AllocError> for ValueError {
+    ghost use Rattle.std.specs.Prelude.{◌≡◌};
+    ghost use Rattle.value_model.specs.declared.errors.ValueError.TheVariants.{OutOfMemory};
+
+    ghost from_gives = { λ _ e. e ≡ OutOfMemory };
+
+    fn from(_error: AllocError) -> ValueError {
+        ValueError::OutOfMemory
+    }
+}
+
+impl From<AllocError> for DecodeError {
+    ghost use Rattle.std.specs.Prelude.{◌≡◌};
+    ghost use Rattle.value_model.specs.declared.errors.DecodeError.TheVariants.{OutOfMemory};
+
+    ghost from_gives = { λ _ e. e ≡ OutOfMemory };
+
+    fn from(_error: AllocError) -> DecodeError {
+        DecodeError::OutOfMemory
+    }
+}
+
+impl<T: Drop> From<AllocFailed<T>> for DecodeError {
+    ghost use Rattle.std.specs.Prelude.{◌≡◌};
+    ghost use Rattle.value_model.specs.declared.errors.DecodeError.TheVariants.{OutOfMemory};
+
+    ghost from_gives = { λ _ e. e ≡ OutOfMemory };
+
+    fn from(_error: AllocFailed<T>) -> DecodeError {
+        DecodeError::OutOfMemory
+    }
+}
