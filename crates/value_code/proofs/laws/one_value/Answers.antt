@@ -1,0 +1,5 @@
+use Rattle.value_code.proofs.ValueLaws.{one_tree}
+use Rattle.value_code.proofs.laws.one_value.Goals as goal
+
+pub returns : goal.returns
+returns c = one_tree

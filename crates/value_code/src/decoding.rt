@@ -1,0 +1,52 @@
+//! Reading values.
+
+ghost use Rattle.std.specs.Prelude.{◌≡◌, ◌≢◌, IfOk};
+ghost use Rattle.value_code.specs.Reading.{Gives, decoded};
+ghost use Rattle.value_model.specs.Encoding.{encoding};
+ghost use Rattle.value_model.specs.Trees.{Tree};
+ghost use Rattle.value_model.specs.Validity.{IsValue};
+ghost use Rattle.value_model.specs.Views.{tree_of};
+
+use crate::trees::node_at;
+use crate::types::type_at;
+use std::alloc::Global;
+use value_model::{DecodeError, MAX_DEPTH, MAX_LENGTH, Node, Value};
+
+/// The value that the bytes encode, all of the bytes.
+///
+/// Errors: `NotAValue` exactly where no value encodes to the bytes; `OutOfMemory`.
+pub fn decode(alloc: Global, bytes: &[u8]) -> Result<Value, DecodeError>
+    // what is read is encoded so, and what is encoded so is read
+    ensures found { IfOk result (λ v. IsValue v × (bytes.now ≡ encoding v)) }
+    ensures only { result ≡ Err DecodeError.NotAValue → (t : Tree) → IsValue t → bytes.now ≢ encoding t }
+
+    // the bytes alone decide
+    ensures exact { Gives (λ v. v) result (decoded bytes.now) }
+{
+    value_of(alloc, bytes)
+}
+
+fn value_of(alloc: Global, bytes: &[u8]) -> Result<Value, DecodeError>
+    ensures { Gives (λ v. v) result (decoded bytes.now) }
+{
+    let node = node_of(alloc, bytes)?;
+    match Value::new(node) {
+        Ok(value) => Ok(value),
+        Err(_) => Err(DecodeError::NotAValue),
+    }
+}
+
+#[tactic(auto, unfolding(crate::specs::Reading::decoded))]
+fn node_of(alloc: Global, bytes: &[u8]) -> Result<Node, DecodeError>
+    ensures { Gives tree_of result (decoded bytes.now) }
+{
+    if bytes.len() > MAX_LENGTH {
+        return Err(DecodeError::NotAValue);
+    }
+    let (value_type, rest) = type_at(alloc, MAX_DEPTH, bytes)?;
+    let (node, rest) = node_at(alloc, &value_type, rest)?;
+    if !rest.is_empty() {
+        return Err(DecodeError::NotAValue);
+    }
+    Ok(node)
+}
