@@ -1,0 +1,5 @@
+use Rattle.value_text.proofs.Words.{stripped}
+use Rattle.value_text.proofs.readers.after.Goals as goal
+
+pub returns : goal.returns
+returns c = stripped c.args.word.now c.args.bytes.now c.strip_prefix.result c.strip_prefix.ensures.cases

@@ -1,0 +1,7 @@
+use Rattle.std.proofs.Common.{◌≡◌, false, drop}
+use Rattle.value_text.specs.Readers.{with_front, quoted_at}
+use Rattle.value_text.proofs.strings.unescaped.Given as goal
+
+-- the text so far, and what is left of it
+abbrev pub invariant-loop-i : goal.invariant-loop-i
+invariant-loop-i l = with_front l.text.items (quoted_at l.is_behind (drop l.i l.bytes)) ≡ quoted_at false l.bytes

@@ -1,0 +1,6 @@
+pub mod Types
+pub mod Texts
+pub mod Limits
+pub mod Readers
+pub mod Parsing
+pub mod Samples

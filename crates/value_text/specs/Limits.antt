@@ -1,0 +1,56 @@
+-- Whether a tree that was read is a value, as a test that computes.
+use Rattle.std.specs.Prelude.{Bool, true, false, ◌&&◌, length, nat_le, if◌then◌else◌, Option, Some, None}
+use Rattle.value_model.specs.Kinds.{Size, one, two, four, eight, Kind, bool_kind, unsigned_kind, signed_kind, text_kind, bytes_kind, list_kind, fields_kind, Kinds, no_kinds, kind_then, kind_depth, kind_fits}
+use Rattle.value_model.specs.Trees.{Tree, bool_tree, unsigned_tree, signed_tree, text_tree, bytes_tree, list_tree, fields_tree, Trees, no_trees, tree_then, count_trees, type_of}
+use Rattle.value_model.specs.Encoding.{encoding}
+use Rattle.value_model.specs.Validity.{max_depth, max_length}
+
+abbrev pub same_size : Size → Size → Bool
+same_size one one = true
+same_size two two = true
+same_size four four = true
+same_size eight eight = true
+same_size _ _ = false
+
+abbrev mutual
+  pub same_kind : Kind → Kind → Bool
+  same_kind bool_kind bool_kind = true
+  same_kind (unsigned_kind s) (unsigned_kind r) = same_size s r
+  same_kind (signed_kind s) (signed_kind r) = same_size s r
+  same_kind text_kind text_kind = true
+  same_kind bytes_kind bytes_kind = true
+  same_kind (list_kind j) (list_kind k) = same_kind j k
+  same_kind (fields_kind js) (fields_kind ks) = same_kinds js ks
+  same_kind _ _ = false
+
+  pub same_kinds : Kinds → Kinds → Bool
+  same_kinds no_kinds no_kinds = true
+  same_kinds (kind_then j js) (kind_then k ks) = same_kind j k && same_kinds js ks
+  same_kinds _ _ = false
+
+-- each of these trees has this kind
+abbrev pub have_kind : Kind → Trees → Bool
+have_kind k no_trees = true
+have_kind k (tree_then t ts) = same_kind (type_of t) k && have_kind k ts
+
+abbrev mutual
+  pub is_typed : Tree → Bool
+  is_typed (bool_tree b) = true
+  is_typed (unsigned_tree s n) = true
+  is_typed (signed_tree s z) = true
+  is_typed (text_tree t) = true
+  is_typed (bytes_tree b) = true
+  is_typed (list_tree k ts) = kind_fits k && (have_kind k ts && are_typed ts)
+  is_typed (fields_tree ts) = nat_le 1 (count_trees ts) && (nat_le (count_trees ts) 32 && are_typed ts)
+
+  pub are_typed : Trees → Bool
+  are_typed no_trees = true
+  are_typed (tree_then t ts) = is_typed t && are_typed ts
+
+-- it is well typed, and keeps to the limits of depth and length
+unfoldable pub keeps_limits : Tree → Bool
+keeps_limits t = is_typed t && (nat_le (kind_depth (type_of t)) max_depth && nat_le (length (encoding t)) max_length)
+
+-- the tree, where it keeps them
+abbrev pub kept : Tree → Option Tree
+kept t = if keeps_limits t then Some t else None

@@ -1,0 +1,111 @@
+-- Readers of words, numbers and lists: each takes what it reads from the front of the bytes, and leaves the rest.
+use Rattle.std.specs.Prelude.{◌≡◌, ℕ, zero, suc, ◌+◌, ◌-◌, ◌*◌, ◌^◌, ℤ, pos, negsuc, List, [], ◌∷◌, ◌++◌, length, take, drop, Bool, true, false, not, ◌&&◌, ◌||◌, nat_lt, nat_le, nat_eq, ◌==◌, if◌then◌else◌, Option, Some, None, option_and_then, Result, Ok, Err, codes}
+use Rattle.std.specs.List.{prefix_len}
+use Rattle.std.specs.Char.{is_ascii_digit}
+use Rattle.std.specs.Str.Parse.{digits_value}
+use Rattle.value_model.specs.declared.errors.DecodeError.{DecodeError}
+use Rattle.value_model.specs.declared.errors.DecodeError.TheVariants as errors
+
+infixl 10 ◌>>=◌
+abbrev pub ◌>>=◌ : {A B : Type 0} → Option A → (A → Option B) → Option B
+o >>= f = option_and_then f o
+
+-- goes on where something was read, and else tries another way
+abbrev pub branch : {A B : Type 0} → Option A → (A → Option B) → Option B → Option B
+branch None f other = other
+branch (Some x) f other = f x
+
+-- an error says that nothing can be read, unless memory ran out
+abbrev pub Fails : {Y : Type 0} → DecodeError → Option Y → Type 0
+Fails errors.NotAValue read = read ≡ None
+Fails errors.OutOfMemory read = Unit {0}
+
+-- what a function returned, seen by view, is what reading gives
+abbrev pub Gives : {X Y : Type 0} → (X → Y) → Result X DecodeError → Option Y → Type 0
+Gives view (Ok x) read = read ≡ Some (view x)
+Gives view (Err error) read = Fails error read
+
+-- what a function found, seen by view, is what reading gives
+abbrev pub Finds : {X Y : Type 0} → (X → Y) → Option X → Option Y → Type 0
+Finds view (Some x) read = read ≡ Some (view x)
+Finds view None read = read ≡ None
+
+-- what stands behind the word, where the bytes begin with it
+abbrev pub literal_at : List ℕ → List ℕ → Option (List ℕ)
+literal_at [] bytes = Some bytes
+literal_at (w ∷ ws) [] = None
+literal_at (w ∷ ws) (b ∷ bytes) = if nat_eq b w then literal_at ws bytes else None
+
+-- how many digits stand at the front
+abbrev pub digit_count : List ℕ → ℕ
+digit_count bytes = prefix_len is_ascii_digit bytes
+
+-- there is a digit, and no leading zero
+abbrev pub is_canonical : List ℕ → Bool
+is_canonical [] = false
+is_canonical (d ∷ ds) = not (nat_eq d 48) || nat_eq (length ds) 0
+
+-- the number below 2 ^ 64 that the digits write
+unfoldable pub number_of : List ℕ → Option ℕ
+number_of ds = if is_canonical ds then (if nat_lt (digits_value 10 ds) (2 ^ 64) then Some (digits_value 10 ds) else None) else None
+
+-- the number at the front, as far as digits go
+unfoldable pub number_at : List ℕ → Option (ℕ × List ℕ)
+number_at bytes = number_of (take (digit_count bytes) bytes) >>= λ n. Some (n, drop (digit_count bytes) bytes)
+
+-- a number below the limit
+unfoldable pub unsigned_at : ℕ → List ℕ → Option (ℕ × List ℕ)
+unsigned_at limit bytes = number_at bytes >>= λ n. if nat_lt n.0 limit then Some n else None
+
+-- a minus stands only before a number that is not 0
+abbrev pub negative : ℕ → ℕ → Option ℤ
+negative limit zero = None
+negative limit (suc n) = if nat_lt n limit then Some (negsuc n) else None
+
+-- a number from minus the limit on, and below it
+unfoldable pub signed_at : ℕ → List ℕ → Option (ℤ × List ℕ)
+signed_at limit bytes = branch (literal_at (codes "-") bytes)
+    (λ rest. number_at rest >>= λ n. negative limit n.0 >>= λ z. Some (z, n.1))
+    (unsigned_at limit bytes >>= λ n. Some (pos n.0, n.1))
+
+-- the value of a digit, in lower case
+abbrev pub hex_value : ℕ → Option ℕ
+hex_value b = if nat_le 48 b && nat_le b 57 then Some (b - 48) else (if nat_le 97 b && nat_le b 102 then Some (b - 87) else None)
+
+-- a byte in two digits
+abbrev pub byte_at : List ℕ → Option (ℕ × List ℕ)
+byte_at [] = None
+byte_at (a ∷ []) = None
+byte_at (a ∷ b ∷ rest) = hex_value a >>= λ high. hex_value b >>= λ low. Some (16 * high + low, rest)
+
+-- what was read before, and what is read behind it
+abbrev pub with_front : {A : Type 0} → List A → Option (List A × List ℕ) → Option (List A × List ℕ)
+with_front front read = read >>= λ x. Some (front ++ x.0, x.1)
+
+-- as many bytes as stand there, at most n
+unfoldable pub bytes_at : ℕ → List ℕ → Option (List ℕ × List ℕ)
+bytes_at zero bytes = Some ([], bytes)
+bytes_at (suc n) bytes = branch (byte_at bytes) (λ x. with_front (x.0 ∷ []) (bytes_at n x.1)) (Some ([], bytes))
+
+-- the byte that a byte behind a backslash stands for
+abbrev pub meant_by : ℕ → Option ℕ
+meant_by b = if b == 34 then Some 34 else (if b == 92 then Some 92 else (if b == 110 then Some 10 else None))
+
+-- The text up to the quote that ends it. Whether the byte before was a backslash is the first argument.
+unfoldable pub quoted_at : Bool → List ℕ → Option (List ℕ × List ℕ)
+quoted_at behind [] = None
+quoted_at true (b ∷ bytes) = meant_by b >>= λ m. with_front (m ∷ []) (quoted_at false bytes)
+quoted_at false (b ∷ bytes) = if b == 34 then Some ([], bytes) else (if b == 92 then quoted_at true bytes else (if b == 10 then None else with_front (b ∷ []) (quoted_at false bytes)))
+
+-- behind one thing: the closing byte, which makes it the last, or a comma
+abbrev pub punctuation_at : ℕ → List ℕ → Option (Bool × List ℕ)
+punctuation_at close [] = None
+punctuation_at close (b ∷ rest) = if b == close then Some (true, rest) else (if b == 44 then Some (false, rest) else None)
+
+-- one to n things, each read by the function, separated by commas, up to the closing byte
+unfoldable pub separated : {A : Type 0} → (List ℕ → Option (A × List ℕ)) → ℕ → ℕ → List ℕ → Option (List A × List ℕ)
+separated thing close zero bytes = None
+separated thing close (suc n) bytes = do
+  x ← thing bytes
+  behind ← punctuation_at close x.1
+  if behind.0 then Some (x.0 ∷ [], behind.1) else with_front (x.0 ∷ []) (separated thing close n behind.1)

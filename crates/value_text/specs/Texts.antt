@@ -1,0 +1,68 @@
+-- The one text of each type and of each value.
+use Rattle.std.specs.Prelude.{ℕ, ◌/◌, ◌%◌, ◌+◌, List, [], ◌∷◌, ◌++◌, codes, nat_lt, ◌==◌, if◌then◌else◌}
+use Rattle.std.specs.List.{flat_map}
+use Rattle.std.specs.Fmt.{decimal, signed_decimal}
+use Rattle.value_model.specs.Kinds.{Size, one, two, four, eight, Kind, bool_kind, unsigned_kind, signed_kind, text_kind, bytes_kind, list_kind, fields_kind, Kinds, no_kinds, kind_then}
+use Rattle.value_model.specs.Trees.{Tree, bool_tree, unsigned_tree, signed_tree, text_tree, bytes_tree, list_tree, fields_tree, Trees, no_trees, tree_then}
+
+-- how many bits a number has
+abbrev pub size_text : Size → List ℕ
+size_text one = codes "8"
+size_text two = codes "16"
+size_text four = codes "32"
+size_text eight = codes "64"
+
+abbrev mutual
+  pub type_text : Kind → List ℕ
+  type_text bool_kind = codes "bool"
+  type_text (unsigned_kind s) = codes "u" ++ size_text s
+  type_text (signed_kind s) = codes "i" ++ size_text s
+  type_text text_kind = codes "text"
+  type_text bytes_kind = codes "bytes"
+  type_text (list_kind k) = codes "list<" ++ type_text k ++ codes ">"
+  type_text (fields_kind ks) = codes "{" ++ types_text ks ++ codes "}"
+
+  -- members are separated by one comma
+  pub types_text : Kinds → List ℕ
+  types_text no_kinds = []
+  types_text (kind_then k ks) = type_text k ++ further_types_text ks
+
+  pub further_types_text : Kinds → List ℕ
+  further_types_text no_kinds = []
+  further_types_text (kind_then k ks) = codes "," ++ type_text k ++ further_types_text ks
+
+-- a quote, a backslash and a line feed stand behind a backslash; no other byte does
+abbrev pub escaped_byte : ℕ → List ℕ
+escaped_byte b = if b == 34 then codes "\\\"" else (if b == 92 then codes "\\\\" else (if b == 10 then codes "\\n" else (b ∷ [])))
+
+abbrev pub escaped : List ℕ → List ℕ
+escaped t = flat_map escaped_byte t
+
+abbrev pub hex_digit : ℕ → ℕ
+hex_digit n = if nat_lt n 10 then 48 + n else 87 + n
+
+-- two lower-case digits a byte
+abbrev pub hex_byte_text : ℕ → List ℕ
+hex_byte_text b = hex_digit (b / 16) ∷ hex_digit (b % 16) ∷ []
+
+abbrev pub hex_text : List ℕ → List ℕ
+hex_text b = flat_map hex_byte_text b
+
+abbrev mutual
+  pub value_text : Tree → List ℕ
+  value_text (bool_tree b) = codes "bool:" ++ (if b then codes "true" else codes "false")
+  value_text (unsigned_tree s n) = codes "u" ++ size_text s ++ codes ":" ++ decimal n
+  value_text (signed_tree s z) = codes "i" ++ size_text s ++ codes ":" ++ signed_decimal z
+  value_text (text_tree t) = codes "text:\"" ++ escaped t ++ codes "\""
+  value_text (bytes_tree b) = codes "bytes:" ++ hex_text b
+  value_text (list_tree k ts) = codes "list<" ++ type_text k ++ codes ">[" ++ values_text ts ++ codes "]"
+  value_text (fields_tree ts) = codes "{" ++ values_text ts ++ codes "}"
+
+  -- items and members are separated by one comma
+  pub values_text : Trees → List ℕ
+  values_text no_trees = []
+  values_text (tree_then t ts) = value_text t ++ further_values_text ts
+
+  pub further_values_text : Trees → List ℕ
+  further_values_text no_trees = []
+  further_values_text (tree_then t ts) = codes "," ++ value_text t ++ further_values_text ts
