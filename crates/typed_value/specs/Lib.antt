@@ -1,0 +1,10 @@
+pub use Rattle.value_model.specs.Kinds
+pub use Rattle.value_model.specs.Trees
+pub use Rattle.value_model.specs.Encoding
+pub use Rattle.value_model.specs.Validity
+pub use Rattle.value_model.specs.Views
+pub use Rattle.value_model.specs.Codes
+pub use Rattle.value_code.specs.Reading
+pub use Rattle.value_text.specs.Types
+pub use Rattle.value_text.specs.Texts
+pub use Rattle.value_text.specs.Parsing
