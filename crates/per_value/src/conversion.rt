@@ -1,0 +1,82 @@
+//! The trait of types whose things are values.
+
+ghost use Rattle.std.specs.Prelude.{◌≡◌, ◌≢◌, ◌<◌, ◌≤◌, IfOk, IsTrue, length};
+ghost use Rattle.value_model.specs.Encoding.{encoding};
+ghost use Rattle.value_model.specs.Kinds.{Kind, kind_depth, kind_fits};
+ghost use Rattle.value_model.specs.Trees.{Tree, type_of};
+ghost use Rattle.value_model.specs.Validity.{IsTyped, IsValue, max_depth, max_length};
+ghost use Rattle.value_model.specs.Views.{kind_of, tree_of};
+
+use std::alloc::{AllocError, Global};
+use value_model::{Node, Value, ValueError, ValueType};
+
+/// A type whose things are values.
+///
+/// An implementation says which value type it has (`kind`), which tree a thing of it is (`tree`) and when two things are the
+/// same (`same`), and proves the four laws at the end.
+pub trait PerValue: Sized {
+    /// The value type of all things of this type.
+    ghost kind: { Kind };
+
+    /// The tree that a thing is.
+    ghost tree: { Self → Tree };
+
+    /// When two things are the same: lists, bytes and texts by their items.
+    ghost same: { Self → Self → Type 0 };
+
+    /// The value type of all things of this type.
+    fn type_of(alloc: Global) -> Result<ValueType, AllocError>
+        ensures { IfOk result (λ t. kind_of t ≡ kind) };
+
+    /// The node that this thing is.
+    fn to_node(&self, alloc: Global) -> Result<Node, AllocError>
+        ensures { IfOk result (λ node. tree_of node ≡ tree self.now) };
+
+    /// The thing that this node is, which must be well typed and have this type.
+    fn from_node(alloc: Global, node: &Node) -> Result<Self, AllocError>
+        requires of_type { type_of (tree_of node.now) ≡ kind }
+        requires typed { IsTyped (tree_of node.now) }
+        ensures { IfOk result (λ thing. tree thing ≡ tree_of node.now) };
+
+    /// The value that this thing is.
+    ///
+    /// Errors, the first that fits: `TooDeep` where its type nests more than 8 deep; `TooLong` where its encoding has more than
+    /// 65,536 bytes; `OutOfMemory`. It is never `IllTyped`.
+    final fn to_value(&self, alloc: Global) -> Result<Value, ValueError>
+        ensures value { IfOk result (λ value. value ≡ tree self.now) }
+        ensures of_type { IfOk result (λ value. type_of value ≡ kind) }
+        ensures valid { IfOk result (λ value. IsValue value) }
+
+        // each refusal comes where its rule fails and those before it hold
+        ensures too_deep { result ≡ Err ValueError.TooDeep → max_depth < kind_depth (type_of (tree self.now)) }
+        ensures too_long { result ≡ Err ValueError.TooLong
+            → (kind_depth (type_of (tree self.now)) ≤ max_depth) × (max_length < length (encoding (tree self.now))) }
+        ensures well_typed { result ≢ Err ValueError.IllTyped }
+    {
+        Value::new(self.to_node(alloc)?)
+    }
+
+    /// The thing that this value is, which must have this type.
+    final fn from_value(alloc: Global, value: &Value) -> Result<Self, AllocError>
+        requires of_type { type_of value.now ≡ kind }
+        ensures valid { IsValue value.now }
+        ensures thing { IfOk result (λ thing. tree thing ≡ value.now) }
+
+        // whichever thing the value was made from, this is the same one
+        ensures back { IfOk result (λ thing. (origin : Self) → tree origin ≡ value.now → same origin thing) }
+    {
+        Self::from_node(alloc, value.node())
+    }
+
+    /// Each group of fields in the value type has 1 to 32 members.
+    ghost proper: { IsTrue (kind_fits kind) };
+
+    /// Each thing has the value type.
+    ghost has_type: { (thing : Self) → type_of (tree thing) ≡ kind };
+
+    /// Each thing is well typed.
+    ghost well_typed: { (thing : Self) → IsTyped (tree thing) };
+
+    /// Things with one tree are the same.
+    ghost faithful: { (thing other : Self) → tree thing ≡ tree other → same thing other };
+}
