@@ -1,0 +1,77 @@
+-- A file: an element with an info, whose length is that of its content; and what writing and cutting make of it.
+use Rattle.std.specs.Prelude.{◌≡◌, ℕ, ◌+◌, ◌≤◌, List, [], length, take, Bool, true, false, not, cond, ◌==◌, nat_lt, nat_le, Option, Some, None, IsSome, option_map, Result, Ok, Err}
+use Rattle.per_base.specs.declared.elements.Cause.{Cause}
+use Rattle.per_base.specs.declared.elements.Cause.TheVariants.{Application}
+use Rattle.per_base.specs.declared.elements.Content.{Content}
+use Rattle.per_base.specs.declared.elements.Content.TheVariants.{Good, Bad}
+use Rattle.per_base.specs.declared.elements.Element.{Element}
+use Rattle.per_base.specs.declared.elements.FileInfo.{FileInfo}
+use Rattle.per_base.specs.declared.errors.Limit.TheVariants.{FileBytes}
+use Rattle.per_base.specs.declared.errors.PerError.{PerError}
+use Rattle.per_base.specs.declared.errors.PerError.TheVariants.{IllegalWriteAccess, InvalidSize, LimitReached, OutOfStorageSpace}
+use Rattle.file_core.specs.declared.cursor.Cursor.{Cursor}
+use Rattle.file_core.specs.declared.room.Room.{Room}
+use Rattle.file_core.specs.Infos.{changed, opened}
+use Rattle.file_core.specs.Places.{writes, moved, write_place, overwritten, within}
+use Rattle.file_core.specs.Refusals.{refuse, refused_by}
+
+abbrev pub is_good : Content → Bool
+is_good (Good bytes) = true
+is_good (Bad salvage) = false
+
+-- the bytes of a readable content; an unreadable one gives none
+abbrev pub bytes_of : Content → List ℕ
+bytes_of (Good bytes) = bytes
+bytes_of (Bad salvage) = []
+
+-- a content that is readable, or of which nothing verifies
+abbrev pub NoSalvage : Content → Type 0
+NoSalvage (Good bytes) = Unit {0}
+NoSalvage (Bad None) = Unit {0}
+NoSalvage (Bad (Some salvage)) = ⊥
+
+-- what there is of the content, and the salvage likewise, has this length
+abbrev pub HasLength : Content → ℕ → Type 0
+HasLength (Good bytes) len = length bytes ≡ len
+HasLength (Bad None) len = Unit {0}
+HasLength (Bad (Some salvage)) len = length salvage ≡ len
+
+-- an element that is a file
+pub record IsFile (file : Element) : Type 0 where
+  pub informed : IsSome file.info
+  pub measured : HasLength file.content file.len
+  pub small : file.len ≤ 1048576
+
+-- the file with this info and these bytes
+abbrev pub file_of : Option FileInfo → List ℕ → Element
+file_of info bytes = record { info = info; len = length bytes; content = Good bytes }
+
+-- the file with other bytes, changed now for this cause
+abbrev pub changed_to : List ℕ → ℕ → Cause → Element → Element
+changed_to bytes now cause file = file_of (option_map (changed now cause) file.info) bytes
+
+abbrev pub opened_at : ℕ → Element → Element
+opened_at now file = record file { info = option_map (opened now) file.info }
+
+-- the refusal of a content of this length: the limit of a file, then the room of the storage
+abbrev pub too_long : Room → ℕ → Option PerError
+too_long room len =
+    cond (nat_lt 1048576 len) (Some (LimitReached FileBytes))
+    (cond (nat_lt room.allowed (room.others + len)) (Some (OutOfStorageSpace (room.others + len) room.allowed)) None)
+
+-- a piece overwrites and extends from the place of writing, and the place is then past it
+abbrev pub written : Cursor → Element → List ℕ → ℕ → Room → Result (Cursor × Element) PerError
+written cursor file piece now room =
+    let bytes = bytes_of file.content in
+    let from = write_place cursor bytes in
+    let after = overwritten from piece bytes in
+    refuse (not (writes cursor.kind)) IllegalWriteAccess
+    (cond (length piece == 0) (Ok (cursor, file))
+    (refused_by (too_long room (length after)) (Ok (moved cursor (from + length piece), changed_to after now Application file))))
+
+-- the content is cut to a size that it has
+abbrev pub cut : Cursor → Element → ℕ → ℕ → Result (Cursor × Element) PerError
+cut cursor file size now =
+    refuse (not (writes cursor.kind)) IllegalWriteAccess
+    (refuse (nat_lt (length (bytes_of file.content)) size) InvalidSize
+    (Ok (within cursor size, changed_to (take size (bytes_of file.content)) now Application file)))

@@ -1,0 +1,16 @@
+-- What a making, a change and an opening leave of the info of a file.
+use Rattle.std.specs.Prelude.{ℕ}
+use Rattle.per_base.specs.declared.elements.Cause.{Cause}
+use Rattle.per_base.specs.declared.elements.FileInfo.{FileInfo}
+
+-- made now: all three moments are now, both causes the one of the making
+abbrev pub made : ℕ → Cause → FileInfo
+made now cause = record { created = now; modified = now; accessed = now; creation = cause; modification = cause }
+
+-- its content changed now
+abbrev pub changed : ℕ → Cause → FileInfo → FileInfo
+changed now cause info = record info { modified = now; modification = cause }
+
+-- opened now
+abbrev pub opened : ℕ → FileInfo → FileInfo
+opened now info = record info { accessed = now }

@@ -1,0 +1,4 @@
+pub mod Files
+pub mod Infos
+pub mod Places
+pub mod Refusals

@@ -1,0 +1,76 @@
+//! Changing a content in place.
+
+ghost use Rattle.std.specs.Prelude.{◌≡◌, ◌≤◌, length, take, List, ℕ, IfOk, IfSome, IfNone, IsTrue, OnOk, OnErr};
+ghost use Rattle.file_core.specs.Files.{NoSalvage, bytes_of, is_good};
+ghost use Rattle.file_core.specs.Places.{overwritten};
+
+use per_base::{Bytes, Content};
+use std::alloc::AllocError;
+use std::mem;
+
+/// Puts the piece into a readable content from there on, and gives the new length.
+pub fn overwrite_content(
+    content: &mut Content,
+    from: usize,
+    piece: &[u8],
+) -> Result<usize, AllocError>
+    requires good { IsTrue (is_good content.old) }
+    requires inside { from ≤ length (bytes_of content.old) }
+    ensures ok { OnOk result (content.new ≡ Content.Good (overwritten from piece.now (bytes_of content.old))) }
+    ensures len { IfOk result (λ len. len ≡ length (overwritten from piece.now (bytes_of content.old))) }
+    ensures unchanged { OnErr result (content.new ≡ content.old) }
+{
+    let Content::Good(bytes) = mem::replace(content, Content::Bad(None)) else {
+        return Ok(0);
+    };
+    let mut bytes = bytes.into_vec();
+    let outcome = overwrite(&mut bytes, from, piece);
+    let len = bytes.len();
+    *content = Content::Good(Bytes::new(bytes));
+    outcome?;
+    Ok(len)
+}
+
+/// Keeps so many bytes of a readable content.
+pub fn truncate_content(content: &mut Content, size: usize)
+    requires { IsTrue (is_good content.old) }
+    ensures { content.new ≡ Content.Good (take size (bytes_of content.old)) }
+{
+    if let Content::Good(bytes) = mem::replace(content, Content::Bad(None)) {
+        let mut bytes = bytes.into_vec();
+        bytes.truncate(size);
+        *content = Content::Good(Bytes::new(bytes));
+    }
+}
+
+/// Makes the salvage of an unreadable content the content, and gives its length; none where there is no salvage.
+pub fn recover_content(content: &mut Content) -> Option<usize>
+    ensures recovered { IfSome result (λ len. (salvage : List ℕ) × (content.old ≡ Content.Bad (Some salvage)) × (content.new ≡ Content.Good salvage) × (len ≡ length salvage)) }
+    ensures unchanged { IfNone result ((content.new ≡ content.old) × NoSalvage content.old) }
+{
+    match mem::replace(content, Content::Bad(None)) {
+        Content::Bad(Some(salvage)) => {
+            let len = salvage.len();
+            *content = Content::Good(salvage);
+            Some(len)
+        }
+        other => {
+            *content = other;
+            None
+        }
+    }
+}
+
+/// Puts the piece into the bytes from there on: it overwrites what stands there, and extends the bytes at their end.
+///
+/// Takes memory only for what reaches past the end. After an error the bytes are as they were.
+fn overwrite(bytes: &mut Vec<u8>, from: usize, piece: &[u8]) -> Result<(), AllocError>
+    requires { from ≤ length bytes.old.items }
+    ensures ok { OnOk result (bytes.new.items ≡ overwritten from piece.now bytes.old.items) }
+    ensures err { OnErr result (bytes.new.items ≡ bytes.old.items) }
+{
+    let inside = usize::min(piece.len(), bytes.len() - from);
+    bytes.extend_from_slice(&piece[inside..])?;
+    bytes[from..from + inside].copy_from_slice(&piece[..inside]);
+    Ok(())
+}

@@ -1,0 +1,222 @@
+//! A file: an info and a content, whose length is kept.
+
+ghost use Rattle.std.specs.Prelude.{◌≡◌, ◌+◌, ◌≤◌, ◌^◌, length, take, List, ℕ, IfOk, IfErr, IsTrue, OnOk, OnErr};
+ghost use Rattle.std.specs.Bool.{OnTrue, OnFalse};
+ghost use Rattle.file_core.specs.Files.{IsFile, NoSalvage, bytes_of, changed_to, cut, file_of, is_good, opened_at, written};
+ghost use Rattle.file_core.specs.Places as places;
+ghost use Rattle.file_core.specs.Places.{overwritten};
+ghost use Rattle.file_core.specs.Refusals.{IsRefusal};
+
+use crate::contents::{overwrite_content, recover_content, truncate_content};
+use crate::cursor::{Cursor, writes};
+use crate::info::{changed, opened};
+use crate::room::Room;
+use per_base::{Bytes, Cause, Content, Element, FileInfo, PerError};
+use std::alloc::AllocError;
+use std::marker::Model;
+
+/// The greatest number of bytes of a file.
+pub const FILE_BYTES: u64 = 1_048_576;
+
+/// A file. Contracts see it as an element that has an info, and whose length is that of its content.
+#[derive(Drop)]
+pub struct File {
+    info: FileInfo,
+    len: u32,
+    content: Content,
+}
+
+impl Model for File {
+    ghost use Rattle.per_base.specs.declared.elements.Element.{Element};
+    ghost use Rattle.std.specs.Prelude.{Some};
+    ghost use Rattle.file_core.specs.Files.{IsFile};
+
+    ghost Value = { Element };
+
+    ghost view = { λ f. record { info = Some f.info; len = f.len; content = f.content } };
+
+    ghost invariant = { λ f. IsFile (record { info = Some f.info; len = f.len; content = f.content }) };
+}
+
+impl File {
+    /// A file with these bytes. Takes no memory.
+    pub fn new(info: FileInfo, bytes: Bytes) -> File
+        requires { length bytes ≤ 1048576 }
+        ensures { result ≡ file_of (Some info) bytes }
+    {
+        File {
+            info,
+            len: bytes.len() as u32,
+            content: Content::Good(bytes),
+        }
+    }
+
+    /// A file as it was stored: its info, its length and its content, which may be unreadable. Takes no memory.
+    pub fn stored(info: FileInfo, len: u32, content: Content) -> File
+        requires { IsFile (record { info = Some info; len = len; content = content }) }
+        ensures { result ≡ record { info = Some info; len = len; content = content } }
+    {
+        File { info, len, content }
+    }
+
+    /// The info.
+    pub fn info(&self) -> FileInfo
+        ensures { Some result ≡ self.now.info }
+    {
+        self.info
+    }
+
+    /// The length in bytes, also of an unreadable file.
+    pub fn len(&self) -> u32
+        ensures len { result ≡ self.now.len }
+        ensures file { IsFile self.now }
+    {
+        self.len
+    }
+
+    /// The content.
+    pub fn content(&self) -> &Content
+        ensures { result.now ≡ self.now.content }
+    {
+        &self.content
+    }
+
+    /// Whether the content is readable.
+    pub fn is_good(&self) -> bool
+        ensures { result ≡ is_good self.now.content }
+    {
+        matches!(&self.content, Content::Good(_))
+    }
+
+    /// The bytes; an unreadable file gives none.
+    pub fn bytes(&self) -> &[u8]
+        ensures bytes { result.now ≡ bytes_of self.now.content }
+        ensures small { length result.now ≤ 1048576 }
+        ensures len { IsTrue (is_good self.now.content) → length result.now ≡ self.now.len }
+    {
+        match &self.content {
+            Content::Good(bytes) => bytes.as_slice(),
+            Content::Bad(_) => &[],
+        }
+    }
+
+    /// Notes an opening in the info.
+    pub fn open(&mut self, now: u64)
+        ensures { self.new ≡ opened_at now self.old }
+    {
+        self.info = opened(now, self.info);
+    }
+
+    /// Gives the file other bytes, for this cause. Takes no memory.
+    pub fn replace(&mut self, bytes: Bytes, now: u64, cause: Cause)
+        requires { length bytes ≤ 1048576 }
+        ensures { self.new ≡ changed_to bytes now cause self.old }
+    {
+        self.info = changed(now, cause, self.info);
+        self.len = bytes.len() as u32;
+        self.content = Content::Good(bytes);
+    }
+
+    /// Makes the salvage of an unreadable file its content, where there is a salvage. Takes no memory.
+    pub fn recover(&mut self, now: u64) -> bool
+        ensures recovered { OnTrue result ((salvage : List ℕ) × (self.old.content ≡ Content.Bad (Some salvage)) × (self.new ≡ changed_to salvage now Cause.Recovery self.old)) }
+        ensures unchanged { OnFalse result ((self.new ≡ self.old) × NoSalvage self.old.content) }
+    {
+        let Some(len) = recover_content(&mut self.content) else {
+            return false;
+        };
+        self.len = len as u32;
+        self.info = changed(now, Cause::Recovery, self.info);
+        true
+    }
+
+    /// Writes the piece from the place of the cursor on, which then stands past it. An empty piece changes nothing.
+    ///
+    /// Errors: `IllegalWriteAccess` for a kind that only reads; `LimitReached` with `FileBytes`; `OutOfStorageSpace`; `OutOfMemory`.
+    pub fn write(
+        &mut self,
+        cursor: &mut Cursor,
+        piece: &[u8],
+        now: u64,
+        room: Room,
+    ) -> Result<(), PerError>
+        requires good { IsTrue (is_good self.old.content) }
+        requires bounded { room.others ≤ 2 ^ 32 }
+        ensures ok { OnOk result (written cursor.old self.old piece.now now room ≡ Ok (cursor.new, self.new)) }
+        ensures refused { IfErr result (λ error. IsRefusal (written cursor.old self.old piece.now now room) error) }
+        ensures unchanged { OnErr result ((self.new ≡ self.old) × (cursor.new ≡ cursor.old)) }
+        ensures inside { cursor.old.position ≤ self.old.len → cursor.new.position ≤ self.new.len }
+        ensures good { IsTrue (is_good self.new.content) }
+        ensures kind { cursor.new.kind ≡ cursor.old.kind }
+        ensures within { room.others + self.old.len ≤ room.allowed → room.others + self.new.len ≤ room.allowed }
+        ensures writer { OnOk result (IsTrue (places.writes cursor.old.kind)) }
+    {
+        if !writes(cursor.kind) {
+            return Err(PerError::IllegalWriteAccess);
+        }
+        if piece.is_empty() {
+            return Ok(());
+        }
+        let size = self.bytes().len();
+        let from = cursor.write_place(size);
+        let end = usize::max(size, from + piece.len());
+        if let Some(error) = room.too_long(end as u64) {
+            return Err(error);
+        }
+        if self.put(from, piece, now).is_err() {
+            return Err(PerError::OutOfMemory);
+        }
+        cursor.position = (from + piece.len()) as u64;
+        Ok(())
+    }
+
+    /// Cuts the content to this size, and the position with it. Takes no memory.
+    ///
+    /// Errors: `IllegalWriteAccess` for a kind that only reads; `InvalidSize` where it is above the size.
+    pub fn set_size(&mut self, cursor: &mut Cursor, size: u64, now: u64) -> Result<(), PerError>
+        requires { IsTrue (is_good self.old.content) }
+        ensures ok { OnOk result (cut cursor.old self.old size now ≡ Ok (cursor.new, self.new)) }
+        ensures refused { IfErr result (λ error. cut cursor.old self.old size now ≡ Err error) }
+        ensures unchanged { OnErr result ((self.new ≡ self.old) × (cursor.new ≡ cursor.old)) }
+        ensures inside { cursor.old.position ≤ self.old.len → cursor.new.position ≤ self.new.len }
+        ensures good { IsTrue (is_good self.new.content) }
+        ensures kind { cursor.new.kind ≡ cursor.old.kind }
+        ensures smaller { self.new.len ≤ self.old.len }
+        ensures writer { OnOk result (IsTrue (places.writes cursor.old.kind)) }
+    {
+        if !writes(cursor.kind) {
+            return Err(PerError::IllegalWriteAccess);
+        }
+        if size > self.bytes().len() as u64 {
+            return Err(PerError::InvalidSize);
+        }
+        self.keep(size as usize, now);
+        cursor.position = u64::min(cursor.position, size);
+        Ok(())
+    }
+
+    /// Puts the piece into the content from there on.
+    fn put(&mut self, from: usize, piece: &[u8], now: u64) -> Result<(), AllocError>
+        requires good { IsTrue (is_good self.old.content) }
+        requires inside { from ≤ length (bytes_of self.old.content) }
+        requires small { length (overwritten from piece.now (bytes_of self.old.content)) ≤ 1048576 }
+        ensures ok { OnOk result (self.new ≡ changed_to (overwritten from piece.now (bytes_of self.old.content)) now Cause.Application self.old) }
+        ensures unchanged { OnErr result (self.new ≡ self.old) }
+    {
+        let len = overwrite_content(&mut self.content, from, piece)?;
+        self.len = len as u32;
+        self.info = changed(now, Cause::Application, self.info);
+        Ok(())
+    }
+
+    /// Keeps so many bytes of the content.
+    fn keep(&mut self, size: usize, now: u64)
+        requires good { IsTrue (is_good self.old.content) }
+        requires inside { size ≤ length (bytes_of self.old.content) }
+        ensures { self.new ≡ changed_to (take size (bytes_of self.old.content)) now Cause.Application self.old }
+    {
+        truncate_content(&mut self.content, size);
+        self.len = size as u32;
+        self.info = changed(now, Cause::Application, self.info);
+    }
+}

@@ -1,0 +1,36 @@
+//! The room that a content has in its storage.
+
+ghost use Rattle.std.specs.Prelude.{◌≡◌, ◌≤◌, ◌^◌};
+ghost use Rattle.file_core.specs.Files as files;
+
+use crate::file::FILE_BYTES;
+use per_base::{Limit, PerError};
+
+/// What all else in the storage takes, the name of the file among it, and what the storage is allowed, in bytes.
+#[derive(Clone, Copy, Debug)]
+pub struct Room {
+    pub others: u64,
+    pub allowed: u64,
+}
+
+impl Room {
+    /// What refuses a content of this length: `LimitReached` with `FileBytes`, then `OutOfStorageSpace`. Takes no memory.
+    pub fn too_long(self, len: u64) -> Option<PerError>
+        requires { self.others ≤ 2 ^ 32 }
+        ensures { result ≡ files.too_long self len }
+    {
+        if len > FILE_BYTES {
+            return Some(PerError::LimitReached {
+                which: Limit::FileBytes,
+            });
+        }
+        let needed = self.others + len;
+        if needed > self.allowed {
+            return Some(PerError::OutOfStorageSpace {
+                needed,
+                allowed: self.allowed,
+            });
+        }
+        None
+    }
+}
