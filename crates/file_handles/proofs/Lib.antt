@@ -1,0 +1,6 @@
+pub mod Through
+pub mod Entries
+pub mod Lookups
+pub mod Named
+pub mod Opens
+pub mod Sound

@@ -1,0 +1,89 @@
+-- The calls by name, each a function of the session.
+use Rattle.std.specs.Prelude.{ℕ, List, [], Option, Some, None, Result, Ok, Err}
+use Rattle.per_base.specs.declared.elements.Cause.TheVariants.{Recovery, Reset}
+use Rattle.per_base.specs.declared.elements.Content.{Content}
+use Rattle.per_base.specs.declared.elements.Content.TheVariants.{Good, Bad}
+use Rattle.per_base.specs.declared.elements.Element.{Element}
+use Rattle.per_base.specs.declared.elements.FileInfo.{FileInfo}
+use Rattle.per_base.specs.declared.errors.PerError.{PerError}
+use Rattle.per_base.specs.declared.errors.PerError.TheVariants.{FileNotFound, IllegalWriteAccess, InitValueNotAvailable}
+use Rattle.per_base.specs.declared.opening.OpenKind.TheVariants.{Write}
+use Rattle.per_base.specs.Maps.{Map, element_at, with_element, without}
+use Rattle.file_core.specs.Files.{changed_to, file_of, too_long}
+use Rattle.file_core.specs.Infos.{made}
+use Rattle.file_core.specs.Refusals.{refuse, refused_by}
+use Rattle.file_handles.specs.declared.storage.Storage.{Storage}
+use Rattle.file_handles.specs.Opening.{busy, too_many}
+use Rattle.file_handles.specs.Sessions.{Session, blocking, room_for}
+
+-- what is made of the file of a name, or that there is none
+abbrev pub found : {A : Type 0} → Option Element → (Element → Result A PerError) → Result A PerError
+found None call = Err FileNotFound
+found (Some file) call = call file
+
+abbrev pub current_file_size : Map → List ℕ → Result ℕ PerError
+current_file_size files name = found (element_at files name) (λ file. Ok file.len)
+
+abbrev pub info_or : Option FileInfo → Result FileInfo PerError
+info_or None = Err FileNotFound
+info_or (Some info) = Ok info
+
+abbrev pub file_info : Map → List ℕ → Result FileInfo PerError
+file_info files name = found (element_at files name) (λ file. info_or file.info)
+
+-- the refusals of each call that changes a file by its name, and what it makes of the file: any handle on it stands in the way
+abbrev pub unless_held : {A : Type 0} → Storage → Session → List ℕ → (Element → Result A PerError) → Result A PerError
+unless_held storage s name call =
+    refuse storage.read_only IllegalWriteAccess
+    (found (element_at s.files name) (λ file. refused_by (busy (blocking Write name s.handles)) (call file)))
+
+abbrev pub delete_file : Storage → Session → List ℕ → Result Session PerError
+delete_file storage s name = unless_held storage s name (λ file. Ok (record s { files = without s.files name }))
+
+-- the session with this content under the name, where there is room for it
+abbrev pub with_content : Storage → Session → List ℕ → Element → Result Session PerError
+with_content storage s name file =
+    refused_by (too_long (room_for s.files name storage.maximum) file.len) (Ok (record s { files = with_element s.files name file }))
+
+-- there is a salvage
+abbrev pub HasSalvage : Content → Type 0
+HasSalvage (Good bytes) = ⊥
+HasSalvage (Bad None) = ⊥
+HasSalvage (Bad (Some salvage)) = Unit {0}
+
+-- what there is to save of a content
+abbrev pub salvage_of : Content → List ℕ
+salvage_of (Good bytes) = bytes
+salvage_of (Bad None) = []
+salvage_of (Bad (Some salvage)) = salvage
+
+-- the file with its salvage as its content
+abbrev pub salvaged : ℕ → Element → Element
+salvaged now file = changed_to (salvage_of file.content) now Recovery file
+
+-- a readable file stays; an unreadable one becomes its salvage, else its initial content, else it goes
+abbrev pub recovered : Storage → Session → List ℕ → ℕ → Option (List ℕ) → Element → Content → Result Session PerError
+recovered storage s name now initial file (Good bytes) = Ok s
+recovered storage s name now initial file (Bad (Some salvage)) = Ok (record s { files = with_element s.files name (changed_to salvage now Recovery file) })
+recovered storage s name now (Some bytes) file (Bad None) = with_content storage s name (changed_to bytes now Recovery file)
+recovered storage s name now None file (Bad None) = Ok (record s { files = without s.files name })
+
+abbrev pub recover_file : Storage → Session → List ℕ → ℕ → Option (List ℕ) → Result Session PerError
+recover_file storage s name now initial = unless_held storage s name (λ file. recovered storage s name now initial file file.content)
+
+-- the file with its initial content: made anew, or changed
+abbrev pub reset : ℕ → List ℕ → Option Element → Element
+reset now bytes None = file_of (Some (made now Reset)) bytes
+reset now bytes (Some file) = changed_to bytes now Reset file
+
+abbrev pub with_initial : {A : Type 0} → Option (List ℕ) → (List ℕ → Result A PerError) → Result A PerError
+with_initial None call = Err InitValueNotAvailable
+with_initial (Some bytes) call = call bytes
+
+abbrev pub reset_file : Storage → Session → List ℕ → ℕ → Option (List ℕ) → Result Session PerError
+reset_file storage s name now initial =
+    refuse storage.read_only IllegalWriteAccess
+    (with_initial initial (λ bytes.
+    refused_by (busy (blocking Write name s.handles))
+    (refused_by (too_many s.files name)
+    (with_content storage s name (reset now bytes (element_at s.files name))))))

@@ -1,0 +1,76 @@
+-- The calls on a handle, each a function of the session and the moment.
+use Rattle.std.specs.Prelude.{ℕ, List, Bool, Option, Some, None, Result, Ok, Err, ℤ}
+use Rattle.per_base.specs.declared.elements.Element.{Element}
+use Rattle.per_base.specs.declared.errors.PerError.{PerError}
+use Rattle.per_base.specs.declared.errors.PerError.TheVariants.{NotOpen}
+use Rattle.per_base.specs.declared.opening.Origin.{Origin}
+use Rattle.per_base.specs.Maps.{Map}
+use Rattle.file_core.specs.declared.cursor.Cursor.{Cursor}
+use Rattle.file_core.specs.Files as core
+use Rattle.file_core.specs.Places as places
+use Rattle.file_handles.specs.declared.handle.Handle.{Handle}
+use Rattle.file_handles.specs.declared.storage.Storage.{Storage}
+use Rattle.file_handles.specs.Sessions.{Session, open_at, with_cursor, with_handle, with_changed, without_handle, room_for}
+
+-- what is made of an open handle and its file; a number that no handle has is not open
+abbrev pub on_open : {A : Type 0} → Option (Handle × Element) → (Handle → Element → Result A PerError) → Result A PerError
+on_open None call = Err NotOpen
+on_open (Some o) call = call o.0 o.1
+
+abbrev pub at_handle : {A : Type 0} → Session → ℕ → (Handle → Element → Result A PerError) → Result A PerError
+at_handle s number call = on_open (open_at s number) call
+
+-- the answer of a call that moves, with the session in which the handle has moved
+abbrev pub moving : {A : Type 0} → Session → ℕ → Handle → Result (A × Cursor) PerError → Result (A × Session) PerError
+moving s number handle (Ok answer) = Ok (answer.0, with_cursor s number handle answer.1)
+moving s number handle (Err error) = Err error
+
+abbrev pub peek_byte : Session → ℕ → Result ℕ PerError
+peek_byte s number = at_handle s number (λ handle file. places.peek_byte handle.cursor (core.bytes_of file.content))
+
+abbrev pub get_byte : Session → ℕ → Result (ℕ × Session) PerError
+get_byte s number = at_handle s number (λ handle file. moving s number handle (places.get_byte handle.cursor (core.bytes_of file.content)))
+
+abbrev pub read : Session → ℕ → ℕ → Result (List ℕ × Session) PerError
+read s number count = at_handle s number (λ handle file. moving s number handle (places.read handle.cursor (core.bytes_of file.content) count))
+
+abbrev pub read_all : Session → ℕ → Result (List ℕ × Session) PerError
+read_all s number = at_handle s number (λ handle file. moving s number handle (places.read_all handle.cursor (core.bytes_of file.content)))
+
+abbrev pub read_line : Session → ℕ → ℕ → Result (List ℕ × Session) PerError
+read_line s number delimiter = at_handle s number (λ handle file. moving s number handle (places.read_line handle.cursor (core.bytes_of file.content) delimiter))
+
+abbrev pub move_position : Session → ℕ → Origin → ℤ → Result (ℕ × Session) PerError
+move_position s number origin offset = at_handle s number (λ handle file. moving s number handle (places.move_position handle.cursor file.len origin offset))
+
+-- the session in which the handle has moved
+abbrev pub moved_to : Session → ℕ → Handle → Result Cursor PerError → Result Session PerError
+moved_to s number handle (Ok cursor) = Ok (with_cursor s number handle cursor)
+moved_to s number handle (Err error) = Err error
+
+abbrev pub set_position : Session → ℕ → ℕ → Result Session PerError
+set_position s number position = at_handle s number (λ handle file. moved_to s number handle (places.set_position handle.cursor file.len position))
+
+abbrev pub size : Session → ℕ → Result ℕ PerError
+size s number = at_handle s number (λ handle file. Ok file.len)
+
+abbrev pub position : Session → ℕ → Result ℕ PerError
+position s number = at_handle s number (λ handle file. Ok handle.cursor.position)
+
+abbrev pub is_eof : Session → ℕ → Result Bool PerError
+is_eof s number = at_handle s number (λ handle file. Ok (places.is_eof handle.cursor (core.bytes_of file.content)))
+
+-- the session in which the handle has moved and its file is another
+abbrev pub changing : Session → ℕ → Handle → Result (Cursor × Map) PerError → Result Session PerError
+changing s number handle (Ok new) = Ok (record { files = new.1; handles = with_handle s.handles number (record handle { cursor = new.0 }) })
+changing s number handle (Err error) = Err error
+
+abbrev pub write : Storage → Session → ℕ → ℕ → List ℕ → Result Session PerError
+write storage s now number piece = at_handle s number (λ handle file.
+    changing s number handle (with_changed s.files handle.name (core.written handle.cursor file piece now (room_for s.files handle.name storage.maximum))))
+
+abbrev pub set_size : Session → ℕ → ℕ → ℕ → Result Session PerError
+set_size s now number size = at_handle s number (λ handle file. changing s number handle (with_changed s.files handle.name (core.cut handle.cursor file size now)))
+
+abbrev pub close : Session → ℕ → Result Session PerError
+close s number = at_handle s number (λ handle file. Ok (record s { handles = without_handle s.handles number }))

@@ -1,0 +1,5 @@
+pub mod ByName
+pub mod Handling
+pub mod Opening
+pub mod Sessions
+pub mod Tables

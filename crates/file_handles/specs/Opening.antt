@@ -1,0 +1,84 @@
+-- The refusals of an opening in their order, and what an opening makes.
+use Rattle.std.specs.Prelude.{ℕ, ◌+◌, [], List, length, Bool, false, cond, not, ◌&&◌, nat_le, nat_lt, Option, Some, None, Result, Ok}
+use Rattle.per_base.specs.declared.elements.Cause.TheVariants.{Application}
+use Rattle.per_base.specs.declared.elements.Element.{Element}
+use Rattle.per_base.specs.declared.errors.Holder.TheVariants as holder
+use Rattle.per_base.specs.declared.errors.Limit.TheVariants as limit
+use Rattle.per_base.specs.declared.errors.PerError.{PerError}
+use Rattle.per_base.specs.declared.errors.PerError.TheVariants.{InvalidOpenMode, IllegalWriteAccess, FileNotFound, IntegrityCorrupted, ResourceBusy, LimitReached, OutOfStorageSpace}
+use Rattle.per_base.specs.declared.errors.Unit.TheVariants.{Part}
+use Rattle.per_base.specs.declared.opening.OpenKind.{OpenKind}
+use Rattle.per_base.specs.declared.opening.OpenMode.{OpenMode}
+use Rattle.per_base.specs.Maps.{Map, element_at, has, with_element, size_of}
+use Rattle.per_base.specs.Modes.{truncates}
+use Rattle.file_core.specs.Files.{is_good, file_of, opened_at, changed_to, too_long}
+use Rattle.file_core.specs.Infos.{made}
+use Rattle.file_core.specs.Places.{writes, is_bad_mode, placed}
+use Rattle.file_core.specs.Refusals.{refused_by}
+use Rattle.file_handles.specs.declared.storage.Storage.{Storage}
+use Rattle.file_handles.specs.Sessions.{Session, with_handle, free_number, blocking, room_for}
+
+-- an error where the test holds
+abbrev pub when : Bool → PerError → Option PerError
+when test error = cond test (Some error) None
+
+-- the first of two refusals
+abbrev pub first : Option PerError → Option PerError → Option PerError
+first None later = later
+first (Some error) later = Some error
+
+abbrev pub is_unreadable : Option Element → Bool
+is_unreadable None = false
+is_unreadable (Some file) = not (is_good file.content)
+
+-- busy by this handle
+abbrev pub busy : Option ℕ → Option PerError
+busy None = None
+busy (Some number) = Some (ResourceBusy (holder.Handle number))
+
+-- one more file would be one too many
+abbrev pub too_many : Map → List ℕ → Option PerError
+too_many files name = when (not (has files name) && nat_le 1024 (length files)) (LimitReached limit.Elements)
+
+-- what refuses an opening, but want of space
+abbrev pub can_open : Storage → Session → List ℕ → OpenKind → OpenMode → Option PerError
+can_open storage s name kind mode =
+    first (when (is_bad_mode kind mode) InvalidOpenMode)
+    (first (when (writes kind && storage.read_only) IllegalWriteAccess)
+    (first (when (not (writes kind) && not (has s.files name)) FileNotFound)
+    (first (when (is_unreadable (element_at s.files name)) (IntegrityCorrupted (Part storage.name name)))
+    (first (busy (blocking kind name s.handles))
+    (first (when (nat_le 64 (length s.handles)) (LimitReached limit.Handles))
+    (too_many s.files name))))))
+
+-- the file as an opening leaves it: made, emptied, or with the moment of the opening; a read-only storage keeps its files
+abbrev pub file_opened : Bool → OpenMode → ℕ → Option Element → Element
+file_opened read_only mode now None = file_of (Some (made now Application)) []
+file_opened read_only mode now (Some file) =
+    cond read_only file
+    (cond (truncates mode) (changed_to [] now Application (opened_at now file)) (opened_at now file))
+
+-- the session with the file as it is opened, and a handle of the lowest free number on it
+abbrev pub with_opened : Session → List ℕ → OpenKind → OpenMode → Element → ℕ × Session
+with_opened s name kind mode file = (
+  free_number s.handles,
+  record {
+    files = with_element s.files name file;
+    handles = with_handle s.handles (free_number s.handles) (record { name = name; cursor = placed kind mode file.len });
+  },
+)
+
+-- an empty file of a name that is missing must find room
+abbrev pub no_room_to_create : Storage → Map → List ℕ → Option PerError
+no_room_to_create storage files name =
+    when (not (has files name) && nat_lt storage.maximum (size_of files + length name)) (OutOfStorageSpace (size_of files + length name) storage.maximum)
+
+abbrev pub open_file : Storage → Session → List ℕ → OpenKind → OpenMode → ℕ → Result (ℕ × Session) PerError
+open_file storage s name kind mode now =
+    refused_by (can_open storage s name kind mode)
+    (refused_by (no_room_to_create storage s.files name)
+    (Ok (with_opened s name kind mode (file_opened storage.read_only mode now (element_at s.files name)))))
+
+-- what refuses a content of this length under this name
+abbrev pub would_fit : Storage → Map → List ℕ → ℕ → Option PerError
+would_fit storage files name len = too_long (room_for files name storage.maximum) len

@@ -1,0 +1,50 @@
+//! Handles, and what their map by number tells.
+
+ghost use Rattle.std.specs.Prelude.{◌≡◌, ◌≤◌, ◌<◌, ◌+◌, length};
+ghost use Rattle.file_handles.specs.Sessions as sessions;
+
+use file_core::{Cursor, writes};
+use per_base::{Name, OpenKind};
+use std::collections::BTreeMap;
+
+/// An open handle: the name of its file, and its place in the content.
+#[derive(Debug, Drop)]
+pub struct Handle {
+    pub name: Name,
+    pub cursor: Cursor,
+}
+
+/// Whether the handle stands in the way of an opening of this kind.
+pub fn blocks(kind: OpenKind, name: &Name, handle: &Handle) -> bool
+    ensures { result ≡ sessions.blocks kind name.now handle.now }
+{
+    handle.name == *name && (writes(kind) || writes(handle.cursor.kind))
+}
+
+/// The lowest handle that stands in the way.
+pub fn blocking(kind: OpenKind, name: &Name, handles: &BTreeMap<u32, Handle>) -> Option<u32>
+    ensures { result ≡ sessions.blocking kind name.now handles.now.entries }
+{
+    for (number, handle) in handles {
+        if blocks(kind, name, handle) {
+            return Some(*number);
+        }
+    }
+    None
+}
+
+/// The lowest number from 1 that no handle has.
+pub fn free_number(handles: &BTreeMap<u32, Handle>) -> u32
+    requires { length handles.now.entries ≤ 64 }
+    ensures free { result ≡ sessions.free_number handles.now.entries }
+    ensures few { result ≤ length handles.now.entries + 1 }
+{
+    let mut free = 1;
+    for (number, _) in handles {
+        if *number != free {
+            return free;
+        }
+        free += 1;
+    }
+    free
+}

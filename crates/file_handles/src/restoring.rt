@@ -1,0 +1,208 @@
+//! Recovering and resetting files by name.
+
+ghost use Rattle.std.specs.Prelude.{◌≡◌, ◌≢◌, ◌≤◌, ◌<◌, ℕ, List, None, Some, MatchOption, length, option_copied, IfErr, IsTrue, OnErr, OnOk, ⊤};
+ghost use Rattle.std.specs.Bool.{OnFalse, OnTrue};
+ghost use Rattle.per_base.specs.declared.elements.Element.{Element};
+ghost use Rattle.per_base.specs.Maps.{element_at, has, with_element, without};
+ghost use Rattle.file_core.specs.Files as core;
+ghost use Rattle.file_core.specs.Infos as infos;
+ghost use Rattle.file_core.specs.Refusals.{IsRefusal};
+ghost use Rattle.file_handles.specs.ByName as calls;
+ghost use Rattle.file_handles.specs.Opening as opening;
+ghost use Rattle.file_handles.specs.Sessions.{blocking};
+
+use crate::handle::blocking;
+use crate::map::{add_file, len_of, name_len, recover_in, remove_file, replace_in};
+use crate::table::FileTable;
+use file_core::{File, made};
+use per_base::{Bytes, Cause, Holder, Name, OpenKind, PerError};
+
+impl FileTable {
+    /// A readable file stays; an unreadable one becomes its salvage, else its initial content, else it goes.
+    ///
+    /// Errors: `IllegalWriteAccess` where the storage is read-only; `FileNotFound`; `ResourceBusy` where the file has a handle;
+    /// `OutOfStorageSpace` where the initial content does not fit; `OutOfMemory`.
+    pub fn recover_file(
+        &mut self,
+        name: &Name,
+        now: u64,
+        initial: Option<&[u8]>,
+    ) -> Result<(), PerError>
+        requires { MatchOption (option_copied initial) ⊤ (λ bytes. length bytes ≤ 1048576) }
+        ensures ok { OnOk result (calls.recover_file self.old.storage self.old.session name.now now (option_copied initial.entry) ≡ Ok self.new.session) }
+        ensures refused { IfErr result (λ error. IsRefusal (calls.recover_file self.old.storage self.old.session name.now now (option_copied initial.entry)) error) }
+        ensures unchanged { OnErr result (self.new ≡ self.old) }
+        ensures storage { self.new.storage ≡ self.old.storage }
+        ensures moment { self.new.moment ≡ self.old.moment }
+    {
+        if self.storage.read_only {
+            return Err(PerError::IllegalWriteAccess);
+        }
+        if !self.file_exists(name) {
+            return Err(PerError::FileNotFound);
+        }
+        if let Some(error) = self.held_by(name) {
+            return Err(error);
+        }
+        self.recover_free(name, now, initial)
+    }
+
+    /// The same of a file that is there and has no handle.
+    #[tactic(auto, using(crate::proofs::Named::recovers_good, crate::proofs::Named::recovers_salvage, crate::proofs::Named::recovers_initial, crate::proofs::Named::recovers_none))]
+    fn recover_free(
+        &mut self,
+        name: &Name,
+        now: u64,
+        initial: Option<&[u8]>,
+    ) -> Result<(), PerError>
+        requires small { MatchOption (option_copied initial) ⊤ (λ bytes. length bytes ≤ 1048576) }
+        requires free { opening.busy (blocking OpenKind.Write name.now self.old.session.handles) ≡ None }
+        requires there { IsTrue (has self.old.session.files name.now) }
+        ensures ok { OnOk result ((old : Element) → element_at self.old.session.files name.now ≡ Some old → calls.recovered self.old.storage self.old.session name.now now (option_copied initial.entry) old old.content ≡ Ok self.new.session) }
+        ensures refused { IfErr result (λ error. (old : Element) → element_at self.old.session.files name.now ≡ Some old → IsRefusal (calls.recovered self.old.storage self.old.session name.now now (option_copied initial.entry) old old.content) error) }
+        ensures unchanged { OnErr result (self.new ≡ self.old) }
+        ensures storage { self.new.storage ≡ self.old.storage }
+        ensures moment { self.new.moment ≡ self.old.moment }
+    {
+        if !self.is_unreadable(name) {
+            return Ok(());
+        }
+        if self.salvage(name, now) {
+            return Ok(());
+        }
+        let Some(bytes) = initial else {
+            self.vanish(name);
+            return Ok(());
+        };
+        let Ok(copy) = Vec::from_slice(self.alloc, bytes) else {
+            return Err(PerError::OutOfMemory);
+        };
+        self.give(name, Bytes::new(copy), now, Cause::Recovery)
+    }
+
+    /// The file of this name gets its initial content, and is made where it is missing.
+    ///
+    /// Errors: `IllegalWriteAccess` where the storage is read-only; `InitValueNotAvailable` where there is no initial content;
+    /// `ResourceBusy` where the file has a handle; `LimitReached` with `Elements`; `OutOfStorageSpace`; `OutOfMemory`.
+    pub fn reset_file(
+        &mut self,
+        name: &Name,
+        now: u64,
+        initial: Option<&[u8]>,
+    ) -> Result<(), PerError>
+        requires { MatchOption (option_copied initial) ⊤ (λ bytes. length bytes ≤ 1048576) }
+        ensures ok { OnOk result (calls.reset_file self.old.storage self.old.session name.now now (option_copied initial.entry) ≡ Ok self.new.session) }
+        ensures refused { IfErr result (λ error. IsRefusal (calls.reset_file self.old.storage self.old.session name.now now (option_copied initial.entry)) error) }
+        ensures unchanged { OnErr result (self.new ≡ self.old) }
+        ensures storage { self.new.storage ≡ self.old.storage }
+        ensures moment { self.new.moment ≡ self.old.moment }
+    {
+        if self.storage.read_only {
+            return Err(PerError::IllegalWriteAccess);
+        }
+        let Some(bytes) = initial else {
+            return Err(PerError::InitValueNotAvailable);
+        };
+        if let Some(error) = self.held_by(name) {
+            return Err(error);
+        }
+        if let Some(error) = self.too_many(name) {
+            return Err(error);
+        }
+        let Ok(copy) = Vec::from_slice(self.alloc, bytes) else {
+            return Err(PerError::OutOfMemory);
+        };
+        if self.file_exists(name) {
+            self.give(name, Bytes::new(copy), now, Cause::Reset)
+        } else {
+            self.make(name, Bytes::new(copy), now)
+        }
+    }
+
+    /// The lowest handle on the file of this name, as an error.
+    pub(crate) fn held_by(&self, name: &Name) -> Option<PerError>
+        ensures busy { result ≡ opening.busy (blocking OpenKind.Write name.now self.now.session.handles) }
+    {
+        match blocking(OpenKind::Write, name, &self.handles) {
+            Some(number) => Some(PerError::ResourceBusy {
+                holder: Holder::Handle(number),
+            }),
+            None => None,
+        }
+    }
+
+    /// Makes the salvage of a file without a handle its content.
+    fn salvage(&mut self, name: &Name, now: u64) -> bool
+        requires free { opening.busy (blocking OpenKind.Write name.now self.old.session.handles) ≡ None }
+        requires there { IsTrue (has self.old.session.files name.now) }
+        ensures some { OnTrue result ((old : Element) → element_at self.old.session.files name.now ≡ Some old → calls.HasSalvage old.content) }
+        ensures recovered { OnTrue result ((old : Element) → element_at self.old.session.files name.now ≡ Some old → self.new.session ≡ record self.old.session { files = with_element self.old.session.files name.now (calls.salvaged now old) }) }
+        ensures storage { self.new.storage ≡ self.old.storage }
+        ensures moment { self.new.moment ≡ self.old.moment }
+        ensures unchanged { OnFalse result (self.new ≡ self.old) }
+        ensures none { OnFalse result ((old : Element) → element_at self.old.session.files name.now ≡ Some old → core.NoSalvage old.content) }
+    {
+        recover_in(&mut self.files, name, now)
+    }
+
+    /// Gives a file without a handle other bytes.
+    fn give(&mut self, name: &Name, bytes: Bytes, now: u64, cause: Cause) -> Result<(), PerError>
+        requires free { opening.busy (blocking OpenKind.Write name.now self.old.session.handles) ≡ None }
+        requires there { IsTrue (has self.old.session.files name.now) }
+        requires small { length bytes ≤ 1048576 }
+        ensures ok { OnOk result ((old : Element) → element_at self.old.session.files name.now ≡ Some old → calls.with_content self.old.storage self.old.session name.now (core.changed_to bytes now cause old) ≡ Ok self.new.session) }
+        ensures refused { IfErr result (λ error. (old : Element) → element_at self.old.session.files name.now ≡ Some old → calls.with_content self.old.storage self.old.session name.now (core.changed_to bytes now cause old) ≡ Err error) }
+        ensures unchanged { OnErr result (self.new ≡ self.old) }
+        ensures storage { self.new.storage ≡ self.old.storage }
+        ensures moment { self.new.moment ≡ self.old.moment }
+    {
+        let after = bytes.len() as u64;
+        if let Some(error) = self.room_for(name).too_long(after) {
+            return Err(error);
+        }
+        let before = len_of(&self.files, name);
+        replace_in(&mut self.files, name, bytes, now, cause);
+        self.size = self.size - before + after;
+        Ok(())
+    }
+
+    /// Makes a file that is missing, with its initial content.
+    fn make(&mut self, name: &Name, bytes: Bytes, now: u64) -> Result<(), PerError>
+        requires missing { element_at self.old.session.files name.now ≡ None }
+        requires few { opening.too_many self.old.session.files name.now ≡ None }
+        requires small { length bytes ≤ 1048576 }
+        ensures ok { OnOk result (calls.with_content self.old.storage self.old.session name.now (core.file_of (Some (infos.made now Cause.Reset)) bytes) ≡ Ok self.new.session) }
+        ensures refused { IfErr result (λ error. IsRefusal (calls.with_content self.old.storage self.old.session name.now (core.file_of (Some (infos.made now Cause.Reset)) bytes)) error) }
+        ensures unchanged { OnErr result (self.new ≡ self.old) }
+        ensures storage { self.new.storage ≡ self.old.storage }
+        ensures moment { self.new.moment ≡ self.old.moment }
+    {
+        let len = bytes.len() as u64;
+        if let Some(error) = self.room_for(name).too_long(len) {
+            return Err(error);
+        }
+        let extra = name_len(name) + len;
+        let file = File::new(made(now, Cause::Reset), bytes);
+        let added = add_file(&mut self.files, name, file);
+        if let Err(error) = added {
+            return Err(error);
+        }
+        self.size += extra;
+        Ok(())
+    }
+
+    /// Takes a file without a handle away.
+    #[tactic(auto, using(crate::proofs::Entries::len_fits))]
+    pub(crate) fn vanish(&mut self, name: &Name)
+        requires free { opening.busy (blocking OpenKind.Write name.now self.old.session.handles) ≡ None }
+        requires there { IsTrue (has self.old.session.files name.now) }
+        ensures { self.new ≡ record self.old { session = record self.old.session { files = without self.old.session.files name.now } } }
+    {
+        let Some(file) = self.files.get(name) else {
+            return;
+        };
+        let taken = name_len(name) + u64::from(file.len());
+        remove_file(&mut self.files, name);
+        self.size -= taken;
+    }
+}

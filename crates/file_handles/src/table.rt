@@ -1,0 +1,122 @@
+//! The table of working files and handles.
+
+ghost use Rattle.std.specs.Prelude.{◌≡◌, ◌≤◌, [], length, IfSome, IsSome, IsTrue, MatchOption};
+ghost use Rattle.per_base.specs.Maps.{element_at, size_of};
+ghost use Rattle.file_core.specs.Files.{is_good};
+ghost use Rattle.file_handles.specs.Sessions.{IsHeldAt, handle_at, open_at, with_cursor};
+ghost use Rattle.file_handles.specs.Tables.{IsTable, Table};
+
+use crate::handle::Handle;
+use crate::map::set_cursor;
+use crate::storage::Storage;
+use file_core::{Cursor, File};
+use per_base::Name;
+use std::alloc::Global;
+use std::collections::BTreeMap;
+use std::marker::Model;
+
+/// The greatest number of files of a storage.
+pub const FILES: usize = 1_024;
+
+/// The greatest number of open handles of a storage.
+pub const HANDLES: usize = 64;
+
+/// The greatest number of bytes that a storage may be allowed.
+pub const STORAGE_BYTES: u64 = 4_194_304;
+
+/// The working files of a storage, the handles on them, and the moment last given. Contracts see it as a `Table`.
+#[derive(Drop)]
+pub struct FileTable {
+    pub(crate) alloc: Global,
+    pub(crate) storage: Storage,
+    pub(crate) files: BTreeMap<Name, File>,
+    pub(crate) handles: BTreeMap<u32, Handle>,
+    pub(crate) size: u64,
+    pub(crate) moment: u64,
+}
+
+impl Model for FileTable {
+    ghost use Rattle.std.specs.Prelude.{◌≡◌};
+    ghost use Rattle.per_base.specs.Maps.{size_of};
+    ghost use Rattle.file_handles.specs.Tables.{IsTable, Table};
+
+    ghost Value = { Table };
+
+    ghost view = { λ t. record { storage = t.storage; session = record { files = t.files.entries; handles = t.handles.entries }; moment = t.moment } };
+
+    ghost invariant = { λ t. IsTable t.storage t.files.entries t.handles.entries × (t.size ≡ size_of t.files.entries) };
+}
+
+impl FileTable {
+    /// A table of these files, whose sizes sum up to this, with no handle and the moment 0.
+    pub fn new(alloc: Global, storage: Storage, files: BTreeMap<Name, File>, size: u64) -> FileTable
+        requires allowed { storage.maximum ≤ 4194304 }
+        requires few { length files.entries ≤ 1024 }
+        requires room { size_of files.entries ≤ storage.maximum }
+        requires measured { size ≡ size_of files.entries }
+        ensures { result ≡ record { storage = storage; session = record { files = files.entries; handles = [] }; moment = 0 } }
+    {
+        let _count = files.len();
+        FileTable {
+            alloc,
+            storage,
+            files,
+            handles: BTreeMap::new(alloc),
+            size,
+            moment: 0,
+        }
+    }
+
+    /// What always holds of a table.
+    pub fn holds(&self)
+        ensures { IsTable self.now.storage self.now.session.files self.now.session.handles }
+    {
+        let _size = self.size;
+    }
+
+    /// The size of the working files: names and contents. Takes no memory.
+    pub fn current_size(&self) -> u64
+        ensures { result ≡ size_of self.now.session.files }
+    {
+        self.size
+    }
+
+    /// Sets the moment. Takes no memory.
+    pub fn set_now(&mut self, now: u64)
+        ensures { self.new ≡ record self.old { moment = now } }
+    {
+        self.moment = now;
+    }
+
+    /// The allocator.
+    pub fn allocator(&self) -> Global {
+        self.alloc
+    }
+
+    /// The handle of this number, and its file.
+    pub fn at(&self, number: u32) -> Option<(&Handle, &File)>
+        ensures open { MatchOption result (open_at self.now.session number ≡ None) (λ o. open_at self.now.session number ≡ Some (o.0.now, o.1.now)) }
+        ensures handle { IfSome result (λ o. handle_at self.now.session.handles number ≡ Some o.0.now) }
+        ensures file { IfSome result (λ o. element_at self.now.session.files o.0.now.name ≡ Some o.1.now) }
+        ensures good { IfSome result (λ o. IsTrue (is_good o.1.now.content)) }
+        ensures inside { IfSome result (λ o. o.0.now.cursor.position ≤ o.1.now.len) }
+    {
+        let handle = self.handles.get(&number)?;
+        let file = self.files.get(&handle.name)?;
+        if !file.is_good() {
+            return None;
+        }
+        Some((handle, file))
+    }
+
+    /// Puts an open handle at another place.
+    pub fn put_cursor(&mut self, number: u32, cursor: Cursor)
+        requires there { IsSome (handle_at self.old.session.handles number) }
+        requires stands { (handle : Handle) → handle_at self.old.session.handles number ≡ Some handle → (cursor.kind ≡ handle.cursor.kind) × IsHeldAt (element_at self.old.session.files handle.name) cursor.position }
+        ensures moved { (handle : Handle) → handle_at self.old.session.handles number ≡ Some handle → self.new.session ≡ with_cursor self.old.session number handle cursor }
+        ensures storage { self.new.storage ≡ self.old.storage }
+        ensures moment { self.new.moment ≡ self.old.moment }
+    {
+        set_cursor(&mut self.handles, number, cursor);
+    }
+}
