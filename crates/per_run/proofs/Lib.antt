@@ -1,0 +1,12 @@
+pub mod Texts
+pub mod Order
+pub mod Known
+pub mod Commands
+pub mod Splits
+pub mod FirstTexts
+pub mod Courses
+pub mod Reaches
+pub mod Inputs
+pub mod Starts
+pub mod Values
+pub mod Spared
