@@ -1,0 +1,73 @@
+//! Standard input as a source, and standard output as a sink.
+
+use per_base::{Failed, Sink, Source};
+use std::io::{Read, Write};
+
+/// A reader as a source. It counts its failures and tells nothing of what is left.
+#[derive(Drop)]
+pub struct StdSource<T: Read + Drop> {
+    reader: T,
+    faults: u64,
+}
+
+impl<T: Read + Drop> StdSource<T> {
+    /// The reader as a source that has not failed yet. No clause is needed: all that a caller relies on are the laws of the source.
+    pub fn new(reader: T) -> StdSource<T> {
+        StdSource { reader, faults: 0 }
+    }
+}
+
+impl<T: Read + Drop> Source for StdSource<T> {
+    ghost use Rattle.std.specs.Prelude.{None};
+
+    ghost left = { λ _. None };
+
+    ghost faults = { λ s. s.faults };
+
+    fn read(&mut self, out: &mut [u8]) -> Result<usize, Failed> {
+        match self.reader.read(out) {
+            Ok(count) => Ok(count),
+            Err(_) => {
+                self.faults = self.faults.saturating_add(1);
+                Err(Failed)
+            }
+        }
+    }
+}
+
+/// A writer as a sink. Each write goes to the system at once, so that what was taken is out. It counts its failures and tells
+/// nothing of what it took.
+#[derive(Drop)]
+pub struct StdSink<T: Write + Drop> {
+    writer: T,
+    faults: u64,
+}
+
+impl<T: Write + Drop> StdSink<T> {
+    /// The writer as a sink that has not failed yet. No clause is needed: all that a caller relies on are the laws of the sink.
+    pub fn new(writer: T) -> StdSink<T> {
+        StdSink { writer, faults: 0 }
+    }
+}
+
+impl<T: Write + Drop> Sink for StdSink<T> {
+    ghost use Rattle.std.specs.Prelude.{None};
+
+    ghost written = { λ _. None };
+
+    ghost faults = { λ s. s.faults };
+
+    fn write(&mut self, bytes: &[u8]) -> Result<usize, Failed> {
+        match self.writer.write(bytes) {
+            Ok(0) => {
+                self.faults = self.faults.saturating_add(1);
+                Ok(0)
+            }
+            Ok(count) => Ok(count),
+            Err(_) => {
+                self.faults = self.faults.saturating_add(1);
+                Err(Failed)
+            }
+        }
+    }
+}
