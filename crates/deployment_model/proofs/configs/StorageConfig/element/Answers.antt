@@ -1,0 +1,20 @@
+use Rattle.std.proofs.Common.{rules, sym, Ok, Err}
+use Rattle.per_base.specs.Names.{name_cmp}
+use Rattle.deployment_model.specs.Data.{ElementData, element_data}
+use Rattle.deployment_model.specs.declared.configs.ElementConfig.{ElementConfig}
+use Rattle.deployment_model.proofs.Search.{answers_so, found}
+use Rattle.deployment_model.proofs.configs.StorageConfig.element.Goals as goal
+
+pub returns-in-Ok : goal.returns-in-Ok
+returns-in-Ok c =
+    let things = c.as_slice-elements.result.now in
+    let by_name = c.in-Ok.ensures.position (λ (x : ElementConfig). name_cmp x.name c.args.name.now) (answers_so _ _ (λ (x : ElementConfig). name_cmp x.name c.args.name.now) (λ a r f called. search rules)) in
+    let at = found element_data (λ (x : ElementData). x.name) c.args.name.now things (rw c.as_slice-elements.ensures c.requires.ascends) (Ok c.in-Ok.place) c.in-Ok.ensures.bound by_name in
+    rw (← c.as_slice-elements.ensures) (sym (at.0 c.index-elements-place.result c.index-elements-place.is))
+
+pub returns-in-Err : goal.returns-in-Err
+returns-in-Err c =
+    let things = c.as_slice-elements.result.now in
+    let by_name = c.in-Err.ensures.position (λ (x : ElementConfig). name_cmp x.name c.args.name.now) (answers_so _ _ (λ (x : ElementConfig). name_cmp x.name c.args.name.now) (λ a r f called. search rules)) in
+    let nowhere = found element_data (λ (x : ElementData). x.name) c.args.name.now things (rw c.as_slice-elements.ensures c.requires.ascends) (Err c.in-Err.field-0) c.in-Err.ensures.bound by_name in
+    rw (← c.as_slice-elements.ensures) (sym nowhere.0)
