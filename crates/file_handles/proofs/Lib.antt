@@ -4,3 +4,4 @@ pub mod Lookups
 pub mod Named
 pub mod Opens
 pub mod Sound
+pub mod Numbers

@@ -55,6 +55,7 @@ renamed storage files later handles name t free same names few room = record {
   numbers = t.numbers;
   few_files = few;
   few_handles = t.few_handles;
+  from_one = t.from_one;
   room = room;
   held = held_beside files later handles name t.held same (unheld name handles free);
   alone = t.alone;
@@ -96,6 +97,7 @@ made_sound storage files later handles name new size extra t measured missing is
         numbers = t.numbers;
         few_files = omega (arith, few, few_before);
         few_handles = t.few_handles;
+        from_one = t.from_one;
         room = omega (arith, total, room);
         held = held_beside files later handles name t.held (subst (λ m. SameBeside files m name) (sym is) (beside_put files name new)) (unheld_missing files handles name t.held missing);
         alone = t.alone;

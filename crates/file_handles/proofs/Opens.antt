@@ -36,6 +36,7 @@ use Rattle.file_handles.specs.declared.handle.Handle.{Handle}
 use Rattle.file_handles.specs.Opening.{first, when, busy, can_open, file_opened, is_unreadable, no_room_to_create, open_file, too_many, with_opened}
 use Rattle.file_handles.specs.Sessions.{Session, Handles, IsHeldAt, blocks, blocking, free_number, handle_at, with_handle}
 use Rattle.file_handles.specs.Tables.{Held, IsTable}
+use Rattle.file_handles.proofs.Numbers.{one_or_more}
 use Rattle.file_handles.proofs.Lookups.{file_put}
 
 pub first_none : (a b : Option PerError) → first a b ≡ None → (a ≡ None) × (b ≡ None)
@@ -200,6 +201,7 @@ opened_present storage files handles new_files later name kind mode now number c
           (omega (arith, same_size, sizes, smaller, room))
           (subst (λ m. IsHeldAt (element_at m name) cursor.position) (sym is_files) (subst (λ file. IsHeldAt file cursor.position) (sym (put_there files name new)) here))
           (λ n h at one. let r = not_blocked kind name handles a.alone n h at one in (r.0, subst (λ (c : Cursor). writes c.kind ≡ false) (sym placing) r.1))
+          (omega (arith, numbering, one_or_more handles t.numbers t.from_one))
           is_handles numbers (omega (arith, few, few_before));
       answer = rw free (rw there (answered files handles new_files later name kind mode number cursor new is_files is_handles numbering placing));
     }
@@ -234,6 +236,7 @@ opened_missing storage files handles new_files later name kind mode now number c
           (omega (arith, same_size, sizes, room))
           (subst (λ m. IsHeldAt (element_at m name) cursor.position) (sym is_files) (subst (λ file. IsHeldAt file cursor.position) (sym (put_there files name new)) here))
           (λ n h at one. absurd (unheld n h at one))
+          (omega (arith, numbering, one_or_more handles t.numbers t.from_one))
           is_handles numbers (omega (arith, few, few_before));
       answer = rw free (rw space (rw missing (answered files handles new_files later name kind mode number cursor new is_files is_handles numbering placing)));
     }

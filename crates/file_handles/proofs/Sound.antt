@@ -16,8 +16,8 @@ use Rattle.file_core.specs.declared.cursor.Cursor.{Cursor}
 use Rattle.file_core.specs.Places.{writes}
 use Rattle.file_handles.specs.declared.handle.Handle.{Handle}
 use Rattle.file_handles.specs.declared.storage.Storage.{Storage}
-use Rattle.file_handles.specs.Sessions.{Handles, IsHeldAt, SameBeside, handle_at, with_handle, without_handle}
-use Rattle.file_handles.specs.Tables.{Alone, Held, IsTable}
+use Rattle.file_handles.specs.Sessions.{Handles, IsHeldAt, SameBeside, Session, handle_at, open_at, with_file, with_handle, without_handle}
+use Rattle.file_handles.specs.Tables.{Alone, FromOne, Held, IsTable}
 use Rattle.file_handles.proofs.Lookups.{handle_put, handle_gone}
 
 -- a handle of these stands among those, under the same number, on the same file and of the same kind
@@ -61,6 +61,7 @@ moved storage files handles later number old cursor t was kind inside is keys = 
   numbers = subst (λ ks. IsStrictlySortedBy nat_cmp ks) (sym keys) t.numbers;
   few_files = t.few_files;
   few_handles = omega (arith, length-keys_of later, length-keys_of handles, ap length keys, t.few_handles);
+  from_one = subst (λ hs. FromOne hs) (sym is) (put_cases handles number (record old { cursor = cursor }) (λ n h. 1 ≤ n) (t.from_one number old was) (λ n h at ne. t.from_one n h at));
   room = t.room;
   held = subst (λ hs. Held files hs) (sym is)
       (put_cases handles number (record old { cursor = cursor }) (λ n h. IsHeldAt (element_at files h.name) h.cursor.position) inside (λ n h at ne. t.held n h at));
@@ -77,6 +78,7 @@ changed storage files new_files handles later number old cursor t was writer kin
   numbers = subst (λ ks. IsStrictlySortedBy nat_cmp ks) (sym keys) t.numbers;
   few_files = omega (arith, length-keys_of new_files, length-keys_of files, ap length names, t.few_files);
   few_handles = omega (arith, length-keys_of later, length-keys_of handles, ap length keys, t.few_handles);
+  from_one = subst (λ hs. FromOne hs) (sym is) (put_cases handles number (record old { cursor = cursor }) (λ n h. 1 ≤ n) (t.from_one number old was) (λ n h at ne. t.from_one n h at));
   room = room;
   held = subst (λ hs. Held new_files hs) (sym is)
       (put_cases handles number (record old { cursor = cursor }) (λ n h. IsHeldAt (element_at new_files h.name) h.cursor.position) inside
@@ -95,6 +97,7 @@ closed storage files handles later number t is numbers few = record {
   numbers = numbers;
   few_files = t.few_files;
   few_handles = few;
+  from_one = λ n h at. t.from_one n h (before n h at);
   room = t.room;
   held = λ n h at. t.held n h (before n h at);
   alone = alone_kept handles later t.alone (λ n h at. record { before = h; there = before n h at; name = refl; kind = refl });
@@ -107,13 +110,14 @@ closed storage files handles later number t is numbers few = record {
     before : (n : ℕ) (h : Handle) → handle_at later n ≡ Some h → handle_at handles n ≡ Some h
     before n h at = left (is_at (nat_cmp number) n) (handle_at handles n) h (sym (handle_gone handles n number t.numbers) ∙ subst (λ hs. handle_at hs n ≡ Some h) is at)
 
-pub opened : (storage : Storage) (files new_files : Map) (handles later : Handles) (number : ℕ) (new : Handle) → IsTable storage files handles → Held new_files handles → IsStrictlySortedBy name_cmp (keys_of new_files) → length new_files ≤ 1024 → size_of new_files ≤ storage.maximum → IsHeldAt (element_at new_files new.name) new.cursor.position → ((n : ℕ) (h : Handle) → handle_at handles n ≡ Some h → h.name ≡ new.name → (writes h.cursor.kind ≡ false) × (writes new.cursor.kind ≡ false)) → later ≡ with_handle handles number new → IsStrictlySortedBy nat_cmp (keys_of later) → length later ≤ 64 → IsTable storage new_files later
-opened storage files new_files handles later number new t held names few_files room inside readers is numbers few = record {
+pub opened : (storage : Storage) (files new_files : Map) (handles later : Handles) (number : ℕ) (new : Handle) → IsTable storage files handles → Held new_files handles → IsStrictlySortedBy name_cmp (keys_of new_files) → length new_files ≤ 1024 → size_of new_files ≤ storage.maximum → IsHeldAt (element_at new_files new.name) new.cursor.position → ((n : ℕ) (h : Handle) → handle_at handles n ≡ Some h → h.name ≡ new.name → (writes h.cursor.kind ≡ false) × (writes new.cursor.kind ≡ false)) → 1 ≤ number → later ≡ with_handle handles number new → IsStrictlySortedBy nat_cmp (keys_of later) → length later ≤ 64 → IsTable storage new_files later
+opened storage files new_files handles later number new t held names few_files room inside readers positive is numbers few = record {
   allowed = t.allowed;
   names = names;
   numbers = numbers;
   few_files = few_files;
   few_handles = few;
+  from_one = subst (λ hs. FromOne hs) (sym is) (put_cases handles number new (λ n h. 1 ≤ n) positive (λ n h at ne. t.from_one n h at));
   room = room;
   held = subst (λ hs. Held new_files hs) (sym is) (put_cases handles number new (λ n h. IsHeldAt (element_at new_files h.name) h.cursor.position) inside (λ n h at ne. held n h at));
   alone = subst (λ hs. Alone hs) (sym is) (λ n o writer rival is_writer is_rival.
@@ -154,3 +158,16 @@ moved_there storage files handles later number cursor t there stands is keys = b
 
 pub held_inside : (files : Map) (handles : Handles) (number : ℕ) (handle : Handle) (file : Element) → Held files handles → handle_at handles number ≡ Some handle → element_at files handle.name ≡ Some file → handle.cursor.position ≤ file.len
 held_inside files handles number handle file held at is = (subst (λ found. IsHeldAt found handle.cursor.position) is (held number handle at)).1
+
+-- a handle has its file, which is readable, so a number that is not open has no handle
+pub closed_without_handle : (s : Session) (number : ℕ) → Held s.files s.handles → open_at s number ≡ None → handle_at s.handles number ≡ None
+closed_without_handle s number held none = by (handle_at s.handles number) refl
+  where
+    by : (handle : Option Handle) → handle_at s.handles number ≡ handle → handle_at s.handles number ≡ None
+    by None e = e
+    by (Some handle) e = with_its (element_at s.files handle.name) refl (held number handle e)
+      where
+        with_its : (file : Option Element) → element_at s.files handle.name ≡ file → IsHeldAt file handle.cursor.position → handle_at s.handles number ≡ None
+        with_its None f h = absurd h
+        with_its (Some file) f h =
+            let is : with_file s.files (handle_at s.handles number) ≡ Some (handle, file) = rw (e, f, h.0) refl in absurd (cc)

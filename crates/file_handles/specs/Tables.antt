@@ -23,11 +23,16 @@ Held files handles = (number : ℕ) (handle : Handle) → handle_at handles numb
 abbrev pub Alone : Handles → Type 0
 Alone handles = (number other : ℕ) (writer rival : Handle) → handle_at handles number ≡ Some writer → handle_at handles other ≡ Some rival → IsTrue (writes writer.cursor.kind) → rival.name ≡ writer.name → other ≡ number
 
+-- numbers are counted from 1
+abbrev pub FromOne : Handles → Type 0
+FromOne handles = (number : ℕ) (handle : Handle) → handle_at handles number ≡ Some handle → 1 ≤ number
+
 -- both maps are in order and within their limits, the files never take more than they are allowed, and the handles are sound
 pub record IsTable (storage : Storage) (files : Map) (handles : Handles) : Type 0 where
   pub allowed : storage.maximum ≤ 4194304
   pub names : IsStrictlySortedBy name_cmp (keys_of files)
   pub numbers : IsStrictlySortedBy nat_cmp (keys_of handles)
+  pub from_one : FromOne handles
   pub few_files : length files ≤ 1024
   pub few_handles : length handles ≤ 64
   pub room : size_of files ≤ storage.maximum

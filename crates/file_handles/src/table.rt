@@ -1,9 +1,9 @@
 //! The table of working files and handles.
 
-ghost use Rattle.std.specs.Prelude.{◌≡◌, ◌≤◌, [], length, IfSome, IsSome, IsTrue, MatchOption};
+ghost use Rattle.std.specs.Prelude.{◌≡◌, ◌≤◌, ◌<◌, ℕ, [], None, length, IfSome, IsSome, IsTrue, MatchOption};
 ghost use Rattle.per_base.specs.Maps.{element_at, size_of};
 ghost use Rattle.file_core.specs.Files.{is_good};
-ghost use Rattle.file_handles.specs.Sessions.{IsHeldAt, handle_at, open_at, with_cursor};
+ghost use Rattle.file_handles.specs.Sessions.{IsHeldAt, free_number, handle_at, open_at, with_cursor};
 ghost use Rattle.file_handles.specs.Tables.{IsTable, Table};
 
 use crate::handle::Handle;
@@ -67,9 +67,15 @@ impl FileTable {
         }
     }
 
-    /// What always holds of a table.
+    /// What always holds of a table: among it, that a new handle gets the lowest number from 1 that no handle has, and that a number is
+    /// not open just where no handle has it.
+    #[tactic(auto, using(crate::proofs::Numbers::lower_are_taken, crate::proofs::Numbers::lowest_is_free, crate::proofs::Sound::closed_without_handle))]
     pub fn holds(&self)
-        ensures { IsTable self.now.storage self.now.session.files self.now.session.handles }
+        ensures table { IsTable self.now.storage self.now.session.files self.now.session.handles }
+        ensures taken { (number : ℕ) → 1 ≤ number → number < free_number self.now.session.handles
+            → IsSome (handle_at self.now.session.handles number) }
+        ensures free { handle_at self.now.session.handles (free_number self.now.session.handles) ≡ None }
+        ensures closed { (number : ℕ) → open_at self.now.session number ≡ None → handle_at self.now.session.handles number ≡ None }
     {
         let _size = self.size;
     }
@@ -88,8 +94,8 @@ impl FileTable {
         self.moment = now;
     }
 
-    /// The allocator.
-    pub fn allocator(&self) -> Global {
+    // The allocator, which says nothing of the table.
+    pub(crate) fn allocator(&self) -> Global {
         self.alloc
     }
 
