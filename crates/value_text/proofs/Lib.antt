@@ -14,3 +14,4 @@ pub mod StringLaws
 pub mod ValueLaws
 pub mod Printed
 pub mod Lines
+pub mod WholeLaws

@@ -17,7 +17,7 @@ same_size-true eight eight e = refl
 same_size-true _ _ e = absurd cc
 
 mutual
-  same_kind-true : (j k : Kind) → same_kind j k ≡ true → j ≡ k
+  pub same_kind-true : (j k : Kind) → same_kind j k ≡ true → j ≡ k
   same_kind-true bool_kind bool_kind e = refl
   same_kind-true (unsigned_kind s) (unsigned_kind r) e = ap unsigned_kind (same_size-true s r e)
   same_kind-true (signed_kind s) (signed_kind r) e = ap signed_kind (same_size-true s r e)
@@ -79,7 +79,7 @@ same_size-self four = refl
 same_size-self eight = refl
 
 mutual
-  same_kind-self : (k : Kind) → same_kind k k ≡ true
+  pub same_kind-self : (k : Kind) → same_kind k k ≡ true
   same_kind-self bool_kind = refl
   same_kind-self (unsigned_kind s) = same_size-self s
   same_kind-self (signed_kind s) = same_size-self s

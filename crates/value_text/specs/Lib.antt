@@ -3,4 +3,5 @@ pub mod Texts
 pub mod Limits
 pub mod Readers
 pub mod Parsing
+pub mod Whole
 pub mod Samples

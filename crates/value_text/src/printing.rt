@@ -88,8 +88,8 @@ fn push_hex_byte(out: &mut String, byte: u8) -> Result<(), AllocError>
     write!(out, "{byte:02x}")
 }
 
-/// Writes bytes in two digits each.
-fn push_hex(out: &mut String, bytes: &[u8]) -> Result<(), AllocError>
+/// Appends bytes in two lower-case hexadecimal digits each.
+pub fn push_hex(out: &mut String, bytes: &[u8]) -> Result<(), AllocError>
     ensures { OnOk result (string_bytes out.new ≡ string_bytes out.old ++ hex_text bytes.now) }
 {
     for byte in bytes {

@@ -1,0 +1,91 @@
+//! Numbers and bytes that are the whole of a text.
+
+ghost use Rattle.std.specs.Prelude.{◌≡◌, ◌≢◌, ◌+◌, ◌<◌, ◌≤◌, ◌^◌, ℕ, ℤ, List, IfOk, slice_index};
+ghost use Rattle.std.specs.Fmt.{decimal, signed_decimal};
+ghost use lib.Signed.{mag};
+ghost use Rattle.value_text.specs.Readers.{Gives};
+ghost use Rattle.value_text.specs.Texts.{hex_text};
+ghost use Rattle.value_text.specs.Whole.{bytes_in, signed_in, unsigned_in};
+
+use crate::numbers::{signed, unsigned};
+use crate::strings::bytes_at;
+use per_base::Bytes;
+use std::alloc::Global;
+use value_model::DecodeError;
+
+/// The number that the whole text writes.
+#[tactic(auto, unfolding(crate::specs::Whole::unsigned_in))]
+fn unsigned_in(max: u64, text: &[u8]) -> Result<u64, DecodeError>
+    ensures { Gives (λ n. n) result (unsigned_in (max + 1) text.now) }
+{
+    let (n, rest) = unsigned(max, text)?;
+    if !rest.is_empty() {
+        return Err(DecodeError::NotAValue);
+    }
+    Ok(n)
+}
+
+/// The number that the whole text writes in decimal, at most `max`: without a plus sign and without leading zeros.
+///
+/// Errors: `NotAValue` exactly where the text is that of no such number. It takes no memory.
+pub fn parse_unsigned(max: u64, text: &[u8]) -> Result<u64, DecodeError>
+    ensures found { IfOk result (λ n. (n ≤ max) × (text.now ≡ decimal n)) }
+    ensures only { result ≡ Err DecodeError.NotAValue → (n : ℕ) → n ≤ max → text.now ≢ decimal n }
+
+    // the text alone decides
+    ensures exact { Gives (λ n. n) result (unsigned_in (max + 1) text.now) }
+{
+    unsigned_in(max, text)
+}
+
+/// The number that the whole text writes, with its sign.
+#[tactic(auto, unfolding(crate::specs::Whole::signed_in))]
+fn signed_in(max: u64, text: &[u8]) -> Result<i64, DecodeError>
+    requires { max < 2 ^ 63 }
+    ensures { Gives (λ z. z) result (signed_in (max + 1) text.now) }
+{
+    let (z, rest) = signed(max, text)?;
+    if !rest.is_empty() {
+        return Err(DecodeError::NotAValue);
+    }
+    Ok(z)
+}
+
+/// The number that the whole text writes in decimal, from `-max - 1` to `max`: a minus stands only before a number that is not 0.
+///
+/// Errors: `NotAValue` exactly where the text is that of no such number. It takes no memory.
+pub fn parse_signed(max: u64, text: &[u8]) -> Result<i64, DecodeError>
+    requires { max < 2 ^ 63 }
+    ensures found { IfOk result (λ z. (mag z ≤ max) × (text.now ≡ signed_decimal z)) }
+    ensures only { result ≡ Err DecodeError.NotAValue → (z : ℤ) → mag z ≤ max → text.now ≢ signed_decimal z }
+
+    // the text alone decides
+    ensures exact { Gives (λ z. z) result (signed_in (max + 1) text.now) }
+{
+    signed_in(max, text)
+}
+
+/// The bytes that the whole text writes.
+#[tactic(auto, unfolding(crate::specs::Whole::bytes_in))]
+fn bytes_in(alloc: Global, text: &[u8]) -> Result<Bytes, DecodeError>
+    ensures { Gives (λ b. b) result (bytes_in text.now) }
+{
+    let (bytes, rest) = bytes_at(alloc, text)?;
+    if !rest.is_empty() {
+        return Err(DecodeError::NotAValue);
+    }
+    Ok(bytes)
+}
+
+/// The bytes that the whole text writes in two lower-case hexadecimal digits each.
+///
+/// Errors: `NotAValue` exactly where the text is that of no bytes; `OutOfMemory`.
+pub fn parse_hex(alloc: Global, text: &[u8]) -> Result<Bytes, DecodeError>
+    ensures found { IfOk result (λ b. text.now ≡ hex_text b) }
+    ensures only { result ≡ Err DecodeError.NotAValue → (b : List ℕ) → ((i : ℕ) → slice_index b i < 256) → text.now ≢ hex_text b }
+
+    // the text alone decides
+    ensures exact { Gives (λ b. b) result (bytes_in text.now) }
+{
+    bytes_in(alloc, text)
+}
