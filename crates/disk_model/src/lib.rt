@@ -21,4 +21,5 @@ mod tests;
 
 pub use disk::{Disk, DiskFailed};
 pub use memory::MemDisk;
+pub use orders::Orders;
 pub use place::Place;
