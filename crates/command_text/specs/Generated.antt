@@ -1,0 +1,31 @@
+-- A large input that is made from a number.
+use Rattle.std.specs.Prelude.{ℕ, zero, suc, ◌+◌, ◌*◌, ◌/◌, ◌%◌, List, [], ◌∷◌, ◌++◌, if◌then◌else◌, ◌==◌, codes}
+use Rattle.std.specs.Fmt.{decimal}
+
+-- the number behind this one
+abbrev pub next_number : ℕ → ℕ
+next_number x = (x * 1103515245 + 12345) % 2147483648
+
+abbrev pub generated_key : ℕ → List ℕ
+generated_key x = codes "k" ++ decimal (x / 65536 % 64)
+
+-- line i, counted from 1, with its number
+abbrev pub generated_line : ℕ → ℕ → List ℕ
+generated_line x i =
+    if i % 8 == 0 then codes "0 sync g" else (
+    if i % 8 == 4 then codes "0 get g " ++ generated_key x else (
+    if i % 8 == 6 then codes "0 remove g " ++ generated_key x else (
+    if i % 8 == 7 then codes "0 exists g " ++ generated_key x else
+    codes "0 set g " ++ (generated_key x ++ (codes " u64:" ++ decimal x)))))
+
+-- so many lines from line i on, behind this number
+abbrev pub generated_lines : ℕ → ℕ → ℕ → List (List ℕ)
+generated_lines zero i x = []
+generated_lines (suc count) i x = generated_line (next_number x) i ∷ generated_lines count (i + 1) (next_number x)
+
+-- the whole input of a number
+abbrev pub generated : ℕ → List (List ℕ)
+generated n =
+    codes "0 install {\"version\":1,\"keyValueStorages\":[{\"name\":\"g\",\"redundancy\":{\"m\":2,\"n\":3}}]}" ∷ codes "0 open-kvs g"
+    ∷ generated_lines n 1 n
+    ++ (codes "0 sync g" ∷ codes "0 size g" ∷ codes "0 close g" ∷ [])

@@ -1,0 +1,6 @@
+pub mod Errors
+pub mod Grammar
+pub mod Reading
+pub mod Replies
+pub mod Generated
+pub mod Samples

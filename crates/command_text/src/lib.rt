@@ -1,0 +1,31 @@
+//! The lines that a user writes, and the replies to them.
+//!
+//! [`parse_line`] reads one line: nothing, the end, or an [`Event`], which sets the moment or makes a [`Call`] of an application. The
+//! grammar is one table in `specs/Grammar`: of each call its word and its arguments. An event has one line and a line one event, and
+//! every other text is refused. [`print_reply`] gives the one text of a [`Reply`]: a line for each report, and the answer's line.
+//!
+//! [`generated_line`] and [`next_number`] make a large input from a number.
+#![tactic(auto)]
+
+mod arguments;
+mod asked;
+mod calls;
+mod errors;
+mod generated;
+mod laws;
+mod lines;
+mod parsing;
+mod printing;
+mod replies;
+#[cfg(test)]
+mod tests;
+mod words;
+
+pub use asked::AskedType;
+pub use calls::{Call, Event};
+pub use errors::LineError;
+pub use generated::{generated_line, next_number};
+pub use laws::{one_event, one_line};
+pub use lines::{LINE_BYTES, Line, parse_line};
+pub use printing::print_reply;
+pub use replies::{Answer, AppStatus, Reply};

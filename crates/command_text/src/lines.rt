@@ -1,0 +1,83 @@
+//! Lines, whole.
+
+ghost use Rattle.std.specs.Prelude.{◌≡◌, IfOk};
+ghost use Rattle.command_text.specs.Grammar.{IsLine};
+ghost use Rattle.command_text.specs.Reading.{Reads, application_in, event_in, line_in};
+ghost use Rattle.command_text.specs.declared.lines.Line.{Line};
+
+use crate::arguments::number;
+use crate::calls::Event;
+use crate::errors::LineError;
+use crate::parsing::call;
+use crate::words::{is_word, split};
+use std::alloc::Global;
+
+/// What a line says.
+#[derive(Debug, Drop)]
+pub enum Line {
+    /// The line is empty or a comment.
+    Nothing,
+    /// The input ends here.
+    End,
+    Event(Event),
+}
+
+/// The greatest number of bytes of a line.
+pub const LINE_BYTES: usize = 262_144;
+
+/// What the line says; it comes without its line feed.
+///
+/// Errors: `NotALine` exactly where the bytes are outside the grammar; `OutOfMemory`.
+pub fn parse_line(alloc: Global, line: &[u8]) -> Result<Line, LineError>
+    // what is read is spelled so, and what is spelled so is read
+    ensures line { IfOk result (IsLine line.now) }
+    ensures none { result ≡ Err LineError.NotALine → (said : Line) → ¬ IsLine line.now said }
+{
+    if line.len() > LINE_BYTES {
+        return Err(LineError::NotALine);
+    }
+    any_line(alloc, line)
+}
+
+/// What the line says, however long it is.
+#[tactic(auto, unfolding(crate::specs::Reading::line_in))]
+fn any_line(alloc: Global, line: &[u8]) -> Result<Line, LineError>
+    ensures { Reads (λ l. l) result (line_in line.now) }
+{
+    let Some((first, rest)) = line.split_first() else {
+        return Ok(Line::Nothing);
+    };
+    if *first == b'#' {
+        if rest.contains(&b'\n') {
+            return Err(LineError::NotALine);
+        }
+        return Ok(Line::Nothing);
+    }
+    if is_word(line, b"end") {
+        return Ok(Line::End);
+    }
+    Ok(Line::Event(event(alloc, line)?))
+}
+
+/// The event that the text spells.
+#[tactic(auto, unfolding(crate::specs::Reading::event_in))]
+fn event(alloc: Global, text: &[u8]) -> Result<Event, LineError>
+    ensures { Reads (λ e. e) result (event_in text.now) }
+{
+    let (first, rest) = split(text).ok_or(LineError::NotALine)?;
+    if is_word(first, b"now") {
+        return Ok(Event::Now(number(rest)?));
+    }
+    let application = application(first).ok_or(LineError::NotALine)?;
+    Ok(Event::App(application, call(alloc, rest)?))
+}
+
+/// The application whose digit the text is.
+fn application(text: &[u8]) -> Option<u8>
+    ensures { result ≡ application_in text.now }
+{
+    match text {
+        [digit @ b'0'..=b'7'] => Some(*digit - b'0'),
+        _ => None,
+    }
+}
