@@ -1,0 +1,6 @@
+pub mod ByName
+pub mod Kept
+pub mod ListLaws
+pub mod ReadingLaws
+pub mod TypeLaws
+pub mod NameLaws

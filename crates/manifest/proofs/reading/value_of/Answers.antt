@@ -1,0 +1,9 @@
+use Rattle.std.proofs.Common.{refl, true≢false, sym, ◌∙◌}
+use Rattle.manifest.proofs.ReadingLaws.{value_none, value_read}
+use Rattle.manifest.proofs.reading.value_of.Goals as goal
+
+pub returns-in-Ok : goal.returns-in-Ok
+returns-in-Ok c = value_read _ _ c.in-Ok.ensures.ok.0 c.in-Ok.ensures.ok.1
+
+pub returns-else-is_memory : goal.returns-else-is_memory
+returns-else-is_memory c = (refl, value_none _ (c.in-Err.ensures.err (λ memory. true≢false (sym (c.is_memory.ensures.1 memory) ∙ c.if-is_memory.false))))

@@ -1,0 +1,158 @@
+-- The parts of a manifest: its storages, their elements, and what is said of each, with the defaults.
+use Rattle.std.specs.Prelude.{ℕ, List, [], ◌∷◌, ◌++◌, length, map, codes, Bool, ◌&&◌, ◌||◌, nat_le, Option, None, Some, option_and_then, unwrap_or, fold, if◌then◌else◌, Result, Ok, Err}
+use Rattle.std.specs.List.{list_all, flat_map}
+use Rattle.std.specs.Str.{bytes_eq}
+use Rattle.std.specs.BTreeMap.{insert_entry}
+use Rattle.per_base.specs.Names.{name_cmp}
+use Rattle.serde_json.specs.Data.{Data}
+use Rattle.serde_json.specs.Find.{get, as_bool}
+use Rattle.hex.specs.Hex.{decode_of}
+use Rattle.hex.specs.declared.error.FromHexError.{FromHexError}
+use Rattle.per_base.specs.declared.elements.StoreKind.{StoreKind}
+use Rattle.per_base.specs.declared.elements.StoreKind.TheVariants.{Keys, Files}
+use Rattle.per_base.specs.declared.elements.Scope.{Scope}
+use Rattle.per_base.specs.declared.elements.Scope.TheVariants as scope
+use Rattle.value_model.specs.Kinds.{Kind}
+use Rattle.value_model.specs.Trees.{Tree, type_of}
+use Rattle.value_model.specs.Encoding.{encoding}
+use Rattle.value_text.specs.Parsing.{kind_in, value_in}
+use Rattle.value_text.specs.Texts.{type_text}
+use Rattle.deployment_model.specs.declared.configs.CollectionStrategy.{CollectionStrategy}
+use Rattle.deployment_model.specs.declared.configs.CollectionStrategy.TheVariants as collection
+use Rattle.deployment_model.specs.declared.configs.ElementStrategy.{ElementStrategy}
+use Rattle.deployment_model.specs.declared.configs.ElementStrategy.TheVariants as element
+use Rattle.manifest.specs.Values.{small_in, text_in, things_in, whole_in}
+
+-- a storage as it is listed, or one of its elements: its kind, and what is said of it
+abbrev pub Listed : Type 0
+Listed = StoreKind × Data
+
+abbrev pub of_kind : StoreKind → List Data → List Listed
+of_kind kind things = map (λ d. (kind, d)) things
+
+-- the storages of keys, and then those of files
+unfoldable pub storages : Data → List Listed
+storages d = of_kind Keys (things_in (get (codes "keyValueStorages") d)) ++ of_kind Files (things_in (get (codes "fileStorages") d))
+
+abbrev pub elements_word : StoreKind → List ℕ
+elements_word Keys = codes "keyValuePairs"
+elements_word Files = codes "files"
+
+unfoldable pub elements : Listed → List Listed
+elements s = of_kind s.0 (things_in (get (elements_word s.0) s.1))
+
+abbrev pub all_elements : List Listed → List Listed
+all_elements ss = flat_map elements ss
+
+-- a name that is missing is no name
+unfoldable pub name_in : Data → List ℕ
+name_in d = unwrap_or (text_in (get (codes "name") d)) []
+
+-- things by their names, in the order of the names
+abbrev pub Named : Type 0
+Named = List (List ℕ × Listed)
+
+abbrev pub with_named : Named → Listed → Named
+with_named found l = insert_entry name_cmp found (name_in l.1) l
+
+unfoldable pub named : List Listed → Named
+named ls = fold with_named [] ls
+
+abbrev pub by_name : List Listed → List Listed
+by_name ls = map (λ (e : List ℕ × Listed). e.1) (named ls)
+
+-- ---- what is said of the manifest as a whole
+
+unfoldable pub version_in : Data → Option ℕ
+version_in d = small_in (get (codes "version") d)
+
+-- ---- what is said of a storage
+
+unfoldable pub minimum_in : Data → ℕ
+minimum_in d = unwrap_or (whole_in (get (codes "minimumSustainedSize") d)) 0
+
+unfoldable pub maximum_in : Data → ℕ
+maximum_in d = unwrap_or (whole_in (get (codes "maximumAllowedSize") d)) 1048576
+
+-- what the text says, by the rows of a table
+abbrev pub word_in : {A : Type 0} → List (List ℕ × A) → List ℕ → Option A
+word_in [] word = None
+word_in (row ∷ rows) word = if bytes_eq word row.0 then Some row.1 else word_in rows word
+
+unfoldable pub collection_said : List ℕ → Option CollectionStrategy
+collection_said word = word_in ((codes "keepExisting", collection.KeepExisting) ∷ (codes "delete", collection.Delete) ∷ []) word
+
+unfoldable pub scope_said : List ℕ → Option Scope
+scope_said word = word_in ((codes "element", scope.Element) ∷ (codes "storage", scope.Storage) ∷ []) word
+
+unfoldable pub strategy_said : List ℕ → Option ElementStrategy
+strategy_said word = word_in ((codes "keepExisting", element.KeepExisting) ∷ (codes "overwrite", element.Overwrite) ∷ (codes "delete", element.Delete) ∷ []) word
+
+unfoldable pub collection_in : Data → Option CollectionStrategy
+collection_in d = option_and_then collection_said (text_in (get (codes "updateStrategy") d))
+
+unfoldable pub read_only_in : Data → Option Bool
+read_only_in d = option_and_then as_bool (get (codes "readOnly") d)
+
+abbrev pub redundancy_in : Data → Option Data
+redundancy_in d = get (codes "redundancy") d
+
+unfoldable pub agreeing_in : Data → Option ℕ
+agreeing_in r = small_in (get (codes "m") r)
+
+unfoldable pub copies_in : Data → Option ℕ
+copies_in r = small_in (get (codes "n") r)
+
+unfoldable pub scope_in : Data → Option Scope
+scope_in r = option_and_then scope_said (text_in (get (codes "scope") r))
+
+-- ---- what is said of an element
+
+unfoldable pub strategy_in : Data → Option ElementStrategy
+strategy_in d = option_and_then strategy_said (text_in (get (codes "updateStrategy") d))
+
+unfoldable pub type_in : Data → Option Kind
+type_in d = option_and_then kind_in (text_in (get (codes "type") d))
+
+abbrev pub type_for : Listed → Option Kind
+type_for (Keys, d) = type_in d
+type_for (Files, d) = None
+
+-- two types are one where they have one text
+abbrev pub is_of_type : Kind → Tree → Bool
+is_of_type kind t = bytes_eq (type_text (type_of t)) (type_text kind)
+
+abbrev pub encoding_as : Kind → Tree → Option (List ℕ)
+encoding_as kind t = if is_of_type kind t then Some (encoding t) else None
+
+-- the encoding of the value of this type that the text spells
+unfoldable pub key_bytes : Option Kind → List ℕ → Option (List ℕ)
+key_bytes None text = None
+key_bytes (Some kind) text = option_and_then (encoding_as kind) (value_in text)
+
+-- a digit, or one of the letters a to f
+abbrev pub is_lower_digit : ℕ → Bool
+is_lower_digit b = (nat_le 48 b && nat_le b 57) || (nat_le 97 b && nat_le b 102)
+
+abbrev pub ok_of : {A : Type 0} → Result A FromHexError → Option A
+ok_of (Ok a) = Some a
+ok_of (Err e) = None
+
+-- no file has more bytes, and no manifest is long enough to say more
+abbrev pub file_limit : ℕ
+file_limit = 1048576
+
+abbrev pub if_short : List ℕ → Option (List ℕ)
+if_short bytes = if nat_le (length bytes) file_limit then Some bytes else None
+
+-- the bytes that lower-case hexadecimal digits spell, two for each
+unfoldable pub file_bytes : List ℕ → Option (List ℕ)
+file_bytes text = if list_all is_lower_digit text then option_and_then if_short (ok_of (decode_of text)) else None
+
+abbrev pub bytes_said : Listed → List ℕ → Option (List ℕ)
+bytes_said (Keys, d) text = key_bytes (type_in d) text
+bytes_said (Files, d) text = file_bytes text
+
+-- what the element starts with
+unfoldable pub initial_in : Listed → Option (List ℕ)
+initial_in e = option_and_then (bytes_said e) (text_in (get (codes "initial") e.1))

@@ -1,0 +1,48 @@
+-- What the text of a manifest says: the least rule that it breaks, or a deployment.
+use Rattle.std.specs.Prelude.{◌≡◌, ℕ, List, length, nat_lt, if◌then◌else◌, Option, None, Some, ⊤, Result, Ok, Err}
+use Rattle.std.specs.Str.{is_utf8}
+use Rattle.serde_json.specs.Data.{Data}
+use Rattle.serde_json.specs.Read.{read}
+use Rattle.serde_json.specs.View.{view}
+use Rattle.serde_json.specs.declared.value.Value.{Value}
+use Rattle.deployment_model.specs.Data.{DeploymentData}
+use Rattle.manifest.specs.declared.errors.ManifestError.{ManifestError}
+use Rattle.manifest.specs.declared.errors.ManifestError.TheVariants.{Rejected, OutOfMemory}
+use Rattle.manifest.specs.Rules.{least_broken}
+use Rattle.manifest.specs.Contents.{deployment_said}
+
+-- the value that the text is, where it is UTF-8 and JSON
+unfoldable pub value_of : List ℕ → Option Data
+value_of text = if is_utf8 text then read text else None
+
+abbrev pub broken_in : Option Data → Option ℕ
+broken_in None = Some 2
+broken_in (Some d) = least_broken d
+
+-- the least rule that the text breaks
+unfoldable pub broken_rule : List ℕ → Option ℕ
+broken_rule text = if nat_lt 65536 (length text) then Some 1 else broken_in (value_of text)
+
+abbrev pub said_in : Option Data → Option ℕ → Option DeploymentData
+said_in (Some d) None = Some (deployment_said d)
+said_in d rule = None
+
+-- the deployment that the text says, where it breaks no rule
+unfoldable pub deployment_in : List ℕ → Option DeploymentData
+deployment_in text = said_in (value_of text) (broken_rule text)
+
+-- what an error says of the least broken rule: want of memory says nothing
+abbrev pub Refuses : Option ℕ → ManifestError → Type 0
+Refuses broken (Rejected rule) = broken ≡ Some rule
+Refuses broken OutOfMemory = ⊤
+
+-- a check of rules passed where none is broken
+abbrev pub Judges : {A : Type 0} → Result A ManifestError → Option ℕ → Type 0
+Judges (Ok a) broken = broken ≡ None
+Judges (Err e) broken = Refuses broken e
+
+-- what reading a text as a value gave
+abbrev pub Reads : Result Value ManifestError → Option Data → Type 0
+Reads (Ok v) said = said ≡ Some (view v)
+Reads (Err (Rejected rule)) said = (rule ≡ 2) × (said ≡ None)
+Reads (Err OutOfMemory) said = ⊤

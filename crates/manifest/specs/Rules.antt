@@ -1,0 +1,214 @@
+-- The rules that a manifest keeps, each a test that passes where the rule is kept, and the least that is broken.
+use Rattle.std.specs.Prelude.{ℕ, List, [], ◌∷◌, length, codes, sum_by, Bool, true, false, ◌&&◌, ◌||◌, not, ◌==◌, nat_le, Option, None, Some, option_and_then, is_none, is_some, if◌then◌else◌}
+use Rattle.std.specs.List.{list_all}
+use Rattle.serde_json.specs.Data.{Data}
+use Rattle.serde_json.specs.Find.{get, as_bool, as_str}
+use Rattle.per_base.specs.declared.elements.StoreKind.{StoreKind}
+use Rattle.per_base.specs.declared.elements.StoreKind.TheVariants.{Keys, Files}
+use Rattle.per_base.specs.Names.{is_name}
+use Rattle.deployment_model.specs.Conditions.{overwrites, start_size}
+use Rattle.manifest.specs.Values.{has_only, is_list_of_objects, is_object, is_within, may_be, whole_in}
+use Rattle.manifest.specs.Parts.{Listed, storages, elements, elements_word, all_elements, named, name_in, minimum_in, maximum_in, collection_said, scope_said, strategy_said, redundancy_in, agreeing_in, copies_in, version_in, strategy_in, type_in, initial_in}
+
+-- ---- of the manifest as a whole
+
+unfoldable pub is_an_object : Data → Bool
+is_an_object d = is_object d
+
+unfoldable pub has_version : Data → Bool
+has_version d = is_within 1 4294967295 (version_in d)
+
+unfoldable pub lists_storages : Data → Bool
+lists_storages d = may_be is_list_of_objects (get (codes "keyValueStorages") d) && may_be is_list_of_objects (get (codes "fileStorages") d)
+
+unfoldable pub has_known_members : Data → Bool
+has_known_members d = has_only (codes "version" ∷ codes "keyValueStorages" ∷ codes "fileStorages" ∷ []) d
+
+unfoldable pub has_few_storages : Data → Bool
+has_few_storages d = nat_le (length (storages d)) 16
+
+-- ---- of the storages
+
+abbrev pub storage_words : StoreKind → List (List ℕ)
+storage_words kind = codes "name" ∷ codes "minimumSustainedSize" ∷ codes "maximumAllowedSize" ∷ codes "updateStrategy" ∷ codes "readOnly" ∷ codes "redundancy" ∷ elements_word kind ∷ []
+
+unfoldable pub has_storage_members : Listed → Bool
+has_storage_members s = has_only (storage_words s.0) s.1
+
+unfoldable pub storages_have_known_members : List Listed → Bool
+storages_have_known_members ss = list_all has_storage_members ss
+
+unfoldable pub is_named : Listed → Bool
+is_named l = is_name (name_in l.1)
+
+unfoldable pub are_named : List Listed → Bool
+are_named ls = list_all is_named ls
+
+-- of things with one name only one is found by it, so there are as many by their names as in the list where no two have the same
+unfoldable pub names_differ : List Listed → Bool
+names_differ ls = length (named ls) == length ls
+
+abbrev pub has_size : ℕ → Data → Bool
+has_size least d = is_within least 4194304 (whole_in (Some d))
+
+unfoldable pub has_sizes : Listed → Bool
+has_sizes s = may_be (has_size 0) (get (codes "minimumSustainedSize") s.1) && may_be (has_size 1) (get (codes "maximumAllowedSize") s.1)
+
+unfoldable pub sizes_are_in_range : List Listed → Bool
+sizes_are_in_range ss = list_all has_sizes ss
+
+unfoldable pub has_minimum_below : Listed → Bool
+has_minimum_below s = nat_le (minimum_in s.1) (maximum_in s.1)
+
+unfoldable pub minimums_are_below : List Listed → Bool
+minimums_are_below ss = list_all has_minimum_below ss
+
+unfoldable pub maximums_fit_together : List Listed → Bool
+maximums_fit_together ss = nat_le (sum_by (λ (s : Listed). maximum_in s.1) ss) 16777216
+
+abbrev pub says_collection : Data → Bool
+says_collection d = is_some (option_and_then collection_said (as_str d))
+
+unfoldable pub has_collection_strategy : Listed → Bool
+has_collection_strategy s = may_be says_collection (get (codes "updateStrategy") s.1)
+
+unfoldable pub collections_have_strategies : List Listed → Bool
+collections_have_strategies ss = list_all has_collection_strategy ss
+
+abbrev pub is_bool : Data → Bool
+is_bool d = is_some (as_bool d)
+
+unfoldable pub says_read_only : Listed → Bool
+says_read_only s = may_be is_bool (get (codes "readOnly") s.1)
+
+unfoldable pub read_only_is_said : List Listed → Bool
+read_only_is_said ss = list_all says_read_only ss
+
+abbrev pub says_scope : Data → Bool
+says_scope d = is_some (option_and_then scope_said (as_str d))
+
+abbrev pub is_redundancy : Data → Bool
+is_redundancy r = is_object r && has_only (codes "m" ∷ codes "n" ∷ codes "scope" ∷ []) r && may_be says_scope (get (codes "scope") r)
+
+unfoldable pub has_redundancy : Listed → Bool
+has_redundancy s = may_be is_redundancy (redundancy_in s.1)
+
+unfoldable pub redundancies_are_objects : List Listed → Bool
+redundancies_are_objects ss = list_all has_redundancy ss
+
+-- at least one copy has to agree, no more than there are, and there are at most 7
+abbrev pub are_counts : Option ℕ → Option ℕ → Bool
+are_counts (Some m) (Some n) = nat_le 1 m && nat_le m n && nat_le n 7
+are_counts m n = false
+
+abbrev pub says_counts : Data → Bool
+says_counts r = are_counts (agreeing_in r) (copies_in r)
+
+unfoldable pub has_counts : Listed → Bool
+has_counts s = may_be says_counts (redundancy_in s.1)
+
+unfoldable pub redundancies_have_counts : List Listed → Bool
+redundancies_have_counts ss = list_all has_counts ss
+
+-- ---- of the elements
+
+unfoldable pub has_few_elements : Listed → Bool
+has_few_elements s = may_be is_list_of_objects (get (elements_word s.0) s.1) && nat_le (length (elements s)) 1024
+
+unfoldable pub elements_are_few : List Listed → Bool
+elements_are_few ss = list_all has_few_elements ss
+
+abbrev pub element_words : StoreKind → List (List ℕ)
+element_words Keys = codes "name" ∷ codes "type" ∷ codes "initial" ∷ codes "updateStrategy" ∷ []
+element_words Files = codes "name" ∷ codes "initial" ∷ codes "updateStrategy" ∷ []
+
+unfoldable pub has_element_members : Listed → Bool
+has_element_members e = has_only (element_words e.0) e.1
+
+unfoldable pub elements_have_known_members : List Listed → Bool
+elements_have_known_members es = list_all has_element_members es
+
+-- no two elements of a storage have the same name
+unfoldable pub has_different_elements : Listed → Bool
+has_different_elements s = names_differ (elements s)
+
+unfoldable pub elements_differ : List Listed → Bool
+elements_differ ss = list_all has_different_elements ss
+
+unfoldable pub has_type : Listed → Bool
+has_type (Keys, d) = is_some (type_in d)
+has_type (Files, d) = true
+
+unfoldable pub keys_have_types : List Listed → Bool
+keys_have_types es = list_all has_type es
+
+unfoldable pub may_start : Listed → Bool
+may_start e = is_none (get (codes "initial") e.1) || is_some (initial_in e)
+
+unfoldable pub initials_are_read : List Listed → Bool
+initials_are_read es = list_all may_start es
+
+abbrev pub says_strategy : Data → Bool
+says_strategy d = is_some (option_and_then strategy_said (as_str d))
+
+unfoldable pub has_strategy : Listed → Bool
+has_strategy e = may_be says_strategy (get (codes "updateStrategy") e.1) && (not (overwrites (strategy_in e.1)) || is_some (get (codes "initial") e.1))
+
+unfoldable pub elements_have_strategies : List Listed → Bool
+elements_have_strategies es = list_all has_strategy es
+
+unfoldable pub initial_size : Listed → ℕ
+initial_size e = start_size (name_in e.1) (initial_in e)
+
+-- every element with an initial content counts, whatever an update does with it
+unfoldable pub has_room : Listed → Bool
+has_room s = nat_le (sum_by initial_size (elements s)) (maximum_in s.1)
+
+unfoldable pub initials_fit : List Listed → Bool
+initials_fit ss = list_all has_room ss
+
+-- ---- in order
+
+abbrev pub first_broken : {A : Type 0} → List (ℕ × (A → Bool)) → A → Option ℕ
+first_broken [] a = None
+first_broken (rule ∷ rules) a = if rule.1 a then first_broken rules a else Some rule.0
+
+-- rules 1 and 2 are of the text: it has at most 65,536 bytes, and it is read as a JSON value
+abbrev pub whole_rules : List (ℕ × (Data → Bool))
+whole_rules = (3, is_an_object)
+    ∷ (4, has_version)
+    ∷ (5, lists_storages)
+    ∷ (6, has_known_members)
+    ∷ (7, has_few_storages)
+    ∷ []
+
+abbrev pub storage_rules : List (ℕ × (List Listed → Bool))
+storage_rules = (8, storages_have_known_members)
+    ∷ (9, are_named)
+    ∷ (10, names_differ)
+    ∷ (11, sizes_are_in_range)
+    ∷ (12, minimums_are_below)
+    ∷ (13, maximums_fit_together)
+    ∷ (14, collections_have_strategies)
+    ∷ (15, read_only_is_said)
+    ∷ (16, redundancies_are_objects)
+    ∷ (17, redundancies_have_counts)
+    ∷ (18, elements_are_few)
+    ∷ []
+
+abbrev pub element_rules : List (ℕ × (List Listed → Bool))
+element_rules = (19, λ ss. elements_have_known_members (all_elements ss))
+    ∷ (20, λ ss. are_named (all_elements ss) && elements_differ ss)
+    ∷ (21, λ ss. keys_have_types (all_elements ss))
+    ∷ (22, λ ss. initials_are_read (all_elements ss))
+    ∷ (23, λ ss. elements_have_strategies (all_elements ss))
+    ∷ (24, initials_fit)
+    ∷ []
+
+abbrev pub or_else : Option ℕ → Option ℕ → Option ℕ
+or_else None later = later
+or_else (Some rule) later = Some rule
+
+-- the least rule that a value breaks
+unfoldable pub least_broken : Data → Option ℕ
+least_broken d = or_else (first_broken whole_rules d) (or_else (first_broken storage_rules (storages d)) (first_broken element_rules (storages d)))

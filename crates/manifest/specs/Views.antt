@@ -1,0 +1,16 @@
+-- What stands for a part of a manifest: its kind and the value that it is.
+use Rattle.std.specs.Prelude.{ℕ, List, map}
+use denote.Ref.{Bor}
+use Rattle.serde_json.specs.View.{view}
+use Rattle.manifest.specs.declared.parts.Listed.{Listed as Part}
+use Rattle.manifest.specs.Parts.{Listed}
+
+abbrev pub listed_view : Part → Listed
+listed_view p = (p.kind, view p.value.now)
+
+abbrev pub listed_views : List Part → List Listed
+listed_views ps = map listed_view ps
+
+-- things by their names
+abbrev pub named_views : List (Bor (List ℕ) × Part) → List (List ℕ × Listed)
+named_views es = map (λ e. (e.0.now, listed_view e.1)) es

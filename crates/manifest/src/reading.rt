@@ -1,0 +1,77 @@
+//! Reading a manifest.
+
+ghost use Rattle.std.specs.Prelude.{◌≡◌, None, Some, IfErr, IfOk, OnOk};
+ghost use Rattle.serde_json.specs.View.{view};
+ghost use Rattle.deployment_model.specs.Conditions.{IsDeployment};
+ghost use Rattle.deployment_model.specs.Data.{deployment_data};
+ghost use Rattle.manifest.specs.Contents.{deployment_said};
+ghost use Rattle.manifest.specs.Reading.{Judges, Reads, Refuses, broken_rule, deployment_in, value_of};
+ghost use Rattle.manifest.specs.Rules.{least_broken};
+
+use crate::building::deployment_said;
+use crate::element_rules::check_elements;
+use crate::errors::ManifestError;
+use crate::parts::storages_of;
+use crate::storage_rules::check_storages;
+use crate::whole_rules::check_whole;
+use deployment_model::Deployment;
+use serde_json::Value;
+use std::alloc::Global;
+
+/// The most bytes of a manifest.
+const MAX_BYTES: usize = 65_536;
+
+/// The deployment that the text of a manifest says.
+///
+/// Errors: `Rejected` with the least rule that the text breaks, exactly where it breaks one; `OutOfMemory`.
+pub fn read_manifest(alloc: Global, bytes: &[u8]) -> Result<Deployment, ManifestError>
+    // the text decides: which rule is the least broken, and which deployment it says where none is
+    ensures rejected { IfErr result (Refuses (broken_rule bytes.now)) }
+    ensures accepted { OnOk result (broken_rule bytes.now ≡ None) }
+    ensures read { IfOk result (λ d. deployment_in bytes.now ≡ Some (deployment_data d)) }
+
+    // what is read keeps what every deployment keeps
+    ensures keeps { IfOk result (λ d. IsDeployment (deployment_data d)) }
+{
+    read_text(alloc, bytes)
+}
+
+#[tactic(auto, unfolding(crate::specs::Reading::broken_rule, crate::specs::Reading::deployment_in))]
+fn read_text(alloc: Global, bytes: &[u8]) -> Result<Deployment, ManifestError>
+    ensures judged { Judges result (broken_rule bytes.now) }
+    ensures said { IfOk result (λ d. deployment_in bytes.now ≡ Some (deployment_data d)) }
+{
+    if bytes.len() > MAX_BYTES {
+        return Err(ManifestError::Rejected(1));
+    }
+    let manifest = value_of(alloc, bytes)?;
+    deployment_of(alloc, &manifest)
+}
+
+/// The value that the text is.
+#[tactic(auto, unfolding(crate::specs::Reading::value_of))]
+fn value_of(alloc: Global, bytes: &[u8]) -> Result<Value, ManifestError>
+    ensures { Reads result (value_of bytes.now) }
+{
+    match Value::from_slice(alloc, bytes) {
+        Ok(value) => Ok(value),
+        Err(error) => {
+            if error.is_memory() {
+                return Err(ManifestError::OutOfMemory);
+            }
+            Err(ManifestError::Rejected(2))
+        }
+    }
+}
+
+#[tactic(auto, unfolding(crate::specs::Rules::least_broken))]
+fn deployment_of(alloc: Global, manifest: &Value) -> Result<Deployment, ManifestError>
+    ensures judged { Judges result (least_broken (view manifest.now)) }
+    ensures said { IfOk result (λ d. deployment_data d ≡ deployment_said (view manifest.now)) }
+{
+    check_whole(manifest)?;
+    let storages = storages_of(alloc, manifest)?;
+    check_storages(alloc, storages.as_slice())?;
+    check_elements(alloc, storages.as_slice())?;
+    Ok(deployment_said(alloc, manifest, storages.as_slice())?)
+}
