@@ -1,0 +1,4 @@
+pub mod Facts
+pub mod Found
+pub mod Levels
+pub mod SameKinds

@@ -1,0 +1,5 @@
+pub mod Chains
+pub mod Rules
+pub mod SameKind
+pub mod Samples
+pub mod Stored
