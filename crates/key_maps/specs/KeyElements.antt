@@ -1,0 +1,75 @@
+-- A key: an element without an info. What lies on the disk is judged: bytes that encode no value are unreadable, and no salvage.
+use Rattle.std.specs.Prelude.{◌≡◌, ℕ, ◌≤◌, List, length, map, Bool, true, false, cond, Option, None, Some, IsTrue, is_some}
+use Rattle.per_base.specs.declared.elements.Content.{Content}
+use Rattle.per_base.specs.declared.elements.Content.TheVariants.{Good, Bad}
+use Rattle.per_base.specs.declared.elements.Element.{Element}
+use Rattle.per_base.specs.declared.elements.Entry.{Entry}
+use Rattle.per_base.specs.Maps.{Map}
+use Rattle.value_model.specs.Encoding.{encoding}
+use Rattle.value_model.specs.Trees.{Tree}
+use Rattle.value_model.specs.Validity.{IsValue}
+use Rattle.value_code.specs.Reading.{decoded}
+
+-- whether the bytes encode a value
+abbrev pub is_encoding : List ℕ → Bool
+is_encoding bytes = is_some (decoded bytes)
+
+-- the bytes and the value are of each other
+pub record IsStored (bytes : List ℕ) (value : Tree) : Type 0 where
+  pub reads : decoded bytes ≡ Some value
+  pub writes : bytes ≡ encoding value
+  pub valid : IsValue value
+
+-- the readable key with this encoding
+abbrev pub key_of : List ℕ → Element
+key_of bytes = record { info = None; len = length bytes; content = Good bytes }
+
+abbrev pub is_readable : Content → Bool
+is_readable (Good bytes) = true
+is_readable (Bad salvage) = false
+
+-- what there is of the content, and the salvage likewise, encodes a value and has this length
+abbrev pub Encodes : Content → ℕ → Type 0
+Encodes (Good bytes) len = IsTrue (is_encoding bytes) × (length bytes ≡ len)
+Encodes (Bad None) len = Unit {0}
+Encodes (Bad (Some salvage)) len = IsTrue (is_encoding salvage) × (length salvage ≡ len)
+
+pub record IsKey (key : Element) : Type 0 where
+  pub plain : key.info ≡ None
+  pub measured : Encodes key.content key.len
+  pub small : key.len ≤ 65536
+
+-- ---- what lies on the disk
+
+abbrev pub element_of : Entry → Element
+element_of entry = record { info = entry.info; len = entry.len; content = entry.content }
+
+abbrev pub judged_salvage : Option (List ℕ) → Option (List ℕ)
+judged_salvage None = None
+judged_salvage (Some salvage) = cond (is_encoding salvage) (Some salvage) None
+
+abbrev pub judged_content : Content → Content
+judged_content (Good bytes) = cond (is_encoding bytes) (Good bytes) (Bad None)
+judged_content (Bad salvage) = Bad (judged_salvage salvage)
+
+abbrev pub judged : Element → Element
+judged element = record element { content = judged_content element.content }
+
+-- what there is of the content, and the salvage likewise, has this length
+abbrev pub HasLength : Content → ℕ → Type 0
+HasLength (Good bytes) len = length bytes ≡ len
+HasLength (Bad None) len = Unit {0}
+HasLength (Bad (Some salvage)) len = length salvage ≡ len
+
+-- an entry of a storage of keys
+pub record IsKeyEntry (entry : Entry) : Type 0 where
+  pub plain : entry.info ≡ None
+  pub measured : HasLength entry.content entry.len
+  pub small : entry.len ≤ 65536
+
+-- the keys that these entries are
+abbrev pub judged_map : List Entry → Map
+judged_map entries = map (λ (e : Entry). (e.name, judged (element_of e))) entries
+
+abbrev pub entry_names : List Entry → List (List ℕ)
+entry_names entries = map (λ (e : Entry). e.name) entries

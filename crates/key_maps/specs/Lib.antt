@@ -1,0 +1,6 @@
+pub mod Cells
+pub mod Changes
+pub mod KeyElements
+pub mod Picked
+pub mod Shown
+pub mod TwoMaps

@@ -1,0 +1,20 @@
+-- The content of a key as that of an element, and what stands in it.
+use Rattle.std.specs.Prelude.{ℕ, List, Option, None, Some}
+use Rattle.per_base.specs.declared.elements.Content.{Content}
+use Rattle.per_base.specs.declared.elements.Content.TheVariants as content
+use Rattle.key_maps.specs.declared.key_elements.KeyContent.{KeyContent}
+use Rattle.key_maps.specs.declared.key_elements.KeyContent.TheVariants.{Good, Bad}
+
+abbrev pub content_of : KeyContent → Content
+content_of (Good stored) = content.Good stored
+content_of (Bad salvage) = content.Bad salvage
+
+-- the encoding of a readable content
+abbrev pub stored_in : Content → Option (List ℕ)
+stored_in (content.Good bytes) = Some bytes
+stored_in (content.Bad salvage) = None
+
+-- the salvage of an unreadable one
+abbrev pub salvage_in : Content → Option (List ℕ)
+salvage_in (content.Good bytes) = None
+salvage_in (content.Bad salvage) = salvage

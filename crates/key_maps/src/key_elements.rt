@@ -1,0 +1,173 @@
+//! Keys, as a session holds them.
+
+ghost use Rattle.std.specs.Prelude.{◌≡◌, ◌≤◌, IfOk, IfSome, IsTrue, None, Some, Option, length, option_copied, is_some};
+ghost use Rattle.per_base.specs.declared.elements.Content.TheVariants.{Bad, Good};
+ghost use Rattle.key_maps.specs.Changes as changes;
+ghost use Rattle.key_maps.specs.Changes.{bytes_of, same_key};
+ghost use Rattle.key_maps.specs.KeyElements.{IsKey, IsKeyEntry, element_of, is_readable, judged, judged_content, judged_salvage, key_of};
+ghost use Rattle.key_maps.specs.Shown.{content_of, salvage_in, stored_in};
+
+use crate::stored::Stored;
+use per_base::{Bytes, Content, Entry};
+use std::alloc::{AllocError, Global};
+use std::marker::Model;
+use value_model::DecodeError;
+
+/// The content of a key.
+#[derive(Drop)]
+pub enum KeyContent {
+    /// The value.
+    Good(Stored),
+    /// Unreadable; the salvage, where there is one that encodes a value.
+    Bad(Option<Stored>),
+}
+
+/// A key: its content, and the length of its encoding in bytes. Contracts see it as an element without an info.
+#[derive(Drop)]
+pub struct KeyElement {
+    len: u32,
+    content: KeyContent,
+}
+
+impl Model for KeyElement {
+    ghost use Rattle.per_base.specs.declared.elements.Element.{Element};
+
+    ghost Value = { Element };
+
+    ghost use Rattle.std.specs.Prelude.{None};
+    ghost use Rattle.key_maps.specs.KeyElements.{IsKey};
+    ghost use Rattle.key_maps.specs.Shown.{content_of};
+
+    ghost view = { λ k. record { info = None; len = k.len; content = content_of k.content } };
+
+    ghost invariant = { λ k. IsKey (record { info = None; len = k.len; content = content_of k.content }) };
+}
+
+impl KeyElement {
+    /// The readable key with this value.
+    pub fn new(stored: Stored) -> KeyElement
+        ensures { result ≡ key_of stored }
+    {
+        KeyElement {
+            len: stored.len(),
+            content: KeyContent::Good(stored),
+        }
+    }
+
+    /// The key that this entry is: bytes that encode no value are unreadable, and no salvage.
+    pub fn judge(alloc: Global, entry: &Entry) -> Result<KeyElement, AllocError>
+        requires { IsKeyEntry entry.now }
+        ensures { IfOk result (λ key. key ≡ judged (element_of entry.now)) }
+    {
+        let content = judge_content(alloc, &entry.content)?;
+        Ok(KeyElement {
+            len: entry.len,
+            content,
+        })
+    }
+
+    /// The length of the encoding, in bytes.
+    pub fn len(&self) -> u32
+        ensures len { result ≡ self.now.len }
+        ensures key { IsKey self.now }
+    {
+        self.len
+    }
+
+    /// Whether the key is readable.
+    pub fn is_readable(&self) -> bool
+        ensures { result ≡ is_readable self.now.content }
+    {
+        matches!(&self.content, KeyContent::Good(_))
+    }
+
+    /// The value of a readable key.
+    pub fn stored(&self) -> Option<&Stored>
+        ensures { option_copied result ≡ stored_in self.now.content }
+    {
+        match &self.content {
+            KeyContent::Good(stored) => Some(stored),
+            KeyContent::Bad(_) => None,
+        }
+    }
+
+    /// Whether two keys are the same: their lengths, and their encodings or salvages.
+    pub fn is_same(&self, other: &KeyElement) -> bool
+        ensures { result ≡ same_key self.now other.now }
+    {
+        self.len == other.len && same_content(&self.content, &other.content)
+    }
+
+    /// A copy of the encoding of a readable key; an unreadable one gives no bytes.
+    pub fn copy_bytes(&self, alloc: Global) -> Result<Bytes, AllocError>
+        ensures { IfOk result (λ bytes. bytes ≡ bytes_of self.now.content) }
+    {
+        match &self.content {
+            KeyContent::Good(stored) => stored.copy_bytes(),
+            KeyContent::Bad(_) => Ok(Bytes::new(Vec::new(alloc))),
+        }
+    }
+
+    /// The salvage of an unreadable key.
+    pub fn salvage(&self) -> Option<&Stored>
+        ensures salvage { option_copied result ≡ salvage_in self.now.content }
+        ensures len { IfSome result (λ salvage. length salvage.now ≡ self.now.len) }
+    {
+        match &self.content {
+            KeyContent::Bad(Some(salvage)) => Some(salvage),
+            _ => None,
+        }
+    }
+}
+
+/// The content that this one is: bytes that encode no value are unreadable, and no salvage.
+fn judge_content(alloc: Global, content: &Content) -> Result<KeyContent, AllocError>
+    ensures { IfOk result (λ judged. content_of judged ≡ judged_content content.now) }
+{
+    match content {
+        Content::Good(bytes) => match read(alloc, bytes.as_slice())? {
+            Some(stored) => Ok(KeyContent::Good(stored)),
+            None => Ok(KeyContent::Bad(None)),
+        },
+        Content::Bad(Some(salvage)) => Ok(KeyContent::Bad(read(alloc, salvage.as_slice())?)),
+        Content::Bad(None) => Ok(KeyContent::Bad(None)),
+    }
+}
+
+/// The value that the bytes encode, where there is one.
+fn read(alloc: Global, bytes: &[u8]) -> Result<Option<Stored>, AllocError>
+    ensures { IfOk result (λ stored. stored ≡ judged_salvage (Some bytes.now)) }
+{
+    match Stored::read(alloc, bytes) {
+        Ok(stored) => Ok(Some(stored)),
+        Err(DecodeError::NotAValue) => Ok(None),
+        Err(DecodeError::OutOfMemory) => Err(AllocError),
+    }
+}
+
+fn same_content(here: &KeyContent, there: &KeyContent) -> bool
+    ensures { result ≡ changes.same_content (content_of here.now) (content_of there.now) }
+{
+    match here {
+        KeyContent::Good(here) => match there {
+            KeyContent::Good(there) => here.as_slice() == there.as_slice(),
+            KeyContent::Bad(_) => false,
+        },
+        KeyContent::Bad(here) => match there {
+            KeyContent::Good(_) => false,
+            KeyContent::Bad(there) => same_salvage(here, there),
+        },
+    }
+}
+
+fn same_salvage(here: &Option<Stored>, there: &Option<Stored>) -> bool
+    ensures { result ≡ changes.same_salvage here.now there.now }
+{
+    match here {
+        Some(here) => match there {
+            Some(there) => here.as_slice() == there.as_slice(),
+            None => false,
+        },
+        None => there.is_none(),
+    }
+}

@@ -1,0 +1,187 @@
+//! The two maps.
+
+ghost use Rattle.std.specs.Prelude.{◌≡◌, ◌<◌, ◌≤◌, ◌↔◌, [], false, IfOk, IsTrue, List, MatchOption, None, OnErr, OnOk, Some, length, option_copied, is_some, ℕ};
+ghost use Rattle.std.specs.Bool.{OnFalse, OnTrue};
+ghost use Rattle.per_base.specs.declared.elements.Element.{Element};
+ghost use Rattle.per_base.specs.Maps.{element_at, has, names_of, size_of, with_element, without};
+ghost use Rattle.key_maps.specs.Changes.{AreChanges};
+ghost use Rattle.key_maps.specs.KeyElements.{is_readable};
+ghost use Rattle.key_maps.specs.TwoMaps.{AreTwoMaps};
+
+use crate::cells::{self, Cell};
+use crate::changes::KeyChange;
+use crate::extents::Extent;
+use crate::key_elements::KeyElement;
+use per_base::{Name, element_size};
+use std::alloc::{AllocError, Global};
+use std::collections::BTreeMap;
+use std::marker::Model;
+
+/// The greatest number of keys of a storage.
+pub const KEYS: usize = 1_024;
+
+/// The greatest number of bytes that a storage may be allowed.
+pub const STORAGE_BYTES: u64 = 4_194_304;
+
+/// What is synchronised, and what is visible. Contracts see both as maps from names to elements.
+#[derive(Drop)]
+pub struct KeyMaps {
+    pub(crate) cells: BTreeMap<Name, Cell>,
+    pub(crate) synced: Extent,
+    pub(crate) visible: Extent,
+}
+
+impl Model for KeyMaps {
+    ghost use Rattle.key_maps.specs.TwoMaps.{TwoMaps};
+
+    ghost Value = { TwoMaps };
+
+    ghost use Rattle.key_maps.specs.Cells.{AreMeasured, synced_map, visible_map};
+
+    ghost view = { λ m. record { synced = synced_map m.cells.entries; visible = visible_map m.cells.entries } };
+
+    ghost invariant = { λ m. AreMeasured m.cells.entries m.synced m.visible };
+}
+
+impl KeyMaps {
+    /// What always holds of the maps.
+    pub fn holds(&self)
+        ensures { AreTwoMaps self.now }
+    {
+        let _size = self.visible.size;
+    }
+
+    /// The visible key of this name.
+    pub fn get(&self, name: &Name) -> Option<&KeyElement>
+        ensures { option_copied result ≡ element_at self.now.visible name.now }
+    {
+        cells::get(&self.cells, name)
+    }
+
+    /// Whether this name is visible, readable or not. Takes no memory.
+    pub fn has(&self, name: &Name) -> bool
+        ensures { result ≡ has self.now.visible name.now }
+    {
+        self.get(name).is_some()
+    }
+
+    /// The number of visible keys. Takes no memory.
+    pub fn count(&self) -> usize
+        ensures count { result ≡ length self.now.visible }
+        ensures few { result ≤ KEYS }
+    {
+        self.visible.count
+    }
+
+    /// The size of the visible map in bytes: names and encodings. Takes no memory.
+    pub fn size(&self) -> u64
+        ensures size { result ≡ size_of self.now.visible }
+        ensures small { result ≤ STORAGE_BYTES }
+    {
+        self.visible.size
+    }
+
+    /// The visible names, ascending.
+    pub fn names(&self, alloc: Global) -> Result<Vec<Name>, AllocError>
+        ensures { IfOk result (λ names. names.items ≡ names_of self.now.visible) }
+    {
+        cells::names(alloc, &self.cells)
+    }
+
+    /// The size of the visible map with a key of this length under this name, in bytes. Takes no memory.
+    pub fn size_with(&self, name: &Name, len: u32) -> u64
+        ensures { (key : Element) → key.len ≡ len → result ≡ size_of (with_element self.now.visible name.now key) }
+    {
+        self.extent_with(name, len).size
+    }
+
+    /// The number and the size of the visible keys with a key of this length under this name.
+    #[tactic(auto, using(crate::proofs::Both::size_set, crate::proofs::Both::size_new, crate::proofs::Both::size_gone, crate::proofs::Both::count_set, crate::proofs::Both::count_new, crate::proofs::Both::visible_sorted))]
+    fn extent_with(&self, name: &Name, len: u32) -> Extent
+        ensures counted { (key : Element) → key.len ≡ len → result.count ≡ length (with_element self.now.visible name.now key) }
+        ensures sized { (key : Element) → key.len ≡ len → result.size ≡ size_of (with_element self.now.visible name.now key) }
+    {
+        match cells::get(&self.cells, name) {
+            Some(old) => Extent {
+                count: self.visible.count,
+                size: self.visible.size - u64::from(old.len()) + u64::from(len),
+            },
+            None => Extent {
+                count: self.visible.count + 1,
+                size: self.visible.size + element_size(name, len),
+            },
+        }
+    }
+
+    /// Puts a readable key under this name. Takes memory only for a name that stands in neither map.
+    pub fn put(&mut self, name: &Name, key: KeyElement) -> Result<(), AllocError>
+        requires readable { IsTrue (is_readable key.content) }
+        requires place { element_at self.old.visible name.now ≡ None → length self.old.visible < KEYS }
+        requires room { size_of (with_element self.old.visible name.now key) ≤ STORAGE_BYTES }
+        ensures ok { OnOk result (self.new ≡ record self.old { visible = with_element self.old.visible name.now key }) }
+        ensures unchanged { OnErr result (self.new ≡ self.old) }
+    {
+        let extent = self.extent_with(name, key.len());
+        cells::put(&mut self.cells, name, key)?;
+        self.visible = extent;
+        Ok(())
+    }
+
+    /// Makes nothing visible under this name, and says whether anything was. Takes no memory.
+    pub fn remove(&mut self, name: &Name) -> bool
+        ensures was { result ≡ has self.old.visible name.now }
+        ensures removed { self.new ≡ record self.old { visible = without self.old.visible name.now } }
+        ensures unchanged { OnFalse result (self.new ≡ self.old) }
+    {
+        let Some(old) = cells::get(&self.cells, name) else {
+            return false;
+        };
+        let extent = Extent {
+            count: self.visible.count - 1,
+            size: self.visible.size - element_size(name, old.len()),
+        };
+        cells::remove(&mut self.cells, name);
+        self.visible = extent;
+        true
+    }
+
+    /// Makes nothing visible at all. Takes no memory.
+    pub fn clear(&mut self)
+        ensures { self.new ≡ record self.old { visible = [] } }
+    {
+        cells::clear(&mut self.cells);
+        self.visible = Extent { count: 0, size: 0 };
+    }
+
+    /// Makes visible what is synchronised. Takes no memory.
+    pub fn discard(&mut self)
+        ensures { self.new ≡ record self.old { visible = self.old.synced } }
+    {
+        cells::discard(&mut self.cells);
+        self.visible = self.synced;
+    }
+
+    /// Makes synchronised what is visible. Takes no memory.
+    pub fn settle(&mut self)
+        ensures { self.new ≡ record self.old { synced = self.old.visible } }
+    {
+        cells::settle(&mut self.cells);
+        self.synced = self.visible;
+    }
+
+    /// Whether the maps differ. Takes no memory.
+    pub fn has_changes(&self) -> bool
+        ensures { (result ≡ false) ↔ (self.now.synced ≡ self.now.visible) }
+    {
+        let _size = self.visible.size;
+        cells::has_changes(&self.cells)
+    }
+
+    /// What a sync hands down: the changes that make the synchronised map into the visible one, exactly where they differ.
+    pub fn changes(&self, alloc: Global) -> Result<Vec<(Name, KeyChange)>, AllocError>
+        ensures { IfOk result (λ changes. AreChanges changes.items self.now.synced self.now.visible) }
+    {
+        let _size = self.visible.size;
+        cells::changes(alloc, &self.cells)
+    }
+}

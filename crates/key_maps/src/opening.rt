@@ -1,0 +1,58 @@
+//! The maps of what lies on the disk.
+
+ghost use Rattle.std.specs.Prelude.{◌≡◌, ◌≤◌, ◌+◌, IfOk, length, sum_by};
+ghost use Rattle.std.specs.List.{All};
+ghost use Rattle.std.specs.List.Sorted.{IsStrictlySortedBy};
+ghost use Rattle.per_base.specs.Maps.{size_of};
+ghost use Rattle.per_base.specs.Names.{name_cmp};
+ghost use Rattle.key_maps.specs.Cells.{opened};
+ghost use Rattle.key_maps.specs.KeyElements.{IsKeyEntry, entry_names, judged_map};
+
+use crate::cells::{Cell, Pending, add};
+use crate::extents::Extent;
+use crate::key_elements::KeyElement;
+use crate::maps::{KEYS, KeyMaps, STORAGE_BYTES};
+use per_base::{Entry, Name, storage_size};
+use std::alloc::{AllocError, Global};
+use std::collections::BTreeMap;
+
+impl KeyMaps {
+    /// The maps of the keys that these entries are: each is judged, and nothing is pending.
+    #[tactic(auto, using(crate::proofs::Opened::opened_synced, crate::proofs::Opened::opened_visible, crate::proofs::Opened::opened_measured, crate::proofs::Opened::judged_size))]
+    pub fn new(alloc: Global, entries: &[Entry]) -> Result<KeyMaps, AllocError>
+        requires keys { All IsKeyEntry entries.now }
+        requires ordered { IsStrictlySortedBy name_cmp (entry_names entries.now) }
+        requires few { length entries.now ≤ KEYS }
+        requires small { size_of (judged_map entries.now) ≤ STORAGE_BYTES }
+        ensures { IfOk result (λ maps. maps ≡ record { synced = judged_map entries.now; visible = judged_map entries.now }) }
+    {
+        let cells = cells_of(alloc, entries)?;
+        let extent = Extent {
+            count: entries.len(),
+            size: storage_size(entries),
+        };
+        Ok(KeyMaps {
+            cells,
+            synced: extent,
+            visible: extent,
+        })
+    }
+}
+
+#[tactic(auto, using(crate::proofs::Opened::opened_more))]
+fn cells_of(alloc: Global, entries: &[Entry]) -> Result<BTreeMap<Name, Cell>, AllocError>
+    requires keys { All IsKeyEntry entries.now }
+    requires ordered { IsStrictlySortedBy name_cmp (entry_names entries.now) }
+    ensures { IfOk result (λ cells. cells.entries ≡ opened entries.now) }
+{
+    let mut cells = BTreeMap::new(alloc);
+    for entry in entries {
+        let key = KeyElement::judge(alloc, entry)?;
+        let cell = Cell {
+            synced: Some(key),
+            pending: Pending::Same,
+        };
+        add(&mut cells, &entry.name, cell)?;
+    }
+    Ok(cells)
+}
