@@ -1,0 +1,12 @@
+-- Answers of calls: refusals in their order, and an answer that may be want of memory.
+use Rattle.std.specs.Prelude.{◌≡◌, ◌≢◌, Bool, cond, Result, Err}
+use Rattle.per_base.specs.declared.errors.PerError.{PerError}
+use Rattle.per_base.specs.declared.errors.PerError.TheVariants.{OutOfMemory}
+
+-- refused where the test holds, and otherwise the rest
+abbrev pub refuse : {A : Type 0} → Bool → PerError → Result A PerError → Result A PerError
+refuse test error rest = cond test (Err error) rest
+
+-- the error is the one that is due, but for want of memory, which may come at any time
+abbrev pub IsRefusal : {A : Type 0} → Result A PerError → PerError → Type 0
+IsRefusal due error = error ≢ OutOfMemory → due ≡ Err error

@@ -1,0 +1,96 @@
+//! Reading keys.
+
+ghost use Rattle.std.specs.Prelude.{◌≡◌, ◌≢◌, IfErr, IfOk};
+ghost use Rattle.per_base.specs.declared.errors.Unit.TheVariants.{Part};
+ghost use Rattle.per_base.specs.Maps.{has, names_of, size_of};
+ghost use Rattle.value_model.specs.Validity.{IsValue};
+ghost use Rattle.kvs_core.specs.Calls as calls;
+ghost use Rattle.kvs_core.specs.Refusals.{IsRefusal};
+
+use crate::session::KeySession;
+use crate::typing::has_type;
+use per_base::{Name, PerError, Unit};
+use per_value::PerValue;
+use value_model::Value;
+
+impl KeySession {
+    /// Whether this name is visible, readable or not. Takes no memory.
+    pub fn key_exists(&self, name: &Name) -> bool
+        ensures { result ≡ has self.now.visible name.now }
+    {
+        self.maps.has(name)
+    }
+
+    /// The visible names, ascending.
+    ///
+    /// Errors: `OutOfMemory` alone.
+    pub fn all_keys(&self) -> Result<Vec<Name>, PerError>
+        ensures names { IfOk result (λ names. names.items ≡ names_of self.now.visible) }
+        ensures memory { IfErr result (λ error. error ≡ PerError.OutOfMemory) }
+    {
+        match self.maps.names(self.alloc) {
+            Ok(names) => Ok(names),
+            Err(_) => Err(PerError::OutOfMemory),
+        }
+    }
+
+    /// The size of the visible map in bytes: names and encodings, readable or not. Takes no memory.
+    pub fn current_size(&self) -> u64
+        ensures { result ≡ size_of self.now.visible }
+    {
+        self.maps.size()
+    }
+
+    /// The value of a key.
+    ///
+    /// Errors: `KeyNotFound` where it is not visible; `IntegrityCorrupted` where it is unreadable; `OutOfMemory`.
+    #[tactic(auto, using(crate::proofs::Contents::read_stored, crate::proofs::Contents::read_bad))]
+    pub fn get_any(&self, name: &Name) -> Result<&Value, PerError>
+        ensures ok { IfOk result (λ value. calls.get_any self.now.config self.now.visible name.now ≡ Ok value.now) }
+        ensures valid { IfOk result (λ value. IsValue value.now) }
+        ensures refused { IfErr result (λ error. IsRefusal (calls.get_any self.now.config self.now.visible name.now) error) }
+    {
+        let Some(key) = self.maps.get(name) else {
+            return Err(PerError::KeyNotFound);
+        };
+        match key.stored() {
+            Some(stored) => Ok(stored.value()),
+            None => Err(self.corrupted(name)),
+        }
+    }
+
+    /// The thing of a Rust type that a key's value is.
+    ///
+    /// Errors: those of `get_any`; `DataTypeMismatch` with the stored and the asked type where they differ; `OutOfMemory`.
+    pub fn get_value<T: PerValue>(&self, name: &Name) -> Result<T, PerError>
+        ensures ok { IfOk result (λ thing. calls.get_as self.now.config self.now.visible name.now T.kind ≡ Ok (T.tree thing)) }
+        ensures refused { IfErr result (λ error. IsRefusal (calls.get_as self.now.config self.now.visible name.now T.kind) error) }
+    {
+        let value = self.get_any(name)?;
+        let Ok(asked) = T::type_of(self.alloc) else {
+            return Err(PerError::OutOfMemory);
+        };
+        if !has_type(value, &asked) {
+            return Err(self.differs(value, &asked));
+        }
+        match T::from_value(self.alloc, value) {
+            Ok(thing) => Ok(thing),
+            Err(_) => Err(PerError::OutOfMemory),
+        }
+    }
+
+    /// The refusal of an unreadable key.
+    pub(crate) fn corrupted(&self, name: &Name) -> PerError
+        ensures { result ≢ PerError.OutOfMemory → result ≡ PerError.IntegrityCorrupted (Part self.now.config.name name.now) }
+    {
+        let Ok(storage) = self.config.name.copy() else {
+            return PerError::OutOfMemory;
+        };
+        let Ok(key) = name.copy() else {
+            return PerError::OutOfMemory;
+        };
+        PerError::IntegrityCorrupted {
+            unit: Unit::Part(storage, key),
+        }
+    }
+}

@@ -1,0 +1,153 @@
+//! Writing and removing keys.
+
+ghost use Rattle.std.specs.Prelude.{◌≡◌, ◌<◌, ◌≤◌, IfErr, IsTrue, None, OnErr, OnOk, length};
+ghost use Rattle.per_base.specs.Maps.{element_at, size_of, with_element};
+ghost use Rattle.value_model.specs.Encoding.{encoding};
+ghost use Rattle.key_maps.specs.KeyElements.{is_readable, key_of};
+ghost use Rattle.kvs_core.specs.Calls as calls;
+ghost use Rattle.kvs_core.specs.Refusals.{IsRefusal};
+
+use crate::session::KeySession;
+use key_maps::{KEYS, KeyElement, Stored};
+use per_base::{Limit, Name, PerError};
+use per_value::PerValue;
+use std::mem;
+use value_model::{Value, ValueError};
+
+impl KeySession {
+    /// Makes a value visible under a name.
+    ///
+    /// Errors: `IllegalWriteAccess` where the storage is read-only; `DataTypeMismatch` where the value's type differs from the
+    /// configured one, or for a key that is not configured from that of its visible readable value; `LimitReached` with `Elements`
+    /// where the name is not visible and 1,024 are; `OutOfStorageSpace` where the visible size would exceed the maximum, with both
+    /// numbers; `OutOfMemory`.
+    pub fn set_any(&mut self, name: &Name, value: Value) -> Result<(), PerError>
+        ensures ok { OnOk result (calls.set_any self.old.config self.old.visible name.now value ≡ Ok self.new.visible) }
+        ensures refused { IfErr result (λ error. IsRefusal (calls.set_any self.old.config self.old.visible name.now value) error) }
+        ensures beside { self.new ≡ record self.old { visible = self.new.visible } }
+        ensures unchanged { OnErr result (self.new ≡ self.old) }
+    {
+        if let Err(error) = self.check_value(name, &value) {
+            mem::drop(value);
+            return Err(error);
+        }
+        self.write(name, value)
+    }
+
+    /// Makes the value of a Rust thing visible under a name.
+    ///
+    /// Errors: `LimitReached` with `ValueDepth` or `ValueBytes` where the value is too deep or too long; then as `set_any`.
+    pub fn set_value<T: PerValue>(&mut self, name: &Name, value: &T) -> Result<(), PerError>
+        ensures ok { OnOk result (calls.set_value self.old.config self.old.visible name.now (T.tree value.now) ≡ Ok self.new.visible) }
+        ensures refused { IfErr result (λ error. IsRefusal (calls.set_value self.old.config self.old.visible name.now (T.tree value.now)) error) }
+        ensures beside { self.new ≡ record self.old { visible = self.new.visible } }
+        ensures unchanged { OnErr result (self.new ≡ self.old) }
+    {
+        match value.to_value(self.alloc) {
+            Ok(value) => self.set_any(name, value),
+            Err(ValueError::TooDeep) => Err(PerError::LimitReached {
+                which: Limit::ValueDepth,
+            }),
+            Err(ValueError::TooLong) => Err(PerError::LimitReached {
+                which: Limit::ValueBytes,
+            }),
+            Err(_) => Err(PerError::OutOfMemory),
+        }
+    }
+
+    /// Makes nothing visible under a name.
+    ///
+    /// Errors: `IllegalWriteAccess` where the storage is read-only; `KeyNotFound` where the name is not visible. Takes no memory.
+    pub fn remove_key(&mut self, name: &Name) -> Result<(), PerError>
+        ensures ok { OnOk result (calls.remove_key self.old.config self.old.visible name.now ≡ Ok self.new.visible) }
+        ensures refused { IfErr result (λ error. calls.remove_key self.old.config self.old.visible name.now ≡ Err error) }
+        ensures beside { self.new ≡ record self.old { visible = self.new.visible } }
+        ensures unchanged { OnErr result (self.new ≡ self.old) }
+    {
+        if self.config.read_only {
+            return Err(PerError::IllegalWriteAccess);
+        }
+        if !self.maps.remove(name) {
+            return Err(PerError::KeyNotFound);
+        }
+        Ok(())
+    }
+
+    /// Makes nothing visible at all.
+    ///
+    /// Errors: `IllegalWriteAccess` where the storage is read-only. Takes no memory.
+    pub fn remove_all_keys(&mut self) -> Result<(), PerError>
+        ensures ok { OnOk result (calls.remove_all_keys self.old.config self.old.visible ≡ Ok self.new.visible) }
+        ensures refused { IfErr result (λ error. calls.remove_all_keys self.old.config self.old.visible ≡ Err error) }
+        ensures beside { self.new ≡ record self.old { visible = self.new.visible } }
+        ensures unchanged { OnErr result (self.new ≡ self.old) }
+    {
+        if self.config.read_only {
+            return Err(PerError::IllegalWriteAccess);
+        }
+        self.maps.clear();
+        Ok(())
+    }
+
+    /// Puts a value under a name, where there is a place and room for it.
+    fn write(&mut self, name: &Name, value: Value) -> Result<(), PerError>
+        ensures ok { OnOk result (calls.placed self.old.config self.old.visible name.now (encoding value) ≡ Ok self.new.visible) }
+        ensures refused { IfErr result (λ error. IsRefusal (calls.placed self.old.config self.old.visible name.now (encoding value)) error) }
+        ensures beside { self.new ≡ record self.old { visible = self.new.visible } }
+        ensures unchanged { OnErr result (self.new ≡ self.old) }
+    {
+        match Stored::new(self.alloc, value) {
+            Ok(stored) => self.place(name, stored),
+            Err(_) => Err(PerError::OutOfMemory),
+        }
+    }
+
+    /// Puts an encoding under a name, where there is a place and room for it.
+    pub(crate) fn place(&mut self, name: &Name, stored: Stored) -> Result<(), PerError>
+        ensures ok { OnOk result (calls.placed self.old.config self.old.visible name.now stored ≡ Ok self.new.visible) }
+        ensures refused { IfErr result (λ error. IsRefusal (calls.placed self.old.config self.old.visible name.now stored) error) }
+        ensures beside { self.new ≡ record self.old { visible = self.new.visible } }
+        ensures unchanged { OnErr result (self.new ≡ self.old) }
+    {
+        if !self.maps.has(name) && self.maps.count() >= KEYS {
+            return Err(PerError::LimitReached {
+                which: Limit::Elements,
+            });
+        }
+        self.fit(name, stored)
+    }
+
+    /// Puts an encoding under a name that has a place, where there is room for it.
+    pub(crate) fn fit(&mut self, name: &Name, stored: Stored) -> Result<(), PerError>
+        requires { element_at self.old.visible name.now ≡ None → length self.old.visible < KEYS }
+        ensures ok { OnOk result (calls.with_room self.old.config (with_element self.old.visible name.now (key_of stored)) ≡ Ok self.new.visible) }
+        ensures refused { IfErr result (λ error. IsRefusal (calls.with_room self.old.config (with_element self.old.visible name.now (key_of stored))) error) }
+        ensures beside { self.new ≡ record self.old { visible = self.new.visible } }
+        ensures unchanged { OnErr result (self.new ≡ self.old) }
+    {
+        let key = KeyElement::new(stored);
+        let needed = self.maps.size_with(name, key.len());
+        if needed > self.config.maximum {
+            return Err(PerError::OutOfStorageSpace {
+                needed,
+                allowed: self.config.maximum,
+            });
+        }
+        self.put(name, key)
+    }
+
+    /// Puts a readable key for which there is a place and room.
+    pub(crate) fn put(&mut self, name: &Name, key: KeyElement) -> Result<(), PerError>
+        requires readable { IsTrue (is_readable key.content) }
+        requires place { element_at self.old.visible name.now ≡ None → length self.old.visible < KEYS }
+        requires room { size_of (with_element self.old.visible name.now key) ≤ self.old.config.maximum }
+        ensures ok { OnOk result (self.new ≡ record self.old { visible = with_element self.old.visible name.now key }) }
+        ensures memory { IfErr result (λ error. error ≡ PerError.OutOfMemory) }
+        ensures unchanged { OnErr result (self.new ≡ self.old) }
+    {
+        match self.maps.put(name, key) {
+            Ok(()) => Ok(()),
+            Err(_) => Err(PerError::OutOfMemory),
+        }
+    }
+}
