@@ -1,0 +1,4 @@
+pub mod Entrywise
+pub mod Supported
+pub mod Finding
+pub mod Viewing

@@ -1,0 +1,84 @@
+-- The text at which a storage opens, or else the first that fits, and what reading tells of it.
+use Rattle.std.specs.Prelude.{◌≡◌, ◌<◌, ◌+◌, ◌&&◌, ℕ, List, [], ◌∷◌, length, Bool, true, false, Option, Some, None, find}
+use Rattle.std.specs.List.{list_all}
+use Rattle.per_base.specs.declared.elements.Content.{Content}
+use Rattle.per_base.specs.declared.elements.Content.TheVariants.{Good, Bad}
+use Rattle.per_base.specs.declared.elements.Entry.{Entry}
+use Rattle.disk_model.specs.declared.place.Place.{Place}
+use Rattle.disk_model.specs.Image.{Image}
+use Rattle.disk_model.specs.Orders.{named_in}
+use Rattle.guarded_cell.specs.Seens.{IsSealable}
+use Rattle.block_files.specs.BlockSets.{Ascend}
+use Rattle.block_files.specs.Contents.{AreCopies}
+use Rattle.index_text.specs.declared.entries.Index.{Index}
+use Rattle.index_text.specs.declared.entries.IndexEntry.{IndexEntry}
+use Rattle.index_text.specs.Rules.{IsIndex, InRange, block_count}
+use Rattle.index_text.specs.Sizes.{Fits}
+use Rattle.index_text.specs.Spelling.{index_text}
+use Rattle.element_state.specs.declared.shapes.Shape.{Shape}
+use Rattle.element_state.specs.declared.shapes.View.{View}
+use Rattle.element_state.specs.Fit.{FitText, fit_index, fit_texts}
+use Rattle.element_state.specs.Views.{counts, qualifies}
+use Rattle.element_state.specs.States.{State, Opens, Corrupt}
+
+-- the first text, where there is one
+abbrev pub first_of : List FitText → Option (Bool × FitText)
+first_of [] = None
+first_of (text ∷ texts) = Some (false, text)
+
+abbrev pub or_first : List FitText → Option FitText → Option (Bool × FitText)
+or_first texts None = first_of texts
+or_first texts (Some text) = Some (true, text)
+
+-- the text at which the storage opens, with true, or else the first that fits, with false
+unfoldable pub chosen : Image → Shape → Option (Bool × FitText)
+chosen image shape = or_first (fit_texts shape image) (find (qualifies image shape) (fit_texts shape image))
+
+-- the view at which a state opens
+abbrev pub opened_of : State → Option View
+opened_of (Opens v others) = Some v
+opened_of (Corrupt salvage others) = None
+
+-- ---- what is so of all that is read, whatever the disk tells
+
+-- a value is as long as its entry says
+abbrev pub HasLength : ℕ → Content → Type 0
+HasLength len (Good value) = length value ≡ len
+HasLength len (Bad salvage) = Unit {0}
+
+-- an element that was read by an entry of an index
+pub record IsReadBy (copies : ℕ) (e : IndexEntry) (f : Entry) : Type 0 where
+  pub name : f.name ≡ e.name
+  pub info : f.info ≡ e.info
+  pub changed : f.changed ≡ e.changed
+  pub len : f.len ≡ e.len
+  pub value : HasLength e.len f.content
+  pub lacking : AreCopies copies f.lacking
+  pub ascend : Ascend f.lacking
+
+-- the index that a text spells, which fits
+pub record IsFitIndex (shape : Shape) (text : List ℕ) (index : Index) : Type 0 where
+  pub spelled : text ≡ index_text index
+  pub rules : IsIndex index
+  pub in_range : InRange index
+  pub fits : Fits shape.kind shape.allowed index
+  pub fit : fit_index shape text ≡ Some index
+
+-- a text that fits, and that can be sealed again
+pub record IsFit (shape : Shape) (text : FitText) : Type 0 where
+  pub sealable : IsSealable text.0
+  pub index : IsFitIndex shape text.0.text text.1
+
+-- an entry has a block for each 256 bytes of its content
+abbrev pub HasBlocks : IndexEntry → Type 0
+HasBlocks e = length e.blocks ≡ block_count e.len
+
+-- ---- what is so where the disk tells its bytes
+
+-- the content of an entry counts in each copy that does not lack the element
+abbrev pub Vouches : Image → Place → IndexEntry → Entry → Type 0
+Vouches image place e f = (copy : ℕ) → copy < place.copies → named_in f.lacking (copy + 1) ≡ false → counts image place e copy ≡ true
+
+-- a copy is one of a list, and every content counts in it
+abbrev pub is_whole_of : Image → Place → (holders : List ℕ) → List IndexEntry → (copy : ℕ) → Bool
+is_whole_of image place holders entries copy = named_in holders (copy + 1) && list_all (λ e. counts image place e copy) entries

@@ -1,0 +1,88 @@
+-- What the calls on a storage ask of their callers.
+use Rattle.std.specs.Prelude.{◌≡◌, ◌≤◌, ◌<◌, ◌+◌, ℕ, List, [], length, map, true, Option, Some, None, IsTrue, ⊤, sum_by}
+use Rattle.std.specs.List.{AllByRecursion, IsDistinct}
+use Rattle.std.specs.Str.{bytes_eq}
+use Rattle.std.specs.List.Sorted.{IsStrictlySortedBy}
+use Rattle.per_base.specs.declared.elements.StoreKind.{StoreKind}
+use Rattle.per_base.specs.declared.elements.StoreKind.TheVariants.{Files}
+use Rattle.per_base.specs.declared.elements.Content.{Content}
+use Rattle.per_base.specs.declared.elements.Content.TheVariants.{Good, Bad}
+use Rattle.per_base.specs.declared.elements.Entry.{Entry}
+use Rattle.per_base.specs.declared.elements.Fresh.{Fresh}
+use Rattle.per_base.specs.Names.{name_cmp}
+use Rattle.disk_model.specs.Image.{Image}
+use Rattle.guarded_cell.specs.Register.{IsAlone}
+use Rattle.index_text.specs.declared.entries.Index.{Index}
+use Rattle.index_text.specs.Rules.{has_info, max_len}
+use Rattle.index_text.specs.Spelling.{index_text}
+use Rattle.element_state.specs.declared.shapes.Shape.{Shape}
+use Rattle.element_state.specs.declared.shapes.View.{View}
+use Rattle.element_state.specs.declared.shapes.Change.{Change}
+use Rattle.element_state.specs.declared.shapes.Change.TheVariants.{Put, Remove, Touch}
+use Rattle.element_state.specs.Fit.{fit_index}
+use Rattle.element_state.specs.Views.{entry_view}
+use Rattle.element_state.specs.States.{Opens, store_at, greatest_generation}
+use Rattle.element_state.specs.Changes.{entry_at, after_changes}
+
+-- from one copy to all must agree, and at most 4 MiB are allowed
+pub record IsShape (shape : Shape) : Type 0 where
+  pub some : 1 ≤ shape.m
+  pub enough : shape.m ≤ shape.place.copies
+  pub small : shape.allowed ≤ 4194304
+
+-- an info exactly for files, and no more bytes than the kind allows
+pub record IsFresh (kind : StoreKind) (f : Fresh) : Type 0 where
+  pub info : IsTrue (has_info kind f.info)
+  pub small : length f.bytes ≤ max_len kind
+
+-- names and contents, in bytes
+abbrev pub size_of : List Entry → ℕ
+size_of entries = sum_by (λ (e : Entry). length e.name + e.len) entries
+
+-- the contents of a storage that is to be made: names that ascend, at most 1024, and together within what is allowed
+pub record AreContents (shape : Shape) (contents : List Fresh) : Type 0 where
+  pub each : AllByRecursion (IsFresh shape.kind) contents
+  pub names_ascend : IsStrictlySortedBy name_cmp (map (λ (f : Fresh). f.name) contents)
+  pub few : length contents ≤ 1024
+  pub small : sum_by (λ (f : Fresh). length f.name + length f.bytes) contents ≤ shape.allowed
+
+abbrev pub changed_name : Change → List ℕ
+changed_name (Put f) = f.name
+changed_name (Remove name) = name
+changed_name (Touch name info) = name
+
+-- the entry is there, with a value
+abbrev pub IsGoodEntry : Option Entry → Type 0
+IsGoodEntry None = ⊥
+IsGoodEntry (Some e) = (value : List ℕ) × (e.content ≡ Good value)
+
+-- a change that a storage of this kind with these entries can take: a new info comes for a file that is there and readable
+abbrev pub IsChange : StoreKind → List Entry → Change → Type 0
+IsChange kind entries (Put f) = IsFresh kind f
+IsChange kind entries (Remove name) = ⊤
+IsChange kind entries (Touch name info) = (kind ≡ Files) × IsGoodEntry (entry_at name entries)
+
+-- the changes of a commit: each name once, and what comes of them within the limits
+pub record AreChanges (shape : Shape) (v : View) (changes : List Change) : Type 0 where
+  pub each : AllByRecursion (IsChange shape.kind v.entries) changes
+  pub names_apart : IsDistinct bytes_eq (map changed_name changes)
+  pub few : length (after_changes (v.generation + 1) v.entries changes) ≤ 1024
+  pub small : size_of (after_changes (v.generation + 1) v.entries changes) ≤ shape.allowed
+  pub not_worn : v.generation < greatest_generation
+
+-- ---- a storage in use
+
+-- an element that is good lacks nothing
+abbrev pub IsMended : Content → List ℕ → Type 0
+IsMended (Good value) lacking = lacking ≡ []
+IsMended (Bad salvage) lacking = ⊤
+
+-- A storage in use on this image, with this index and this view: every copy holds the text of the index and no other slot holds any;
+-- the storage opens at this view, with no other text; and only elements that cannot be read lack copies.
+pub record IsInUse (shape : Shape) (image : Image) (index : Index) (v : View) : Type 0 where
+  pub alone : IsAlone image shape.place.first shape.place.copies v.generation (index_text index)
+  pub fit : fit_index shape (index_text index) ≡ Some index
+  pub opens : store_at image shape ≡ Opens v []
+  pub settled : v.settled ≡ true
+  pub entries : v.entries ≡ map (entry_view image shape.place shape.m) index.entries
+  pub mended : AllByRecursion (λ (e : Entry). IsMended e.content e.lacking) v.entries

@@ -1,0 +1,16 @@
+-- What a failure below is to a call on a storage.
+use Rattle.guarded_cell.specs.declared.errors.CellError.{CellError}
+use Rattle.guarded_cell.specs.declared.errors.CellError.TheVariants as cell
+use Rattle.block_files.specs.declared.errors.BlobError.{BlobError}
+use Rattle.block_files.specs.declared.errors.BlobError.TheVariants as blob
+use Rattle.element_state.specs.declared.errors.StoreError.{StoreError}
+use Rattle.element_state.specs.declared.errors.StoreError.TheVariants.{Device, Corrupt, OutOfMemory}
+
+abbrev pub of_cell : CellError → StoreError
+of_cell cell.Device = Device
+of_cell cell.Corrupt = Corrupt
+of_cell cell.OutOfMemory = OutOfMemory
+
+abbrev pub of_blob : BlobError → StoreError
+of_blob blob.Device = Device
+of_blob blob.OutOfMemory = OutOfMemory

@@ -1,0 +1,115 @@
+-- What a stop and damage may leave of a storage, beside its states before and after the call in progress.
+use Rattle.std.specs.Prelude.{◌≡◌, ◌⊎◌, ℕ, ◌+◌, ◌<◌, List, [], ◌∷◌, ◌++◌, map, Option, Some, None, ⊤}
+use Rattle.std.specs.List.{AllZip, AllByRecursion, Contains}
+use Rattle.per_base.specs.declared.elements.Scope.TheVariants as scope
+use Rattle.per_base.specs.declared.elements.FileInfo.{FileInfo}
+use Rattle.per_base.specs.declared.elements.Content.{Content}
+use Rattle.per_base.specs.declared.elements.Content.TheVariants.{Good, Bad}
+use Rattle.per_base.specs.declared.elements.Entry.{Entry}
+use Rattle.disk_model.specs.Image.{Image}
+use Rattle.disk_model.specs.Case.{Case}
+use Rattle.disk_model.specs.Damage.{IsSoundFor, DecaysFor, IsUndamaged, AtLeast}
+use Rattle.disk_model.specs.Medium.{Medium, Quiet, EachCase}
+use Rattle.element_state.specs.declared.shapes.Shape.{Shape}
+use Rattle.element_state.specs.declared.shapes.View.{View}
+use Rattle.element_state.specs.States.{State, Opens, Corrupt, store_at, salvage_of, others_of}
+use Rattle.element_state.specs.Clean.{IsPiece, IsClean}
+
+-- ---- views beside one another
+
+-- all that is known of an element but its content: name, info, length and number of the last change
+abbrev pub heading : Entry → List ℕ × Option FileInfo × ℕ × ℕ
+heading e = (e.name, e.info, e.len, e.changed)
+
+-- the same generation, and elements of the same headings
+pub record SameHeadings (v w : View) : Type 0 where
+  pub generation : v.generation ≡ w.generation
+  pub entries : map heading v.entries ≡ map heading w.entries
+
+-- a content that may be left of another: the same value, a salvage of the same bytes, or nothing
+abbrev pub IsLeftOf : (left there : Content) → Type 0
+IsLeftOf (Good value) there = there ≡ Good value
+IsLeftOf (Bad None) there = ⊤
+IsLeftOf (Bad (Some salvage)) there = (there ≡ Good salvage) ⊎ (there ≡ Bad (Some salvage))
+
+-- a view that may be left of another
+pub record IsFrom (left there : View) : Type 0 where
+  pub same : SameHeadings left there
+  pub contents : AllZip (λ e f. IsLeftOf e.content f.content) left.entries there.entries
+
+abbrev pub IsFromOneOf : View → List View → Type 0
+IsFromOneOf left [] = ⊥
+IsFromOneOf left (there ∷ views) = IsFrom left there ⊎ IsFromOneOf left views
+
+-- ---- copies that are left
+
+-- the damage spares the copy, counted from 0, and it did not lack what the list speaks of
+abbrev pub IsSpared : Shape → (damaged lacking : List ℕ) → (copy : ℕ) → Type 0
+IsSpared shape damaged lacking copy = IsUndamaged damaged shape.place.first copy × ¬ (Contains lacking (copy + 1))
+
+-- so many copies as must agree are spared and did not lack it
+abbrev pub HasEnough : Shape → (damaged lacking : List ℕ) → Type 0
+HasEnough shape damaged lacking = AtLeast (IsSpared shape damaged lacking) shape.place.copies shape.m
+
+-- an element that was good, with enough copies left of it, is good with the same value; with storage scope the copies of the storage are enough
+abbrev pub KeepsGood : Shape → (damaged : List ℕ) → (left there : View) → Type 0
+KeepsGood shape damaged left there = AllZip (λ e f. (value : List ℕ) → f.content ≡ Good value
+    → (shape.scope ≡ scope.Storage) ⊎ HasEnough shape damaged f.lacking → e.content ≡ Good value) left.entries there.entries
+
+-- an undamaged copy that did not lack a good element does not lack it
+abbrev pub CostsNoCopy : Shape → (damaged : List ℕ) → (left there : View) → Type 0
+CostsNoCopy shape damaged left there = AllZip (λ e f. (value : List ℕ) (copy : ℕ) → f.content ≡ Good value → copy < shape.place.copies
+    → IsSpared shape damaged f.lacking copy → ¬ (Contains e.lacking (copy + 1))) left.entries there.entries
+
+-- ---- what is left of a storage
+
+abbrev pub listed : Option View → List View
+listed None = []
+listed (Some v) = v ∷ []
+
+-- the view that a state opens at or has as salvage, and those of its other texts
+abbrev pub all_views : State → List View
+all_views state = listed (salvage_of state) ++ others_of state
+
+-- the state opens at a view of these headings
+abbrev pub OpensLike : View → State → Type 0
+OpensLike v (Opens w others) = SameHeadings v w
+OpensLike v (Corrupt salvage others) = ⊥
+
+-- it opens at the view of before, or at that of after and then no copy was lost on the way
+abbrev pub StaysAs : Shape → (damaged : List ℕ) → (left before : View) → (after : State) → Type 0
+StaysAs shape damaged left before after =
+    (SameHeadings left before × KeepsGood shape damaged left before)
+    ⊎ (¬ (SameHeadings left before) × (v : View) × (others : List View) × (after ≡ Opens v others)
+    × SameHeadings left v × KeepsGood shape damaged left v × CostsNoCopy shape damaged left v)
+
+-- with enough copies left of a storage that opens, it opens; one that was corrupt opens at most at the view of after
+abbrev pub Stays : Shape → (damaged : List ℕ) → (left before after : State) → Type 0
+Stays shape damaged left (Opens v others) after = HasEnough shape damaged v.lacking
+    → (w : View) × (rest : List View) × (left ≡ Opens w rest) × StaysAs shape damaged w v after
+Stays shape damaged left (Corrupt salvage others) after = (w : View) (rest : List View) → left ≡ Opens w rest → OpensLike w after
+
+-- where both open alike, the stop has cost no copy
+abbrev pub CopiesStay : Shape → (damaged : List ℕ) → (left before : State) → Type 0
+CopiesStay shape damaged (Opens w rest) (Opens v others) = SameHeadings w v → CostsNoCopy shape damaged w v
+CopiesStay shape damaged (Opens w rest) (Corrupt salvage others) = ⊤
+CopiesStay shape damaged (Corrupt salvage others) before = ⊤
+
+-- What a stop and damage leave of a storage that was in one state and on its way to another.
+pub record Kept (shape : Shape) (damaged : List ℕ) (left before after : State) : Type 0 where
+  -- every text that fits, and not only the one that it opens at, stands for something known: later damage may bring it up
+  pub known : AllByRecursion (λ w. IsFromOneOf w (all_views before ++ listed (salvage_of after))) (all_views left)
+  pub stays : Stays shape damaged left before after
+  pub copies : CopiesStay shape damaged left before
+
+-- ---- every moment of a call
+
+-- so it is of each sound case, after each damage, and the place stays clean
+abbrev pub IsKeptCase : Shape → (before after : State) → Case → Type 0
+IsKeptCase shape before after c = IsSoundFor (IsPiece shape.place) c → (damaged : List ℕ) (image : Image)
+    → DecaysFor (IsPiece shape.place) damaged c.left image → Kept shape damaged (store_at image shape) before after × IsClean shape image
+
+-- so it is of every moment since a start at which nothing was pending and the place was clean
+abbrev pub KeptThroughout : Shape → (after : State) → (old new : Medium) → Type 0
+KeptThroughout shape after old new = Quiet old → IsClean shape old.image
+    → EachCase (IsKeptCase shape (store_at old.image shape) after) old new

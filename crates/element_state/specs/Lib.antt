@@ -1,0 +1,13 @@
+pub mod Fit
+pub mod Views
+pub mod States
+pub mod Changes
+pub mod Reports
+pub mod Clean
+pub mod Kept
+pub mod Written
+pub mod Conditions
+pub mod Failures
+pub mod Chosen
+pub mod Surveys
+pub mod Samples

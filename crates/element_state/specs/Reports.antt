@@ -1,0 +1,62 @@
+-- The reports of an opening, in their order.
+use Rattle.std.specs.Prelude.{ℕ, List, [], ◌∷◌, ◌++◌, Bool, false, cond, Option, Some, None}
+use Rattle.std.specs.List.{flat_map, range_with_len}
+use Rattle.per_base.specs.declared.elements.Scope.{Scope}
+use Rattle.per_base.specs.declared.elements.Scope.TheVariants as scope
+use Rattle.per_base.specs.declared.elements.StoreKind.{StoreKind}
+use Rattle.per_base.specs.declared.elements.StoreKind.TheVariants.{Keys, Files}
+use Rattle.per_base.specs.declared.elements.Content.{Content}
+use Rattle.per_base.specs.declared.elements.Content.TheVariants.{Good, Bad}
+use Rattle.per_base.specs.declared.elements.Entry.{Entry}
+use Rattle.per_base.specs.declared.reports.Report.{Report}
+use Rattle.per_base.specs.declared.reports.ReportKind.{ReportKind}
+use Rattle.per_base.specs.declared.reports.ReportKind.TheVariants.{KvsRecovered, KvsFailed, KeyRecovered, KeyFailed, FilesRecovered, FilesFailed, FileRecovered, FileFailed}
+use Rattle.element_state.specs.declared.shapes.Shape.{Shape}
+use Rattle.element_state.specs.declared.shapes.View.{View}
+
+abbrev pub store_recovered : StoreKind → ReportKind
+store_recovered Keys = KvsRecovered
+store_recovered Files = FilesRecovered
+
+abbrev pub store_failed : StoreKind → ReportKind
+store_failed Keys = KvsFailed
+store_failed Files = FilesFailed
+
+abbrev pub element_recovered : StoreKind → ReportKind
+element_recovered Keys = KeyRecovered
+element_recovered Files = FileRecovered
+
+abbrev pub element_failed : StoreKind → ReportKind
+element_failed Keys = KeyFailed
+element_failed Files = FileFailed
+
+abbrev pub report_of : ReportKind → Shape → Option (List ℕ) → List ℕ → Report
+report_of kind shape element copies = record { kind = kind; storage = shape.name; element = element; copies = copies }
+
+-- a report of these copies, and none where there are none
+abbrev pub report_some : ReportKind → Shape → Option (List ℕ) → List ℕ → List Report
+report_some kind shape element [] = []
+report_some kind shape element (copy ∷ copies) = report_of kind shape element (copy ∷ copies) ∷ []
+
+abbrev pub is_readable : (List ℕ → Bool) → Content → Bool
+is_readable test (Good value) = test value
+is_readable test (Bad salvage) = false
+
+-- with storage scope a copy that lacks an element lacks the storage, which is reported once
+abbrev pub recovered_reports : Scope → Shape → Entry → List Report
+recovered_reports scope.Element shape e = report_some (element_recovered shape.kind) shape (Some e.name) e.lacking
+recovered_reports scope.Storage shape e = []
+
+-- an element is readable where its content passes the test
+abbrev pub element_reports : (List ℕ → Bool) → Shape → Entry → List Report
+element_reports test shape e = cond (is_readable test e.content)
+    (recovered_reports shape.scope shape e)
+    (report_of (element_failed shape.kind) shape (Some e.name) e.lacking ∷ [])
+
+-- the reports of an opening that found this view
+unfoldable pub reports : (test : List ℕ → Bool) → Shape → View → List Report
+reports test shape v = report_some (store_recovered shape.kind) shape None v.lacking ++ flat_map (element_reports test shape) v.entries
+
+-- the report of an opening that found the storage corrupt: all its copies
+abbrev pub failed_report : Shape → Report
+failed_report shape = report_of (store_failed shape.kind) shape None (range_with_len 1 shape.place.copies)

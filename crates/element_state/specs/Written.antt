@@ -1,0 +1,59 @@
+-- How many bytes a commit may write.
+use Rattle.std.specs.Prelude.{◌≤◌, ℕ, ◌+◌, ◌*◌, List, [], length, cond, Option, Some, None, sum_by}
+use Rattle.per_base.specs.declared.elements.StoreKind.{StoreKind}
+use Rattle.per_base.specs.declared.elements.StoreKind.TheVariants.{Keys, Files}
+use Rattle.per_base.specs.declared.elements.Content.{Content}
+use Rattle.per_base.specs.declared.elements.Content.TheVariants.{Good, Bad}
+use Rattle.per_base.specs.declared.elements.Entry.{Entry}
+use Rattle.per_base.specs.declared.elements.Element.{Element}
+use Rattle.per_base.specs.Maps.{Map, element_at}
+use Rattle.block_files.specs.Parts.{blocks_for, changed}
+use Rattle.element_state.specs.declared.shapes.Change.{Change}
+use Rattle.element_state.specs.declared.shapes.Change.TheVariants.{Put, Remove, Touch}
+use Rattle.element_state.specs.Changes.{entry_at, same_content}
+
+-- whole blocks for a content
+abbrev pub whole_cost : List ℕ → ℕ
+whole_cost bytes = 256 * blocks_for (length bytes)
+
+-- a file that was good shares its equal blocks; all else is written whole
+abbrev pub cost_over : StoreKind → Content → List ℕ → ℕ
+cost_over Keys old bytes = whole_cost bytes
+cost_over Files (Bad salvage) bytes = whole_cost bytes
+cost_over Files (Good old) bytes = 256 * changed bytes old
+
+abbrev pub cost_beside : StoreKind → Option Content → List ℕ → ℕ
+cost_beside kind None bytes = whole_cost bytes
+cost_beside kind (Some old) bytes = cost_over kind old bytes
+
+abbrev pub content_at : List ℕ → List Entry → Option Content
+content_at name entries = elim (entry_at name entries) [ None ↦ None | Some e ↦ Some e.content ]
+
+abbrev pub change_cost : StoreKind → List Entry → Change → ℕ
+change_cost kind entries (Put f) = cost_beside kind (content_at f.name entries) f.bytes
+change_cost kind entries (Remove name) = 0
+change_cost kind entries (Touch name info) = 0
+
+-- what the contents of a commit cost in each copy, in bytes
+unfoldable pub commit_cost : StoreKind → List Entry → List Change → ℕ
+commit_cost kind entries changes = sum_by (change_cost kind entries) changes
+
+-- ---- the same between two maps of contents
+
+abbrev pub bytes_of : Content → List ℕ
+bytes_of (Good value) = value
+bytes_of (Bad salvage) = []
+
+abbrev pub element_cost : StoreKind → Option Element → Element → ℕ
+element_cost kind None new = whole_cost (bytes_of new.content)
+element_cost kind (Some old) new = cond (same_content old.content new.content) 0 (cost_over kind old.content (bytes_of new.content))
+
+-- the elements whose content is new or differs
+unfoldable pub map_cost : StoreKind → (synced new : Map) → ℕ
+map_cost kind synced new = sum_by (λ e. element_cost kind (element_at synced e.0) e.1) new
+
+-- ---- the bound
+
+-- in each copy the contents, the index text with its head of 44 bytes, and 44 bytes that blank the old one
+abbrev pub IsWithin : (copies contents index before after : ℕ) → Type 0
+IsWithin copies contents index before after = after ≤ before + copies * (contents + index + 88)

@@ -1,0 +1,251 @@
+//! Which of the texts that fit a storage opens at, and its view.
+
+ghost use Rattle.std.specs.Prelude.{◌≡◌, ◌≤◌, ◌+◌, IsTrue, IfOk, IfSome, IsErrOf, length, not, slice_index_or, ◌<◌};
+ghost use Rattle.std.specs.List.{AllByRecursion, AllZip};
+ghost use Rattle.std.specs.Option.{option_map};
+ghost use Rattle.per_base.specs.Causes.{Rose};
+ghost use Rattle.disk_model.specs.Medium.{OnlyReads, Elapses};
+ghost use Rattle.disk_model.specs.Orders.{named_in};
+ghost use Rattle.element_state.specs.Conditions.{IsShape};
+ghost use Rattle.element_state.specs.Fit.{fit_texts};
+ghost use Rattle.element_state.specs.Views.{lacks_one, lacks_number, entries_of, qualifies, store_lacking};
+ghost use Rattle.element_state.specs.Chosen.{chosen, IsFit, IsReadBy};
+ghost use Rattle.element_state.specs.Surveys.{IsAmong, IsFirst, IsFound, IsHeldOn, IsTried, IsViewedOn, text_of, view_by};
+
+use crate::errors::StoreError;
+use crate::reading::read_entries;
+use crate::shapes::{Shape, View};
+use crate::supporting::count_whole;
+use crate::surveying::Found;
+use disk_model::{Disk, Place};
+use guarded_cell::Seen;
+use index_text::Index;
+use per_base::{Entry, Numbers, Scope, Sequence};
+use std::alloc::{AllocError, Global};
+
+// The first text that qualifies, or else the first, with its view.
+pub(crate) fn choose<D: Disk>(
+    alloc: Global,
+    disk: &mut D,
+    shape: &Shape,
+    texts: Vec<(Seen, Index)>,
+) -> Result<Option<Found>, StoreError>
+    requires shape { IsShape shape.now }
+    requires fit { AllByRecursion (IsFit shape.now) texts.items }
+    requires texts { IsTrue D.told → texts.items ≡ fit_texts shape.now (D.medium disk.old).image }
+    requires held { IsTrue D.told → AllByRecursion (IsHeldOn (D.medium disk.old).image shape.now) texts.items }
+    ensures chosen { IsTrue D.told → IfOk result (λ found. option_map text_of found ≡ chosen (D.medium disk.old).image shape.now) }
+    ensures viewed { IsTrue D.told → IfOk result (λ found. IfSome found (IsViewedOn (D.medium disk.old).image shape.now)) }
+    ensures found { IfOk result (λ found. IfSome found (IsFound shape.now)) }
+    ensures reads { OnlyReads (D.medium disk.old) (D.medium disk.new) }
+    ensures time { Elapses (D.medium disk.old) (D.medium disk.new) }
+    ensures never_corrupt { IsErrOf result StoreError.Corrupt → ⊥ }
+    ensures cause { IsErrOf result StoreError.Device → Rose (D.medium disk.old).faults (D.medium disk.new).faults }
+{
+    let settled = texts.len() <= 1;
+    if let Some((at, entries)) = first_qualifying(alloc, disk, shape, &texts)? {
+        let found = found_at(alloc, shape, texts, at, true, settled, entries)?;
+        return Ok(Some(found));
+    }
+    if texts.is_empty() {
+        return Ok(None);
+    }
+    let entries = read_entries(
+        alloc,
+        disk,
+        shape.place,
+        shape.m,
+        texts[0].1.entries.as_slice(),
+    )?;
+    let found = found_at(
+        alloc,
+        shape,
+        texts,
+        0,
+        false,
+        settled,
+        Sequence::new(entries),
+    )?;
+    Ok(Some(found))
+}
+
+// One of the texts, with the view of its elements.
+fn found_at(
+    alloc: Global,
+    shape: &Shape,
+    texts: Vec<(Seen, Index)>,
+    at: usize,
+    opens: bool,
+    settled: bool,
+    entries: Sequence<Entry>,
+) -> Result<Found, AllocError>
+    requires { at < length texts.items }
+    ensures opens { IfOk result (λ found. found.opens ≡ opens) }
+    ensures text { IfOk result (λ found. (found.seen, found.index) ≡ slice_index_or texts.items at (found.seen, found.index)) }
+    ensures view { IfOk result (λ found. found.view ≡ view_by shape.now found.seen settled entries) }
+{
+    let mut texts = texts;
+    let (seen, index) = texts.swap_remove(at);
+    let view = view_of(alloc, shape, &seen, settled, entries)?;
+    Ok(Found {
+        opens,
+        seen,
+        index,
+        view,
+    })
+}
+
+// The first text that qualifies, with its elements.
+fn first_qualifying<D: Disk>(
+    alloc: Global,
+    disk: &mut D,
+    shape: &Shape,
+    texts: &[(Seen, Index)],
+) -> Result<Option<(usize, Sequence<Entry>)>, StoreError>
+    requires shape { IsShape shape.now }
+    requires fit { AllByRecursion (IsFit shape.now) texts.now }
+    requires held { IsTrue D.told → AllByRecursion (IsHeldOn (D.medium disk.old).image shape.now) texts.now }
+    ensures first { IsTrue D.told → IfOk result (λ found. IsFirst (D.medium disk.old).image shape.now texts.now found) }
+    ensures among { IfOk result (λ found. IfSome found (IsAmong shape.now.place.copies texts.now)) }
+    ensures reads { OnlyReads (D.medium disk.old) (D.medium disk.new) }
+    ensures time { Elapses (D.medium disk.old) (D.medium disk.new) }
+    ensures never_corrupt { IsErrOf result StoreError.Corrupt → ⊥ }
+    ensures cause { IsErrOf result StoreError.Device → Rose (D.medium disk.old).faults (D.medium disk.new).faults }
+{
+    for at in 0..texts.len() {
+        let tried = try_text(alloc, disk, shape, &texts[at])?;
+        if let Some(entries) = tried {
+            return Ok(Some((at, entries)));
+        }
+    }
+    Ok(None)
+}
+
+// The elements of a text that qualifies.
+fn try_text<D: Disk>(
+    alloc: Global,
+    disk: &mut D,
+    shape: &Shape,
+    text: &(Seen, Index),
+) -> Result<Option<Sequence<Entry>>, StoreError>
+    requires shape { IsShape shape.now }
+    requires fit { IsFit shape.now text.now }
+    requires held { IsTrue D.told → IsHeldOn (D.medium disk.old).image shape.now text.now }
+    ensures tried { IsTrue D.told → IfOk result (λ tried. IsTried (D.medium disk.old).image shape.now text.now tried) }
+    ensures read { IfOk result (λ tried. IfSome tried (λ entries. AllZip (IsReadBy shape.now.place.copies) text.now.1.entries entries)) }
+    ensures reads { OnlyReads (D.medium disk.old) (D.medium disk.new) }
+    ensures time { Elapses (D.medium disk.old) (D.medium disk.new) }
+    ensures never_corrupt { IsErrOf result StoreError.Corrupt → ⊥ }
+    ensures cause { IsErrOf result StoreError.Device → Rose (D.medium disk.old).faults (D.medium disk.new).faults }
+{
+    let (seen, index) = text;
+    if seen.copies.as_slice().len() < shape.m as usize {
+        return Ok(None);
+    }
+    let entries = read_entries(alloc, disk, shape.place, shape.m, index.entries.as_slice())?;
+    if !is_supported(alloc, disk, shape, seen, index, &entries)? {
+        return Ok(None);
+    }
+    Ok(Some(Sequence::new(entries)))
+}
+
+// Whether a text that enough copies hold qualifies.
+fn is_supported<D: Disk>(
+    alloc: Global,
+    disk: &mut D,
+    shape: &Shape,
+    seen: &Seen,
+    index: &Index,
+    entries: &[Entry],
+) -> Result<bool, StoreError>
+    requires enough { shape.now.m ≤ length seen.now.copies }
+    requires length { length entries.now ≡ length index.now.entries }
+    requires views { IsTrue D.told → entries.now ≡ entries_of (D.medium disk.old).image shape.now (seen.now, index.now) }
+    requires held { IsTrue D.told → IsHeldOn (D.medium disk.old).image shape.now (seen.now, index.now) }
+    ensures qualifies { IsTrue D.told → IfOk result (λ b. b ≡ qualifies (D.medium disk.old).image shape.now (seen.now, index.now)) }
+    ensures reads { OnlyReads (D.medium disk.old) (D.medium disk.new) }
+    ensures time { Elapses (D.medium disk.old) (D.medium disk.new) }
+    ensures never_corrupt { IsErrOf result StoreError.Corrupt → ⊥ }
+    ensures cause { IsErrOf result StoreError.Device → Rose (D.medium disk.old).faults (D.medium disk.new).faults }
+{
+    match shape.scope {
+        Scope::Element => Ok(true),
+        Scope::Storage => {
+            let whole = count_whole(
+                alloc,
+                disk,
+                shape.place,
+                &seen.copies,
+                index.entries.as_slice(),
+                entries,
+            )?;
+            Ok(whole >= shape.m as usize)
+        }
+    }
+}
+
+// The view of a text by its elements.
+fn view_of(
+    alloc: Global,
+    shape: &Shape,
+    seen: &Seen,
+    settled: bool,
+    entries: Sequence<Entry>,
+) -> Result<View, AllocError>
+    ensures { IfOk result (λ view. view ≡ view_by shape.now seen.now settled entries) }
+{
+    let lacking = list_lacking(
+        alloc,
+        shape.place,
+        shape.scope,
+        &seen.copies,
+        entries.as_slice(),
+    )?;
+    Ok(View {
+        generation: seen.generation,
+        lacking,
+        settled,
+        entries,
+    })
+}
+
+// The copies that lack the storage, counted from 1.
+fn list_lacking(
+    alloc: Global,
+    place: Place,
+    scope: Scope,
+    holders: &Numbers,
+    entries: &[Entry],
+) -> Result<Numbers, AllocError>
+    ensures { IfOk result (λ numbers. numbers ≡ store_lacking scope (λ copy. not (named_in holders.now (copy + 1))) entries.now place.copies) }
+{
+    let mut numbers = Vec::new(alloc);
+    for copy in 0..place.copies {
+        if is_lacking(scope, holders, entries, copy + 1) {
+            numbers.push(copy + 1)?;
+        }
+    }
+    Ok(Numbers::new(numbers))
+}
+
+// Whether a copy, counted from 1, lacks the storage.
+fn is_lacking(scope: Scope, holders: &Numbers, entries: &[Entry], number: u32) -> bool
+    ensures { result ≡ lacks_number scope (not (named_in holders.now number)) entries.now number }
+{
+    if !holders.as_slice().contains(&number) {
+        return true;
+    }
+    match scope {
+        Scope::Element => false,
+        Scope::Storage => lacks_one(entries, number),
+    }
+}
+
+// Whether a copy, counted from 1, lacks one of the elements.
+fn lacks_one(entries: &[Entry], number: u32) -> bool
+    ensures { result ≡ lacks_one entries.now number }
+{
+    entries
+        .iter()
+        .any(|entry| entry.lacking.as_slice().contains(&number))
+}

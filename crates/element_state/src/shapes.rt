@@ -1,0 +1,61 @@
+//! A storage as it is configured, as it is seen, and how it is to change.
+
+ghost use Rattle.std.specs.Prelude.{◌≡◌, IfOk};
+
+use disk_model::Place;
+use per_base::{Entry, FileInfo, Fresh, Name, Numbers, Scope, Sequence, StoreKind};
+use std::alloc::AllocError;
+
+/// A storage as a deployment gives it.
+#[derive(Debug, Drop)]
+pub struct Shape {
+    pub name: Name,
+    /// Where its copies lie.
+    pub place: Place,
+    pub kind: StoreKind,
+    /// So many copies must agree.
+    pub m: u32,
+    /// On what they must agree.
+    pub scope: Scope,
+    /// The greatest size, of names and contents, in bytes.
+    pub allowed: u64,
+}
+
+impl Shape {
+    /// A copy that is equal in all.
+    pub fn copy(&self) -> Result<Shape, AllocError>
+        ensures { IfOk result (λ copy. copy ≡ self.now) }
+    {
+        Ok(Shape {
+            name: self.name.copy()?,
+            place: self.place,
+            kind: self.kind,
+            m: self.m,
+            scope: self.scope,
+            allowed: self.allowed,
+        })
+    }
+}
+
+/// What the copies of a storage stand for.
+#[derive(Debug, Drop)]
+pub struct View {
+    pub generation: u64,
+    /// The copies that lack the storage, counted from 1 and ascending.
+    pub lacking: Numbers,
+    /// Whether no second text is held that could be this storage's.
+    pub settled: bool,
+    /// The elements, ascending by name.
+    pub entries: Sequence<Entry>,
+}
+
+/// One change of a commit.
+#[derive(Debug, Drop)]
+pub enum Change {
+    /// A new element, or a new content and info of one.
+    Put(Fresh),
+    /// No such element from now on.
+    Remove(Name),
+    /// A new info of a file.
+    Touch(Name, FileInfo),
+}

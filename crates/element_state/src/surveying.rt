@@ -1,0 +1,126 @@
+//! Finding the text at which a storage opens, and reading it.
+
+ghost use Rattle.std.specs.Prelude.{◌≡◌, IsTrue, IfOk, IfSome, OnOk, IsErrOf};
+ghost use Rattle.std.specs.Option.{option_map};
+ghost use Rattle.per_base.specs.Causes.{Rose};
+ghost use Rattle.disk_model.specs.Medium.{Quiet, IsIdle, Elapses};
+ghost use Rattle.element_state.specs.Conditions.{IsShape};
+ghost use Rattle.element_state.specs.States.{store_at, salvage_of};
+ghost use Rattle.element_state.specs.Chosen.{chosen, opened_of};
+ghost use Rattle.element_state.specs.Surveys.{IsFound, IsViewedOn, opened_view, text_of};
+
+use crate::choosing::choose;
+use crate::errors::StoreError;
+use crate::fitting::fit_texts;
+use crate::shapes::{Shape, View};
+use disk_model::Disk;
+use guarded_cell::{Seen, look};
+use index_text::Index;
+use std::alloc::Global;
+
+/// A text that stands for a storage, with all that was read of it.
+#[derive(Debug, Drop)]
+pub struct Found {
+    /// Whether the storage opens at this text; else it is the first that fits.
+    pub opens: bool,
+    /// The text, with the copies that hold it.
+    pub seen: Seen,
+    /// The index that the text spells.
+    pub index: Index,
+    /// What it stands for.
+    pub view: View,
+}
+
+/// Finds the text at which the storage opens, or else the first that fits, and reads it: each content once. None where no text fits.
+/// It begins with a sync and writes nothing.
+///
+/// # Errors
+///
+/// `Device` where the disk fails, and `OutOfMemory`. Never `Corrupt`.
+pub fn survey<D: Disk>(
+    alloc: Global,
+    disk: &mut D,
+    shape: &Shape,
+) -> Result<Option<Found>, StoreError>
+    requires { IsShape shape.now }
+
+    // Which text it is.
+    ensures chosen { IsTrue D.told → IfOk result (λ found. option_map text_of found ≡ chosen (D.medium disk.old).image shape.now) }
+    ensures viewed { IsTrue D.told → IfOk result (λ found. IfSome found (IsViewedOn (D.medium disk.old).image shape.now)) }
+    ensures opened { IsTrue D.told → IfOk result (λ found. opened_of (store_at (D.medium disk.old).image shape.now) ≡ opened_view found) }
+    ensures salvaged { IsTrue D.told → IfOk result (λ found. salvage_of (store_at (D.medium disk.old).image shape.now) ≡ option_map (λ f. f.view) found) }
+
+    // Whether the disk tells its bytes or not.
+    ensures found { IfOk result (λ found. IfSome found (IsFound shape.now)) }
+
+    ensures quiet { OnOk result (Quiet (D.medium disk.new)) }
+    ensures image { (D.medium disk.new).image ≡ (D.medium disk.old).image }
+    ensures idle { Quiet (D.medium disk.old) → IsIdle (D.medium disk.old) (D.medium disk.new) }
+    ensures written { (D.medium disk.new).written ≡ (D.medium disk.old).written }
+    ensures never_corrupt { IsErrOf result StoreError.Corrupt → ⊥ }
+    ensures cause { IsErrOf result StoreError.Device → Rose (D.medium disk.old).faults (D.medium disk.new).faults }
+    ensures time { Elapses (D.medium disk.old) (D.medium disk.new) }
+{
+    let seens = look(alloc, disk, shape.place)?;
+    let texts = fit_texts(alloc, shape, seens)?;
+    let found = choose(alloc, disk, shape, texts)?;
+    Ok(found)
+}
+
+/// What the storage stands for. It begins with a sync and writes nothing.
+///
+/// # Errors
+///
+/// `Corrupt` exactly where no text qualifies, `Device` where the disk fails, and `OutOfMemory`.
+pub fn inspect<D: Disk>(alloc: Global, disk: &mut D, shape: &Shape) -> Result<View, StoreError>
+    requires { IsShape shape.now }
+    ensures view { IsTrue D.told → IfOk result (λ view. opened_of (store_at (D.medium disk.old).image shape.now) ≡ Some view) }
+    ensures corrupt { IsTrue D.told → IsErrOf result StoreError.Corrupt → opened_of (store_at (D.medium disk.old).image shape.now) ≡ None }
+
+    ensures quiet { OnOk result (Quiet (D.medium disk.new)) }
+    ensures settled { IsErrOf result StoreError.Corrupt → Quiet (D.medium disk.new) }
+    ensures image { (D.medium disk.new).image ≡ (D.medium disk.old).image }
+    ensures idle { Quiet (D.medium disk.old) → IsIdle (D.medium disk.old) (D.medium disk.new) }
+    ensures written { (D.medium disk.new).written ≡ (D.medium disk.old).written }
+    ensures cause { IsErrOf result StoreError.Device → Rose (D.medium disk.old).faults (D.medium disk.new).faults }
+    ensures time { Elapses (D.medium disk.old) (D.medium disk.new) }
+{
+    match survey(alloc, disk, shape)? {
+        Some(
+            Found {
+                opens: true,
+                view,
+                ..
+            },
+        ) => Ok(view),
+        _ => Err(StoreError::Corrupt),
+    }
+}
+
+/// The view at which the storage opens, or else that of the first text that fits; none exactly where no text fits. It begins with a sync
+/// and writes nothing.
+///
+/// # Errors
+///
+/// `Device` where the disk fails, and `OutOfMemory`. Never `Corrupt`.
+pub fn salvage<D: Disk>(
+    alloc: Global,
+    disk: &mut D,
+    shape: &Shape,
+) -> Result<Option<View>, StoreError>
+    requires { IsShape shape.now }
+    ensures view { IsTrue D.told → IfOk result (λ view. view ≡ salvage_of (store_at (D.medium disk.old).image shape.now)) }
+
+    ensures quiet { OnOk result (Quiet (D.medium disk.new)) }
+    ensures image { (D.medium disk.new).image ≡ (D.medium disk.old).image }
+    ensures idle { Quiet (D.medium disk.old) → IsIdle (D.medium disk.old) (D.medium disk.new) }
+    ensures written { (D.medium disk.new).written ≡ (D.medium disk.old).written }
+    ensures never_corrupt { IsErrOf result StoreError.Corrupt → ⊥ }
+    ensures cause { IsErrOf result StoreError.Device → Rose (D.medium disk.old).faults (D.medium disk.new).faults }
+    ensures time { Elapses (D.medium disk.old) (D.medium disk.new) }
+{
+    match survey(alloc, disk, shape)? {
+        Some(found) => Ok(Some(found.view)),
+        None => Ok(None),
+    }
+}
