@@ -1,0 +1,215 @@
+-- A corrupt storage that is made anew, and places that are clean.
+use Rattle.std.proofs.Common.{◌≡◌, ℕ, ◌*◌, ◌<◌, ◌≤◌, ◌⊎◌, Bool, true, List, [], length, Some, refl, sym, ap, subst, ◌∙◌, inl, inr, arith}
+use Rattle.std.specs.Prelude.{map, slice_index}
+use Rattle.disk_model.specs.Image.{Image}
+use Rattle.disk_model.specs.Case.{Case, IsSettledAt}
+use Rattle.disk_model.specs.Damage.{IsSoundFor, IsUndamaged}
+use Rattle.disk_model.specs.Frame.{Keeps, KeepsCase}
+use Rattle.disk_model.specs.Place.{slot, area, IsNoArea}
+use Rattle.hash_guard.specs.SealedText.{VerifiesAs}
+use Rattle.std.proofs.lemmas.Bool.{cases_eq}
+use Rattle.guarded_cell.specs.Register.{Holds, IsKeptAlone, own, other}
+use Rattle.guarded_cell.specs.Stops.{IsOldOrNew}
+use Rattle.guarded_cell.specs.StopLaws.{alone_only}
+use Rattle.block_files.specs.Aside.{Where, AsideLaw}
+use Rattle.block_files.specs.Contents.{counting}
+use Rattle.index_text.specs.declared.entries.Index.{Index}
+use Rattle.index_text.specs.declared.entries.IndexEntry.{IndexEntry}
+use Rattle.index_text.specs.Reading.{index_of}
+use Rattle.element_state.specs.declared.shapes.Shape.{Shape}
+use Rattle.element_state.specs.Fit.{fit_index}
+use Rattle.element_state.specs.Clean.{where_of, IsNamed, IsPiece, in_blocks}
+use Rattle.element_laws.specs.Phases.{IsGivenUp, GivenUpLaw, IsWritten, TakesNamed, TakenLaw, AnewContentsLaw, AnewDoneLaw, AnewIndexLaw, AreAgreed, CleanLaw, AdoptedLaw, SettledLaw}
+use Rattle.element_laws.proofs.Lists.{In, all_by, all_in, Contains-In, In-map, map-In, some_is, zip_with, zip_find}
+use Rattle.element_laws.proofs.Copies.{Gives, backed_alike}
+use Rattle.element_laws.proofs.Fits.{fit-spelled}
+use Rattle.element_laws.proofs.Standing.{gift_of}
+use Rattle.element_laws.proofs.Left.{is_whole_at, value_at}
+use Rattle.element_laws.proofs.Keeping.{IsFewer, WasHeld}
+use Rattle.element_laws.proofs.Frames.{slot_no_area, area_no_slot, its_blocks, given_piece, fewer_decays}
+use Rattle.element_laws.proofs.Phases.{fewer_kept, room, sound_slots, decays_slots, given_then, whole_then}
+use Rattle.element_laws.proofs.NewText.{EntryStands}
+use Rattle.element_laws.proofs.TwoTexts.{two_clean, corrupt_two}
+use Rattle.element_laws.proofs.IndexLaws.{names_it, written_stands}
+
+-- a text that is held after all but one were taken away is that one, and was held
+kept_alone : (first copies g : ℕ) (t : List ℕ) (old new : Image) → IsKeptAlone first copies g t old new → (copy h : ℕ) (u : List ℕ) → copy < copies → Holds new first copy h u
+    → (h ≡ g) × (u ≡ t) × Holds old first copy g t
+kept_alone first copies g t old new alone copy h u lt v = elim (cases_eq (own h) (own g)) [
+  | inl same ↦ alone.own_slots copy lt h u (subst (λ (p : ℕ). VerifiesAs (new (slot first copy p)) h u) same v)
+  | inr differ ↦
+      let e : own h ≡ other g = omega (arith, differ) in
+      absurd (alone.blank copy lt h u (subst (λ (p : ℕ). VerifiesAs (new (slot first copy p)) h u) e v))
+]
+
+pub given_up : GivenUpLaw
+given_up shape start now g t clean corrupt alone areas = (
+  record {
+    clean = clean;
+    corrupt = corrupt;
+    less = λ copy lt h u v.
+        let k = kept_alone shape.place.first shape.place.copies g t start now alone copy h u lt v in
+        subst (λ (n : ℕ). Holds start shape.place.first copy n u) (sym k.0) (subst (λ (x : List ℕ). Holds start shape.place.first copy g x) (sym k.1) k.2);
+    areas = areas;
+  },
+  λ copy h u lt v. let k = kept_alone shape.place.first shape.place.copies g t start now alone copy h u lt v in (k.0, k.1),
+)
+
+pub taken_named : TakenLaw
+taken_named place image text index taken only spells is_index takes at is =
+    let one : is.index ≡ index = some_is is.index index (sym is.spelled ∙ ap index_of (only is.copy is.generation is.text is.inside is.held) ∙ spells) in
+    let (e, k, same) = In-map where_of at index.entries (subst (λ (j : Index). In at (map where_of j.entries)) one (Contains-In at (map where_of is.index.entries) is.named)) in
+    subst (λ (x : Where). ((i : ℕ) → i < length x.blocks → taken (slice_index x.blocks i) ≡ true) × (x.len ≤ 256 * length x.blocks)) same
+    (all_in (λ (e : IndexEntry). (i : ℕ) → i < length e.blocks → taken (slice_index e.blocks i) ≡ true) index.entries takes e k, room index is_index e k)
+
+-- contents are written, and what is named is spared
+pub anew_fewer : AsideLaw → (shape : Shape) (start now : Image) (taken : ℕ → Bool) (old c : Case) → IsGivenUp shape start now → TakesNamed taken shape.place now → IsSettledAt now old
+    → KeepsCase (IsNoArea shape.place.first shape.place.copies) (λ k. taken k ≡ true) old c → IsSoundFor (IsPiece shape.place) c → IsFewer shape start c.left
+anew_fewer aside shape start now taken old c given_up takes settled keeps sound =
+    let first = shape.place.first in
+    let copies = shape.place.copies in
+    let slot_same = λ (copy h : ℕ). keeps.left.files (slot first copy (own h)) (slot_no_area first copies copy h) ∙ ap (λ (image : Image). image (slot first copy (own h))) settled.left in
+    let held_now = λ (copy h : ℕ) (u : List ℕ) (v : Holds c.left first copy h u). subst (λ (bytes : List ℕ). VerifiesAs bytes h u) (slot_same copy h) v in
+    let area_was = λ (copy : ℕ). given_up.areas (area first copy) (area_no_slot first copies copy) in
+    record {
+      held = λ copy lt h u v. given_up.less copy lt h u (held_now copy h u v);
+      counted = λ at is copy w lt gives.
+          let named_now : IsNamed shape.place now at = record {
+            copy = is.copy;
+            generation = is.generation;
+            text = is.text;
+            index = is.index;
+            inside = is.inside;
+            held = held_now is.copy is.generation is.text is.held;
+            spelled = is.spelled;
+            named = is.named;
+          } in
+          let took = takes at named_now in
+          let stand = aside first copies taken now old c settled keeps at took.0 took.1 (area first copy) in
+          let piece = sound (in_blocks (its_blocks shape copy at w)) (given_piece shape copy at w c.left lt is gives) in
+          let from : (counting (c.base (area first copy)) at.blocks at.len at.hash ≡ Some w) ⊎ (counting (c.full (area first copy)) at.blocks at.len at.hash ≡ Some w) =
+          elim piece [ inl p ↦ inl p.counts | inr p ↦ inr p.counts ] in
+          subst (λ (file : List ℕ). counting file at.blocks at.len at.hash ≡ Some w) (area_was copy) (stand.piece w from);
+    }
+
+pub anew_contents : AsideLaw → AnewContentsLaw
+anew_contents aside shape start now taken after old c positive given_up takes settled keeps sound damaged image d =
+    fewer_kept shape start image damaged after positive given_up.clean given_up.corrupt
+    (fewer_decays shape damaged c.left image d start (anew_fewer aside shape start now taken old c given_up takes settled keeps sound))
+
+-- after whole writes, with nothing pending
+anew_then : AsideLaw → (shape : Shape) (start now then : Image) (taken : ℕ → Bool) → IsGivenUp shape start now → TakesNamed taken shape.place now
+    → Keeps (IsNoArea shape.place.first shape.place.copies) (λ k. taken k ≡ true) now then → IsFewer shape start then
+anew_then aside shape start now then taken given_up takes keeps =
+    anew_fewer aside shape start now taken (record { base = now; full = now; left = now }) (record { base = now; full = then; left = then }) given_up takes
+    (record { base = refl; full = refl; left = refl })
+    (record {
+      base = refl;
+      full = keeps;
+      left = record { files = keeps.files; bytes = λ f k j lt apart inside. keeps.bytes f k j lt apart; no_shorter = keeps.no_shorter };
+    })
+    (λ x is. inr is)
+
+pub anew_done : AsideLaw → AnewDoneLaw
+anew_done aside shape start now then taken after c positive given_up takes keeps settled sound damaged image d =
+    fewer_kept shape start image damaged after positive given_up.clean given_up.corrupt
+    (fewer_decays shape damaged c.left image d start (subst (λ (im : Image). IsFewer shape start im) (sym settled.left) (anew_then aside shape start now then taken given_up takes keeps)))
+
+-- a text is one of before, below the new generation, or the new one
+old_or_anew : (shape : Shape) (start then new : Image) (g : ℕ) (next : List ℕ) → IsFewer shape start then
+    → ((copy h : ℕ) (u : List ℕ) → copy < shape.place.copies → Holds then shape.place.first copy h u → h < g)
+    → ((copy h : ℕ) (u : List ℕ) → copy < shape.place.copies → Holds new shape.place.first copy h u → Holds then shape.place.first copy h u ⊎ ((h ≡ g) × (u ≡ next)))
+    → (copy h : ℕ) (u : List ℕ) → copy < shape.place.copies → Holds new shape.place.first copy h u → (WasHeld shape start h u × (h ≡ g → ⊥)) ⊎ ((h ≡ g) × (u ≡ next))
+old_or_anew shape start then new g next fewer low known copy h u lt v = elim (known copy h u lt v) [
+  | inl was ↦
+      let less = low copy h u lt was in
+      inl (record { copy = copy; inside = lt; holds = fewer.held copy lt h u was }, λ e. omega (arith, less, e))
+  | inr newer ↦ inr newer
+]
+
+still_held : (shape : Shape) (then new : Image) (g : ℕ) (next : List ℕ)
+    → ((copy h : ℕ) (u : List ℕ) → copy < shape.place.copies → Holds new shape.place.first copy h u → Holds then shape.place.first copy h u ⊎ ((h ≡ g) × (u ≡ next)))
+    → (copy h : ℕ) (u : List ℕ) → copy < shape.place.copies → (h ≡ g → ⊥) → Holds new shape.place.first copy h u → Holds then shape.place.first copy h u
+still_held shape then new g next known copy h u lt apart v = elim (known copy h u lt v) [ inl was ↦ was | inr newer ↦ absurd (apart newer.0) ]
+
+as_given : (shape : Shape) (start : Image) (at : Where) (copy : ℕ) (w : List ℕ) → Gives (gift_of start shape at) copy w
+    → Gives (gift_of start shape at) copy w ⊎ (value_at start shape at ≡ Some w)
+as_given shape start at copy w gives = inl gives
+
+pub anew_index : AsideLaw → AnewIndexLaw
+anew_index aside shape start now then taken g next new_index view others c positive given_up takes below keeps fit generation_is entries stops sound damaged image d =
+    let first = shape.place.first in
+    let copies = shape.place.copies in
+    let fewer = anew_then aside shape start now then taken given_up takes keeps in
+    let it : IsOldOrNew first copies g next damaged then image = stops.slots (sound_slots shape c sound) damaged image (decays_slots shape c damaged image d) in
+    let same = λ (copy : ℕ). stops.elsewhere.left (area first copy) (area_no_slot first copies copy) in
+    let given = λ (at : Where) (is : IsNamed shape.place image at) (copy : ℕ) (w : List ℕ) (lt : copy < copies) (gives : Gives (gift_of image shape at) copy w).
+    given_then shape then c.left image damaged same d at is copy w lt gives in
+    let whole = λ (at : Where) (copy : ℕ) (v : List ℕ) (spared : IsUndamaged damaged first copy) (was : is_whole_at then shape copy at ≡ true) (gave : Gives (gift_of then shape at) copy v).
+    whole_then shape then c.left image damaged same d at copy v spared was gave in
+    let low = λ (copy h : ℕ) (u : List ℕ) (lt : copy < copies) (v : Holds then first copy h u).
+    below copy h u lt (subst (λ (bytes : List ℕ). VerifiesAs bytes h u) (keeps.files (slot first copy (own h)) (slot_no_area first copies copy h)) v) in
+    let texts = λ (copy h : ℕ) (u : List ℕ) (lt : copy < copies) (v : Holds image first copy h u).
+    old_or_anew shape start then image g next fewer (λ copy h u lt v. low copy h u lt v) (λ copy h u lt v. it.known copy lt h u v) copy h u lt v in
+    let same_copy = λ (copy h : ℕ) (u : List ℕ) (lt : copy < copies) (apart : h ≡ g → ⊥) (v : Holds image first copy h u).
+    still_held shape then image g next (λ copy h u lt v. it.known copy lt h u v) copy h u lt apart v in
+    let same_gift = λ (at : Where) (is : IsNamed shape.place image at) (apart : is.generation ≡ g → ⊥) (was : IsNamed shape.place start at) (copy : ℕ) (w : List ℕ)
+    (lt : copy < copies) (gives : Gives (gift_of image shape at) copy w).
+    fewer.counted at (record {
+      copy = is.copy;
+      generation = is.generation;
+      text = is.text;
+      index = is.index;
+      inside = is.inside;
+      held = same_copy is.copy is.generation is.text is.inside apart is.held;
+      spelled = is.spelled;
+      named = is.named;
+    }) copy w lt (given at is copy w lt gives) in
+    let stand = λ (copy : ℕ) (lt : copy < copies) (v : Holds image first copy g next).
+    zip_with (IsWritten shape then) (EntryStands shape image damaged) new_index.entries view.entries
+    (λ e f h k w. written_stands shape start then image damaged given whole e f (names_it shape image copy g next new_index lt v fit (where_of e) (map-In where_of e new_index.entries h)) w) entries in
+    let counted = λ (at : Where) (is : IsNamed shape.place image at) (apart : is.generation ≡ g → ⊥) (was : IsNamed shape.place start at) (copy : ℕ) (w : List ℕ)
+    (lt : copy < copies) (gives : Gives (gift_of image shape at) copy w).
+    as_given shape start at copy w (same_gift at is apart was copy w lt gives) in
+    let alike_new = λ (e : IndexEntry) (h : In e new_index.entries) (is : IsNamed shape.place image (where_of e)).
+    let found = zip_find (IsWritten shape then) new_index.entries view.entries e entries h in
+    let stands = written_stands shape start then image damaged given whole e found.0 is found.2 in
+    backed_alike shape.m copies (gift_of image shape (where_of e)) found.0.content stands.backed in (
+      corrupt_two shape start image damaged positive given_up.clean g next new_index view others fit generation_is stand texts counted alike_new given_up.corrupt
+          (λ copy h u lt apart v. fewer.held copy lt h u (same_copy copy h u lt apart v)) same_gift,
+      two_clean shape start image damaged positive given_up.clean g next new_index view others fit generation_is stand texts counted alike_new,
+    )
+
+-- ---- places that are clean
+
+pub clean_alone : CleanLaw
+clean_alone shape image g t i alone fit agreed =
+    let first = shape.place.first in
+    let copies = shape.place.copies in
+    let only = λ (copy h : ℕ) (u : List ℕ) (lt : copy < copies) (v : Holds image first copy h u). alone_only image first copies g t alone copy lt h u v in
+    record {
+      one_each = λ a b h s u la lb va vb. (only a h s la va).1 ∙ sym (only b h u lb vb).1;
+      fit = λ copy h u lt v. (i, ap (fit_index shape) (only copy h u lt v).1 ∙ fit);
+      alike = λ at a b s u is la lb ga gb.
+          let one : is.index ≡ i = some_is is.index i (sym is.spelled ∙ ap index_of (only is.copy is.generation is.text is.inside is.held).1 ∙ fit-spelled shape t i fit) in
+          let (e, k, same) = In-map where_of at i.entries (subst (λ (j : Index). In at (map where_of j.entries)) one (Contains-In at (map where_of is.index.entries) is.named)) in
+          all_in (AreAgreed shape image) i.entries agreed e k a b s u la lb
+          (subst (λ (x : Where). Gives (gift_of image shape x) a s) (sym same) ga) (subst (λ (x : Where). Gives (gift_of image shape x) b u) (sym same) gb);
+    }
+
+pub clean_adopted : AdoptedLaw
+clean_adopted shape start now g t i adopted =
+    let first = shape.place.first in
+    let copies = shape.place.copies in
+    let opens = adopted.opens in
+    let area_was = λ (copy : ℕ). adopted.areas (area first copy) (area_no_slot first copies copy) in
+    clean_alone shape now g t i adopted.alone opens.fit (all_by (AreAgreed shape now) i.entries (λ e k a b s u la lb ga gb.
+    adopted.clean.alike (where_of e) a b s u
+    (names_it shape start opens.copy g t i opens.inside opens.held opens.fit (where_of e) (map-In where_of e i.entries k)) la lb
+    (subst (λ (file : List ℕ). counting file e.blocks e.len e.hash ≡ Some s) (area_was a) ga)
+    (subst (λ (file : List ℕ). counting file e.blocks e.len e.hash ≡ Some u) (area_was b) gb)))
+
+pub settled_kept : SettledLaw
+settled_kept shape before after image c settled kept =
+    kept (λ x is. inl (subst (λ (im : Image). IsPiece shape.place im x) (settled.left ∙ sym settled.base) is)) [] image
+    (record { others = λ f out. ap (λ (im : Image). im f) (sym settled.left); pieces = λ x is. subst (λ (im : Image). IsPiece shape.place im x) (sym settled.left) is })

@@ -1,0 +1,346 @@
+-- Contents that are mended in place, after their text was adopted.
+use Rattle.std.proofs.Common.{◌≡◌, ◌≢◌, ℕ, zero, suc, ◌+◌, ◌-◌, ◌*◌, ◌<◌, ◌≤◌, ◌⊎◌, true, false, cond, List, [], ◌∷◌, ◌++◌, length, get_or, Option, Some, None, refl, sym, ap, subst, ◌∙◌, inl, inr, arith}
+use Rattle.std.proofs.Common.{eq-eqb, ne_eqb}
+use Rattle.std.specs.Prelude.{slice_index, nat_eq}
+use Rattle.std.specs.List.{Contains, IsDistinct}
+use Rattle.std.proofs.lemmas.Bool.{cases_eq, cases_Bool}
+use Rattle.std.proofs.lemmas.List.Elements.{Contains-get_or}
+use Rattle.disk_model.specs.Image.{Image}
+use Rattle.disk_model.specs.Case.{Case, IsSettledAt}
+use Rattle.disk_model.specs.Frame.{Keeps, Tears}
+use Rattle.disk_model.specs.Orders.{named_in}
+use Rattle.disk_model.specs.Place.{slot, area, IsNoArea}
+use Rattle.hash_guard.specs.SealedText.{VerifiesAs}
+use Rattle.guarded_cell.specs.Register.{own}
+use Rattle.guarded_cell.specs.StopLaws.{alone_only}
+use Rattle.block_files.specs.Aside.{Where, AsideLaw}
+use Rattle.block_files.specs.Areas.{within, area_of}
+use Rattle.block_files.specs.Contents.{counting, AreCopies}
+use Rattle.block_files.specs.BlockSets.{IsApart}
+use Rattle.block_files.specs.Writes.{IsNoneOf}
+use Rattle.index_text.specs.declared.entries.Index.{Index}
+use Rattle.index_text.specs.declared.entries.IndexEntry.{IndexEntry}
+use Rattle.index_text.specs.Rules.{IsIndex, blocks_of}
+use Rattle.element_state.specs.declared.shapes.Shape.{Shape}
+use Rattle.element_state.specs.Views.{entry_view, given}
+use Rattle.m_of_n.specs.Vote.{voted}
+use Rattle.element_state.specs.Clean.{where_of, in_blocks}
+use Rattle.element_laws.specs.Phases.{KeepsBlocks, KeepsBlocksWhole, lacked, TakesMend, IsSparing, IsMending, MendStartLaw, MendStepLaw, MendSyncLaw, MendsNoOther, MendLaw}
+use Rattle.element_laws.proofs.Lists.{Contains-In, In, all_by, all_in, append-In, flat_map-In, map-In, not_false, not_none, some_is}
+use Rattle.element_laws.proofs.Copies.{Gives, named_Contains, Contains_named}
+use Rattle.element_laws.proofs.Fits.{fit-spelled}
+use Rattle.element_laws.proofs.Standing.{gift_of}
+use Rattle.element_laws.proofs.Left.{is_whole_at, value_at, never_listed}
+use Rattle.element_laws.proofs.Keeping.{HoldsOnly, IsLess}
+use Rattle.element_laws.proofs.Frames.{slot_no_area, area_no_slot, its_blocks, given_piece, less_decays}
+use Rattle.element_laws.proofs.Phases.{less_kept, room, named_entry}
+use Rattle.element_laws.proofs.IndexLaws.{names_it}
+
+-- ---- blocks of different entries are apart
+
+distinct_heads : (x : ℕ) (xs ys : List ℕ) → IsDistinct nat_eq ((x ∷ xs) ++ ys) → (y : ℕ) → In y ys → x ≡ y → ⊥
+unfolding IsDistinct
+distinct_heads x xs ys d y h e = not_false (sym (all_in (λ (y : ℕ). nat_eq x y ≡ false) (xs ++ ys) d.0 y (append-In y xs ys (inr h))) ∙ eq-eqb x y e)
+
+distinct_tail : (x : ℕ) (xs : List ℕ) → IsDistinct nat_eq (x ∷ xs) → IsDistinct nat_eq xs
+unfolding IsDistinct
+distinct_tail x xs d = d.1
+
+distinct_parts : (xs ys : List ℕ) → IsDistinct nat_eq (xs ++ ys) → (x y : ℕ) → In x xs → In y ys → x ≡ y → ⊥
+distinct_parts [] ys d x y h k e = h
+distinct_parts (z ∷ xs) ys d x y (inl same) k e = distinct_heads z xs ys d y k (same ∙ e)
+distinct_parts (z ∷ xs) ys d x y (inr h) k e = distinct_parts xs ys (distinct_tail z (xs ++ ys) d) x y h k e
+
+distinct_rest : (xs ys : List ℕ) → IsDistinct nat_eq (xs ++ ys) → IsDistinct nat_eq ys
+distinct_rest [] ys d = d
+distinct_rest (x ∷ xs) ys d = distinct_rest xs ys (distinct_tail x (xs ++ ys) d)
+
+abbrev AreApart : IndexEntry → IndexEntry → Type 0
+AreApart e f = (a b : ℕ) → In a e.blocks → In b f.blocks → a ≡ b → ⊥
+
+two_entries : (es : List IndexEntry) (e f : IndexEntry) → IsDistinct nat_eq (blocks_of es) → In e es → In f es → (e ≡ f) ⊎ AreApart e f
+two_entries [] e f d h k = absurd h
+two_entries (x ∷ es) e f d (inl p) (inl q) = inl (sym p ∙ q)
+two_entries (x ∷ es) e f d (inl p) (inr k) = inr (λ a b ha hb same. distinct_parts x.blocks (blocks_of es) d a b
+    (subst (λ (y : IndexEntry). In a y.blocks) (sym p) ha) (flat_map-In (λ (y : IndexEntry). y.blocks) f b es k hb) same)
+two_entries (x ∷ es) e f d (inr h) (inl q) = inr (λ a b ha hb same. distinct_parts x.blocks (blocks_of es) d b a
+    (subst (λ (y : IndexEntry). In b y.blocks) (sym q) hb) (flat_map-In (λ (y : IndexEntry). y.blocks) e a es h ha) (sym same))
+two_entries (x ∷ es) e f d (inr h) (inr k) = two_entries es e f (distinct_rest x.blocks (blocks_of es) d) h k
+
+In-index : (xs : List ℕ) (i : ℕ) → i < length xs → In (slice_index xs i) xs
+In-index xs i lt = Contains-In (slice_index xs i) xs (Contains-get_or xs i 0 lt)
+
+-- ---- one mend more
+
+keeps_all : (blocks file : List ℕ) → KeepsBlocks blocks file file
+keeps_all blocks file = record { bytes = λ i j lt small inside. refl; no_shorter = omega arith }
+
+keeps_on : (blocks old mid new : List ℕ) → KeepsBlocks blocks old mid → KeepsBlocks blocks mid new → KeepsBlocks blocks old new
+keeps_on blocks old mid new a b = record {
+  bytes = λ i j lt small inside. let longer = a.no_shorter in b.bytes i j lt small (omega (arith, inside, longer)) ∙ a.bytes i j lt small inside;
+  no_shorter = let x = a.no_shorter in let y = b.no_shorter in omega (arith, x, y);
+}
+
+whole_all : (blocks file : List ℕ) → KeepsBlocksWhole blocks file file
+whole_all blocks file = record { bytes = λ i j lt small. refl; no_shorter = omega arith }
+
+whole_on : (blocks old mid new : List ℕ) → KeepsBlocksWhole blocks old mid → KeepsBlocksWhole blocks mid new → KeepsBlocksWhole blocks old new
+whole_on blocks old mid new a b = record {
+  bytes = λ i j lt small. b.bytes i j lt small ∙ a.bytes i j lt small;
+  no_shorter = let x = a.no_shorter in let y = b.no_shorter in omega (arith, x, y);
+}
+
+whole_torn : (blocks old new : List ℕ) → KeepsBlocksWhole blocks old new → KeepsBlocks blocks old new
+whole_torn blocks old new keeps = record { bytes = λ i j lt small inside. keeps.bytes i j lt small; no_shorter = keeps.no_shorter }
+
+-- the copy's area is none of those of the numbers
+is_none : (first copies copy : ℕ) (numbers : List ℕ) → AreCopies copies numbers → ¬ (Contains numbers (copy + 1)) → IsNoneOf first numbers (area first copy)
+is_none first copies copy numbers are absent i lt e = absent (subst (λ (n : ℕ). Contains numbers n) (same (slice_index numbers i) (are i lt).0 e) (Contains-get_or numbers i 0 lt))
+  where
+    same : (n : ℕ) → 1 ≤ n → area first copy ≡ area_of first n → n ≡ copy + 1
+    same n some e = omega (arith, some, e)
+
+no_area_none : (first copies : ℕ) (numbers : List ℕ) (f : ℕ) → AreCopies copies numbers → IsNoArea first copies f → IsNoneOf first numbers f
+no_area_none first copies numbers f are none i lt e = let r = are i lt in none (slice_index numbers i - 1) (omega (arith, r.0, r.1)) e
+
+module _ (shape : Shape) (start now : Image) (index : Index) (e : IndexEntry) (value : List ℕ) (is_index : IsIndex index) (there : Contains index.entries e)
+    (agreed : voted shape.m (given start shape.place e) ≡ Some value) (are : AreCopies shape.place.copies (lacked shape start e)) where
+  abbrev spared : ℕ → Type 0
+  spared = IsNoneOf shape.place.first (lacked shape start e)
+
+  -- an entry beside the one that is mended: either it is that one, and the area is spared, or their blocks are apart
+  beside : (f : IndexEntry) → In f index.entries → (copy : ℕ) → ¬ (TakesMend shape start f copy)
+      → spared (area shape.place.first copy) ⊎ ((i : ℕ) → i < length f.blocks → IsApart e.blocks (slice_index f.blocks i))
+  beside f h copy untaken = elim (two_entries index.entries e f is_index.blocks_apart (Contains-In e index.entries there) h) [
+    | inl same ↦
+        let gone = subst (λ (x : IndexEntry). ¬ (TakesMend shape start x copy)) (sym same) untaken in
+        inl (is_none shape.place.first shape.place.copies copy (lacked shape start e) are (λ listed. gone (record { value = value; agreed = agreed; listed = listed })))
+    | inr apart ↦ inr (λ i lti k ltk same. apart (slice_index e.blocks k) (slice_index f.blocks i) (In-index e.blocks k ltk) (In-index f.blocks i lti) (sym same))
+  ]
+
+  step_torn : (old new : Image) → Tears spared (IsApart e.blocks) old new → IsSparing KeepsBlocks shape start now index old → IsSparing KeepsBlocks shape start now index new
+  step_torn old new tears sparing = record {
+    slots = λ f none. tears.files f (no_area_none shape.place.first shape.place.copies (lacked shape start e) f are none) ∙ sparing.slots f none;
+    kept = all_by _ index.entries (λ f h copy lt untaken.
+        let at = area shape.place.first copy in
+        keeps_on f.blocks (now at) (old at) (new at) (all_in _ index.entries sparing.kept f h copy lt untaken) (elim (beside f h copy untaken) [
+          | inl same ↦ subst (λ (file : List ℕ). KeepsBlocks f.blocks (old at) file) (sym (tears.files at same)) (keeps_all f.blocks (old at))
+          | inr apart ↦ record {
+            bytes = λ i j lti small inside. tears.bytes at (slice_index f.blocks i) j small (apart i lti) inside;
+            no_shorter = tears.no_shorter at;
+          }
+        ]));
+  }
+
+  step_whole : (old new : Image) → Keeps spared (IsApart e.blocks) old new → IsSparing KeepsBlocksWhole shape start now index old → IsSparing KeepsBlocksWhole shape start now index new
+  step_whole old new keeps sparing = record {
+    slots = λ f none. keeps.files f (no_area_none shape.place.first shape.place.copies (lacked shape start e) f are none) ∙ sparing.slots f none;
+    kept = all_by _ index.entries (λ f h copy lt untaken.
+        let at = area shape.place.first copy in
+        whole_on f.blocks (now at) (old at) (new at) (all_in _ index.entries sparing.kept f h copy lt untaken) (elim (beside f h copy untaken) [
+          | inl same ↦ subst (λ (file : List ℕ). KeepsBlocksWhole f.blocks (old at) file) (sym (keeps.files at same)) (whole_all f.blocks (old at))
+          | inr apart ↦ record {
+            bytes = λ i j lti small. keeps.bytes at (slice_index f.blocks i) j small (apart i lti);
+            no_shorter = keeps.no_shorter at;
+          }
+        ]));
+  }
+
+pub mend_step : MendStepLaw
+mend_step shape start now index e value old new is_index there agreed are mending keeps = record {
+  base = subst (λ (image : Image). IsSparing KeepsBlocksWhole shape start now index image) (sym keeps.base) mending.base;
+  full = step_whole shape start now index e value is_index there agreed are old.full new.full keeps.full mending.full;
+  left = step_torn shape start now index e value is_index there agreed are old.left new.left keeps.left mending.left;
+}
+
+torn_of : (shape : Shape) (start now : Image) (index : Index) (image : Image) → IsSparing KeepsBlocksWhole shape start now index image → IsSparing KeepsBlocks shape start now index image
+torn_of shape start now index image sparing = record {
+  slots = sparing.slots;
+  kept = all_by _ index.entries (λ f h copy lt untaken.
+      whole_torn f.blocks (now (area shape.place.first copy)) (image (area shape.place.first copy)) (all_in _ index.entries sparing.kept f h copy lt untaken));
+}
+
+sparing_now : (shape : Shape) (start now : Image) (index : Index) → IsSparing KeepsBlocksWhole shape start now index now
+sparing_now shape start now index = record {
+  slots = λ f none. refl;
+  kept = all_by _ index.entries (λ e h copy lt untaken. whole_all e.blocks (now (area shape.place.first copy)));
+}
+
+settled_at : (shape : Shape) (start now : Image) (index : Index) (image : Image) (c : Case) → IsSparing KeepsBlocksWhole shape start now index image → IsSettledAt image c
+    → IsMending shape start now index c
+settled_at shape start now index image c sparing settled = record {
+  base = subst (λ (im : Image). IsSparing KeepsBlocksWhole shape start now index im) (sym settled.base) sparing;
+  full = subst (λ (im : Image). IsSparing KeepsBlocksWhole shape start now index im) (sym settled.full) sparing;
+  left = subst (λ (im : Image). IsSparing KeepsBlocks shape start now index im) (sym settled.left) (torn_of shape start now index image sparing);
+}
+
+pub mend_start : MendStartLaw
+mend_start shape start now index c settled = settled_at shape start now index now c (sparing_now shape start now index) settled
+
+pub mend_sync : MendSyncLaw
+mend_sync shape start now index old new mending settled = settled_at shape start now index old.full new mending.full settled
+
+-- ---- what a copy keeps in its blocks
+
+swapped : ℕ → List ℕ → Image → Image
+swapped f file image k = cond (nat_eq k f) file (image k)
+
+swapped_here : (f : ℕ) (file : List ℕ) (image : Image) → swapped f file image f ≡ file
+unfolding swapped
+swapped_here f file image = ap (λ b. cond b file (image f)) (eq-eqb f f refl)
+
+swapped_else : (f : ℕ) (file : List ℕ) (image : Image) (k : ℕ) → k ≢ f → swapped f file image k ≡ image k
+unfolding swapped
+swapped_else f file image k ne = ap (λ b. cond b file (image k)) (ne_eqb k f ne)
+
+listed : (xs : List ℕ) (b i : ℕ) → i < length xs → get_or xs i b ≡ b → slice_index xs i ≡ b
+listed [] b i lt e = absurd (omega (arith, lt))
+listed (x ∷ xs) b zero lt e = e
+listed (x ∷ xs) b (suc i) lt e = listed xs b i (omega (arith, lt)) e
+
+still_there : AsideLaw → (e : IndexEntry) (first copies copy : ℕ) (now : Image) (file : List ℕ) → copy < copies → e.len ≤ 256 * length e.blocks
+    → KeepsBlocks e.blocks (now (area first copy)) file → within (now (area first copy)) e.blocks e.len ≡ true
+    → (counting file e.blocks e.len e.hash ≡ counting (now (area first copy)) e.blocks e.len e.hash) × (within file e.blocks e.len ≡ true)
+still_there aside e first copies copy now file lt enough keeps is =
+    let f = area first copy in
+    let then = swapped f file now in
+    let taken = λ (k : ℕ). named_in e.blocks k in
+    let tears : Tears (IsNoArea first copies) (λ k. taken k ≡ true) now then = record {
+      files = λ k none. swapped_else f file now k (none copy lt);
+      bytes = λ k b j small took inside. elim (cases_eq k f) [
+        | inl same ↦
+            let c = named_Contains e.blocks b took in
+            let at : slice_index e.blocks c.0 ≡ b = listed e.blocks b c.0 c.1 c.2 in
+            let here = ap (λ (x : ℕ). swapped f file now x) same ∙ swapped_here f file now in
+            let was = ap (λ (x : ℕ). now x) same in
+            ap (λ (xs : List ℕ). slice_index xs (256 * b + j)) here
+            ∙ subst (λ (n : ℕ). 256 * n + j < length (now f) → slice_index file (256 * n + j) ≡ slice_index (now f) (256 * n + j)) at (keeps.bytes c.0 j c.1 small)
+            (subst (λ (xs : List ℕ). 256 * b + j < length xs) was inside)
+            ∙ ap (λ (xs : List ℕ). slice_index xs (256 * b + j)) (sym was)
+        | inr other ↦ ap (λ (xs : List ℕ). slice_index xs (256 * b + j)) (swapped_else f file now k other)
+      ];
+      no_shorter = λ k. elim (cases_eq k f) [
+        | inl same ↦
+            let here = ap (λ (x : ℕ). swapped f file now x) same ∙ swapped_here f file now in
+            subst (λ (x : ℕ). length (now x) ≤ length (then k)) (sym same) (subst (λ (xs : List ℕ). length (now f) ≤ length xs) (sym here) keeps.no_shorter)
+        | inr other ↦ let e = ap length (swapped_else f file now k other) in omega (arith, e)
+      ];
+    } in
+    let stands = aside first copies taken now (record { base = now; full = now; left = now }) (record { base = now; full = now; left = then })
+    (record { base = refl; full = refl; left = refl })
+    (record {
+      base = refl;
+      full = record { files = λ k none. refl; bytes = λ k b j small took. refl; no_shorter = λ k. omega arith };
+      left = tears;
+    })
+    (where_of e) (λ m ltm. Contains_named e.blocks (slice_index e.blocks m) (Contains-get_or e.blocks m 0 ltm)) enough f in
+    subst (λ (xs : List ℕ). (counting xs e.blocks e.len e.hash ≡ counting (now f) e.blocks e.len e.hash) × (within xs e.blocks e.len ≡ true)) (swapped_here f file now) (stands.whole is)
+
+-- after whole writes, nothing counts that did not count
+still_same : AsideLaw → (e : IndexEntry) (first copies copy : ℕ) (now : Image) (file w : List ℕ) → copy < copies → e.len ≤ 256 * length e.blocks
+    → KeepsBlocksWhole e.blocks (now (area first copy)) file → counting file e.blocks e.len e.hash ≡ Some w → counting (now (area first copy)) e.blocks e.len e.hash ≡ Some w
+still_same aside e first copies copy now file w lt enough keeps is =
+    let f = area first copy in
+    let then = swapped f file now in
+    let taken = λ (k : ℕ). named_in e.blocks k in
+    let whole : Keeps (IsNoArea first copies) (λ k. taken k ≡ true) now then = record {
+      files = λ k none. swapped_else f file now k (none copy lt);
+      bytes = λ k b j small took. elim (cases_eq k f) [
+        | inl same ↦
+            let c = named_Contains e.blocks b took in
+            let at : slice_index e.blocks c.0 ≡ b = listed e.blocks b c.0 c.1 c.2 in
+            let here = ap (λ (x : ℕ). swapped f file now x) same ∙ swapped_here f file now in
+            let was = ap (λ (x : ℕ). now x) same in
+            ap (λ (xs : List ℕ). slice_index xs (256 * b + j)) here
+            ∙ subst (λ (n : ℕ). slice_index file (256 * n + j) ≡ slice_index (now f) (256 * n + j)) at (keeps.bytes c.0 j c.1 small)
+            ∙ ap (λ (xs : List ℕ). slice_index xs (256 * b + j)) (sym was)
+        | inr other ↦ ap (λ (xs : List ℕ). slice_index xs (256 * b + j)) (swapped_else f file now k other)
+      ];
+      no_shorter = λ k. elim (cases_eq k f) [
+        | inl same ↦
+            let here = ap (λ (x : ℕ). swapped f file now x) same ∙ swapped_here f file now in
+            subst (λ (x : ℕ). length (now x) ≤ length (then k)) (sym same) (subst (λ (xs : List ℕ). length (now f) ≤ length xs) (sym here) keeps.no_shorter)
+        | inr other ↦ let e = ap length (swapped_else f file now k other) in omega (arith, e)
+      ];
+    } in
+    let stands = aside first copies taken now (record { base = now; full = now; left = now }) (record { base = now; full = then; left = now })
+    (record { base = refl; full = refl; left = refl })
+    (record {
+      base = refl;
+      full = whole;
+      left = record { files = λ k none. refl; bytes = λ k b j small took inside. refl; no_shorter = λ k. omega arith };
+    })
+    (where_of e) (λ m ltm. Contains_named e.blocks (slice_index e.blocks m) (Contains-get_or e.blocks m 0 ltm)) enough f in
+    stands.piece w (inr (subst (λ (xs : List ℕ). counting xs e.blocks e.len e.hash ≡ Some w) (sym (swapped_here f file now)) is))
+
+-- whether a copy is mended
+mended_or_not : (shape : Shape) (start : Image) (e : IndexEntry) (copy : ℕ) → TakesMend shape start e copy ⊎ ¬ (TakesMend shape start e copy)
+mended_or_not shape start e copy = go (voted shape.m (given start shape.place e)) refl
+  where
+    go : (o : Option (List ℕ)) → voted shape.m (given start shape.place e) ≡ o → TakesMend shape start e copy ⊎ ¬ (TakesMend shape start e copy)
+    go None none = inr (λ takes. not_none takes.value (sym takes.agreed ∙ none))
+    go (Some v) agreed = elim (cases_Bool (named_in (lacked shape start e) (copy + 1))) [
+      | inl listed ↦ inl (record { value = v; agreed = agreed; listed = named_Contains (lacked shape start e) (copy + 1) listed })
+      | inr unlisted ↦ inr (λ takes. not_false (sym unlisted ∙ Contains_named (lacked shape start e) (copy + 1) takes.listed))
+    ]
+
+-- a copy that gave a content whole did not lack it
+not_lacked : (shape : Shape) (start : Image) (e : IndexEntry) (v : List ℕ) (copy : ℕ) → 1 ≤ shape.m
+    → ((b : ℕ) (w : List ℕ) → b < shape.place.copies → Gives (gift_of start shape (where_of e)) b w → w ≡ v)
+    → is_whole_at start shape copy (where_of e) ≡ true → Gives (gift_of start shape (where_of e)) copy v → ¬ (Contains (lacked shape start e) (copy + 1))
+unfolding entry_view
+not_lacked shape start e v copy positive only whole gives = never_listed shape start (where_of e) v copy positive only whole gives
+
+-- what base and full give was given at the start, or is the value
+given_or_value : AsideLaw → (shape : Shape) (start now : Image) (i : Index) (c : Case) → ((copy : ℕ) → now (area shape.place.first copy) ≡ start (area shape.place.first copy))
+    → IsIndex i → IsMending shape start now i c → MendsNoOther shape start i c → (e : IndexEntry) → In e i.entries → (copy : ℕ) (w : List ℕ) → copy < shape.place.copies
+    → (counting (c.base (area shape.place.first copy)) e.blocks e.len e.hash ≡ Some w) ⊎ (counting (c.full (area shape.place.first copy)) e.blocks e.len e.hash ≡ Some w)
+    → Gives (gift_of start shape (where_of e)) copy w ⊎ (value_at start shape (where_of e) ≡ Some w)
+given_or_value aside shape start now i c area_was is_index mending chance e k copy w lt from = elim (mended_or_not shape start e copy) [
+  | inl takes ↦ all_in _ i.entries chance e k copy w lt takes from
+  | inr untaken ↦
+      let at = area shape.place.first copy in
+      let then : counting (now at) e.blocks e.len e.hash ≡ Some w = elim from [
+        | inl base ↦ still_same aside e shape.place.first shape.place.copies copy now (c.base at) w lt (room i is_index e k) (all_in _ i.entries mending.base.kept e k copy lt untaken) base
+        | inr full ↦ still_same aside e shape.place.first shape.place.copies copy now (c.full at) w lt (room i is_index e k) (all_in _ i.entries mending.full.kept e k copy lt untaken) full
+      ] in
+      inl (subst (λ (file : List ℕ). counting file e.blocks e.len e.hash ≡ Some w) (area_was copy) then)
+]
+
+-- ---- the law
+
+pub mend : AsideLaw → MendLaw
+mend aside shape start now g t i after c positive adopted is_index mending chance sound damaged image d =
+    let first = shape.place.first in
+    let copies = shape.place.copies in
+    let opens = adopted.opens in
+    let slot_same = λ (copy h : ℕ). mending.left.slots (slot first copy (own h)) (slot_no_area first copies copy h) in
+    let area_was = λ (copy : ℕ). adopted.areas (area first copy) (area_no_slot first copies copy) in
+    let only : HoldsOnly shape c.left g t = λ copy h u lt v. alone_only now first copies g t adopted.alone copy lt h u (subst (λ (bytes : List ℕ). VerifiesAs bytes h u) (slot_same copy h) v) in
+    let spells = fit-spelled shape t i opens.fit in
+    let less : IsLess shape g t damaged start c.left = record {
+      held = λ copy h u lt v. inr (only copy h u lt v);
+      counted = λ at is copy w lt gives.
+          let (e, k, same) = named_entry shape c.left g t i spells only at is in
+          let piece = sound (in_blocks (its_blocks shape copy at w)) (given_piece shape copy at w c.left lt is gives) in
+          let from : (counting (c.base (area first copy)) e.blocks e.len e.hash ≡ Some w) ⊎ (counting (c.full (area first copy)) e.blocks e.len e.hash ≡ Some w) =
+          elim piece [
+            | inl p ↦ inl (subst (λ (x : Where). counting (c.base (area first copy)) x.blocks x.len x.hash ≡ Some w) (sym same) p.counts)
+            | inr p ↦ inr (subst (λ (x : Where). counting (c.full (area first copy)) x.blocks x.len x.hash ≡ Some w) (sym same) p.counts)
+          ] in
+          elim (given_or_value aside shape start now i c area_was is_index mending chance e k copy w lt from) [
+            | inl was ↦ inl (subst (λ (x : Where). Gives (gift_of start shape x) copy w) same was)
+            | inr value ↦ inr (only, subst (λ (x : Where). value_at start shape x ≡ Some w) same value)
+          ];
+      text = λ copy lt spared v. subst (λ (bytes : List ℕ). VerifiesAs bytes g t) (sym (slot_same copy g)) (adopted.alone.held copy lt);
+      whole = λ j spelled e k copy v lt spared was gave.
+          let one : j ≡ i = some_is j i (sym spelled ∙ spells) in
+          let h = subst (λ (j : Index). In e j.entries) one k in
+          let at = where_of e in
+          let named = names_it shape start opens.copy g t i opens.inside opens.held opens.fit at (map-In where_of e i.entries h) in
+          let absent = not_lacked shape start e v copy positive (λ b w ltb gives. adopted.clean.alike at b copy w v named ltb lt gives gave) was gave in
+          let now_is = subst (λ (file : List ℕ). (within file at.blocks at.len ≡ true) × (counting file at.blocks at.len at.hash ≡ Some v)) (sym (area_was copy)) (was, gave) in
+          let still = still_there aside e first copies copy now (c.left (area first copy)) lt (room i is_index e h) (all_in _ i.entries mending.left.kept e h copy lt (λ takes. absent takes.listed)) now_is.0 in
+          (still.1, still.0 ∙ now_is.1);
+    } in
+    less_kept shape start image damaged g t i after positive adopted.clean opens (less_decays shape damaged c.left image d g t start less)

@@ -1,0 +1,256 @@
+-- The phases of a call, from the cases of a crash to what is kept.
+use Rattle.std.proofs.Common.{◌≡◌, ℕ, ◌*◌, ◌<◌, ◌≤◌, ◌⊎◌, Bool, true, List, [], ◌∷◌, Option, Some, None, refl, sym, ap, subst, ◌∙◌, inl, inr, arith}
+use Rattle.std.specs.Prelude.{map, length, slice_index}
+use Rattle.disk_model.specs.Image.{Image}
+use Rattle.disk_model.specs.Case.{Case, IsSettledAt}
+use Rattle.disk_model.specs.Damage.{DecaysFor, IsSoundFor, IsUndamaged}
+use Rattle.disk_model.specs.Frame.{Keeps, KeepsCase}
+use Rattle.disk_model.specs.Place.{slot, area, IsNoArea}
+use Rattle.hash_guard.specs.SealedText.{VerifiesAs}
+use Rattle.guarded_cell.specs.Register.{Holds, own}
+use Rattle.guarded_cell.specs.Stops.{IsSlotPiece, IsOldOrNew, HoldsLess}
+use Rattle.guarded_cell.specs.StopLaws.{alone_only}
+use Rattle.block_files.specs.Aside.{Where, StandsAside, AsideLaw}
+use Rattle.block_files.specs.Contents.{counting}
+use Rattle.block_files.specs.Areas.{within}
+use Rattle.index_text.specs.declared.entries.Index.{Index}
+use Rattle.index_text.specs.declared.entries.IndexEntry.{IndexEntry}
+use Rattle.index_text.specs.Reading.{index_of}
+use Rattle.index_text.specs.Rules.{IsIndex, IsEntry}
+use Rattle.element_state.specs.declared.shapes.Shape.{Shape}
+use Rattle.element_state.specs.declared.shapes.View.{View}
+use Rattle.element_state.specs.Fit.{FitText, fit_texts}
+use Rattle.element_state.specs.Views.{qualifies, view_of}
+use Rattle.element_state.specs.States.{State, Opens, Corrupt, picked, state_of, store_at, corrupt_state}
+use Rattle.element_state.specs.Clean.{where_of, IsNamed, IsPiece, in_slot, in_blocks, IsClean}
+use Rattle.element_state.specs.Kept.{Kept}
+use Rattle.element_laws.specs.Phases.{IsOfPlace, DamageLaw, UntouchedLaw, OpensAt, IsCorruptAt, IsAdopted, AdoptLaw, KeepLaw, TakesBlocks, ContentsLaw, ContentsDoneLaw}
+use Rattle.element_laws.proofs.Lists.{In, all_in, Contains-In, In-map, some_is}
+use Rattle.element_laws.proofs.Copies.{Gives}
+use Rattle.element_laws.proofs.Fits.{fit-spelled}
+use Rattle.element_laws.proofs.Standing.{gift_of, generation_of}
+use Rattle.element_laws.proofs.Left.{is_whole_at}
+use Rattle.element_laws.proofs.Keeping.{HoldsOnly, IsLess, IsFewer, its, its_generation, its_only, less_opens, less_clean, fewer_corrupt, fewer_clean}
+use Rattle.element_laws.proofs.Frames.{own_small, slot_no_area, area_no_slot, its_blocks, given_piece, given_back, whole_on, less_decays, fewer_decays}
+
+-- ---- at which text a storage opens
+
+pub no_open : (vs : List View) (w : View) (rest : List View) → corrupt_state vs ≡ Opens w rest → ⊥
+no_open [] w rest e = cc
+no_open (v ∷ vs) w rest e = cc
+
+module _ (shape : Shape) (start : Image) where
+  abbrev pub pick : Option (FitText × List FitText)
+  pick = picked (qualifies start shape) (fit_texts shape start)
+
+  picks : (o : Option (FitText × List FitText)) → pick ≡ o → (v : View) (others : List View) → state_of (view_of start shape) (fit_texts shape start) o ≡ Opens v others
+      → (r : FitText × List FitText) × (pick ≡ Some r) × (view_of start shape r.0 ≡ v)
+  picks None e v others is = absurd (no_open (map (view_of start shape) (fit_texts shape start)) v others is)
+  picks (Some r) e v others is = (r, e, cc)
+
+  pub opens_pick : (v : View) (others : List View) → store_at start shape ≡ Opens v others
+      → (r : FitText × List FitText) × (pick ≡ Some r) × (view_of start shape r.0 ≡ v)
+  unfolding store_at
+  opens_pick v others is = picks pick refl v others is
+
+  none_pick : (o : Option (FitText × List FitText)) → pick ≡ o → (salvage : Option View) (others : List View)
+      → state_of (view_of start shape) (fit_texts shape start) o ≡ Corrupt salvage others → pick ≡ None
+  none_pick None e salvage others is = e
+  none_pick (Some r) e salvage others is = cc
+
+  pub corrupt_pick : IsCorruptAt shape start → pick ≡ None
+  unfolding store_at
+  corrupt_pick is = none_pick pick refl is.0 is.1 is.2
+
+-- ---- what is less is kept
+
+-- from a storage that opens at a text
+pub less_kept : (shape : Shape) (start new : Image) (damaged : List ℕ) (g : ℕ) (t : List ℕ) (i : Index) (after : State) → 1 ≤ shape.m → IsClean shape start
+    → OpensAt shape start g t i → IsLess shape g t damaged start new → Kept shape damaged (store_at new shape) (store_at start shape) after × IsClean shape new
+less_kept shape start new damaged g t i after positive clean opens less =
+    let (r, e, is) = opens_pick shape start opens.view opens.others opens.opens in
+    let fit = its shape start new damaged positive clean r e in
+    let gen : g ≡ fit.generation = sym opens.generation_is ∙ sym (ap (λ (v : View). v.generation) is) ∙ generation_of shape start r.0
+    ∙ sym (its_generation shape start new damaged positive clean r e) in
+    let text : t ≡ fit.text = its_only shape start new damaged positive clean r e g t (record { copy = opens.copy; inside = opens.inside; holds = opens.held }) gen in
+    let of_it : IsLess shape fit.generation fit.text damaged start new =
+    subst (λ (h : ℕ). IsLess shape h fit.text damaged start new) gen (subst (λ (u : List ℕ). IsLess shape g u damaged start new) text less) in
+    (less_opens shape start new damaged positive clean r e of_it after, less_clean shape start new damaged positive clean r e of_it)
+
+-- from a corrupt one
+pub fewer_kept : (shape : Shape) (start new : Image) (damaged : List ℕ) (after : State) → 1 ≤ shape.m → IsClean shape start → IsCorruptAt shape start
+    → IsFewer shape start new → Kept shape damaged (store_at new shape) (store_at start shape) after × IsClean shape new
+fewer_kept shape start new damaged after positive clean corrupt fewer =
+    (fewer_corrupt shape start new damaged positive clean fewer (corrupt_pick shape start corrupt) after, fewer_clean shape start new damaged positive clean fewer)
+
+-- ---- what nobody touched
+
+module _ (shape : Shape) (start mid new : Image) (damaged : List ℕ) (after : State) (positive : 1 ≤ shape.m) (clean : IsClean shape start)
+    (same : (f : ℕ) → IsOfPlace shape.place f → mid f ≡ start f) (d : DecaysFor (IsPiece shape.place) damaged mid new) where
+  slot_same : (copy h : ℕ) → copy < shape.place.copies → mid (slot shape.place.first copy (own h)) ≡ start (slot shape.place.first copy (own h))
+  slot_same copy h lt = let small = own_small h in same (slot shape.place.first copy (own h)) (record { copy = copy; kind = own h; inside = lt; small = omega (arith, small); is = refl })
+
+  area_same : (copy : ℕ) → copy < shape.place.copies → mid (area shape.place.first copy) ≡ start (area shape.place.first copy)
+  area_same copy lt = same (area shape.place.first copy) (record { copy = copy; kind = 2; inside = lt; small = omega arith; is = refl })
+
+  held_same : (copy h : ℕ) (u : List ℕ) → copy < shape.place.copies → Holds mid shape.place.first copy h u → Holds start shape.place.first copy h u
+  held_same copy h u lt v = subst (λ (bytes : List ℕ). VerifiesAs bytes h u) (slot_same copy h lt) v
+
+  given_same : (at : Where) (copy : ℕ) (w : List ℕ) → copy < shape.place.copies → Gives (gift_of mid shape at) copy w → Gives (gift_of start shape at) copy w
+  given_same at copy w lt gives = subst (λ (file : List ℕ). counting file at.blocks at.len at.hash ≡ Some w) (area_same copy lt) gives
+
+  same_less : (g : ℕ) (t : List ℕ) → IsLess shape g t damaged start mid
+  same_less g t = record {
+    held = λ copy h u lt v. inl (held_same copy h u lt v);
+    counted = λ at is copy w lt gives. inl (given_same at copy w lt gives);
+    text = λ copy lt spared v. subst (λ (bytes : List ℕ). VerifiesAs bytes g t) (sym (slot_same copy g lt)) v;
+    whole = λ i spells e k copy v lt spared was gave.
+        let at = where_of e in
+        subst (λ (file : List ℕ). (within file at.blocks at.len ≡ true) × (counting file at.blocks at.len at.hash ≡ Some v)) (sym (area_same copy lt)) (was, gave);
+  }
+
+  same_fewer : IsFewer shape start mid
+  same_fewer = record { held = λ copy lt h u v. held_same copy h u lt v; counted = λ at is copy w lt gives. given_same at copy w lt gives }
+
+  by_pick : (o : Option (FitText × List FitText)) → pick shape start ≡ o → Kept shape damaged (store_at new shape) (store_at start shape) after × IsClean shape new
+  by_pick None e =
+      let fewer = fewer_decays shape damaged mid new d start same_fewer in
+      (fewer_corrupt shape start new damaged positive clean fewer e after, fewer_clean shape start new damaged positive clean fewer)
+  by_pick (Some r) e =
+      let fit = its shape start new damaged positive clean r e in
+      let less = less_decays shape damaged mid new d fit.generation fit.text start (same_less fit.generation fit.text) in
+      (less_opens shape start new damaged positive clean r e less after, less_clean shape start new damaged positive clean r e less)
+
+  pub same_kept : Kept shape damaged (store_at new shape) (store_at start shape) after × IsClean shape new
+  same_kept = by_pick (pick shape start) refl
+
+pub damage : DamageLaw
+damage shape start left damaged positive clean d = same_kept shape start start left damaged (store_at start shape) positive clean (λ f is. refl) d
+
+pub untouched : UntouchedLaw
+untouched shape start after c positive clean settled sound damaged image d = same_kept shape start c.left image damaged after positive clean (λ f is. settled.left f is) d
+
+-- ---- slots are written, and no area
+
+module _ (shape : Shape) (c : Case) where
+  pub sound_slots : IsSoundFor (IsPiece shape.place) c → IsSoundFor (IsSlotPiece shape.place.first shape.place.copies) c
+  sound_slots sound x is = sound (in_slot x) is
+
+  pub decays_slots : (damaged : List ℕ) (image : Image) → DecaysFor (IsPiece shape.place) damaged c.left image
+      → DecaysFor (IsSlotPiece shape.place.first shape.place.copies) damaged c.left image
+  decays_slots damaged image d = record { others = d.others; pieces = λ x is. d.pieces (in_slot x) is }
+
+-- contents are what they were, where the areas were not touched
+module _ (shape : Shape) (start left new : Image) (damaged : List ℕ)
+    (same : (copy : ℕ) → left (area shape.place.first copy) ≡ start (area shape.place.first copy)) (d : DecaysFor (IsPiece shape.place) damaged left new) where
+  pub given_then : (at : Where) → IsNamed shape.place new at → (copy : ℕ) (w : List ℕ) → copy < shape.place.copies
+      → Gives (gift_of new shape at) copy w → Gives (gift_of start shape at) copy w
+  given_then at is copy w lt gives =
+      subst (λ (file : List ℕ). counting file at.blocks at.len at.hash ≡ Some w) (same copy) (given_back shape damaged left new d at is copy w lt gives)
+
+  pub whole_then : (at : Where) (copy : ℕ) (v : List ℕ) → IsUndamaged damaged shape.place.first copy → is_whole_at start shape copy at ≡ true
+      → Gives (gift_of start shape at) copy v → (is_whole_at new shape copy at ≡ true) × Gives (gift_of new shape at) copy v
+  whole_then at copy v spared was gave = whole_on shape damaged left new d copy at v spared
+      (subst (λ (file : List ℕ). (within file at.blocks at.len ≡ true) × (counting file at.blocks at.len at.hash ≡ Some v)) (sym (same copy)) (was, gave))
+
+pub adopt : AdoptLaw
+adopt shape start g t i after c positive clean opens stops sound damaged image d =
+    let it : IsOldOrNew shape.place.first shape.place.copies g t damaged start image =
+    stops.slots (sound_slots shape c sound) damaged image (decays_slots shape c damaged image d) in
+    let same = λ (copy : ℕ). stops.elsewhere.left (area shape.place.first copy) (area_no_slot shape.place.first shape.place.copies copy) in
+    less_kept shape start image damaged g t i after positive clean opens (record {
+      held = λ copy h u lt v. it.known copy lt h u v;
+      counted = λ at is copy w lt gives. inl (given_then shape start c.left image damaged same d at is copy w lt gives);
+      text = it.kept;
+      whole = λ j spells e k copy v lt spared was gave. whole_then shape start c.left image damaged same d (where_of e) copy v spared was gave;
+    })
+
+pub keep : KeepLaw
+keep shape start g t after c positive clean corrupt stops sound damaged image d =
+    let known : HoldsLess shape.place.first shape.place.copies start image = stops.known (sound_slots shape c sound) damaged image (decays_slots shape c damaged image d) in
+    let same = λ (copy : ℕ). stops.elsewhere.left (area shape.place.first copy) (area_no_slot shape.place.first shape.place.copies copy) in
+    fewer_kept shape start image damaged after positive clean corrupt (record {
+      held = known;
+      counted = λ at is copy w lt gives. given_then shape start c.left image damaged same d at is copy w lt gives;
+    })
+
+-- ---- contents are written, in blocks outside those of the text that is held alone
+
+-- blocks are enough for their contents
+pub room : (i : Index) → IsIndex i → (e : IndexEntry) → In e i.entries → e.len ≤ 256 * length e.blocks
+room i is e h = let entry = all_in (IsEntry i.format i.kind) i.entries is.each e h in let blocks = entry.blocks in omega (arith, blocks)
+
+-- contents of a text that is held alone are contents of its index
+pub named_entry : (shape : Shape) (image : Image) (g : ℕ) (t : List ℕ) (i : Index) → index_of t ≡ Some i → HoldsOnly shape image g t
+    → (at : Where) → IsNamed shape.place image at → (e : IndexEntry) × In e i.entries × (where_of e ≡ at)
+named_entry shape image g t i spells only at is =
+    let same = only is.copy is.generation is.text is.inside is.held in
+    let one : is.index ≡ i = some_is is.index i (sym is.spelled ∙ ap index_of same.1 ∙ spells) in
+    In-map where_of at i.entries (subst (λ (j : Index). In at (map where_of j.entries)) one (Contains-In at (map where_of is.index.entries) is.named))
+
+module _ (aside : AsideLaw) (shape : Shape) (now : Image) (i : Index) (taken : ℕ → Bool) (is_index : IsIndex i) (takes : TakesBlocks taken i)
+    (old c : Case) (settled : IsSettledAt now old) (keeps : KeepsCase (IsNoArea shape.place.first shape.place.copies) (λ k. taken k ≡ true) old c) where
+  pub stands_aside : (e : IndexEntry) → In e i.entries → (f : ℕ) → StandsAside (where_of e) (now f) (c.base f) (c.full f) (c.left f)
+  stands_aside e h f = aside shape.place.first shape.place.copies taken now old c settled keeps (where_of e)
+      (all_in (λ (e : IndexEntry). (k : ℕ) → k < length e.blocks → taken (slice_index e.blocks k) ≡ true) i.entries takes e h) (room i is_index e h) f
+
+  pub slot_then : (copy h : ℕ) → c.left (slot shape.place.first copy (own h)) ≡ now (slot shape.place.first copy (own h))
+  slot_then copy h = keeps.left.files (slot shape.place.first copy (own h)) (slot_no_area shape.place.first shape.place.copies copy h)
+      ∙ ap (λ (image : Image). image (slot shape.place.first copy (own h))) settled.left
+
+pub contents_less : AsideLaw → (shape : Shape) (start now : Image) (g : ℕ) (t : List ℕ) (i : Index) (taken : ℕ → Bool) (damaged : List ℕ) (old c : Case)
+    → IsAdopted shape start now g t i → IsIndex i → TakesBlocks taken i → IsSettledAt now old
+    → KeepsCase (IsNoArea shape.place.first shape.place.copies) (λ k. taken k ≡ true) old c → IsSoundFor (IsPiece shape.place) c
+    → IsLess shape g t damaged start c.left × HoldsOnly shape c.left g t
+contents_less aside shape start now g t i taken damaged old c adopted is_index takes settled keeps sound =
+    let first = shape.place.first in
+    let copies = shape.place.copies in
+    let its_slot = λ (copy h : ℕ). slot_then aside shape now i taken is_index takes old c settled keeps copy h in
+    let stands = λ (e : IndexEntry) (k : In e i.entries) (f : ℕ). stands_aside aside shape now i taken is_index takes old c settled keeps e k f in
+    let area_was = λ (copy : ℕ). adopted.areas (area first copy) (area_no_slot first copies copy) in
+    let held_now = λ (copy h : ℕ) (u : List ℕ) (v : Holds c.left first copy h u). subst (λ (bytes : List ℕ). VerifiesAs bytes h u) (its_slot copy h) v in
+    let only : HoldsOnly shape c.left g t = λ copy h u lt v. alone_only now first copies g t adopted.alone copy lt h u (held_now copy h u v) in
+    let spells = fit-spelled shape t i adopted.opens.fit in
+    let less : IsLess shape g t damaged start c.left = record {
+      held = λ copy h u lt v. inr (only copy h u lt v);
+      counted = λ at is copy w lt gives.
+          let (e, k, same) = named_entry shape c.left g t i spells only at is in
+          let piece = sound (in_blocks (its_blocks shape copy at w)) (given_piece shape copy at w c.left lt is gives) in
+          let from : (counting (c.base (area first copy)) at.blocks at.len at.hash ≡ Some w) ⊎ (counting (c.full (area first copy)) at.blocks at.len at.hash ≡ Some w) =
+          elim piece [ inl p ↦ inl p.counts | inr p ↦ inr p.counts ] in
+          let stand = subst (λ (at : Where). StandsAside at (now (area first copy)) (c.base (area first copy)) (c.full (area first copy)) (c.left (area first copy))) same (stands e k (area first copy)) in
+          inl (subst (λ (file : List ℕ). counting file at.blocks at.len at.hash ≡ Some w) (area_was copy) (stand.piece w from));
+      text = λ copy lt spared v. subst (λ (bytes : List ℕ). VerifiesAs bytes g t) (sym (its_slot copy g)) (adopted.alone.held copy lt);
+      whole = λ j spelled e k copy v lt spared was gave.
+          let one : j ≡ i = some_is j i (sym spelled ∙ spells) in
+          let at = where_of e in
+          let now_is = subst (λ (file : List ℕ). (within file at.blocks at.len ≡ true) × (counting file at.blocks at.len at.hash ≡ Some v)) (sym (area_was copy)) (was, gave) in
+          let stand = (stands e (subst (λ (j : Index). In e j.entries) one k) (area first copy)).whole now_is.0 in
+          (stand.1, stand.0 ∙ now_is.1);
+    } in
+    (less, only)
+
+pub contents : AsideLaw → ContentsLaw
+contents aside shape start now g t i taken after old c positive adopted is_index takes settled keeps sound damaged image d =
+    let less = contents_less aside shape start now g t i taken damaged old c adopted is_index takes settled keeps sound in
+    less_kept shape start image damaged g t i after positive adopted.clean adopted.opens (less_decays shape damaged c.left image d g t start less.0)
+
+-- after whole writes, with nothing pending
+pub contents_then : AsideLaw → (shape : Shape) (start now then : Image) (g : ℕ) (t : List ℕ) (i : Index) (taken : ℕ → Bool) (damaged : List ℕ)
+    → IsAdopted shape start now g t i → IsIndex i → TakesBlocks taken i → Keeps (IsNoArea shape.place.first shape.place.copies) (λ k. taken k ≡ true) now then
+    → IsLess shape g t damaged start then × HoldsOnly shape then g t
+contents_then aside shape start now then g t i taken damaged adopted is_index takes keeps =
+    contents_less aside shape start now g t i taken damaged (record { base = now; full = now; left = now }) (record { base = now; full = then; left = then })
+    adopted is_index takes (record { base = refl; full = refl; left = refl })
+    (record {
+      base = refl;
+      full = keeps;
+      left = record { files = keeps.files; bytes = λ f k j lt apart inside. keeps.bytes f k j lt apart; no_shorter = keeps.no_shorter };
+    })
+    (λ x is. inr is)
+
+pub contents_done : AsideLaw → ContentsDoneLaw
+contents_done aside shape start now then g t i taken after c positive adopted is_index takes keeps settled sound damaged image d =
+    let less = (contents_then aside shape start now then g t i taken damaged adopted is_index takes keeps).0 in
+    less_kept shape start image damaged g t i after positive adopted.clean adopted.opens
+    (less_decays shape damaged c.left image d g t start (subst (λ (im : Image). IsLess shape g t damaged start im) (sym settled.left) less))

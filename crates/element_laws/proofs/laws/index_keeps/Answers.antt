@@ -1,0 +1,5 @@
+use Rattle.element_laws.proofs.IndexLaws.{index}
+use Rattle.element_laws.proofs.laws.index_keeps.Goals as goal
+
+pub returns : goal.returns
+returns c = index c.contents_stand_aside.ensures

@@ -1,0 +1,17 @@
+use Rattle.element_laws.proofs.Refusals.{index_first, old_overwritten, other_value, planted, copy_eaten}
+use Rattle.element_laws.proofs.laws.outcomes_are_refused.Goals as goal
+
+pub returns-clause-index_first : goal.returns-clause-index_first
+returns-clause-index_first c = index_first
+
+pub returns-clause-old_overwritten : goal.returns-clause-old_overwritten
+returns-clause-old_overwritten c = old_overwritten
+
+pub returns-clause-other_value : goal.returns-clause-other_value
+returns-clause-other_value c = other_value
+
+pub returns-clause-planted : goal.returns-clause-planted
+returns-clause-planted c = planted
+
+pub returns-clause-copy_eaten : goal.returns-clause-copy_eaten
+returns-clause-copy_eaten c = copy_eaten

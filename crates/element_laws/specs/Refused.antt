@@ -1,0 +1,45 @@
+-- What a stop may not leave, by small states that nothing may lead to: one element, in every copy.
+use Rattle.std.specs.Prelude.{◌≢◌, ℕ, ◌+◌, ◌<◌, ◌≤◌, List, [], ◌∷◌, true, None}
+use Rattle.per_base.specs.declared.elements.Entry.{Entry}
+use Rattle.per_base.specs.declared.elements.Content.{Content}
+use Rattle.per_base.specs.declared.elements.Content.TheVariants.{Good, Bad}
+use Rattle.element_state.specs.declared.shapes.Shape.{Shape}
+use Rattle.element_state.specs.declared.shapes.View.{View}
+use Rattle.element_state.specs.States.{Opens}
+use Rattle.element_state.specs.Kept.{Kept}
+
+-- an element of one byte, which these copies lack
+abbrev pub element : Content → (lacking : List ℕ) → Entry
+element content lacking = record { name = 97 ∷ []; info = None; changed = 1; len = 1; content = content; lacking = lacking }
+
+-- a view of this element alone
+abbrev pub one : (generation : ℕ) → Content → View
+one generation content = record { generation = generation; lacking = []; settled = true; entries = element content [] ∷ [] }
+
+abbrev pub lacking_one : (generation copy : ℕ) → Content → View
+lacking_one generation copy content = record { generation = generation; lacking = []; settled = true; entries = element content ((copy + 1) ∷ []) ∷ [] }
+
+-- an index that was written before its contents: it stands, and its element cannot be read
+abbrev pub IndexFirst : Type 0
+IndexFirst = (shape : Shape) (g : ℕ) (was is : List ℕ) → shape.m ≤ shape.place.copies
+    → ¬ (Kept shape [] (Opens (one (g + 1) (Bad None)) []) (Opens (one g (Good was)) []) (Opens (one (g + 1) (Good is)) []))
+
+-- new contents in blocks of the index that stands: its element cannot be read
+abbrev pub OldOverwritten : Type 0
+OldOverwritten = (shape : Shape) (g : ℕ) (was is : List ℕ) → shape.m ≤ shape.place.copies
+    → ¬ (Kept shape [] (Opens (one g (Bad None)) []) (Opens (one g (Good was)) []) (Opens (one (g + 1) (Good is)) []))
+
+-- another value than the one that was synchronised
+abbrev pub OtherValue : Type 0
+OtherValue = (shape : Shape) (g : ℕ) (was is other : List ℕ) → other ≢ was
+    → ¬ (Kept shape [] (Opens (one g (Good other)) []) (Opens (one g (Good was)) []) (Opens (one (g + 1) (Good is)) []))
+
+-- a text beside the one that stands that was never the storage's: later damage would bring it up
+abbrev pub Planted : Type 0
+Planted = (shape : Shape) (g h : ℕ) (was is never : List ℕ) → h ≢ g → h ≢ g + 1
+    → ¬ (Kept shape [] (Opens (one g (Good was)) (one h (Good never) ∷ [])) (Opens (one g (Good was)) []) (Opens (one (g + 1) (Good is)) []))
+
+-- a copy of an element lost without damage to it
+abbrev pub CopyEaten : Type 0
+CopyEaten = (shape : Shape) (g copy : ℕ) (was is : List ℕ) → copy < shape.place.copies
+    → ¬ (Kept shape [] (Opens (lacking_one g copy (Good was)) []) (Opens (one g (Good was)) []) (Opens (one (g + 1) (Good is)) []))

@@ -1,0 +1,83 @@
+//! The laws, one after another, for the proofs of callers: none of these functions does anything when it runs.
+
+ghost use Rattle.element_laws.specs.Phases.{OpenedLaw, CorruptLaw, DamageLaw, UntouchedLaw, AdoptLaw, KeepLaw, ContentsLaw, ContentsDoneLaw, IndexLaw, GivenUpLaw, TakenLaw, AnewContentsLaw, AnewDoneLaw, AnewIndexLaw, CleanLaw, AdoptedLaw, SettledLaw, MendStartLaw, MendStepLaw, MendSyncLaw, MendLaw, InUseLaw, CarriedLaw, WholeLaw};
+ghost use Rattle.element_laws.specs.Refused.{IndexFirst, OldOverwritten, OtherValue, Planted, CopyEaten};
+
+use block_files::contents_stand_aside;
+
+/// Damage alone keeps a storage that nobody touched, and its place clean, also while others call.
+pub fn untouched_is_kept()
+    ensures damage { DamageLaw }
+    ensures untouched { UntouchedLaw }
+{}
+
+/// A stop while every copy is brought to the text at which a storage opens keeps it; so does one while all texts but one are taken
+/// from a corrupt storage.
+pub fn adopting_keeps()
+    ensures adopt { AdoptLaw }
+    ensures keep { KeepLaw }
+{}
+
+/// A stop while contents are written keeps a storage, where their blocks are none of those that its text names.
+pub fn contents_keep()
+    ensures during { ContentsLaw }
+    ensures done { ContentsDoneLaw }
+{
+    contents_stand_aside();
+}
+
+/// A stop while the next index is written, after its contents were made durable, leaves the storage of before or that of after.
+pub fn index_keeps()
+    ensures { IndexLaw }
+{
+    contents_stand_aside();
+}
+
+/// A stop while a corrupt storage is made anew, after `adopting_keeps`, leaves it corrupt or with what it is given.
+pub fn making_anew_keeps()
+    ensures given_up { GivenUpLaw }
+    ensures taken { TakenLaw }
+    ensures contents { AnewContentsLaw }
+    ensures done { AnewDoneLaw }
+    ensures index { AnewIndexLaw }
+{
+    contents_stand_aside();
+}
+
+/// Places that hold one text alone are clean, and so is an image on which a phase ended.
+pub fn places_are_clean()
+    ensures alone { CleanLaw }
+    ensures adopted { AdoptedLaw }
+    ensures settled { SettledLaw }
+{}
+
+/// A stop while contents are mended in the copies that lacked them, after `adopting_keeps`, keeps a storage, where no half of a mend
+/// passes for a content by chance.
+pub fn mending_keeps()
+    ensures start { MendStartLaw }
+    ensures step { MendStepLaw }
+    ensures sync { MendSyncLaw }
+    ensures mend { MendLaw }
+{
+    contents_stand_aside();
+}
+
+/// A storage opens at the first of its texts that qualifies. One in use stands as one that was just adopted, the elements that a commit does not touch are carried as they were, and one
+/// that is good and lacks nothing is whole in every copy.
+pub fn use_is_adopted()
+    ensures opened { OpenedLaw }
+    ensures corrupt { CorruptLaw }
+    ensures adopted { InUseLaw }
+    ensures carried { CarriedLaw }
+    ensures whole { WholeLaw }
+{}
+
+/// What a stop may not leave: an index before its contents, an old block overwritten, another value, a text that was never
+/// synchronised, or a copy lost on the way.
+pub fn outcomes_are_refused()
+    ensures index_first { IndexFirst }
+    ensures old_overwritten { OldOverwritten }
+    ensures other_value { OtherValue }
+    ensures planted { Planted }
+    ensures copy_eaten { CopyEaten }
+{}
