@@ -1,0 +1,10 @@
+pub mod Working
+pub mod Alone
+pub mod Fulls
+pub mod PlanSteps
+pub mod Ruled
+pub mod Shown
+pub mod Made
+pub mod Cleaned
+pub mod Around
+pub mod Created

@@ -1,0 +1,51 @@
+-- Contents that are to be written into blocks that were chosen for them.
+use Rattle.std.specs.Prelude.{◌≢◌, ◌⊎◌, ℕ, ◌*◌, ◌<◌, ◌≤◌, List, length, slice_index, slice_index_or, sum_by}
+use Rattle.std.specs.List.{All}
+use Rattle.disk_model.specs.Image.{Image}
+use Rattle.disk_model.specs.Case.{Case, IsSettledAt}
+use Rattle.disk_model.specs.Medium.{Medium}
+use Rattle.disk_model.specs.Frame.{KeepsCase}
+use Rattle.disk_model.specs.Place.{area, IsNoArea}
+use Rattle.block_files.specs.Parts.{changed}
+use Rattle.block_files.specs.BlockSets.{AreDistinct}
+use Rattle.block_files.specs.Areas.{AllFull, HoldsShared}
+use Rattle.block_files.specs.Writes.{IsApartFromChanged}
+use Rattle.element_store.specs.declared.jobs.Job.{Job}
+
+-- the blocks take the bytes, each block once
+pub record IsRoomy (job : Job) : Type 0 where
+  pub room : length job.bytes.now ≤ 256 * length job.blocks
+  pub distinct : AreDistinct job.blocks
+
+-- the block is none that a job writes
+abbrev pub IsLeftBy : Job → ℕ → Type 0
+IsLeftBy job block = IsApartFromChanged job.blocks job.bytes.now job.was.now block
+
+-- no job writes a block of another
+abbrev pub AreApart : List Job → Type 0
+AreApart jobs = (i j : ℕ) (d : Job) → i ≢ j → i < length jobs → j < length jobs
+    → (m : ℕ) → m < length (slice_index_or jobs i d).blocks → IsLeftBy (slice_index_or jobs j d) (slice_index (slice_index_or jobs i d).blocks m)
+
+-- the block is none that any of them writes
+abbrev pub IsLeftByAll : List Job → ℕ → Type 0
+IsLeftByAll jobs block = All (λ job. IsLeftBy job block) jobs
+
+-- every copy has the parts that a job does not write
+abbrev pub HasShared : Image → (first copies : ℕ) → Job → Type 0
+HasShared image first copies job = (c : ℕ) → c < copies → HoldsShared (image (area first c)) job.blocks job.bytes.now job.was.now
+
+-- every copy has the bytes of a job
+abbrev pub IsDone : Image → (first copies : ℕ) → Job → Type 0
+IsDone image first copies job = AllFull first copies job.blocks job.bytes.now image
+
+-- what a job writes in each copy, in bytes
+abbrev pub job_cost : Job → ℕ
+job_cost job = 256 * changed job.bytes.now job.was.now
+
+abbrev pub jobs_cost : List Job → ℕ
+jobs_cost jobs = sum_by job_cost jobs
+
+-- a case while the jobs are being written, or one after they were made durable
+abbrev pub IsJobsCase : (first copies : ℕ) → List Job → (old new : Medium) → (done : Type 0) → Case → Type 0
+IsJobsCase first copies jobs old new done c =
+    ((d : Case) × old.now d × KeepsCase (IsNoArea first copies) (IsLeftByAll jobs) d c) ⊎ (done × IsSettledAt new.image c)

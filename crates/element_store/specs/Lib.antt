@@ -1,0 +1,4 @@
+pub mod Jobs
+pub mod Plans
+pub mod Stores
+pub mod Spelled

@@ -1,0 +1,42 @@
+-- A storage in use: what it keeps in memory, and what it shows.
+use Rattle.std.specs.Prelude.{◌≡◌, ℕ, List, Bool, IsTrue}
+use Rattle.std.specs.List.{AllZip}
+use Rattle.per_base.specs.declared.elements.Entry.{Entry}
+use Rattle.disk_model.specs.Image.{Image}
+use Rattle.guarded_cell.specs.Cells.{place_of, generation_of}
+use Rattle.index_text.specs.Spelling.{index_text}
+use Rattle.element_state.specs.declared.shapes.Shape.{Shape}
+use Rattle.element_state.specs.declared.shapes.View.{View}
+use Rattle.element_state.specs.States.{whole_view}
+use Rattle.element_state.specs.Chosen.{IsReadBy}
+use Rattle.element_state.specs.Conditions.{IsShape, IsInUse}
+use Rattle.element_store.specs.Spelled.{IsTextOf}
+use Rattle.element_store.specs.declared.store.Store.{Store}
+
+-- how it is configured
+abbrev pub shape_of : Store → Shape
+shape_of store = store.shape
+
+-- its elements, ascending by name
+abbrev pub entries_of : Store → List Entry
+entries_of store = store.entries.items
+
+-- the generation of its index
+abbrev pub generation_in : Store → ℕ
+generation_in store = generation_of store.cell
+
+-- the view that it shows
+abbrev pub view_in : Store → View
+view_in store = whole_view store.shape (generation_of store.cell) store.entries.items
+
+-- what it keeps in memory, whatever the disk tells: a register at its place, and an index that fits and has its elements
+pub record IsStore (store : Store) : Type 0 where
+  pub place : place_of store.cell ≡ store.shape.place
+  pub shape : IsShape store.shape
+  pub index : IsTextOf store.shape (index_text store.index) store.index
+  pub entries : AllZip (IsReadBy store.shape.place.copies) store.index.entries store.entries.items
+
+-- the storage is in use on a disk: where the disk tells its bytes, these are its own
+pub record IsUsed (told : Bool) (image : Image) (store : Store) : Type 0 where
+  pub memory : IsStore store
+  pub disk : IsTrue told → IsInUse store.shape image store.index (view_in store)

@@ -1,0 +1,92 @@
+//! A storage made anew.
+
+ghost use Rattle.std.specs.Prelude.{◌≡◌, ◌≤◌, IsTrue, IfOk, OnOk, IsErrOf, map, length};
+ghost use Rattle.std.specs.List.{All};
+ghost use Rattle.per_base.specs.Causes.{Rose};
+ghost use Rattle.disk_model.specs.Frame.{Spares, IsSettledOn};
+ghost use Rattle.disk_model.specs.Medium.{Quiet, EachCase, Elapses};
+ghost use Rattle.disk_model.specs.Place.{IsOutside};
+ghost use Rattle.element_state.specs.States.{fresh_element, fresh_entry, fresh_map, fresh_view};
+ghost use Rattle.element_state.specs.Clean.{IsClean};
+ghost use Rattle.element_state.specs.Conditions.{IsShape, AreContents};
+ghost use Rattle.element_store.specs.Stores.{IsUsed, shape_of, view_in};
+
+use crate::store::Store;
+use crate::writing::{blocks_in_area, put_contents};
+use block_files::BlockSet;
+use disk_model::Disk;
+use element_state::{Shape, StoreError};
+use guarded_cell::format_cell;
+use per_base::{Content, Entry, Fresh, Numbers};
+use std::alloc::{AllocError, Global};
+
+/// Makes a storage anew with these contents, and gives up what its place held.
+///
+/// # Errors
+///
+/// `Device` where the disk fails, and `OutOfMemory`. Never `Corrupt`.
+pub fn create<D: Disk>(
+    alloc: Global,
+    disk: &mut D,
+    shape: Shape,
+    contents: Vec<Fresh>,
+) -> Result<Store, StoreError>
+    requires shape { IsShape shape }
+    requires contents { AreContents shape contents.items }
+
+    ensures used { IfOk result (IsUsed D.told (D.medium disk.new).image) }
+    ensures shape { IfOk result (λ store. shape_of store ≡ shape) }
+    ensures view { IfOk result (λ store. view_in store ≡ fresh_view 1 (fresh_map contents.items)) }
+    ensures clean { IsTrue D.told → OnOk result (IsClean shape (D.medium disk.new).image) }
+    ensures quiet { OnOk result (Quiet (D.medium disk.new)) }
+
+    ensures never_corrupt { IsErrOf result StoreError.Corrupt → ⊥ }
+    ensures cause { IsErrOf result StoreError.Device → Rose (D.medium disk.old).faults (D.medium disk.new).faults }
+
+    // No file outside the place changes, at the end and at any moment.
+    ensures elsewhere { IsTrue D.told
+        → Spares (IsOutside shape.place.first shape.place.copies) (D.medium disk.old).image (D.medium disk.new).image }
+    ensures any_moment { IsTrue D.told → Quiet (D.medium disk.old)
+        → EachCase (IsSettledOn (IsOutside shape.place.first shape.place.copies) (D.medium disk.old).image)
+        (D.medium disk.old) (D.medium disk.new) }
+    ensures time { Elapses (D.medium disk.old) (D.medium disk.new) }
+{
+    let mut used = BlockSet::new(alloc, blocks_in_area(&shape))?;
+    let spelled = put_contents(alloc, disk, &shape, 1, &contents, &mut used)?;
+    let entries = fresh_entries(alloc, 1, contents)?;
+    let cell = format_cell(alloc, disk, shape.place, spelled.text.as_slice())?;
+    Ok(Store::new(alloc, shape, cell, spelled.index, entries))
+}
+
+// The elements of contents that this generation wrote.
+fn fresh_entries(
+    alloc: Global,
+    generation: u64,
+    contents: Vec<Fresh>,
+) -> Result<Vec<Entry>, AllocError>
+    requires { All (λ f. length f.bytes ≤ 1048576) contents.items }
+    ensures { IfOk result (λ entries. entries.items ≡ map (fresh_entry generation) (fresh_map contents.items)) }
+{
+    let mut entries = Vec::new(alloc);
+    for fresh in contents {
+        entries.push(fresh_entry(alloc, generation, fresh))?;
+    }
+    Ok(entries)
+}
+
+// The element of a content that this generation wrote.
+fn fresh_entry(alloc: Global, generation: u64, fresh: Fresh) -> Entry
+    requires { length fresh.bytes ≤ 1048576 }
+    ensures { result ≡ fresh_entry generation (fresh_element fresh) }
+{
+    let Fresh { name, info, bytes } = fresh;
+    let len = bytes.len() as u32;
+    Entry {
+        name,
+        info,
+        changed: generation,
+        len,
+        content: Content::Good(bytes),
+        lacking: Numbers::new(Vec::new(alloc)),
+    }
+}

@@ -1,0 +1,74 @@
+//! A storage in use.
+
+ghost use Rattle.std.specs.Prelude.{◌≡◌};
+
+use element_state::Shape;
+use guarded_cell::Cell;
+use index_text::Index;
+use per_base::{Entry, Name, storage_size};
+use std::alloc::Global;
+
+/// A storage in use on its disk: its index and its elements, as the copies hold them.
+#[derive(Debug, Drop)]
+pub struct Store {
+    pub(crate) alloc: Global,
+    pub(crate) shape: Shape,
+    pub(crate) cell: Cell,
+    pub(crate) index: Index,
+    pub(crate) entries: Vec<Entry>,
+}
+
+impl Store {
+    ghost use Rattle.std.specs.Option.{option_copied};
+    ghost use Rattle.element_state.specs.Changes.{entry_at};
+    ghost use Rattle.element_state.specs.Conditions.{size_of};
+    ghost use Rattle.element_store.specs.Stores.{IsStore, entries_of, generation_in};
+
+    // A storage of these parts.
+    pub(crate) fn new(
+        alloc: Global,
+        shape: Shape,
+        cell: Cell,
+        index: Index,
+        entries: Vec<Entry>,
+    ) -> Store
+        ensures { result ≡ record { alloc = alloc; shape = shape; cell = cell; index = index; entries = entries } }
+    {
+        Store {
+            alloc,
+            shape,
+            cell,
+            index,
+            entries,
+        }
+    }
+
+    /// The elements, ascending by name. Takes no memory.
+    pub fn entries(&self) -> &[Entry]
+        ensures { result.now ≡ entries_of self.now }
+    {
+        self.entries.as_slice()
+    }
+
+    /// The element of this name. Takes no memory.
+    pub fn entry(&self, name: &Name) -> Option<&Entry>
+        ensures { option_copied result ≡ entry_at name.now (entries_of self.now) }
+    {
+        self.entries.iter().find(|entry| entry.name == *name)
+    }
+
+    /// The size in bytes: names and contents, readable or not. Takes no memory.
+    pub fn size(&self) -> u64
+        requires { IsStore self.now }
+        ensures { result ≡ size_of (entries_of self.now) }
+    {
+        storage_size(&self.entries)
+    }
+
+    /// The generation of the index. Takes no memory.
+    pub fn generation(&self) -> u64
+        ensures { result ≡ generation_in self.now }
+    {
+        self.cell.generation()
+    }
+}
