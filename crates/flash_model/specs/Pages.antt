@@ -1,0 +1,30 @@
+-- What the pages of a flash hold, and what programming and erasing make of them, whole or cut short.
+use Rattle.std.specs.Prelude.{◌≡◌, ◌≢◌, ◌⊎◌, ℕ, ◌==◌, ◌&&◌, List, replicate, if◌then◌else◌}
+use Rattle.hash_guard.specs.SealedText.{VerifiesAs}
+
+-- the bytes of each page of each block
+abbrev pub Pages : Type 0
+Pages = ℕ → ℕ → List ℕ
+
+-- what an erased page reads as
+unfoldable pub blank_page : List ℕ
+blank_page = replicate 512 255
+
+abbrev pub program_page : Pages → ℕ → ℕ → List ℕ → Pages
+program_page pages block page bytes b p = if (b == block && p == page) then bytes else pages b p
+
+abbrev pub erase_block : Pages → ℕ → Pages
+erase_block pages block b p = if b == block then blank_page else pages b p
+
+-- cut short, programming leaves any bytes in the page
+abbrev pub TornPage : ℕ → ℕ → Pages → Pages → Type 0
+TornPage block page old new = (b p : ℕ) → (b ≢ block) ⊎ (p ≢ page) → new b p ≡ old b p
+
+-- cut short, erasing leaves any bytes in the block
+abbrev pub TornBlock : ℕ → Pages → Pages → Type 0
+TornBlock block old new = (b p : ℕ) → b ≢ block → new b p ≡ old b p
+
+-- no page passes its hash by chance: one that verifies is as it was before the call, or as the call done whole leaves it
+abbrev pub IsPlain : (before whole left : Pages) → Type 0
+IsPlain before whole left = (b p generation : ℕ) (body : List ℕ) → VerifiesAs (left b p) generation body
+    → (left b p ≡ before b p) ⊎ (left b p ≡ whole b p)

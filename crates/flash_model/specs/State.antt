@@ -1,0 +1,76 @@
+-- What a flash holds and what it was told of, and what a crash leaves of it.
+use Rattle.std.specs.Prelude.{◌≡◌, ℕ, List, [], ◌∷◌, ◌++◌}
+use Rattle.flash_model.specs.Pages.{Pages, program_page, erase_block, TornPage, TornBlock, IsPlain}
+
+-- a write that was announced: these bytes into a file from a byte on
+pub record Announced : Type 0 where
+  pub file : ℕ
+  pub at : ℕ
+  pub bytes : List ℕ
+
+-- A flash between two calls: its pages, the pages as it was last settled, and the writes that were announced since then.
+pub record FlashState : Type 0 where
+  pub pages : Pages
+  pub settled : Pages
+  pub announced : List Announced
+
+-- One case of a crash: the pages before the call in progress, as that call done whole would leave them, and as the crash leaves them.
+-- Between two calls all three are the same.
+pub record FlashCase : Type 0 where
+  pub before : Pages
+  pub whole : Pages
+  pub left : Pages
+  pub settled : Pages
+  pub announced : List Announced
+
+-- ---- what calls make of it
+
+abbrev pub announce_write : FlashState → ℕ → ℕ → List ℕ → FlashState
+announce_write s file at bytes = record s { announced = s.announced ++ (record { file = file; at = at; bytes = bytes }) ∷ [] }
+
+abbrev pub settle_pages : FlashState → FlashState
+settle_pages s = record { pages = s.pages; settled = s.pages; announced = [] }
+
+abbrev pub programmed : FlashState → ℕ → ℕ → List ℕ → FlashState
+programmed s block page bytes = record s { pages = program_page s.pages block page bytes }
+
+abbrev pub erased : FlashState → ℕ → FlashState
+erased s block = record s { pages = erase_block s.pages block }
+
+-- ---- what a crash leaves
+
+-- a crash between two calls leaves what there was
+pub record IsStill (s : FlashState) (c : FlashCase) : Type 0 where
+  pub before : c.before ≡ s.pages
+  pub whole : c.whole ≡ s.pages
+  pub left : c.left ≡ s.pages
+  pub settled : c.settled ≡ s.settled
+  pub announced : c.announced ≡ s.announced
+
+-- a crash in a call that changes pages
+pub record IsCutShort (done : Pages) (Tears : Pages → Pages → Type 0) (s : FlashState) (c : FlashCase) : Type 0 where
+  pub before : c.before ≡ s.pages
+  pub whole : c.whole ≡ done
+  pub left : Tears s.pages c.left
+  pub settled : c.settled ≡ s.settled
+  pub announced : c.announced ≡ s.announced
+
+abbrev pub ProgramCase : ℕ → ℕ → List ℕ → FlashState → FlashCase → Type 0
+ProgramCase block page bytes s c = IsCutShort (program_page s.pages block page bytes) (TornPage block page) s c
+
+abbrev pub EraseCase : ℕ → FlashState → FlashCase → Type 0
+EraseCase block s c = IsCutShort (erase_block s.pages block) (TornBlock block) s c
+
+-- ---- what a call that failed leaves: what a crash in it leaves, with no page that passes its hash by chance
+
+pub record IsLeftBy (done : Pages) (Tears : Pages → Pages → Type 0) (old new : FlashState) : Type 0 where
+  pub torn : Tears old.pages new.pages
+  pub plain : IsPlain old.pages done new.pages
+  pub settled : new.settled ≡ old.settled
+  pub announced : new.announced ≡ old.announced
+
+abbrev pub FailsToProgram : ℕ → ℕ → List ℕ → FlashState → FlashState → Type 0
+FailsToProgram block page bytes old new = IsLeftBy (program_page old.pages block page bytes) (TornPage block page) old new
+
+abbrev pub FailsToErase : ℕ → FlashState → FlashState → Type 0
+FailsToErase block old new = IsLeftBy (erase_block old.pages block) (TornBlock block) old new
