@@ -1,0 +1,2 @@
+pub mod PageRecord
+pub mod Stated
