@@ -1,0 +1,6 @@
+use Rattle.std.proofs.Common.{◌≡◌, ◌≤◌, true}
+use Rattle.flash_disk.proofs.disk.FlashDisk.learn_block.Given as goal
+
+abbrev pub invariant-loop-page : goal.invariant-loop-page
+invariant-loop-page g l = ((g.F.Flash.medium l.initial.self.flash).faults ≤ (g.F.Flash.medium l.self.flash).faults)
+    × (g.F.Flash.told ≡ true → (g.F.Flash.medium l.self.flash).state.pages ≡ (g.F.Flash.medium l.initial.self.flash).state.pages)
