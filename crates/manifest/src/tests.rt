@@ -748,7 +748,7 @@ fn initial_of(element: &ElementConfig) -> Result<&[u8], Fail> {
 /// A text of this many bytes: a manifest and spaces.
 fn padded(alloc: Global, length: usize) -> Result<String, Fail> {
     let mut text = String::from_str(alloc, FAV)?;
-    while text.len() < length {
+    for _ in FAV.len()..length {
         text.push(' ')?;
     }
     Ok(text)
