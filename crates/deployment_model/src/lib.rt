@@ -2,7 +2,7 @@
 //!
 //! A [`Deployment`] lists the storages of one version of an application, a [`StorageConfig`] the elements that are configured in
 //! one of them, and an [`ElementConfig`] says of one element which type its value has, what it starts with, and what an update
-//! does with it. Both lists ascend by name. The types are plain data with public fields; `IsDeployment` and `IsStorageConfig` of
+//! does with it. Both lists ascend by name. The types are plain data with public fields; `IsDeployment` and `IsStorage` of
 //! `specs/` say which data are deployments, and every call that takes one of these types may ask for it.
 //!
 //! Elements and storages are looked up by name in a time that grows with the logarithm of their number, and without memory.

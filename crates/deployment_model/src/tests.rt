@@ -1,4 +1,4 @@
-//! Copies and look-ups, at a deployment of two storages.
+//! Copies, at a deployment of two storages. Look-ups ask for a deployment that keeps its conditions, as a manifest gives one.
 
 use crate::{CollectionStrategy, Deployment, ElementConfig, ElementStrategy, StorageConfig};
 use per_base::{Bytes, Name, PerError, Scope, Sequence, StoreKind};

@@ -17,7 +17,7 @@ use Rattle.per_base.specs.Names.{name_cmp}
 use Rattle.manifest.specs.Parts.{Listed, name_in}
 use Rattle.manifest.specs.Parts.{Named, with_named, named, by_name}
 
-abbrev Entry : Type 0
+abbrev pub Entry : Type 0
 Entry = List ℕ × Listed
 
 -- ---- one more name
@@ -53,7 +53,7 @@ insert_sorted k v (e ∷ es) sorted = sorted_at (name_cmp k e.0) k v e es refl s
 is_equal : (o : Ordering) → o ≡ Equal → is_eq o ≡ true
 is_equal o is = ap is_eq is
 
-equal_names : (a b : List ℕ) → name_cmp a b ≡ Equal → a ≡ b
+pub equal_names : (a b : List ℕ) → name_cmp a b ≡ Equal → a ≡ b
 equal_names a b is = (bytes_eq-Decides a b).0 (sym (is_eq-slice_cmp a b) ∙ is_equal (name_cmp a b) is)
 
 module _ (P : Entry → Type 0) where
@@ -114,6 +114,10 @@ names_are_keys P (e ∷ m) all = rw all.0.0 (ap (λ ns. name_in e.1.1 ∷ ns) (n
 length-values : (m : Named) → length (values_of m) ≡ length m
 length-values [] = refl
 length-values (e ∷ m) = ap suc (length-values m)
+
+pub keys_sorted : (ls : List Listed) → IsStrictlySortedBy name_cmp (keys_of (named ls))
+unfolding named
+keys_sorted ls = sorted_from ls [] nothing_sorted
 
 pub all_by_name : (P : Listed → Type 0) (ls : List Listed) → AllByRecursion P ls → AllByRecursion P (by_name ls)
 unfolding named

@@ -1,6 +1,6 @@
 -- What a manifest that breaks no rule says keeps what every deployment keeps.
 use Rattle.std.proofs.Common.{◌≡◌, ℕ, ◌≤◌, Bool, true, false, not, ◌||◌, List, [], ◌∷◌, ◌++◌, length, map, Option, Some, None, is_some, is_none, Result, Ok, Err, refl, sym, ap, subst, suc, arith, lit≤}
-use Rattle.std.specs.Prelude.{option_and_then, unwrap_or, sum_by, nat_lt, IfOk, IfErr, OnOk, codes, if◌then◌else◌}
+use Rattle.std.specs.Prelude.{option_and_then, unwrap_or, sum_by, nat_le, IfOk, IfErr, OnOk, codes, if◌then◌else◌}
 use Rattle.std.specs.List.{AllByRecursion, list_all, flat_map}
 use Rattle.std.specs.List.Sorted.{IsStrictlySortedBy}
 use Rattle.std.proofs.lemmas.Bool.{and_parts, leb-true}
@@ -290,16 +290,21 @@ keeps d h =
 
 -- ---- what was read
 
-read_kept : (o : Option Data) (test : Bool) (said : DeploymentData) → (if test then Some 1 else broken_in o) ≡ None → said_in o (if test then Some 1 else broken_in o) ≡ Some said → IsDeployment said
-read_kept o true said none is = absurd cc
-read_kept None false said none is = absurd cc
-read_kept (Some d) false said none is =
+-- the least rule that a text breaks, where it is short or not and stands for this
+least_of : Option Data → Bool → Option ℕ
+least_of o short = or_else (if short then (if is_some o then None else Some 2) else Some 1) (broken_in o)
+
+read_kept : (o : Option Data) (short : Bool) (said : DeploymentData) → least_of o short ≡ None → said_in o (least_of o short) ≡ Some said → IsDeployment said
+unfolding least_of
+read_kept o false said none is = absurd cc
+read_kept None true said none is = absurd cc
+read_kept (Some d) true said none is =
     let found = subst (λ b. said_in (Some d) b ≡ Some said) none is in
     subst IsDeployment (ap (λ o. unwrap_or o said) found) (keeps d none)
 
 pub keeps_read : (text : List ℕ) (r : Result Deployment ManifestError) → Judges r (broken_rule text) → IfOk r (λ d. deployment_in text ≡ Some (deployment_data d)) → IfOk r (λ d. IsDeployment (deployment_data d))
-unfolding broken_rule deployment_in
-keeps_read text (Ok d) judged said = read_kept (value_of text) (nat_lt 65536 (length text)) (deployment_data d) judged said
+unfolding broken_rule deployment_in least_of
+keeps_read text (Ok d) judged said = read_kept (value_of text) (nat_le (length text) 65536) (deployment_data d) judged said
 keeps_read text (Err e) judged said = tt
 
 pub rejected_of : (r : Result Deployment ManifestError) (broken : Option ℕ) → Judges r broken → IfErr r (Refuses broken)

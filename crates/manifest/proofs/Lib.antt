@@ -1,4 +1,5 @@
 pub mod ByName
+pub mod Different
 pub mod Kept
 pub mod ListLaws
 pub mod ReadingLaws

@@ -1,5 +1,5 @@
 -- What the text of a manifest says: the least rule that it breaks, or a deployment.
-use Rattle.std.specs.Prelude.{◌≡◌, ℕ, List, length, nat_lt, if◌then◌else◌, Option, None, Some, ⊤, Result, Ok, Err}
+use Rattle.std.specs.Prelude.{◌≡◌, ℕ, Bool, List, [], ◌∷◌, length, nat_le, if◌then◌else◌, Option, None, Some, is_some, ⊤, Result, Ok, Err}
 use Rattle.std.specs.Str.{is_utf8}
 use Rattle.serde_json.specs.Data.{Data}
 use Rattle.serde_json.specs.Read.{read}
@@ -8,20 +8,34 @@ use Rattle.serde_json.specs.declared.value.Value.{Value}
 use Rattle.deployment_model.specs.Data.{DeploymentData}
 use Rattle.manifest.specs.declared.errors.ManifestError.{ManifestError}
 use Rattle.manifest.specs.declared.errors.ManifestError.TheVariants.{Rejected, OutOfMemory}
-use Rattle.manifest.specs.Rules.{least_broken}
+use Rattle.manifest.specs.Rules.{first_broken, least_broken, or_else}
 use Rattle.manifest.specs.Contents.{deployment_said}
 
 -- the value that the text is, where it is UTF-8 and JSON
 unfoldable pub value_of : List ℕ → Option Data
 value_of text = if is_utf8 text then read text else None
 
+-- ---- the rules of the text
+
+-- it has at most 65,536 bytes
+abbrev pub is_short : List ℕ → Bool
+is_short text = nat_le (length text) 65536
+
+abbrev pub is_json : List ℕ → Bool
+is_json text = is_some (value_of text)
+
+abbrev pub text_rules : List (ℕ × (List ℕ → Bool))
+text_rules = (1, is_short) ∷ (2, is_json) ∷ []
+
+-- ---- what is said
+
 abbrev pub broken_in : Option Data → Option ℕ
-broken_in None = Some 2
+broken_in None = None
 broken_in (Some d) = least_broken d
 
 -- the least rule that the text breaks
 unfoldable pub broken_rule : List ℕ → Option ℕ
-broken_rule text = if nat_lt 65536 (length text) then Some 1 else broken_in (value_of text)
+broken_rule text = or_else (first_broken text_rules text) (broken_in (value_of text))
 
 abbrev pub said_in : Option Data → Option ℕ → Option DeploymentData
 said_in (Some d) None = Some (deployment_said d)

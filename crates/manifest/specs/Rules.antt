@@ -1,6 +1,7 @@
 -- The rules that a manifest keeps, each a test that passes where the rule is kept, and the least that is broken.
-use Rattle.std.specs.Prelude.{ℕ, List, [], ◌∷◌, length, codes, sum_by, Bool, true, false, ◌&&◌, ◌||◌, not, ◌==◌, nat_le, Option, None, Some, option_and_then, is_none, is_some, if◌then◌else◌}
-use Rattle.std.specs.List.{list_all}
+use Rattle.std.specs.Prelude.{ℕ, List, [], ◌∷◌, length, map, codes, sum_by, Bool, true, false, ◌&&◌, ◌||◌, not, nat_le, Option, None, Some, option_and_then, is_none, is_some, if◌then◌else◌}
+use Rattle.std.specs.List.{list_all, list_any}
+use Rattle.std.specs.Str.{bytes_eq}
 use Rattle.serde_json.specs.Data.{Data}
 use Rattle.serde_json.specs.Find.{get, as_bool, as_str}
 use Rattle.per_base.specs.declared.elements.StoreKind.{StoreKind}
@@ -8,7 +9,7 @@ use Rattle.per_base.specs.declared.elements.StoreKind.TheVariants.{Keys, Files}
 use Rattle.per_base.specs.Names.{is_name}
 use Rattle.deployment_model.specs.Conditions.{overwrites, start_size}
 use Rattle.manifest.specs.Values.{has_only, is_list_of_objects, is_object, is_within, may_be, whole_in}
-use Rattle.manifest.specs.Parts.{Listed, storages, elements, elements_word, all_elements, named, name_in, minimum_in, maximum_in, collection_said, scope_said, strategy_said, redundancy_in, agreeing_in, copies_in, version_in, strategy_in, type_in, initial_in}
+use Rattle.manifest.specs.Parts.{Listed, storages, elements, elements_word, all_elements, name_in, minimum_in, maximum_in, collection_said, scope_said, strategy_said, redundancy_in, agreeing_in, copies_in, version_in, strategy_in, type_in, initial_in}
 
 -- ---- of the manifest as a whole
 
@@ -44,9 +45,13 @@ is_named l = is_name (name_in l.1)
 unfoldable pub are_named : List Listed → Bool
 are_named ls = list_all is_named ls
 
--- of things with one name only one is found by it, so there are as many by their names as in the list where no two have the same
+-- no name stands again behind its place
+abbrev pub all_differ : List (List ℕ) → Bool
+all_differ [] = true
+all_differ (name ∷ names) = not (list_any (bytes_eq name) names) && all_differ names
+
 unfoldable pub names_differ : List Listed → Bool
-names_differ ls = length (named ls) == length ls
+names_differ ls = all_differ (map (λ (l : Listed). name_in l.1) ls)
 
 abbrev pub has_size : ℕ → Data → Bool
 has_size least d = is_within least 4194304 (whole_in (Some d))
@@ -135,6 +140,10 @@ has_different_elements s = names_differ (elements s)
 unfoldable pub elements_differ : List Listed → Bool
 elements_differ ss = list_all has_different_elements ss
 
+-- every element has a name, and no two of a storage have the same
+abbrev pub elements_are_named : List Listed → Bool
+elements_are_named ss = are_named (all_elements ss) && elements_differ ss
+
 unfoldable pub has_type : Listed → Bool
 has_type (Keys, d) = is_some (type_in d)
 has_type (Files, d) = true
@@ -173,7 +182,7 @@ abbrev pub first_broken : {A : Type 0} → List (ℕ × (A → Bool)) → A → 
 first_broken [] a = None
 first_broken (rule ∷ rules) a = if rule.1 a then first_broken rules a else Some rule.0
 
--- rules 1 and 2 are of the text: it has at most 65,536 bytes, and it is read as a JSON value
+-- rules 1 and 2 are of the text, and stand where it is read
 abbrev pub whole_rules : List (ℕ × (Data → Bool))
 whole_rules = (3, is_an_object)
     ∷ (4, has_version)
@@ -198,7 +207,7 @@ storage_rules = (8, storages_have_known_members)
 
 abbrev pub element_rules : List (ℕ × (List Listed → Bool))
 element_rules = (19, λ ss. elements_have_known_members (all_elements ss))
-    ∷ (20, λ ss. are_named (all_elements ss) && elements_differ ss)
+    ∷ (20, elements_are_named)
     ∷ (21, λ ss. keys_have_types (all_elements ss))
     ∷ (22, λ ss. initials_are_read (all_elements ss))
     ∷ (23, λ ss. elements_have_strategies (all_elements ss))

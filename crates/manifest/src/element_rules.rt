@@ -4,9 +4,9 @@ ghost use Rattle.std.specs.Prelude.{◌≡◌, ◌&&◌, ◌||◌, IfOk, codes, 
 ghost use Rattle.deployment_model.specs.Conditions.{overwrites};
 ghost use Rattle.serde_json.specs.Find.{get};
 ghost use Rattle.serde_json.specs.View.{view};
-ghost use Rattle.manifest.specs.Parts.{elements, strategy_in};
+ghost use Rattle.manifest.specs.Parts.{all_elements, elements, strategy_in};
 ghost use Rattle.manifest.specs.Reading.{Judges};
-ghost use Rattle.manifest.specs.Rules.{are_named, element_rules, elements_differ, elements_have_known_members, elements_have_strategies, first_broken, has_different_elements, has_element_members, has_room, has_strategy, has_type, initial_size, initials_are_read, initials_fit, keys_have_types, may_start, says_strategy};
+ghost use Rattle.manifest.specs.Rules.{are_named, element_rules, elements_are_named, elements_differ, elements_have_known_members, elements_have_strategies, first_broken, has_different_elements, has_element_members, has_room, has_strategy, has_type, initial_size, initials_are_read, initials_fit, keys_have_types, may_start, says_strategy};
 ghost use Rattle.manifest.specs.Values.{may_be};
 ghost use Rattle.manifest.specs.Views.{listed_view, listed_views};
 
@@ -63,7 +63,8 @@ fn elements_are_named(
     storages: &[Listed<'_>],
     elements: &[Listed<'_>],
 ) -> Result<bool, AllocError>
-    ensures { IfOk result (λ named. named ≡ (are_named (listed_views elements.now) && elements_differ (listed_views storages.now))) }
+    requires { listed_views elements.now ≡ all_elements (listed_views storages.now) }
+    ensures { IfOk result (λ named. named ≡ elements_are_named (listed_views storages.now)) }
 {
     if !are_named(alloc, elements)? {
         return Ok(false);

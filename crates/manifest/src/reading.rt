@@ -5,7 +5,7 @@ ghost use Rattle.serde_json.specs.View.{view};
 ghost use Rattle.deployment_model.specs.Conditions.{IsDeployment};
 ghost use Rattle.deployment_model.specs.Data.{deployment_data};
 ghost use Rattle.manifest.specs.Contents.{deployment_said};
-ghost use Rattle.manifest.specs.Reading.{Judges, Reads, Refuses, broken_rule, deployment_in, value_of};
+ghost use Rattle.manifest.specs.Reading.{Judges, Reads, Refuses, broken_rule, deployment_in, is_short, value_of};
 ghost use Rattle.manifest.specs.Rules.{least_broken};
 
 use crate::building::deployment_said;
@@ -41,14 +41,21 @@ fn read_text(alloc: Global, bytes: &[u8]) -> Result<Deployment, ManifestError>
     ensures judged { Judges result (broken_rule bytes.now) }
     ensures said { IfOk result (λ d. deployment_in bytes.now ≡ Some (deployment_data d)) }
 {
-    if bytes.len() > MAX_BYTES {
+    if !is_short(bytes) {
         return Err(ManifestError::Rejected(1));
     }
     let manifest = value_of(alloc, bytes)?;
     deployment_of(alloc, &manifest)
 }
 
-/// The value that the text is.
+/// Rule 1: the text has at most 65,536 bytes.
+fn is_short(bytes: &[u8]) -> bool
+    ensures { result ≡ is_short bytes.now }
+{
+    bytes.len() <= MAX_BYTES
+}
+
+/// Rule 2: the text is read as a value, which is this one.
 #[tactic(auto, unfolding(crate::specs::Reading::value_of))]
 fn value_of(alloc: Global, bytes: &[u8]) -> Result<Value, ManifestError>
     ensures { Reads result (value_of bytes.now) }

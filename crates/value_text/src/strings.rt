@@ -1,6 +1,6 @@
 //! Texts in quotes, and bytes in hexadecimal digits.
 
-ghost use Rattle.std.specs.Prelude.{◌≡◌, false, IfSome, length, ◌<◌};
+ghost use Rattle.std.specs.Prelude.{◌≡◌, false, IfSome, Some, length, option_map, ◌<◌};
 ghost use Rattle.value_text.specs.Readers.{Finds, Gives, hex_value, byte_at, bytes_at, meant_by, quoted_at};
 ghost use Rattle.value_text.specs.Parsing.{text_at};
 
@@ -94,11 +94,25 @@ fn byte_at(bytes: &[u8]) -> Option<(u8, &[u8])>
     Some((16 * high + low, rest))
 }
 
-/// As many bytes as stand at the front in two digits each, and what follows them.
+/// How many bytes stand at the front in two digits each.
+fn count_at(bytes: &[u8]) -> usize
+    ensures { option_map (λ x. length x.0) (bytes_at (length bytes.now) bytes.now) ≡ Some result }
+{
+    let mut rest = bytes;
+    for count in 0..bytes.len() {
+        let Some((_, others)) = byte_at(rest) else {
+            return count;
+        };
+        rest = others;
+    }
+    bytes.len()
+}
+
+/// As many bytes as stand at the front in two digits each, and what follows them. Their room is taken at once.
 pub(crate) fn bytes_at(alloc: Global, bytes: &[u8]) -> Result<(Bytes, &[u8]), DecodeError>
     ensures { Gives (λ x. (x.0, x.1.now)) result (bytes_at (length bytes.now) bytes.now) }
 {
-    let mut found = Vec::new(alloc);
+    let mut found = Vec::with_capacity(alloc, count_at(bytes))?;
     let mut rest = bytes;
     for _ in 0..bytes.len() {
         let Some((byte, others)) = byte_at(rest) else {
