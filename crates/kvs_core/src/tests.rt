@@ -180,6 +180,7 @@ fn damaged(alloc: Global, has_initial: bool, key: Entry) -> Result<KeySession, F
 }
 
 /// A session of a storage without a key.
+#[tactic(auto, using(key_maps::proofs::Ordered::sorted_none))]
 fn empty(alloc: Global, maximum: u64) -> Result<KeySession, Fail> {
     let config = configured(alloc, maximum, false, false)?;
     Ok(KeySession::new(alloc, &config, &[])?)
@@ -191,10 +192,14 @@ fn refusal(alloc: Global, error: PerError) -> Result<String, Fail> {
     match error {
         PerError::IntegrityCorrupted {
             unit: Unit::Part(storage, key),
-        } => Ok(format!(in alloc; "IntegrityCorrupted {}:{}", storage.as_str(), key.as_str())?),
+        } => Ok(format!(in alloc; "IntegrityCorrupted({}:{})", storage.as_str(), key.as_str())?),
         PerError::DataTypeMismatch { stored, asked } => {
-            Ok(format!(in alloc; "DataTypeMismatch {} {}", stored.as_str(), asked.as_str())?)
+            Ok(format!(in alloc; "DataTypeMismatch({},{})", stored.as_str(), asked.as_str())?)
         }
+        PerError::OutOfStorageSpace { needed, allowed } => {
+            Ok(format!(in alloc; "OutOfStorageSpace({needed},{allowed})")?)
+        }
+        PerError::LimitReached { which } => Ok(format!(in alloc; "LimitReached({which:?})")?),
         error => Ok(format!(in alloc; "{error:?}")?),
     }
 }
@@ -225,21 +230,20 @@ fn typed<T: PerValue + Drop>(
     }
 }
 
-/// The names, each after a space.
+/// The names, each before a comma.
 fn names(alloc: Global, session: &KeySession) -> Result<String, Fail> {
     let mut text = String::new(alloc);
     for name in &session.all_keys()? {
-        text.push(' ')?;
         text.push_str(name.as_str())?;
+        text.push(',')?;
     }
     Ok(text)
 }
 
-/// What a sync hands down: each name after a space, with its bytes or a dash.
+/// What a sync hands down: each name with its bytes or a dash, before a comma.
 fn changes(alloc: Global, session: &KeySession) -> Result<String, Fail> {
     let mut text = String::new(alloc);
     for (name, change) in &session.changes()? {
-        text.push(' ')?;
         text.push_str(name.as_str())?;
         match change {
             KeyChange::Put(bytes) => {
@@ -248,6 +252,7 @@ fn changes(alloc: Global, session: &KeySession) -> Result<String, Fail> {
             }
             KeyChange::Remove => text.push('-')?,
         }
+        text.push(',')?;
     }
     Ok(text)
 }
@@ -286,31 +291,25 @@ fn single(alloc: Global, session: &mut KeySession, call: &str, key: &Name) -> Re
     }
 }
 
-/// The answer of a call: its name, then the key and the value that it takes.
-fn answer(alloc: Global, session: &mut KeySession, line: &str) -> Result<String, Fail> {
-    let mut words = line.split_whitespace();
-    let call = words.next().unwrap_or("");
-    let Some(key) = words.next() else {
+/// The answer of one call: `CALL`, `CALL.KEY` or `CALL.KEY=VALUE`.
+fn answer(alloc: Global, session: &mut KeySession, call: &str) -> Result<String, Fail> {
+    let Some((call, key)) = call.split_once('.') else {
         return whole(alloc, session, call);
     };
-    let key = Name::new(alloc, key)?;
-    let Some(value) = words.next() else {
-        return single(alloc, session, call, &key);
+    let Some((key, value)) = key.split_once('=') else {
+        return single(alloc, session, call, &Name::new(alloc, key)?);
     };
     let value = parse_value(alloc, value.as_bytes())?;
-    done(alloc, session.set_any(&key, value))
+    done(alloc, session.set_any(&Name::new(alloc, key)?, value))
 }
 
-/// Makes a call, and asserts its answer.
-fn row(
-    rt: &impl Abort,
-    alloc: Global,
-    session: &mut KeySession,
-    line: &str,
-    wanted: &str,
-) -> Result<(), Fail> {
-    let given = answer(alloc, session, line)?;
-    assert_eq!(rt; given.as_str(), wanted, "at {line}");
+/// Makes the calls of these rows, `CALL->ANSWER` each, and asserts their answers.
+fn rows(rt: &impl Abort, alloc: Global, session: &mut KeySession, rows: &str) -> Result<(), Fail> {
+    for row in rows.split_whitespace() {
+        let (call, wanted) = row.split_once("->").ok_or("no answer")?;
+        let given = answer(alloc, session, call)?;
+        assert_eq!(rt; given.as_str(), wanted, "at {call}");
+    }
     Ok(())
 }
 
@@ -320,100 +319,57 @@ fn row(
 fn keys_are_read(rt: HostRuntime) -> Result<(), Fail> {
     let alloc = rt.alloc();
     let mut fav = installed(alloc)?;
-    for (line, wanted) in [
-        ("get home", "u16:513"),
-        ("get-u16 home", "u16:513"),
-        ("get-u8 home", "DataTypeMismatch u16 u8"),
-        ("get work", "KeyNotFound"),
-        ("get-u16 work", "KeyNotFound"),
-        ("exists home", "true"),
-        ("exists work", "false"),
-        ("keys", " home"),
-        ("size", "7"),
-    ] {
-        row(&rt, alloc, &mut fav, line, wanted)?;
-    }
-    Ok(())
+    let table = "
+        get.home->u16:513 get-u16.home->u16:513 get-u8.home->DataTypeMismatch(u16,u8)
+        get.work->KeyNotFound get-u16.work->KeyNotFound exists.home->true exists.work->false
+        keys->home, size->7
+    ";
+    rows(&rt, alloc, &mut fav, table)
 }
 
 #[test]
 fn a_value_is_set_and_discarded(rt: HostRuntime) -> Result<(), Fail> {
     let alloc = rt.alloc();
     let mut fav = installed(alloc)?;
-    for (line, wanted) in [
-        ("set home u16:9", "ok"),
-        ("get home", "u16:9"),
-        ("discard", "ok"),
-        ("get home", "u16:513"),
-        ("set work bool:true", "ok"),
-        ("keys", " home work"),
-        ("size", "13"),
-        ("discard", "ok"),
-        ("keys", " home"),
-        ("size", "7"),
-    ] {
-        row(&rt, alloc, &mut fav, line, wanted)?;
-    }
-    Ok(())
+    let table = "
+        set.home=u16:9->ok get.home->u16:9 discard->ok get.home->u16:513 set.work=bool:true->ok
+        keys->home,work, size->13 discard->ok keys->home, size->7
+    ";
+    rows(&rt, alloc, &mut fav, table)
 }
 
 #[test]
 fn removals_are_discarded(rt: HostRuntime) -> Result<(), Fail> {
     let alloc = rt.alloc();
     let mut fav = installed(alloc)?;
-    for (line, wanted) in [
-        ("remove home", "ok"),
-        ("exists home", "false"),
-        ("remove home", "KeyNotFound"),
-        ("size", "0"),
-        ("discard", "ok"),
-        ("get home", "u16:513"),
-        ("size", "7"),
-        ("set work bool:true", "ok"),
-        ("remove-all", "ok"),
-        ("size", "0"),
-        ("keys", ""),
-        ("exists home", "false"),
-        ("discard", "ok"),
-        ("exists home", "true"),
-        ("keys", " home"),
-        ("size", "7"),
-    ] {
-        row(&rt, alloc, &mut fav, line, wanted)?;
-    }
-    Ok(())
+    let table = "
+        remove.home->ok exists.home->false remove.home->KeyNotFound size->0 discard->ok
+        get.home->u16:513 size->7 set.work=bool:true->ok remove-all->ok size->0 keys->
+        exists.home->false discard->ok exists.home->true keys->home, size->7
+    ";
+    rows(&rt, alloc, &mut fav, table)
 }
 
 #[test]
 fn a_configured_key_keeps_its_type(rt: HostRuntime) -> Result<(), Fail> {
     let alloc = rt.alloc();
     let mut fav = installed(alloc)?;
-    for (line, wanted) in [
-        ("set home u32:1", "DataTypeMismatch u16 u32"),
-        ("get home", "u16:513"),
-        ("remove home", "ok"),
-        ("set home u32:1", "DataTypeMismatch u16 u32"),
-        ("exists home", "false"),
-    ] {
-        row(&rt, alloc, &mut fav, line, wanted)?;
-    }
-    Ok(())
+    let table = "
+        set.home=u32:1->DataTypeMismatch(u16,u32) get.home->u16:513 remove.home->ok
+        set.home=u32:1->DataTypeMismatch(u16,u32) exists.home->false
+    ";
+    rows(&rt, alloc, &mut fav, table)
 }
 
 #[test]
 fn another_key_keeps_the_type_of_its_value(rt: HostRuntime) -> Result<(), Fail> {
     let alloc = rt.alloc();
     let mut fav = installed(alloc)?;
-    for (line, wanted) in [
-        ("set work list<u8>[u8:1]", "ok"),
-        ("set work u8:1", "DataTypeMismatch list<u8> u8"),
-        ("get work", "list<u8>[u8:1]"),
-        ("remove work", "ok"),
-        ("set work u8:1", "ok"),
-    ] {
-        row(&rt, alloc, &mut fav, line, wanted)?;
-    }
-    Ok(())
+    let table = "
+        set.work=list<u8>[u8:1]->ok set.work=u8:1->DataTypeMismatch(list<u8>,u8)
+        get.work->list<u8>[u8:1] remove.work->ok set.work=u8:1->ok
+    ";
+    rows(&rt, alloc, &mut fav, table)
 }
 
 // ---- recovering and resetting
@@ -422,56 +378,31 @@ fn another_key_keeps_the_type_of_its_value(rt: HostRuntime) -> Result<(), Fail> 
 fn a_key_is_recovered_from_its_salvage(rt: HostRuntime) -> Result<(), Fail> {
     let alloc = rt.alloc();
     let mut fav = damaged(alloc, true, salvaged(alloc, "home", [3, 9, 0])?)?;
-    for (line, wanted) in [
-        ("get home", "IntegrityCorrupted fav:home"),
-        ("get-u16 home", "IntegrityCorrupted fav:home"),
-        ("exists home", "true"),
-        ("keys", " home"),
-        ("size", "7"),
-        ("changed", "false"),
-        ("recover home", "ok"),
-        ("get home", "u16:9"),
-        ("size", "7"),
-        ("changes", " home=030900"),
-        ("discard", "ok"),
-        ("get home", "IntegrityCorrupted fav:home"),
-    ] {
-        row(&rt, alloc, &mut fav, line, wanted)?;
-    }
-    Ok(())
+    let table = "
+        get.home->IntegrityCorrupted(fav:home) get-u16.home->IntegrityCorrupted(fav:home)
+        exists.home->true keys->home, size->7 changed->false recover.home->ok get.home->u16:9
+        size->7 changes->home=030900, discard->ok get.home->IntegrityCorrupted(fav:home)
+    ";
+    rows(&rt, alloc, &mut fav, table)
 }
 
 #[test]
 fn a_key_without_salvage_gets_its_initial_value(rt: HostRuntime) -> Result<(), Fail> {
     let alloc = rt.alloc();
     let mut fav = damaged(alloc, true, lost(alloc, "home", 5)?)?;
-    for (line, wanted) in [
-        ("get home", "IntegrityCorrupted fav:home"),
-        ("size", "9"),
-        ("recover home", "ok"),
-        ("get home", "u16:513"),
-        ("size", "7"),
-        ("changes", " home=030102"),
-    ] {
-        row(&rt, alloc, &mut fav, line, wanted)?;
-    }
-    Ok(())
+    let table = "
+        get.home->IntegrityCorrupted(fav:home) size->9 recover.home->ok get.home->u16:513 size->7
+        changes->home=030102,
+    ";
+    rows(&rt, alloc, &mut fav, table)
 }
 
 #[test]
 fn a_key_with_neither_goes(rt: HostRuntime) -> Result<(), Fail> {
     let alloc = rt.alloc();
     let mut fav = damaged(alloc, true, lost(alloc, "work", 2)?)?;
-    for (line, wanted) in [
-        ("size", "6"),
-        ("recover work", "ok"),
-        ("exists work", "false"),
-        ("size", "0"),
-        ("changes", " work-"),
-    ] {
-        row(&rt, alloc, &mut fav, line, wanted)?;
-    }
-    Ok(())
+    let table = "size->6 recover.work->ok exists.work->false size->0 changes->work-,";
+    rows(&rt, alloc, &mut fav, table)
 }
 
 #[test]
@@ -479,34 +410,24 @@ fn bytes_that_are_no_value_are_no_salvage(rt: HostRuntime) -> Result<(), Fail> {
     let alloc = rt.alloc();
     let no_value = agreed(alloc, "home", [1, 2, 0])?;
     let mut fav = damaged(alloc, false, no_value)?;
-    for (line, wanted) in [
-        ("get home", "IntegrityCorrupted fav:home"),
-        ("recover home", "ok"),
-        ("exists home", "false"),
-    ] {
-        row(&rt, alloc, &mut fav, line, wanted)?;
-    }
+    let table = "
+        get.home->IntegrityCorrupted(fav:home) recover.home->ok exists.home->false
+    ";
+    rows(&rt, alloc, &mut fav, table)?;
     let no_value = salvaged(alloc, "home", [1, 2, 0])?;
     let mut fav = damaged(alloc, true, no_value)?;
-    for (line, wanted) in [("recover home", "ok"), ("get home", "u16:513")] {
-        row(&rt, alloc, &mut fav, line, wanted)?;
-    }
-    Ok(())
+    let table = "recover.home->ok get.home->u16:513";
+    rows(&rt, alloc, &mut fav, table)
 }
 
 #[test]
 fn a_readable_key_stays(rt: HostRuntime) -> Result<(), Fail> {
     let alloc = rt.alloc();
     let mut fav = installed(alloc)?;
-    for (line, wanted) in [
-        ("set home u16:9", "ok"),
-        ("recover home", "ok"),
-        ("get home", "u16:9"),
-        ("recover work", "KeyNotFound"),
-    ] {
-        row(&rt, alloc, &mut fav, line, wanted)?;
-    }
-    Ok(())
+    let table = "
+        set.home=u16:9->ok recover.home->ok get.home->u16:9 recover.work->KeyNotFound
+    ";
+    rows(&rt, alloc, &mut fav, table)
 }
 
 #[test]
@@ -514,83 +435,52 @@ fn an_initial_value_may_not_fit(rt: HostRuntime) -> Result<(), Fail> {
     let alloc = rt.alloc();
     let config = configured(alloc, 12, false, true)?;
     let mut fav = opened(alloc, &config, lost(alloc, "home", 1)?)?;
-    for (line, wanted) in [
-        ("set b bytes:", "ok"),
-        ("size", "11"),
-        (
-            "recover home",
-            "OutOfStorageSpace { needed: 13, allowed: 12 }",
-        ),
-        (
-            "reset home",
-            "OutOfStorageSpace { needed: 13, allowed: 12 }",
-        ),
-        ("size", "11"),
-        ("remove b", "ok"),
-        ("recover home", "ok"),
-        ("get home", "u16:513"),
-    ] {
-        row(&rt, alloc, &mut fav, line, wanted)?;
-    }
-    Ok(())
+    let table = "
+        set.b=bytes:->ok size->11 recover.home->OutOfStorageSpace(13,12)
+        reset.home->OutOfStorageSpace(13,12) size->11 remove.b->ok recover.home->ok
+        get.home->u16:513
+    ";
+    rows(&rt, alloc, &mut fav, table)
 }
 
 #[test]
 fn a_key_is_reset(rt: HostRuntime) -> Result<(), Fail> {
     let alloc = rt.alloc();
     let mut fav = installed(alloc)?;
-    for (line, wanted) in [
-        ("set home u16:9", "ok"),
-        ("settle", "ok"),
-        ("reset home", "ok"),
-        ("get home", "u16:513"),
-        ("changes", " home=030102"),
-        ("remove home", "ok"),
-        ("reset home", "ok"),
-        ("get home", "u16:513"),
-        ("discard", "ok"),
-        ("get home", "u16:9"),
-        ("reset work", "InitValueNotAvailable"),
-    ] {
-        row(&rt, alloc, &mut fav, line, wanted)?;
-    }
-    Ok(())
+    let table = "
+        set.home=u16:9->ok settle->ok reset.home->ok get.home->u16:513 changes->home=030102,
+        remove.home->ok reset.home->ok get.home->u16:513 discard->ok get.home->u16:9
+        reset.work->InitValueNotAvailable
+    ";
+    rows(&rt, alloc, &mut fav, table)
 }
 
 #[test]
 fn a_key_may_have_no_initial_value(rt: HostRuntime) -> Result<(), Fail> {
     let alloc = rt.alloc();
     let mut fav = empty(alloc, STORAGE_BYTES)?;
-    for (line, wanted) in [
-        ("reset home", "InitValueNotAvailable"),
-        ("set home u16:9", "ok"),
-        ("reset home", "InitValueNotAvailable"),
-        ("get home", "u16:9"),
-    ] {
-        row(&rt, alloc, &mut fav, line, wanted)?;
-    }
-    Ok(())
+    let table = "
+        reset.home->InitValueNotAvailable set.home=u16:9->ok reset.home->InitValueNotAvailable
+        get.home->u16:9
+    ";
+    rows(&rt, alloc, &mut fav, table)
 }
 
 #[test]
 fn an_unreadable_key_has_no_type(rt: HostRuntime) -> Result<(), Fail> {
     let alloc = rt.alloc();
     let mut fav = damaged(alloc, true, salvaged(alloc, "work", [3, 9, 0])?)?;
-    for (line, wanted) in [
-        ("get work", "IntegrityCorrupted fav:work"),
-        ("set work bool:true", "ok"),
-        ("get work", "bool:true"),
-        ("set work u16:9", "DataTypeMismatch bool u16"),
-    ] {
-        row(&rt, alloc, &mut fav, line, wanted)?;
-    }
+    let table = "
+        get.work->IntegrityCorrupted(fav:work) set.work=bool:true->ok get.work->bool:true
+        set.work=u16:9->DataTypeMismatch(bool,u16)
+    ";
+    rows(&rt, alloc, &mut fav, table)?;
     let mut fav = damaged(alloc, true, salvaged(alloc, "home", [3, 9, 0])?)?;
-    row(
+    rows(
         &rt,
         alloc,
         &mut fav,
-        "set home u8:9",
-        "DataTypeMismatch u16 u8",
+        "set.home=u8:9->DataTypeMismatch(u16,u8)",
     )
 }
 
@@ -600,24 +490,12 @@ fn an_unreadable_key_has_no_type(rt: HostRuntime) -> Result<(), Fail> {
 fn sizes_count_names(rt: HostRuntime) -> Result<(), Fail> {
     let alloc = rt.alloc();
     let mut fav = empty(alloc, 12)?;
-    for (line, wanted) in [
-        ("set a bytes:010203040506", "ok"),
-        ("size", "12"),
-        (
-            "set a bytes:01020304050607",
-            "OutOfStorageSpace { needed: 13, allowed: 12 }",
-        ),
-        (
-            "set b bool:true",
-            "OutOfStorageSpace { needed: 15, allowed: 12 }",
-        ),
-        ("size", "12"),
-        ("get a", "bytes:010203040506"),
-        ("exists b", "false"),
-    ] {
-        row(&rt, alloc, &mut fav, line, wanted)?;
-    }
-    Ok(())
+    let table = "
+        set.a=bytes:010203040506->ok size->12 set.a=bytes:01020304050607->OutOfStorageSpace(13,12)
+        set.b=bool:true->OutOfStorageSpace(15,12) size->12 get.a->bytes:010203040506
+        exists.b->false
+    ";
+    rows(&rt, alloc, &mut fav, table)
 }
 
 #[test]
@@ -625,23 +503,15 @@ fn a_read_only_storage_is_only_read(rt: HostRuntime) -> Result<(), Fail> {
     let alloc = rt.alloc();
     let config = configured(alloc, STORAGE_BYTES, true, true)?;
     let mut fav = opened(alloc, &config, salvaged(alloc, "home", [3, 9, 0])?)?;
-    for (line, wanted) in [
-        ("set home u16:9", "IllegalWriteAccess"),
-        ("set home u32:9", "IllegalWriteAccess"),
-        ("remove home", "IllegalWriteAccess"),
-        ("remove work", "IllegalWriteAccess"),
-        ("remove-all", "IllegalWriteAccess"),
-        ("recover home", "IllegalWriteAccess"),
-        ("recover work", "IllegalWriteAccess"),
-        ("reset home", "IllegalWriteAccess"),
-        ("reset work", "IllegalWriteAccess"),
-        ("changed", "false"),
-        ("keys", " home"),
-        ("get home", "IntegrityCorrupted fav:home"),
-    ] {
-        row(&rt, alloc, &mut fav, line, wanted)?;
-    }
-    Ok(())
+    let table = "
+        set.home=u16:9->IllegalWriteAccess set.home=u32:9->IllegalWriteAccess
+        remove.home->IllegalWriteAccess remove.work->IllegalWriteAccess
+        remove-all->IllegalWriteAccess recover.home->IllegalWriteAccess
+        recover.work->IllegalWriteAccess reset.home->IllegalWriteAccess
+        reset.work->IllegalWriteAccess changed->false keys->home,
+        get.home->IntegrityCorrupted(fav:home)
+    ";
+    rows(&rt, alloc, &mut fav, table)
 }
 
 /// Sets keys until one more would be one too many.
@@ -658,20 +528,12 @@ fn keys_are_limited(rt: HostRuntime) -> Result<(), Fail> {
     let alloc = rt.alloc();
     let mut fav = installed(alloc)?;
     fill(alloc, &mut fav)?;
-    for (line, wanted) in [
-        ("set k1024 bool:true", "LimitReached { which: Elements }"),
-        ("set k1 u8:0", "DataTypeMismatch bool u8"),
-        ("set k1 bool:false", "ok"),
-        ("get k1023", "bool:true"),
-        ("remove home", "ok"),
-        ("set k1024 bool:true", "ok"),
-        ("reset home", "LimitReached { which: Elements }"),
-        ("discard", "ok"),
-        ("keys", " home"),
-    ] {
-        row(&rt, alloc, &mut fav, line, wanted)?;
-    }
-    Ok(())
+    let table = "
+        set.k1024=bool:true->LimitReached(Elements) set.k1=u8:0->DataTypeMismatch(bool,u8)
+        set.k1=bool:false->ok get.k1023->bool:true remove.home->ok set.k1024=bool:true->ok
+        reset.home->LimitReached(Elements) discard->ok keys->home,
+    ";
+    rows(&rt, alloc, &mut fav, table)
 }
 
 /// A text of this many letters.
@@ -715,12 +577,11 @@ fn a_group_of_fields_goes_there_and_back(rt: HostRuntime) -> Result<(), Fail> {
     let back = fav.get_value::<Favourite>(&key)?;
     assert_eq!(rt; (back.lat, back.lon), (1, -2));
     assert_eq!(rt; back.label.as_str(), "x");
-    row(
+    rows(
         &rt,
         alloc,
         &mut fav,
-        "get-u8 f",
-        "DataTypeMismatch {i32,i32,text} u8",
+        "get-u8.f->DataTypeMismatch({i32,i32,text},u8)",
     )
 }
 
@@ -730,48 +591,21 @@ fn a_group_of_fields_goes_there_and_back(rt: HostRuntime) -> Result<(), Fail> {
 fn only_what_differs_is_handed_down(rt: HostRuntime) -> Result<(), Fail> {
     let alloc = rt.alloc();
     let mut fav = installed(alloc)?;
-    for (line, wanted) in [
-        ("changed", "false"),
-        ("changes", ""),
-        ("set home u16:9", "ok"),
-        ("set work bool:true", "ok"),
-        ("changed", "true"),
-        ("changes", " home=030900 work=0101"),
-        ("set home u16:513", "ok"),
-        ("changes", " work=0101"),
-        ("remove work", "ok"),
-        ("changed", "false"),
-        ("changes", ""),
-        ("remove-all", "ok"),
-        ("changes", " home-"),
-        ("reset home", "ok"),
-        ("changed", "false"),
-    ] {
-        row(&rt, alloc, &mut fav, line, wanted)?;
-    }
-    Ok(())
+    let table = "
+        changed->false changes-> set.home=u16:9->ok set.work=bool:true->ok changed->true
+        changes->home=030900,work=0101, set.home=u16:513->ok changes->work=0101, remove.work->ok
+        changed->false changes-> remove-all->ok changes->home-, reset.home->ok changed->false
+    ";
+    rows(&rt, alloc, &mut fav, table)
 }
 
 #[test]
 fn what_is_settled_stays(rt: HostRuntime) -> Result<(), Fail> {
     let alloc = rt.alloc();
     let mut fav = installed(alloc)?;
-    for (line, wanted) in [
-        ("set work bool:true", "ok"),
-        ("remove home", "ok"),
-        ("settle", "ok"),
-        ("changed", "false"),
-        ("changes", ""),
-        ("discard", "ok"),
-        ("keys", " work"),
-        ("size", "6"),
-        ("remove work", "ok"),
-        ("changes", " work-"),
-        ("settle", "ok"),
-        ("discard", "ok"),
-        ("size", "0"),
-    ] {
-        row(&rt, alloc, &mut fav, line, wanted)?;
-    }
-    Ok(())
+    let table = "
+        set.work=bool:true->ok remove.home->ok settle->ok changed->false changes-> discard->ok
+        keys->work, size->6 remove.work->ok changes->work-, settle->ok discard->ok size->0
+    ";
+    rows(&rt, alloc, &mut fav, table)
 }
