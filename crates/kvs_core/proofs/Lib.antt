@@ -1,3 +1,4 @@
 pub mod Contents
+pub mod OneKey
 pub mod Recoveries
 pub mod SameKinds

@@ -13,6 +13,8 @@ mod reading;
 mod restoring;
 mod session;
 mod syncing;
+#[cfg(test)]
+mod tests;
 mod typing;
 mod writing;
 
