@@ -17,6 +17,10 @@ use Rattle.file_handles.specs.Sessions.{IsFileAt, SameBeside}
 use Rattle.file_handles.specs.Tables.{AreFiles}
 use Rattle.file_handles.proofs.Lookups.{file_put, file_gone}
 
+-- an empty map has no element
+pub whole_none : AreFiles []
+whole_none name = tt
+
 pub whole_put : (files : Map) (name : List ℕ) (new : Element) → AreFiles files → IsFile new → AreFiles (with_element files name new)
 whole_put files name new whole is other = subst IsFileAt (sym (file_put files other name new)) (by (is_at (name_cmp other) name))
   where
