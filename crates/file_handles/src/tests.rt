@@ -76,6 +76,21 @@ fn joined(names: &[Name], alloc: Global) -> Result<String, Fail> {
     Ok(text)
 }
 
+/// An opening by the call for its kind.
+fn opened(
+    table: &mut FileTable,
+    name: &Name,
+    kind: OpenKind,
+    mode: OpenMode,
+    now: u64,
+) -> Result<u32, PerError> {
+    match kind {
+        OpenKind::Read => table.open_read_only(name, mode, now),
+        OpenKind::Write => table.open_write_only(name, mode, now),
+        OpenKind::ReadWrite => table.open_read_write(name, mode, now),
+    }
+}
+
 /// What the table answers at a moment to a call on this file.
 fn answer(
     alloc: Global,
@@ -86,7 +101,7 @@ fn answer(
 ) -> Result<String, Fail> {
     match call {
         Call::CanOpen(kind, mode) => shown(table.can_open(name, kind, mode), alloc),
-        Call::Open(kind, mode) => shown(table.open_file(name, kind, mode, now), alloc),
+        Call::Open(kind, mode) => shown(opened(table, name, kind, mode, now), alloc),
         Call::WouldFit(len) => shown(table.would_fit(name, len), alloc),
         Call::FileSize => shown(table.current_file_size(name), alloc),
         Call::Info => shown(table.file_info(name), alloc),
