@@ -1,5 +1,5 @@
 -- A file: an element with an info, whose length is that of its content; and what writing and cutting make of it.
-use Rattle.std.specs.Prelude.{◌≡◌, ℕ, ◌+◌, ◌≤◌, List, [], length, take, Bool, true, false, not, cond, ◌==◌, nat_lt, nat_le, Option, Some, None, IsSome, option_map, Result, Ok, Err}
+use Rattle.std.specs.Prelude.{◌≡◌, ℕ, ◌+◌, ◌<◌, ◌≤◌, List, [], length, take, Bool, true, false, not, cond, ◌==◌, nat_lt, nat_le, Option, Some, None, IsSome, option_map, Result, Ok, Err}
 use Rattle.per_base.specs.declared.elements.Cause.{Cause}
 use Rattle.per_base.specs.declared.elements.Cause.TheVariants.{Application}
 use Rattle.per_base.specs.declared.elements.Content.{Content}
@@ -58,6 +58,10 @@ abbrev pub too_long : Room → ℕ → Option PerError
 too_long room len =
     cond (nat_lt 1048576 len) (Some (LimitReached FileBytes))
     (cond (nat_lt room.allowed (room.others + len)) (Some (OutOfStorageSpace (room.others + len) room.allowed)) None)
+
+-- a piece that is written reaches past the end
+abbrev pub GrowsBy : Cursor → Element → List ℕ → Type 0
+GrowsBy cursor file piece = length (bytes_of file.content) < write_place cursor (bytes_of file.content) + length piece
 
 -- a piece overwrites and extends from the place of writing, and the place is then past it
 abbrev pub written : Cursor → Element → List ℕ → ℕ → Room → Result (Cursor × Element) PerError

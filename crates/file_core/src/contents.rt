@@ -1,6 +1,6 @@
 //! Changing a content in place.
 
-ghost use Rattle.std.specs.Prelude.{◌≡◌, ◌≤◌, length, take, List, ℕ, IfOk, IfSome, IfNone, IsTrue, OnOk, OnErr};
+ghost use Rattle.std.specs.Prelude.{◌≡◌, ◌<◌, ◌≤◌, ◌+◌, length, take, List, ℕ, IfOk, IfSome, IfNone, IsTrue, OnOk, OnErr};
 ghost use Rattle.file_core.specs.Files.{NoSalvage, bytes_of, is_good};
 ghost use Rattle.file_core.specs.Places.{overwritten};
 
@@ -19,6 +19,7 @@ pub fn overwrite_content(
     ensures ok { OnOk result (content.new ≡ Content.Good (overwritten from piece.now (bytes_of content.old))) }
     ensures len { IfOk result (λ len. len ≡ length (overwritten from piece.now (bytes_of content.old))) }
     ensures unchanged { OnErr result (content.new ≡ content.old) }
+    ensures memory { OnErr result (length (bytes_of content.old) < from + length piece.now) }
 {
     let Content::Good(bytes) = mem::replace(content, Content::Bad(None)) else {
         return Ok(0);
@@ -68,6 +69,7 @@ fn overwrite(bytes: &mut Vec<u8>, from: usize, piece: &[u8]) -> Result<(), Alloc
     requires { from ≤ length bytes.old.items }
     ensures ok { OnOk result (bytes.new.items ≡ overwritten from piece.now bytes.old.items) }
     ensures err { OnErr result (bytes.new.items ≡ bytes.old.items) }
+    ensures memory { OnErr result (length bytes.old.items < from + length piece.now) }
 {
     let inside = usize::min(piece.len(), bytes.len() - from);
     bytes.extend_from_slice(&piece[inside..])?;

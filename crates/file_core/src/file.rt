@@ -1,8 +1,8 @@
 //! A file: an info and a content, whose length is kept.
 
-ghost use Rattle.std.specs.Prelude.{◌≡◌, ◌+◌, ◌≤◌, ◌^◌, length, take, List, ℕ, IfOk, IfErr, IsTrue, OnOk, OnErr};
+ghost use Rattle.std.specs.Prelude.{◌≡◌, ◌+◌, ◌<◌, ◌≤◌, ◌^◌, length, take, List, ℕ, IfOk, IfErr, IsTrue, OnOk, OnErr};
 ghost use Rattle.std.specs.Bool.{OnTrue, OnFalse};
-ghost use Rattle.file_core.specs.Files.{IsFile, NoSalvage, bytes_of, changed_to, cut, file_of, is_good, opened_at, written};
+ghost use Rattle.file_core.specs.Files.{GrowsBy, IsFile, NoSalvage, bytes_of, changed_to, cut, file_of, is_good, opened_at, written};
 ghost use Rattle.file_core.specs.Places as places;
 ghost use Rattle.file_core.specs.Places.{overwritten};
 ghost use Rattle.file_core.specs.Refusals.{IsRefusal};
@@ -121,6 +121,7 @@ impl File {
     pub fn recover(&mut self, now: u64) -> bool
         ensures recovered { OnTrue result ((salvage : List ℕ) × (self.old.content ≡ Content.Bad (Some salvage)) × (self.new ≡ changed_to salvage now Cause.Recovery self.old)) }
         ensures unchanged { OnFalse result ((self.new ≡ self.old) × NoSalvage self.old.content) }
+        ensures file { IsFile self.new }
     {
         let Some(len) = recover_content(&mut self.content) else {
             return false;
@@ -132,7 +133,8 @@ impl File {
 
     /// Writes the piece from the place of the cursor on, which then stands past it. An empty piece changes nothing.
     ///
-    /// Errors: `IllegalWriteAccess` for a kind that only reads; `LimitReached` with `FileBytes`; `OutOfStorageSpace`; `OutOfMemory`.
+    /// Errors: `IllegalWriteAccess` for a kind that only reads; `LimitReached` with `FileBytes`; `OutOfStorageSpace`; `OutOfMemory`,
+    /// and this only where the piece reaches past the end.
     pub fn write(
         &mut self,
         cursor: &mut Cursor,
@@ -150,6 +152,7 @@ impl File {
         ensures kind { cursor.new.kind ≡ cursor.old.kind }
         ensures within { room.others + self.old.len ≤ room.allowed → room.others + self.new.len ≤ room.allowed }
         ensures writer { OnOk result (IsTrue (places.writes cursor.old.kind)) }
+        ensures memory { IfErr result (λ error. error ≡ PerError.OutOfMemory → GrowsBy cursor.old self.old piece.now) }
     {
         if !writes(cursor.kind) {
             return Err(PerError::IllegalWriteAccess);
@@ -202,6 +205,7 @@ impl File {
         requires small { length (overwritten from piece.now (bytes_of self.old.content)) ≤ 1048576 }
         ensures ok { OnOk result (self.new ≡ changed_to (overwritten from piece.now (bytes_of self.old.content)) now Cause.Application self.old) }
         ensures unchanged { OnErr result (self.new ≡ self.old) }
+        ensures memory { OnErr result (length (bytes_of self.old.content) < from + length piece.now) }
     {
         let len = overwrite_content(&mut self.content, from, piece)?;
         self.len = len as u32;

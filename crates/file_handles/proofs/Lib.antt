@@ -5,3 +5,4 @@ pub mod Named
 pub mod Opens
 pub mod Sound
 pub mod Numbers
+pub mod Whole

@@ -25,11 +25,12 @@ use Rattle.file_handles.specs.ByName.{HasSalvage, recovered, salvage_of, salvage
 use Rattle.file_handles.specs.Opening.{busy, too_many}
 use Rattle.file_handles.specs.declared.storage.Storage.{Storage}
 use Rattle.file_handles.specs.Sessions.{Session, Handles, SameBeside, blocking, others, room_for}
-use Rattle.file_handles.specs.Tables.{IsTable}
+use Rattle.file_handles.specs.Tables.{AreFiles, IsTable}
 use Rattle.file_handles.proofs.Entries.{len_fits, size_insert, size_remove, size_set}
 use Rattle.file_handles.proofs.Lookups.{file_put, file_gone}
 use Rattle.file_handles.proofs.Opens.{missing_few, not_blocked}
 use Rattle.file_handles.proofs.Sound.{Unheld, held_beside, unheld_missing}
+use Rattle.file_handles.proofs.Whole.{changed_is_file, file_there, whole_gone, whole_put}
 
 -- a name that no handle blocks for a writer has no handle
 pub unheld : (name : List ℕ) (handles : Handles) → blocking Write name handles ≡ None → Unheld handles name
@@ -48,14 +49,15 @@ beside_put files name new other differ = file_put files other name new ∙ by (i
         let tied : is_at (name_cmp name) other ≡ true = subst (λ x. is_at (name_cmp name) x ≡ true) (sym one) itself in absurd (cc)
     by false p = refl
 
-pub renamed : (storage : Storage) (files later : Map) (handles : Handles) (name : List ℕ) → IsTable storage files handles → blocking Write name handles ≡ None → SameBeside files later name → IsStrictlySortedBy name_cmp (keys_of later) → length later ≤ 1024 → size_of later ≤ storage.maximum → IsTable storage later handles
-renamed storage files later handles name t free same names few room = record {
+pub renamed : (storage : Storage) (files later : Map) (handles : Handles) (name : List ℕ) → IsTable storage files handles → blocking Write name handles ≡ None → SameBeside files later name → AreFiles later → IsStrictlySortedBy name_cmp (keys_of later) → length later ≤ 1024 → size_of later ≤ storage.maximum → IsTable storage later handles
+renamed storage files later handles name t free same whole names few room = record {
   allowed = t.allowed;
   names = names;
   numbers = t.numbers;
   few_files = few;
   few_handles = t.few_handles;
-  from_one = t.from_one;
+  numbered = t.numbered;
+  whole = whole;
   room = room;
   held = held_beside files later handles name t.held same (unheld name handles free);
   alone = t.alone;
@@ -68,26 +70,27 @@ deleted_sound storage files later handles name old size taken t measured free th
     let room : size_of files ≤ storage.maximum = t.room in
     let sizes : size_of (without files name) + (length name + old.len) ≡ size_of files = size_remove files name old there in
     let same_size : size_of later ≡ size_of (without files name) = ap size_of is in (
-      renamed storage files later handles name t free (subst (λ m. SameBeside files m name) (sym is) (beside_gone files name t.names)) names (omega (arith, few, few_files)) (omega (arith, same_size, sizes, room)),
+      renamed storage files later handles name t free (subst (λ m. SameBeside files m name) (sym is) (beside_gone files name t.names)) (subst AreFiles (sym is) (whole_gone files name t.names t.whole)) names (omega (arith, few, few_files)) (omega (arith, same_size, sizes, room)),
       omega (arith, measured, is_taken, same_size, sizes),
     )
 
 -- a table with another file under a name that no handle has
-pub given_sound : (storage : Storage) (files later : Map) (handles : Handles) (name : List ℕ) (old new : Element) (size before after : ℕ) → IsTable storage files handles → size ≡ size_of files → blocking Write name handles ≡ None → element_at files name ≡ Some old → before ≡ old.len → after ≡ new.len → size - before + after ≤ storage.maximum → later ≡ with_element files name new → keys_of later ≡ keys_of files → IsTable storage later handles × (size - before + after ≡ size_of later)
-given_sound storage files later handles name old new size before after t measured free there is_before is_after room is keys =
+pub given_sound : (storage : Storage) (files later : Map) (handles : Handles) (name : List ℕ) (old new : Element) (size before after : ℕ) → IsTable storage files handles → size ≡ size_of files → blocking Write name handles ≡ None → element_at files name ≡ Some old → before ≡ old.len → after ≡ new.len → size - before + after ≤ storage.maximum → IsFile new → later ≡ with_element files name new → keys_of later ≡ keys_of files → IsTable storage later handles × (size - before + after ≡ size_of later)
+given_sound storage files later handles name old new size before after t measured free there is_before is_after room file is keys =
     let few_files : length files ≤ 1024 = t.few_files in
     let sizes : size_of (with_element files name new) + old.len ≡ size_of files + new.len = size_set files name old new there t.names in
     let same_size : size_of later ≡ size_of (with_element files name new) = ap size_of is in
     let total : size - before + after ≡ size_of later = omega (arith, measured, is_before, is_after, same_size, sizes, len_fits files name old there) in (
       renamed storage files later handles name t free (subst (λ m. SameBeside files m name) (sym is) (beside_put files name new))
+          (subst AreFiles (sym is) (whole_put files name new t.whole file))
           (subst (λ ks. IsStrictlySortedBy name_cmp ks) (sym keys) t.names)
           (omega (arith, length-keys_of later, length-keys_of files, ap length keys, few_files)) (omega (arith, total, room)),
       total,
     )
 
 -- a table with a new file that no handle has
-pub made_sound : (storage : Storage) (files later : Map) (handles : Handles) (name : List ℕ) (new : Element) (size extra : ℕ) → IsTable storage files handles → size ≡ size_of files → element_at files name ≡ None → extra ≡ length name + new.len → size + extra ≤ storage.maximum → length files < 1024 → later ≡ with_element files name new → IsStrictlySortedBy name_cmp (keys_of later) → length later ≤ length files + 1 → IsTable storage later handles × (size + extra ≡ size_of later)
-made_sound storage files later handles name new size extra t measured missing is_extra room few_before is names few =
+pub made_sound : (storage : Storage) (files later : Map) (handles : Handles) (name : List ℕ) (new : Element) (size extra : ℕ) → IsTable storage files handles → size ≡ size_of files → element_at files name ≡ None → extra ≡ length name + new.len → size + extra ≤ storage.maximum → length files < 1024 → IsFile new → later ≡ with_element files name new → IsStrictlySortedBy name_cmp (keys_of later) → length later ≤ length files + 1 → IsTable storage later handles × (size + extra ≡ size_of later)
+made_sound storage files later handles name new size extra t measured missing is_extra room few_before file is names few =
     let sizes : size_of (with_element files name new) ≡ size_of files + (length name + new.len) = size_insert files name new missing in
     let same_size : size_of later ≡ size_of (with_element files name new) = ap size_of is in
     let total : size + extra ≡ size_of later = omega (arith, measured, is_extra, same_size, sizes) in (
@@ -97,7 +100,8 @@ made_sound storage files later handles name new size extra t measured missing is
         numbers = t.numbers;
         few_files = omega (arith, few, few_before);
         few_handles = t.few_handles;
-        from_one = t.from_one;
+        numbered = t.numbered;
+        whole = subst AreFiles (sym is) (whole_put files name new t.whole file);
         room = omega (arith, total, room);
         held = held_beside files later handles name t.held (subst (λ m. SameBeside files m name) (sym is) (beside_put files name new)) (unheld_missing files handles name t.held missing);
         alone = t.alone;
@@ -119,8 +123,8 @@ busy_by_none None e = refl
 busy_by_none (Some number) e = absurd (cc)
 
 -- the whole of giving a file that is there other bytes
-pub give_sound : (storage : Storage) (files later : Map) (handles : Handles) (name bytes : List ℕ) (now : ℕ) (cause : Cause) (size before after : ℕ) → IsTable storage files handles → size ≡ size_of files → busy (blocking Write name handles) ≡ None → IsTrue (has files name) → ((old : Element) → element_at files name ≡ Some old → before ≡ old.len) → after ≡ length bytes → too_long (room_for files name storage.maximum) after ≡ None → ((old : Element) → element_at files name ≡ Some old → later ≡ with_element files name (changed_to bytes now cause old)) → keys_of later ≡ keys_of files → IsTable storage later handles × (size - before + after ≡ size_of later)
-give_sound storage files later handles name bytes now cause size before after t measured free there is_before is_after fits is keys = by (element_at files name) refl there
+pub give_sound : (storage : Storage) (files later : Map) (handles : Handles) (name bytes : List ℕ) (now : ℕ) (cause : Cause) (size before after : ℕ) → IsTable storage files handles → size ≡ size_of files → busy (blocking Write name handles) ≡ None → IsTrue (has files name) → ((old : Element) → element_at files name ≡ Some old → before ≡ old.len) → after ≡ length bytes → length bytes ≤ 1048576 → too_long (room_for files name storage.maximum) after ≡ None → ((old : Element) → element_at files name ≡ Some old → later ≡ with_element files name (changed_to bytes now cause old)) → keys_of later ≡ keys_of files → IsTable storage later handles × (size - before + after ≡ size_of later)
+give_sound storage files later handles name bytes now cause size before after t measured free there is_before is_after small fits is keys = by (element_at files name) refl there
   where
     by : (found : Option Element) → element_at files name ≡ found → IsTrue (is_some found) → IsTable storage later handles × (size - before + after ≡ size_of later)
     by None e h = absurd (cc)
@@ -128,7 +132,7 @@ give_sound storage files later handles name bytes now cause size before after t 
         let room : others files name (element_at files name) + after ≤ storage.maximum = fits_room (room_for files name storage.maximum) after fits in
         let here : size_of files - old.len + after ≤ storage.maximum = rw e at room in
         given_sound storage files later handles name old (changed_to bytes now cause old) size before after t measured (busy_by_none (blocking Write name handles) free) e (is_before old e) is_after
-        (omega (arith, measured, is_before old e, here)) (is old e) keys
+        (omega (arith, measured, is_before old e, here)) (changed_is_file bytes now cause old small (file_there files name old t.whole e)) (is old e) keys
 
 -- what is saved of a file has its length
 pub salvage_len : (file : Element) (salvage : List ℕ) → IsFile file → file.content ≡ Bad (Some salvage) → length salvage ≡ file.len
@@ -158,8 +162,8 @@ recovers_none storage s name now file (Bad None) bad none = refl
 recovers_none storage s name now file (Bad (Some salvage)) bad none = absurd none
 
 -- the whole of a new file with its initial content
-pub make_sound : (storage : Storage) (files later : Map) (handles : Handles) (name : List ℕ) (new : Element) (size extra len : ℕ) → IsTable storage files handles → size ≡ size_of files → element_at files name ≡ None → too_many files name ≡ None → extra ≡ length name + len → new.len ≡ len → too_long (room_for files name storage.maximum) len ≡ None → later ≡ with_element files name new → IsStrictlySortedBy name_cmp (keys_of later) → length later ≤ length files + 1 → IsTable storage later handles × (size + extra ≡ size_of later)
-make_sound storage files later handles name new size extra len t measured missing space is_extra is_len fits is names few =
+pub make_sound : (storage : Storage) (files later : Map) (handles : Handles) (name : List ℕ) (new : Element) (size extra len : ℕ) → IsTable storage files handles → size ≡ size_of files → element_at files name ≡ None → too_many files name ≡ None → extra ≡ length name + len → IsFile new → new.len ≡ len → too_long (room_for files name storage.maximum) len ≡ None → later ≡ with_element files name new → IsStrictlySortedBy name_cmp (keys_of later) → length later ≤ length files + 1 → IsTable storage later handles × (size + extra ≡ size_of later)
+make_sound storage files later handles name new size extra len t measured missing space is_extra file is_len fits is names few =
     let room : others files name (element_at files name) + len ≤ storage.maximum = fits_room (room_for files name storage.maximum) len fits in
     let here : size_of files + length name + len ≤ storage.maximum = rw missing at room in
-    made_sound storage files later handles name new size extra t measured missing (omega (arith, is_extra, is_len)) (omega (arith, measured, is_extra, here)) (missing_few files name missing space) is names few
+    made_sound storage files later handles name new size extra t measured missing (omega (arith, is_extra, is_len)) (omega (arith, measured, is_extra, here)) (missing_few files name missing space) file is names few

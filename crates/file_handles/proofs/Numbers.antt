@@ -1,6 +1,6 @@
 -- The lowest free number: each number from 1 on below it has a handle, and it has none.
 use Rattle.std.proofs.Common.{◌≡◌, ◌==◌, ℕ, ◌<◌, ◌≤◌, ◌+◌, [], ◌∷◌, Bool, true, false, cond, refl, sym, ap, ◌∙◌, subst, arith, ⊎_elim}
-use Rattle.std.specs.Prelude.{Some, None, IsSome, nat_lt}
+use Rattle.std.specs.Prelude.{Some, None, IsSome, length, nat_lt, option_map, slice_get}
 use Rattle.std.specs.declared.cmp.Ordering.TheVariants.{Less, Equal, Greater}
 use Rattle.std.specs.Cmp.{nat_cmp_is}
 use Rattle.std.specs.Map.{keys_of}
@@ -10,8 +10,8 @@ use Rattle.std.proofs.lemmas.Cmp.{nat_cmp_total, eq_by_cmp_equiv}
 use Rattle.std.proofs.lemmas.Map.Keys.{sorted_tail, sorted_head}
 use Rattle.std.proofs.lemmas.Bool.{cases_lt, cases_eq, ne_eqb, eq-eqb}
 use Rattle.file_handles.specs.declared.handle.Handle.{Handle}
-use Rattle.file_handles.specs.Sessions.{Handles, handle_at, free_from, free_number}
-use Rattle.file_handles.specs.Tables.{FromOne}
+use Rattle.file_handles.specs.Sessions.{Handles, handle_at, free_from, free_number, lowest}
+use Rattle.file_handles.specs.Tables.{Numbered}
 
 misses : (l b : Bool) → b ≡ false → is_eq (cond l Less (cond b Equal Greater)) ≡ false
 misses true b p = refl
@@ -98,13 +98,31 @@ lowest_from from (e ∷ es) sorted all = ⊎_elim
     (stops from e es sorted (all e.0 e.1 (found e es)))
     (cases_eq from e.0)
 
-pub one_or_more : (handles : Handles) → IsStrictlySortedBy nat_cmp (keys_of handles) → FromOne handles → 1 ≤ free_number handles
-one_or_more handles sorted all = (lowest_from 1 handles sorted all).above
+pub one_or_more : (handles : Handles) → IsStrictlySortedBy nat_cmp (keys_of handles) → Numbered handles → 1 ≤ free_number handles
+one_or_more handles sorted all = (lowest_from 1 handles sorted (λ n h at. (all n h at).0)).above
 
-pub lower_are_taken : (handles : Handles) → IsStrictlySortedBy nat_cmp (keys_of handles) → FromOne handles
+pub lower_are_taken : (handles : Handles) → IsStrictlySortedBy nat_cmp (keys_of handles) → Numbered handles
     → (n : ℕ) → 1 ≤ n → n < free_number handles → IsSome (handle_at handles n)
-lower_are_taken handles sorted all n = (lowest_from 1 handles sorted all).taken n
+lower_are_taken handles sorted all n = (lowest_from 1 handles sorted (λ n h at. (all n h at).0)).taken n
 
-pub lowest_is_free : (handles : Handles) → IsStrictlySortedBy nat_cmp (keys_of handles) → FromOne handles
+pub lowest_is_free : (handles : Handles) → IsStrictlySortedBy nat_cmp (keys_of handles) → Numbered handles
     → handle_at handles (free_number handles) ≡ None
-lowest_is_free handles sorted all = (lowest_from 1 handles sorted all).free
+lowest_is_free handles sorted all = (lowest_from 1 handles sorted (λ n h at. (all n h at).0)).free
+
+-- and it is at most one more than there are handles
+pub free_from_few : (from : ℕ) (es : Handles) → free_from from es ≤ from + length es
+free_from_few from [] = omega arith
+free_from_few from (e ∷ es) = by (from == e.0) (free_from_few (from + 1) es)
+  where
+    by : (b : Bool) → free_from (from + 1) es ≤ from + 1 + length es → cond b (free_from (from + 1) es) from ≤ from + length (e ∷ es)
+    by true few = omega (arith, few)
+    by false few = omega arith
+
+-- the first handle is the lowest
+pub lowest_first : (handles : Handles) (e : ℕ × Handle) → slice_get handles 0 ≡ Some e → lowest handles ≡ Some e.0
+lowest_first [] e is = absurd (cc)
+lowest_first (f ∷ fs) e is = ap (option_map (λ x. x.0)) is
+
+pub lowest_none : (handles : Handles) → length handles ≡ 0 → lowest handles ≡ None
+lowest_none [] none = refl
+lowest_none (e ∷ es) none = absurd (cc)

@@ -35,9 +35,10 @@ use Rattle.file_core.specs.Places.{writes, is_bad_mode, placed}
 use Rattle.file_handles.specs.declared.handle.Handle.{Handle}
 use Rattle.file_handles.specs.Opening.{first, when, busy, can_open, file_opened, is_unreadable, no_room_to_create, open_file, too_many, with_opened}
 use Rattle.file_handles.specs.Sessions.{Session, Handles, IsHeldAt, blocks, blocking, free_number, handle_at, with_handle}
-use Rattle.file_handles.specs.Tables.{Held, IsTable}
-use Rattle.file_handles.proofs.Numbers.{one_or_more}
+use Rattle.file_handles.specs.Tables.{AreFiles, Held, IsTable, Numbered}
+use Rattle.file_handles.proofs.Numbers.{free_from_few, one_or_more}
 use Rattle.file_handles.proofs.Lookups.{file_put}
+use Rattle.file_handles.proofs.Whole.{file_there, made_is_file, opened_is_file, whole_put}
 
 pub first_none : (a b : Option PerError) → first a b ≡ None → (a ≡ None) × (b ≡ None)
 first_none None b e = (refl, e)
@@ -134,6 +135,13 @@ no_reader_truncates true true false true p e f = absurd (cc)
 no_reader_truncates true false false true p e f = absurd (cc)
 no_reader_truncates false b false true p e f = absurd (cc)
 
+-- the number of a new handle is one of the table's
+new_number : (handles : Handles) (number : ℕ) → IsStrictlySortedBy nat_cmp (keys_of handles) → Numbered handles → number ≡ free_number handles → length handles < 64 → (1 ≤ number) × (number ≤ 64)
+new_number handles number sorted numbered is few =
+    let least : 1 ≤ free_number handles = one_or_more handles sorted numbered in
+    let most : free_number handles ≤ 1 + length handles = free_from_few 1 handles in
+    (omega (arith, is, least), omega (arith, is, most, few))
+
 -- what is known where nothing refuses an opening
 pub record Allowed (storage : Storage) (files : Map) (handles : Handles) (name : List ℕ) (kind : OpenKind) (mode : OpenMode) : Type 0 where
   pub flags : is_bad_mode kind mode ≡ false
@@ -201,7 +209,8 @@ opened_present storage files handles new_files later name kind mode now number c
           (omega (arith, same_size, sizes, smaller, room))
           (subst (λ m. IsHeldAt (element_at m name) cursor.position) (sym is_files) (subst (λ file. IsHeldAt file cursor.position) (sym (put_there files name new)) here))
           (λ n h at one. let r = not_blocked kind name handles a.alone n h at one in (r.0, subst (λ (c : Cursor). writes c.kind ≡ false) (sym placing) r.1))
-          (omega (arith, numbering, one_or_more handles t.numbers t.from_one))
+          (new_number handles number t.numbers t.numbered numbering few_before)
+          (subst AreFiles (sym is_files) (whole_put files name new t.whole (opened_is_file storage.read_only (truncates mode) now old (file_there files name old t.whole there))))
           is_handles numbers (omega (arith, few, few_before));
       answer = rw free (rw there (answered files handles new_files later name kind mode number cursor new is_files is_handles numbering placing));
     }
@@ -236,7 +245,8 @@ opened_missing storage files handles new_files later name kind mode now number c
           (omega (arith, same_size, sizes, room))
           (subst (λ m. IsHeldAt (element_at m name) cursor.position) (sym is_files) (subst (λ file. IsHeldAt file cursor.position) (sym (put_there files name new)) here))
           (λ n h at one. absurd (unheld n h at one))
-          (omega (arith, numbering, one_or_more handles t.numbers t.from_one))
+          (new_number handles number t.numbers t.numbered numbering few_before)
+          (subst AreFiles (sym is_files) (whole_put files name new t.whole (made_is_file (made now Application) [] (omega arith))))
           is_handles numbers (omega (arith, few, few_before));
       answer = rw free (rw space (rw missing (answered files handles new_files later name kind mode number cursor new is_files is_handles numbering placing)));
     }

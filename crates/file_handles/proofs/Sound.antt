@@ -16,9 +16,10 @@ use Rattle.file_core.specs.declared.cursor.Cursor.{Cursor}
 use Rattle.file_core.specs.Places.{writes}
 use Rattle.file_handles.specs.declared.handle.Handle.{Handle}
 use Rattle.file_handles.specs.declared.storage.Storage.{Storage}
-use Rattle.file_handles.specs.Sessions.{Handles, IsHeldAt, SameBeside, Session, handle_at, open_at, with_file, with_handle, without_handle}
-use Rattle.file_handles.specs.Tables.{Alone, FromOne, Held, IsTable}
+use Rattle.file_handles.specs.Sessions.{Handles, IsFileAt, IsHeldAt, SameBeside, Session, handle_at, open_at, with_file, with_handle, without_handle}
+use Rattle.file_handles.specs.Tables.{Alone, AreFiles, Held, IsTable, Numbered}
 use Rattle.file_handles.proofs.Lookups.{handle_put, handle_gone}
+use Rattle.file_handles.proofs.Whole.{whole_beside}
 
 -- a handle of these stands among those, under the same number, on the same file and of the same kind
 pub record Stood (handles : Handles) (number : ℕ) (handle : Handle) : Type 0 where
@@ -61,7 +62,8 @@ moved storage files handles later number old cursor t was kind inside is keys = 
   numbers = subst (λ ks. IsStrictlySortedBy nat_cmp ks) (sym keys) t.numbers;
   few_files = t.few_files;
   few_handles = omega (arith, length-keys_of later, length-keys_of handles, ap length keys, t.few_handles);
-  from_one = subst (λ hs. FromOne hs) (sym is) (put_cases handles number (record old { cursor = cursor }) (λ n h. 1 ≤ n) (t.from_one number old was) (λ n h at ne. t.from_one n h at));
+  numbered = subst (λ hs. Numbered hs) (sym is) (put_cases handles number (record old { cursor = cursor }) (λ n h. (1 ≤ n) × (n ≤ 64)) (t.numbered number old was) (λ n h at ne. t.numbered n h at));
+  whole = t.whole;
   room = t.room;
   held = subst (λ hs. Held files hs) (sym is)
       (put_cases handles number (record old { cursor = cursor }) (λ n h. IsHeldAt (element_at files h.name) h.cursor.position) inside (λ n h at ne. t.held n h at));
@@ -71,14 +73,15 @@ moved storage files handles later number old cursor t was kind inside is keys = 
       (λ n h at ne. record { before = h; there = at; name = refl; kind = refl })));
 }
 
-pub changed : (storage : Storage) (files new_files : Map) (handles later : Handles) (number : ℕ) (old : Handle) (cursor : Cursor) → IsTable storage files handles → handle_at handles number ≡ Some old → IsTrue (writes old.cursor.kind) → cursor.kind ≡ old.cursor.kind → keys_of new_files ≡ keys_of files → SameBeside files new_files old.name → size_of new_files ≤ storage.maximum → IsHeldAt (element_at new_files old.name) cursor.position → later ≡ with_handle handles number (record old { cursor = cursor }) → keys_of later ≡ keys_of handles → IsTable storage new_files later
-changed storage files new_files handles later number old cursor t was writer kind names same room inside is keys = record {
+pub changed : (storage : Storage) (files new_files : Map) (handles later : Handles) (number : ℕ) (old : Handle) (cursor : Cursor) → IsTable storage files handles → handle_at handles number ≡ Some old → IsTrue (writes old.cursor.kind) → cursor.kind ≡ old.cursor.kind → keys_of new_files ≡ keys_of files → SameBeside files new_files old.name → size_of new_files ≤ storage.maximum → IsFileAt (element_at new_files old.name) → IsHeldAt (element_at new_files old.name) cursor.position → later ≡ with_handle handles number (record old { cursor = cursor }) → keys_of later ≡ keys_of handles → IsTable storage new_files later
+changed storage files new_files handles later number old cursor t was writer kind names same room file inside is keys = record {
   allowed = t.allowed;
   names = subst (λ ks. IsStrictlySortedBy name_cmp ks) (sym names) t.names;
   numbers = subst (λ ks. IsStrictlySortedBy nat_cmp ks) (sym keys) t.numbers;
   few_files = omega (arith, length-keys_of new_files, length-keys_of files, ap length names, t.few_files);
   few_handles = omega (arith, length-keys_of later, length-keys_of handles, ap length keys, t.few_handles);
-  from_one = subst (λ hs. FromOne hs) (sym is) (put_cases handles number (record old { cursor = cursor }) (λ n h. 1 ≤ n) (t.from_one number old was) (λ n h at ne. t.from_one n h at));
+  numbered = subst (λ hs. Numbered hs) (sym is) (put_cases handles number (record old { cursor = cursor }) (λ n h. (1 ≤ n) × (n ≤ 64)) (t.numbered number old was) (λ n h at ne. t.numbered n h at));
+  whole = whole_beside files new_files old.name t.whole same file;
   room = room;
   held = subst (λ hs. Held new_files hs) (sym is)
       (put_cases handles number (record old { cursor = cursor }) (λ n h. IsHeldAt (element_at new_files h.name) h.cursor.position) inside
@@ -97,7 +100,8 @@ closed storage files handles later number t is numbers few = record {
   numbers = numbers;
   few_files = t.few_files;
   few_handles = few;
-  from_one = λ n h at. t.from_one n h (before n h at);
+  numbered = λ n h at. t.numbered n h (before n h at);
+  whole = t.whole;
   room = t.room;
   held = λ n h at. t.held n h (before n h at);
   alone = alone_kept handles later t.alone (λ n h at. record { before = h; there = before n h at; name = refl; kind = refl });
@@ -110,14 +114,15 @@ closed storage files handles later number t is numbers few = record {
     before : (n : ℕ) (h : Handle) → handle_at later n ≡ Some h → handle_at handles n ≡ Some h
     before n h at = left (is_at (nat_cmp number) n) (handle_at handles n) h (sym (handle_gone handles n number t.numbers) ∙ subst (λ hs. handle_at hs n ≡ Some h) is at)
 
-pub opened : (storage : Storage) (files new_files : Map) (handles later : Handles) (number : ℕ) (new : Handle) → IsTable storage files handles → Held new_files handles → IsStrictlySortedBy name_cmp (keys_of new_files) → length new_files ≤ 1024 → size_of new_files ≤ storage.maximum → IsHeldAt (element_at new_files new.name) new.cursor.position → ((n : ℕ) (h : Handle) → handle_at handles n ≡ Some h → h.name ≡ new.name → (writes h.cursor.kind ≡ false) × (writes new.cursor.kind ≡ false)) → 1 ≤ number → later ≡ with_handle handles number new → IsStrictlySortedBy nat_cmp (keys_of later) → length later ≤ 64 → IsTable storage new_files later
-opened storage files new_files handles later number new t held names few_files room inside readers positive is numbers few = record {
+pub opened : (storage : Storage) (files new_files : Map) (handles later : Handles) (number : ℕ) (new : Handle) → IsTable storage files handles → Held new_files handles → IsStrictlySortedBy name_cmp (keys_of new_files) → length new_files ≤ 1024 → size_of new_files ≤ storage.maximum → IsHeldAt (element_at new_files new.name) new.cursor.position → ((n : ℕ) (h : Handle) → handle_at handles n ≡ Some h → h.name ≡ new.name → (writes h.cursor.kind ≡ false) × (writes new.cursor.kind ≡ false)) → (1 ≤ number) × (number ≤ 64) → AreFiles new_files → later ≡ with_handle handles number new → IsStrictlySortedBy nat_cmp (keys_of later) → length later ≤ 64 → IsTable storage new_files later
+opened storage files new_files handles later number new t held names few_files room inside readers within whole is numbers few = record {
   allowed = t.allowed;
   names = names;
   numbers = numbers;
   few_files = few_files;
   few_handles = few;
-  from_one = subst (λ hs. FromOne hs) (sym is) (put_cases handles number new (λ n h. 1 ≤ n) positive (λ n h at ne. t.from_one n h at));
+  numbered = subst (λ hs. Numbered hs) (sym is) (put_cases handles number new (λ n h. (1 ≤ n) × (n ≤ 64)) within (λ n h at ne. t.numbered n h at));
+  whole = whole;
   room = room;
   held = subst (λ hs. Held new_files hs) (sym is) (put_cases handles number new (λ n h. IsHeldAt (element_at new_files h.name) h.cursor.position) inside (λ n h at ne. held n h at));
   alone = subst (λ hs. Alone hs) (sym is) (λ n o writer rival is_writer is_rival.

@@ -69,6 +69,11 @@ abbrev pub write : Storage → Session → ℕ → ℕ → List ℕ → Result S
 write storage s now number piece = at_handle s number (λ handle file.
     changing s number handle (with_changed s.files handle.name (core.written handle.cursor file piece now (room_for s.files handle.name storage.maximum))))
 
+-- the piece reaches past the end of the handle's file
+abbrev pub GrowsBy : Option (Handle × Element) → List ℕ → Type 0
+GrowsBy None piece = ⊥
+GrowsBy (Some o) piece = core.GrowsBy o.0.cursor o.1 piece
+
 abbrev pub set_size : Session → ℕ → ℕ → ℕ → Result Session PerError
 set_size s now number size = at_handle s number (λ handle file. changing s number handle (with_changed s.files handle.name (core.cut handle.cursor file size now)))
 

@@ -11,7 +11,7 @@ use Rattle.per_base.specs.Maps.{Map, element_at, with_element, size_of}
 use Rattle.per_base.specs.Names.{name_cmp}
 use Rattle.file_core.specs.declared.cursor.Cursor.{Cursor}
 use Rattle.file_core.specs.declared.room.Room.{Room}
-use Rattle.file_core.specs.Files.{is_good}
+use Rattle.file_core.specs.Files.{IsFile, is_good}
 use Rattle.file_core.specs.Places.{writes}
 use Rattle.file_handles.specs.declared.handle.Handle.{Handle}
 
@@ -41,6 +41,11 @@ free_from number (e ∷ es) = cond (number == e.0) (free_from (number + 1) es) n
 abbrev pub free_number : Handles → ℕ
 free_number handles = free_from 1 handles
 
+-- the lowest handle of all
+abbrev pub lowest : Handles → Option ℕ
+lowest [] = None
+lowest (e ∷ es) = Some e.0
+
 -- whether a handle stands in the way of an opening of this kind: a writer is alone with its file
 abbrev pub blocks : OpenKind → List ℕ → Handle → Bool
 blocks kind name handle = bytes_eq handle.name name && (writes kind || writes handle.cursor.kind)
@@ -62,6 +67,11 @@ with_file files (Some handle) = readable handle (element_at files handle.name)
 abbrev pub IsHeldAt : Option Element → ℕ → Type 0
 IsHeldAt None position = ⊥
 IsHeldAt (Some file) position = IsTrue (is_good file.content) × (position ≤ file.len)
+
+-- what stands there is a file, where anything does
+abbrev pub IsFileAt : Option Element → Type 0
+IsFileAt None = Unit {0}
+IsFileAt (Some file) = IsFile file
 
 -- the files of all other names are as they were
 abbrev pub SameBeside : Map → Map → List ℕ → Type 0

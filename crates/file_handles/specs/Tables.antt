@@ -1,5 +1,5 @@
 -- What a table of files and handles shows, and what always holds of it.
-use Rattle.std.specs.Prelude.{◌≡◌, ℕ, ◌≤◌, length, Some, IsTrue}
+use Rattle.std.specs.Prelude.{◌≡◌, ℕ, ◌≤◌, List, length, Some, IsTrue}
 use Rattle.std.specs.List.Sorted.{IsStrictlySortedBy}
 use Rattle.std.specs.Map.{keys_of}
 use Rattle.std.specs.Ordering.{nat_cmp}
@@ -8,7 +8,7 @@ use Rattle.per_base.specs.Names.{name_cmp}
 use Rattle.file_core.specs.Places.{writes}
 use Rattle.file_handles.specs.declared.handle.Handle.{Handle}
 use Rattle.file_handles.specs.declared.storage.Storage.{Storage}
-use Rattle.file_handles.specs.Sessions.{Session, Handles, IsHeldAt, handle_at}
+use Rattle.file_handles.specs.Sessions.{Session, Handles, IsFileAt, IsHeldAt, handle_at}
 
 pub record Table : Type 0 where
   pub storage : Storage
@@ -23,16 +23,21 @@ Held files handles = (number : ℕ) (handle : Handle) → handle_at handles numb
 abbrev pub Alone : Handles → Type 0
 Alone handles = (number other : ℕ) (writer rival : Handle) → handle_at handles number ≡ Some writer → handle_at handles other ≡ Some rival → IsTrue (writes writer.cursor.kind) → rival.name ≡ writer.name → other ≡ number
 
--- numbers are counted from 1
-abbrev pub FromOne : Handles → Type 0
-FromOne handles = (number : ℕ) (handle : Handle) → handle_at handles number ≡ Some handle → 1 ≤ number
+-- numbers are counted from 1 to 64
+abbrev pub Numbered : Handles → Type 0
+Numbered handles = (number : ℕ) (handle : Handle) → handle_at handles number ≡ Some handle → (1 ≤ number) × (number ≤ 64)
+
+-- each element is a file
+abbrev pub AreFiles : Map → Type 0
+AreFiles files = (name : List ℕ) → IsFileAt (element_at files name)
 
 -- both maps are in order and within their limits, the files never take more than they are allowed, and the handles are sound
 pub record IsTable (storage : Storage) (files : Map) (handles : Handles) : Type 0 where
   pub allowed : storage.maximum ≤ 4194304
   pub names : IsStrictlySortedBy name_cmp (keys_of files)
   pub numbers : IsStrictlySortedBy nat_cmp (keys_of handles)
-  pub from_one : FromOne handles
+  pub numbered : Numbered handles
+  pub whole : AreFiles files
   pub few_files : length files ≤ 1024
   pub few_handles : length handles ≤ 64
   pub room : size_of files ≤ storage.maximum

@@ -3,6 +3,7 @@
 ghost use Rattle.std.specs.Prelude.{◌≡◌, IfErr, OnErr, OnOk};
 ghost use Rattle.file_core.specs.Refusals.{IsRefusal};
 ghost use Rattle.file_handles.specs.Handling as calls;
+ghost use Rattle.file_handles.specs.Sessions.{open_at};
 
 use crate::map::{cut_file, len_of, set_cursor, write_file};
 use crate::table::FileTable;
@@ -13,10 +14,12 @@ impl FileTable {
     /// Writes the piece: it overwrites and extends from the position, or with Append from the size, and the position is then past
     /// it. An empty piece changes nothing.
     ///
-    /// Errors: `NotOpen`; `IllegalWriteAccess` for kind Read; `LimitReached` with `FileBytes`; `OutOfStorageSpace`; `OutOfMemory`.
+    /// Errors: `NotOpen`; `IllegalWriteAccess` for kind Read; `LimitReached` with `FileBytes`; `OutOfStorageSpace`; `OutOfMemory`,
+    /// and this only where the piece reaches past the end of the file.
     pub fn write(&mut self, number: u32, piece: &[u8]) -> Result<(), PerError>
         ensures ok { OnOk result (calls.write self.old.storage self.old.session self.old.moment number piece.now ≡ Ok self.new.session) }
         ensures refused { IfErr result (λ error. IsRefusal (calls.write self.old.storage self.old.session self.old.moment number piece.now) error) }
+        ensures memory { IfErr result (λ error. error ≡ PerError.OutOfMemory → calls.GrowsBy (open_at self.old.session number) piece.now) }
         ensures unchanged { OnErr result (self.new ≡ self.old) }
         ensures storage { self.new.storage ≡ self.old.storage }
         ensures moment { self.new.moment ≡ self.old.moment }

@@ -50,7 +50,7 @@ impl FileTable {
         ensures storage { self.new.storage ≡ self.old.storage }
         ensures moment { self.new.moment ≡ self.old.moment }
     {
-        let alloc = self.allocator();
+        let alloc = self.alloc;
         let Some((handle, file)) = self.at(number) else {
             return Err(PerError::NotOpen);
         };
@@ -70,7 +70,7 @@ impl FileTable {
         ensures storage { self.new.storage ≡ self.old.storage }
         ensures moment { self.new.moment ≡ self.old.moment }
     {
-        let alloc = self.allocator();
+        let alloc = self.alloc;
         let Some((handle, file)) = self.at(number) else {
             return Err(PerError::NotOpen);
         };
@@ -90,7 +90,7 @@ impl FileTable {
         ensures storage { self.new.storage ≡ self.old.storage }
         ensures moment { self.new.moment ≡ self.old.moment }
     {
-        let alloc = self.allocator();
+        let alloc = self.alloc;
         let Some((handle, file)) = self.at(number) else {
             return Err(PerError::NotOpen);
         };

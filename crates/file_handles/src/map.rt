@@ -14,7 +14,7 @@ ghost use Rattle.file_core.specs.Refusals.{IsRefusal};
 ghost use Rattle.std.specs.Bool.{OnFalse, OnTrue};
 ghost use Rattle.file_handles.specs.ByName.{HasSalvage, salvaged};
 ghost use Rattle.file_handles.specs.Opening.{file_opened};
-ghost use Rattle.file_handles.specs.Sessions.{IsHeldAt, SameBeside, handle_at, with_changed, with_handle};
+ghost use Rattle.file_handles.specs.Sessions.{IsFileAt, IsHeldAt, SameBeside, handle_at, with_changed, with_handle};
 
 use crate::handle::Handle;
 use file_core::{Cursor, File, Room, made};
@@ -67,6 +67,8 @@ pub fn write_file(
     ensures within { IfOk result (λ len. (old : Element) → element_at files.old.entries name.now ≡ Some old → room.others + old.len ≤ room.allowed → room.others + len ≤ room.allowed) }
     ensures held { OnOk result (IsHeldAt (element_at files.new.entries name.now) cursor.new.position) }
     ensures writer { OnOk result (IsTrue (writes cursor.old.kind) × (cursor.new.kind ≡ cursor.old.kind)) }
+    ensures file { OnOk result (IsFileAt (element_at files.new.entries name.now)) }
+    ensures memory { IfErr result (λ error. error ≡ PerError.OutOfMemory → (old : Element) → element_at files.old.entries name.now ≡ Some old → core.GrowsBy cursor.old old piece.now) }
 {
     match files.get_mut(name) {
         Some(file) => {
@@ -96,6 +98,7 @@ pub fn cut_file(
     ensures smaller { IfOk result (λ len. (old : Element) → element_at files.old.entries name.now ≡ Some old → len ≤ old.len) }
     ensures held { OnOk result (IsHeldAt (element_at files.new.entries name.now) cursor.new.position) }
     ensures writer { OnOk result (IsTrue (writes cursor.old.kind) × (cursor.new.kind ≡ cursor.old.kind)) }
+    ensures file { OnOk result (IsFileAt (element_at files.new.entries name.now)) }
 {
     match files.get_mut(name) {
         Some(file) => {
@@ -251,6 +254,7 @@ fn recover(file: &mut File, now: u64) -> bool
     ensures unchanged { OnFalse result (file.new ≡ file.old) }
     ensures none { OnFalse result (core.NoSalvage file.old.content) }
     ensures len { file.new.len ≡ file.old.len }
+    ensures file { core.IsFile file.new }
 {
     let _len = file.len();
     file.recover(now)
@@ -266,6 +270,7 @@ pub fn recover_in(files: &mut BTreeMap<Name, File>, name: &Name, now: u64) -> bo
     ensures keys { keys_of files.new.entries ≡ keys_of files.old.entries }
     ensures size { size_of files.new.entries ≡ size_of files.old.entries }
     ensures beside { SameBeside files.old.entries files.new.entries name.now }
+    ensures file { IsFileAt (element_at files.new.entries name.now) }
 {
     match files.get_mut(name) {
         Some(file) => recover(file, now),

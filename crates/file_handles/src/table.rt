@@ -3,8 +3,8 @@
 ghost use Rattle.std.specs.Prelude.{◌≡◌, ◌≤◌, ◌<◌, ℕ, [], None, length, IfSome, IsSome, IsTrue, MatchOption};
 ghost use Rattle.per_base.specs.Maps.{element_at, size_of};
 ghost use Rattle.file_core.specs.Files.{is_good};
-ghost use Rattle.file_handles.specs.Sessions.{IsHeldAt, free_number, handle_at, open_at, with_cursor};
-ghost use Rattle.file_handles.specs.Tables.{IsTable, Table};
+ghost use Rattle.file_handles.specs.Sessions.{IsHeldAt, free_number, handle_at, lowest, open_at, with_cursor};
+ghost use Rattle.file_handles.specs.Tables.{AreFiles, IsTable, Table};
 
 use crate::handle::Handle;
 use crate::map::set_cursor;
@@ -54,6 +54,7 @@ impl FileTable {
         requires few { length files.entries ≤ 1024 }
         requires room { size_of files.entries ≤ storage.maximum }
         requires measured { size ≡ size_of files.entries }
+        requires whole { AreFiles files.entries }
         ensures { result ≡ record { storage = storage; session = record { files = files.entries; handles = [] }; moment = 0 } }
     {
         let _count = files.len();
@@ -94,9 +95,22 @@ impl FileTable {
         self.moment = now;
     }
 
-    // The allocator, which says nothing of the table.
-    pub(crate) fn allocator(&self) -> Global {
-        self.alloc
+    /// The working files, in the order of their names. Takes no memory.
+    pub fn files(&self) -> &BTreeMap<Name, File>
+        ensures { result.now.entries ≡ self.now.session.files }
+    {
+        &self.files
+    }
+
+    /// The lowest open handle of all. Takes no memory.
+    #[tactic(auto, using(crate::proofs::Numbers::lowest_first, crate::proofs::Numbers::lowest_none))]
+    pub fn lowest_handle(&self) -> Option<u32>
+        ensures { result ≡ lowest self.now.session.handles }
+    {
+        match self.handles.first_key_value() {
+            Some((number, _)) => Some(*number),
+            None => None,
+        }
     }
 
     /// The handle of this number, and its file.
@@ -116,7 +130,7 @@ impl FileTable {
     }
 
     /// Puts an open handle at another place.
-    pub fn put_cursor(&mut self, number: u32, cursor: Cursor)
+    pub(crate) fn put_cursor(&mut self, number: u32, cursor: Cursor)
         requires there { IsSome (handle_at self.old.session.handles number) }
         requires stands { (handle : Handle) → handle_at self.old.session.handles number ≡ Some handle → (cursor.kind ≡ handle.cursor.kind) × IsHeldAt (element_at self.old.session.files handle.name) cursor.position }
         ensures moved { (handle : Handle) → handle_at self.old.session.handles number ≡ Some handle → self.new.session ≡ with_cursor self.old.session number handle cursor }

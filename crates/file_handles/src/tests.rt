@@ -1,277 +1,359 @@
-//! Working files and handles, by hand.
+//! Working files and handles: rows of calls and their answers.
 
-use crate::{FileTable, HANDLES, STORAGE_BYTES, Storage};
+use crate::{FileTable, STORAGE_BYTES, Storage};
 use bitflags::Flags;
-use file_core::{FILE_BYTES, File, made};
+use file_core::{File, made};
 use per_base::{Bytes, Cause, Name, OpenKind, OpenMode, Origin, PerError};
 use std::alloc::Global;
 use std::collections::BTreeMap;
+use std::fmt::Debug;
+use std::process::Abort;
 use std::test::Fail;
 
 /// The initial content of the file `map`.
 const INITIAL: &[u8] = b"ab\ncd";
 
+/// A call on the file `map` of a table, or on a handle of this number.
+#[derive(Clone, Copy, Debug)]
+enum Call {
+    CanOpen(OpenKind, OpenMode),
+    Open(OpenKind, OpenMode),
+    WouldFit(u64),
+    FileSize,
+    Info,
+    Delete,
+    Recover,
+    Reset,
+    Close(u32),
+    PeekByte(u32),
+    GetByte(u32),
+    Read(u32, u64),
+    ReadAll(u32),
+    ReadLine(u32, u8),
+    IsEof(u32),
+    Size(u32),
+    Position(u32),
+    SetPosition(u32, u64),
+    MovePosition(u32, Origin, i64),
+    Write(u32, u8),
+    SetSize(u32, u64),
+    CurrentSize,
+    Names,
+}
+
+fn named(alloc: Global, name: &str) -> Result<Name, Fail> {
+    Ok(Name::new(alloc, name)?)
+}
+
 /// A storage with the one file `map`, installed at the moment 0.
+#[tactic(auto, using(crate::proofs::Whole::whole_put, crate::proofs::Whole::whole_none))]
 fn calibration(alloc: Global, read_only: bool) -> Result<FileTable, Fail> {
-    let name = Name::new(alloc, "map")?;
     let content = Bytes::new(Vec::from_slice(alloc, INITIAL)?);
     let file = File::new(made(0, Cause::Installation), content);
+    let name = named(alloc, "map")?;
     let size = name.as_str().len() as u64 + u64::from(file.len());
     let mut files = BTreeMap::new(alloc);
     files.insert(name, file)?;
     let storage = Storage {
-        name: Name::new(alloc, "cal")?,
+        name: named(alloc, "cal")?,
         read_only,
         maximum: STORAGE_BYTES,
     };
     Ok(FileTable::new(alloc, storage, files, size))
 }
 
-/// A storage without a file.
-fn empty(alloc: Global) -> Result<FileTable, Fail> {
-    let storage = Storage {
-        name: Name::new(alloc, "logs")?,
-        read_only: false,
-        maximum: STORAGE_BYTES,
-    };
-    Ok(FileTable::new(alloc, storage, BTreeMap::new(alloc), 0))
+fn shown<T: Debug + Drop>(outcome: Result<T, PerError>, alloc: Global) -> Result<String, Fail> {
+    Ok(format!(in alloc; "{outcome:?}")?)
 }
 
-/// Whether the call was refused with just this error.
-fn refuses<T: Drop>(
-    outcome: Result<T, PerError>,
-    error: &str,
-    rt: &HostRuntime,
-) -> Result<bool, Fail> {
-    match outcome {
-        Ok(_) => Ok(false),
-        Err(refusal) => Ok(format!(in rt.alloc(); "{refusal:?}")?.as_str() == error),
+/// The names, each after a space.
+fn joined(names: &[Name], alloc: Global) -> Result<String, Fail> {
+    let mut text = String::new(alloc);
+    for name in names {
+        text.push(' ')?;
+        text.push_str(name.as_str())?;
+    }
+    Ok(text)
+}
+
+/// An opening by the call for its kind.
+fn opened(
+    table: &mut FileTable,
+    name: &Name,
+    kind: OpenKind,
+    mode: OpenMode,
+    now: u64,
+) -> Result<u32, PerError> {
+    match kind {
+        OpenKind::Read => table.open_read_only(name, mode, now),
+        OpenKind::Write => table.open_write_only(name, mode, now),
+        OpenKind::ReadWrite => table.open_read_write(name, mode, now),
     }
 }
 
-/// The whole content, by an opening of its own.
-fn content(table: &mut FileTable, name: &Name, now: u64) -> Result<Vec<u8>, PerError> {
-    let handle = table.open_read_only(name, OpenMode::empty(), now)?;
-    let bytes = table.read_all(handle)?;
-    table.close(handle)?;
-    Ok(bytes)
+/// What the table answers at a moment to a call on this file.
+fn answer(
+    alloc: Global,
+    table: &mut FileTable,
+    name: &Name,
+    now: u64,
+    call: Call,
+) -> Result<String, Fail> {
+    match call {
+        Call::CanOpen(kind, mode) => shown(table.can_open(name, kind, mode), alloc),
+        Call::Open(kind, mode) => shown(opened(table, name, kind, mode, now), alloc),
+        Call::WouldFit(len) => shown(table.would_fit(name, len), alloc),
+        Call::FileSize => shown(table.current_file_size(name), alloc),
+        Call::Info => shown(table.file_info(name), alloc),
+        Call::Delete => shown(table.delete_file(name), alloc),
+        Call::Recover => shown(table.recover_file(name, now, Some(INITIAL)), alloc),
+        Call::Reset => shown(table.reset_file(name, now, Some(INITIAL)), alloc),
+        Call::Close(number) => shown(table.close(number), alloc),
+        Call::PeekByte(number) => shown(table.peek_byte(number), alloc),
+        Call::GetByte(number) => shown(table.get_byte(number), alloc),
+        Call::Read(number, count) => shown(table.read(number, count), alloc),
+        Call::ReadAll(number) => shown(table.read_all(number), alloc),
+        Call::ReadLine(number, delimiter) => shown(table.read_line(number, delimiter), alloc),
+        Call::IsEof(number) => shown(table.is_eof(number), alloc),
+        Call::Size(number) => shown(table.size(number), alloc),
+        Call::Position(number) => shown(table.position(number), alloc),
+        Call::SetPosition(number, at) => shown(table.set_position(number, at), alloc),
+        Call::MovePosition(number, origin, by) => {
+            shown(table.move_position(number, origin, by), alloc)
+        }
+        Call::Write(number, byte) => shown(table.write(number, &[byte]), alloc),
+        Call::SetSize(number, size) => shown(table.set_size(number, size), alloc),
+        Call::CurrentSize => shown(Ok(table.current_size()), alloc),
+        Call::Names => joined(&table.all_file_names()?, alloc),
+    }
 }
 
-/// Replaces the whole content: asks first, then opens with Truncate.
-fn put(table: &mut FileTable, name: &Name, bytes: &[u8], now: u64) -> Result<(), PerError> {
-    table.can_open(name, OpenKind::Write, OpenMode::TRUNCATE)?;
-    table.would_fit(name, bytes.len() as u64)?;
-    let handle = table.open_write_only(name, OpenMode::TRUNCATE, now)?;
-    table.write(handle, bytes)?;
-    table.close(handle)
+/// That the table answers so to each of the calls, one after the other.
+fn answers(
+    rt: &impl Abort,
+    alloc: Global,
+    table: &mut FileTable,
+    name: &str,
+    now: u64,
+    rows: &[(Call, &str)],
+) -> Result<(), Fail> {
+    let file = named(alloc, name)?;
+    for (call, wanted) in rows {
+        let given = answer(alloc, table, &file, now, *call)?;
+        assert_eq!(rt; given.as_str(), *wanted, "{call:?}");
+    }
+    Ok(())
 }
 
 #[test]
 fn readers_share_and_a_writer_is_alone(rt: HostRuntime) -> Result<(), Fail> {
-    let alloc = rt.alloc();
-    let mut table = calibration(alloc, false)?;
-    let map = Name::new(alloc, "map")?;
-    assert_eq!(rt; table.open_read_only(&map, OpenMode::empty(), 0)?, 1);
-    assert_eq!(rt; table.open_read_only(&map, OpenMode::empty(), 0)?, 2);
-    let busy = "ResourceBusy { holder: Handle(1) }";
-    assert!(rt; refuses(table.open_write_only(&map, OpenMode::empty(), 0), busy, &rt)?);
-    table.close(1)?;
-    table.close(2)?;
-    assert!(rt; refuses(table.close(2), "NotOpen", &rt)?);
-    assert_eq!(rt; table.open_write_only(&map, OpenMode::empty(), 0)?, 1);
-    assert!(rt; refuses(table.open_read_only(&map, OpenMode::empty(), 0), busy, &rt)?);
-    assert!(rt; refuses(table.delete_file(&map), busy, &rt)?);
-    assert!(rt; refuses(table.recover_file(&map, 0, None), busy, &rt)?);
-    assert!(rt; refuses(table.reset_file(&map, 0, Some(INITIAL)), busy, &rt)?);
-    Ok(())
+    let plain = OpenMode::empty();
+    let busy = "Err(ResourceBusy { holder: Handle(1) })";
+    let mut table = calibration(rt.alloc(), false)?;
+    let rows = [
+        (Call::Open(OpenKind::Read, plain), "Ok(1)"),
+        (Call::Open(OpenKind::Read, plain), "Ok(2)"),
+        (Call::Open(OpenKind::Write, plain), busy),
+        (Call::Close(1), "Ok(())"),
+        (Call::Close(2), "Ok(())"),
+        (Call::Close(2), "Err(NotOpen)"),
+        (Call::Open(OpenKind::Write, plain), "Ok(1)"),
+        (Call::Open(OpenKind::Read, plain), busy),
+        (Call::Delete, busy),
+        (Call::Recover, busy),
+        (Call::Reset, busy),
+    ];
+    answers(&rt, rt.alloc(), &mut table, "map", 0, &rows)
 }
 
 #[test]
 fn reads_lines_moves_and_cuts(rt: HostRuntime) -> Result<(), Fail> {
-    let alloc = rt.alloc();
-    let mut table = calibration(alloc, false)?;
-    let map = Name::new(alloc, "map")?;
-    assert_eq!(rt; table.open_read_write(&map, OpenMode::empty(), 0)?, 1);
-    assert_eq!(rt; table.read_line(1, 0x0a)?.as_slice(), b"ab".as_slice());
-    assert_eq!(rt; table.position(1)?, 3);
-    assert_eq!(rt; table.read(1, 9)?.as_slice(), b"cd".as_slice());
-    assert!(rt; table.is_eof(1)?);
-    assert!(rt; refuses(table.get_byte(1), "IsEof", &rt)?);
-    assert!(rt; refuses(table.read(1, 0), "IsEof", &rt)?);
-    assert!(rt; refuses(table.set_position(1, 6), "InvalidPosition", &rt)?);
-    table.set_position(1, 5)?;
-    assert!(rt; refuses(table.set_size(1, 6), "InvalidSize", &rt)?);
-    table.set_size(1, 2)?;
-    assert_eq!(rt; table.position(1)?, 2);
-    assert_eq!(rt; table.move_position(1, Origin::End, -2)?, 0);
-    assert_eq!(rt; table.peek_byte(1)?, 0x61);
-    assert_eq!(rt; table.current_size(), 5);
-    Ok(())
+    let mut table = calibration(rt.alloc(), false)?;
+    let rows = [
+        (Call::Open(OpenKind::ReadWrite, OpenMode::empty()), "Ok(1)"),
+        (Call::ReadLine(1, 0x0a), "Ok([97, 98])"),
+        (Call::Position(1), "Ok(3)"),
+        (Call::Read(1, 9), "Ok([99, 100])"),
+        (Call::IsEof(1), "Ok(true)"),
+        (Call::GetByte(1), "Err(IsEof)"),
+        (Call::Read(1, 0), "Err(IsEof)"),
+        (Call::SetPosition(1, 6), "Err(InvalidPosition)"),
+        (Call::SetPosition(1, 5), "Ok(())"),
+        (Call::SetSize(1, 6), "Err(InvalidSize)"),
+        (Call::SetSize(1, 2), "Ok(())"),
+        (Call::Position(1), "Ok(2)"),
+        (Call::MovePosition(1, Origin::End, -2), "Ok(0)"),
+        (Call::PeekByte(1), "Ok(97)"),
+    ];
+    answers(&rt, rt.alloc(), &mut table, "map", 0, &rows)
 }
 
 #[test]
 fn refuses_modes_and_appends(rt: HostRuntime) -> Result<(), Fail> {
-    let alloc = rt.alloc();
-    let mut table = calibration(alloc, false)?;
-    let map = Name::new(alloc, "map")?;
+    let plain = OpenMode::empty();
     let both = OpenMode::AT_THE_BEGINNING | OpenMode::AT_THE_END;
-    let truncated = table.open_read_only(&map, OpenMode::TRUNCATE, 0);
-    assert!(rt; refuses(truncated, "InvalidOpenMode", &rt)?);
-    let appended = table.open_read_only(&map, OpenMode::APPEND, 0);
-    assert!(rt; refuses(appended, "InvalidOpenMode", &rt)?);
-    assert!(rt; refuses(table.open_read_write(&map, both, 0), "InvalidOpenMode", &rt)?);
-    assert_eq!(rt; table.open_read_write(&map, OpenMode::APPEND, 0)?, 1);
-    table.set_position(1, 0)?;
-    table.write(1, b"e")?;
-    table.close(1)?;
-    assert_eq!(rt;
-        content(&mut table, &map, 0)?.as_slice(),
-        b"ab\ncde".as_slice()
-    );
-    Ok(())
+    let bad = "Err(InvalidOpenMode)";
+    let mut table = calibration(rt.alloc(), false)?;
+    let rows = [
+        (Call::Open(OpenKind::Read, OpenMode::TRUNCATE), bad),
+        (Call::Open(OpenKind::Read, OpenMode::APPEND), bad),
+        (Call::Open(OpenKind::ReadWrite, both), bad),
+        (Call::Open(OpenKind::ReadWrite, OpenMode::APPEND), "Ok(1)"),
+        (Call::SetPosition(1, 0), "Ok(())"),
+        (Call::Write(1, 0x65), "Ok(())"),
+        (Call::Close(1), "Ok(())"),
+        (Call::Open(OpenKind::Read, plain), "Ok(1)"),
+        (Call::ReadAll(1), "Ok([97, 98, 10, 99, 100, 101])"),
+    ];
+    answers(&rt, rt.alloc(), &mut table, "map", 0, &rows)
 }
 
 #[test]
-fn puts_and_shows_contents(rt: HostRuntime) -> Result<(), Fail> {
-    let alloc = rt.alloc();
-    let mut table = calibration(alloc, false)?;
-    let map = Name::new(alloc, "map")?;
-    let no = Name::new(alloc, "no")?;
-    assert_eq!(rt; content(&mut table, &map, 0)?.as_slice(), INITIAL);
-    assert_eq!(rt; table.open_write_only(&map, OpenMode::empty(), 0)?, 1);
-    assert!(rt; refuses(table.read(1, 1), "IllegalReadAccess", &rt)?);
-    assert!(rt;
-        refuses(
-            table.open_read_only(&no, OpenMode::empty(), 0),
-            "FileNotFound",
-            &rt
-        )?
-    );
-    assert!(rt;
-        refuses(
-            table.can_open(&no, OpenKind::Read, OpenMode::empty()),
-            "FileNotFound",
-            &rt
-        )?
-    );
-    table.can_open(&no, OpenKind::Write, OpenMode::empty())?;
-    assert!(rt; refuses(table.current_file_size(&no), "FileNotFound", &rt)?);
-    put(&mut table, &no, b"\x00\xff", 0)?;
-    let names = table.all_file_names()?;
-    assert_eq!(rt; names.len(), 2);
-    assert_eq!(rt; names[0].as_str(), "map");
-    assert_eq!(rt; names[1].as_str(), "no");
-    assert_eq!(rt; table.current_file_size(&no)?, 2);
-    assert_eq!(rt; table.current_size(), 12);
-    Ok(())
-}
-
-#[test]
-fn handles_and_files_are_counted(rt: HostRuntime) -> Result<(), Fail> {
-    let alloc = rt.alloc();
-    let mut table = calibration(alloc, false)?;
-    let map = Name::new(alloc, "map")?;
-    for number in 1..65u32 {
-        assert_eq!(rt; table.open_read_only(&map, OpenMode::empty(), 0)?, number);
-    }
-    let too_many = table.open_read_only(&map, OpenMode::empty(), 0);
-    assert!(rt; refuses(too_many, "LimitReached { which: Handles }", &rt)?);
-    table.close(7)?;
-    table.close(3)?;
-    assert_eq!(rt; table.open_read_only(&map, OpenMode::empty(), 0)?, 3);
-    for number in 1..65u32 {
-        if number != 7 {
-            table.close(number)?;
-        }
-    }
-    for count in 1..1_024u32 {
-        let name = Name::new(alloc, format!(in alloc; "f{count}")?.as_str())?;
-        put(&mut table, &name, b"", 0)?;
-    }
-    let more = Name::new(alloc, "more")?;
-    let elements = "LimitReached { which: Elements }";
-    assert!(rt;
-        refuses(
-            table.open_write_only(&more, OpenMode::empty(), 0),
-            elements,
-            &rt
-        )?
-    );
-    assert!(rt; refuses(table.reset_file(&more, 0, Some(INITIAL)), elements, &rt)?);
-    assert_eq!(rt; HANDLES, 64);
-    Ok(())
+fn writers_do_not_read_and_make_their_file(rt: HostRuntime) -> Result<(), Fail> {
+    let plain = OpenMode::empty();
+    let none = "Err(FileNotFound)";
+    let mut table = calibration(rt.alloc(), false)?;
+    let there = [
+        (Call::Open(OpenKind::Write, plain), "Ok(1)"),
+        (Call::Read(1, 1), "Err(IllegalReadAccess)"),
+    ];
+    answers(&rt, rt.alloc(), &mut table, "map", 0, &there)?;
+    let missing = [
+        (Call::Open(OpenKind::Read, plain), none),
+        (Call::CanOpen(OpenKind::Read, plain), none),
+        (Call::FileSize, none),
+        (Call::CanOpen(OpenKind::Write, plain), "Ok(())"),
+        (Call::Open(OpenKind::Write, OpenMode::TRUNCATE), "Ok(2)"),
+        (Call::Write(2, 0xff), "Ok(())"),
+        (Call::FileSize, "Ok(1)"),
+        (Call::CurrentSize, "Ok(11)"),
+        (Call::Names, " map no"),
+    ];
+    answers(&rt, rt.alloc(), &mut table, "no", 0, &missing)
 }
 
 #[test]
 fn infos_show_what_made_and_changed_a_file(rt: HostRuntime) -> Result<(), Fail> {
-    let alloc = rt.alloc();
-    let mut table = calibration(alloc, false)?;
-    let map = Name::new(alloc, "map")?;
-    put(&mut table, &map, b"\x00", 50)?;
-    table.reset_file(&map, 50, Some(INITIAL))?;
-    assert_eq!(rt; table.open_read_only(&map, OpenMode::AT_THE_END, 50)?, 1);
-    assert_eq!(rt; table.size(1)?, 5);
-    table.set_position(1, 3)?;
-    assert_eq!(rt; table.read_all(1)?.as_slice(), b"cd".as_slice());
-    table.close(1)?;
-    table.recover_file(&map, 50, Some(INITIAL))?;
-    let info = table.file_info(&map)?;
-    assert_eq!(rt; info.created, 0);
-    assert_eq!(rt; info.modified, 50);
-    assert_eq!(rt; info.accessed, 50);
-    assert!(rt; info.creation == Cause::Installation);
-    assert!(rt; info.modification == Cause::Reset);
-    table.delete_file(&map)?;
-    assert!(rt; !table.file_exists(&map));
-    assert!(rt; refuses(table.delete_file(&map), "FileNotFound", &rt)?);
-    assert!(rt;
-        refuses(
-            table.reset_file(&map, 60, None),
-            "InitValueNotAvailable",
-            &rt
-        )?
-    );
-    table.reset_file(&map, 60, Some(INITIAL))?;
-    let made_anew = table.file_info(&map)?;
-    assert_eq!(rt; made_anew.created, 60);
-    assert!(rt; made_anew.creation == Cause::Reset);
+    let mut table = calibration(rt.alloc(), false)?;
+    let info =
+        "Ok(FileInfo { created: 0, modified: 50, accessed: 50, creation: Installation, modification: Reset })";
+    let made =
+        "Ok(FileInfo { created: 50, modified: 50, accessed: 50, creation: Reset, modification: Reset })";
+    let rows = [
+        (Call::Open(OpenKind::Write, OpenMode::TRUNCATE), "Ok(1)"),
+        (Call::Write(1, 0), "Ok(())"),
+        (Call::Close(1), "Ok(())"),
+        (Call::Reset, "Ok(())"),
+        (Call::Open(OpenKind::Read, OpenMode::AT_THE_END), "Ok(1)"),
+        (Call::Size(1), "Ok(5)"),
+        (Call::SetPosition(1, 3), "Ok(())"),
+        (Call::ReadAll(1), "Ok([99, 100])"),
+        (Call::Close(1), "Ok(())"),
+        (Call::Recover, "Ok(())"),
+        (Call::Info, info),
+        (Call::Delete, "Ok(())"),
+        (Call::Delete, "Err(FileNotFound)"),
+        (Call::Reset, "Ok(())"),
+        (Call::Info, made),
+    ];
+    answers(&rt, rt.alloc(), &mut table, "map", 50, &rows)
+}
+
+#[test]
+fn a_read_only_storage_keeps_its_files(rt: HostRuntime) -> Result<(), Fail> {
+    let plain = OpenMode::empty();
+    let illegal = "Err(IllegalWriteAccess)";
+    let info =
+        "Ok(FileInfo { created: 0, modified: 0, accessed: 0, creation: Installation, modification: Installation })";
+    let mut table = calibration(rt.alloc(), true)?;
+    let rows = [
+        (Call::Open(OpenKind::Write, plain), illegal),
+        (Call::Delete, illegal),
+        (Call::Reset, illegal),
+        (Call::Open(OpenKind::Read, plain), "Ok(1)"),
+        (Call::Write(1, 0), illegal),
+        (Call::Info, info),
+    ];
+    answers(&rt, rt.alloc(), &mut table, "map", 9, &rows)
+}
+
+#[test]
+fn at_most_64_handles(rt: HostRuntime) -> Result<(), Fail> {
+    let plain = OpenMode::empty();
+    let map = named(rt.alloc(), "map")?;
+    let mut table = calibration(rt.alloc(), false)?;
+    for number in 1..65u32 {
+        assert_eq!(rt; table.open_read_only(&map, plain, 0)?, number);
+    }
+    let rows = [
+        (
+            Call::Open(OpenKind::Read, plain),
+            "Err(LimitReached { which: Handles })",
+        ),
+        (Call::Close(7), "Ok(())"),
+        (Call::Close(3), "Ok(())"),
+        (Call::Open(OpenKind::Read, plain), "Ok(3)"),
+    ];
+    answers(&rt, rt.alloc(), &mut table, "map", 0, &rows)?;
+    assert_eq!(rt; table.lowest_handle(), Some(1));
+    Ok(())
+}
+
+/// Makes a file whose name has this number.
+fn reset(alloc: Global, table: &mut FileTable, number: u32) -> Result<(), Fail> {
+    let name = named(alloc, format!(in alloc; "f{number}")?.as_str())?;
+    table.reset_file(&name, 0, Some(INITIAL))?;
+    Ok(())
+}
+
+#[test]
+fn at_most_1024_files(rt: HostRuntime) -> Result<(), Fail> {
+    let mut table = calibration(rt.alloc(), false)?;
+    for count in 1..1_024u32 {
+        reset(rt.alloc(), &mut table, count)?;
+    }
+    let full = "Err(LimitReached { which: Elements })";
+    let rows = [
+        (Call::Open(OpenKind::Write, OpenMode::empty()), full),
+        (Call::Reset, full),
+    ];
+    answers(&rt, rt.alloc(), &mut table, "more", 0, &rows)
+}
+
+/// Fills the file of this name, made anew, with so many bytes.
+fn fill(alloc: Global, table: &mut FileTable, name: &str, count: usize) -> Result<(), Fail> {
+    let name = named(alloc, name)?;
+    let bytes = vec![in alloc; 7u8; count]?;
+    let number = table.open_write_only(&name, OpenMode::TRUNCATE, 0)?;
+    table.write(number, &bytes)?;
+    table.close(number)?;
     Ok(())
 }
 
 #[test]
 fn the_greatest_file_and_the_maximum(rt: HostRuntime) -> Result<(), Fail> {
-    let alloc = rt.alloc();
-    let mut table = empty(alloc)?;
-    let file = Name::new(alloc, "f")?;
-    let whole = vec![in alloc; 7u8; 1_048_576]?;
-    put(&mut table, &file, &whole, 0)?;
-    let file_bytes = "LimitReached { which: FileBytes }";
-    assert!(rt; refuses(table.would_fit(&file, FILE_BYTES + 1), file_bytes, &rt)?);
-    assert_eq!(rt; table.open_write_only(&file, OpenMode::AT_THE_END, 0)?, 1);
-    assert!(rt; refuses(table.write(1, b"x"), file_bytes, &rt)?);
-    table.close(1)?;
-    for name in ["g", "h"] {
-        put(&mut table, &Name::new(alloc, name)?, &whole, 0)?;
-    }
-    let last = Name::new(alloc, "i")?;
-    let space = "OutOfStorageSpace { needed: 4194308, allowed: 4194304 }";
-    assert!(rt; refuses(put(&mut table, &last, &whole, 0), space, &rt)?);
-    let rest = vec![in alloc; 7u8; 1_048_572]?;
-    put(&mut table, &last, &rest, 0)?;
-    assert_eq!(rt; table.current_size(), STORAGE_BYTES);
-    Ok(())
-}
-
-#[test]
-fn a_read_only_storage_keeps_its_files(rt: HostRuntime) -> Result<(), Fail> {
-    let alloc = rt.alloc();
-    let map = Name::new(alloc, "map")?;
-    let mut table = calibration(alloc, true)?;
-    let illegal = "IllegalWriteAccess";
-    assert!(rt; refuses(put(&mut table, &map, b"", 9), illegal, &rt)?);
-    assert!(rt; refuses(table.delete_file(&map), illegal, &rt)?);
-    assert!(rt; refuses(table.reset_file(&map, 9, None), illegal, &rt)?);
-    assert_eq!(rt; content(&mut table, &map, 9)?.as_slice(), INITIAL);
-    assert_eq!(rt; table.file_info(&map)?.accessed, 0);
-    Ok(())
+    let end = OpenMode::AT_THE_END;
+    let whole = "Err(LimitReached { which: FileBytes })";
+    let space = "Err(OutOfStorageSpace { needed: 4194305, allowed: 4194304 })";
+    let mut table = calibration(rt.alloc(), false)?;
+    fill(rt.alloc(), &mut table, "map", 1_048_576)?;
+    let rows = [
+        (Call::WouldFit(1_048_576), "Ok(())"),
+        (Call::WouldFit(1_048_577), whole),
+        (Call::Open(OpenKind::Write, end), "Ok(1)"),
+        (Call::Write(1, 0x78), whole),
+        (Call::Close(1), "Ok(())"),
+    ];
+    answers(&rt, rt.alloc(), &mut table, "map", 0, &rows)?;
+    fill(rt.alloc(), &mut table, "g", 1_048_576)?;
+    fill(rt.alloc(), &mut table, "h", 1_048_576)?;
+    fill(rt.alloc(), &mut table, "i", 1_048_570)?;
+    let rows = [
+        (Call::CurrentSize, "Ok(4194304)"),
+        (Call::WouldFit(1_048_570), "Ok(())"),
+        (Call::WouldFit(1_048_571), space),
+        (Call::Open(OpenKind::Write, end), "Ok(1)"),
+        (Call::Write(1, 0x78), space),
+    ];
+    answers(&rt, rt.alloc(), &mut table, "i", 0, &rows)
 }

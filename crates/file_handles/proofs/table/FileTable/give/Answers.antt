@@ -16,4 +16,4 @@ invariant_of-self c =
     c.self.invariant.0 c.self.invariant.1
     (subst (λ (t : Table). busy (blocking Write c.args.name.now t.session.handles) ≡ None) (sym c.self.view_is) c.requires.free)
     (subst (λ (t : Table). IsTrue (has t.session.files c.args.name.now)) (sym c.self.view_is) c.requires.there)
-    c.len_of-before.ensures.len c.len-after.ensures fits c.replace_in.ensures.replaced c.replace_in.ensures.keys
+    c.len_of-before.ensures.len c.len-after.ensures c.requires.small fits c.replace_in.ensures.replaced c.replace_in.ensures.keys

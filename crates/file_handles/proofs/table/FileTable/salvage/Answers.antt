@@ -9,6 +9,7 @@ use Rattle.file_handles.specs.Opening.{busy}
 use Rattle.file_handles.specs.Sessions.{blocking}
 use Rattle.file_handles.specs.Tables.{Table}
 use Rattle.file_handles.proofs.Named.{busy_by_none, renamed}
+use Rattle.file_handles.proofs.Whole.{whole_beside}
 use Rattle.file_handles.proofs.table.FileTable.salvage.Goals as goal
 
 pub invariant_of-self : goal.invariant_of-self
@@ -18,6 +19,7 @@ invariant_of-self c =
       renamed c.self.inside.storage c.self.inside.files.entries c.recover_in.new.files.entries c.self.inside.handles.entries c.args.name.now c.self.invariant.0
           (busy_by_none (blocking Write c.args.name.now c.self.inside.handles.entries) (subst (λ (t : Table). busy (blocking Write c.args.name.now t.session.handles) ≡ None) (sym c.self.view_is) c.requires.free))
           c.recover_in.ensures.beside
+          (whole_beside c.self.inside.files.entries c.recover_in.new.files.entries c.args.name.now c.self.invariant.0.whole c.recover_in.ensures.beside c.recover_in.ensures.file)
           (subst (λ ks. IsStrictlySortedBy name_cmp ks) (sym c.recover_in.ensures.keys) c.self.invariant.0.names)
           (omega (arith, length-keys_of c.recover_in.new.files.entries, length-keys_of c.self.inside.files.entries, ap length c.recover_in.ensures.keys, few))
           (omega (arith, c.recover_in.ensures.size, room)),

@@ -22,7 +22,7 @@ invariant_of-self-2 c =
     let within : c.in-Ok.len ≤ o.file.len = c.in-Ok.ensures.smaller o.file o.there in (
       changed c.self.inside.storage c.self.inside.files.entries c.cut_file-cut.new.files.entries c.self.inside.handles.entries c.set_cursor.new.handles.entries c.args.number c.in-Some.handle.now c.cut_file-cut.new.cursor
           c.self.invariant.0 (sym c.in-Some.ensures.value) c.in-Ok.ensures.writer.0 c.in-Ok.ensures.writer.1 c.in-Ok.ensures.keys c.in-Ok.ensures.beside
-          (omega (arith, len, fits, measured, size, within, room)) c.in-Ok.ensures.held (c.set_cursor.ensures.moved c.in-Some.handle.now (sym c.in-Some.ensures.value)) c.set_cursor.ensures.keys,
+          (omega (arith, len, fits, measured, size, within, room)) c.in-Ok.ensures.file c.in-Ok.ensures.held (c.set_cursor.ensures.moved c.in-Some.handle.now (sym c.in-Some.ensures.value)) c.set_cursor.ensures.keys,
       omega (arith, len, fits, measured, size, c.from.ensures),
     )
 
