@@ -8,6 +8,13 @@
 //! made a storage as it stands: names ascend, there are at most 1,024, they fit the maximum, and infos stand exactly at files.
 #![tactic(auto)]
 
+mod contents;
+mod merging;
+mod planning;
+mod renewing;
+mod rows;
 mod starting;
 
+pub use contents::{Contents, StorageContents, Stored};
+pub use planning::plan;
 pub use starting::initial_of;
