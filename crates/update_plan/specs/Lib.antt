@@ -5,4 +5,5 @@ pub mod Merging
 pub mod Plans
 pub mod Renewed
 pub mod Rows
+pub mod Samples
 pub mod Views
