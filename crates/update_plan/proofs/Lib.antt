@@ -1,1 +1,5 @@
+pub mod AllPlans
+pub mod Merged
+pub mod Renewals
 pub mod Starts
+pub mod Updating

@@ -1,5 +1,5 @@
 -- What the contents of a storage that is to be made keep.
-use Rattle.std.specs.Prelude.{◌≤◌, ◌+◌, ℕ, List, length, map, IsTrue, sum_by}
+use Rattle.std.specs.Prelude.{◌≡◌, ◌≤◌, ◌+◌, ℕ, List, length, map, IsTrue, sum_by, Option, None, Some, ⊤}
 use Rattle.std.specs.List.{AllByRecursion}
 use Rattle.std.specs.List.Sorted.{IsStrictlySortedBy}
 use Rattle.per_base.specs.declared.elements.Fresh.{Fresh}
@@ -11,6 +11,15 @@ use Rattle.index_text.specs.Rules.{has_info, max_len}
 pub record IsFresh (kind : StoreKind) (f : Fresh) : Type 0 where
   pub info : IsTrue (has_info kind f.info)
   pub small : length f.bytes ≤ max_len kind
+
+-- such an element with this name
+pub record IsMade (kind : StoreKind) (name : List ℕ) (f : Fresh) : Type 0 where
+  pub named : f.name ≡ name
+  pub fresh : IsFresh kind f
+
+abbrev pub IfMade : StoreKind → List ℕ → Option Fresh → Type 0
+IfMade kind name None = ⊤
+IfMade kind name (Some f) = IsMade kind name f
 
 abbrev pub fresh_size : Fresh → ℕ
 fresh_size f = length f.name + length f.bytes

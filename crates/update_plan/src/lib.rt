@@ -4,10 +4,23 @@
 //! element's own strategy or else the storage's: what is stored, converted where its type differs. Else the initial content, if
 //! one is configured, or nothing.
 //!
-//! [`initial_of`] is this over empty contents, for an installation and for every storage that is made anew. What it gives can be
-//! made a storage as it stands: names ascend, there are at most 1,024, they fit the maximum, and infos stand exactly at files.
+//! [`plan`] says what each storage of a new version gets, or the first refusal: storage by storage damage, then element by element
+//! what is to be kept and is unreadable or cannot be converted, then too many elements, then too many bytes. It reads the disk
+//! nowhere and writes nothing. A stored file that is overwritten changes now, and every other file that gets its initial content is
+//! made now; what is kept keeps its info.
+//!
+//! [`initial_of`] is this over empty contents, for an installation and for every storage that is made anew. What
+//! both give can be made a storage as it stands: names ascend, there are at most 1,024, they fit the maximum, and infos stand
+//! exactly at files.
 #![tactic(auto)]
 
+mod contents;
+mod merging;
+mod planning;
+mod renewing;
+mod rows;
 mod starting;
 
+pub use contents::{Contents, StorageContents, Stored};
+pub use planning::plan;
 pub use starting::initial_of;

@@ -1,0 +1,11 @@
+use Rattle.std.proofs.Common.{ℕ, ◌≡◌, ◌*◌, ◌≤◌, take, length, sum_by}
+use Rattle.update_plan.specs.Limits.{fresh_size}
+use Rattle.update_plan.proofs.planning.size_of.Given as goal
+
+pub record SumSoFar (total index sum_is : ℕ) : Type 0 where
+  pub sum : total ≡ sum_is
+  pub bound : total ≤ index * 4294967550
+
+-- the sum over what was seen, and its bound
+abbrev pub invariant-loop-fresh : goal.invariant-loop-fresh
+invariant-loop-fresh l = SumSoFar l.total l.fresh-index (sum_by fresh_size (take l.fresh-index l.contents))
