@@ -1,6 +1,6 @@
 //! A disk over a flash, and the calls of the flash that it makes.
 
-ghost use Rattle.std.specs.Prelude.{◌≡◌, ◌⊎◌, ◌↔◌, ◌≤◌, ◌<◌, ◌+◌, IsTrue, IfOk, IfErr, OnErr, Ok, Err};
+ghost use Rattle.std.specs.Prelude.{◌≡◌, ◌⊎◌, ◌↔◌, ◌≤◌, ◌<◌, ◌+◌, IsTrue, IfOk, IfErr, OnOk, OnErr, Ok, Err};
 ghost use Rattle.per_base.specs.Causes.{HasCause, Rose};
 ghost use Rattle.flash_model.specs.Pages.{blank_page};
 
@@ -77,8 +77,12 @@ impl<F: Flash> FlashDisk<F> {
         place: Place,
         out: &mut [u8; PAGE_BYTES],
     ) -> Result<(), DiskFailed>
+        ensures bytes { IsTrue F.told → OnOk result (place.block < (F.medium self.old.flash).blocks → place.page < 64
+            → out.new ≡ (F.medium self.old.flash).state.pages place.block place.page) }
         ensures flash { HasCause (F.medium self.old.flash).faults (F.medium self.new.flash).faults result }
         ensures pages { IsTrue F.told → (F.medium self.new.flash).state.pages ≡ (F.medium self.old.flash).state.pages }
+        ensures blocks { (F.medium self.new.flash).blocks ≡ (F.medium self.old.flash).blocks }
+        ensures table { self.new.table ≡ self.old.table }
         ensures cause { HasCause ((F.medium self.old.flash).faults + self.old.own) ((F.medium self.new.flash).faults + self.new.own) result }
     {
         if !self.has(place) {

@@ -1,6 +1,11 @@
 //! Opening a flash as a disk.
 
-ghost use Rattle.std.specs.Prelude.{◌≡◌, ◌⊎◌, ◌↔◌, ◌≤◌, ◌<◌, IsTrue, IfOk, IfErr, OnOk};
+ghost use Rattle.std.specs.Prelude.{◌≡◌, ◌⊎◌, ◌↔◌, ◌≤◌, ◌<◌, ◌+◌, ◌*◌, IsTrue, IfOk, IfErr, OnOk, Some, None};
+ghost use Rattle.flash_record.specs.PageRecord.{record_in};
+ghost use Rattle.flash_record.specs.Stated.{stated};
+ghost use Rattle.flash_disk.specs.Newest.{record_at, places, page_limit, IsSpare, NeedsPlace, FindsSpare, IsUsable, IsUnusable, SaysUsable};
+ghost use Rattle.flash_disk.specs.Known.{known, limit_of, page_of, IsEmptyTable};
+ghost use Rattle.flash_disk.specs.Learnt.{number, HasLearnt, LearnsNext, LearnsAll, TwinAt};
 ghost use Rattle.per_base.specs.Causes.{HasCause, Rose};
 
 use crate::disk::{FlashDisk, FlashOpenError, FlashRefused};
@@ -18,6 +23,11 @@ impl<F: Flash> FlashDisk<F> {
             ↔ (((F.medium flash).blocks < 4) ⊎ (4096 < (F.medium flash).blocks))) }
         ensures device { IfErr result (λ refused. refused.error ≡ FlashOpenError.Device
             → Rose (F.medium flash).faults (F.medium refused.flash).faults) }
+
+        // It is usable exactly where the disk opens.
+        ensures usable { IsTrue F.told → OnOk result (IsUsable (F.medium flash).state.pages (F.medium flash).blocks) }
+        ensures unusable { IsTrue F.told → IfErr result (λ refused. refused.error ≡ FlashOpenError.Unusable
+            → IsUnusable (F.medium flash).state.pages (F.medium flash).blocks) }
 
         // No page changes.
         ensures pages { IsTrue F.told → IfOk result (λ disk. (F.medium disk.flash).state.pages ≡ (F.medium flash).state.pages) }
@@ -61,7 +71,9 @@ impl<F: Flash> FlashDisk<F> {
     }
 
     // All the memory that a disk of so many blocks needs.
-    fn memory(alloc: Global, blocks: u32) -> Result<(Table, Vec<(FilePage, Newest)>), AllocError> {
+    fn memory(alloc: Global, blocks: u32) -> Result<(Table, Vec<(FilePage, Newest)>), AllocError>
+        ensures { IfOk result (λ made. IsEmptyTable made.0 × (limit_of made.0 ≡ page_limit blocks)) }
+    {
         let table = Table::new(alloc, blocks)?;
         let moved = Vec::with_capacity(alloc, BLOCK_PAGES as usize)?;
         Ok((table, moved))
@@ -69,28 +81,54 @@ impl<F: Flash> FlashDisk<F> {
 
     // Learns what the flash holds, and says whether it is usable.
     fn learn(&mut self, blocks: u32) -> Result<bool, DiskFailed>
+        requires blocks { blocks ≡ (F.medium self.old.flash).blocks }
+        requires empty { IsEmptyTable self.old.table }
+        requires limit { limit_of self.old.table ≡ page_limit blocks }
         ensures flash { HasCause (F.medium self.old.flash).faults (F.medium self.new.flash).faults result }
         ensures pages { IsTrue F.told → (F.medium self.new.flash).state.pages ≡ (F.medium self.old.flash).state.pages }
+        ensures usable { IsTrue F.told → IfOk result (SaysUsable (F.medium self.old.flash).state.pages blocks) }
     {
-        for block in 0..blocks {
-            if !self.learn_block(block)? {
-                return Ok(false);
-            }
-        }
-        let Some(spare) = self.table.open() else {
+        if !self.learn_blocks(blocks)? {
             return Ok(false);
-        };
-        self.spare = spare;
+        }
+        if !self.find_spare(blocks)? {
+            return Ok(false);
+        }
+        self.table.open(self.spare);
         match self.flash.settle() {
             Ok(()) => Ok(true),
             Err(_) => Err(DiskFailed),
         }
     }
 
-    // Learns what one block holds; `false` where there is no room for it.
-    fn learn_block(&mut self, block: u32) -> Result<bool, DiskFailed>
+    // Learns what all blocks hold; `false` where there is no room for it.
+    fn learn_blocks(&mut self, blocks: u32) -> Result<bool, DiskFailed>
+        requires blocks { blocks ≡ (F.medium self.old.flash).blocks }
+        requires empty { IsEmptyTable self.old.table }
         ensures flash { HasCause (F.medium self.old.flash).faults (F.medium self.new.flash).faults result }
         ensures pages { IsTrue F.told → (F.medium self.new.flash).state.pages ≡ (F.medium self.old.flash).state.pages }
+        ensures blocks { (F.medium self.new.flash).blocks ≡ (F.medium self.old.flash).blocks }
+        ensures limit { limit_of self.new.table ≡ limit_of self.old.table }
+        ensures learns { IsTrue F.told
+            → IfOk result (LearnsAll (F.medium self.old.flash).state.pages (places blocks) (limit_of self.old.table) self.new.table) }
+    {
+        for block in 0..blocks {
+            if !self.learn_block(block)? {
+                return Ok(false);
+            }
+        }
+        Ok(true)
+    }
+
+    // Learns what one block holds; `false` where there is no room for it.
+    fn learn_block(&mut self, block: u32) -> Result<bool, DiskFailed>
+        requires { block < (F.medium self.old.flash).blocks }
+        ensures flash { HasCause (F.medium self.old.flash).faults (F.medium self.new.flash).faults result }
+        ensures pages { IsTrue F.told → (F.medium self.new.flash).state.pages ≡ (F.medium self.old.flash).state.pages }
+        ensures blocks { (F.medium self.new.flash).blocks ≡ (F.medium self.old.flash).blocks }
+        ensures limit { limit_of self.new.table ≡ limit_of self.old.table }
+        ensures learns { IsTrue F.told → HasLearnt (F.medium self.old.flash).state.pages (64 * block) self.old.table
+            → IfOk result (LearnsAll (F.medium self.old.flash).state.pages (64 * block + 64) (limit_of self.old.table) self.new.table) }
     {
         for page in 0..BLOCK_PAGES {
             if !self.learn_page(Place { block, page })? {
@@ -100,10 +138,86 @@ impl<F: Flash> FlashDisk<F> {
         Ok(true)
     }
 
-    // Learns what one page holds; `false` where there is no room for it.
-    fn learn_page(&mut self, place: Place) -> Result<bool, DiskFailed>
+    // Finds a block that is spare; `false` where there is none.
+    fn find_spare(&mut self, blocks: u32) -> Result<bool, DiskFailed>
+        requires blocks { blocks ≡ (F.medium self.old.flash).blocks }
         ensures flash { HasCause (F.medium self.old.flash).faults (F.medium self.new.flash).faults result }
         ensures pages { IsTrue F.told → (F.medium self.new.flash).state.pages ≡ (F.medium self.old.flash).state.pages }
+        ensures blocks { (F.medium self.new.flash).blocks ≡ (F.medium self.old.flash).blocks }
+        ensures table { self.new.table ≡ self.old.table }
+        ensures spare { IsTrue F.told → HasLearnt (F.medium self.old.flash).state.pages (places blocks) self.old.table
+            → IfOk result (FindsSpare (F.medium self.old.flash).state.pages blocks self.new.spare) }
+    {
+        for block in 0..blocks {
+            if self.is_spare(block)? {
+                self.spare = block;
+                return Ok(true);
+            }
+        }
+        Ok(false)
+    }
+
+    // Whether a block has no record that is needed.
+    fn is_spare(&mut self, block: u32) -> Result<bool, DiskFailed>
+        requires { block < (F.medium self.old.flash).blocks }
+        ensures flash { HasCause (F.medium self.old.flash).faults (F.medium self.new.flash).faults result }
+        ensures pages { IsTrue F.told → (F.medium self.new.flash).state.pages ≡ (F.medium self.old.flash).state.pages }
+        ensures blocks { (F.medium self.new.flash).blocks ≡ (F.medium self.old.flash).blocks }
+        ensures table { self.new.table ≡ self.old.table }
+        ensures spare { IsTrue F.told
+            → HasLearnt (F.medium self.old.flash).state.pages (places (F.medium self.old.flash).blocks) self.old.table
+            → IfOk result (λ spare. IsTrue spare
+                ↔ IsSpare (F.medium self.old.flash).state.pages (places (F.medium self.old.flash).blocks) block) }
+    {
+        for page in 0..BLOCK_PAGES {
+            if self.is_needed(Place { block, page })? {
+                return Ok(false);
+            }
+        }
+        Ok(true)
+    }
+
+    // Whether a page holds a record that is needed.
+    fn is_needed(&mut self, place: Place) -> Result<bool, DiskFailed>
+        requires block { place.block < (F.medium self.old.flash).blocks }
+        requires page { place.page < 64 }
+        ensures flash { HasCause (F.medium self.old.flash).faults (F.medium self.new.flash).faults result }
+        ensures pages { IsTrue F.told → (F.medium self.new.flash).state.pages ≡ (F.medium self.old.flash).state.pages }
+        ensures blocks { (F.medium self.new.flash).blocks ≡ (F.medium self.old.flash).blocks }
+        ensures table { self.new.table ≡ self.old.table }
+        ensures needed { IsTrue F.told
+            → HasLearnt (F.medium self.old.flash).state.pages (places (F.medium self.old.flash).blocks) self.old.table
+            → IfOk result (λ needed. IsTrue needed
+                ↔ NeedsPlace (F.medium self.old.flash).state.pages (places (F.medium self.old.flash).blocks) (number place)) }
+    {
+        let mut page = BLANK_PAGE;
+        self.read_page(place, &mut page)?;
+        let Some(record) = read_record(&page) else {
+            return Ok(false);
+        };
+        let key = FilePage {
+            file: record.file,
+            page: record.page,
+        };
+        let Some(newest) = self.table.find(key) else {
+            return Ok(false);
+        };
+        if newest.twin.is_some() {
+            return Ok(false);
+        }
+        Ok(newest.place.block == place.block && newest.place.page == place.page)
+    }
+
+    // Learns what one page holds; `false` where there is no room for it.
+    fn learn_page(&mut self, place: Place) -> Result<bool, DiskFailed>
+        requires block { place.block < (F.medium self.old.flash).blocks }
+        requires page { place.page < 64 }
+        ensures flash { HasCause (F.medium self.old.flash).faults (F.medium self.new.flash).faults result }
+        ensures pages { IsTrue F.told → (F.medium self.new.flash).state.pages ≡ (F.medium self.old.flash).state.pages }
+        ensures blocks { (F.medium self.new.flash).blocks ≡ (F.medium self.old.flash).blocks }
+        ensures limit { limit_of self.new.table ≡ limit_of self.old.table }
+        ensures learns { IsTrue F.told → HasLearnt (F.medium self.old.flash).state.pages (number place) self.old.table
+            → IfOk result (LearnsNext (F.medium self.old.flash).state.pages (number place + 1) self.old.table self.new.table) }
     {
         let mut page = BLANK_PAGE;
         self.read_page(place, &mut page)?;
@@ -115,21 +229,16 @@ impl<F: Flash> FlashDisk<F> {
             file: record.file,
             page: record.page,
         };
-        match self.table.find(key) {
-            Some(old) if old.sequence > record.sequence => Ok(true),
-            Some(old) if old.sequence == record.sequence => self.learn_equal(
-                key, old, place, record,
-            ),
-            _ => {
-                let new = Newest {
-                    place,
-                    sequence: record.sequence,
-                    len: record.len,
-                    twin: None,
-                };
-                Ok(self.table.put(key, new))
-            }
+        let Some(old) = self.table.find(key) else {
+            return Ok(self.table.put(key, newest_at(place, record)));
+        };
+        if old.sequence < record.sequence {
+            return Ok(self.table.put(key, newest_at(place, record)));
         }
+        if old.sequence > record.sequence {
+            return Ok(true);
+        }
+        self.learn_equal(key, old, place, record)
     }
 
     // Learns of a record with the number of an earlier one, which stays the newest.
@@ -138,28 +247,55 @@ impl<F: Flash> FlashDisk<F> {
         key: FilePage,
         old: Newest,
         place: Place,
-        record: Record<'_>,
+        found: Record<'_>,
     ) -> Result<bool, DiskFailed>
+        requires block { place.block < (F.medium self.old.flash).blocks }
+        requires page { place.page < 64 }
+        requires key { key ≡ page_of (stated found) }
+        requires old { known self.old.table key ≡ Some old }
+        requires sequence { old.sequence ≡ found.sequence }
         ensures flash { HasCause (F.medium self.old.flash).faults (F.medium self.new.flash).faults result }
         ensures pages { IsTrue F.told → (F.medium self.new.flash).state.pages ≡ (F.medium self.old.flash).state.pages }
+        ensures blocks { (F.medium self.new.flash).blocks ≡ (F.medium self.old.flash).blocks }
+        ensures limit { limit_of self.new.table ≡ limit_of self.old.table }
+        ensures learns { IsTrue F.told → HasLearnt (F.medium self.old.flash).state.pages (number place) self.old.table
+            → record_at (F.medium self.old.flash).state.pages (number place) ≡ Some (stated found.entry)
+            → IfOk result (LearnsNext (F.medium self.old.flash).state.pages (number place + 1) self.old.table self.new.table) }
     {
         let mut page = BLANK_PAGE;
         self.read_page(old.place, &mut page)?;
         let new = Newest {
-            twin: twin_at(&page, record, old, place),
+            twin: twin_at(&page, found, old, place),
             ..old
         };
         Ok(self.table.put(key, new))
     }
 }
 
+// The entry of a record that was found in this place.
+fn newest_at(place: Place, found: Record<'_>) -> Newest
+    ensures { result ≡ record { place = place; sequence = found.entry.sequence; len = found.entry.len; twin = None } }
+{
+    Newest {
+        place,
+        sequence: found.sequence,
+        len: found.len,
+        twin: None,
+    }
+}
+
 // Where the twin of a newest record lies, after another with its number was found in this place.
-fn twin_at(page: &[u8], record: Record<'_>, old: Newest, place: Place) -> Option<Place> {
+fn twin_at(page: &[u8], found: Record<'_>, old: Newest, place: Place) -> Option<Place>
+    ensures { TwinAt (record_in page.now) (stated found.entry) old place result }
+{
     if place.block == old.place.block {
         return old.twin;
     }
-    match read_record(page) {
-        Some(first) if first.len == record.len && first.bytes == record.bytes => Some(place),
-        _ => old.twin,
+    let Some(first) = read_record(page) else {
+        return old.twin;
+    };
+    if first.len == found.len && first.bytes == found.bytes {
+        return Some(place);
     }
+    old.twin
 }

@@ -1,6 +1,6 @@
 //! Where the newest record of each page of a file lies, and how long each file is.
 
-ghost use Rattle.std.specs.Prelude.{◌≡◌, ◌≤◌, ◌<◌, ◌+◌, IfOk};
+ghost use Rattle.std.specs.Prelude.{◌≡◌, ◌↔◌, ◌≤◌, ◌<◌, ◌+◌, ◌-◌, ◌*◌, IfOk, IsSome, IsTrue, IsFalse, None};
 
 use std::alloc::{AllocError, Global};
 use std::collections::HashMap;
@@ -43,8 +43,13 @@ pub struct Table {
 }
 
 impl Table {
+    ghost use Rattle.flash_disk.specs.Known.{known, page_len, limit_of, Puts, SameRecords, IsEmptyTable, HasRoom};
+
     /// An empty table for a flash of so many blocks.
-    pub fn new(alloc: Global, blocks: u32) -> Result<Table, AllocError> {
+    pub fn new(alloc: Global, blocks: u32) -> Result<Table, AllocError>
+        ensures empty { IfOk result IsEmptyTable }
+        ensures limit { IfOk result (λ table. limit_of table ≡ 64 * (blocks - 2)) }
+    {
         let limit = 64 * (blocks.saturating_sub(2) as usize);
         Ok(Table {
             newest: HashMap::with_capacity(alloc, limit)?,
@@ -56,7 +61,9 @@ impl Table {
     }
 
     /// The newest record of a page.
-    pub fn find(&self, key: FilePage) -> Option<Newest> {
+    pub fn find(&self, key: FilePage) -> Option<Newest>
+        ensures { result ≡ known self.now key }
+    {
         self.newest.get(&key).copied()
     }
 
@@ -66,7 +73,9 @@ impl Table {
     }
 
     /// How many pages more may have a record.
-    pub fn room(&self) -> usize {
+    pub fn room(&self) -> usize
+        ensures { result ≡ limit_of self.now - page_len self.now }
+    {
         self.limit.saturating_sub(self.newest.len())
     }
 
@@ -76,12 +85,14 @@ impl Table {
     }
 
     /// Sets the newest record of a page; `false`, and no change, where there is no room for it.
-    pub fn put(&mut self, key: FilePage, new: Newest) -> bool {
-        let old = self.newest.get(&key).copied();
-        if old.is_none() && self.room() == 0 {
-            return false;
-        }
-        if self.newest.insert(key, new).is_err() {
+    pub fn put(&mut self, key: FilePage, new: Newest) -> bool
+        ensures full { HasRoom self.old → (IsFalse result ↔ ((known self.old key ≡ None) × (limit_of self.old ≤ page_len self.old))) }
+        ensures put { IsTrue result → Puts self.old self.new key new }
+        ensures same { IsFalse result → SameRecords self.old self.new }
+        ensures limit { limit_of self.new ≡ limit_of self.old }
+    {
+        let old = self.find(key);
+        if !self.store(key, new) {
             return false;
         }
         if let Some(old) = old {
@@ -89,6 +100,31 @@ impl Table {
         }
         self.count_more(new.place.block);
         true
+    }
+
+    // Sets the newest record of a page, and counts nothing.
+    fn store(&mut self, key: FilePage, new: Newest) -> bool
+        ensures full { HasRoom self.old → (IsFalse result ↔ ((known self.old key ≡ None) × (limit_of self.old ≤ page_len self.old))) }
+        ensures put { IsTrue result → Puts self.old self.new key new }
+        ensures same { IsFalse result → SameRecords self.old self.new }
+        ensures limit { limit_of self.new ≡ limit_of self.old }
+    {
+        if self.newest.contains_key(&key) {
+            self.replace(key, new);
+            return true;
+        }
+        self.room() > 0 && self.newest.insert(key, new).is_ok()
+    }
+
+    // Sets the newest record of a page that has one.
+    fn replace(&mut self, key: FilePage, new: Newest)
+        requires { IsSome (known self.old key) }
+        ensures put { Puts self.old self.new key new }
+        ensures limit { limit_of self.new ≡ limit_of self.old }
+    {
+        if let Some(slot) = self.newest.get_mut(&key) {
+            *slot = new;
+        }
     }
 
     /// Sets the newest records of pages that have one.
@@ -117,32 +153,27 @@ impl Table {
         best
     }
 
-    /// Ends the opening: finds a block that is spare, so that no newest record needs to lie in it, leads to the equal records elsewhere, and
-    /// takes the lengths of the files. `None` where no block is spare.
-    pub fn open(&mut self) -> Option<u32> {
-        self.recount(true);
-        let spare = (0..self.blocks).find(|block| self.live_in(*block) == 0)?;
+    /// Ends the opening: leads from the records of this block, which is spare, to the equal ones elsewhere, and takes the lengths of the
+    /// files.
+    pub fn open(&mut self, spare: u32) {
         for newest in self.newest.values_mut() {
             if newest.place.block == spare {
                 newest.place = newest.twin.unwrap_or(newest.place);
             }
             newest.twin = None;
         }
-        self.recount(false);
+        self.recount();
         self.measure();
-        Some(spare)
     }
 
-    // Counts the newest records of each block, all or those that no other block has too.
-    fn recount(&mut self, needed: bool) {
+    // Counts the newest records of each block.
+    fn recount(&mut self) {
         for count in self.live.iter_mut() {
             *count = 0;
         }
         for newest in self.newest.values() {
-            if !needed || newest.twin.is_none() {
-                if let Some(count) = self.live.get_mut(newest.place.block as usize) {
-                    *count = count.saturating_add(1);
-                }
+            if let Some(count) = self.live.get_mut(newest.place.block as usize) {
+                *count = count.saturating_add(1);
             }
         }
     }
@@ -155,13 +186,19 @@ impl Table {
         }
     }
 
-    fn count_more(&mut self, block: u32) {
+    fn count_more(&mut self, block: u32)
+        ensures records { SameRecords self.old self.new }
+        ensures limit { limit_of self.new ≡ limit_of self.old }
+    {
         if let Some(count) = self.live.get_mut(block as usize) {
             *count = count.saturating_add(1);
         }
     }
 
-    fn count_less(&mut self, block: u32) {
+    fn count_less(&mut self, block: u32)
+        ensures records { SameRecords self.old self.new }
+        ensures limit { limit_of self.new ≡ limit_of self.old }
+    {
         if let Some(count) = self.live.get_mut(block as usize) {
             *count = count.saturating_sub(1);
         }

@@ -197,7 +197,7 @@ fn stops_well(alloc: Global, calls: u64) -> Option<bool> {
 
 #[test]
 fn a_stop_at_each_call(rt: HostRuntime) {
-    for calls in 255..520 {
+    for calls in 255..584 {
         assert!(rt; stops_well(rt.alloc(), calls) == Some(true));
     }
 }

@@ -1,6 +1,12 @@
-use Rattle.std.proofs.Common.{◌≡◌, ◌≤◌, true}
+use Rattle.std.proofs.Common.{◌≡◌, ◌≤◌, ◌+◌, ◌*◌, true}
+use Rattle.flash_disk.specs.Known.{limit_of}
+use Rattle.flash_disk.specs.Learnt.{HasLearnt}
 use Rattle.flash_disk.proofs.disk.FlashDisk.learn_block.Given as goal
 
 abbrev pub invariant-loop-page : goal.invariant-loop-page
 invariant-loop-page g l = ((g.F.Flash.medium l.initial.self.flash).faults ≤ (g.F.Flash.medium l.self.flash).faults)
     × (g.F.Flash.told ≡ true → (g.F.Flash.medium l.self.flash).state.pages ≡ (g.F.Flash.medium l.initial.self.flash).state.pages)
+    × ((g.F.Flash.medium l.self.flash).blocks ≡ (g.F.Flash.medium l.initial.self.flash).blocks)
+    × (limit_of l.self.table ≡ limit_of l.initial.self.table)
+    × (g.F.Flash.told ≡ true → HasLearnt (g.F.Flash.medium l.initial.self.flash).state.pages (64 * l.block) l.initial.self.table
+        → HasLearnt (g.F.Flash.medium l.initial.self.flash).state.pages (64 * l.block + l.page) l.self.table)

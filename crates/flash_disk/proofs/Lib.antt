@@ -1,0 +1,2 @@
+mod Learning
+mod Usable

@@ -1,0 +1,11 @@
+use Rattle.std.proofs.Common.{◌≡◌, ◌≤◌, ◌+◌, ◌*◌, true}
+use Rattle.flash_disk.specs.Known.{limit_of}
+use Rattle.flash_disk.specs.Learnt.{HasLearnt}
+use Rattle.flash_disk.proofs.disk.FlashDisk.learn_blocks.Given as goal
+
+abbrev pub invariant-loop-block : goal.invariant-loop-block
+invariant-loop-block g l = ((g.F.Flash.medium l.initial.self.flash).faults ≤ (g.F.Flash.medium l.self.flash).faults)
+    × (g.F.Flash.told ≡ true → (g.F.Flash.medium l.self.flash).state.pages ≡ (g.F.Flash.medium l.initial.self.flash).state.pages)
+    × ((g.F.Flash.medium l.self.flash).blocks ≡ (g.F.Flash.medium l.initial.self.flash).blocks)
+    × (limit_of l.self.table ≡ limit_of l.initial.self.table)
+    × (g.F.Flash.told ≡ true → HasLearnt (g.F.Flash.medium l.initial.self.flash).state.pages (64 * l.block) l.self.table)

@@ -1,0 +1,71 @@
+-- How a table is tied to the records on a flash.
+use Rattle.std.specs.Prelude.{◌≡◌, ◌≢◌, ℕ, ◌+◌, ◌*◌, ◌<◌, ◌≤◌, Bool, true, false, Option, Some, None}
+use Rattle.flash_model.specs.Pages.{Pages}
+use Rattle.flash_disk.specs.declared.table.FilePage.{FilePage}
+use Rattle.flash_disk.specs.declared.table.Place.{Place}
+use Rattle.flash_disk.specs.declared.table.Newest.{Newest}
+use Rattle.flash_disk.specs.declared.table.Table.{Table}
+use Rattle.flash_disk.specs.Newest.{Placed, record_at, newest, page_count, IsCopyOf}
+use Rattle.flash_record.specs.PageRecord.{PageRecord}
+use Rattle.flash_disk.specs.Known.{known, page_len, limit_of, HasRoom}
+
+abbrev pub number : Place → ℕ
+number place = 64 * place.block + place.page
+
+-- an entry leads to this record, and says its number and length
+pub record LeadsTo (pages : Pages) (entry : Newest) (x : Placed) : Type 0 where
+  pub small : entry.place.page < 64
+  pub there : record_at pages (number entry.place) ≡ Some x.says
+  pub sequence : entry.sequence ≡ x.says.sequence
+  pub len : entry.len ≡ x.says.len
+
+-- a twin is a copy in another block; without a twin there is none
+abbrev pub TwinSays : Pages → ℕ → Placed → Option Place → Type 0
+TwinSays pages n x None = (j : ℕ) → IsCopyOf pages n x j → ⊥
+TwinSays pages n x (Some place) = (place.page < 64) × IsCopyOf pages n x (number place)
+
+-- while the flash is learnt an entry is that of the newest record itself
+pub record Learns (pages : Pages) (n : ℕ) (entry : Newest) (x : Placed) : Type 0 where
+  pub leads : LeadsTo pages entry x
+  pub place : number entry.place ≡ x.place
+  pub twin : TwinSays pages n x entry.twin
+
+abbrev pub LearnsOf : Pages → ℕ → Option Newest → Option Placed → Type 0
+LearnsOf pages n None None = Unit {0}
+LearnsOf pages n None (Some x) = ⊥
+LearnsOf pages n (Some entry) None = ⊥
+LearnsOf pages n (Some entry) (Some x) = Learns pages n entry x
+
+-- the table has learnt the first n places
+pub record HasLearnt (pages : Pages) (n : ℕ) (table : Table) : Type 0 where
+  pub says : (key : FilePage) → LearnsOf pages n (known table key) (newest pages key.file key.page n)
+  pub count : page_len table ≡ page_count pages n
+  pub room : HasRoom table
+  pub fits : page_len table ≤ limit_of table
+
+-- what is known of a page leads to its newest record, and nothing is known where there is none
+abbrev pub LeadsOf : Pages → ℕ → Option Newest → Option Placed → Type 0
+LeadsOf pages blocks None None = Unit {0}
+LeadsOf pages blocks None (Some x) = ⊥
+LeadsOf pages blocks (Some entry) None = ⊥
+LeadsOf pages blocks (Some entry) (Some x) = (entry.place.block < blocks) × LeadsTo pages entry x
+
+-- one place more is learnt, or there are more pages than there is room for
+abbrev pub LearnsNext : Pages → ℕ → Table → Table → Bool → Type 0
+LearnsNext pages n old new true = HasLearnt pages n new
+LearnsNext pages n old new false = limit_of old < page_count pages n
+
+-- the two records of one page and one number are equal
+abbrev pub SaysTheSame : PageRecord → PageRecord → Type 0
+SaysTheSame a b = (a.len ≡ b.len) × (a.bytes ≡ b.bytes)
+
+-- where the twin lies after a record with the newest one's number was found in this place: there, if it is equal and in another block
+pub record TwinAt (first : Option PageRecord) (r : PageRecord) (old : Newest) (place : Place) (twin : Option Place) : Type 0 where
+  pub same_block : place.block ≡ old.place.block → twin ≡ old.twin
+  pub equal : (q : PageRecord) → first ≡ Some q → place.block ≢ old.place.block → SaysTheSame q r → twin ≡ Some place
+  pub other : (q : PageRecord) → first ≡ Some q → (SaysTheSame q r → ⊥) → twin ≡ old.twin
+
+-- all these places are learnt, and there are not too many pages; or there are
+abbrev pub LearnsAll : Pages → (n limit : ℕ) → Table → Bool → Type 0
+LearnsAll pages n limit table true = HasLearnt pages n table
+LearnsAll pages n limit table false = limit < page_count pages n
