@@ -7,4 +7,5 @@ pub mod Shown
 pub mod Made
 pub mod Cleaned
 pub mod Around
+pub mod Taken
 pub mod Created
