@@ -8,4 +8,5 @@ pub mod Made
 pub mod Cleaned
 pub mod Around
 pub mod Taken
+pub mod InPlace
 pub mod Created

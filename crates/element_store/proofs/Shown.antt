@@ -15,7 +15,7 @@ use Rattle.block_files.specs.Contents.{counting, lacks, lacking, first_content}
 use Rattle.index_text.specs.declared.entries.IndexEntry.{IndexEntry}
 use Rattle.element_state.specs.Views.{entry_view, given, content_of, counts}
 
-content_good : (o s : Option (List ℕ)) (v : List ℕ) → content_of o s ≡ Good v → o ≡ Some v
+pub content_good : (o s : Option (List ℕ)) (v : List ℕ) → content_of o s ≡ Good v → o ≡ Some v
 content_good None s v e = cc
 content_good (Some x) s v e = cc
 

@@ -12,7 +12,10 @@
 
 mod creating;
 mod jobs;
+mod mending;
+mod opening;
 mod planning;
+mod reporting;
 mod spelling;
 mod store;
 mod taking;
@@ -22,4 +25,5 @@ mod writing;
 
 pub use creating::create;
 pub use element_state::{Change, Shape, StoreError, View, inspect, salvage};
+pub use opening::{OpenedStore, open_store};
 pub use store::Store;
