@@ -9,4 +9,7 @@ pub mod Cleaned
 pub mod Around
 pub mod Taken
 pub mod InPlace
+pub mod Opened
+pub mod Finds
+pub mod Moments
 pub mod Created

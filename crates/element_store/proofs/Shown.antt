@@ -31,7 +31,7 @@ none_pass p a (suc n) e c le lt = ⊎_elim
     never : (xs : List ℕ) → suc a ∷ xs ≡ [] → ⊥
     never xs e = cc
 
-gives : (v : List ℕ) (given : Option (List ℕ)) (inside : Bool) → lacks (Some v) given inside ≡ false → (given ≡ Some v) × (inside ≡ true)
+pub gives : (v : List ℕ) (given : Option (List ℕ)) (inside : Bool) → lacks (Some v) given inside ≡ false → (given ≡ Some v) × (inside ≡ true)
 gives v None inside e = absurd (true_false e)
   where
     true_false : true ≡ false → ⊥
