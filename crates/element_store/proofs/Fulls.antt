@@ -76,7 +76,7 @@ view_areas old new place m e same = view_same old new place m e
 
 -- ---- every copy has the content
 
-counting_full : (file blocks bytes hash : List ℕ) (len : ℕ) → IsFull file blocks bytes → hash ≡ sha256 bytes → len ≡ length bytes → counting file blocks len hash ≡ Some bytes
+pub counting_full : (file blocks bytes hash : List ℕ) (len : ℕ) → IsFull file blocks bytes → hash ≡ sha256 bytes → len ≡ length bytes → counting file blocks len hash ≡ Some bytes
 unfolding counting
 counting_full file blocks bytes hash len full is long =
     let j : joined file blocks len ≡ bytes = ap (joined file blocks) long ∙ full.bytes_are in

@@ -7,4 +7,9 @@ pub mod Shown
 pub mod Made
 pub mod Cleaned
 pub mod Around
+pub mod Taken
+pub mod InPlace
+pub mod Opened
+pub mod Finds
+pub mod Moments
 pub mod Created

@@ -15,7 +15,7 @@ use Rattle.block_files.specs.Contents.{counting, lacks, lacking, first_content}
 use Rattle.index_text.specs.declared.entries.IndexEntry.{IndexEntry}
 use Rattle.element_state.specs.Views.{entry_view, given, content_of, counts}
 
-content_good : (o s : Option (List ℕ)) (v : List ℕ) → content_of o s ≡ Good v → o ≡ Some v
+pub content_good : (o s : Option (List ℕ)) (v : List ℕ) → content_of o s ≡ Good v → o ≡ Some v
 content_good None s v e = cc
 content_good (Some x) s v e = cc
 
@@ -31,7 +31,7 @@ none_pass p a (suc n) e c le lt = ⊎_elim
     never : (xs : List ℕ) → suc a ∷ xs ≡ [] → ⊥
     never xs e = cc
 
-gives : (v : List ℕ) (given : Option (List ℕ)) (inside : Bool) → lacks (Some v) given inside ≡ false → (given ≡ Some v) × (inside ≡ true)
+pub gives : (v : List ℕ) (given : Option (List ℕ)) (inside : Bool) → lacks (Some v) given inside ≡ false → (given ≡ Some v) × (inside ≡ true)
 gives v None inside e = absurd (true_false e)
   where
     true_false : true ≡ false → ⊥

@@ -12,13 +12,18 @@
 
 mod creating;
 mod jobs;
+mod mending;
+mod opening;
 mod planning;
+mod reporting;
 mod spelling;
 mod store;
+mod taking;
 #[cfg(test)]
 mod tests;
 mod writing;
 
 pub use creating::create;
 pub use element_state::{Change, Shape, StoreError, View, inspect, salvage};
+pub use opening::{OpenedStore, open_store};
 pub use store::Store;

@@ -1,0 +1,16 @@
+use Rattle.std.proofs.Common.{◌≡◌, refl}
+use Rattle.element_store.proofs.Finds.{found_first, found_view, found_opens}
+use Rattle.element_store.proofs.opening.prepare.Goals as goal
+use Rattle.element_store.proofs.Opened.{opening_used, opening_view, opening_clean}
+use Rattle.element_store.proofs.Moments.{third_kept, third_outside}
+
+pub returns-clause-found : goal.returns-clause-found
+returns-clause-found g c = λ tells.
+    let image = (g.D.Disk.medium c.args.disk.now).image in
+    let chose = c.in_ok-seen.ensures.chosen tells in
+    let viewed = c.in_ok-seen.ensures.viewed tells in
+    record {
+      first = found_first image c.args.shape.now c.in_ok-seen.field-0 c.in-Some-true.field-0 c.in-Some-true.is (cc) chose viewed;
+      view = found_view image c.args.shape.now c.in_ok-seen.field-0 c.in-Some-true.field-0 c.in-Some-true.is (cc) chose viewed;
+      opens = found_opens image c.args.shape.now c.in_ok-seen.field-0 c.in-Some-true.field-0 c.in-Some-true.is (cc) chose viewed;
+    }

@@ -1,0 +1,36 @@
+-- Elements that are mended in place: what is whole afterwards, and what stands as it was.
+use Rattle.std.specs.Prelude.{◌≡◌, ℕ, List, [], ◌∷◌, map, Option, Some, None}
+use Rattle.per_base.specs.declared.elements.Entry.{Entry}
+use Rattle.per_base.specs.declared.elements.Content.TheVariants.{Good}
+use Rattle.per_base.specs.declared.reports.Report.{Report}
+use Rattle.per_base.specs.declared.reports.ReportKind.{ReportKind}
+use Rattle.disk_model.specs.Image.{Image}
+use Rattle.disk_model.specs.Case.{Case}
+use Rattle.block_files.specs.Areas.{NamedFull}
+use Rattle.index_text.specs.declared.entries.Index.{Index}
+use Rattle.index_text.specs.declared.entries.IndexEntry.{IndexEntry}
+use Rattle.element_state.specs.declared.shapes.Shape.{Shape}
+use Rattle.element_state.specs.Views.{entry_view}
+use Rattle.element_state.specs.Reports.{report_of}
+use Rattle.element_laws.specs.Phases.{IsMending, IsSparing, KeepsBlocksWhole}
+
+-- the copies that lacked a good element have its value
+abbrev pub IsWholeIn : Image → (first : ℕ) → IndexEntry → Entry → Type 0
+IsWholeIn image first e f = (value : List ℕ) → f.content ≡ Good value → NamedFull first f.lacking e.blocks value image
+
+-- the elements are those that the index shows on this image
+abbrev pub AreShown : Shape → Index → List Entry → (start : Image) → Type 0
+AreShown shape index views start = views ≡ map (entry_view start shape.place shape.m) index.entries
+
+-- a case while these elements are mended, from wherever they were read
+abbrev pub MendsCase : Shape → Index → List Entry → (now : Image) → Case → Type 0
+MendsCase shape index views now c = (start : Image) → AreShown shape index views start → IsMending shape start now index c
+
+-- an image on which they were mended, and all else stands as it was
+abbrev pub SparesOthers : Shape → Index → List Entry → (now image : Image) → Type 0
+SparesOthers shape index views now image = (start : Image) → AreShown shape index views start → IsSparing KeepsBlocksWhole shape start now index image
+
+-- the report of an element, where there is one
+abbrev pub reported : Shape → Entry → Option ReportKind → List Report
+reported shape e None = []
+reported shape e (Some kind) = report_of kind shape (Some e.name) e.lacking ∷ []

@@ -1,0 +1,146 @@
+//! The opening of a storage.
+
+ghost use Rattle.std.specs.Prelude.{◌≡◌, IsTrue, IfOk, OnOk, IsErrOf, Some, None, true, find};
+ghost use Rattle.per_base.specs.Causes.{Rose};
+ghost use Rattle.disk_model.specs.Frame.{Spares, IsSettledOn};
+ghost use Rattle.disk_model.specs.Medium.{Quiet, IsIdle, EachCase, Elapses};
+ghost use Rattle.disk_model.specs.Place.{IsOutside};
+ghost use Rattle.element_state.specs.Chosen.{opened_of};
+ghost use Rattle.element_state.specs.Clean.{IsClean};
+ghost use Rattle.element_state.specs.Conditions.{IsShape};
+ghost use Rattle.element_state.specs.Kept.{IsKeptCase};
+ghost use Rattle.element_state.specs.Reports.{reports};
+ghost use Rattle.element_state.specs.States.{State, store_at, mended_view};
+ghost use Rattle.element_store.specs.Opened.{IsReady, IsFoundOn, MendsByNoChance};
+ghost use Rattle.element_store.specs.Stores.{IsUsed, shape_of, view_in};
+
+use crate::mending::{mend_durably, mended_entries};
+use crate::reporting::reports_of;
+use crate::store::Store;
+use crate::taking::blocks_taken_by;
+use crate::writing::blocks_in_area;
+use block_files::BlockSet;
+use disk_model::Disk;
+use element_laws::{adopting_keeps, mending_keeps, places_are_clean, untouched_is_kept, use_is_adopted};
+use element_state::{Found, Shape, StoreError, View, survey};
+use guarded_cell::{Seen, adopt};
+use index_text::Index;
+use per_base::{Entry, Report};
+use std::alloc::Global;
+
+/// A storage that was opened.
+#[derive(Debug, Drop)]
+pub struct OpenedStore {
+    pub store: Store,
+    /// What was lacking, or could not be read: of the storage first, then of its elements by their names.
+    pub reports: Vec<Report>,
+    /// What the storage was seen as before the opening.
+    pub before: View,
+}
+
+/// Opens a storage: brings every copy to the text at which it opens, and writes each element again, on which enough copies agree, in
+/// the copies that lack it.
+///
+/// # Errors
+///
+/// `Corrupt` exactly where no text qualifies: then nothing is written. `Device` where the disk fails, and `OutOfMemory`.
+pub fn open_store<D: Disk>(
+    alloc: Global,
+    disk: &mut D,
+    shape: Shape,
+) -> Result<OpenedStore, StoreError>
+    requires { IsShape shape }
+
+    ensures before { IsTrue D.told → IfOk result (λ o. opened_of (store_at (D.medium disk.old).image shape) ≡ Some o.before) }
+    ensures view { IfOk result (λ o. view_in o.store ≡ mended_view shape o.before) }
+    ensures used { IfOk result (λ o. IsUsed D.told (D.medium disk.new).image o.store) }
+    ensures shape { IfOk result (λ o. shape_of o.store ≡ shape) }
+    ensures reports { IfOk result (λ o. o.reports.items ≡ reports (λ bytes. true) shape o.before) }
+    ensures clean { IsTrue D.told → IsClean shape (D.medium disk.old).image → OnOk result (IsClean shape (D.medium disk.new).image) }
+    ensures quiet { OnOk result (Quiet (D.medium disk.new)) }
+
+    // A corrupt storage is left as it is.
+    ensures corrupt { IsTrue D.told → IsErrOf result StoreError.Corrupt → opened_of (store_at (D.medium disk.old).image shape) ≡ None }
+    ensures untouched { IsErrOf result StoreError.Corrupt → (D.medium disk.new).image ≡ (D.medium disk.old).image }
+    ensures unwritten { IsErrOf result StoreError.Corrupt → (D.medium disk.new).written ≡ (D.medium disk.old).written }
+    ensures settled { IsErrOf result StoreError.Corrupt → Quiet (D.medium disk.new) }
+    ensures cause { IsErrOf result StoreError.Device → Rose (D.medium disk.old).faults (D.medium disk.new).faults }
+
+    // No file outside the place changes, at the end and at any moment.
+    ensures elsewhere { IsTrue D.told
+        → Spares (IsOutside shape.place.first shape.place.copies) (D.medium disk.old).image (D.medium disk.new).image }
+    ensures outside { IsTrue D.told → Quiet (D.medium disk.old)
+        → EachCase (IsSettledOn (IsOutside shape.place.first shape.place.copies) (D.medium disk.old).image)
+        (D.medium disk.old) (D.medium disk.new) }
+
+    // A stop at any moment keeps the storage, where no half of a mend passes for a content by chance.
+    ensures any_moment { IsTrue D.told → Quiet (D.medium disk.old) → IsClean shape (D.medium disk.old).image → (after : State)
+        → EachCase (λ c. MendsByNoChance shape (D.medium disk.old).image c → IsKeptCase shape (store_at (D.medium disk.old).image shape) after c)
+        (D.medium disk.old) (D.medium disk.new) }
+    ensures time { Elapses (D.medium disk.old) (D.medium disk.new) }
+{
+    use_is_adopted();
+    untouched_is_kept();
+    adopting_keeps();
+    mending_keeps();
+    places_are_clean();
+    let Ready { seen, index, before, entries, reports, used } = prepare(alloc, disk, &shape)?;
+    let cell = adopt(alloc, disk, shape.place, seen.generation, seen.text.as_slice())?;
+    mend_durably(disk, &shape, &index, before.entries.as_slice())?;
+    Ok(OpenedStore {
+        store: Store::new(alloc, shape, cell, index, entries, used),
+        reports,
+        before,
+    })
+}
+
+/// What an opening knows and takes before it writes anything.
+#[derive(Drop)]
+struct Ready {
+    seen: Seen,
+    index: Index,
+    before: View,
+    /// The elements once they are mended.
+    entries: Vec<Entry>,
+    reports: Vec<Report>,
+    /// The blocks of the index.
+    used: BlockSet,
+}
+
+// Reads the text at which the storage opens, and takes the memory for the rest.
+fn prepare<D: Disk>(alloc: Global, disk: &mut D, shape: &Shape) -> Result<Ready, StoreError>
+    requires { IsShape shape.now }
+    ensures ready { IfOk result (IsReady shape.now) }
+    ensures found { IsTrue D.told → IfOk result (IsFoundOn (D.medium disk.old).image shape.now) }
+    ensures corrupt { IsTrue D.told → IsErrOf result StoreError.Corrupt → opened_of (store_at (D.medium disk.old).image shape.now) ≡ None }
+
+    ensures quiet { OnOk result (Quiet (D.medium disk.new)) }
+    ensures settled { IsErrOf result StoreError.Corrupt → Quiet (D.medium disk.new) }
+    ensures image { (D.medium disk.new).image ≡ (D.medium disk.old).image }
+    ensures idle { Quiet (D.medium disk.old) → IsIdle (D.medium disk.old) (D.medium disk.new) }
+    ensures written { (D.medium disk.new).written ≡ (D.medium disk.old).written }
+    ensures cause { IsErrOf result StoreError.Device → Rose (D.medium disk.old).faults (D.medium disk.new).faults }
+    ensures time { Elapses (D.medium disk.old) (D.medium disk.new) }
+{
+    let Some(
+        Found {
+            opens: true,
+            seen,
+            index,
+            view,
+        },
+    ) = survey(alloc, disk, shape)? else {
+        return Err(StoreError::Corrupt);
+    };
+    let entries = mended_entries(alloc, view.entries.as_slice())?;
+    let reports = reports_of(alloc, shape, &view)?;
+    let used = blocks_taken_by(alloc, blocks_in_area(shape), index.entries.as_slice())?;
+    Ok(Ready {
+        seen,
+        index,
+        before: view,
+        entries,
+        reports,
+        used,
+    })
+}
