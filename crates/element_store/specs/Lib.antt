@@ -2,3 +2,4 @@ pub mod Jobs
 pub mod Plans
 pub mod Stores
 pub mod Spelled
+pub mod Commits
