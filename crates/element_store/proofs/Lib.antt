@@ -8,3 +8,5 @@ pub mod Made
 pub mod Cleaned
 pub mod Around
 pub mod Created
+pub mod Committed
+pub mod CommitKept
