@@ -1,19 +1,24 @@
 -- What a commit leaves at its end and at every moment: by the laws of the phases of a call.
-use Rattle.std.proofs.Common.{◌≡◌, ◌⊎◌, ℕ, ◌+◌, List, Bool, true, IsTrue, sym, refl, ap, ◌∙◌, subst, ⊎_elim, inl, inr, Some, []}
+use Rattle.std.proofs.Common.{◌≡◌, ◌⊎◌, ℕ, zero, suc, ◌+◌, ◌*◌, ◌<◌, ◌≤◌, List, [], ◌∷◌, length, get_or, Bool, true, IsTrue, Some, refl, sym, ap, ◌∙◌, subst, arith, ⊎_elim, inl, inr}
+use Rattle.std.proofs.Math.Nat.{mul-le-mul_left}
 use Rattle.std.specs.List.{All, AllByRecursion, AllZip}
+use Rattle.hash_guard.specs.SealedText.{header}
+use Rattle.per_base.specs.declared.elements.Content.{Content}
 use Rattle.per_base.specs.declared.elements.Entry.{Entry}
 use Rattle.disk_model.specs.declared.place.Place.{Place}
 use Rattle.disk_model.specs.Medium.{Medium, Quiet, Elapses, EachCase, IsLawful}
 use Rattle.disk_model.specs.Frame.{Spares, IsSettledOn, Keeps}
 use Rattle.disk_model.specs.Place.{IsNoArea, IsNoSlot, IsOutside}
-use Rattle.disk_model.proofs.Frames.{case_less, case_none, keeps_less, settled_before, settled_less}
+use Rattle.disk_model.proofs.Frames.{case_less, keeps_less, settled_before, settled_less, settled_on}
 use Rattle.disk_model.proofs.Moments.{cases_on, goes_none}
 use Rattle.disk_model.proofs.Places.{outside_no_slot, outside_no_area}
 use Rattle.guarded_cell.specs.declared.cell.Cell.{Cell}
 use Rattle.guarded_cell.specs.Cells.{place_of, CellAt, IsCellOf}
 use Rattle.guarded_cell.specs.Register.{IsAlone}
 use Rattle.guarded_cell.specs.Stops.{PutStops}
-use Rattle.block_files.specs.BlockSets.{holds}
+use Rattle.block_files.specs.Aside.{Where}
+use Rattle.block_files.specs.BlockSets.{holds, Ascend}
+use Rattle.block_files.specs.Contents.{AreCopies}
 use Rattle.index_text.specs.declared.entries.Index.{Index}
 use Rattle.index_text.specs.declared.entries.IndexEntry.{IndexEntry}
 use Rattle.index_text.specs.Rules.{IsIndex}
@@ -24,22 +29,33 @@ use Rattle.element_state.specs.declared.shapes.Change.{Change}
 use Rattle.element_state.specs.Fit.{fit_index}
 use Rattle.element_state.specs.States.{State, Opens, store_at, whole_view}
 use Rattle.element_state.specs.Changes.{after_changes, committed_by}
+use Rattle.element_state.specs.Chosen.{HasLength, IsReadBy}
 use Rattle.element_state.specs.Clean.{IsClean}
 use Rattle.element_state.specs.Conditions.{IsShape, IsInUse}
 use Rattle.element_state.specs.Kept.{IsKeptCase, KeptThroughout}
-use Rattle.element_laws.specs.Phases.{IsAdopted, ContentsLaw, ContentsDoneLaw, IndexLaw, InUseLaw, CarriedLaw, IsWritten, IsCarried}
+use Rattle.element_state.specs.Written.{commit_cost, IsWithin}
+use Rattle.element_laws.specs.Phases.{IsOfPlace, UntouchedLaw, IsAdopted, ContentsLaw, ContentsDoneLaw, IndexLaw, InUseLaw, CarriedLaw, IsWritten, IsCarried}
 use Rattle.element_laws.proofs.Lists.{zip_with}
 use Rattle.element_store.specs.declared.jobs.Job.{Job}
 use Rattle.element_store.specs.declared.store.Store.{Store}
-use Rattle.element_store.specs.Jobs.{IsDone, HasShared, IsLeftByAll, IsJobsCase}
+use Rattle.element_store.specs.Jobs.{IsDone, HasShared, IsLeftByAll, IsJobsCase, jobs_cost}
 use Rattle.element_store.specs.Plans.{HasAll, ArePlaced}
 use Rattle.element_store.specs.Stores.{IsUsed, view_in, generation_in}
-use Rattle.element_store.specs.Commits.{IsCommitPlan}
+use Rattle.element_store.specs.Commits.{IsHeadedBy, IsWrittenBy, IsCarriedOver, IsCommitPlan}
 use Rattle.element_store.proofs.PlanSteps.{left_of_placed, jobs_to_contents}
 use Rattle.element_store.proofs.Around.{contents_around}
 use Rattle.element_store.proofs.Fulls.{view_full}
 use Rattle.element_store.proofs.Shown.{view_gives}
 use Rattle.element_store.proofs.Committed.{IsPut, IsStill, IsPutOrStill, entries_of_plan, plan_shares, after_in_use, after_clean}
+
+-- ---- where nothing is written
+
+pub none_kept : UntouchedLaw → (told : Bool) (shape : Shape) (state : State) (old : Medium) → IsShape shape → IsLawful told old → KeptThroughout shape state old old
+none_kept untouched told shape state old is law quiet clean = goes_none (IsKeptCase shape (store_at old.image shape) state) law
+    (λ c here. untouched shape old.image state c is.some clean (settled_on (IsOfPlace shape.place) (quiet c here)))
+
+pub none_around : (told : Bool) (first copies : ℕ) (old : Medium) → IsLawful told old → Quiet old → EachCase (IsSettledOn (IsOutside first copies) old.image) old old
+none_around told first copies old law quiet = goes_none (IsSettledOn (IsOutside first copies) old.image) law (λ c here. settled_on (IsOutside first copies) (quiet c here))
 
 -- ---- the laws, at a storage in use
 
@@ -68,11 +84,6 @@ module _ (in_use : InUseLaw) (shape : Shape) (set now : List Bool) (index : Inde
       contents_done shape old.image old.image mid.image v.generation (index_text index) index (holds set) after c is.some (adopted clean) rules takes
       (keeps_set mid (keeps all.0)) all.1)
       (each c past)
-
-  -- where nothing is written
-  pub nothing_kept : ContentsLaw → (told : Bool) (after : State) → IsLawful told old → KeptThroughout shape after old old
-  nothing_kept contents told after law quiet clean = goes_none (IsKeptCase shape (store_at old.image shape) after) law
-      (λ c here. contents shape old.image old.image v.generation (index_text index) index (holds set) after c c is.some (adopted clean) rules takes (quiet c here) (case_none c))
 
   -- ---- and then the index
 
@@ -198,3 +209,77 @@ module _ (told : Bool) (store : Store) (changes : List Change) (set now : List B
       commit_clean clean =
           after_clean shape old.image mid.image new.image set store.index v is in_use_now takes
           (keeps_less (λ f none. none) (λ k taken. left_of_placed set now jobs plan.placed k taken) keeps) same_here next after zip alone plan.text.fit clean
+
+-- ---- what it writes, and the elements in memory
+
+module _ (told : Bool) (store : Store) (changes : List Change) (set now : List Bool) (next : Index) (jobs : List Job) (old : Medium)
+    (used : IsUsed told old.image store) (plan : IsCommitPlan store.shape store.index (view_in store) changes set now next jobs) where
+  module _ (mid : Medium) (first_cost : mid.written ≤ old.written + store.shape.place.copies * jobs_cost jobs) where
+    abbrev cost : ℕ
+    cost = commit_cost store.shape.kind (view_in store).entries changes
+
+    pub commit_written_jobs : IsWithin store.shape.place.copies cost (length (index_text next)) old.written mid.written
+    commit_written_jobs =
+        let n = store.shape.place.copies in
+        let few : n * jobs_cost jobs ≤ n * cost = mul-le-mul_left n plan.cost in
+        let l = length (index_text next) in
+        let split : n * (cost + l + 88) ≡ n * cost + n * (l + 88) = omega arith in
+        omega (arith, first_cost, few, split)
+
+    pub commit_written : (new : Medium) (text : List ℕ) → text ≡ index_text next
+        → new.written ≤ mid.written + (place_of store.cell).copies * (header + length text + header)
+        → IsWithin store.shape.place.copies cost (length (index_text next)) old.written new.written
+    commit_written new text spelled then =
+        let n = store.shape.place.copies in
+        let l = length (index_text next) in
+        let few : n * jobs_cost jobs ≤ n * cost = mul-le-mul_left n plan.cost in
+        let split : n * (cost + l + 88) ≡ n * cost + n * (44 + l + 44) = omega arith in
+        let here : new.written ≤ mid.written + n * (44 + l + 44) =
+        subst (λ (t : List ℕ). new.written ≤ mid.written + n * (44 + length t + 44)) spelled
+        (subst (λ (p : Place). new.written ≤ mid.written + p.copies * (44 + length text + 44)) used.memory.place then) in
+        omega (arith, first_cost, few, split, here)
+
+  headed_read : (e : IndexEntry) (f : Entry) → IsHeadedBy e f → HasLength e.len f.content → AreCopies store.shape.place.copies f.lacking → Ascend f.lacking
+      → IsReadBy store.shape.place.copies e f
+  headed_read e f headed value copies ascend = record {
+    name = λ j. (sym headed j).0;
+    info = λ j. (sym headed j).1;
+    changed = λ j. (sym headed j).3;
+    len = λ j. (sym headed j).2;
+    value = value;
+    lacking = copies;
+    ascend = ascend;
+  }
+
+  none_read : (e : IndexEntry) (f : Entry) → IsHeadedBy e f → HasLength e.len f.content → f.lacking ≡ [] → IsReadBy store.shape.place.copies e f
+  none_read e f headed value none = headed_read e f headed value
+      (subst (λ (xs : List ℕ). AreCopies store.shape.place.copies xs) (sym none) (λ i lt. absurd (omega (arith, lt))))
+      (subst Ascend (sym none) (λ i j less lt. absurd (omega (arith, lt))))
+
+  written_read : (e : IndexEntry) (f : Entry) → IsWrittenBy jobs e f → IsReadBy store.shape.place.copies e f
+  written_read e f w = none_read e f w.headed (subst (λ (x : Content). HasLength e.len x) (sym w.content) (sym w.len)) w.lacking
+
+  read_at : (es : List IndexEntry) (fs : List Entry) (k : ℕ) (e : IndexEntry) (f : Entry) → AllZip (IsReadBy store.shape.place.copies) es fs
+      → k < length es → k < length fs → get_or es k e ≡ e → get_or fs k f ≡ f → IsReadBy store.shape.place.copies e f
+  read_at [] fs k e f zip lt less one two = absurd (omega (arith, lt))
+  read_at (x ∷ es) [] k e f zip lt less one two = absurd zip
+  read_at (x ∷ es) (y ∷ fs) zero e f zip lt less one two =
+      subst (λ (a : IndexEntry). IsReadBy store.shape.place.copies a f) one (subst (λ (b : Entry). IsReadBy store.shape.place.copies x b) two zip.0)
+  read_at (x ∷ es) (y ∷ fs) (suc k) e f zip lt less one two = read_at es fs k e f zip.1 (omega (arith, lt)) (omega (arith, less)) one two
+
+  carried_read : (e : IndexEntry) (f : Entry) → IsCarriedOver store.index (view_in store) e f → IsReadBy store.shape.place.copies e f
+  carried_read e f c =
+      let read = read_at store.index.entries store.entries.items c.beside.at c.was c.seen used.memory.entries c.beside.inside c.beside.within c.beside.one c.beside.two in
+      let value : HasLength e.len f.content =
+      subst (λ (n : ℕ). HasLength n f.content) (sym (ap (λ (at : Where). at.len) c.place)) (subst (λ (x : Content). HasLength c.was.len x) (sym c.content) read.value) in
+      ⊎_elim
+      (λ same. headed_read e f c.headed value
+      (subst (λ (xs : List ℕ). AreCopies store.shape.place.copies xs) (sym same) read.lacking) (subst Ascend (sym same) read.ascend))
+      (λ none. none_read e f c.headed value none.0)
+      c.lacking
+
+  -- the elements after the commit are read by the next index
+  pub commit_read : AllZip (IsReadBy store.shape.place.copies) next.entries (after_changes ((view_in store).generation + 1) (view_in store).entries changes)
+  commit_read = zip_with (λ e f. IsWrittenBy jobs e f ⊎ IsCarriedOver store.index (view_in store) e f) (IsReadBy store.shape.place.copies) next.entries
+      (after_changes ((view_in store).generation + 1) (view_in store).entries changes)
+      (λ e f i j w. ⊎_elim (λ written. written_read e f written) (λ carried. carried_read e f carried) w) plan.entries
