@@ -10,3 +10,4 @@ pub mod Around
 pub mod Created
 pub mod Committed
 pub mod CommitKept
+pub mod Rebuilt

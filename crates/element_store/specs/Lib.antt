@@ -3,3 +3,4 @@ pub mod Plans
 pub mod Stores
 pub mod Spelled
 pub mod Commits
+pub mod Rebuilds
