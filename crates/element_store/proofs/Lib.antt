@@ -12,3 +12,4 @@ pub mod Created
 pub mod Committed
 pub mod CommitKept
 pub mod Rebuilt
+pub mod TakenBlocks
