@@ -13,3 +13,4 @@ pub mod Committed
 pub mod CommitKept
 pub mod Rebuilt
 pub mod TakenBlocks
+pub mod Prepared

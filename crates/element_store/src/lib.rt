@@ -13,6 +13,7 @@
 mod creating;
 mod jobs;
 mod planning;
+mod rebuilding;
 mod spelling;
 mod store;
 mod taking;
@@ -21,5 +22,6 @@ mod tests;
 mod writing;
 
 pub use creating::create;
+pub use rebuilding::rebuild;
 pub use element_state::{Change, Shape, StoreError, View, inspect, salvage};
 pub use store::Store;
