@@ -14,3 +14,4 @@ pub mod CommitKept
 pub mod Rebuilt
 pub mod TakenBlocks
 pub mod Prepared
+pub mod RebuiltKept

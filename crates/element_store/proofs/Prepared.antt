@@ -1,5 +1,5 @@
 -- A storage whose copies were settled on the text beside which it is made anew.
-use Rattle.std.proofs.Common.{◌≡◌, ℕ, ◌+◌, ◌-◌, ◌^◌, ◌/◌, ◌<◌, ◌≤◌, min, List, Bool, true, false, Some, None, refl, sym, ap, ◌∙◌, subst, arith}
+use Rattle.std.proofs.Common.{◌≡◌, ℕ, ◌+◌, ◌-◌, ◌^◌, ◌/◌, ◌<◌, ◌≤◌, min, List, Bool, true, false, Some, None, sym, subst, arith}
 use Rattle.std.specs.List.{All, AllByRecursion}
 use Rattle.disk_model.specs.Medium.{Medium, Quiet, Elapses, EachCase, IsIdle}
 use Rattle.disk_model.specs.Image.{Image}
@@ -13,7 +13,6 @@ use Rattle.index_text.specs.declared.entries.IndexEntry.{IndexEntry}
 use Rattle.index_text.specs.Rules.{IsIndex, blocks_of}
 use Rattle.index_text.specs.Sizes.{area_blocks}
 use Rattle.element_state.specs.declared.shapes.Shape.{Shape}
-use Rattle.element_state.specs.declared.shapes.View.{View}
 use Rattle.element_state.specs.declared.surveying.Found.{Found}
 use Rattle.element_state.specs.Chosen.{chosen}
 use Rattle.element_state.specs.Clean.{IsClean}

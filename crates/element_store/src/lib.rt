@@ -22,6 +22,6 @@ mod tests;
 mod writing;
 
 pub use creating::create;
-pub use rebuilding::rebuild;
 pub use element_state::{Change, Shape, StoreError, View, inspect, salvage};
+pub use rebuilding::rebuild;
 pub use store::Store;

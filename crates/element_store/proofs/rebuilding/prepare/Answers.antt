@@ -1,9 +1,8 @@
-use Rattle.std.proofs.Common.{◌≡◌, Some, sym, ap, ◌∙◌, subst}
+use Rattle.std.proofs.Common.{sym, ap, ◌∙◌, subst}
 use Rattle.std.specs.Prelude.{IfSome, Option}
 use Rattle.std.specs.Option.{option_map}
 use Rattle.disk_model.specs.Image.{Image}
 use Rattle.element_state.specs.declared.surveying.Found.{Found}
-use Rattle.element_state.specs.Chosen.{chosen}
 use Rattle.element_state.specs.Surveys.{IsFound, text_of}
 use Rattle.element_store.proofs.Prepared.{surveyed_kept, none_ready, settled_kept, settled_ready, found_below, found_taken, found_room}
 use Rattle.element_store.proofs.rebuilding.prepare.Goals as goal
