@@ -13,3 +13,9 @@ pub mod Opened
 pub mod Finds
 pub mod Moments
 pub mod Created
+pub mod Committed
+pub mod CommitKept
+pub mod Rebuilt
+pub mod TakenBlocks
+pub mod Prepared
+pub mod RebuiltKept

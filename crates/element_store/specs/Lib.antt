@@ -4,3 +4,5 @@ pub mod Stores
 pub mod Spelled
 pub mod Mends
 pub mod Opened
+pub mod Commits
+pub mod Rebuilds

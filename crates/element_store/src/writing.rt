@@ -3,10 +3,10 @@
 ghost use Rattle.std.specs.Prelude.{◌≡◌, ◌≤◌, ◌+◌, IsTrue, IfOk, OnOk, IsErrOf, IsOk, Some, true, length};
 ghost use Rattle.std.specs.List.{AllZip};
 ghost use Rattle.per_base.specs.Causes.{Rose};
-ghost use Rattle.disk_model.specs.Frame.{Spares};
+ghost use Rattle.disk_model.specs.Frame.{Keeps, Spares};
 ghost use Rattle.disk_model.specs.Medium.{Quiet, EachCase, Elapses};
 ghost use Rattle.disk_model.specs.Place.{IsNoArea};
-ghost use Rattle.block_files.specs.BlockSets.{free_of};
+ghost use Rattle.block_files.specs.BlockSets.{holds, free_of};
 ghost use Rattle.index_text.specs.Sizes.{area_blocks};
 ghost use Rattle.index_text.specs.Spelling.{index_text};
 ghost use Rattle.element_state.specs.Conditions.{IsShape, AreContents};
@@ -48,6 +48,8 @@ pub(crate) fn put_contents<D: Disk>(
     ensures made { IfOk result (λ s. AllZip (IsMade generation) contents.now s.index.entries) }
     ensures shown { IsTrue D.told → IfOk result (λ s.
         ShowsFresh (D.medium disk.new).image shape.now.place shape.now.m generation contents.now s.index.entries) }
+    ensures keeps { IsTrue D.told → OnOk result (Keeps (IsNoArea shape.now.place.first shape.now.place.copies) (λ k. holds used.old k ≡ true)
+        (D.medium disk.old).image (D.medium disk.new).image) }
     ensures quiet { OnOk result (Quiet (D.medium disk.new)) }
     ensures never_corrupt { IsErrOf result StoreError.Corrupt → ⊥ }
     ensures cause { IsErrOf result StoreError.Device → Rose (D.medium disk.old).faults (D.medium disk.new).faults }

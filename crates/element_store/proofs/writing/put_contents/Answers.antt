@@ -1,5 +1,6 @@
 use Rattle.std.proofs.Common.{◌≡◌, List, true, sym, subst}
 use Rattle.std.specs.List.{All, AllZip}
+use Rattle.disk_model.proofs.Frames.{keeps_less}
 use Rattle.index_text.specs.declared.entries.Index.{Index}
 use Rattle.index_text.specs.Rules.{IsIndex}
 use Rattle.index_text.specs.Sizes.{fits}
@@ -7,7 +8,7 @@ use Rattle.element_store.specs.declared.jobs.Job.{Job}
 use Rattle.element_store.specs.Jobs.{HasShared, IsDone}
 use Rattle.element_store.specs.Plans.{IsMade, ArePlaced}
 use Rattle.element_store.specs.Spelled.{index_with, ShowsFresh}
-use Rattle.element_store.proofs.PlanSteps.{shared_of_whole, jobs_to_contents}
+use Rattle.element_store.proofs.PlanSteps.{shared_of_whole, left_of_placed, jobs_to_contents}
 use Rattle.element_store.proofs.Ruled.{plan_rules, plan_fits}
 use Rattle.element_store.proofs.Made.{fit_of}
 use Rattle.element_store.proofs.writing.put_contents.Goals as goal
@@ -65,3 +66,11 @@ returns-clause-during g c = λ x past. (
 pub returns-in-Ok-clause-made : goal.returns-in-Ok-clause-made
 returns-in-Ok-clause-made g c =
     subst (λ (i : Index). AllZip (IsMade c.args.generation) c.args.contents.now i.entries) (sym c.in_ok-spelled.ensures.index) c.in_ok-entries.ensures.made
+
+pub returns-in-Ok-clause-keeps : goal.returns-in-Ok-clause-keeps
+returns-in-Ok-clause-keeps g c = λ tells. (
+    let e : c.deref.result.now ≡ c.in_ok-entries.field-0.jobs.items = cc in
+    keeps_less (λ f none. none)
+    (λ k taken. left_of_placed c.args.used.now c.plan_contents.new.used c.deref.result.now
+    (subst (λ (js : List Job). ArePlaced c.args.used.now c.plan_contents.new.used js) (sym e) c.in_ok-entries.ensures.placed) k taken)
+    (c.in-Ok.ensures.keeps tells))

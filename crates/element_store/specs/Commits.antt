@@ -1,0 +1,77 @@
+-- What a commit is to do, settled in memory before anything is written.
+use Rattle.std.specs.Prelude.{◌≡◌, ◌⊎◌, ℕ, ◌+◌, ◌<◌, ◌≤◌, List, [], length, slice_index, slice_index_or, Bool, Some, false}
+use Rattle.std.specs.List.{All, AllZip, Contains}
+use Rattle.sha2.specs.Sha256.{sha256}
+use Rattle.per_base.specs.declared.elements.Content.TheVariants.{Good}
+use Rattle.per_base.specs.declared.elements.Entry.{Entry}
+use Rattle.block_files.specs.Parts.{is_changed}
+use Rattle.index_text.specs.declared.entries.Index.{Index}
+use Rattle.index_text.specs.declared.entries.IndexEntry.{IndexEntry}
+use Rattle.index_text.specs.Spelling.{index_text}
+use Rattle.element_state.specs.declared.shapes.Shape.{Shape}
+use Rattle.element_state.specs.declared.shapes.View.{View}
+use Rattle.element_state.specs.declared.shapes.Change.{Change}
+use Rattle.element_state.specs.Changes.{after_changes}
+use Rattle.element_state.specs.Clean.{where_of}
+use Rattle.element_state.specs.Conditions.{IsGoodEntry}
+use Rattle.element_state.specs.Kept.{heading}
+use Rattle.element_state.specs.Written.{commit_cost}
+use Rattle.element_store.specs.declared.jobs.Job.{Job}
+use Rattle.element_store.specs.Jobs.{jobs_cost}
+use Rattle.element_store.specs.Plans.{ArePlaced}
+use Rattle.element_store.specs.Spelled.{IsTextOf}
+
+-- the two stand at one place of their lists
+pub record AreBeside {X Y : Type 0} (xs : List X) (ys : List Y) (x : X) (y : Y) : Type 0 where
+  pub at : ℕ
+  pub inside : at < length xs
+  pub within : at < length ys
+  pub one : slice_index_or xs at x ≡ x
+  pub two : slice_index_or ys at y ≡ y
+
+-- an entry and its element have the same name, info, length and number
+abbrev pub IsHeadedBy : IndexEntry → Entry → Type 0
+IsHeadedBy e f = (e.name, e.info, e.len, e.changed) ≡ heading f
+
+-- an element keeps its content where the standing index has it; one that is good may come to lack nothing
+pub record IsCarriedOver (index : Index) (v : View) (e : IndexEntry) (f : Entry) : Type 0 where
+  pub was : IndexEntry
+  pub seen : Entry
+  pub beside : AreBeside index.entries v.entries was seen
+  pub place : where_of e ≡ where_of was
+  pub headed : IsHeadedBy e f
+  pub content : f.content ≡ seen.content
+  pub lacking : (f.lacking ≡ seen.lacking) ⊎ ((f.lacking ≡ []) × IsGoodEntry (Some seen))
+
+-- an element whose content one of the jobs writes
+pub record IsWrittenBy (jobs : List Job) (e : IndexEntry) (f : Entry) : Type 0 where
+  pub job : Job
+  pub among : Contains jobs job
+  pub blocks : e.blocks ≡ job.blocks
+  pub hash : e.hash ≡ sha256 job.bytes.now
+  pub len : e.len ≡ length job.bytes.now
+  pub headed : IsHeadedBy e f
+  pub content : f.content ≡ Good job.bytes.now
+  pub lacking : f.lacking ≡ []
+
+-- the earlier content of a job is that of a good element, in whose blocks it has the parts that it does not write
+pub record IsBesideOld (index : Index) (v : View) (job : Job) : Type 0 where
+  pub was : IndexEntry
+  pub seen : Entry
+  pub beside : AreBeside index.entries v.entries was seen
+  pub content : seen.content ≡ Good job.was.now
+  pub shared : (i : ℕ) → i < length job.blocks → is_changed job.bytes.now job.was.now i ≡ false
+      → (i < length was.blocks) × (slice_index job.blocks i ≡ slice_index was.blocks i)
+
+-- a job writes its content whole, or beside an earlier one
+abbrev pub SharesOld : Index → View → Job → Type 0
+SharesOld index v job = (job.was.now ≡ []) ⊎ IsBesideOld index v job
+
+-- The next index of a storage and the jobs that write its contents, from the standing index with its view and from changes. The first
+-- set has the blocks of the standing index, and the second besides those that the jobs write.
+pub record IsCommitPlan (shape : Shape) (index : Index) (v : View) (changes : List Change) (set used : List Bool) (next : Index) (jobs : List Job) : Type 0 where
+  pub entries : AllZip (λ e f. IsWrittenBy jobs e f ⊎ IsCarriedOver index v e f) next.entries (after_changes (v.generation + 1) v.entries changes)
+  pub placed : ArePlaced set used jobs
+  pub text : IsTextOf shape (index_text next) next
+  pub shares : All (SharesOld index v) jobs
+  pub cost : jobs_cost jobs ≤ commit_cost shape.kind v.entries changes

@@ -1,0 +1,153 @@
+//! A storage made anew beside what its place holds.
+
+ghost use Rattle.std.specs.Prelude.{◌≡◌, ◌≤◌, ◌<◌, ◌+◌, ◌/◌, IsTrue, IfOk, OnOk, IsErrOf, length};
+ghost use Rattle.per_base.specs.Causes.{Rose};
+ghost use Rattle.disk_model.specs.Frame.{Spares, IsSettledOn};
+ghost use Rattle.disk_model.specs.Medium.{Quiet, EachCase, Elapses};
+ghost use Rattle.disk_model.specs.Place.{IsNoSlot, IsOutside};
+ghost use Rattle.guarded_cell.specs.Seens.{IsSealable};
+ghost use Rattle.block_files.specs.BlockSets.{free_of};
+ghost use Rattle.index_text.specs.Sizes.{area_blocks};
+ghost use Rattle.element_state.specs.States.{State, store_at, salvage_of, next_generation, fresh_map, fresh_state};
+ghost use Rattle.element_state.specs.Clean.{IsClean};
+ghost use Rattle.element_state.specs.Conditions.{IsShape, AreContents};
+ghost use Rattle.element_state.specs.Kept.{KeptThroughout};
+ghost use Rattle.element_store.specs.Rebuilds.{IsReady, IsLeftWith, SettleStops, HasNext};
+
+use crate::taking::blocks_taken_by;
+use crate::writing::{blocks_in_area, put_contents};
+use block_files::BlockSet;
+use disk_model::{Disk, Place};
+use element_state::{Found, Shape, StoreError, survey};
+use guarded_cell::{adopt, keep_only};
+use per_base::Fresh;
+use std::alloc::Global;
+
+/// Makes a storage anew with these contents, under the generation after that of the text at which it opens or, where it is corrupt, of
+/// its salvage; under generation 1 where it has none. Until the new index stands, a stop leaves the storage as it was.
+///
+/// # Errors
+///
+/// `Device` where the disk fails, and `OutOfMemory`. Never `Corrupt`.
+pub fn rebuild<D: Disk>(
+    alloc: Global,
+    disk: &mut D,
+    shape: &Shape,
+    contents: Vec<Fresh>,
+) -> Result<(), StoreError>
+    requires shape { IsShape shape.now }
+    requires contents { AreContents shape.now contents.items }
+    requires not_worn { IsTrue D.told → HasNext (salvage_of (store_at (D.medium disk.old).image shape.now)) }
+
+    ensures opens { IsTrue D.told → OnOk result (store_at (D.medium disk.new).image shape.now
+        ≡ fresh_state (next_generation (salvage_of (store_at (D.medium disk.old).image shape.now))) (fresh_map contents.items)) }
+    ensures clean { IsTrue D.told → OnOk result (IsClean shape.now (D.medium disk.new).image) }
+    ensures quiet { OnOk result (Quiet (D.medium disk.new)) }
+
+    ensures never_corrupt { IsErrOf result StoreError.Corrupt → ⊥ }
+    ensures cause { IsErrOf result StoreError.Device → Rose (D.medium disk.old).faults (D.medium disk.new).faults }
+
+    // At any moment the storage is as it was or has the new contents, and no file outside the place changes.
+    ensures kept { IsTrue D.told → KeptThroughout shape.now
+        (fresh_state (next_generation (salvage_of (store_at (D.medium disk.old).image shape.now))) (fresh_map contents.items))
+        (D.medium disk.old) (D.medium disk.new) }
+    ensures elsewhere { IsTrue D.told
+        → Spares (IsOutside shape.now.place.first shape.now.place.copies) (D.medium disk.old).image (D.medium disk.new).image }
+    ensures any_moment { IsTrue D.told → Quiet (D.medium disk.old)
+        → EachCase (IsSettledOn (IsOutside shape.now.place.first shape.now.place.copies) (D.medium disk.old).image)
+        (D.medium disk.old) (D.medium disk.new) }
+    ensures time { Elapses (D.medium disk.old) (D.medium disk.new) }
+{
+    let Ground {
+        mut used,
+        generation,
+    } = prepare(alloc, disk, shape)?;
+    let spelled = put_contents(alloc, disk, shape, generation, &contents, &mut used)?;
+    adopt(
+        alloc,
+        disk,
+        shape.place,
+        generation,
+        spelled.text.as_slice(),
+    )?;
+    Ok(())
+}
+
+/// Where new contents may lie beside what a storage holds, and the generation of their index.
+#[derive(Drop)]
+struct Ground {
+    used: BlockSet,
+    generation: u64,
+}
+
+// Settles the copies on the text beside which a storage is made anew.
+fn prepare<D: Disk>(alloc: Global, disk: &mut D, shape: &Shape) -> Result<Ground, StoreError>
+    requires shape { IsShape shape.now }
+    requires not_worn { IsTrue D.told → HasNext (salvage_of (store_at (D.medium disk.old).image shape.now)) }
+
+    ensures ready { IsTrue D.told → IsClean shape.now (D.medium disk.old).image → IfOk result (λ ground.
+        IsReady shape.now (D.medium disk.old).image (D.medium disk.new).image ground.used ground.generation) }
+    ensures generation { IsTrue D.told → IfOk result (λ ground.
+        ground.generation ≡ next_generation (salvage_of (store_at (D.medium disk.old).image shape.now))) }
+    ensures positive { IfOk result (λ ground. 1 ≤ ground.generation) }
+    ensures capacity { IfOk result (λ ground. length ground.used ≡ area_blocks shape.now.allowed) }
+    ensures free { IfOk result (λ ground. shape.now.allowed / 256 + 1024 ≤ free_of ground.used) }
+    ensures quiet { OnOk result (Quiet (D.medium disk.new)) }
+    ensures never_corrupt { IsErrOf result StoreError.Corrupt → ⊥ }
+    ensures cause { IsErrOf result StoreError.Device → Rose (D.medium disk.old).faults (D.medium disk.new).faults }
+
+    // Only slots change, and at any moment the storage stands.
+    ensures kept { IsTrue D.told → (state : State) → KeptThroughout shape.now state (D.medium disk.old) (D.medium disk.new) }
+    ensures elsewhere { IsTrue D.told
+        → Spares (IsNoSlot shape.now.place.first shape.now.place.copies) (D.medium disk.old).image (D.medium disk.new).image }
+    ensures any_moment { IsTrue D.told → Quiet (D.medium disk.old)
+        → EachCase (IsSettledOn (IsNoSlot shape.now.place.first shape.now.place.copies) (D.medium disk.old).image)
+        (D.medium disk.old) (D.medium disk.new) }
+    ensures time { Elapses (D.medium disk.old) (D.medium disk.new) }
+{
+    let blocks = blocks_in_area(shape);
+    match survey(alloc, disk, shape)? {
+        Some(found) => {
+            let used = blocks_taken_by(alloc, blocks, found.index.entries.as_slice())?;
+            settle(alloc, disk, shape.place, &found)?;
+            let generation = found.view.generation.saturating_add(1);
+            Ok(Ground { used, generation })
+        }
+        None => {
+            let used = BlockSet::new(alloc, blocks)?;
+            Ok(Ground {
+                used,
+                generation: 1,
+            })
+        }
+    }
+}
+
+// Brings every copy to the text at which a storage opens, or takes away all texts but its salvage.
+fn settle<D: Disk>(
+    alloc: Global,
+    disk: &mut D,
+    place: Place,
+    found: &Found,
+) -> Result<(), StoreError>
+    requires { IsSealable found.now.seen }
+    ensures left { IsTrue D.told → OnOk result (IsLeftWith found.now.opens place.first place.copies found.now.seen.generation found.now.seen.text
+        (D.medium disk.old).image (D.medium disk.new).image) }
+    ensures quiet { OnOk result (Quiet (D.medium disk.new)) }
+    ensures never_corrupt { IsErrOf result StoreError.Corrupt → ⊥ }
+    ensures cause { IsErrOf result StoreError.Device → Rose (D.medium disk.old).faults (D.medium disk.new).faults }
+    ensures elsewhere { IsTrue D.told → Spares (IsNoSlot place.first place.copies) (D.medium disk.old).image (D.medium disk.new).image }
+    ensures any_moment { IsTrue D.told → Quiet (D.medium disk.old)
+        → EachCase (SettleStops found.now.opens place.first place.copies found.now.seen.generation found.now.seen.text (D.medium disk.old).image)
+        (D.medium disk.old) (D.medium disk.new) }
+    ensures time { Elapses (D.medium disk.old) (D.medium disk.new) }
+{
+    let generation = found.seen.generation;
+    let text = found.seen.text.as_slice();
+    if found.opens {
+        adopt(alloc, disk, place, generation, text)?;
+    } else {
+        keep_only(alloc, disk, place, generation, text)?;
+    }
+    Ok(())
+}
