@@ -8,3 +8,4 @@ pub mod Made
 pub mod Cleaned
 pub mod Around
 pub mod Created
+mod InOrder

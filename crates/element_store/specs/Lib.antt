@@ -2,4 +2,5 @@ pub mod Jobs
 pub mod Plans
 pub mod Stores
 pub mod Spelled
+pub mod Named
 pub mod Commits
