@@ -1,5 +1,5 @@
 -- Items in the order of their names: searching, putting one in and taking one out.
-use Rattle.std.proofs.Common.{◌≡◌, ◌≢◌, ℕ, zero, suc, ◌+◌, ◌<◌, ◌≤◌, Bool, true, false, List, [], ◌∷◌, ◌++◌, length, get_or, set, map, take, drop, Result, Ok, Err, refl, sym, ap, subst, ◌∙◌, inl, inr, arith}
+use Rattle.std.proofs.Common.{◌≡◌, ◌≢◌, ℕ, zero, suc, ◌+◌, ◌<◌, ◌≤◌, Bool, true, false, List, [], ◌∷◌, ◌++◌, length, get_or, set, map, take, drop, Result, Ok, Err, Some, None, refl, sym, ap, subst, ◌∙◌, inl, inr, arith}
 use Rattle.std.specs.Fn.{Called, ComputesKey, ReturnsEach}
 use denote.Param.Members.{Mut}
 use denote.Ref.{Bor}
@@ -15,7 +15,8 @@ use Rattle.std.proofs.lemmas.Map.Text.{is_eq-slice_cmp}
 use Rattle.std.proofs.lemmas.Slice.Eq.{bytes_eq-Decides}
 use Rattle.std.proofs.lemmas.List.Sorted.{searchable_from_sorted}
 use Rattle.per_base.specs.Names.{name_cmp}
-use Rattle.element_state.specs.Changes.{insert_item, without_item}
+use Rattle.std.specs.Prelude.{cond}
+use Rattle.element_state.specs.Changes.{item_at, insert_item, without_item}
 use Rattle.element_store.specs.Named.{NamesAscend, IsPlaceOf}
 
 -- names that differ by their order differ
@@ -189,6 +190,38 @@ module _ {X : Type 0} (name_of : X → List ℕ) where
   put_there x (y ∷ ys) (suc i) le parted =
       rw (ap is_lt (parted.0 0 y (omega arith) (omega arith))) (ap (λ (zs : List X). y ∷ zs) (put_there x ys i (omega (arith, le))
       ((λ k d low lt. parted.0 (suc k) d (omega arith) (omega (arith, lt))), (λ k d low lt. parted.1 (suc k) d (omega (arith, low)) (omega (arith, lt))))))
+
+  -- ---- an item that is changed in its place
+
+  abbrev Changed : (X → X) → List ℕ → X → X
+  Changed t name x = cond (bytes_eq (name_of x) name) (t x) x
+
+  pub touch_none : (t : X → X) (name : List ℕ) (xs : List X) → Apart name xs → xs ≡ map (Changed t name) xs
+  touch_none t name [] apart = refl
+  touch_none t name (x ∷ xs) apart =
+      rw (differs (name_of x) name (apart 0 x (omega arith))) (ap (λ (ys : List X). x ∷ ys) (touch_none t name xs (λ k d lt. apart (suc k) d (omega (arith, lt)))))
+
+  pub touch_here : (t : X → X) (name : List ℕ) (xs : List X) (i : ℕ) (d : X) → NamesAscend name_of xs → i < length xs → ((e : X) → name_of (get_or xs i e) ≡ name)
+      → set xs i (t (get_or xs i d)) ≡ map (Changed t name) xs
+  touch_here t name [] i d sorted lt is = absurd (omega (arith, lt))
+  touch_here t name (y ∷ ys) zero d sorted lt is =
+      rw (eq_names (name_of y) name (is y)) (ap (λ (zs : List X). t y ∷ zs) (touch_none t name ys (after_first y ys name sorted (is y))))
+  touch_here t name (y ∷ ys) (suc i) d sorted lt is =
+      let less : i < length ys = omega (arith, lt) in
+      rw (differs (name_of y) name (less_is_not_equal _ (before_later y ys name i sorted less is))) (ap (λ (zs : List X). y ∷ zs) (touch_here t name ys i d (rest y ys sorted) less is))
+
+  -- the item of a name
+  pub found_here : (name : List ℕ) (xs : List X) (i : ℕ) (x : X) → NamesAscend name_of xs → i < length xs → ((e : X) → name_of (get_or xs i e) ≡ name)
+      → x ≡ get_or xs i x → item_at name_of name xs ≡ Some x
+  found_here name [] i x sorted lt is e = absurd (omega (arith, lt))
+  found_here name (y ∷ ys) zero x sorted lt is e = rw (eq_names (name_of y) name (is y)) (ap (λ (z : X). Some z) (sym e))
+  found_here name (y ∷ ys) (suc i) x sorted lt is e =
+      let less : i < length ys = omega (arith, lt) in
+      rw (differs (name_of y) name (less_is_not_equal _ (before_later y ys name i sorted less is))) (found_here name ys i x (rest y ys sorted) less is e)
+
+  pub found_none : (name : List ℕ) (xs : List X) → Apart name xs → item_at name_of name xs ≡ None
+  found_none name [] apart = refl
+  found_none name (x ∷ xs) apart = rw (differs (name_of x) name (apart 0 x (omega arith))) (found_none name xs (λ k d lt. apart (suc k) d (omega (arith, lt))))
 
   -- ---- what holds of each stays so
 

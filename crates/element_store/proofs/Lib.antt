@@ -9,3 +9,5 @@ pub mod Cleaned
 pub mod Around
 pub mod Created
 mod InOrder
+mod Places
+mod Changed

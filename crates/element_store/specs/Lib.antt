@@ -4,3 +4,4 @@ pub mod Stores
 pub mod Spelled
 pub mod Named
 pub mod Commits
+pub mod Changing
