@@ -14,6 +14,7 @@ use Rattle.guarded_cell.specs.Cells.{CellAt, IsCellOf}
 use Rattle.guarded_cell.specs.Register.{IsAlone}
 use Rattle.index_text.specs.declared.entries.Index.{Index}
 use Rattle.index_text.specs.declared.entries.IndexEntry.{IndexEntry}
+use Rattle.index_text.specs.Sizes.{area_blocks}
 use Rattle.index_text.specs.Spelling.{index_text}
 use Rattle.element_state.specs.declared.shapes.Shape.{Shape}
 use Rattle.element_state.specs.declared.shapes.View.{View}
@@ -25,7 +26,7 @@ use Rattle.element_state.specs.Conditions.{IsShape, IsInUse}
 use Rattle.element_store.specs.declared.store.Store.{Store}
 use Rattle.element_store.specs.Plans.{IsMade}
 use Rattle.element_store.specs.Spelled.{ShowsFresh, IsTextOf}
-use Rattle.element_store.specs.Stores.{IsUsed, view_in}
+use Rattle.element_store.specs.Stores.{AreTaken, IsUsed, view_in}
 use Rattle.element_store.proofs.Fulls.{view_areas}
 use Rattle.element_store.proofs.Made.{shown_still, whole_fresh, made_in_use}
 use Rattle.element_store.proofs.Cleaned.{made_clean}
@@ -70,7 +71,7 @@ module _ (told : Bool) (mid image : Image) (shape : Shape) (generation : ℕ) (c
   pub created_clean : IsTrue told → IsClean shape image
   created_clean tells = made_clean shape image generation contents index (alone tells) fit (shows tells)
 
-  module _ (alloc : Global) (entries : Vec Entry Global) (made : AllZip (IsMade generation) contents index.entries)
+  module _ (alloc : Global) (entries : Vec Entry Global) (set : List Bool) (taken : AreTaken (area_blocks shape.allowed) index.entries set) (made : AllZip (IsMade generation) contents index.entries)
       (filled : entries.items ≡ map (fresh_entry generation) (fresh_map contents)) where
     pub created_view : whole_view shape cell.generation entries.items ≡ fresh_view generation (fresh_map contents)
     created_view =
@@ -79,7 +80,7 @@ module _ (told : Bool) (mid image : Image) (shape : Shape) (generation : ℕ) (c
         ∙ whole_fresh shape generation (fresh_map contents)
 
     abbrev store : Store
-    store = record { alloc = alloc; shape = shape; cell = cell; index = index; entries = entries }
+    store = record { alloc = alloc; shape = shape; cell = cell; index = index; entries = entries; used = set }
 
     created_now : IsUsed told image store
     created_now = record {
@@ -88,12 +89,13 @@ module _ (told : Bool) (mid image : Image) (shape : Shape) (generation : ℕ) (c
         shape = is;
         index = record { spelled = refl; rules = spelled.rules; fits = spelled.fits; fit = fit };
         entries = subst (λ (es : List Entry). AllZip (IsReadBy shape.place.copies) index.entries es) (sym filled) (read_of_made shape.place.copies generation contents index.entries made);
+        taken = taken;
       };
       disk = λ tells. subst (λ (v : View). IsInUse shape image index v) (sym created_view) (made_in_use shape image generation contents index is (alone tells) fit (shows tells));
     }
 
-    pub created_used : (s : Store) → s ≡ record { alloc = alloc; shape = shape; cell = cell; index = index; entries = entries } → IsUsed told image s
+    pub created_used : (s : Store) → s ≡ record { alloc = alloc; shape = shape; cell = cell; index = index; entries = entries; used = set } → IsUsed told image s
     created_used s e = subst (λ (x : Store). IsUsed told image x) (sym e) created_now
 
-    pub created_shows : (s : Store) → s ≡ record { alloc = alloc; shape = shape; cell = cell; index = index; entries = entries } → view_in s ≡ fresh_view generation (fresh_map contents)
+    pub created_shows : (s : Store) → s ≡ record { alloc = alloc; shape = shape; cell = cell; index = index; entries = entries; used = set } → view_in s ≡ fresh_view generation (fresh_map contents)
     created_shows s e = ap (λ (x : Store). view_in x) e ∙ created_view

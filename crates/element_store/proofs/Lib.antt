@@ -7,6 +7,7 @@ pub mod Shown
 pub mod Made
 pub mod Cleaned
 pub mod Around
+pub mod Taken
 pub mod Created
 mod InOrder
 mod Places

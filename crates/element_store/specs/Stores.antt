@@ -1,9 +1,14 @@
 -- A storage in use: what it keeps in memory, and what it shows.
-use Rattle.std.specs.Prelude.{◌≡◌, ℕ, List, Bool, IsTrue}
+use Rattle.std.specs.Prelude.{◌≡◌, ◌≤◌, ◌+◌, ℕ, List, length, Bool, IsTrue}
 use Rattle.std.specs.List.{AllZip}
 use Rattle.per_base.specs.declared.elements.Entry.{Entry}
 use Rattle.disk_model.specs.Image.{Image}
+use Rattle.disk_model.specs.Orders.{named_in}
+use Rattle.block_files.specs.BlockSets.{holds, free_of}
 use Rattle.guarded_cell.specs.Cells.{place_of, generation_of}
+use Rattle.index_text.specs.declared.entries.IndexEntry.{IndexEntry}
+use Rattle.index_text.specs.Rules.{blocks_of}
+use Rattle.index_text.specs.Sizes.{area_blocks}
 use Rattle.index_text.specs.Spelling.{index_text}
 use Rattle.element_state.specs.declared.shapes.Shape.{Shape}
 use Rattle.element_state.specs.declared.shapes.View.{View}
@@ -29,12 +34,19 @@ generation_in store = generation_of store.cell
 abbrev pub view_in : Store → View
 view_in store = whole_view store.shape (generation_of store.cell) store.entries.items
 
--- what it keeps in memory, whatever the disk tells: a register at its place, and an index that fits and has its elements
+-- a set of so many blocks has exactly those of these entries, so all others are free
+pub record AreTaken (blocks : ℕ) (entries : List IndexEntry) (set : List Bool) : Type 0 where
+  pub capacity : length set ≡ blocks
+  pub exact : (b : ℕ) → holds set b ≡ named_in (blocks_of entries) b
+  pub free : blocks ≤ free_of set + length (blocks_of entries)
+
+-- what it keeps in memory, whatever the disk tells: a register at its place, and an index that fits, with its elements and its blocks
 pub record IsStore (store : Store) : Type 0 where
   pub place : place_of store.cell ≡ store.shape.place
   pub shape : IsShape store.shape
   pub index : IsTextOf store.shape (index_text store.index) store.index
   pub entries : AllZip (IsReadBy store.shape.place.copies) store.index.entries store.entries.items
+  pub taken : AreTaken (area_blocks store.shape.allowed) store.index.entries store.used
 
 -- the storage is in use on a disk: where the disk tells its bytes, these are its own
 pub record IsUsed (told : Bool) (image : Image) (store : Store) : Type 0 where

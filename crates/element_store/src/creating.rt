@@ -12,6 +12,7 @@ ghost use Rattle.element_state.specs.Conditions.{IsShape, AreContents};
 ghost use Rattle.element_store.specs.Stores.{IsUsed, shape_of, view_in};
 
 use crate::store::Store;
+use crate::taking::blocks_taken_by;
 use crate::writing::{blocks_in_area, put_contents};
 use block_files::BlockSet;
 use disk_model::Disk;
@@ -53,9 +54,14 @@ pub fn create<D: Disk>(
 {
     let mut used = BlockSet::new(alloc, blocks_in_area(&shape))?;
     let spelled = put_contents(alloc, disk, &shape, 1, &contents, &mut used)?;
+    let taken = blocks_taken_by(
+        alloc,
+        blocks_in_area(&shape),
+        spelled.index.entries.as_slice(),
+    )?;
     let entries = fresh_entries(alloc, 1, contents)?;
     let cell = format_cell(alloc, disk, shape.place, spelled.text.as_slice())?;
-    Ok(Store::new(alloc, shape, cell, spelled.index, entries))
+    Ok(Store::new(alloc, shape, cell, spelled.index, entries, taken))
 }
 
 // The elements of contents that this generation wrote.

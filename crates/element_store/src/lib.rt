@@ -15,6 +15,7 @@ mod jobs;
 mod planning;
 mod spelling;
 mod store;
+mod taking;
 #[cfg(test)]
 mod tests;
 mod writing;

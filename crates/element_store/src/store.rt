@@ -2,6 +2,7 @@
 
 ghost use Rattle.std.specs.Prelude.{◌≡◌};
 
+use block_files::BlockSet;
 use element_state::Shape;
 use guarded_cell::Cell;
 use index_text::Index;
@@ -16,6 +17,8 @@ pub struct Store {
     pub(crate) cell: Cell,
     pub(crate) index: Index,
     pub(crate) entries: Vec<Entry>,
+    /// The blocks of the index.
+    pub(crate) used: BlockSet,
 }
 
 impl Store {
@@ -31,8 +34,9 @@ impl Store {
         cell: Cell,
         index: Index,
         entries: Vec<Entry>,
+        used: BlockSet,
     ) -> Store
-        ensures { result ≡ record { alloc = alloc; shape = shape; cell = cell; index = index; entries = entries } }
+        ensures { result ≡ record { alloc = alloc; shape = shape; cell = cell; index = index; entries = entries; used = used } }
     {
         Store {
             alloc,
@@ -40,6 +44,7 @@ impl Store {
             cell,
             index,
             entries,
+            used,
         }
     }
 
