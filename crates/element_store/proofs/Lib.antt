@@ -12,3 +12,5 @@ pub mod Created
 mod InOrder
 mod Places
 mod Changed
+pub mod Committed
+pub mod CommitKept

@@ -10,8 +10,10 @@
 //! Limits: at most 1,024 elements, 8 copies, and 4,194,304 bytes of names and contents; one caller at a time.
 #![tactic(auto)]
 
+mod changing;
 mod creating;
 mod jobs;
+mod named;
 mod planning;
 mod spelling;
 mod store;
