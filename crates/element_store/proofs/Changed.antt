@@ -43,14 +43,14 @@ use Rattle.element_store.proofs.PlanSteps.{each_map, both_ways, added_keeps, kee
 disjoint_back : (xs ys : List ℕ) → AreDisjoint xs ys → AreDisjoint ys xs
 disjoint_back xs ys apart i j lt less e = apart j i less lt (sym e)
 
-laid_without : (name : List ℕ) (es : List IndexEntry) → AreLaidApart es → AreLaidApart (without_item named_by name es)
+pub laid_without : (name : List ℕ) (es : List IndexEntry) → AreLaidApart es → AreLaidApart (without_item named_by name es)
 laid_without name [] laid = tt
 laid_without name (e ∷ es) laid = elim (cases_Bool (bytes_eq e.name name)) [
   | inl t ↦ rw t (laid_without name es laid.2)
   | inr f ↦ rw f (laid.0, each_without named_by (λ (h : IndexEntry). AreDisjoint e.blocks h.blocks) name es laid.1, laid_without name es laid.2)
 ]
 
-laid_insert : (e : IndexEntry) (es : List IndexEntry) → AreDistinct e.blocks → AllByRecursion (λ (h : IndexEntry). AreDisjoint h.blocks e.blocks) es
+pub laid_insert : (e : IndexEntry) (es : List IndexEntry) → AreDistinct e.blocks → AllByRecursion (λ (h : IndexEntry). AreDisjoint h.blocks e.blocks) es
     → AreLaidApart es → AreLaidApart (insert_item named_by e es)
 laid_insert e [] distinct all laid = (distinct, tt, tt)
 laid_insert e (h ∷ es) distinct all laid = elim (cases_Bool (is_lt (name_cmp h.name e.name))) [
@@ -79,22 +79,22 @@ pub laid_each : (es : List IndexEntry) → AreLaidApart es → AllByRecursion (�
 laid_each [] laid = tt
 laid_each (e ∷ es) laid = (laid.0, laid_each es laid.2)
 
+name_in : (e : IndexEntry) (f : Entry) → IsHeadedBy e f → e.name ≡ f.name
+name_in e f headed = ap (λ (h : List ℕ × Option FileInfo × ℕ × ℕ). h.0) headed
+
+pub seen_names : (e : IndexEntry) (f : Entry) → IsSeenAs e f → named_by e ≡ entry_name f
+seen_names e f s = name_in e f s.headed
+
+pub views_ascend : (standing : List IndexEntry) (views : List Entry) → NamesAscend named_by standing → AllZip IsSeenAs standing views → NamesAscend entry_name views
+views_ascend standing views sorted read = subst (λ (ns : List (List ℕ)). IsStrictlySortedBy name_cmp ns) (zip_names named_by entry_name IsSeenAs seen_names standing views read) sorted
+
 module _ (kind : StoreKind) (standing : List IndexEntry) (views : List Entry) where
-  abbrev Pair : List Job → IndexEntry → Entry → Type 0
+  abbrev pub Pair : List Job → IndexEntry → Entry → Type 0
   Pair jobs e f = IsWrittenBy jobs e f ⊎ IsCarriedFrom standing views e f
 
-  name_in : (e : IndexEntry) (f : Entry) → IsHeadedBy e f → e.name ≡ f.name
-  name_in e f headed = ap (λ (h : List ℕ × Option FileInfo × ℕ × ℕ). h.0) headed
-
-  pair_names : (jobs : List Job) (e : IndexEntry) (f : Entry) → Pair jobs e f → named_by e ≡ entry_name f
+  pub pair_names : (jobs : List Job) (e : IndexEntry) (f : Entry) → Pair jobs e f → named_by e ≡ entry_name f
   pair_names jobs e f (inl w) = name_in e f w.headed
   pair_names jobs e f (inr c) = name_in e f c.headed
-
-  seen_names : (e : IndexEntry) (f : Entry) → IsSeenAs e f → named_by e ≡ entry_name f
-  seen_names e f s = name_in e f s.headed
-
-  pub views_ascend : NamesAscend named_by standing → AllZip IsSeenAs standing views → NamesAscend entry_name views
-  views_ascend sorted read = subst (λ (ns : List (List ℕ)). IsStrictlySortedBy name_cmp ns) (zip_names named_by entry_name IsSeenAs seen_names standing views read) sorted
 
   -- ---- nothing is changed yet
 
@@ -171,7 +171,7 @@ module _ (kind : StoreKind) (standing : List IndexEntry) (views : List Entry) wh
     good_seen sorted read good was seen beside is =
         let s = zip_at IsSeenAs standing views beside.at was seen read beside.inside in
         let e : (get_or views beside.at seen).name ≡ name = sym (seen_names _ _ s) ∙ ap named_by beside.one ∙ is in
-        subst IsGoodEntry (found_here entry_name name views beside.at seen (views_ascend sorted read) beside.within
+        subst IsGoodEntry (found_here entry_name name views beside.at seen (views_ascend standing views sorted read) beside.within
         (λ d. ap entry_name (same_default views beside.at d seen beside.within) ∙ e) (sym beside.two)) good
 
     pair_touched : (jobs : List Job) (e : IndexEntry) (f : Entry) → NamesAscend named_by standing → AllZip IsSeenAs standing views → IsGoodEntry (entry_at name views)

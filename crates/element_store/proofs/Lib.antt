@@ -14,3 +14,5 @@ mod Places
 mod Changed
 pub mod Committed
 pub mod CommitKept
+mod Earlier
+mod Put

@@ -1,6 +1,6 @@
 //! Plans of changes: the next entries of an index and the jobs that write their contents, before anything is written.
 
-ghost use Rattle.std.specs.Prelude.{◌≡◌, ◌<◌, ◌≤◌, ◌+◌, ◌^◌, List, Bool, IfOk, OnOk, length, map, sum_by};
+ghost use Rattle.std.specs.Prelude.{◌≡◌, [], ◌<◌, ◌≤◌, ◌+◌, ◌^◌, List, Bool, IfOk, OnOk, length, map, sum_by};
 ghost use Rattle.std.specs.List.{AllByRecursion, AllZip};
 ghost use Rattle.std.specs.Vec.{vec_len, vec_capacity};
 ghost use Rattle.block_files.specs.BlockSets.{free_of};
@@ -48,10 +48,10 @@ pub(crate) fn plan_changes<'a>(
     requires standing { IsStanding standing.kind used.old standing.index.now standing.entries.now }
     requires changes { AllByRecursion (IsChange standing.kind standing.entries.now) changes.now }
     requires free { blocks_of_changes changes.now ≤ free_of used.old }
-    ensures planned { IfOk result (λ plan. IsPlanned standing.kind standing.index.now standing.entries.now used.old used.new
-        plan.entries.items (after_changes standing.generation standing.entries.now changes.now) plan.jobs.items) }
+    ensures planned { IfOk result (λ plan. IsPlanned standing.entry.kind standing.entry.index.now standing.entry.entries.now used.old used.new
+        plan.entries.items (after_changes standing.entry.generation standing.entry.entries.now changes.now) plan.jobs.items) }
     ensures cost { IfOk result (λ plan.
-        jobs_cost plan.jobs.items ≤ sum_by (change_cost standing.kind standing.entries.now) changes.now) }
+        jobs_cost plan.jobs.items ≤ sum_by (change_cost standing.entry.kind standing.entry.entries.now) changes.now) }
 {
     let entries = with_room(alloc, standing.index, changes.len())?;
     let jobs = Vec::new(alloc);
@@ -93,13 +93,13 @@ fn plan_change<'a>(
     requires room { vec_len plan.old.entries < vec_capacity plan.old.entries }
     requires free { change_blocks change.now ≤ free_of used.old }
     ensures planned { OnOk result ((start : List Bool) (elements : List Entry)
-        → IsPlanned standing.kind standing.index.now standing.entries.now start used.old plan.old.entries.items elements plan.old.jobs.items
-        → IsPlanned standing.kind standing.index.now standing.entries.now start used.new plan.new.entries.items
-        (after_change standing.generation elements change.now) plan.new.jobs.items) }
-    ensures standing { OnOk result (IsStanding standing.kind used.new standing.index.now standing.entries.now) }
+        → IsPlanned standing.entry.kind standing.entry.index.now standing.entry.entries.now start used.old plan.old.entries.items elements plan.old.jobs.items
+        → IsPlanned standing.entry.kind standing.entry.index.now standing.entry.entries.now start used.new plan.new.entries.items
+        (after_change standing.entry.generation elements change.now) plan.new.jobs.items) }
+    ensures standing { OnOk result (IsStanding standing.entry.kind used.new standing.entry.index.now standing.entry.entries.now) }
     ensures free { OnOk result (free_of used.old ≤ free_of used.new + change_blocks change.now) }
     ensures cost { OnOk result (jobs_cost plan.new.jobs.items
-        ≤ jobs_cost plan.old.jobs.items + change_cost standing.kind standing.entries.now change.now) }
+        ≤ jobs_cost plan.old.jobs.items + change_cost standing.entry.kind standing.entry.entries.now change.now) }
     ensures capacity { OnOk result (vec_capacity plan.old.entries ≤ vec_capacity plan.new.entries) }
     ensures one_more { OnOk result (vec_len plan.new.entries ≤ vec_len plan.old.entries + 1) }
 {
@@ -127,13 +127,13 @@ fn plan_put<'a>(
     requires room { vec_len plan.old.entries < vec_capacity plan.old.entries }
     requires free { change_blocks (Put fresh.now) ≤ free_of used.old }
     ensures planned { OnOk result ((start : List Bool) (elements : List Entry)
-        → IsPlanned standing.kind standing.index.now standing.entries.now start used.old plan.old.entries.items elements plan.old.jobs.items
-        → IsPlanned standing.kind standing.index.now standing.entries.now start used.new plan.new.entries.items
-        (after_change standing.generation elements (Put fresh.now)) plan.new.jobs.items) }
-    ensures standing { OnOk result (IsStanding standing.kind used.new standing.index.now standing.entries.now) }
+        → IsPlanned standing.entry.kind standing.entry.index.now standing.entry.entries.now start used.old plan.old.entries.items elements plan.old.jobs.items
+        → IsPlanned standing.entry.kind standing.entry.index.now standing.entry.entries.now start used.new plan.new.entries.items
+        (after_change standing.entry.generation elements (Put fresh.now)) plan.new.jobs.items) }
+    ensures standing { OnOk result (IsStanding standing.entry.kind used.new standing.entry.index.now standing.entry.entries.now) }
     ensures free { OnOk result (free_of used.old ≤ free_of used.new + change_blocks (Put fresh.now)) }
     ensures cost { OnOk result (jobs_cost plan.new.jobs.items
-        ≤ jobs_cost plan.old.jobs.items + change_cost standing.kind standing.entries.now (Put fresh.now)) }
+        ≤ jobs_cost plan.old.jobs.items + change_cost standing.entry.kind standing.entry.entries.now (Put fresh.now)) }
     ensures capacity { OnOk result (vec_capacity plan.old.entries ≤ vec_capacity plan.new.entries) }
     ensures one_more { OnOk result (vec_len plan.new.entries ≤ vec_len plan.old.entries + 1) }
 {
@@ -156,18 +156,27 @@ fn plan_put<'a>(
 fn earlier_content<'a>(standing: Standing<'a>, name: &Name) -> Earlier<'a>
     requires ascend { NamesAscend named_by standing.index.now }
     requires seen { AllZip IsSeenAs standing.index.now standing.entries.now }
-    ensures { IsEarlier standing.kind standing.index.now standing.entries.now name.now result.bytes.now result.blocks.now }
+    ensures { IsEarlier standing.entry.kind standing.entry.index.now standing.entry.entries.now name.now result.bytes.now result.blocks.now }
 {
-    if let StoreKind::Files = standing.kind {
-        if let Ok(at) = place_of(standing.entries, name) {
-            if let Content::Good(bytes) = &standing.entries[at].content {
-                return Earlier {
+    match standing.kind {
+        StoreKind::Keys => nothing(),
+        StoreKind::Files => match place_of(standing.entries, name) {
+            Ok(at) => match &standing.entries[at].content {
+                Content::Good(bytes) => Earlier {
                     bytes: bytes.as_slice(),
                     blocks: standing.index[at].blocks.as_slice(),
-                };
-            }
-        }
+                },
+                Content::Bad(_) => nothing(),
+            },
+            Err(_) => nothing(),
+        },
     }
+}
+
+fn nothing<'a>() -> Earlier<'a>
+    ensures bytes { result.bytes.now ≡ [] }
+    ensures blocks { result.blocks.now ≡ [] }
+{
     Earlier {
         bytes: &[],
         blocks: &[],

@@ -1,5 +1,4 @@
 use Rattle.std.proofs.Common.{Some}
-use Rattle.element_store.proofs.Changed.{planned_start}
 use Rattle.index_text.specs.declared.entries.IndexEntry.{IndexEntry}
 use Rattle.element_store.specs.Changing.{named_by}
 use Rattle.element_store.proofs.InOrder.{touch_none, touch_here, parted_apart}
