@@ -1,6 +1,8 @@
 -- Lists by their places.
-use Rattle.std.proofs.Common.{◌≡◌, ◌≢◌, ℕ, zero, suc, ◌+◌, ◌<◌, ◌≤◌, List, [], ◌∷◌, ◌++◌, length, get_or, map, refl, sym, ap, subst, ◌∙◌, arith}
-use Rattle.std.specs.List.{AllByRecursion, AllZip, Contains}
+use Rattle.std.proofs.Common.{◌≡◌, ◌≢◌, ℕ, zero, suc, ◌+◌, ◌<◌, ◌≤◌, List, [], ◌∷◌, ◌++◌, length, get_or, map, take, refl, sym, ap, subst, ◌∙◌, arith}
+use Rattle.std.specs.Prelude.{sum_by}
+use Rattle.std.specs.List.{AllByRecursion, AllZip, Contains, fold}
+use Rattle.std.proofs.lemmas.List.Sums.{sum_by-append, sum_by-cons}
 use Rattle.std.proofs.lemmas.List.{get_or_append_left, get_or_push, length_push}
 
 pub same_default : {X : Type 0} (xs : List X) (k : ℕ) (a b : X) → k < length xs → get_or xs k a ≡ get_or xs k b
@@ -63,3 +65,19 @@ in_front xs x y has = (has.0, (let l = length_push xs x in let lt = has.1 in ome
 
 pub at_last : {X : Type 0} (xs : List X) (x : X) → Contains (xs ++ x ∷ []) x
 at_last xs x = (length xs, (let l = length_push xs x in omega (arith, l)), get_or_push xs x x (length xs) refl)
+
+pub sum_push : {X : Type 0} (f : X → ℕ) (xs : List X) (x : X) → sum_by f (xs ++ x ∷ []) ≡ sum_by f xs + f x
+sum_push f xs x = let a = sum_by-append f xs (x ∷ []) in let b = sum_by-cons f x [] in omega (arith, a, b)
+
+pub sum_take : {X : Type 0} (f : X → ℕ) (n : ℕ) (xs : List X) → sum_by f (take n xs) ≤ sum_by f xs
+sum_take f zero xs = omega arith
+sum_take f (suc n) [] = omega arith
+sum_take f (suc n) (x ∷ xs) =
+    let a = sum_by-cons f x (take n xs) in
+    let b = sum_by-cons f x xs in
+    let c = sum_take f n xs in
+    omega (arith, a, b, c)
+
+pub fold_push : {X Y : Type 0} (f : Y → X → Y) (a : Y) (xs : List X) (x : X) → fold f a (xs ++ x ∷ []) ≡ f (fold f a xs) x
+fold_push f a [] x = refl
+fold_push f a (y ∷ xs) x = fold_push f (f a y) xs x

@@ -184,9 +184,11 @@ fn nothing<'a>() -> Earlier<'a>
 }
 
 // Gives the entry of a name another info, and the number of the change.
-fn touch_entry(entries: &mut [IndexEntry], generation: u64, name: &Name, info: FileInfo)
-    requires { NamesAscend named_by entries.old }
-    ensures { entries.new ≡ map (touched_entry generation name.now info) entries.old }
+fn touch_entry(entries: &mut Vec<IndexEntry>, generation: u64, name: &Name, info: FileInfo)
+    requires { NamesAscend named_by entries.old.items }
+    ensures items { entries.new.items ≡ map (touched_entry generation name.now info) entries.old.items }
+    ensures capacity { vec_capacity entries.old ≤ vec_capacity entries.new }
+    ensures no_more { vec_len entries.new ≤ vec_len entries.old }
 {
     if let Ok(at) = place_of(entries, name) {
         let entry = &mut entries[at];
