@@ -16,3 +16,5 @@ pub mod Committed
 pub mod CommitKept
 mod Earlier
 mod Put
+pub mod Rebuilt
+pub mod TakenBlocks

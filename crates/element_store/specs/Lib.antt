@@ -5,3 +5,4 @@ pub mod Spelled
 pub mod Named
 pub mod Commits
 pub mod Changing
+pub mod Rebuilds

@@ -1,0 +1,31 @@
+-- What a storage is made ready for before its contents are written anew.
+use Rattle.std.specs.Prelude.{◌≡◌, ℕ, List, Bool, true, Some}
+use Rattle.std.specs.List.{AllZip}
+use Rattle.disk_model.specs.Image.{Image}
+use Rattle.disk_model.specs.Case.{Case, IsSettledAt}
+use Rattle.disk_model.specs.Frame.{Keeps, KeepsCase}
+use Rattle.disk_model.specs.Place.{IsNoArea}
+use Rattle.guarded_cell.specs.Stops.{PutStops}
+use Rattle.block_files.specs.BlockSets.{holds}
+use Rattle.index_text.specs.declared.entries.Index.{Index}
+use Rattle.element_state.specs.declared.shapes.Shape.{Shape}
+use Rattle.element_state.specs.declared.shapes.View.{View}
+use Rattle.element_state.specs.Fit.{fit_index}
+use Rattle.element_state.specs.States.{State, Opens, store_at}
+use Rattle.element_state.specs.Kept.{IsKeptCase}
+use Rattle.element_laws.specs.Phases.{IsWritten}
+
+-- From here contents may be written outside the blocks of the set, and then an index under this generation: at every moment of it the storage
+-- is kept from its state at the start.
+pub record IsReady (shape : Shape) (start now : Image) (set : List Bool) (generation : ℕ) : Type 0 where
+  -- while contents are written
+  pub during : (after : State) (old c : Case) → IsSettledAt now old
+      → KeepsCase (IsNoArea shape.place.first shape.place.copies) (λ k. holds set k ≡ true) old c → IsKeptCase shape (store_at start shape) after c
+  -- after they were made durable
+  pub done : (then : Image) (after : State) (c : Case)
+      → Keeps (IsNoArea shape.place.first shape.place.copies) (λ k. holds set k ≡ true) now then → IsSettledAt then c → IsKeptCase shape (store_at start shape) after c
+  -- while their index is written
+  pub index : (then : Image) (next : List ℕ) (new_index : Index) (view : View) (others : List View) (c : Case)
+      → Keeps (IsNoArea shape.place.first shape.place.copies) (λ k. holds set k ≡ true) now then
+      → fit_index shape next ≡ Some new_index → view.generation ≡ generation → AllZip (IsWritten shape then) new_index.entries view.entries
+      → PutStops shape.place.first shape.place.copies generation next then c → IsKeptCase shape (store_at start shape) (Opens view others) c
