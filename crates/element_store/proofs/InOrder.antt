@@ -210,6 +210,17 @@ module _ {X : Type 0} (name_of : X → List ℕ) where
       let less : i < length ys = omega (arith, lt) in
       rw (differs (name_of y) name (less_is_not_equal _ (before_later y ys name i sorted less is))) (ap (λ (zs : List X). y ∷ zs) (touch_here t name ys i d (rest y ys sorted) less is))
 
+  changed_name : (t : X → X) (name : List ℕ) (x : X) → name_of (t x) ≡ name_of x → name_of (Changed t name x) ≡ name_of x
+  changed_name t name x same = elim (cases_Bool (bytes_eq (name_of x) name)) [ inl y ↦ rw y same | inr n ↦ rw n refl ]
+
+  changed_names : (t : X → X) → ((x : X) → name_of (t x) ≡ name_of x) → (name : List ℕ) (xs : List X) → map name_of (map (Changed t name) xs) ≡ map name_of xs
+  changed_names t same name [] = refl
+  changed_names t same name (x ∷ xs) =
+      ap (λ (n : List ℕ). n ∷ map name_of (map (Changed t name) xs)) (changed_name t name x (same x)) ∙ ap (λ (ns : List (List ℕ)). name_of x ∷ ns) (changed_names t same name xs)
+
+  pub ascends_touched : (t : X → X) → ((x : X) → name_of (t x) ≡ name_of x) → (name : List ℕ) (xs : List X) → NamesAscend name_of xs → NamesAscend name_of (map (Changed t name) xs)
+  ascends_touched t same name xs sorted = subst (λ (ns : List (List ℕ)). IsStrictlySortedBy name_cmp ns) (sym (changed_names t same name xs)) sorted
+
   -- the item of a name
   pub found_here : (name : List ℕ) (xs : List X) (i : ℕ) (x : X) → NamesAscend name_of xs → i < length xs → ((e : X) → name_of (get_or xs i e) ≡ name)
       → x ≡ get_or xs i x → item_at name_of name xs ≡ Some x

@@ -18,3 +18,5 @@ mod Earlier
 mod Put
 pub mod Rebuilt
 pub mod TakenBlocks
+mod Standing
+mod Room

@@ -1,5 +1,5 @@
 -- Plans of changes on their way: what stands before them, and what the plan is after some of them.
-use Rattle.std.specs.Prelude.{◌≡◌, ◌≢◌, ◌⊎◌, ℕ, ◌*◌, ◌≤◌, List, [], length, Bool, cond, Some, sum_by}
+use Rattle.std.specs.Prelude.{◌≡◌, ◌≢◌, ◌⊎◌, ℕ, ◌*◌, ◌≤◌, List, [], length, Bool, cond, Some, sum_by, ⊤}
 use Rattle.std.specs.List.{All, AllZip, AllByRecursion}
 use Rattle.std.specs.Str.{bytes_eq}
 use Rattle.per_base.specs.declared.elements.StoreKind.{StoreKind}
@@ -74,3 +74,9 @@ pub record IsPlanned (kind : StoreKind) (standing : List IndexEntry) (views : Li
 -- the entry with another info, if it has the name
 abbrev pub touched_entry : (generation : ℕ) → List ℕ → FileInfo → IndexEntry → IndexEntry
 touched_entry generation name info e = cond (bytes_eq e.name name) (record e { info = Some info; changed = generation }) e
+
+-- the content of a change is no longer than that of a file
+abbrev pub IsSmallChange : Change → Type 0
+IsSmallChange (Put f) = length f.bytes ≤ 1048576
+IsSmallChange (Remove name) = ⊤
+IsSmallChange (Touch name info) = ⊤

@@ -5,4 +5,5 @@ pub mod Spelled
 pub mod Named
 pub mod Commits
 pub mod Changing
+pub mod Committing
 pub mod Rebuilds

@@ -11,6 +11,7 @@
 #![tactic(auto)]
 
 mod changing;
+mod committing;
 mod creating;
 mod jobs;
 mod named;
@@ -22,6 +23,7 @@ mod taking;
 mod tests;
 mod writing;
 
+pub use committing::CommitFault;
 pub use creating::create;
 pub use element_state::{Change, Shape, StoreError, View, inspect, salvage};
 pub use store::Store;
