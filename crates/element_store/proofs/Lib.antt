@@ -13,9 +13,16 @@ pub mod Opened
 pub mod Finds
 pub mod Moments
 pub mod Created
+mod InOrder
+mod Places
+mod Changed
 pub mod Committed
 pub mod CommitKept
+mod Earlier
+mod Put
 pub mod Rebuilt
 pub mod TakenBlocks
 pub mod Prepared
 pub mod RebuiltKept
+mod Standing
+mod Room

@@ -33,15 +33,20 @@ pub record AreBeside {X Y : Type 0} (xs : List X) (ys : List Y) (x : X) (y : Y) 
 abbrev pub IsHeadedBy : IndexEntry → Entry → Type 0
 IsHeadedBy e f = (e.name, e.info, e.len, e.changed) ≡ heading f
 
--- an element keeps its content where the standing index has it; one that is good may come to lack nothing
-pub record IsCarriedOver (index : Index) (v : View) (e : IndexEntry) (f : Entry) : Type 0 where
+-- an element keeps its content where one of these entries has it; one that is good may come to lack nothing
+pub record IsCarriedFrom (standing : List IndexEntry) (views : List Entry) (e : IndexEntry) (f : Entry) : Type 0 where
   pub was : IndexEntry
   pub seen : Entry
-  pub beside : AreBeside index.entries v.entries was seen
+  pub beside : AreBeside standing views was seen
+  pub named : e.name ≡ was.name
   pub place : where_of e ≡ where_of was
   pub headed : IsHeadedBy e f
   pub content : f.content ≡ seen.content
   pub lacking : (f.lacking ≡ seen.lacking) ⊎ ((f.lacking ≡ []) × IsGoodEntry (Some seen))
+
+-- it keeps its content where the standing index has it
+abbrev pub IsCarriedOver : Index → View → IndexEntry → Entry → Type 0
+IsCarriedOver index v e f = IsCarriedFrom index.entries v.entries e f
 
 -- an element whose content one of the jobs writes
 pub record IsWrittenBy (jobs : List Job) (e : IndexEntry) (f : Entry) : Type 0 where
@@ -55,17 +60,20 @@ pub record IsWrittenBy (jobs : List Job) (e : IndexEntry) (f : Entry) : Type 0 w
   pub lacking : f.lacking ≡ []
 
 -- the earlier content of a job is that of a good element, in whose blocks it has the parts that it does not write
-pub record IsBesideOld (index : Index) (v : View) (job : Job) : Type 0 where
+pub record IsBesideOne (standing : List IndexEntry) (views : List Entry) (job : Job) : Type 0 where
   pub was : IndexEntry
   pub seen : Entry
-  pub beside : AreBeside index.entries v.entries was seen
+  pub beside : AreBeside standing views was seen
   pub content : seen.content ≡ Good job.was.now
   pub shared : (i : ℕ) → i < length job.blocks → is_changed job.bytes.now job.was.now i ≡ false
       → (i < length was.blocks) × (slice_index job.blocks i ≡ slice_index was.blocks i)
 
 -- a job writes its content whole, or beside an earlier one
+abbrev pub SharesWith : List IndexEntry → List Entry → Job → Type 0
+SharesWith standing views job = (job.was.now ≡ []) ⊎ IsBesideOne standing views job
+
 abbrev pub SharesOld : Index → View → Job → Type 0
-SharesOld index v job = (job.was.now ≡ []) ⊎ IsBesideOld index v job
+SharesOld index v job = SharesWith index.entries v.entries job
 
 -- The next index of a storage and the jobs that write its contents, from the standing index with its view and from changes. The first
 -- set has the blocks of the standing index, and the second besides those that the jobs write.

@@ -4,5 +4,8 @@ pub mod Stores
 pub mod Spelled
 pub mod Mends
 pub mod Opened
+pub mod Named
 pub mod Commits
+pub mod Changing
+pub mod Committing
 pub mod Rebuilds

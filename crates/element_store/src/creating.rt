@@ -81,7 +81,7 @@ fn fresh_entries(
 }
 
 // The element of a content that this generation wrote.
-fn fresh_entry(alloc: Global, generation: u64, fresh: Fresh) -> Entry
+pub(crate) fn fresh_entry(alloc: Global, generation: u64, fresh: Fresh) -> Entry
     requires { length fresh.bytes ≤ 1048576 }
     ensures { result ≡ fresh_entry generation (fresh_element fresh) }
 {

@@ -10,10 +10,13 @@
 //! Limits: at most 1,024 elements, 8 copies, and 4,194,304 bytes of names and contents; one caller at a time.
 #![tactic(auto)]
 
+mod changing;
+mod committing;
 mod creating;
 mod jobs;
 mod mending;
 mod opening;
+mod named;
 mod planning;
 mod reporting;
 mod rebuilding;
@@ -24,6 +27,7 @@ mod taking;
 mod tests;
 mod writing;
 
+pub use committing::CommitFault;
 pub use creating::create;
 pub use element_state::{Change, Shape, StoreError, View, inspect, salvage};
 pub use opening::{OpenedStore, open_store};

@@ -1,0 +1,82 @@
+-- Plans of changes on their way: what stands before them, and what the plan is after some of them.
+use Rattle.std.specs.Prelude.{◌≡◌, ◌≢◌, ◌⊎◌, ℕ, ◌*◌, ◌≤◌, List, [], length, Bool, cond, Some, sum_by, ⊤}
+use Rattle.std.specs.List.{All, AllZip, AllByRecursion}
+use Rattle.std.specs.Str.{bytes_eq}
+use Rattle.per_base.specs.declared.elements.StoreKind.{StoreKind}
+use Rattle.per_base.specs.declared.elements.FileInfo.{FileInfo}
+use Rattle.per_base.specs.declared.elements.Content.TheVariants.{Good}
+use Rattle.per_base.specs.declared.elements.Entry.{Entry}
+use Rattle.block_files.specs.Parts.{blocks_for, changed}
+use Rattle.index_text.specs.declared.entries.IndexEntry.{IndexEntry}
+use Rattle.index_text.specs.Rules.{IsEntry}
+use Rattle.element_state.specs.declared.shapes.Change.{Change}
+use Rattle.element_state.specs.declared.shapes.Change.TheVariants.{Put, Remove, Touch}
+use Rattle.element_state.specs.Chosen.{HasLength}
+use Rattle.element_state.specs.Written.{cost_beside, content_at}
+use Rattle.element_store.specs.declared.jobs.Job.{Job}
+use Rattle.element_store.specs.Plans.{HasAll, KeepsBlocks, AreDisjoint, AreLaidApart, ArePlaced}
+use Rattle.element_store.specs.Named.{NamesAscend}
+use Rattle.element_store.specs.Commits.{AreBeside, IsHeadedBy, IsCarriedFrom, IsWrittenBy, SharesWith}
+
+abbrev pub named_by : IndexEntry → List ℕ
+named_by e = e.name
+
+-- the blocks that a change takes at most
+abbrev pub change_blocks : Change → ℕ
+change_blocks (Put f) = blocks_for (length f.bytes)
+change_blocks (Remove name) = 0
+change_blocks (Touch name info) = 0
+
+abbrev pub blocks_of_changes : List Change → ℕ
+blocks_of_changes changes = sum_by change_blocks changes
+
+-- an element was read by this entry
+pub record IsSeenAs (e : IndexEntry) (f : Entry) : Type 0 where
+  pub headed : IsHeadedBy e f
+  pub value : HasLength e.len f.content
+
+-- Entries that keep the rules, each with its element, whose blocks a set has.
+pub record IsStanding (kind : StoreKind) (set : List Bool) (standing : List IndexEntry) (views : List Entry) : Type 0 where
+  pub rules : AllByRecursion (IsEntry 2 kind) standing
+  pub ascend : NamesAscend named_by standing
+  pub laid : AreLaidApart standing
+  pub taken : AllByRecursion (λ (e : IndexEntry). HasAll set e.blocks) standing
+  pub read : AllZip IsSeenAs standing views
+
+-- the content of a name beside which a new one is written, with its blocks; or nothing
+pub record IsEarlier (kind : StoreKind) (standing : List IndexEntry) (views : List Entry) (name bytes blocks : List ℕ) : Type 0 where
+  pub is : ((bytes ≡ []) × (blocks ≡ []))
+      ⊎ ((was : IndexEntry) × (seen : Entry) × AreBeside standing views was seen × (was.name ≡ name) × (seen.content ≡ Good bytes) × (blocks ≡ was.blocks))
+  pub cost : (new : List ℕ) → 256 * changed new bytes ≤ cost_beside kind (content_at name views) new
+
+-- no block is one of a standing entry of another name
+abbrev pub IsOwn : List IndexEntry → IndexEntry → Type 0
+IsOwn standing e = All (λ (was : IndexEntry). was.name ≢ e.name → AreDisjoint was.blocks e.blocks) standing
+
+-- an entry that keeps the rules, with blocks of its own in the set
+pub record IsSound (kind : StoreKind) (standing : List IndexEntry) (now : List Bool) (e : IndexEntry) : Type 0 where
+  pub rules : IsEntry 2 kind e
+  pub taken : HasAll now e.blocks
+  pub own : IsOwn standing e
+
+-- The entries of the next index with their elements, and the jobs that write contents, after some changes.
+pub record IsPlanned (kind : StoreKind) (standing : List IndexEntry) (views : List Entry) (start now : List Bool) (next : List IndexEntry) (elements : List Entry) (jobs : List Job) : Type 0 where
+  pub entries : AllZip (λ e f. IsWrittenBy jobs e f ⊎ IsCarriedFrom standing views e f) next elements
+  pub sound : AllByRecursion (IsSound kind standing now) next
+  pub ascend : NamesAscend named_by next
+  pub laid : AreLaidApart next
+  pub taken : AllByRecursion (λ (e : IndexEntry). HasAll start e.blocks) standing
+  pub placed : ArePlaced start now jobs
+  pub shares : All (SharesWith standing views) jobs
+  pub keeps : KeepsBlocks start now
+  pub capacity : length now ≡ length start
+
+-- the entry with another info, if it has the name
+abbrev pub touched_entry : (generation : ℕ) → List ℕ → FileInfo → IndexEntry → IndexEntry
+touched_entry generation name info e = cond (bytes_eq e.name name) (record e { info = Some info; changed = generation }) e
+
+-- the content of a change is no longer than that of a file
+abbrev pub IsSmallChange : Change → Type 0
+IsSmallChange (Put f) = length f.bytes ≤ 1048576
+IsSmallChange (Remove name) = ⊤
+IsSmallChange (Touch name info) = ⊤

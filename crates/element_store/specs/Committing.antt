@@ -1,0 +1,50 @@
+-- A commit on its way: what is ready once its contents are durable, and how it fails.
+use Rattle.std.specs.Prelude.{◌≡◌, ℕ, ◌*◌, ◌+◌, ◌≤◌, List, length, Bool, IsTrue}
+use Rattle.std.specs.List.{All, AllByRecursion}
+use Rattle.disk_model.specs.Medium.{Medium, Quiet, EachCase, Elapses}
+use Rattle.disk_model.specs.Frame.{Keeps, Spares}
+use Rattle.disk_model.specs.Place.{IsNoArea}
+use Rattle.index_text.specs.declared.entries.Index.{Index}
+use Rattle.index_text.specs.declared.entries.IndexEntry.{IndexEntry}
+use Rattle.index_text.specs.Sizes.{area_blocks}
+use Rattle.index_text.specs.Spelling.{index_text}
+use Rattle.element_state.specs.declared.shapes.Change.{Change}
+use Rattle.element_store.specs.declared.committing.CommitFault.{CommitFault}
+use Rattle.element_store.specs.declared.committing.CommitFault.TheVariants.{Device, OutOfMemory}
+use Rattle.element_store.specs.declared.jobs.Job.{Job}
+use Rattle.element_store.specs.declared.store.Store.{Store}
+use Rattle.element_store.specs.Jobs.{IsDone, IsLeftByAll, IsJobsCase, jobs_cost}
+use Rattle.element_store.specs.Plans.{HasAll}
+use Rattle.element_store.specs.Commits.{IsCommitPlan}
+use Rattle.element_store.specs.Stores.{AreTaken, view_in}
+
+-- the index of a storage in use, which every copy holds
+abbrev pub index_in : Store → Index
+index_in store = store.index
+
+-- a want of memory hands the storage back, and then this holds
+abbrev pub HandsBack : Store → CommitFault → Type 0 → Type 0
+HandsBack store Device P = Unit {0}
+HandsBack store (OutOfMemory same) P = (same ≡ store) × P
+
+-- a failure of the device
+abbrev pub IsDeviceFault : CommitFault → Type 0
+IsDeviceFault Device = Unit {0}
+IsDeviceFault (OutOfMemory store) = ⊥
+
+-- The next index and the set of its blocks, once the contents of the changes were made durable.
+pub record IsReady (told : Bool) (store : Store) (changes : List Change) (old mid : Medium) (next : Index) (text : List ℕ) (used : List Bool) : Type 0 where
+  pub set : List Bool
+  pub now : List Bool
+  pub jobs : List Job
+  pub takes : AllByRecursion (λ (e : IndexEntry). HasAll set e.blocks) store.index.entries
+  pub plan : IsCommitPlan store.shape store.index (view_in store) changes set now next jobs
+  pub spelled : text ≡ index_text next
+  pub taken : AreTaken (area_blocks store.shape.allowed) next.entries used
+  pub done : IsTrue told → All (IsDone mid.image store.shape.place.first store.shape.place.copies) jobs
+  pub keeps : IsTrue told → Keeps (IsNoArea store.shape.place.first store.shape.place.copies) (IsLeftByAll jobs) old.image mid.image
+  pub each : EachCase (IsJobsCase store.shape.place.first store.shape.place.copies jobs old mid (Unit {0})) old mid
+  pub elsewhere : IsTrue told → Spares (IsNoArea store.shape.place.first store.shape.place.copies) old.image mid.image
+  pub cost : mid.written ≤ old.written + store.shape.place.copies * jobs_cost jobs
+  pub time : Elapses old mid
+  pub quiet : Quiet mid

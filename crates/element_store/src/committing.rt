@@ -1,0 +1,238 @@
+//! A commit: all of its changes, or none.
+
+ghost use Rattle.std.specs.Prelude.{◌≡◌, [], ◌<◌, ◌≤◌, ◌+◌, List, IsTrue, IfOk, IfErr, OnOk, IsErrOf, length, map};
+ghost use Rattle.std.specs.List.{AllByRecursion};
+ghost use Rattle.std.specs.Vec.{vec_len, vec_capacity};
+ghost use Rattle.hash_guard.specs.SealedText.{header};
+ghost use Rattle.per_base.specs.Causes.{Rose};
+ghost use Rattle.disk_model.specs.Frame.{Spares, IsSettledOn};
+ghost use Rattle.disk_model.specs.Medium.{Quiet, EachCase, Elapses};
+ghost use Rattle.disk_model.specs.Place.{IsOutside};
+ghost use Rattle.element_state.specs.Changes.{after_changes, committed_by, entry_name, touched};
+ghost use Rattle.element_state.specs.Conditions.{AreChanges};
+ghost use Rattle.element_state.specs.States.{Opens};
+ghost use Rattle.element_state.specs.Kept.{KeptThroughout};
+ghost use Rattle.element_store.specs.Named.{NamesAscend};
+ghost use Rattle.element_store.specs.Changing.{IsSmallChange};
+ghost use Rattle.element_store.specs.Committing.{IsReady};
+ghost use Rattle.element_store.specs.Stores.{IsUsed, shape_of, view_in};
+
+use crate::changing::{Standing, plan_changes};
+use crate::creating::fresh_entry;
+use crate::jobs::write_durably;
+use crate::named::{place_of, put_in, take_out};
+use crate::planning::Plan;
+use crate::spelling::{Spelled, spell};
+use crate::store::Store;
+use crate::taking::blocks_taken_by;
+use crate::writing::blocks_in_area;
+use block_files::BlockSet;
+use disk_model::Disk;
+use element_laws::{contents_keep, index_keeps, untouched_is_kept, use_is_adopted};
+use element_state::{Change, StoreError};
+use guarded_cell::Cell;
+use index_text::Index;
+use per_base::{Bytes, Entry, FileInfo, Name, Numbers};
+use std::alloc::Global;
+
+/// Why a commit gave up.
+#[derive(Debug, Drop)]
+pub enum CommitFault {
+    /// The disk failed, and the storage is closed.
+    Device,
+    /// Want of memory hands the storage back, and nothing was written.
+    OutOfMemory(Store),
+}
+
+/// What the second half of a commit needs, which takes no more memory.
+#[derive(Drop)]
+struct Ready {
+    index: Index,
+    text: Bytes,
+    room: Vec<u8>,
+    used: BlockSet,
+    entries: Vec<Entry>,
+}
+
+impl Store {
+    ghost use Rattle.element_state.specs.Clean.{IsClean};
+    ghost use Rattle.element_state.specs.Written.{commit_cost, IsWithin};
+    ghost use Rattle.index_text.specs.Spelling.{index_text};
+    ghost use Rattle.element_store.specs.Stores.{entries_of};
+    ghost use Rattle.element_store.specs.Committing.{HandsBack, IsDeviceFault, index_in};
+
+    /// Makes the changes all at once: a stop at any moment leaves the storage of before or that of after. Only what changed is
+    /// written, and of a file that could be read only the blocks that differ.
+    ///
+    /// # Errors
+    ///
+    /// `OutOfMemory` hands the storage back before any call of the disk. `Device` closes it.
+    pub fn commit<D: Disk>(
+        self,
+        disk: &mut D,
+        changes: Vec<Change>,
+    ) -> Result<Store, CommitFault>
+        requires used { IsUsed D.told (D.medium disk.old).image self }
+        requires changes { AreChanges (shape_of self) (view_in self) changes.items }
+
+        ensures used { IfOk result (IsUsed D.told (D.medium disk.new).image) }
+        ensures shape { IfOk result (λ store. shape_of store ≡ shape_of self) }
+        ensures view { IfOk result (λ store. view_in store ≡ committed_by (shape_of self) (view_in self) changes.items) }
+        ensures quiet { OnOk result (Quiet (D.medium disk.new)) }
+        ensures clean { IsTrue D.told → IsClean (shape_of self) (D.medium disk.old).image
+            → OnOk result (IsClean (shape_of self) (D.medium disk.new).image) }
+
+        // A want of memory hands the storage back, and then nothing happened. Only a disk that failed closes it.
+        ensures memory { IfErr result (λ fault. HandsBack self fault (disk.new ≡ disk.old)) }
+        ensures cause { IfErr result (λ fault. IsDeviceFault fault → Rose (D.medium disk.old).faults (D.medium disk.new).faults) }
+
+        // No file outside the place changes, and a stop at any moment leaves the storage of before or that of after.
+        ensures elsewhere { IsTrue D.told → Spares (IsOutside (shape_of self).place.first (shape_of self).place.copies)
+            (D.medium disk.old).image (D.medium disk.new).image }
+        ensures outside { IsTrue D.told → Quiet (D.medium disk.old)
+            → EachCase (IsSettledOn (IsOutside (shape_of self).place.first (shape_of self).place.copies) (D.medium disk.old).image)
+            (D.medium disk.old) (D.medium disk.new) }
+        ensures any_moment { IsTrue D.told → KeptThroughout (shape_of self)
+            (Opens (committed_by (shape_of self) (view_in self) changes.items) []) (D.medium disk.old) (D.medium disk.new) }
+
+        // In each copy the contents that changed, and the index.
+        ensures written { IfOk result (λ store. IsWithin (shape_of self).place.copies
+            (commit_cost (shape_of self).kind (entries_of self) changes.items) (length (index_text (index_in store)))
+            (D.medium disk.old).written (D.medium disk.new).written) }
+        ensures time { Elapses (D.medium disk.old) (D.medium disk.new) }
+    {
+        use_is_adopted();
+        contents_keep();
+        index_keeps();
+        let ready = match self.write_contents(disk, &changes) {
+            Ok(ready) => ready,
+            Err(StoreError::OutOfMemory) => return Err(CommitFault::OutOfMemory(self)),
+            Err(_) => return Err(CommitFault::Device),
+        };
+        let Ready {
+            index,
+            text,
+            mut room,
+            used,
+            entries: roomy,
+        } = ready;
+        let Store {
+            alloc,
+            shape,
+            cell,
+            index: _,
+            entries,
+            used: _,
+        } = self;
+        let Ok(cell) = cell.write_in(disk, text.as_slice(), &mut room) else {
+            return Err(CommitFault::Device);
+        };
+        let entries = changed(alloc, cell.generation(), moved(entries, roomy), changes);
+        Ok(Store::new(alloc, shape, cell, index, entries, used))
+    }
+
+    // Takes all memory, and then makes the contents durable in blocks outside those of the index.
+    fn write_contents<D: Disk>(
+        &self,
+        disk: &mut D,
+        changes: &[Change],
+    ) -> Result<Ready, StoreError>
+        requires used { IsUsed D.told (D.medium disk.old).image self.now }
+        requires changes { AreChanges (shape_of self.now) (view_in self.now) changes.now }
+
+        ensures ready { IfOk result (λ ready. IsReady D.told self.now changes.now (D.medium disk.old) (D.medium disk.new)
+            ready.index ready.text ready.used) }
+        ensures room { IfOk result (λ ready. length ready.room.items ≡ header + length ready.text) }
+        ensures empty { IfOk result (λ ready. ready.entries.items ≡ []) }
+        ensures capacity { IfOk result (λ ready.
+            length (entries_of self.now) + length changes.now ≤ vec_capacity ready.entries) }
+
+        ensures memory { IsErrOf result StoreError.OutOfMemory → disk.new ≡ disk.old }
+        ensures never_corrupt { IsErrOf result StoreError.Corrupt → ⊥ }
+        ensures cause { IsErrOf result StoreError.Device → Rose (D.medium disk.old).faults (D.medium disk.new).faults }
+        ensures elsewhere { IsTrue D.told → Spares (IsOutside (shape_of self.now).place.first (shape_of self.now).place.copies)
+            (D.medium disk.old).image (D.medium disk.new).image }
+        ensures outside { IsTrue D.told → Quiet (D.medium disk.old)
+            → EachCase (IsSettledOn (IsOutside (shape_of self.now).place.first (shape_of self.now).place.copies) (D.medium disk.old).image)
+            (D.medium disk.old) (D.medium disk.new) }
+        ensures any_moment { IsTrue D.told → KeptThroughout (shape_of self.now)
+            (Opens (committed_by (shape_of self.now) (view_in self.now) changes.now) []) (D.medium disk.old) (D.medium disk.new) }
+        ensures time { Elapses (D.medium disk.old) (D.medium disk.new) }
+    {
+        untouched_is_kept();
+        use_is_adopted();
+        contents_keep();
+        let alloc = self.alloc;
+        let capacity = blocks_in_area(&self.shape);
+        let standing = Standing {
+            kind: self.shape.kind,
+            generation: self.cell.generation() + 1,
+            index: self.index.entries.as_slice(),
+            entries: self.entries.as_slice(),
+        };
+        let mut taken = blocks_taken_by(alloc, capacity, standing.index)?;
+        let Plan { entries, jobs } = plan_changes(alloc, standing, changes, &mut taken)?;
+        let Spelled { index, text } = spell(alloc, standing.kind, entries)?;
+        let room = Cell::room(alloc, text.len())?;
+        let used = blocks_taken_by(alloc, capacity, index.entries.as_slice())?;
+        let entries = Vec::with_capacity(alloc, standing.entries.len() + changes.len())?;
+        match write_durably(disk, self.shape.place, &jobs) {
+            Ok(()) => Ok(Ready {
+                index,
+                text,
+                room,
+                used,
+                entries,
+            }),
+            Err(_) => Err(StoreError::Device),
+        }
+    }
+}
+
+// The elements, moved to where there is room for more.
+fn moved(entries: Vec<Entry>, roomy: Vec<Entry>) -> Vec<Entry>
+    requires empty { roomy.items ≡ [] }
+    requires room { vec_len entries ≤ vec_capacity roomy }
+    ensures items { result.items ≡ entries.items }
+    ensures capacity { vec_capacity roomy ≤ vec_capacity result }
+{
+    let mut roomy = roomy;
+    for entry in entries {
+        let _ = roomy.push(entry);
+    }
+    roomy
+}
+
+// The elements after these changes.
+fn changed(alloc: Global, generation: u64, entries: Vec<Entry>, changes: Vec<Change>) -> Vec<Entry>
+    requires ascend { NamesAscend entry_name entries.items }
+    requires small { AllByRecursion IsSmallChange changes.items }
+    requires room { vec_len entries + length changes.items ≤ vec_capacity entries }
+    ensures { result.items ≡ after_changes generation entries.items changes.items }
+{
+    let mut entries = entries;
+    for change in changes {
+        match change {
+            Change::Put(fresh) => put_in(&mut entries, fresh_entry(alloc, generation, fresh)),
+            Change::Remove(name) => take_out(&mut entries, &name),
+            Change::Touch(name, info) => touch(alloc, generation, &mut entries, &name, info),
+        }
+    }
+    entries
+}
+
+// Gives the element of a name another info, and the number of the change.
+fn touch(alloc: Global, generation: u64, entries: &mut Vec<Entry>, name: &Name, info: FileInfo)
+    requires { NamesAscend entry_name entries.old.items }
+    ensures items { entries.new.items ≡ map (touched generation name.now info) entries.old.items }
+    ensures ascend { NamesAscend entry_name entries.new.items }
+    ensures capacity { vec_capacity entries.old ≤ vec_capacity entries.new }
+    ensures no_more { vec_len entries.new ≤ vec_len entries.old }
+{
+    if let Ok(at) = place_of(entries, name) {
+        let entry = &mut entries[at];
+        entry.info = Some(info);
+        entry.changed = generation;
+        entry.lacking = Numbers::new(Vec::new(alloc));
+    }
+}
