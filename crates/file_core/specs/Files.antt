@@ -1,5 +1,5 @@
 -- A file: an element with an info, whose length is that of its content; and what writing and cutting make of it.
-use Rattle.std.specs.Prelude.{◌≡◌, ℕ, ◌+◌, ◌<◌, ◌≤◌, List, [], length, take, Bool, true, false, not, cond, ◌==◌, nat_lt, nat_le, Option, Some, None, IsSome, option_map, Result, Ok, Err}
+use Rattle.std.specs.Prelude.{◌≡◌, ℕ, ◌+◌, ◌<◌, ◌≤◌, List, [], length, take, Bool, true, false, not, cond, ◌==◌, nat_lt, Option, Some, None, IsSome, option_map, Result, Ok}
 use Rattle.per_base.specs.declared.elements.Cause.{Cause}
 use Rattle.per_base.specs.declared.elements.Cause.TheVariants.{Application}
 use Rattle.per_base.specs.declared.elements.Content.{Content}

@@ -1,5 +1,5 @@
 -- A place in a content: what reading gives there, where writing goes, and where moving leads.
-use Rattle.std.specs.Prelude.{ℕ, suc, ◌+◌, min, List, length, take, drop, ◌++◌, Bool, true, false, cond, not, ◌&&◌, ◌||◌, ◌==◌, nat_lt, nat_le, position, Option, Some, None, Result, Ok, Err, ℤ, pos, ◌+ℤ◌, int_le, unsigned_abs, slice_index}
+use Rattle.std.specs.Prelude.{ℕ, ◌+◌, min, List, length, take, drop, ◌++◌, Bool, true, false, cond, not, ◌&&◌, ◌||◌, ◌==◌, nat_lt, nat_le, position, Option, Some, None, Result, Ok, ℤ, pos, ◌+ℤ◌, int_le, unsigned_abs, slice_index}
 use Rattle.per_base.specs.declared.errors.PerError.{PerError}
 use Rattle.per_base.specs.declared.errors.PerError.TheVariants.{IllegalReadAccess, IsEof, InvalidPosition}
 use Rattle.per_base.specs.declared.opening.OpenKind.{OpenKind}

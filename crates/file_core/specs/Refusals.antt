@@ -1,5 +1,5 @@
 -- Answers of calls: refusals in their order, and an answer that may be want of memory.
-use Rattle.std.specs.Prelude.{◌≡◌, ◌≢◌, Bool, cond, Option, None, Some, Result, Err}
+use Rattle.std.specs.Prelude.{◌≡◌, ◌≢◌, Bool, cond, Option, None, Some, Result, Ok, Err}
 use Rattle.per_base.specs.declared.errors.PerError.{PerError}
 use Rattle.per_base.specs.declared.errors.PerError.TheVariants.{OutOfMemory}
 
@@ -10,6 +10,11 @@ refuse test error rest = cond test (Err error) rest
 -- the error is the one that is due, but for want of memory, which may come at any time
 abbrev pub IsRefusal : {A : Type 0} → Result A PerError → PerError → Type 0
 IsRefusal due error = error ≢ OutOfMemory → due ≡ Err error
+
+-- not refused: an answer is due
+abbrev pub IsDue : {A : Type 0} → Result A PerError → Type 0
+IsDue (Ok answer) = Unit {0}
+IsDue (Err error) = ⊥
 
 -- refused where there is an error, and otherwise the rest
 abbrev pub refused_by : {A : Type 0} → Option PerError → Result A PerError → Result A PerError

@@ -2,7 +2,7 @@
 
 ghost use Rattle.std.specs.Prelude.{◌≡◌, ◌<◌, ◌≤◌, cond, length, min, IfOk, IfErr, IfSome, OnOk, OnErr};
 ghost use Rattle.file_core.specs.Places as places;
-ghost use Rattle.file_core.specs.Refusals.{IsRefusal};
+ghost use Rattle.file_core.specs.Refusals.{IsDue, IsRefusal};
 
 use per_base::{OpenKind, OpenMode, Origin, PerError};
 use std::alloc::Global;
@@ -109,6 +109,7 @@ impl Cursor {
     pub fn read(&mut self, alloc: Global, bytes: &[u8], count: u64) -> Result<Vec<u8>, PerError>
         ensures ok { IfOk result (λ piece. places.read self.old bytes.now count ≡ Ok (piece.items, self.new)) }
         ensures refused { IfErr result (λ error. IsRefusal (places.read self.old bytes.now count) error) }
+        ensures memory { IfErr result (λ error. error ≡ PerError.OutOfMemory → IsDue (places.read self.old bytes.now count)) }
         ensures unchanged { OnErr result (self.new ≡ self.old) }
         ensures inside { self.old.position ≤ length bytes.now → self.new.position ≤ length bytes.now }
         ensures kind { self.new.kind ≡ self.old.kind }
@@ -126,6 +127,7 @@ impl Cursor {
     pub fn read_all(&mut self, alloc: Global, bytes: &[u8]) -> Result<Vec<u8>, PerError>
         ensures ok { IfOk result (λ piece. places.read_all self.old bytes.now ≡ Ok (piece.items, self.new)) }
         ensures refused { IfErr result (λ error. IsRefusal (places.read_all self.old bytes.now) error) }
+        ensures memory { IfErr result (λ error. error ≡ PerError.OutOfMemory → IsDue (places.read_all self.old bytes.now)) }
         ensures unchanged { OnErr result (self.new ≡ self.old) }
         ensures inside { self.old.position ≤ length bytes.now → self.new.position ≤ length bytes.now }
         ensures kind { self.new.kind ≡ self.old.kind }
@@ -147,6 +149,7 @@ impl Cursor {
     ) -> Result<Vec<u8>, PerError>
         ensures ok { IfOk result (λ piece. places.read_line self.old bytes.now delimiter ≡ Ok (piece.items, self.new)) }
         ensures refused { IfErr result (λ error. IsRefusal (places.read_line self.old bytes.now delimiter) error) }
+        ensures memory { IfErr result (λ error. error ≡ PerError.OutOfMemory → IsDue (places.read_line self.old bytes.now delimiter)) }
         ensures unchanged { OnErr result (self.new ≡ self.old) }
         ensures inside { self.old.position ≤ length bytes.now → self.new.position ≤ length bytes.now }
         ensures kind { self.new.kind ≡ self.old.kind }

@@ -1,7 +1,7 @@
 //! The calls on a handle.
 
 ghost use Rattle.std.specs.Prelude.{◌≡◌, ◌≤◌, IfErr, IfOk, OnErr, OnOk};
-ghost use Rattle.file_core.specs.Refusals.{IsRefusal};
+ghost use Rattle.file_core.specs.Refusals.{IsDue, IsRefusal};
 ghost use Rattle.file_handles.specs.Handling as calls;
 
 use crate::table::FileTable;
@@ -46,6 +46,7 @@ impl FileTable {
     pub fn read(&mut self, number: u32, count: u64) -> Result<Vec<u8>, PerError>
         ensures ok { IfOk result (λ piece. calls.read self.old.session number count ≡ Ok (piece.items, self.new.session)) }
         ensures refused { IfErr result (λ error. IsRefusal (calls.read self.old.session number count) error) }
+        ensures memory { IfErr result (λ error. error ≡ PerError.OutOfMemory → IsDue (calls.read self.old.session number count)) }
         ensures unchanged { OnErr result (self.new ≡ self.old) }
         ensures storage { self.new.storage ≡ self.old.storage }
         ensures moment { self.new.moment ≡ self.old.moment }
@@ -66,6 +67,7 @@ impl FileTable {
     pub fn read_all(&mut self, number: u32) -> Result<Vec<u8>, PerError>
         ensures ok { IfOk result (λ piece. calls.read_all self.old.session number ≡ Ok (piece.items, self.new.session)) }
         ensures refused { IfErr result (λ error. IsRefusal (calls.read_all self.old.session number) error) }
+        ensures memory { IfErr result (λ error. error ≡ PerError.OutOfMemory → IsDue (calls.read_all self.old.session number)) }
         ensures unchanged { OnErr result (self.new ≡ self.old) }
         ensures storage { self.new.storage ≡ self.old.storage }
         ensures moment { self.new.moment ≡ self.old.moment }
@@ -86,6 +88,7 @@ impl FileTable {
     pub fn read_line(&mut self, number: u32, delimiter: u8) -> Result<Vec<u8>, PerError>
         ensures ok { IfOk result (λ piece. calls.read_line self.old.session number delimiter ≡ Ok (piece.items, self.new.session)) }
         ensures refused { IfErr result (λ error. IsRefusal (calls.read_line self.old.session number delimiter) error) }
+        ensures memory { IfErr result (λ error. error ≡ PerError.OutOfMemory → IsDue (calls.read_line self.old.session number delimiter)) }
         ensures unchanged { OnErr result (self.new ≡ self.old) }
         ensures storage { self.new.storage ≡ self.old.storage }
         ensures moment { self.new.moment ≡ self.old.moment }
