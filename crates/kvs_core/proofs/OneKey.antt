@@ -1,11 +1,11 @@
 -- A storage with one key.
-use Rattle.std.proofs.Common.{◌≡◌, ◌≤◌, ℕ, ◌+◌, List, [], ◌∷◌, length, refl, sym, subst, arith}
+use Rattle.std.proofs.Common.{◌≡◌, ◌≤◌, ℕ, List, [], ◌∷◌, sym, subst, arith}
 use Rattle.std.specs.List.Sorted.{IsStrictlySortedBy}
 use Rattle.std.proofs.lemmas.List.Sums.{sum_by-cons}
 use Rattle.per_base.specs.declared.elements.Entry.{Entry}
 use Rattle.per_base.specs.declared.elements.StoreKind.TheVariants.{Keys}
 use Rattle.per_base.specs.Names.{IsName, name_cmp}
-use Rattle.deployment_model.specs.Conditions.{IsElement, IsStorage, element_names, initial_size}
+use Rattle.deployment_model.specs.Conditions.{IsElement, IsStorage, initial_size}
 use Rattle.deployment_model.specs.Data.{ElementData, StorageData}
 use Rattle.key_maps.specs.KeyElements.{entry_names}
 use Rattle.key_maps.proofs.Ordered.{sorted_cons, sorted_none}

@@ -1,6 +1,6 @@
 //! Rows of calls and their answers, over the storage `fav` with the configured key `home`, a `u16`.
 
-ghost use Rattle.std.specs.Prelude.{◌≡◌, ◌≤◌, IfOk, IfSome, length};
+ghost use Rattle.std.specs.Prelude.{◌≡◌, ◌≤◌, IfOk, IfSome};
 ghost use Rattle.per_base.specs.declared.elements.StoreKind.TheVariants.{Keys};
 ghost use Rattle.deployment_model.specs.Conditions.{IsElement, IsEncodingOf, IsStorage, initial_size};
 ghost use Rattle.deployment_model.specs.Data.{element_data, storage_data};
