@@ -1,6 +1,6 @@
 -- The plans of the storages, one after another.
-use Rattle.std.proofs.Common.{◌≡◌, ℕ, zero, suc, drop, Bool, true, false, List, [], ◌∷◌, ◌++◌, map, Option, Some, None, Result, Ok, Err, refl, sym, ap, subst, ◌∙◌, append_assoc, append-nil}
-use Rattle.std.specs.Prelude.{find, cond}
+use Rattle.std.proofs.Common.{◌≡◌, ℕ, zero, suc, drop, Bool, true, false, List, [], ◌∷◌, ◌++◌, Option, Some, None, Result, Ok, Err, refl, sym, ap, subst, append_assoc, append-nil}
+use Rattle.std.specs.Prelude.{cond}
 use Rattle.std.specs.List.{AllByRecursion}
 use Rattle.std.specs.List.Sorted.{IsStrictlySortedBy}
 use Rattle.std.specs.Str.{bytes_eq}
@@ -8,16 +8,14 @@ use Rattle.per_base.specs.declared.elements.Fresh.{Fresh}
 use Rattle.per_base.specs.declared.elements.StoreKind.{StoreKind}
 use Rattle.per_base.specs.declared.elements.StoreKind.TheVariants.{Keys, Files}
 use Rattle.per_base.specs.declared.errors.PerError.{PerError}
-use Rattle.per_base.specs.declared.errors.PerError.TheVariants.{OutOfMemory}
-use Rattle.per_base.specs.Names.{name_cmp}
 use Rattle.deployment_model.specs.Data.{DeploymentData, StorageData}
 use Rattle.deployment_model.specs.Lookups.{storage_named}
 use Rattle.migrate_fns.specs.Rules.{Rule, Answers}
 use Rattle.update_plan.specs.declared.contents.Stored.{Stored}
 use Rattle.update_plan.specs.declared.contents.StorageContents.{StorageContents}
-use Rattle.update_plan.specs.declared.contents.StorageContents.TheVariants.{Missing, Damaged, Present}
+use Rattle.update_plan.specs.declared.contents.StorageContents.TheVariants.{Missing}
 use Rattle.update_plan.specs.Limits.{AreContents}
-use Rattle.update_plan.specs.Plans.{AllFit, AreOf, ArePresent, AreStored, IsOf, PlansAll, PlansFor, Told, contents_in, contents_named, if_kind, is_kind, stored_for, with_first}
+use Rattle.update_plan.specs.Plans.{AllFit, AreOf, ArePresent, AreStored, IsOf, PlansAll, PlansFor, Told, contents_named, if_kind, is_kind, stored_for, with_first}
 use Rattle.update_plan.proofs.Merged.{same_name}
 
 pub none_stored : (kind : StoreKind) → AreStored kind []
@@ -42,11 +40,11 @@ found_of old (x ∷ xs) name h =
     let later = found_of old xs name h.1 in
     elim (bytes_eq x.name name) as (λ b. bytes_eq x.name name ≡ b → AreOf (storage_named old name) (contents_named (x ∷ xs) name)) [
       | true ↦ λ q.
-        let here : contents_named (x ∷ xs) name ≡ x.contents = rw q refl in
-        subst (AreOf (storage_named old name)) (sym here) (subst (λ n. AreOf (storage_named old n) x.contents) (same_name x.name name q) h.0)
+          let here : contents_named (x ∷ xs) name ≡ x.contents = rw q refl in
+          subst (AreOf (storage_named old name)) (sym here) (subst (λ n. AreOf (storage_named old n) x.contents) (same_name x.name name q) h.0)
       | false ↦ λ q.
-        let there : contents_named (x ∷ xs) name ≡ contents_named xs name = rw q refl in
-        subst (AreOf (storage_named old name)) (sym there) later
+          let there : contents_named (x ∷ xs) name ≡ contents_named xs name = rw q refl in
+          subst (AreOf (storage_named old name)) (sym there) later
     ] refl
 
 of_kind : (kind : StoreKind) (o : Option StorageData) (contents : StorageContents) → AreOf o contents → ArePresent kind (if_kind kind o contents)

@@ -1,5 +1,5 @@
 -- The merged names: they ascend, and each has what the two lists say of it.
-use Rattle.std.proofs.Common.{◌≡◌, ℕ, Bool, true, false, List, [], ◌∷◌, ◌++◌, map, Option, Some, None, refl, sym, ap, subst, ◌∙◌, append_assoc, append-nil}
+use Rattle.std.proofs.Common.{◌≡◌, ℕ, Bool, true, false, List, [], ◌∷◌, map, Option, Some, None, refl, sym, ap, subst, ◌∙◌}
 use Rattle.std.specs.Prelude.{find, filter_map, IfSome}
 use Rattle.std.specs.List.{AllByRecursion, cons_option}
 use Rattle.std.specs.List.Sorted.{IsStrictlySortedBy}
@@ -121,7 +121,7 @@ with_ascends e es above rest (c ∷ cs) h =
     (λ o. ascends_from e.name (map item_name (merged es (c ∷ cs))) (merged_above e.name es (c ∷ cs) above (o, above_all e.name c.name (map element_name cs) o behind)) (rest (c ∷ cs) h))
     (λ o. ascends_from e.name (map item_name (merged es cs)) (merged_above e.name es cs above (subst (λ n. Above n (map element_name cs)) (sym (equal_name e.name c.name o)) behind)) (rest cs later))
     (λ o. let less = turned e.name c.name o in
-      ascends_from c.name (map item_name (with_entry e (merged es) cs)) (merged_above c.name (e ∷ es) cs (less, above_all c.name e.name (map entry_name es) less above) behind) (with_ascends e es above rest cs later))
+    ascends_from c.name (map item_name (with_entry e (merged es) cs)) (merged_above c.name (e ∷ es) cs (less, above_all c.name e.name (map entry_name es) less above) behind) (with_ascends e es above rest cs later))
 
 pub merged_ascends : (es : List Entry) (cs : List ElementData) → Ascends (map entry_name es) → Ascends (map element_name cs) → Ascends (map item_name (merged es cs))
 merged_ascends [] cs h k = only_ascend cs k
@@ -232,18 +232,18 @@ module _ (f : List ℕ → Option ElementData → Option Entry → Option PerErr
       let later = rest_ascends c.name (map element_name cs) h in
       by_cmp (λ items. filter_map of_item items ≡ filter_map (of_entry (c ∷ cs)) (e ∷ es)) (name_cmp e.name c.name) (only_stored e ∷ merged es (c ∷ cs)) (both e c ∷ merged es cs) (only_configured c ∷ with_entry e (merged es) cs)
       (λ o.
-        let none : named element_name (c ∷ cs) e.name ≡ None = none_behind element_name c cs e.name o behind in
-        ap (cons_option (f e.name None (Some e))) (rest (c ∷ cs) h) ∙ ap (λ x. cons_option (f e.name x (Some e)) (filter_map (of_entry (c ∷ cs)) es)) (sym none))
+      let none : named element_name (c ∷ cs) e.name ≡ None = none_behind element_name c cs e.name o behind in
+      ap (cons_option (f e.name None (Some e))) (rest (c ∷ cs) h) ∙ ap (λ x. cons_option (f e.name x (Some e)) (filter_map (of_entry (c ∷ cs)) es)) (sym none))
       (λ o.
-        let same : e.name ≡ c.name = equal_name e.name c.name o in
-        let there : bytes_eq c.name e.name ≡ true = subst (λ n. bytes_eq n e.name ≡ true) same (self_named e.name) in
-        let element : named element_name (c ∷ cs) e.name ≡ Some c = rw there refl in
-        ap (cons_option (f e.name (Some c) (Some e))) (rest cs later ∙ not_of c cs es (subst (λ n. Above n (map entry_name es)) same above))
-        ∙ ap (λ x. cons_option (f e.name x (Some e)) (filter_map (of_entry (c ∷ cs)) es)) (sym element))
+      let same : e.name ≡ c.name = equal_name e.name c.name o in
+      let there : bytes_eq c.name e.name ≡ true = subst (λ n. bytes_eq n e.name ≡ true) same (self_named e.name) in
+      let element : named element_name (c ∷ cs) e.name ≡ Some c = rw there refl in
+      ap (cons_option (f e.name (Some c) (Some e))) (rest cs later ∙ not_of c cs es (subst (λ n. Above n (map entry_name es)) same above))
+      ∙ ap (λ x. cons_option (f e.name x (Some e)) (filter_map (of_entry (c ∷ cs)) es)) (sym element))
       (λ o.
-        let less = turned e.name c.name o in
-        ap (λ x. cons_option x (filter_map of_item (with_entry e (merged es) cs))) (free c.name c) ∙ with_refusals e es above rest cs later
-        ∙ not_of c cs (e ∷ es) (less, above_all c.name e.name (map entry_name es) less above))
+      let less = turned e.name c.name o in
+      ap (λ x. cons_option x (filter_map of_item (with_entry e (merged es) cs))) (free c.name c) ∙ with_refusals e es above rest cs later
+      ∙ not_of c cs (e ∷ es) (less, above_all c.name e.name (map entry_name es) less above))
 
   pub merged_refusals : (es : List Entry) (cs : List ElementData) → Ascends (map entry_name es) → Ascends (map element_name cs) → filter_map of_item (merged es cs) ≡ filter_map (of_entry cs) es
   merged_refusals [] cs h k = only_free cs

@@ -1,6 +1,6 @@
 -- The new contents of a storage: what the merged names become.
-use Rattle.std.proofs.Common.{◌≡◌, ℕ, ◌+◌, ◌≤◌, Bool, true, false, List, [], ◌∷◌, ◌++◌, length, map, Option, Some, None, Result, Ok, Err, refl, sym, ap, subst, ◌∙◌, append_assoc, append-nil, arith}
-use Rattle.std.specs.Prelude.{find, filter_map, cond, nat_lt, sum_by, IfOk, IfSome}
+use Rattle.std.proofs.Common.{◌≡◌, ℕ, ◌≤◌, Bool, true, false, List, [], ◌∷◌, ◌++◌, length, map, Option, Some, None, Result, Ok, Err, refl, sym, ap, subst, ◌∙◌, append_assoc, append-nil, arith}
+use Rattle.std.specs.Prelude.{nat_lt, sum_by, IfOk}
 use Rattle.std.specs.List.{AllByRecursion, cons_option}
 use Rattle.std.specs.List.Sorted.{IsStrictlySortedBy}
 use Rattle.std.specs.Str.{bytes_eq}
@@ -11,7 +11,6 @@ use Rattle.per_base.specs.declared.elements.Fresh.{Fresh}
 use Rattle.per_base.specs.declared.elements.StoreKind.{StoreKind}
 use Rattle.per_base.specs.declared.elements.StoreKind.TheVariants.{Keys, Files}
 use Rattle.per_base.specs.declared.errors.PerError.{PerError}
-use Rattle.per_base.specs.declared.errors.PerError.TheVariants.{OutOfMemory}
 use Rattle.per_base.specs.Names.{name_cmp}
 use Rattle.index_text.specs.Rules.{max_len}
 use Rattle.deployment_model.specs.Conditions.{IsElement, IsStorage}
@@ -28,7 +27,7 @@ use Rattle.update_plan.specs.Plans.{AreStored, IsStored, PlansOver, Told, Update
 use Rattle.update_plan.specs.Renewed.{BecomeAll, RenewAll, item_fate, refusals}
 use Rattle.update_plan.specs.Rows.{row_by, initial_or}
 use Rattle.update_plan.specs.Views.{items_in}
-use Rattle.update_plan.proofs.Merged.{Above, OfItem, above_all, absent, element_name, entry_name, item_name, joined, merged_all, merged_ascends, merged_joined, merged_refusals, named, same_name}
+use Rattle.update_plan.proofs.Merged.{Above, OfItem, absent, item_name, joined, merged_all, merged_ascends, merged_joined, merged_refusals, named, same_name}
 
 abbrev pub fresh_name : Fresh → List ℕ
 fresh_name x = x.name
@@ -60,8 +59,8 @@ module _ (rules : List Rule) (answers : Answers) (now : ℕ) (s : StorageData) w
       let inner = subst (λ l. Renewing all l made) is r in
       record {
         becomes = λ new b.
-          let same : longer ++ new ≡ made ++ cons_option f new = ap (λ l. l ++ new) more ∙ append_assoc made (cons_option f []) new ∙ ap (λ l. made ++ l) (put_first f new) in
-          subst (λ l. BecomeAll rules answers now s all l) (sym same) (inner.becomes (cons_option f new) (f, new, becomes, if_made, b, refl));
+            let same : longer ++ new ≡ made ++ cons_option f new = ap (λ l. l ++ new) more ∙ append_assoc made (cons_option f []) new ∙ ap (λ l. made ++ l) (put_first f new) in
+            subst (λ l. BecomeAll rules answers now s all l) (sym same) (inner.becomes (cons_option f new) (f, new, becomes, if_made, b, refl));
         same_refusals = inner.same_refusals ∙ ap (λ o. cons_option o (refusals rules now s rest)) (not_refused answers p.name (item_fate rules now s p) f becomes);
         fit = inner.fit.1;
       }
@@ -132,13 +131,13 @@ module _ (rules : List Rule) (answers : Answers) (now : ℕ) (s : StorageData) w
       let rest = looked_up name ps h.1 h.4 ascends.1 in
       elim (bytes_eq p.name name) as (λ b. bytes_eq p.name name ≡ b → Found (named item_name (p ∷ ps) name) (named fresh_name new name)) [
         | true ↦ λ q.
-          let item : named item_name (p ∷ ps) name ≡ Some p = rw q refl in
-          let there = named_there p ps name h.0 h.1 q h.3 above h.2 in
-          subst (λ o. Found o (named fresh_name new name)) (sym item) (subst (λ l. Becomes answers p.name (item_fate rules now s p) (named fresh_name l name)) (sym h.5) there)
+            let item : named item_name (p ∷ ps) name ≡ Some p = rw q refl in
+            let there = named_there p ps name h.0 h.1 q h.3 above h.2 in
+            subst (λ o. Found o (named fresh_name new name)) (sym item) (subst (λ l. Becomes answers p.name (item_fate rules now s p) (named fresh_name l name)) (sym h.5) there)
         | false ↦ λ q.
-          let item : named item_name (p ∷ ps) name ≡ named item_name ps name = rw q refl in
-          let later : named fresh_name new name ≡ named fresh_name h.1 name = ap (λ l. named fresh_name l name) h.5 ∙ named_later p name h.0 h.1 q h.3 in
-          subst (λ o. Found o (named fresh_name new name)) (sym item) (subst (Found (named item_name ps name)) (sym later) rest)
+            let item : named item_name (p ∷ ps) name ≡ named item_name ps name = rw q refl in
+            let later : named fresh_name new name ≡ named fresh_name h.1 name = ap (λ l. named fresh_name l name) h.5 ∙ named_later p name h.0 h.1 q h.3 in
+            subst (λ o. Found o (named fresh_name new name)) (sym item) (subst (Found (named item_name ps name)) (sym later) rest)
       ] refl
 
   becomes_so : (name : List ℕ) (stored : Option Entry) (configured : Option ElementData) (new : Option Fresh) → Found (joined name stored configured) new → Becomes answers name (fate rules now s name configured stored) new
@@ -152,7 +151,7 @@ module _ (rules : List Rule) (answers : Answers) (now : ℕ) (s : StorageData) w
       record {
         names_ascend = new_ascend (merged old s.elements) new h ascends;
         each = λ name. becomes_so name (entry_named old name) (element_named s name) (fresh_named new name)
-          (subst (λ o. Found o (fresh_named new name)) (merged_joined name old s.elements stored.names_ascend storage.ascends) (looked_up name (merged old s.elements) new h ascends));
+            (subst (λ o. Found o (fresh_named new name)) (merged_joined name old s.elements stored.names_ascend storage.ascends) (looked_up name (merged old s.elements) new h ascends));
       }
 
   -- ---- refusals

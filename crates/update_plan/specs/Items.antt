@@ -1,5 +1,5 @@
 -- Items of the program as plain data.
-use Rattle.std.specs.Prelude.{ℕ, List, [], ◌∷◌, map, Option, Some, None, option_map}
+use Rattle.std.specs.Prelude.{List, [], ◌∷◌, map, Option, Some, None, option_map}
 use Rattle.deployment_model.specs.Data.{element_data}
 use Rattle.update_plan.specs.declared.merging.Item.{Item}
 use Rattle.update_plan.specs.declared.merging.FirstItem.{FirstItem}

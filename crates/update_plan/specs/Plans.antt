@@ -1,6 +1,6 @@
 -- The plan of an update: what each storage of the new version has, or the first refusal.
 use denote.Ref.{Bor}
-use Rattle.std.specs.Prelude.{◌≡◌, ◌≤◌, ℕ, List, [], ◌∷◌, length, map, filter_map, find, cond, nat_lt, Bool, true, false, Option, Some, None, Result, Ok, Err, IfOk, IsTrue, sum_by, ⊤}
+use Rattle.std.specs.Prelude.{◌≡◌, ◌≤◌, ℕ, List, [], ◌∷◌, length, map, filter_map, find, cond, nat_lt, Bool, true, false, Option, Some, None, Result, Ok, Err, IsTrue, sum_by, ⊤}
 use Rattle.std.specs.List.{AllByRecursion}
 use Rattle.std.specs.List.Sorted.{IsStrictlySortedBy}
 use Rattle.std.specs.Str.{bytes_eq}

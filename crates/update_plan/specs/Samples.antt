@@ -3,14 +3,13 @@ use Rattle.std.specs.Prelude.{◌≡◌, ℕ, List, [], ◌∷◌, Some, None, O
 use Rattle.per_base.specs.declared.elements.Cause.TheVariants.{Update, Installation}
 use Rattle.per_base.specs.declared.elements.Content.TheVariants.{Good, Bad}
 use Rattle.per_base.specs.declared.elements.Entry.{Entry}
-use Rattle.per_base.specs.declared.elements.FileInfo.{FileInfo}
 use Rattle.per_base.specs.declared.elements.Scope.TheVariants.{Element}
 use Rattle.per_base.specs.declared.elements.StoreKind.{StoreKind}
 use Rattle.per_base.specs.declared.elements.StoreKind.TheVariants.{Keys, Files}
 use Rattle.per_base.specs.declared.errors.PerError.TheVariants.{DataTypeMismatch, IntegrityCorrupted}
 use Rattle.per_base.specs.declared.errors.Unit.TheVariants.{Part}
 use Rattle.value_code.specs.Reading.{decoded, kind_at}
-use Rattle.value_model.specs.Kinds.{Kind, one, two, four, bool_kind, signed_kind, unsigned_kind}
+use Rattle.value_model.specs.Kinds.{Kind, one, two, four, bool_kind, unsigned_kind}
 use Rattle.value_model.specs.Trees.{unsigned_tree}
 use Rattle.deployment_model.specs.Data.{ElementData, StorageData}
 use Rattle.deployment_model.specs.declared.configs.CollectionStrategy.{CollectionStrategy}

@@ -1,7 +1,5 @@
 -- Answers as plain data.
 use Rattle.std.specs.Prelude.{List, Result, Ok, Err}
-use Rattle.std.specs.declared.vec.Vec.{Vec}
-use Rattle.per_base.specs.declared.elements.Fresh.{Fresh}
 use Rattle.per_base.specs.declared.errors.PerError.{PerError}
 
 abbrev pub items_in : {A B : Type 0} → (A → List B) → Result A PerError → Result (List B) PerError

@@ -52,7 +52,12 @@ impl Update<'_> {
             (fate (rules_of self.now.migrations.now) self.now.moment (storage_data self.now.storage.now) (item_of item.entry).name (item_of item.entry).configured (item_of item.entry).stored) result }
     {
         let strategy = own_strategy(item);
-        match row_by(strategy, self.storage.strategy, initial_content(item), item.stored) {
+        match row_by(
+            strategy,
+            self.storage.strategy,
+            initial_content(item),
+            item.stored,
+        ) {
             Row::Nothing => Ok(None),
             Row::Initial(bytes) => {
                 let info = initial_info(self.storage.kind, strategy, item.stored, self.moment);

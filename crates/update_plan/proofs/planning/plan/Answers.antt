@@ -1,10 +1,10 @@
-use Rattle.std.proofs.Common.{◌≡◌, ◌+◌, ◌≤◌, ◌++◌, ◌∷◌, [], suc, drop, length, map, Ok, Err, ap, sym, subst, ◌∙◌, arith, rules}
+use Rattle.std.proofs.Common.{◌≡◌, ◌+◌, ◌≤◌, ◌++◌, ◌∷◌, [], suc, drop, length, map, Ok, Err, ap, sym, subst, ◌∙◌, arith}
 use Rattle.std.proofs.lemmas.List.{drop_all, length-map}
 use Rattle.std.proofs.lemmas.Result.{err_from_is_err_and}
 use Rattle.deployment_model.specs.Conditions.{IsStorage}
 use Rattle.deployment_model.specs.Data.{deployment_data, storage_data}
 use Rattle.migrate_fns.specs.Stored.{answers_of, rules_of}
-use Rattle.update_plan.specs.Plans.{ArePresent, PlansFor, Told, or_missing, stored_for}
+use Rattle.update_plan.specs.Plans.{ArePresent, PlansFor, Told, stored_for}
 use Rattle.update_plan.proofs.Starts.{item_at}
 use Rattle.update_plan.proofs.AllPlans.{Planning, all_here, ended_fit, ended_plans, next, stopped, stored_of_kind}
 use Rattle.update_plan.proofs.planning.plan.Goals as goal

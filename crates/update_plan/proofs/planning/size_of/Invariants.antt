@@ -1,4 +1,4 @@
-use Rattle.std.proofs.Common.{ℕ, ◌≡◌, ◌*◌, ◌≤◌, take, length, sum_by}
+use Rattle.std.proofs.Common.{ℕ, ◌≡◌, ◌*◌, ◌≤◌, take, sum_by}
 use Rattle.update_plan.specs.Limits.{fresh_size}
 use Rattle.update_plan.proofs.planning.size_of.Given as goal
 

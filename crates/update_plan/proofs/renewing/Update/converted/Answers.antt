@@ -1,6 +1,5 @@
-use Rattle.std.proofs.Common.{◌≡◌, Option, Some, ap, subst, sym, ◌∙◌}
+use Rattle.std.proofs.Common.{◌≡◌, ap, subst, ◌∙◌}
 use Rattle.std.specs.Prelude.{IfSome}
-use Rattle.value_model.specs.Trees.{type_of}
 use Rattle.value_model.specs.Views.{kind_of}
 use Rattle.migrate_fns.specs.Chains.{chain_of}
 use Rattle.migrate_fns.specs.Rules.{ConvertsTo}

@@ -1,11 +1,9 @@
-use Rattle.std.proofs.Common.{◌≡◌, Result, Err, ap, sym, subst, ◌∙◌, map}
 use Rattle.std.proofs.lemmas.Result.{err_from_is_err_and}
-use Rattle.deployment_model.specs.Data.{element_data, storage_data}
+use Rattle.deployment_model.specs.Data.{storage_data}
 use Rattle.migrate_fns.specs.Stored.{answers_of, rules_of}
 use Rattle.update_plan.specs.Merging.{merged}
 use Rattle.update_plan.proofs.Updating.{all_made, all_small, fits_if, plans_over, refused_over}
 use Rattle.update_plan.specs.Views.{items_in}
-use Rattle.update_plan.specs.Plans.{PlansOver, Told, first_refusal}
 use Rattle.update_plan.proofs.renewing.Update.plan_over.Goals as goal
 
 pub within_limits-requires : goal.within_limits-requires

@@ -1,4 +1,4 @@
-use Rattle.std.proofs.Common.{◌≡◌, ◌++◌, ap, sym, subst, ◌∙◌, [], ◌∷◌, Some, None, append-nil, map}
+use Rattle.std.proofs.Common.{◌≡◌, ◌++◌, ap, sym, subst, ◌∙◌, [], append-nil, map}
 use Rattle.std.specs.List.{cons_option}
 use Rattle.deployment_model.specs.Data.{element_data, storage_data}
 use Rattle.migrate_fns.specs.Stored.{answers_of, rules_of}
