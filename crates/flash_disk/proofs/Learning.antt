@@ -1,6 +1,6 @@
 -- One place more is learnt.
 use Rattle.std.proofs.Common.{◌≡◌, ◌≢◌, ◌⊎◌, ℕ, suc, ◌+◌, ◌*◌, ◌/◌, ◌%◌, ◌<◌, ◌≤◌, List, Bool, true, false, cond, refl, sym, ap, subst, ◌∙◌, inl, inr, ⊎_elim, arith, true≢false, add-one, eq-eqb}
-use Rattle.std.specs.Prelude.{Option, Some, None, nat_eq, nat_lt, ◌&&◌, is_none, is_some, IsTrue, IsFalse, ◌↔◌}
+use Rattle.std.specs.Prelude.{Option, Some, None, nat_eq, ◌&&◌, is_none, is_some, IsTrue, IsFalse, ◌↔◌}
 use Rattle.std.proofs.lemmas.Bool.{lt-ltb, le-ltb, eqb-true, cases_lt, cases_eq}
 use Rattle.std.specs.Str.{bytes_eq}
 use Rattle.std.specs.Bool.{Decides}
@@ -12,10 +12,10 @@ use Rattle.flash_disk.specs.declared.table.FilePage.{FilePage}
 use Rattle.flash_disk.specs.declared.table.Place.{Place}
 use Rattle.flash_disk.specs.declared.table.Newest.{Newest}
 use Rattle.flash_disk.specs.declared.table.Table.{Table}
-use Rattle.flash_disk.specs.Newest.{Placed, record_at, is_of, newer, with_record, newest, opens_page, page_count, IsCopyOf, IsNewest, IsNewestOf}
+use Rattle.flash_disk.specs.Newest.{Placed, record_at, is_of, newer, with_record, newest, opens_page, page_count, IsNewest, IsNewestOf}
 use Rattle.flash_disk.specs.NewestLaws.{newest_is}
-use Rattle.flash_disk.specs.Known.{same_page, page_of, known, page_len, limit_of, Puts, SameRecords, HasRoom}
-use Rattle.flash_disk.specs.Learnt.{number, LeadsTo, TwinSays, Learns, LearnsOf, HasLearnt, LearnsNext, SaysTheSame, TwinAt}
+use Rattle.flash_disk.specs.Known.{same_page, page_of, known, page_len, limit_of, Puts, HasRoom}
+use Rattle.flash_disk.specs.Learnt.{number, TwinSays, Learns, LearnsOf, HasLearnt, LearnsNext, SaysTheSame, TwinAt}
 
 below_suc : (j n : ℕ) → j < suc n → (j < n) ⊎ (j ≡ n)
 below_suc j n within = ⊎_elim inl (λ past. inr (let e : j ≡ n = omega arith in e)) (cases_lt j n)
@@ -116,8 +116,8 @@ module _ (pages : Pages) (n : ℕ) where
         → LearnsOf pages (suc n) (known table key) (newest pages key.file key.page n)
     elsewhere table learnt key other = stays (known table key) (newest pages key.file key.page n)
         (λ x is same apart. true≢false (
-            sym (subst (λ b. IsNewestOf pages key.file key.page n b) is (newest_is pages key.file key.page n)).of_page
-            ∙ (ap (is_of key.file key.page) (same_Some x.says r (sym same ∙ here)) ∙ other)))
+        sym (subst (λ b. IsNewestOf pages key.file key.page n b) is (newest_is pages key.file key.page n)).of_page
+        ∙ (ap (is_of key.file key.page) (same_Some x.says r (sym same ∙ here)) ∙ other)))
         (learnt.says key)
 
     by_key : (old : Table) (entry : Newest) → HasLearnt pages n old
@@ -133,10 +133,10 @@ module _ (pages : Pages) (n : ℕ) where
     entered old new entry learnt puts says = record {
       says = λ key. subst (λ o. LearnsOf pages (suc n) (known new key) (with_record key.file key.page n o (newest pages key.file key.page n))) (sym here)
           (subst (λ k. LearnsOf pages (suc n) k (cond (is_of key.file key.page r) (newer (newest pages key.file key.page n) placed) (newest pages key.file key.page n)))
-              (sym (puts.known_is key)) (by_key old entry learnt says key (same_page (page_of r) key) refl));
+          (sym (puts.known_is key)) (by_key old entry learnt says key (same_page (page_of r) key) refl));
       count = puts.len ∙ (ap (λ k. k + none_if (is_some (known old (page_of r)))) learnt.count
           ∙ subst (λ o. page_count pages n + none_if (is_some (known old (page_of r))) ≡ page_count pages n + opens_page pages n o) (sym here)
-              (ap (λ k. page_count pages n + k) (sym (same_count (known old (page_of r)) (newest pages r.file r.page n) (learnt.says (page_of r))))));
+          (ap (λ k. page_count pages n + k) (sym (same_count (known old (page_of r)) (newest pages r.file r.page n) (learnt.says (page_of r))))));
       room = puts.room learnt.room;
       fits = puts.fits learnt.fits;
     }
@@ -153,9 +153,9 @@ module _ (pages : Pages) (n : ℕ) where
       place = place;
       twin = subst (λ w. TwinSays pages (suc n) placed w) (sym twin)
           (λ j copy. ⊎_elim
-              (λ below. let lt = less j r below copy.same own_page in omega arith)
-              (λ last. copy.apart (ap (λ k. k / 64) last))
-              (below_suc j n copy.within));
+          (λ below. let lt = less j r below copy.same own_page in omega arith)
+          (λ last. copy.apart (ap (λ k. k / 64) last))
+          (below_suc j n copy.within));
     }
 
     newer_by : (entry : Newest) → IsEntryHere entry → (x : Placed) → IsNewest pages r.file r.page n x → x.says.sequence < r.sequence
@@ -182,8 +182,8 @@ module _ (pages : Pages) (n : ℕ) where
     pub no_room : (old : Table) → HasLearnt pages n old → known old (page_of r) ≡ None → limit_of old ≤ page_len old → limit_of old < page_count pages (suc n)
     no_room old learnt none full = subst (λ o. limit_of old < page_count pages n + opens_page pages n o) (sym here)
         (subst (λ b. limit_of old < page_count pages n + one_if (is_none b))
-            (sym (nothing_known (newest pages r.file r.page n) (known old (page_of r)) none (learnt.says (page_of r))))
-            (let count = learnt.count in omega arith))
+        (sym (nothing_known (newest pages r.file r.page n) (known old (page_of r)) none (learnt.says (page_of r))))
+        (let count = learnt.count in omega arith))
 
     module _ (old : Table) (e : Newest) (learnt : HasLearnt pages n old) (known_is : known old (page_of r) ≡ Some e) where
       abbrev pub best : (x : Placed) × (newest pages r.file r.page n ≡ Some x) × Learns pages n e x × IsNewest pages r.file r.page n x
@@ -202,7 +202,7 @@ module _ (pages : Pages) (n : ℕ) where
           → LearnsOf pages (suc n) (Some entry) (newer (newest pages r.file r.page n) placed)
       stays_newest entry less says = subst (λ b. LearnsOf pages (suc n) (Some entry) (newer b placed)) (sym best.1)
           (subst (λ b. LearnsOf pages (suc n) (Some entry) (cond b (Some placed) (Some best.0)))
-              (sym (le-ltb best.0.says.sequence r.sequence (let same = best.2.leads.sequence in omega arith))) says)
+          (sym (le-ltb best.0.says.sequence r.sequence (let same = best.2.leads.sequence in omega arith))) says)
 
       -- an older record
       pub older : r.sequence < e.sequence → HasLearnt pages (suc n) old
@@ -266,12 +266,14 @@ module _ (pages : Pages) (n : ℕ) where
       module _ (first : Option PageRecord) (is : first ≡ Some x.says) (twin : Option Place) (at : TwinAt first r e place twin) where
         -- the record is equal, and in another block
         copied : place.block ≢ e.place.block → SaysTheSame x.says r → TwinSays pages (suc n) x twin
-        copied apart same = subst (TwinSays pages (suc n) x) (sym (at.equal x.says is apart same))
-            (small, record {
-              within = omega (arith, place_is);
-              apart = λ block. apart (sym n_block ∙ (sym (ap (λ k. k / 64) place_is) ∙ (block ∙ e_block)));
-              same = ap (record_at pages) place_is ∙ (here ∙ ap Some (sym (same_record x.says is_newest.of_page (sym before_is.leads.sequence ∙ sequence) same)));
-            })
+        copied apart same = subst (TwinSays pages (suc n) x) (sym (at.equal x.says is apart same)) (
+          small,
+          record {
+            within = omega (arith, place_is);
+            apart = λ block. apart (sym n_block ∙ (sym (ap (λ k. k / 64) place_is) ∙ (block ∙ e_block)));
+            same = ap (record_at pages) place_is ∙ (here ∙ ap Some (sym (same_record x.says is_newest.of_page (sym before_is.leads.sequence ∙ sequence) same)));
+          },
+        )
 
         -- it is another record
         differs : (SaysTheSame x.says r → ⊥) → TwinSays pages (suc n) x twin
@@ -281,9 +283,9 @@ module _ (pages : Pages) (n : ℕ) where
         by_content : place.block ≢ e.place.block → TwinSays pages (suc n) x twin
         by_content apart = ⊎_elim
             (λ len. ⊎_elim
-                (λ bytes. copied apart (len, bytes.1))
-                (λ bytes. differs (λ same. bytes.1 same.1))
-                (bytes_tell x.says.bytes r.bytes))
+            (λ bytes. copied apart (len, bytes.1))
+            (λ bytes. differs (λ same. bytes.1 same.1))
+            (bytes_tell x.says.bytes r.bytes))
             (λ len. differs (λ same. len same.0))
             (cases_eq x.says.len r.len)
 
@@ -291,7 +293,7 @@ module _ (pages : Pages) (n : ℕ) where
       twin_says : (first : Option PageRecord) → first ≡ Some x.says → (twin : Option Place) → TwinAt first r e place twin → TwinSays pages (suc n) x twin
       twin_says first is twin at = ⊎_elim
           (λ same_block. subst (TwinSays pages (suc n) x) (sym (at.same_block same_block))
-              (twin_stays x e.twin (λ same apart. apart (n_block ∙ (same_block ∙ sym e_block))) before_is.twin))
+          (twin_stays x e.twin (λ same apart. apart (n_block ∙ (same_block ∙ sym e_block))) before_is.twin))
           (λ apart. by_content first is twin at apart)
           (cases_eq place.block e.place.block)
 

@@ -1,16 +1,16 @@
 -- Which records are needed, and whether a flash can be a disk.
-use Rattle.std.proofs.Common.{◌≡◌, ◌≢◌, ◌⊎◌, ℕ, zero, suc, ◌+◌, ◌-◌, ◌*◌, ◌/◌, ◌%◌, ◌<◌, ◌≤◌, Bool, true, false, refl, sym, ap, subst, ◌∙◌, true≢false, inl, inr, ⊎_elim, arith, add-one}
+use Rattle.std.proofs.Common.{◌≡◌, ℕ, zero, suc, ◌+◌, ◌-◌, ◌*◌, ◌%◌, ◌<◌, ◌≤◌, Bool, true, false, refl, sym, ap, subst, ◌∙◌, true≢false, ⊎_elim, arith}
 use Rattle.std.specs.Prelude.{Option, Some, None, is_some, IsTrue, ◌↔◌}
-use Rattle.std.proofs.lemmas.Bool.{cases_lt, cases_eq}
+use Rattle.std.proofs.lemmas.Bool.{cases_lt}
 use Rattle.std.proofs.lemmas.Option.{same_Some, none-some}
 use Rattle.flash_model.specs.Pages.{Pages}
 use Rattle.flash_record.specs.PageRecord.{PageRecord}
 use Rattle.flash_disk.specs.declared.table.Place.{Place}
 use Rattle.flash_disk.specs.declared.table.Newest.{Newest}
 use Rattle.flash_disk.specs.declared.table.Table.{Table}
-use Rattle.flash_disk.specs.Newest.{Placed, record_at, newest, opens_page, page_count, IsCopyOf, IsNewest, IsNewestOf, IsNeeded, NeedsPlace, IsSpare, places, page_limit, FindsSpare, IsUsable, IsUnusable, SaysUsable}
+use Rattle.flash_disk.specs.Newest.{Placed, record_at, newest, page_count, IsCopyOf, IsNewest, IsNewestOf, IsNeeded, NeedsPlace, IsSpare, places, page_limit, FindsSpare, IsUsable}
 use Rattle.flash_disk.specs.NewestLaws.{newest_is}
-use Rattle.flash_disk.specs.Known.{page_of, known, page_len, limit_of, IsEmptyTable}
+use Rattle.flash_disk.specs.Known.{page_of, known, limit_of, IsEmptyTable}
 use Rattle.flash_disk.specs.Learnt.{number, TwinSays, Learns, LearnsOf, HasLearnt, LearnsNext, LearnsAll}
 use Rattle.flash_disk.proofs.Learning.{best_of}
 
@@ -75,7 +75,7 @@ module _ (pages : Pages) (n : ℕ) where
 
       pub is_needed : e.twin ≡ None → number e.place ≡ i → NeedsPlace pages n i
       is_needed none at = (found.0, record { newest_is = subst (λ q. newest pages q.file q.page n ≡ Some found.0) (same_Some r found.0.says (sym here ∙ (ap (record_at pages) (sym at ∙ found.2.place) ∙ found.3.there))) found.1; alone = alone e.twin refl none }, sym found.2.place ∙ at)
-        
+
       pub needed_place : NeedsPlace pages n i → number e.place ≡ i
       needed_place (x, needed, at) = found.2.place ∙ (ap (λ z. z.place) (same_Some found.0 x (sym found.1 ∙ newest_here x needed at)) ∙ at)
 

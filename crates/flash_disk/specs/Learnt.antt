@@ -43,13 +43,6 @@ pub record HasLearnt (pages : Pages) (n : ℕ) (table : Table) : Type 0 where
   pub room : HasRoom table
   pub fits : page_len table ≤ limit_of table
 
--- what is known of a page leads to its newest record, and nothing is known where there is none
-abbrev pub LeadsOf : Pages → ℕ → Option Newest → Option Placed → Type 0
-LeadsOf pages blocks None None = Unit {0}
-LeadsOf pages blocks None (Some x) = ⊥
-LeadsOf pages blocks (Some entry) None = ⊥
-LeadsOf pages blocks (Some entry) (Some x) = (entry.place.block < blocks) × LeadsTo pages entry x
-
 -- one place more is learnt, or there are more pages than there is room for
 abbrev pub LearnsNext : Pages → ℕ → Table → Table → Bool → Type 0
 LearnsNext pages n old new true = HasLearnt pages n new

@@ -1,11 +1,11 @@
 -- That the newest record of a page is the one with the greatest number, and of those the first.
 use Rattle.std.specs.Prelude.{◌≡◌, ◌⊎◌, ℕ, zero, suc, ◌<◌, ◌≤◌, Bool, true, false, cond, Option, Some, None, nat_lt}
 use Rattle.std.proofs.Common.{refl, sym, ap, subst, ◌∙◌, inl, inr, ⊎_elim, arith, true≢false}
-use Rattle.std.proofs.lemmas.Bool.{lt-ltb, ltb-true, ltb-false, cases_lt}
+use Rattle.std.proofs.lemmas.Bool.{ltb-true, ltb-false, cases_lt}
 use Rattle.std.proofs.lemmas.Option.{same_Some, none-some}
 use Rattle.flash_model.specs.Pages.{Pages}
 use Rattle.flash_record.specs.PageRecord.{PageRecord}
-use Rattle.flash_disk.specs.Newest.{Placed, record_at, is_of, newer, with_record, newest, IsNewest, HasNone, IsNewestOf}
+use Rattle.flash_disk.specs.Newest.{Placed, record_at, is_of, newer, with_record, newest, IsNewest, IsNewestOf}
 
 below_suc : (j n : ℕ) → j < suc n → (j < n) ⊎ (j ≡ n)
 below_suc j n within = ⊎_elim inl (λ past. inr (let e : j ≡ n = omega arith in e)) (cases_lt j n)
@@ -44,7 +44,7 @@ module _ (pages : Pages) (file page n : ℕ) where
     most = λ j q within is of_q. ⊎_elim
         (λ below. (let lt = less j q below is of_q in omega arith))
         (λ last. (let same : r ≡ q = same_Some r q (sym here ∙ subst (λ k. record_at pages k ≡ Some q) last is) in
-            let e : r.sequence ≡ q.sequence = ap (λ z. z.sequence) same in omega arith))
+        let e : r.sequence ≡ q.sequence = ap (λ z. z.sequence) same in omega arith))
         (below_suc j n within);
     first = less;
   }
@@ -58,7 +58,7 @@ module _ (pages : Pages) (file page n : ℕ) where
     most = λ j q within is of_q. ⊎_elim
         (λ below. is_newest.most j q below is of_q)
         (λ last. (let same : r ≡ q = same_Some r q (sym here ∙ subst (λ k. record_at pages k ≡ Some q) last is) in
-            let e : r.sequence ≡ q.sequence = ap (λ z. z.sequence) same in omega arith))
+        let e : r.sequence ≡ q.sequence = ap (λ z. z.sequence) same in omega arith))
         (below_suc j n within);
     first = is_newest.first;
   }

@@ -167,7 +167,7 @@ impl<F: Flash> FlashDisk<F> {
         ensures spare { IsTrue F.told
             → HasLearnt (F.medium self.old.flash).state.pages (places (F.medium self.old.flash).blocks) self.old.table
             → IfOk result (λ spare. IsTrue spare
-                ↔ IsSpare (F.medium self.old.flash).state.pages (places (F.medium self.old.flash).blocks) block) }
+            ↔ IsSpare (F.medium self.old.flash).state.pages (places (F.medium self.old.flash).blocks) block) }
     {
         for page in 0..BLOCK_PAGES {
             if self.is_needed(Place { block, page })? {
@@ -188,7 +188,7 @@ impl<F: Flash> FlashDisk<F> {
         ensures needed { IsTrue F.told
             → HasLearnt (F.medium self.old.flash).state.pages (places (F.medium self.old.flash).blocks) self.old.table
             → IfOk result (λ needed. IsTrue needed
-                ↔ NeedsPlace (F.medium self.old.flash).state.pages (places (F.medium self.old.flash).blocks) (number place)) }
+            ↔ NeedsPlace (F.medium self.old.flash).state.pages (places (F.medium self.old.flash).blocks) (number place)) }
     {
         let mut page = BLANK_PAGE;
         self.read_page(place, &mut page)?;

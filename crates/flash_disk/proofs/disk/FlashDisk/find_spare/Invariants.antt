@@ -1,4 +1,4 @@
-use Rattle.std.proofs.Common.{◌≡◌, ℕ, ◌<◌, ◌≤◌, ◌+◌, ◌*◌, true}
+use Rattle.std.proofs.Common.{◌≡◌, ℕ, ◌<◌, ◌≤◌, true}
 use Rattle.flash_disk.specs.Newest.{IsSpare, places}
 use Rattle.flash_disk.specs.Learnt.{HasLearnt}
 use Rattle.flash_disk.proofs.disk.FlashDisk.find_spare.Given as goal
@@ -9,4 +9,4 @@ invariant-loop-block g l = ((g.F.Flash.medium l.initial.self.flash).faults ≤ (
     × ((g.F.Flash.medium l.self.flash).blocks ≡ (g.F.Flash.medium l.initial.self.flash).blocks)
     × (l.self.table ≡ l.initial.self.table)
     × (g.F.Flash.told ≡ true → HasLearnt (g.F.Flash.medium l.initial.self.flash).state.pages (places l.blocks) l.initial.self.table
-        → (b : ℕ) → b < l.block → IsSpare (g.F.Flash.medium l.initial.self.flash).state.pages (places l.blocks) b → ⊥)
+    → (b : ℕ) → b < l.block → IsSpare (g.F.Flash.medium l.initial.self.flash).state.pages (places l.blocks) b → ⊥)

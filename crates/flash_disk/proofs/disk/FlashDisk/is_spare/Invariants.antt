@@ -9,4 +9,4 @@ invariant-loop-page g l = ((g.F.Flash.medium l.initial.self.flash).faults ≤ (g
     × ((g.F.Flash.medium l.self.flash).blocks ≡ (g.F.Flash.medium l.initial.self.flash).blocks)
     × (l.self.table ≡ l.initial.self.table)
     × (g.F.Flash.told ≡ true → HasLearnt (g.F.Flash.medium l.initial.self.flash).state.pages (places (g.F.Flash.medium l.initial.self.flash).blocks) l.initial.self.table
-        → (p : ℕ) → p < l.page → NeedsPlace (g.F.Flash.medium l.initial.self.flash).state.pages (places (g.F.Flash.medium l.initial.self.flash).blocks) (64 * l.block + p) → ⊥)
+    → (p : ℕ) → p < l.page → NeedsPlace (g.F.Flash.medium l.initial.self.flash).state.pages (places (g.F.Flash.medium l.initial.self.flash).blocks) (64 * l.block + p) → ⊥)

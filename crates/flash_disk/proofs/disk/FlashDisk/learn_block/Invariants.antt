@@ -9,4 +9,4 @@ invariant-loop-page g l = ((g.F.Flash.medium l.initial.self.flash).faults ≤ (g
     × ((g.F.Flash.medium l.self.flash).blocks ≡ (g.F.Flash.medium l.initial.self.flash).blocks)
     × (limit_of l.self.table ≡ limit_of l.initial.self.table)
     × (g.F.Flash.told ≡ true → HasLearnt (g.F.Flash.medium l.initial.self.flash).state.pages (64 * l.block) l.initial.self.table
-        → HasLearnt (g.F.Flash.medium l.initial.self.flash).state.pages (64 * l.block + l.page) l.self.table)
+    → HasLearnt (g.F.Flash.medium l.initial.self.flash).state.pages (64 * l.block + l.page) l.self.table)

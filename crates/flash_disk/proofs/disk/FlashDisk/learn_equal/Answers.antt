@@ -1,4 +1,4 @@
-use Rattle.std.proofs.Common.{◌≡◌, ℕ, ap, refl, sym, ◌∙◌, subst, arith, ◌<◌, Some, None}
+use Rattle.std.proofs.Common.{◌≡◌, ap, refl, sym, ◌∙◌, arith, ◌<◌, Some}
 use Rattle.flash_record.specs.PageRecord.{record_in}
 use Rattle.flash_record.specs.Stated.{stated}
 use Rattle.flash_disk.specs.Newest.{record_at}
@@ -19,8 +19,8 @@ returns-clause-learns g c told learnt here =
     let within : e.place.block < (g.F.Flash.medium c.args.self.now.flash).blocks = (let lt = c.requires.block in omega (arith, block, lt)) in
     let small = old_small pages n r here old e learnt is in
     let first : record_in c.read_page.new.out ≡ record_at pages (number e.place) = ap record_in (c.in_ok-read_page.ensures.bytes told within small)
-        ∙ sym (record_at_place pages e.place.block e.place.page small) in
+    ∙ sym (record_at_place pages e.place.block e.place.page small) in
     put_learns pages n r here old c.read_page.new.self.table c.put.new.self c.args.key (record e { twin = c.twin_at.result }) c.put.result
-        c.in_ok-read_page.ensures.table c.requires.key learnt
-        (equal pages n r here old e learnt is c.args.place refl c.requires.page c.requires.sequence (record_in c.read_page.new.out) first c.twin_at.result c.twin_at.ensures)
-        c.put.ensures.full c.put.ensures.put
+    c.in_ok-read_page.ensures.table c.requires.key learnt
+    (equal pages n r here old e learnt is c.args.place refl c.requires.page c.requires.sequence (record_in c.read_page.new.out) first c.twin_at.result c.twin_at.ensures)
+    c.put.ensures.full c.put.ensures.put

@@ -1,4 +1,4 @@
-use Rattle.std.proofs.Common.{◌≡◌, ◌≤◌, ◌+◌, ◌-◌, length}
+use Rattle.std.proofs.Common.{◌≤◌, ◌+◌, ◌-◌, length}
 use Rattle.flash_disk.proofs.disk.FlashDisk.read_pages.Given as goal
 
 abbrev pub decreases-loop-done : goal.decreases-loop-done
