@@ -117,5 +117,5 @@ unfolding names_differ
 counted ls =
     let laws = eq_by_cmp_equiv nat_list_cmp_total in
     decided (all_differ (names ls)) (length (named ls)) (length ls)
-      (λ h. as_many ls ∙ distinct_count-from_IsDistinct laws (names ls) (distinct (names ls) h) ∙ length-names ls)
-      (λ h. differ (names ls) (IsDistinct-from_count laws (names ls) (sym (as_many ls) ∙ h ∙ sym (length-names ls))))
+    (λ h. as_many ls ∙ distinct_count-from_IsDistinct laws (names ls) (distinct (names ls) h) ∙ length-names ls)
+    (λ h. differ (names ls) (IsDistinct-from_count laws (names ls) (sym (as_many ls) ∙ h ∙ sym (length-names ls))))

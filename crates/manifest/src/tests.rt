@@ -1,10 +1,14 @@
 //! Manifests and the least rule that each breaks, with 0 where it breaks none; and what some of them say.
 
+ghost use Rattle.std.specs.Prelude.{IfOk};
+ghost use Rattle.deployment_model.specs.Conditions.{IsDeployment};
+ghost use Rattle.deployment_model.specs.Data.{deployment_data};
+
 use crate::{ManifestError, read_manifest};
 use deployment_model::{
     CollectionStrategy, Deployment, ElementConfig, ElementStrategy, StorageConfig,
 };
-use per_base::{Scope, StoreKind};
+use per_base::{Name, Scope, StoreKind};
 use std::alloc::Global;
 use std::process::Abort;
 use std::test::Fail;
@@ -65,7 +69,7 @@ const RULE_3: [(&str, u32); 7] = [
 ];
 
 /// Rule 4.
-const RULE_4: [(&str, u32); 15] = [
+const RULE_4: [(&str, u32); 17] = [
     ("{}", 4),
     ("{\"version\":0}", 4),
     ("{\"x\":1}", 4),
@@ -81,6 +85,8 @@ const RULE_4: [(&str, u32); 15] = [
     ("{\"version\":0,\"version\":1}", 0),
     ("{\"\\u0076ersion\":1}", 0),
     ("{\"version\":4294967295}", 0),
+    ("{\"version\":0", 2),
+    ("[{\"version\":0}]", 3),
 ];
 
 /// Rule 5.
@@ -99,15 +105,19 @@ const RULE_5: [(&str, u32); 8] = [
 ];
 
 /// Rule 6.
-const RULE_6: [(&str, u32); 4] = [
+const RULE_6: [(&str, u32); 5] = [
     ("{\"version\":1,\"x\":1}", 6),
     ("{\"version\":1,\"Version\":1}", 6),
     ("{\"version\":1,\"name\":\"a\"}", 6),
     ("{\"version\":1,\"fileStorages\":1,\"x\":1}", 5),
+    (
+        "{\"fileStorages\":[],\"version\":1,\"keyValueStorages\":[]}",
+        0,
+    ),
 ];
 
 /// Rule 7.
-const RULE_7: [(&str, u32); 5] = [
+const RULE_7: [(&str, u32); 7] = [
     (
         "{\"version\":1,\"keyValueStorages\":[{\"name\":\"s0\",\"maximumAllowedSize\":1},{\"name\":\"s1\",\"maximumAllowedSize\":1},{\"name\":\"s2\",\"maximumAllowedSize\":1},{\"name\":\"s3\",\"maximumAllowedSize\":1},{\"name\":\"s4\",\"maximumAllowedSize\":1},{\"name\":\"s5\",\"maximumAllowedSize\":1},{\"name\":\"s6\",\"maximumAllowedSize\":1},{\"name\":\"s7\",\"maximumAllowedSize\":1},{\"name\":\"s8\",\"maximumAllowedSize\":1},{\"name\":\"s9\",\"maximumAllowedSize\":1},{\"name\":\"s10\",\"maximumAllowedSize\":1},{\"name\":\"s11\",\"maximumAllowedSize\":1},{\"name\":\"s12\",\"maximumAllowedSize\":1},{\"name\":\"s13\",\"maximumAllowedSize\":1},{\"name\":\"s14\",\"maximumAllowedSize\":1},{\"name\":\"s15\",\"maximumAllowedSize\":1},{\"name\":\"s16\",\"maximumAllowedSize\":1}]}",
         7,
@@ -127,6 +137,14 @@ const RULE_7: [(&str, u32); 5] = [
     (
         "{\"version\":1,\"keyValueStorages\":[{\"name\":\"s0\"},{\"name\":\"s1\"},{\"name\":\"s2\"},{\"name\":\"s3\"},{\"name\":\"s4\"},{\"name\":\"s5\"},{\"name\":\"s6\"},{\"name\":\"s7\"},{\"name\":\"s8\"},{\"name\":\"s9\"},{\"name\":\"s10\"},{\"name\":\"s11\"},{\"name\":\"s12\"},{\"name\":\"s13\"},{\"name\":\"s14\"},{\"name\":\"s15\"}]}",
         0,
+    ),
+    (
+        "{\"version\":1,\"keyValueStorages\":[{\"name\":\"k0\"},{\"name\":\"k1\"},{\"name\":\"k2\"},{\"name\":\"k3\"},{\"name\":\"k4\"},{\"name\":\"k5\"},{\"name\":\"k6\"},{\"name\":\"k7\"}],\"fileStorages\":[{\"name\":\"f0\"},{\"name\":\"f1\"},{\"name\":\"f2\"},{\"name\":\"f3\"},{\"name\":\"f4\"},{\"name\":\"f5\"},{\"name\":\"f6\"},{\"name\":\"f7\"}]}",
+        0,
+    ),
+    (
+        "{\"version\":1,\"keyValueStorages\":[{\"name\":\"k0\"},{\"name\":\"k1\"},{\"name\":\"k2\"},{\"name\":\"k3\"},{\"name\":\"k4\"},{\"name\":\"k5\"},{\"name\":\"k6\"},{\"name\":\"k7\"}],\"fileStorages\":[{\"name\":\"f0\"},{\"name\":\"f1\"},{\"name\":\"f2\"},{\"name\":\"f3\"},{\"name\":\"f4\"},{\"name\":\"f5\"},{\"name\":\"f6\"},{\"name\":\"f7\"},{\"name\":\"f8\"}]}",
+        7,
     ),
 ];
 
@@ -401,7 +419,7 @@ const RULE_16: [(&str, u32); 9] = [
 ];
 
 /// Rule 17.
-const RULE_17: [(&str, u32); 13] = [
+const RULE_17: [(&str, u32); 14] = [
     (
         "{\"version\":1,\"fileStorages\":[{\"name\":\"a\",\"redundancy\":{\"m\":3,\"n\":2}}]}",
         17,
@@ -454,6 +472,10 @@ const RULE_17: [(&str, u32); 13] = [
         "{\"version\":1,\"fileStorages\":[{\"name\":\"a\",\"redundancy\":{\"m\":7,\"n\":7}}]}",
         0,
     ),
+    (
+        "{\"version\":1,\"fileStorages\":[{\"name\":\"a\",\"redundancy\":{\"m\":1,\"n\":null}}]}",
+        17,
+    ),
 ];
 
 /// Rule 18.
@@ -505,7 +527,7 @@ const RULE_19: [(&str, u32); 6] = [
 ];
 
 /// Rule 20.
-const RULE_20: [(&str, u32); 7] = [
+const RULE_20: [(&str, u32); 9] = [
     (
         "{\"version\":1,\"keyValueStorages\":[{\"name\":\"a\",\"keyValuePairs\":[{\"type\":\"u8\"}]}]}",
         20,
@@ -533,6 +555,14 @@ const RULE_20: [(&str, u32); 7] = [
     (
         "{\"version\":1,\"keyValueStorages\":[{\"name\":\"a\",\"keyValuePairs\":[{\"name\":\"k\",\"type\":\"u8\"}]},{\"name\":\"b\",\"keyValuePairs\":[{\"name\":\"k\",\"type\":\"u8\"}]}]}",
         0,
+    ),
+    (
+        "{\"version\":1,\"keyValueStorages\":[{\"name\":\"a\",\"keyValuePairs\":[{\"name\":\"\\u0000\",\"type\":\"u8\"}]}]}",
+        20,
+    ),
+    (
+        "{\"version\":1,\"fileStorages\":[{\"name\":\"a\",\"files\":[{\"name\":\"k\\u0000\"}]}]}",
+        20,
     ),
 ];
 
@@ -575,7 +605,7 @@ const RULE_21: [(&str, u32); 8] = [
 /// Rule 22.
 const RULE_22: [(&str, u32); 14] = [
     (
-        "{\"version\":1,\"keyValueStorages\":[{\"name\":\"a\",\"keyValuePairs\":[{\"name\":\"home\",\"type\":\"u16\",\"initial\":\"u8:1\"}]}]}",
+        "{\"version\":1,\"keyValueStorages\":[{\"name\":\"fav\",\"keyValuePairs\":[{\"name\":\"home\",\"type\":\"u16\",\"initial\":\"u8:1\"}]}]}",
         22,
     ),
     (
@@ -711,7 +741,9 @@ fn answer_each(rt: &impl Abort, alloc: Global, rows: &[(&str, u32)]) -> Result<(
     Ok(())
 }
 
-fn deployment(alloc: Global, text: &str) -> Result<Deployment, Fail> {
+fn deployment(alloc: Global, text: &str) -> Result<Deployment, Fail>
+    ensures { IfOk result (λ d. IsDeployment (deployment_data d)) }
+{
     Ok(read_manifest(alloc, text.as_bytes())?)
 }
 
@@ -759,6 +791,7 @@ fn rule_1(rt: HostRuntime) -> Result<(), Fail> {
     let alloc = rt.alloc();
     assert_eq!(rt; rule_of(alloc, padded(alloc, 65_537)?.as_bytes())?, 1);
     assert_eq!(rt; rule_of(alloc, padded(alloc, 65_536)?.as_bytes())?, 0);
+    // no JSON either
     let zeros = vec![in alloc; 0u8; 65_537]?;
     assert_eq!(rt; rule_of(alloc, zeros.as_slice())?, 1);
     Ok(())
@@ -800,6 +833,94 @@ fn as_many_keys_as_may_be(rt: HostRuntime) -> Result<(), Fail> {
     let alloc = rt.alloc();
     assert_eq!(rt; rule_of(alloc, many_keys(alloc, 1024)?.as_bytes())?, 0);
     assert_eq!(rt; rule_of(alloc, many_keys(alloc, 1025)?.as_bytes())?, 18);
+    Ok(())
+}
+
+/// A storage of files with this many files.
+fn many_files(alloc: Global, count: usize) -> Result<String, Fail> {
+    let mut text = String::from_str(
+        alloc,
+        "{\"version\":1,\"fileStorages\":[{\"name\":\"a\",\"files\":[",
+    )?;
+    for number in 0..count {
+        if number > 0 {
+            text.push(',')?;
+        }
+        text.push_str(format!(in alloc; "{{\"name\":\"{number}\"}}")?.as_str())?;
+    }
+    text.push_str("]}]}")?;
+    Ok(text)
+}
+
+#[test]
+fn as_many_files_as_may_be(rt: HostRuntime) -> Result<(), Fail> {
+    let alloc = rt.alloc();
+    assert_eq!(rt; rule_of(alloc, many_files(alloc, 1024)?.as_bytes())?, 0);
+    assert_eq!(rt; rule_of(alloc, many_files(alloc, 1025)?.as_bytes())?, 18);
+    Ok(())
+}
+
+/// A manifest with an unknown member: this many lists, one in another.
+fn nested(alloc: Global, lists: usize) -> Result<String, Fail> {
+    let mut text = String::from_str(alloc, "{\"version\":1,\"x\":")?;
+    for _ in 0..lists {
+        text.push('[')?;
+    }
+    for _ in 0..lists {
+        text.push(']')?;
+    }
+    text.push('}')?;
+    Ok(text)
+}
+
+#[test]
+fn as_deep_as_may_be(rt: HostRuntime) -> Result<(), Fail> {
+    let alloc = rt.alloc();
+    assert_eq!(rt; rule_of(alloc, nested(alloc, 126)?.as_bytes())?, 6);
+    assert_eq!(rt; rule_of(alloc, nested(alloc, 127)?.as_bytes())?, 2);
+    Ok(())
+}
+
+/// A key that starts with a list of this many numbers. Encoded they have 8 bytes each behind 6.
+fn numbers(alloc: Global, count: usize) -> Result<String, Fail> {
+    let mut text = String::from_str(
+        alloc,
+        "{\"version\":1,\"keyValueStorages\":[{\"name\":\"a\",\"keyValuePairs\":[{\"name\":\"k\",\"type\":\"list<u64>\",\"initial\":\"list<u64>[u64:0",
+    )?;
+    for _ in 1..count {
+        text.push_str(",u64:0")?;
+    }
+    text.push_str("]\"}]}]}")?;
+    Ok(text)
+}
+
+#[test]
+fn as_long_as_may_be_encoded(rt: HostRuntime) -> Result<(), Fail> {
+    let alloc = rt.alloc();
+    assert_eq!(rt; rule_of(alloc, numbers(alloc, 8191)?.as_bytes())?, 0);
+    assert_eq!(rt; rule_of(alloc, numbers(alloc, 8192)?.as_bytes())?, 22);
+    Ok(())
+}
+
+#[test]
+fn no_storage(rt: HostRuntime) -> Result<(), Fail> {
+    let read = deployment(rt.alloc(), "{\"version\":1}")?;
+    assert_eq!(rt; read.version, 1);
+    assert_eq!(rt; read.storages.as_slice().len(), 0);
+    Ok(())
+}
+
+#[test]
+fn storages_by_name(rt: HostRuntime) -> Result<(), Fail> {
+    let alloc = rt.alloc();
+    let read = deployment(alloc, UNSORTED)?;
+    let files = Name::new(alloc, "b")?;
+    assert_eq!(rt; read.number(&files), Some(1));
+    let found = read.storage(&files).ok_or("no such storage")?;
+    assert_eq!(rt; found.kind, StoreKind::Files);
+    let other = Name::new(alloc, "d")?;
+    assert_eq!(rt; read.number(&other), None);
+    assert!(rt; read.storage(&other).is_none());
     Ok(())
 }
 
