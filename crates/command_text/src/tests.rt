@@ -1,6 +1,6 @@
 //! Whole tables of lines and of replies, and what no clause says: that a call succeeds where there is memory.
 
-ghost use Rattle.std.specs.Prelude.{IsSome};
+ghost use Rattle.std.specs.Prelude.{◌≤◌, IsSome};
 ghost use Rattle.per_base.specs.Errors.{error_number};
 ghost use Rattle.command_text.specs.Replies.{HasText};
 
@@ -12,7 +12,7 @@ use per_base::{
     Bytes, Cause, FileInfo, Holder, Limit, Name, Numbers, OpenKind, OpenMode, Origin, PerError,
     Report, ReportKind, Sequence, Unit, ValueText,
 };
-use std::alloc::Global;
+use std::alloc::{AllocError, Global};
 use std::test::Fail;
 use value_model::{Node, Value};
 
@@ -96,6 +96,10 @@ fn one_line_of_each_call(rt: HostRuntime) -> Result<(), Fail> {
         "0 cat s a/B-9_.",
         "0 put s f ",
         "0 get end none",
+        "0 get -x 0",
+        "0 get-as s k list<list<list<list<list<list<list<u8>>>>>>>",
+        "0 install  {\"a\" : 1 } \r",
+        "0 set s k text:\"a\rb\"",
         "now 18446744073709551615",
     ] {
         assert!(rt; is_event(alloc, line), "{line}");
@@ -192,6 +196,76 @@ fn bad_lines(rt: HostRuntime) -> Result<(), Fail> {
         assert!(rt; is_bad(alloc, line.as_bytes()), "{line}");
     }
     assert!(rt; is_bad(alloc, &[b'0', b' ', b'k', b'e', b'y', b's', b' ', 255]));
+    for line in [
+        "0 set s k list<list<list<list<list<list<list<list<u8>>>>>>>>[]",
+        "0 set s k text:\"a\"\r",
+        "0 set s k text:a",
+        "0 set s k",
+    ] {
+        assert!(rt; is_bad(alloc, line.as_bytes()), "{line}");
+    }
+    Ok(())
+}
+
+/// The line with these bytes behind it.
+fn with_bytes(alloc: Global, front: &str, bytes: &[u8]) -> Result<Vec<u8>, AllocError> {
+    let mut line = front.as_bytes().to_vec(alloc)?;
+    line.extend_from_slice(bytes)?;
+    Ok(line)
+}
+
+#[test]
+fn bytes_that_are_no_text(rt: HostRuntime) -> Result<(), Fail> {
+    let alloc = rt.alloc();
+    let text = with_bytes(alloc, "0 set s k text:", &[b'"', 255, b'"'])?;
+    assert!(rt; is_bad(alloc, &text));
+    let json = with_bytes(alloc, "0 install ", &[255])?;
+    assert!(rt; matches!(parse_line(alloc, &json), Ok(Line::Event(_))));
+    Ok(())
+}
+
+/// The line with this many times the letter a behind it, and the end.
+fn with_letters(
+    alloc: Global,
+    front: &str,
+    count: usize,
+    end: &str,
+) -> Result<Vec<u8>, AllocError> {
+    let letters = vec![in alloc; b'a'; count]?;
+    let mut line = with_bytes(alloc, front, &letters)?;
+    line.extend_from_slice(end.as_bytes())?;
+    Ok(line)
+}
+
+#[test]
+fn names_have_255_bytes_at_most(rt: HostRuntime) -> Result<(), Fail> {
+    let alloc = rt.alloc();
+    let longest = with_letters(alloc, "0 get s ", 255, "")?;
+    assert!(rt; matches!(parse_line(alloc, &longest), Ok(Line::Event(_))));
+    let longer = with_letters(alloc, "0 get s ", 256, "")?;
+    assert!(rt; is_bad(alloc, &longer));
+    Ok(())
+}
+
+/// A text of 65,531 bytes is a value of 65,536.
+#[test]
+fn values_have_65536_bytes_at_most(rt: HostRuntime) -> Result<(), Fail> {
+    let alloc = rt.alloc();
+    let longest = with_letters(alloc, "0 set s k text:\"", 65_531, "\"")?;
+    assert!(rt; matches!(parse_line(alloc, &longest), Ok(Line::Event(_))));
+    let longer = with_letters(alloc, "0 set s k text:\"", 65_532, "\"")?;
+    assert!(rt; is_bad(alloc, &longer));
+    Ok(())
+}
+
+/// The call and the manifest have 262,144 bytes, and one more.
+#[test]
+fn an_event_has_262144_bytes_at_most(rt: HostRuntime) -> Result<(), Fail> {
+    let alloc = rt.alloc();
+    let longest = with_letters(alloc, "0 install ", 262_134, "")?;
+    assert!(rt; matches!(parse_line(alloc, &longest), Ok(Line::Event(_))));
+    let longer = with_letters(alloc, "0 install ", 262_135, "")?;
+    assert!(rt; is_bad(alloc, &longer));
     Ok(())
 }
 
@@ -246,6 +320,82 @@ fn is_move(line: &Line) -> bool {
 fn a_move_in_its_order(rt: HostRuntime) -> Result<(), Fail> {
     let line = parse_line(rt.alloc(), b"1 move s 2 current -5")?;
     assert!(rt; is_move(&line));
+    Ok(())
+}
+
+fn is_install(line: &Line, json: &[u8]) -> bool {
+    match line {
+        Line::Event(Event::App(0, Call::Install(manifest))) => manifest.as_slice() == json,
+        _ => false,
+    }
+}
+
+#[test]
+fn spaces_of_a_manifest_stay(rt: HostRuntime) -> Result<(), Fail> {
+    let line = parse_line(rt.alloc(), b"0 install  {\"a\" : 1 } \r")?;
+    assert!(rt; is_install(&line, b" {\"a\" : 1 } \r"));
+    Ok(())
+}
+
+fn is_put(line: &Line, bytes: &[u8]) -> bool {
+    match line {
+        Line::Event(Event::App(7, Call::Put(storage, file, content))) => {
+            storage.as_str() == "-x" && file.as_str() == "f" && content.as_slice() == bytes
+        }
+        _ => false,
+    }
+}
+
+#[test]
+fn bytes_in_their_order(rt: HostRuntime) -> Result<(), Fail> {
+    let alloc = rt.alloc();
+    let some = parse_line(alloc, b"7 put -x f 000aff")?;
+    assert!(rt; is_put(&some, &[0, 10, 255]));
+    let none = parse_line(alloc, b"7 put -x f ")?;
+    assert!(rt; is_put(&none, &[]));
+    Ok(())
+}
+
+fn is_number(line: &Line) -> bool {
+    match line {
+        Line::Event(Event::App(0, Call::Set(storage, key, value))) => {
+            storage.as_str() == "fav"
+                && key.as_str() == "home"
+                && matches!(value.node(), Node::U16(9))
+        }
+        _ => false,
+    }
+}
+
+#[test]
+fn a_value_in_its_place(rt: HostRuntime) -> Result<(), Fail> {
+    let line = parse_line(rt.alloc(), b"0 set fav home u16:9")?;
+    assert!(rt; is_number(&line));
+    Ok(())
+}
+
+fn is_reading(line: &Line) -> bool {
+    match line {
+        Line::Event(Event::App(2, Call::Read(storage, handle, count))) => {
+            storage.as_str() == "s"
+                && *handle == 4_294_967_295
+                && *count == 18_446_744_073_709_551_615
+        }
+        _ => false,
+    }
+}
+
+#[test]
+fn a_handle_and_a_count(rt: HostRuntime) -> Result<(), Fail> {
+    let alloc = rt.alloc();
+    let line = parse_line(alloc, b"2 read s 4294967295 18446744073709551615")?;
+    assert!(rt; is_reading(&line));
+    assert!(rt;
+        matches!(
+            parse_line(alloc, b"now 1060"),
+            Ok(Line::Event(Event::Now(1060)))
+        )
+    );
     Ok(())
 }
 
@@ -450,6 +600,222 @@ fn errors_with_numbers(rt: HostRuntime) -> Result<(), Fail> {
 }
 
 #[test]
+fn errors_that_carry_nothing(rt: HostRuntime) -> Result<(), Fail> {
+    let alloc = rt.alloc();
+    assert!(rt;
+        is_error(
+            alloc,
+            PerError::StorageNotFound,
+            "error 1 StorageNotFound\n"
+        )
+    );
+    assert!(rt;
+        is_error(
+            alloc,
+            PerError::IllegalWriteAccess,
+            "error 3 IllegalWriteAccess\n"
+        )
+    );
+    assert!(rt;
+        is_error(
+            alloc,
+            PerError::PhysicalStorageFailure,
+            "error 4 PhysicalStorageFailure\n"
+        )
+    );
+    assert!(rt;
+        is_error(
+            alloc,
+            PerError::InitValueNotAvailable,
+            "error 8 InitValueNotAvailable\n"
+        )
+    );
+    assert!(rt; is_error(alloc, PerError::FileNotFound, "error 11 FileNotFound\n"));
+    assert!(rt;
+        is_error(
+            alloc,
+            PerError::InvalidPosition,
+            "error 12 InvalidPosition\n"
+        )
+    );
+    assert!(rt; is_error(alloc, PerError::IsEof, "error 13 IsEof\n"));
+    assert!(rt;
+        is_error(
+            alloc,
+            PerError::InvalidOpenMode,
+            "error 14 InvalidOpenMode\n"
+        )
+    );
+    assert!(rt; is_error(alloc, PerError::InvalidSize, "error 15 InvalidSize\n"));
+    Ok(())
+}
+
+#[test]
+fn errors_of_deployments(rt: HostRuntime) -> Result<(), Fail> {
+    let alloc = rt.alloc();
+    assert!(rt; is_error(alloc, PerError::NotInstalled, "error 20 NotInstalled\n"));
+    assert!(rt;
+        is_error(
+            alloc,
+            PerError::AlreadyInstalled,
+            "error 21 AlreadyInstalled\n"
+        )
+    );
+    assert!(rt;
+        is_error(
+            alloc,
+            PerError::NoPreviousVersion,
+            "error 23 NoPreviousVersion\n"
+        )
+    );
+    assert!(rt; is_error(alloc, PerError::NotOpen, "error 24 NotOpen\n"));
+    assert!(rt;
+        is_error(
+            alloc,
+            PerError::IllegalReadAccess,
+            "error 26 IllegalReadAccess\n"
+        )
+    );
+    let unit = Unit::Whole(name(alloc, "fav")?);
+    assert!(rt;
+        is_error(
+            alloc,
+            PerError::IntegrityCorrupted { unit },
+            "error 5 IntegrityCorrupted fav\n"
+        )
+    );
+    Ok(())
+}
+
+fn is_limit(alloc: Global, which: Limit, text: &str) -> bool {
+    is_error(alloc, PerError::LimitReached { which }, text)
+}
+
+#[test]
+fn limits(rt: HostRuntime) -> Result<(), Fail> {
+    let alloc = rt.alloc();
+    assert!(rt; is_limit(alloc, Limit::Elements, "error 25 LimitReached elements\n"));
+    assert!(rt; is_limit(alloc, Limit::Handles, "error 25 LimitReached handles\n"));
+    assert!(rt;
+        is_limit(
+            alloc,
+            Limit::ValueBytes,
+            "error 25 LimitReached value-bytes\n"
+        )
+    );
+    assert!(rt;
+        is_limit(
+            alloc,
+            Limit::ValueDepth,
+            "error 25 LimitReached value-depth\n"
+        )
+    );
+    assert!(rt;
+        is_limit(
+            alloc,
+            Limit::Generations,
+            "error 25 LimitReached generations\n"
+        )
+    );
+    Ok(())
+}
+
+fn is_info(alloc: Global, creation: Cause, modification: Cause, text: &str) -> bool {
+    let info = FileInfo {
+        created: 0,
+        modified: 50,
+        accessed: 50,
+        creation,
+        modification,
+    };
+    is_answer(alloc, Answer::Info(info), text)
+}
+
+#[test]
+fn causes(rt: HostRuntime) -> Result<(), Fail> {
+    let alloc = rt.alloc();
+    assert!(rt;
+        is_info(
+            alloc,
+            Cause::Update,
+            Cause::Reset,
+            "info 0 50 50 update reset\n"
+        )
+    );
+    assert!(rt;
+        is_info(
+            alloc,
+            Cause::Recovery,
+            Cause::Update,
+            "info 0 50 50 recovery update\n"
+        )
+    );
+    Ok(())
+}
+
+fn is_report(alloc: Global, kind: ReportKind, text: &str) -> Result<bool, Fail> {
+    let report = Report {
+        kind,
+        storage: name(alloc, "cal")?,
+        element: None,
+        copies: Numbers::new(vec![in alloc; 1]?),
+    };
+    let reply = Reply {
+        reports: Sequence::new(vec![in alloc; report]?),
+        answer: Answer::Done,
+    };
+    Ok(print_reply(alloc, &reply)?.as_slice() == text.as_bytes())
+}
+
+#[test]
+fn kinds_of_reports(rt: HostRuntime) -> Result<(), Fail> {
+    let alloc = rt.alloc();
+    assert!(rt;
+        is_report(
+            alloc,
+            ReportKind::KvsFailed,
+            "report kvs-failed cal 1\nok\n"
+        )?
+    );
+    assert!(rt;
+        is_report(
+            alloc,
+            ReportKind::KeyRecovered,
+            "report key-recovered cal 1\nok\n"
+        )?
+    );
+    assert!(rt;
+        is_report(
+            alloc,
+            ReportKind::FilesRecovered,
+            "report files-recovered cal 1\nok\n"
+        )?
+    );
+    assert!(rt;
+        is_report(
+            alloc,
+            ReportKind::FilesFailed,
+            "report files-failed cal 1\nok\n"
+        )?
+    );
+    assert!(rt;
+        is_report(
+            alloc,
+            ReportKind::FileRecovered,
+            "report file-recovered cal 1\nok\n"
+        )?
+    );
+    assert!(rt;
+        is_report(
+            alloc,
+            ReportKind::FileFailed,
+            "report file-failed cal 1\nok\n"
+        )?
+    );
+    Ok(())
+}
+
+#[test]
 fn reports_come_first(rt: HostRuntime) -> Result<(), Fail> {
     let alloc = rt.alloc();
     let storage = Report {
@@ -495,5 +861,27 @@ fn the_first_generated_lines(rt: HostRuntime) -> Result<(), Fail> {
         generated_line(alloc, 2, 1_495_354_192, 2)?.as_slice(),
         b"0 set g k33 u64:1495354192".as_slice()
     );
+    Ok(())
+}
+
+fn is_generated(alloc: Global, i: u32, text: &[u8]) -> bool
+    requires first { 1 ≤ i }
+    requires last { i ≤ 8 }
+{
+    match generated_line(alloc, 8, 59_559_187, i) {
+        Ok(line) => line.as_slice() == text,
+        Err(_) => false,
+    }
+}
+
+#[test]
+fn generated_lines_of_each_kind(rt: HostRuntime) -> Result<(), Fail> {
+    let alloc = rt.alloc();
+    assert!(rt; is_generated(alloc, 3, b"0 set g k12 u64:59559187"));
+    assert!(rt; is_generated(alloc, 4, b"0 get g k12"));
+    assert!(rt; is_generated(alloc, 5, b"0 set g k12 u64:59559187"));
+    assert!(rt; is_generated(alloc, 6, b"0 remove g k12"));
+    assert!(rt; is_generated(alloc, 7, b"0 exists g k12"));
+    assert!(rt; is_generated(alloc, 8, b"0 sync g"));
     Ok(())
 }
