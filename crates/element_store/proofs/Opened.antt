@@ -68,9 +68,10 @@ full_of : (file blocks : List ℕ) (len : ℕ) (hash v : List ℕ) → counting 
 unfolding counting
 full_of file blocks len hash v counted inside long = ⊎_elim
     (λ same.
-    let j : joined file blocks len ≡ v = some_same (joined file blocks len) v (sym (cond-true (bytes_eq (sha256 (joined file blocks len)) hash) (Some (joined file blocks len)) None same) ∙ counted) in
-    (record { bytes_are = ap (joined file blocks) long ∙ j; inside = ap (within file blocks) long ∙ inside },
-    sym (ap sha256 j) ∙ (bytes_eq-Decides (sha256 (joined file blocks len)) hash).0 same))
+    let j : joined file blocks len ≡ v = some_same (joined file blocks len) v (sym (cond-true (bytes_eq (sha256 (joined file blocks len)) hash) (Some (joined file blocks len)) None same) ∙ counted) in (
+      record { bytes_are = ap (joined file blocks) long ∙ j; inside = ap (within file blocks) long ∙ inside },
+      sym (ap sha256 j) ∙ (bytes_eq-Decides (sha256 (joined file blocks len)) hash).0 same,
+    ))
     (λ differ. absurd (never (sym (cond-false (bytes_eq (sha256 (joined file blocks len)) hash) (Some (joined file blocks len)) None differ) ∙ counted)))
     (cases_Bool (bytes_eq (sha256 (joined file blocks len)) hash))
   where

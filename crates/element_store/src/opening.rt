@@ -21,7 +21,9 @@ use crate::taking::blocks_taken_by;
 use crate::writing::blocks_in_area;
 use block_files::BlockSet;
 use disk_model::Disk;
-use element_laws::{adopting_keeps, mending_keeps, places_are_clean, untouched_is_kept, use_is_adopted};
+use element_laws::{
+    adopting_keeps, mending_keeps, places_are_clean, untouched_is_kept, use_is_adopted,
+};
 use element_state::{Found, Shape, StoreError, View, survey};
 use guarded_cell::{Seen, adopt};
 use index_text::Index;
@@ -84,8 +86,21 @@ pub fn open_store<D: Disk>(
     adopting_keeps();
     mending_keeps();
     places_are_clean();
-    let Ready { seen, index, before, entries, reports, used } = prepare(alloc, disk, &shape)?;
-    let cell = adopt(alloc, disk, shape.place, seen.generation, seen.text.as_slice())?;
+    let Ready {
+        seen,
+        index,
+        before,
+        entries,
+        reports,
+        used,
+    } = prepare(alloc, disk, &shape)?;
+    let cell = adopt(
+        alloc,
+        disk,
+        shape.place,
+        seen.generation,
+        seen.text.as_slice(),
+    )?;
     mend_durably(disk, &shape, &index, before.entries.as_slice())?;
     Ok(OpenedStore {
         store: Store::new(alloc, shape, cell, index, entries, used),
@@ -129,7 +144,8 @@ fn prepare<D: Disk>(alloc: Global, disk: &mut D, shape: &Shape) -> Result<Ready,
             index,
             view,
         },
-    ) = survey(alloc, disk, shape)? else {
+    ) = survey(alloc, disk, shape)?
+    else {
         return Err(StoreError::Corrupt);
     };
     let entries = mended_entries(alloc, view.entries.as_slice())?;
