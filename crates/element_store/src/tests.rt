@@ -1,14 +1,12 @@
 //! A storage that is made on a disk in memory.
 
-ghost use Rattle.std.specs.Prelude.{◌≡◌, ◌≤◌, ◌+◌, IsTrue, IfOk, length};
+ghost use Rattle.std.specs.Prelude.{◌≡◌, ◌≤◌, ◌+◌, IsTrue, length};
 ghost use Rattle.index_text.specs.Rules.{has_info};
-ghost use Rattle.element_state.specs.Conditions.{IsShape};
-ghost use Rattle.element_store.specs.Stores.{shape_of};
 
-use crate::{Shape, Store, StoreError, create, open_store};
+use crate::{Shape, Store, StoreError, create};
 use disk_model::{MemDisk, Place};
 use guarded_cell::look;
-use per_base::{Bytes, Fresh, Name, ReportKind, Scope, StoreKind};
+use per_base::{Bytes, Fresh, Name, Scope, StoreKind};
 use std::alloc::Global;
 use std::test::Fail;
 
@@ -30,7 +28,6 @@ fn with_one(
 ) -> Result<Store, StoreError>
     requires info { IsTrue (has_info StoreKind.Keys fresh.info) }
     requires small { length fresh.name + length fresh.bytes ≤ 64 }
-    ensures { IfOk result (λ store. IsShape (shape_of store)) }
 {
     let shape = Shape {
         name: storage,
@@ -70,60 +67,5 @@ fn one_key_in_three_copies(rt: HostRuntime) -> Result<(), Fail> {
         2, 1, 1, 0, 4, 0x68, 0x6f, 0x6d, 0x65, 1, 0, 0, 0, 0, 0, 0, 0, 3, 0, 0, 0,
     ];
     assert!(rt; text.starts_with(&front));
-    Ok(())
-}
-
-// A storage of keys whose one key has a value of one byte.
-fn with_home(
-    alloc: Global,
-    disk: &mut MemDisk,
-    storage: Name,
-    name: Name,
-) -> Result<Shape, StoreError>
-    requires { length name ≤ 63 }
-    ensures { IfOk result (λ shape. IsShape shape) }
-{
-    let fresh = Fresh {
-        name,
-        info: None,
-        bytes: Bytes::new(vec![in alloc; 7]?),
-    };
-    let store = with_one(alloc, disk, storage, fresh)?;
-    Ok(store.shape)
-}
-
-#[test]
-fn a_copy_that_lacks_a_key_is_mended(rt: HostRuntime) -> Result<(), Fail> {
-    let alloc = rt.alloc();
-    let mut disk = MemDisk::new(alloc);
-    let storage = Name::new(alloc, "fav")?;
-    let home = Name::new(alloc, "home")?;
-    let shape = with_home(alloc, &mut disk, storage, home)?;
-    let again = shape.copy()?;
-    disk.spoil(1030, 0, 9);
-
-    let opened = open_store(alloc, &mut disk, shape)?;
-    assert_eq!(rt; opened.reports.len(), 1);
-    assert_eq!(rt; opened.reports[0].kind, ReportKind::KeyRecovered);
-    assert_eq!(rt; opened.reports[0].copies.as_slice(), [2].as_slice());
-    let opened = open_store(alloc, &mut disk, again)?;
-    assert!(rt; opened.reports.is_empty());
-    Ok(())
-}
-
-#[test]
-fn a_corrupt_storage_is_left_alone(rt: HostRuntime) -> Result<(), Fail> {
-    let alloc = rt.alloc();
-    let mut disk = MemDisk::new(alloc);
-    let storage = Name::new(alloc, "fav")?;
-    let home = Name::new(alloc, "home")?;
-    let shape = with_home(alloc, &mut disk, storage, home)?;
-    disk.spoil(1025, 0, 9);
-    disk.spoil(1029, 0, 9);
-    let written = disk.written();
-
-    let failed = open_store(alloc, &mut disk, shape).err();
-    assert_eq!(rt; failed, Some(StoreError::Corrupt));
-    assert_eq!(rt; disk.written(), written);
     Ok(())
 }
