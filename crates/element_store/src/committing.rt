@@ -14,12 +14,12 @@ ghost use Rattle.element_state.specs.States.{Opens};
 ghost use Rattle.element_state.specs.Kept.{KeptThroughout};
 ghost use Rattle.element_store.specs.Named.{NamesAscend};
 ghost use Rattle.element_store.specs.Changing.{IsSmallChange};
-ghost use Rattle.element_store.specs.Committing.{IsReady};
-ghost use Rattle.element_store.specs.Stores.{IsUsed, shape_of, view_in};
+ghost use Rattle.element_store.specs.Committing.{IsPrepared, IsReady};
+ghost use Rattle.element_store.specs.Stores.{IsStore, IsUsed, shape_of, view_in};
 
 use crate::changing::{Standing, plan_changes};
 use crate::creating::fresh_entry;
-use crate::jobs::write_durably;
+use crate::jobs::{Job, write_durably};
 use crate::named::{place_of, put_in, take_out};
 use crate::planning::Plan;
 use crate::spelling::{Spelled, spell};
@@ -33,7 +33,7 @@ use element_state::{Change, StoreError};
 use guarded_cell::Cell;
 use index_text::Index;
 use per_base::{Bytes, Entry, FileInfo, Name, Numbers};
-use std::alloc::Global;
+use std::alloc::{AllocError, Global};
 
 /// Why a commit gave up.
 #[derive(Debug, Drop)]
@@ -52,6 +52,13 @@ struct Ready {
     room: Vec<u8>,
     used: BlockSet,
     entries: Vec<Entry>,
+}
+
+/// What a commit needs, and the contents that it writes first.
+#[derive(Drop)]
+struct Prepared<'a> {
+    ready: Ready,
+    jobs: Vec<Job<'a>>,
 }
 
 impl Store {
@@ -162,6 +169,25 @@ impl Store {
         untouched_is_kept();
         use_is_adopted();
         contents_keep();
+        match self.prepare(changes) {
+            Err(_) => Err(StoreError::OutOfMemory),
+            Ok(prepared) => match write_durably(disk, self.shape.place, &prepared.jobs) {
+                Ok(()) => Ok(prepared.ready),
+                Err(_) => Err(StoreError::Device),
+            },
+        }
+    }
+
+    // Takes all the memory of a commit.
+    fn prepare<'a>(&'a self, changes: &'a [Change]) -> Result<Prepared<'a>, AllocError>
+        requires store { IsStore self.now }
+        requires changes { AreChanges (shape_of self.now) (view_in self.now) changes.now }
+        ensures plan { IfOk result (λ p. IsPrepared self.now changes.now p.ready.index p.ready.text p.ready.used p.jobs.items) }
+        ensures room { IfOk result (λ p. length p.ready.room.items ≡ header + length p.ready.text) }
+        ensures empty { IfOk result (λ p. p.ready.entries.items ≡ []) }
+        ensures capacity { IfOk result (λ p.
+            length (entries_of self.now) + length changes.now ≤ vec_capacity p.ready.entries) }
+    {
         let alloc = self.alloc;
         let capacity = blocks_in_area(&self.shape);
         let standing = Standing {
@@ -176,16 +202,14 @@ impl Store {
         let room = Cell::room(alloc, text.len())?;
         let used = blocks_taken_by(alloc, capacity, index.entries.as_slice())?;
         let entries = Vec::with_capacity(alloc, standing.entries.len() + changes.len())?;
-        match write_durably(disk, self.shape.place, &jobs) {
-            Ok(()) => Ok(Ready {
-                index,
-                text,
-                room,
-                used,
-                entries,
-            }),
-            Err(_) => Err(StoreError::Device),
-        }
+        let ready = Ready {
+            index,
+            text,
+            room,
+            used,
+            entries,
+        };
+        Ok(Prepared { ready, jobs })
     }
 }
 
