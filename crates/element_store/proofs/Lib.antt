@@ -20,3 +20,4 @@ pub mod Rebuilt
 pub mod TakenBlocks
 mod Standing
 mod Room
+mod Finished

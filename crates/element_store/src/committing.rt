@@ -74,6 +74,7 @@ impl Store {
     /// # Errors
     ///
     /// `OutOfMemory` hands the storage back before any call of the disk. `Device` closes it.
+    #[tactic(none)]
     pub fn commit<D: Disk>(
         self,
         disk: &mut D,
