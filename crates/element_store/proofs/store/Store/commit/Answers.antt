@@ -8,7 +8,10 @@ use Rattle.index_text.proofs.Lengths.{text_is_short}
 use Rattle.hash_guard.specs.SealedText.{header}
 use Rattle.element_state.specs.declared.shapes.Change.{Change}
 use Rattle.element_store.specs.Committing.{IsReady}
-use Rattle.std.proofs.Common.{[], refl}
+use Rattle.std.proofs.Common.{[], refl, Err}
+use Rattle.index_text.specs.declared.entries.Index.{Index}
+use Rattle.element_state.specs.Written.{IsWithin, commit_cost}
+use Rattle.element_store.specs.declared.store.Store.{Store}
 use Rattle.element_store.specs.Stores.{view_in}
 use Rattle.element_state.specs.Conditions.{AreChanges}
 use Rattle.element_state.specs.Kept.{KeptThroughout}
@@ -93,7 +96,7 @@ pub write_contents-requires-clause-changes : goal.write_contents-requires-clause
 write_contents-requires-clause-changes g c = subst (λ (cs : List Change). AreChanges c.args.self.shape (view_in c.args.self) cs) (sym c.deref.ensures.value) c.requires.changes
 
 pub returns-in-Err-OutOfMemory-clause-memory : goal.returns-in-Err-OutOfMemory-clause-memory
-returns-in-Err-OutOfMemory-clause-memory g c = (refl, c.in-Err-OutOfMemory.ensures.memory c.in-Err-OutOfMemory.field-0-is)
+returns-in-Err-OutOfMemory-clause-memory g c = (refl, c.in-Err-OutOfMemory.ensures.memory (ap Err c.in-Err-OutOfMemory.field-0-is))
 
 pub returns-in-Err-OutOfMemory-clause-cause : goal.returns-in-Err-OutOfMemory-clause-cause
 returns-in-Err-OutOfMemory-clause-cause g c = λ bad. absurd bad
@@ -141,7 +144,7 @@ pub returns-clause-used : goal.returns-clause-used
 returns-clause-used g c = ?
 
 pub returns-clause-shape : goal.returns-clause-shape
-returns-clause-shape g c = ?
+returns-clause-shape g c = ap (λ (st : Store). st.shape) c.new.ensures
 
 pub returns-clause-view : goal.returns-clause-view
 returns-clause-view g c = ?
@@ -153,13 +156,15 @@ pub returns-clause-clean : goal.returns-clause-clean
 returns-clause-clean g c = λ tells clean. (
     let ready = subst (λ (cs : List Change). IsReady g.D.Disk.told c.args.self cs (g.D.Disk.medium c.args.disk.now) (g.D.Disk.medium c.write_contents.new.disk) c.in-Ok.ready.index c.in-Ok.ready.text c.in-Ok.ready.used) c.deref.ensures.value c.in-Ok.ensures.ready in
     let prep = ready.prepared in
-    commit_clean g.D.Disk.told c.args.self c.args.changes.items prep.set prep.now c.in-Ok.ready.index ready.jobs (g.D.Disk.medium c.args.disk.now) c.requires.used prep.takes prep.plan tells (g.D.Disk.medium c.write_contents.new.disk) (g.D.Disk.medium c.write_in.new.disk) c.as_slice.result.now (c.as_slice.ensures ∙ prep.spelled) (ready.keeps tells) (ready.done tells) c.in-Ok-write_in.field-0 c.in-Ok-write_in.ensures.next (c.in-Ok-write_in.ensures.held tells) (c.in-Ok-write_in.ensures.elsewhere tells) clean)
+    commit_clean g.D.Disk.told c.args.self c.args.changes.items prep.set prep.now c.in-Ok.ready.index ready.jobs (g.D.Disk.medium c.args.disk.now) c.requires.used prep.takes prep.plan tells (g.D.Disk.medium c.write_contents.new.disk) (g.D.Disk.medium c.write_in.new.disk) c.as_slice.result.now (c.as_slice.ensures ∙ prep.spelled) (ready.keeps tells) (ready.done tells) c.in-Ok-write_in.cell c.in-Ok-write_in.ensures.next (c.in-Ok-write_in.ensures.held tells) (c.in-Ok-write_in.ensures.elsewhere tells) clean)
 
 pub returns-clause-written : goal.returns-clause-written
 returns-clause-written g c = (
     let ready = subst (λ (cs : List Change). IsReady g.D.Disk.told c.args.self cs (g.D.Disk.medium c.args.disk.now) (g.D.Disk.medium c.write_contents.new.disk) c.in-Ok.ready.index c.in-Ok.ready.text c.in-Ok.ready.used) c.deref.ensures.value c.in-Ok.ensures.ready in
     let prep = ready.prepared in
-    commit_written g.D.Disk.told c.args.self c.args.changes.items prep.set prep.now c.in-Ok.ready.index ready.jobs (g.D.Disk.medium c.args.disk.now) c.requires.used prep.plan (g.D.Disk.medium c.write_contents.new.disk) ready.cost (g.D.Disk.medium c.write_in.new.disk) c.as_slice.result.now (c.as_slice.ensures ∙ prep.spelled) c.in-Ok-write_in.ensures.written)
+    subst (λ (i : Index). IsWithin c.args.self.shape.place.copies (commit_cost c.args.self.shape.kind c.args.self.entries.items c.args.changes.items) (length (index_text i)) (g.D.Disk.medium c.args.disk.now).written (g.D.Disk.medium c.write_in.new.disk).written)
+    (sym (ap (λ (st : Store). st.index) c.new.ensures))
+    (commit_written g.D.Disk.told c.args.self c.args.changes.items prep.set prep.now c.in-Ok.ready.index ready.jobs (g.D.Disk.medium c.args.disk.now) c.requires.used prep.plan (g.D.Disk.medium c.write_contents.new.disk) ready.cost (g.D.Disk.medium c.write_in.new.disk) c.as_slice.result.now (c.as_slice.ensures ∙ prep.spelled) c.in-Ok-write_in.ensures.written))
 
 pub returns-clause-time : goal.returns-clause-time
 returns-clause-time g c = ?
