@@ -16,10 +16,13 @@ use Rattle.element_store.specs.Stores.{view_in}
 use Rattle.element_state.specs.Conditions.{AreChanges}
 use Rattle.element_state.specs.Kept.{KeptThroughout}
 use Rattle.element_state.specs.States.{Opens}
-use Rattle.element_state.specs.Changes.{committed_by}
+use Rattle.element_state.specs.Changes.{committed_by, after_changes, entry_name}
 use Rattle.element_store.proofs.Around.{both_around}
 use Rattle.element_store.proofs.CommitKept.{commit_keeps, commit_around, commit_in_use, commit_clean, commit_written, commit_read}
-use Rattle.element_store.proofs.Finished.{alone_still}
+use Rattle.element_store.proofs.Finished.{alone_still, small_changes, store_ascends, finished_view, finished_used}
+use Rattle.element_store.proofs.InOrder.{ascends_as}
+use Rattle.disk_model.proofs.Moments.{elapses_on}
+use Rattle.per_base.specs.declared.elements.Entry.{Entry}
 use Rattle.element_store.proofs.store.Store.commit.Goals as goal
 
 pub write_in-requires-clause-short : goal.write_in-requires-clause-short
@@ -117,37 +120,47 @@ pub returns-in-Err : goal.returns-in-Err
 returns-in-Err g c = ?
 
 pub returns-in_default-clause-cause : goal.returns-in_default-clause-cause
-returns-in_default-clause-cause g c = ?
+returns-in_default-clause-cause g c = λ u. (
+    let ready = subst (λ (cs : List Change). IsReady g.D.Disk.told c.args.self cs (g.D.Disk.medium c.args.disk.now) (g.D.Disk.medium c.write_contents.new.disk) c.in-Ok.ready.index c.in-Ok.ready.text c.in-Ok.ready.used) c.deref.ensures.value c.in-Ok.ensures.ready in
+    let prep = ready.prepared in
+    let f = ready.time.faults in
+    let r = c.in_default.ensures.cause in
+    omega (arith, f, r))
 
 pub returns-in_default-clause-time : goal.returns-in_default-clause-time
-returns-in_default-clause-time g c = ?
+returns-in_default-clause-time g c = elapses_on c.in-Ok.ensures.ready.time c.in_default.ensures.time
 
 pub moved-requires-clause-empty : goal.moved-requires-clause-empty
 moved-requires-clause-empty g c = c.in-Ok.ensures.empty
 
 pub moved-requires-clause-room : goal.moved-requires-clause-room
-moved-requires-clause-room g c = ?
+moved-requires-clause-room g c = (let cap = c.in-Ok.ensures.capacity in let ok = c.args.self.entries.ok in omega (arith, cap, ok))
 
 pub changed-entries-requires-clause-ascend : goal.changed-entries-requires-clause-ascend
-changed-entries-requires-clause-ascend g c = ?
+changed-entries-requires-clause-ascend g c = ascends_as entry_name _ _ c.moved.ensures.items (store_ascends c.args.self c.requires.used.memory)
 
 pub changed-entries-requires-clause-small : goal.changed-entries-requires-clause-small
-changed-entries-requires-clause-small g c = ?
+changed-entries-requires-clause-small g c = small_changes c.args.self.shape.kind c.args.self.entries.items c.args.changes.items c.requires.changes.each
 
 pub changed-entries-requires-clause-room : goal.changed-entries-requires-clause-room
-changed-entries-requires-clause-room g c = ?
+changed-entries-requires-clause-room g c = (let cap = c.in-Ok.ensures.capacity in let d = ap length c.deref.ensures.value in let ok = c.moved.result.ok in let l = ap length c.moved.ensures.items in let more = c.moved.ensures.capacity in omega (arith, cap, d, ok, l, more))
 
 pub same-used : goal.same-used
-same-used g c = ?
+same-used g c = refl
 
 pub returns-clause-used : goal.returns-clause-used
-returns-clause-used g c = ?
+returns-clause-used g c = (
+    let ready = subst (λ (cs : List Change). IsReady g.D.Disk.told c.args.self cs (g.D.Disk.medium c.args.disk.now) (g.D.Disk.medium c.write_contents.new.disk) c.in-Ok.ready.index c.in-Ok.ready.text c.in-Ok.ready.used) c.deref.ensures.value c.in-Ok.ensures.ready in
+    let prep = ready.prepared in
+    finished_used g.D.Disk.told c.args.self c.new.result c.args.changes.items _ c.in-Ok-write_in.cell c.in-Ok.ready.index c.changed-entries.result c.in-Ok.ready.used c.new.ensures c.requires.used.memory c.in-Ok-write_in.ensures.next (c.changed-entries.ensures ∙ ap (λ (n : ℕ). after_changes n c.moved.result.items c.args.changes.items) c.generation.ensures ∙ ap (λ (es : List Entry). after_changes c.in-Ok-write_in.cell.generation es c.args.changes.items) c.moved.ensures.items) (g.D.Disk.medium c.write_in.new.disk).image prep.plan.text
+    (commit_read g.D.Disk.told c.args.self c.args.changes.items prep.set prep.now c.in-Ok.ready.index ready.jobs (g.D.Disk.medium c.args.disk.now) c.requires.used prep.plan) prep.taken
+    (λ tells. commit_in_use g.D.Disk.told c.args.self c.args.changes.items prep.set prep.now c.in-Ok.ready.index ready.jobs (g.D.Disk.medium c.args.disk.now) c.requires.used prep.takes prep.plan tells (g.D.Disk.medium c.write_contents.new.disk) (g.D.Disk.medium c.write_in.new.disk) c.as_slice.result.now (c.as_slice.ensures ∙ prep.spelled) (ready.keeps tells) (ready.done tells) c.in-Ok-write_in.cell c.in-Ok-write_in.ensures.next (c.in-Ok-write_in.ensures.held tells) (c.in-Ok-write_in.ensures.elsewhere tells)))
 
 pub returns-clause-shape : goal.returns-clause-shape
 returns-clause-shape g c = ap (λ (st : Store). st.shape) c.new.ensures
 
 pub returns-clause-view : goal.returns-clause-view
-returns-clause-view g c = ?
+returns-clause-view g c = finished_view g.D.Disk.told c.args.self c.new.result c.args.changes.items _ c.in-Ok-write_in.cell c.in-Ok.ready.index c.changed-entries.result c.in-Ok.ready.used c.new.ensures c.requires.used.memory c.in-Ok-write_in.ensures.next (c.changed-entries.ensures ∙ ap (λ (n : ℕ). after_changes n c.moved.result.items c.args.changes.items) c.generation.ensures ∙ ap (λ (es : List Entry). after_changes c.in-Ok-write_in.cell.generation es c.args.changes.items) c.moved.ensures.items)
 
 pub returns-clause-quiet : goal.returns-clause-quiet
 returns-clause-quiet g c = c.in-Ok-write_in.ensures.quiet
@@ -167,5 +180,5 @@ returns-clause-written g c = (
     (commit_written g.D.Disk.told c.args.self c.args.changes.items prep.set prep.now c.in-Ok.ready.index ready.jobs (g.D.Disk.medium c.args.disk.now) c.requires.used prep.plan (g.D.Disk.medium c.write_contents.new.disk) ready.cost (g.D.Disk.medium c.write_in.new.disk) c.as_slice.result.now (c.as_slice.ensures ∙ prep.spelled) c.in-Ok-write_in.ensures.written))
 
 pub returns-clause-time : goal.returns-clause-time
-returns-clause-time g c = ?
+returns-clause-time g c = elapses_on c.in-Ok.ensures.ready.time c.in-Ok-write_in.ensures.time
 
