@@ -115,7 +115,8 @@ impl Store {
         let ready = match self.write_contents(disk, &changes) {
             Ok(ready) => ready,
             Err(StoreError::OutOfMemory) => return Err(CommitFault::OutOfMemory(self)),
-            Err(_) => return Err(CommitFault::Device),
+            Err(StoreError::Device) => return Err(CommitFault::Device),
+            Err(StoreError::Corrupt) => return Err(CommitFault::Device),
         };
         let Ready {
             index,

@@ -116,9 +116,6 @@ returns-in-Err-OutOfMemory-clause-any_moment g c = λ tells. subst (λ (cs : Lis
 pub returns-in-Err-OutOfMemory-clause-time : goal.returns-in-Err-OutOfMemory-clause-time
 returns-in-Err-OutOfMemory-clause-time g c = c.in-Err-OutOfMemory.ensures.time
 
-pub returns-in-Err : goal.returns-in-Err
-returns-in-Err g c = ?
-
 pub returns-in_default-clause-cause : goal.returns-in_default-clause-cause
 returns-in_default-clause-cause g c = λ u. (
     let ready = subst (λ (cs : List Change). IsReady g.D.Disk.told c.args.self cs (g.D.Disk.medium c.args.disk.now) (g.D.Disk.medium c.write_contents.new.disk) c.in-Ok.ready.index c.in-Ok.ready.text c.in-Ok.ready.used) c.deref.ensures.value c.in-Ok.ensures.ready in
@@ -181,4 +178,34 @@ returns-clause-written g c = (
 
 pub returns-clause-time : goal.returns-clause-time
 returns-clause-time g c = elapses_on c.in-Ok.ensures.ready.time c.in-Ok-write_in.ensures.time
+
+pub returns-in-Err-Device-clause-cause : goal.returns-in-Err-Device-clause-cause
+returns-in-Err-Device-clause-cause g c = λ u. c.in-Err-Device.ensures.cause (ap Err c.in-Err-Device.field-0-is)
+
+pub returns-in-Err-Device-clause-elsewhere : goal.returns-in-Err-Device-clause-elsewhere
+returns-in-Err-Device-clause-elsewhere g c = c.in-Err-Device.ensures.elsewhere
+
+pub returns-in-Err-Device-clause-outside : goal.returns-in-Err-Device-clause-outside
+returns-in-Err-Device-clause-outside g c = c.in-Err-Device.ensures.outside
+
+pub returns-in-Err-Device-clause-any_moment : goal.returns-in-Err-Device-clause-any_moment
+returns-in-Err-Device-clause-any_moment g c = λ tells. subst (λ (cs : List Change). KeptThroughout c.args.self.shape (Opens (committed_by c.args.self.shape (view_in c.args.self) cs) []) (g.D.Disk.medium c.args.disk.now) (g.D.Disk.medium c.write_contents.new.disk)) c.deref.ensures.value (c.in-Err-Device.ensures.any_moment tells)
+
+pub returns-in-Err-Device-clause-time : goal.returns-in-Err-Device-clause-time
+returns-in-Err-Device-clause-time g c = c.in-Err-Device.ensures.time
+
+pub returns-in-Err-Corrupt-clause-cause : goal.returns-in-Err-Corrupt-clause-cause
+returns-in-Err-Corrupt-clause-cause g c = λ u. absurd (c.in-Err-Corrupt.ensures.never_corrupt (ap Err c.in-Err-Corrupt.field-0-is))
+
+pub returns-in-Err-Corrupt-clause-elsewhere : goal.returns-in-Err-Corrupt-clause-elsewhere
+returns-in-Err-Corrupt-clause-elsewhere g c = c.in-Err-Corrupt.ensures.elsewhere
+
+pub returns-in-Err-Corrupt-clause-outside : goal.returns-in-Err-Corrupt-clause-outside
+returns-in-Err-Corrupt-clause-outside g c = c.in-Err-Corrupt.ensures.outside
+
+pub returns-in-Err-Corrupt-clause-any_moment : goal.returns-in-Err-Corrupt-clause-any_moment
+returns-in-Err-Corrupt-clause-any_moment g c = λ tells. subst (λ (cs : List Change). KeptThroughout c.args.self.shape (Opens (committed_by c.args.self.shape (view_in c.args.self) cs) []) (g.D.Disk.medium c.args.disk.now) (g.D.Disk.medium c.write_contents.new.disk)) c.deref.ensures.value (c.in-Err-Corrupt.ensures.any_moment tells)
+
+pub returns-in-Err-Corrupt-clause-time : goal.returns-in-Err-Corrupt-clause-time
+returns-in-Err-Corrupt-clause-time g c = c.in-Err-Corrupt.ensures.time
 
