@@ -75,11 +75,7 @@ impl Store {
     ///
     /// `OutOfMemory` hands the storage back before any call of the disk. `Device` closes it.
     #[tactic(none)]
-    pub fn commit<D: Disk>(
-        self,
-        disk: &mut D,
-        changes: Vec<Change>,
-    ) -> Result<Store, CommitFault>
+    pub fn commit<D: Disk>(self, disk: &mut D, changes: Vec<Change>) -> Result<Store, CommitFault>
         requires used { IsUsed D.told (D.medium disk.old).image self }
         requires changes { AreChanges (shape_of self) (view_in self) changes.items }
 
@@ -141,11 +137,7 @@ impl Store {
     }
 
     // Takes all memory, and then makes the contents durable in blocks outside those of the index.
-    fn write_contents<D: Disk>(
-        &self,
-        disk: &mut D,
-        changes: &[Change],
-    ) -> Result<Ready, StoreError>
+    fn write_contents<D: Disk>(&self, disk: &mut D, changes: &[Change]) -> Result<Ready, StoreError>
         requires used { IsUsed D.told (D.medium disk.old).image self.now }
         requires changes { AreChanges (shape_of self.now) (view_in self.now) changes.now }
 

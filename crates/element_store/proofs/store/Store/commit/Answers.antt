@@ -47,10 +47,12 @@ write_in-requires-clause-generation g c = let less = c.requires.changes.not_worn
 pub write_in-requires-clause-held : goal.write_in-requires-clause-held
 write_in-requires-clause-held g c = λ tells. (
     let ready = subst (λ (cs : List Change). IsReady g.D.Disk.told c.args.self cs (g.D.Disk.medium c.args.disk.now) (g.D.Disk.medium c.write_contents.new.disk) c.in-Ok.ready.index c.in-Ok.ready.text c.in-Ok.ready.used) c.deref.ensures.value c.in-Ok.ensures.ready in
-    let prep = ready.prepared in
-    (index_text c.args.self.index, subst (λ (p : Place). IsAlone (g.D.Disk.medium c.write_contents.new.disk).image p.first p.copies c.args.self.cell.generation (index_text c.args.self.index)) (sym c.requires.used.memory.place)
-    (alone_still c.args.self.shape.place.first c.args.self.shape.place.copies c.args.self.cell.generation (index_text c.args.self.index) (g.D.Disk.medium c.args.disk.now).image (g.D.Disk.medium c.write_contents.new.disk).image
-    (ready.elsewhere tells) (c.requires.used.disk tells).alone)))
+    let prep = ready.prepared in (
+      index_text c.args.self.index,
+      subst (λ (p : Place). IsAlone (g.D.Disk.medium c.write_contents.new.disk).image p.first p.copies c.args.self.cell.generation (index_text c.args.self.index)) (sym c.requires.used.memory.place)
+          (alone_still c.args.self.shape.place.first c.args.self.shape.place.copies c.args.self.cell.generation (index_text c.args.self.index) (g.D.Disk.medium c.args.disk.now).image (g.D.Disk.medium c.write_contents.new.disk).image
+          (ready.elsewhere tells) (c.requires.used.disk tells).alone),
+    ))
 
 pub returns-in_default-clause-elsewhere : goal.returns-in_default-clause-elsewhere
 returns-in_default-clause-elsewhere g c = λ tells. (
@@ -208,4 +210,3 @@ returns-in-Err-Corrupt-clause-any_moment g c = λ tells. subst (λ (cs : List Ch
 
 pub returns-in-Err-Corrupt-clause-time : goal.returns-in-Err-Corrupt-clause-time
 returns-in-Err-Corrupt-clause-time g c = c.in-Err-Corrupt.ensures.time
-
