@@ -55,8 +55,15 @@ pub laid_insert : (e : IndexEntry) (es : List IndexEntry) → AreDistinct e.bloc
 laid_insert e [] distinct all laid = (distinct, tt, tt)
 laid_insert e (h ∷ es) distinct all laid = elim (cases_Bool (is_lt (name_cmp h.name e.name))) [
   | inl t ↦ rw t (laid.0, each_insert named_by (λ (x : IndexEntry). AreDisjoint h.blocks x.blocks) e es all.0 laid.1, laid_insert e es distinct all.1 laid.2)
-  | inr f ↦ rw f (distinct, (disjoint_back h.blocks e.blocks all.0, each_map (λ (x : IndexEntry). AreDisjoint x.blocks e.blocks) (λ (x : IndexEntry). AreDisjoint e.blocks x.blocks) es
-    (λ x apart. disjoint_back x.blocks e.blocks apart) all.1), laid)
+  | inr f ↦ rw f (
+    distinct,
+    (
+      disjoint_back h.blocks e.blocks all.0,
+      each_map (λ (x : IndexEntry). AreDisjoint x.blocks e.blocks) (λ (x : IndexEntry). AreDisjoint e.blocks x.blocks) es
+          (λ x apart. disjoint_back x.blocks e.blocks apart) all.1,
+    ),
+    laid,
+  )
 ]
 
 laid_as : (t : IndexEntry → IndexEntry) (es : List IndexEntry) → ((e : IndexEntry) → e.blocks ≡ (t e).blocks) → AreLaidApart es → AreLaidApart (map t es)
@@ -101,8 +108,15 @@ module _ (kind : StoreKind) (standing : List IndexEntry) (views : List Entry) wh
   pub planned_start : (start : List Bool) → IsStanding kind start standing views → IsPlanned kind standing views start start standing views []
   planned_start start st = record {
     entries = zip_by_place IsSeenAs (Pair []) standing views (λ k e f lt less one two s. inr (record {
-      was = e; seen = f; beside = record { at = k; inside = lt; within = less; one = one; two = two };
-      named = refl; place = refl; headed = s.headed; content = refl; lacking = inl refl })) st.read;
+      was = e;
+      seen = f;
+      beside = record { at = k; inside = lt; within = less; one = one; two = two };
+      named = refl;
+      place = refl;
+      headed = s.headed;
+      content = refl;
+      lacking = inl refl;
+    })) st.read;
     sound = each_by_place (λ (e : IndexEntry). IsEntry 2 kind e × HasAll start e.blocks) (IsSound kind standing start) standing
         (λ k e lt is both. record { rules = both.0; taken = both.1; own = own k e lt is })
         (each_both (IsEntry 2 kind) (λ (e : IndexEntry). HasAll start e.blocks) (λ (e : IndexEntry). IsEntry 2 kind e × HasAll start e.blocks) standing (λ e r t. (r, t)) st.rules st.taken);
@@ -152,17 +166,17 @@ module _ (kind : StoreKind) (standing : List IndexEntry) (views : List Entry) wh
     sound_touched : (now : List Bool) (e : IndexEntry) → kind ≡ Files → IsSound kind standing now e → IsSound kind standing now (touched_entry generation name info e)
     sound_touched now e files s = elim (cases_Bool (bytes_eq e.name name)) [
       | inl t ↦ rw t (record {
-          rules = record {
-            name = s.rules.name;
-            info = subst (λ (k : StoreKind). IsTrue (has_info k (Some info))) (sym files) refl;
-            changed = refl;
-            len = s.rules.len;
-            hash = s.rules.hash;
-            blocks = s.rules.blocks;
-          };
-          taken = s.taken;
-          own = s.own;
-        })
+        rules = record {
+          name = s.rules.name;
+          info = subst (λ (k : StoreKind). IsTrue (has_info k (Some info))) (sym files) refl;
+          changed = refl;
+          len = s.rules.len;
+          hash = s.rules.hash;
+          blocks = s.rules.blocks;
+        };
+        taken = s.taken;
+        own = s.own;
+      })
       | inr f ↦ rw f s
     ]
 
@@ -179,20 +193,31 @@ module _ (kind : StoreKind) (standing : List IndexEntry) (views : List Entry) wh
     pair_touched jobs e f sorted read good pair =
         let same : bytes_eq f.name name ≡ bytes_eq e.name name = ap (λ (n : List ℕ). bytes_eq n name) (sym (pair_names jobs e f pair)) in
         elim (cases_Bool (bytes_eq e.name name)) [
-        | inl t ↦ rw (t, same ∙ t) (again t pair)
-        | inr n ↦ rw (n, same ∙ n) pair
+          | inl t ↦ rw (t, same ∙ t) (again t pair)
+          | inr n ↦ rw (n, same ∙ n) pair
         ]
       where
         again : bytes_eq e.name name ≡ true → Pair jobs e f → Pair jobs (record e { info = Some info; changed = generation }) (record f { info = Some info; changed = generation; lacking = [] })
         again t (inl w) = inl (record {
-          job = w.job; among = w.among; blocks = w.blocks; hash = w.hash; len = w.len;
+          job = w.job;
+          among = w.among;
+          blocks = w.blocks;
+          hash = w.hash;
+          len = w.len;
           headed = ap (λ (h : List ℕ × Option FileInfo × ℕ × ℕ). (h.0, Some info, h.2, generation)) w.headed;
-          content = w.content; lacking = refl })
+          content = w.content;
+          lacking = refl;
+        })
         again t (inr c) = inr (record {
-          was = c.was; seen = c.seen; beside = c.beside; named = c.named; place = c.place;
+          was = c.was;
+          seen = c.seen;
+          beside = c.beside;
+          named = c.named;
+          place = c.place;
           headed = ap (λ (h : List ℕ × Option FileInfo × ℕ × ℕ). (h.0, Some info, h.2, generation)) c.headed;
           content = c.content;
-          lacking = inr (refl, good_seen sorted read good c.was c.seen c.beside (sym c.named ∙ (bytes_eq-Decides e.name name).0 t)) })
+          lacking = inr (refl, good_seen sorted read good c.was c.seen c.beside (sym c.named ∙ (bytes_eq-Decides e.name name).0 t));
+        })
 
     pub planned_touch : (start now : List Bool) (es : List IndexEntry) (fs : List Entry) (jobs : List Job) → NamesAscend named_by standing → AllZip IsSeenAs standing views
         → kind ≡ Files → IsGoodEntry (entry_at name views) → IsPlanned kind standing views start now es fs jobs

@@ -311,8 +311,8 @@ module _ {X Y : Type 0} (name_of : X → List ℕ) (title_of : Y → List ℕ) (
       let e : is_lt (name_cmp (title_of b) (title_of y)) ≡ is_lt (name_cmp (name_of a) (name_of x)) =
       ap (λ (n : List ℕ). is_lt (name_cmp n (title_of y))) (sym (names a b zip.0)) ∙ ap (λ (n : List ℕ). is_lt (name_cmp (name_of a) n)) (sym (names x y is)) in
       elim (cases_Bool (is_lt (name_cmp (name_of a) (name_of x)))) [
-      | inl t ↦ rw (t, e ∙ t) (zip.0, zip_insert x y xs ys is zip.1)
-      | inr f ↦ rw (f, e ∙ f) (is, zip)
+        | inl t ↦ rw (t, e ∙ t) (zip.0, zip_insert x y xs ys is zip.1)
+        | inr f ↦ rw (f, e ∙ f) (is, zip)
       ]
 
   pub zip_without : (name : List ℕ) (xs : List X) (ys : List Y) → AllZip R xs ys → AllZip R (without_item name_of name xs) (without_item title_of name ys)
@@ -322,8 +322,8 @@ module _ {X Y : Type 0} (name_of : X → List ℕ) (title_of : Y → List ℕ) (
   zip_without name (a ∷ xs) (b ∷ ys) zip =
       let e : bytes_eq (title_of b) name ≡ bytes_eq (name_of a) name = ap (λ (n : List ℕ). bytes_eq n name) (sym (names a b zip.0)) in
       elim (cases_Bool (bytes_eq (name_of a) name)) [
-      | inl t ↦ rw (t, e ∙ t) (zip_without name xs ys zip.1)
-      | inr f ↦ rw (f, e ∙ f) (zip.0, zip_without name xs ys zip.1)
+        | inl t ↦ rw (t, e ∙ t) (zip_without name xs ys zip.1)
+        | inr f ↦ rw (f, e ∙ f) (zip.0, zip_without name xs ys zip.1)
       ]
 
   pub zip_names : (xs : List X) (ys : List Y) → AllZip R xs ys → map name_of xs ≡ map title_of ys

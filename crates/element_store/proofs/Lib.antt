@@ -26,3 +26,4 @@ pub mod Prepared
 pub mod RebuiltKept
 mod Standing
 mod Room
+mod Finished

@@ -145,13 +145,13 @@ module _ (kind : StoreKind) (standing : List IndexEntry) (views : List Entry) (s
       let same_j : get_or (get_or standing k d).blocks i 0 ≡ get_or job.blocks j 0 = same ∙ ap (λ (bs : List ℕ). get_or bs j 0) is_blocks in
       let taken : HasAll now (get_or standing k d).blocks = each_at (λ (x : IndexEntry). HasAll now x.blocks) standing k d st.taken lt in
       elim (cases_Bool (is_changed job.bytes.now job.was.now j)) [
-      | inl t ↦ chosen_apart (get_or (get_or standing k d).blocks i 0) j (taken i less) few_j t same_j
-      | inr n ↦ (
-          let (was, seen, beside, named, content, within, there) = old_at j few_j n in
-          let other : k ≢ beside.at = λ at. differ (ap named_by (same_default standing k d was lt ∙ ap (λ (m : ℕ). get_or standing m was) at ∙ beside.one) ∙ named ∙ sym made.name) in
-          let apart : AreDisjoint (get_or standing k d).blocks was.blocks = subst (λ (x : IndexEntry). AreDisjoint (get_or standing k d).blocks x.blocks) beside.one
-          (laid_disjoint standing k beside.at d was st.laid lt beside.inside other) in
-          apart i j less within (same_j ∙ there))
+        | inl t ↦ chosen_apart (get_or (get_or standing k d).blocks i 0) j (taken i less) few_j t same_j
+        | inr n ↦ (
+            let (was, seen, beside, named, content, within, there) = old_at j few_j n in
+            let other : k ≢ beside.at = λ at. differ (ap named_by (same_default standing k d was lt ∙ ap (λ (m : ℕ). get_or standing m was) at ∙ beside.one) ∙ named ∙ sym made.name) in
+            let apart : AreDisjoint (get_or standing k d).blocks was.blocks = subst (λ (x : IndexEntry). AreDisjoint (get_or standing k d).blocks x.blocks) beside.one
+            (laid_disjoint standing k beside.at d was st.laid lt beside.inside other) in
+            apart i j less within (same_j ∙ there))
       ]
 
   new_rules : IsEntry 2 kind e
@@ -179,7 +179,15 @@ module _ (kind : StoreKind) (standing : List IndexEntry) (views : List Entry) (s
 
   pair_more : (x : IndexEntry) (y : Entry) → Pair kind standing views jobs x y → Pair kind standing views (jobs ++ job ∷ []) x y
   pair_more x y (inl w) = inl (record {
-    job = w.job; among = in_front jobs job w.job w.among; blocks = w.blocks; hash = w.hash; len = w.len; headed = w.headed; content = w.content; lacking = w.lacking })
+    job = w.job;
+    among = in_front jobs job w.job w.among;
+    blocks = w.blocks;
+    hash = w.hash;
+    len = w.len;
+    headed = w.headed;
+    content = w.content;
+    lacking = w.lacking;
+  })
   pair_more x y (inr c) = inr c
 
   sound_more : (x : IndexEntry) → IsSound kind standing now x → IsSound kind standing new x
@@ -227,6 +235,11 @@ module _ (kind : StoreKind) (standing : List IndexEntry) (views : List Entry) (s
         | inl none ↦ inl none.0
         | inr some ↦ (
             let (was, seen, beside, named, content, there) = some in
-            inr (record { was = was; seen = seen; beside = beside; content = content;
-              shared = λ i lt same. ((let within = inside_old i lt same in let l = ap length there in omega (arith, within, l)), shared.equal i lt same ∙ ap (λ (bs : List ℕ). get_or bs i 0) there) }))
+            inr (record {
+              was = was;
+              seen = seen;
+              beside = beside;
+              content = content;
+              shared = λ i lt same. ((let within = inside_old i lt same in let l = ap length there in omega (arith, within, l)), shared.equal i lt same ∙ ap (λ (bs : List ℕ). get_or bs i 0) there);
+            }))
       ]

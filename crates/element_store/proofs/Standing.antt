@@ -23,7 +23,7 @@ use Rattle.element_state.specs.declared.shapes.View.{View}
 use Rattle.element_state.specs.declared.shapes.Change.{Change}
 use Rattle.element_state.specs.Changes.{after_changes}
 use Rattle.element_state.specs.Chosen.{IsReadBy}
-use Rattle.element_state.specs.Conditions.{AreChanges}
+use Rattle.element_state.specs.Conditions.{AreChanges, IsChange}
 use Rattle.element_state.specs.Conditions as conditions
 use Rattle.element_state.specs.Written.{commit_cost, change_cost}
 use Rattle.element_store.specs.declared.jobs.Job.{Job}
@@ -31,14 +31,21 @@ use Rattle.element_store.specs.declared.store.Store.{Store}
 use Rattle.element_store.specs.Jobs.{jobs_cost}
 use Rattle.element_store.specs.Plans.{HasAll, AreDisjoint, AreLaidApart}
 use Rattle.element_store.specs.Spelled.{IsTextOf, index_with}
-use Rattle.element_store.specs.Stores.{IsStore, AreTaken}
+use Rattle.element_store.specs.Stores.{IsStore, AreTaken, view_in}
 use Rattle.element_store.specs.Commits.{IsHeadedBy, IsCommitPlan}
-use Rattle.element_store.specs.Changing.{IsSeenAs, IsStanding, IsSound, IsPlanned}
+use Rattle.element_store.specs.Changing.{blocks_of_changes, IsSeenAs, IsStanding, IsSound, IsPlanned}
 use Rattle.element_store.proofs.Places.{zip_length, zip_map}
 use Rattle.element_store.proofs.PlanSteps.{each_map}
 use Rattle.element_store.proofs.Made.{fit_of}
 use Rattle.element_store.proofs.Ruled.{laid_distinct, blocks_below}
-use Rattle.element_store.proofs.TakenBlocks.{taken_all}
+use Rattle.element_store.proofs.TakenBlocks.{taken_all, taken_room}
+use Rattle.element_store.proofs.Taken.{taken_area, taken_below}
+use Rattle.element_store.proofs.Room.{changes_fit}
+use Rattle.guarded_cell.specs.Cells.{generation_of}
+use Rattle.element_store.specs.Committing.{IsPrepared}
+use Rattle.index_text.proofs.Lengths.{text_is_short}
+use Rattle.hash_guard.specs.SealedText.{max_body}
+use Rattle.block_files.specs.BlockSets.{free_of}
 use Rattle.element_store.proofs.Changed.{Pair}
 
 -- ---- blocks that are distinct are laid apart
@@ -184,3 +191,57 @@ module _ (shape : Shape) (index : Index) (v : View) (changes : List Change) (sta
     shares = p.shares;
     cost = subst (λ (n : ℕ). jobs_cost jobs ≤ n) (sym cost_is) cost;
   }
+
+-- ---- what is planned for a storage
+
+module _ (store : Store) (changes : List Change) (i : List IndexEntry) (vs : List Entry) (g blocks : ℕ) (set now : List Bool)
+    (is_i : i ≡ store.index.entries) (is_vs : vs ≡ store.entries.items) (is_g : g ≡ generation_of store.cell) (is_blocks : blocks ≡ area_blocks store.shape.allowed)
+    (is : IsStore store) (are : AreChanges store.shape (view_in store) changes) (taken : AreTaken blocks i set) where
+  taken_here : AreTaken (area_blocks store.shape.allowed) store.index.entries set
+  taken_here = taken_area store.shape store.index i blocks set is_i is_blocks taken
+
+  pub store_stands : IsStanding store.shape.kind set i vs
+  store_stands = subst (λ (es : List IndexEntry). IsStanding store.shape.kind set es vs) (sym is_i)
+      (subst (λ (fs : List Entry). IsStanding store.shape.kind set store.index.entries fs) (sym is_vs) (standing_of store set is taken_here))
+
+  pub store_may : AllByRecursion (IsChange store.shape.kind vs) changes
+  store_may = subst (λ (fs : List Entry). AllByRecursion (IsChange store.shape.kind fs) changes) (sym is_vs) are.each
+
+  pub store_room : blocks_of_changes changes ≤ free_of set
+  store_room =
+      let a = changes_fit store.shape (view_in store) changes are in
+      let b = taken_room store.shape.kind store.shape.allowed store.index set taken_here is.index.rules is.index.fits in
+      omega (arith, a, b)
+
+  module _ (es : List IndexEntry) (jobs : List Job)
+      (planned : IsPlanned store.shape.kind i vs set now es (after_changes (g + 1) vs changes) jobs) where
+    planned_here : IsPlanned store.shape.kind store.index.entries (view_in store).entries set now es (after_changes ((view_in store).generation + 1) (view_in store).entries changes) jobs
+    planned_here =
+        subst (λ (n : ℕ). IsPlanned store.shape.kind store.index.entries store.entries.items set now es (after_changes (n + 1) store.entries.items changes) jobs) is_g
+        (subst (λ (fs : List Entry). IsPlanned store.shape.kind store.index.entries fs set now es (after_changes (g + 1) fs changes) jobs) is_vs
+        (subst (λ (xs : List IndexEntry). IsPlanned store.shape.kind xs vs set now es (after_changes (g + 1) vs changes) jobs) is_i planned))
+
+    pub store_rules : IsIndex (index_with store.shape.kind es)
+    store_rules = next_rules store.shape store.index (view_in store) changes set now es jobs are taken_here.capacity planned_here
+
+    module _ (next : Index) (text : List ℕ) (next_is : next ≡ index_with store.shape.kind es) (spelled : text ≡ index_text next) (reads : index_of text ≡ Some next) where
+      pub store_text : IsTextOf store.shape (index_text next) next
+      store_text = next_text store.shape store.index (view_in store) changes set now es jobs are taken_here.capacity planned_here next text next_is spelled reads
+
+      pub store_short : length text ≤ max_body
+      store_short =
+          let short = text_is_short store.shape.kind store.shape.allowed next store_text.rules store_text.fits is.shape.small in
+          let a = ap length spelled in
+          omega (arith, short, a)
+
+      pub store_prepared : (used : List Bool) (new : List IndexEntry) → new ≡ next.entries → AreTaken blocks new used → jobs_cost jobs ≤ sum_by (change_cost store.shape.kind vs) changes
+          → IsPrepared store changes next text used jobs
+      store_prepared used new new_is later cost = record {
+        set = set;
+        now = now;
+        takes = taken_all (area_blocks store.shape.allowed) store.index.entries set taken_here;
+        plan = next_plan store.shape store.index (view_in store) changes set now es jobs are taken_here.capacity planned_here next text next_is spelled reads
+            (subst (λ (fs : List Entry). jobs_cost jobs ≤ sum_by (change_cost store.shape.kind fs) changes) is_vs cost);
+        spelled = spelled;
+        taken = taken_area store.shape next new blocks used new_is is_blocks later;
+      }

@@ -68,6 +68,9 @@ pub record IsBesideOne (standing : List IndexEntry) (views : List Entry) (job : 
   pub shared : (i : ℕ) → i < length job.blocks → is_changed job.bytes.now job.was.now i ≡ false
       → (i < length was.blocks) × (slice_index job.blocks i ≡ slice_index was.blocks i)
 
+abbrev pub IsBesideOld : Index → View → Job → Type 0
+IsBesideOld index v job = IsBesideOne index.entries v.entries job
+
 -- a job writes its content whole, or beside an earlier one
 abbrev pub SharesWith : List IndexEntry → List Entry → Job → Type 0
 SharesWith standing views job = (job.was.now ≡ []) ⊎ IsBesideOne standing views job

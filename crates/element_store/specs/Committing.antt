@@ -32,15 +32,19 @@ abbrev pub IsDeviceFault : CommitFault → Type 0
 IsDeviceFault Device = Unit {0}
 IsDeviceFault (OutOfMemory store) = ⊥
 
--- The next index and the set of its blocks, once the contents of the changes were made durable.
-pub record IsReady (told : Bool) (store : Store) (changes : List Change) (old mid : Medium) (next : Index) (text : List ℕ) (used : List Bool) : Type 0 where
+-- The next index with the set of its blocks, and the jobs that write its contents: all in memory.
+pub record IsPrepared (store : Store) (changes : List Change) (next : Index) (text : List ℕ) (used : List Bool) (jobs : List Job) : Type 0 where
   pub set : List Bool
   pub now : List Bool
-  pub jobs : List Job
   pub takes : AllByRecursion (λ (e : IndexEntry). HasAll set e.blocks) store.index.entries
   pub plan : IsCommitPlan store.shape store.index (view_in store) changes set now next jobs
   pub spelled : text ≡ index_text next
   pub taken : AreTaken (area_blocks store.shape.allowed) next.entries used
+
+-- The same, once the contents were made durable.
+pub record IsReady (told : Bool) (store : Store) (changes : List Change) (old mid : Medium) (next : Index) (text : List ℕ) (used : List Bool) : Type 0 where
+  pub jobs : List Job
+  pub prepared : IsPrepared store changes next text used jobs
   pub done : IsTrue told → All (IsDone mid.image store.shape.place.first store.shape.place.copies) jobs
   pub keeps : IsTrue told → Keeps (IsNoArea store.shape.place.first store.shape.place.copies) (IsLeftByAll jobs) old.image mid.image
   pub each : EachCase (IsJobsCase store.shape.place.first store.shape.place.copies jobs old mid (Unit {0})) old mid

@@ -14,12 +14,12 @@ ghost use Rattle.element_state.specs.States.{Opens};
 ghost use Rattle.element_state.specs.Kept.{KeptThroughout};
 ghost use Rattle.element_store.specs.Named.{NamesAscend};
 ghost use Rattle.element_store.specs.Changing.{IsSmallChange};
-ghost use Rattle.element_store.specs.Committing.{IsReady};
-ghost use Rattle.element_store.specs.Stores.{IsUsed, shape_of, view_in};
+ghost use Rattle.element_store.specs.Committing.{IsPrepared, IsReady};
+ghost use Rattle.element_store.specs.Stores.{IsStore, IsUsed, shape_of, view_in};
 
 use crate::changing::{Standing, plan_changes};
 use crate::creating::fresh_entry;
-use crate::jobs::write_durably;
+use crate::jobs::{Job, write_durably};
 use crate::named::{place_of, put_in, take_out};
 use crate::planning::Plan;
 use crate::spelling::{Spelled, spell};
@@ -33,7 +33,7 @@ use element_state::{Change, StoreError};
 use guarded_cell::Cell;
 use index_text::Index;
 use per_base::{Bytes, Entry, FileInfo, Name, Numbers};
-use std::alloc::Global;
+use std::alloc::{AllocError, Global};
 
 /// Why a commit gave up.
 #[derive(Debug, Drop)]
@@ -54,6 +54,13 @@ struct Ready {
     entries: Vec<Entry>,
 }
 
+/// What a commit needs, and the contents that it writes first.
+#[derive(Drop)]
+struct Prepared<'a> {
+    ready: Ready,
+    jobs: Vec<Job<'a>>,
+}
+
 impl Store {
     ghost use Rattle.element_state.specs.Clean.{IsClean};
     ghost use Rattle.element_state.specs.Written.{commit_cost, IsWithin};
@@ -67,11 +74,8 @@ impl Store {
     /// # Errors
     ///
     /// `OutOfMemory` hands the storage back before any call of the disk. `Device` closes it.
-    pub fn commit<D: Disk>(
-        self,
-        disk: &mut D,
-        changes: Vec<Change>,
-    ) -> Result<Store, CommitFault>
+    #[tactic(none)]
+    pub fn commit<D: Disk>(self, disk: &mut D, changes: Vec<Change>) -> Result<Store, CommitFault>
         requires used { IsUsed D.told (D.medium disk.old).image self }
         requires changes { AreChanges (shape_of self) (view_in self) changes.items }
 
@@ -107,7 +111,8 @@ impl Store {
         let ready = match self.write_contents(disk, &changes) {
             Ok(ready) => ready,
             Err(StoreError::OutOfMemory) => return Err(CommitFault::OutOfMemory(self)),
-            Err(_) => return Err(CommitFault::Device),
+            Err(StoreError::Device) => return Err(CommitFault::Device),
+            Err(StoreError::Corrupt) => return Err(CommitFault::Device),
         };
         let Ready {
             index,
@@ -132,11 +137,7 @@ impl Store {
     }
 
     // Takes all memory, and then makes the contents durable in blocks outside those of the index.
-    fn write_contents<D: Disk>(
-        &self,
-        disk: &mut D,
-        changes: &[Change],
-    ) -> Result<Ready, StoreError>
+    fn write_contents<D: Disk>(&self, disk: &mut D, changes: &[Change]) -> Result<Ready, StoreError>
         requires used { IsUsed D.told (D.medium disk.old).image self.now }
         requires changes { AreChanges (shape_of self.now) (view_in self.now) changes.now }
 
@@ -162,6 +163,25 @@ impl Store {
         untouched_is_kept();
         use_is_adopted();
         contents_keep();
+        match self.prepare(changes) {
+            Err(_) => Err(StoreError::OutOfMemory),
+            Ok(prepared) => match write_durably(disk, self.shape.place, &prepared.jobs) {
+                Ok(()) => Ok(prepared.ready),
+                Err(_) => Err(StoreError::Device),
+            },
+        }
+    }
+
+    // Takes all the memory of a commit.
+    fn prepare<'a>(&'a self, changes: &'a [Change]) -> Result<Prepared<'a>, AllocError>
+        requires store { IsStore self.now }
+        requires changes { AreChanges (shape_of self.now) (view_in self.now) changes.now }
+        ensures plan { IfOk result (λ p. IsPrepared self.now changes.now p.ready.index p.ready.text p.ready.used p.jobs.items) }
+        ensures room { IfOk result (λ p. length p.ready.room.items ≡ header + length p.ready.text) }
+        ensures empty { IfOk result (λ p. p.ready.entries.items ≡ []) }
+        ensures capacity { IfOk result (λ p.
+            length (entries_of self.now) + length changes.now ≤ vec_capacity p.ready.entries) }
+    {
         let alloc = self.alloc;
         let capacity = blocks_in_area(&self.shape);
         let standing = Standing {
@@ -176,16 +196,14 @@ impl Store {
         let room = Cell::room(alloc, text.len())?;
         let used = blocks_taken_by(alloc, capacity, index.entries.as_slice())?;
         let entries = Vec::with_capacity(alloc, standing.entries.len() + changes.len())?;
-        match write_durably(disk, self.shape.place, &jobs) {
-            Ok(()) => Ok(Ready {
-                index,
-                text,
-                room,
-                used,
-                entries,
-            }),
-            Err(_) => Err(StoreError::Device),
-        }
+        let ready = Ready {
+            index,
+            text,
+            room,
+            used,
+            entries,
+        };
+        Ok(Prepared { ready, jobs })
     }
 }
 

@@ -55,6 +55,10 @@ loop-change-preserved c =
     let one_more = c.in_ok-plan_change.ensures.one_more in
     let left = c.loop-change.invariant.2 in
     let spent = c.loop-change.invariant.3 in
-    let room = c.loop-change.invariant.4 in
-    (subst (λ (fs : List Entry). IsPlanned kind index views c.args.used.now c.plan_change.new.used c.plan_change.new.plan.entries.items fs c.plan_change.new.plan.jobs.items) (sym after) planned,
-    c.in_ok-plan_change.ensures.standing, omega (arith, blocks, free, left), omega (arith, costs, cost, spent), omega (arith, capacity, one_more, room))
+    let room = c.loop-change.invariant.4 in (
+      subst (λ (fs : List Entry). IsPlanned kind index views c.args.used.now c.plan_change.new.used c.plan_change.new.plan.entries.items fs c.plan_change.new.plan.jobs.items) (sym after) planned,
+      c.in_ok-plan_change.ensures.standing,
+      omega (arith, blocks, free, left),
+      omega (arith, costs, cost, spent),
+      omega (arith, capacity, one_more, room),
+    )
