@@ -348,11 +348,15 @@ fn is_put(line: &Line, bytes: &[u8]) -> bool {
 
 #[test]
 fn bytes_in_their_order(rt: HostRuntime) -> Result<(), Fail> {
-    let alloc = rt.alloc();
-    let some = parse_line(alloc, b"7 put -x f 000aff")?;
-    assert!(rt; is_put(&some, &[0, 10, 255]));
-    let none = parse_line(alloc, b"7 put -x f ")?;
-    assert!(rt; is_put(&none, &[]));
+    let line = parse_line(rt.alloc(), b"7 put -x f 000aff")?;
+    assert!(rt; is_put(&line, b"\x00\x0a\xff"));
+    Ok(())
+}
+
+#[test]
+fn no_bytes_at_all(rt: HostRuntime) -> Result<(), Fail> {
+    let line = parse_line(rt.alloc(), b"7 put -x f ")?;
+    assert!(rt; is_put(&line, b""));
     Ok(())
 }
 
