@@ -64,7 +64,7 @@ Passes test new = (name : List ℕ) (element : Element) (bytes : List ℕ) → e
 
 -- the changes by which a storage at this view comes to hold the new map in place of what is synchronised
 pub record IsSync (shape : Shape) (test : List ℕ → Bool) (v : View) (synced new : Map) (changes : List Change) : Type 0 where
-  pub view : IsReadView shape.kind v
-  pub synced : synced ≡ synchronised test v
-  pub new : IsNext shape synced new
-  pub changes : MakeInto changes synced new
+  pub read : IsReadView shape.kind v
+  pub held : synced ≡ synchronised test v
+  pub next : IsNext shape synced new
+  pub made : MakeInto changes synced new
