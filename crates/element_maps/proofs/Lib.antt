@@ -3,3 +3,5 @@ pub mod InOrder
 pub mod Same
 pub mod Entries
 pub mod Points
+pub mod Synced
+pub mod Costs
