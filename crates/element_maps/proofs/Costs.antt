@@ -19,10 +19,12 @@ use Rattle.element_state.specs.declared.shapes.Shape.{Shape}
 use Rattle.element_state.specs.declared.shapes.View.{View}
 use Rattle.element_state.specs.Changes.{item_at, entry_at, entry_name, is_same, same_content, same_element, same_info}
 use Rattle.element_state.specs.Conditions.{changed_name}
+use Rattle.element_state.specs.Chosen.{HasLength}
+use Rattle.element_state.specs.Read.{IsEntryOf}
 use Rattle.element_state.specs.Views.{judged_content}
 use Rattle.element_state.specs.Written.{bytes_of, whole_cost, cost_over, cost_beside, content_at, change_cost, commit_cost, element_cost, map_cost}
 use Rattle.element_maps.specs.Differences.{difference, replacement, touch, put, same_bytes, same_value, change_at}
-use Rattle.element_maps.specs.Sessions.{IsHeld, IsReadEntry, IsSync, HasLength}
+use Rattle.element_maps.specs.Sessions.{IsHeld, IsSync}
 use Rattle.element_maps.proofs.Names.{false_true, eq_itself}
 use Rattle.element_maps.proofs.InOrder.{item_each, weight_of, sum_by_names}
 use Rattle.element_maps.proofs.Same.{both, with_both, same_number, number_itself, content_is, content_itself, is_same_from}
@@ -75,8 +77,13 @@ put_cost kind name new es e found = ap (λ o. cost_beside kind (content_of o) (b
 put_alone : (kind : StoreKind) (name : List ℕ) (new : Element) (es : List Entry) → entry_at name es ≡ None → change_cost kind es (put name new) ≡ whole_cost (bytes_of new.content)
 put_alone kind name new es found = ap (λ o. cost_beside kind (content_of o) (bytes_of new.content)) found
 
+-- what the cost rests on of an entry that is read
+record IsRead (kind : StoreKind) (e : Entry) : Type 0 where
+  pub info : IsTrue (has_info kind e.info)
+  pub length : HasLength e.len e.content
+
 -- what replaces an entry costs no more than its content, and nothing where that is the same
-replaced_cost : (kind : StoreKind) (test : List ℕ → Bool) (name : List ℕ) (es : List Entry) (e : Entry) (new : Element) → entry_at name es ≡ Some e → IsReadEntry kind e → IsOther kind new
+replaced_cost : (kind : StoreKind) (test : List ℕ → Bool) (name : List ℕ) (es : List Entry) (e : Entry) (new : Element) → entry_at name es ≡ Some e → IsRead kind e → IsOther kind new
     → same_element (judged_element test e) new ≡ false
     → change_cost kind es (replacement name (judged_element test e) new) ≤ element_cost kind (Some (judged_element test e)) new
 replaced_cost kind test name es e new found read other differs =
@@ -104,7 +111,7 @@ replaced_cost kind test name es e new found read other differs =
     bytes_same same =
         let is : judged_content test e.content ≡ Good other.bytes = content_is (judged_content test e.content) new.content same ∙ other.good in
         let good : e.content ≡ Good other.bytes = judged_good test e.content other.bytes is in
-        let long : length other.bytes ≡ e.len = subst (λ (c : Content). HasLength c e.len) good read.length in
+        let long : length other.bytes ≡ e.len = subst (λ (c : Content). HasLength e.len c) good read.length in
         let len : e.len ≡ new.len = sym long ∙ other.writable.length in
         with_both _ _ (subst (λ (n : ℕ). nat_eq e.len n ≡ true) len (number_itself e.len))
         (subst (λ (c : Content). same_value (judged_content test e.content) c ≡ true) (sym other.good)
@@ -126,7 +133,7 @@ element_weight kind old None = 0
 element_weight kind old (Some new) = element_cost kind old new
 
 point_cost : (kind : StoreKind) (test : List ℕ → Bool) (name : List ℕ) (es : List Entry) (old : Option Entry) (new : Option Element)
-    → entry_at name es ≡ old → ((e : Entry) → old ≡ Some e → IsReadEntry kind e)
+    → entry_at name es ≡ old → ((e : Entry) → old ≡ Some e → IsRead kind e)
     → ((element : Element) → new ≡ Some element → IsHeld kind (option_map (judged_element test) old) element element.content)
     → (c : Change) → difference name (option_map (judged_element test) old) new ≡ Some c → change_cost kind es c ≤ element_weight kind (option_map (judged_element test) old) new
 point_cost kind test name es None None found read held c is = absurd cc
@@ -164,7 +171,7 @@ module _ (shape : Shape) (test : List ℕ → Bool) (v : View) (synced new : Map
       ap (λ o. difference name o (element_at new name)) (sym (held_at shape test v synced new changes sync name)) ∙ sym (sync.made.exact name) ∙ is in
       let cost : change_cost shape.kind v.entries c ≤ element_weight shape.kind (option_map (judged_element test) (entry_at name v.entries)) (element_at new name) =
       point_cost shape.kind test name v.entries (entry_at name v.entries) (element_at new name) refl
-      (λ e found. item_each entry_name (IsReadEntry shape.kind) name v.entries e sync.read.each found) (held_new shape test v synced new changes sync name) c as_held in
+      (λ e found. (let is = item_each entry_name (IsEntryOf shape) name v.entries e sync.read.each found in record { info = is.info; length = is.content })) (held_new shape test v synced new changes sync name) c as_held in
       let one : element_weight shape.kind (option_map (judged_element test) (entry_at name v.entries)) (element_at new name) ≡ weight_of weight (item_at pair_name name new) =
       ap (λ o. element_weight shape.kind o (element_at new name)) (sym (held_at shape test v synced new changes sync name)) ∙ weight_is name (element_at new name) ∙ ap (λ o. weight_of weight o) (sym (item_in_map name new)) in
       omega arith)

@@ -8,28 +8,31 @@ use Rattle.std.specs.Ordering.{is_eq}
 use Rattle.std.proofs.lemmas.Bool.{cases_Bool}
 use Rattle.std.proofs.lemmas.List.Sums.{sum_by-cons}
 use Rattle.std.proofs.lemmas.Map.Text.{is_eq-slice_cmp}
-use Rattle.per_base.specs.declared.elements.StoreKind.{StoreKind}
+use Rattle.per_base.specs.declared.elements.Scope.{Scope}
+use Rattle.per_base.specs.declared.elements.Scope.TheVariants as scopes
 use Rattle.per_base.specs.declared.elements.Content.{Content}
 use Rattle.per_base.specs.declared.elements.Content.TheVariants.{Good, Bad}
 use Rattle.per_base.specs.declared.elements.Element.{Element}
 use Rattle.per_base.specs.declared.elements.Entry.{Entry}
 use Rattle.per_base.specs.Maps as maps
 use Rattle.per_base.specs.Maps.{Map, element_at}
-use Rattle.per_base.specs.Names.{name_cmp}
+use Rattle.per_base.specs.Names.{IsName, name_cmp}
 use Rattle.element_state.specs.declared.shapes.Change.{Change}
 use Rattle.element_state.specs.declared.shapes.Shape.{Shape}
 use Rattle.element_state.specs.declared.shapes.View.{View}
 use Rattle.element_state.specs.Changes.{item_at, entry_at, entry_name, is_same, kept_or_fresh, committed_entry, after_changes, committed_by, committed}
 use Rattle.element_state.specs.Conditions.{AreChanges, IsChange, changed_name, size_of}
-use Rattle.element_state.specs.States.{fresh_entry, whole_view, greatest_generation}
-use Rattle.element_state.specs.Views.{element_of, judged_entry, judged_content}
+use Rattle.element_state.specs.Chosen.{HasLength}
+use Rattle.element_state.specs.Read.{IsEntryOf, IsView}
+use Rattle.element_state.specs.States.{fresh_entry, whole_view, lacking_by, greatest_generation}
+use Rattle.element_state.specs.Views.{element_of, judged_entry, judged_content, lacks_one}
 use Rattle.element_maps.specs.Differences.{difference, change_at}
-use Rattle.element_maps.specs.Sessions.{IsHeld, IsNext, IsReadEntry, IsReadView, IsSync, Passes, synchronised, HasLength}
-use Rattle.element_maps.specs.Laws as laws
+use Rattle.element_maps.specs.Sessions.{IsHeld, IsNext, IsSync, Passes, synchronised}
 use Rattle.element_maps.proofs.Names.{eq_back, eq_itself, same_names, false_true}
 use Rattle.element_maps.proofs.InOrder.{NamesAscend, item_each, item_named, item_first, each_item, item_map, names_map, ascends_map, same_lists, names_apart}
 use Rattle.element_maps.proofs.Same.{element, is_same_is, is_same_from}
 use Rattle.element_maps.proofs.Entries.{ascends_after, after_all, entry_after}
+use Rattle.element_maps.proofs.Copies.{AreNumbers, no_numbers, numbers_passing}
 use Rattle.element_maps.proofs.Points.{judged_element, point, point_taken, no_change, unchanged, is_other, IsOther}
 
 -- ---- maps as lists of items
@@ -143,15 +146,22 @@ module _ (shape : Shape) (test : List ℕ → Bool) (v : View) (synced new : Map
       let here : P (name, e.1) = found name e.1 (found_in_map name new e is) in
       subst (λ (n : List ℕ). P (n, e.1)) (sym named) here)
 
-  made_read : (e : List ℕ × Element) → element_at new e.0 ≡ Some e.1 → IsReadEntry shape.kind (made e)
-  made_read e is = subst (λ (o : Option Element). IsReadEntry shape.kind (kept_or_fresh (v.generation + 1) (is_same o e.1) (entry_at e.0 v.entries) e)) (sym (held_at e.0))
+  made_read : (e : List ℕ × Element) → element_at new e.0 ≡ Some e.1 → IsName e.0 → IsEntryOf shape (made e)
+  made_read e is name = subst (λ (o : Option Element). IsEntryOf shape (kept_or_fresh (v.generation + 1) (is_same o e.1) (entry_at e.0 v.entries) e)) (sym (held_at e.0))
       (by (entry_at e.0 v.entries) refl (is_same (option_map (judged_element test) (entry_at e.0 v.entries)) e.1) refl)
     where
-      fresh : IsOther shape.kind e.1 → IsReadEntry shape.kind (fresh_entry (v.generation + 1) e)
-      fresh other = record { info = other.writable.info; length = subst (λ (c : Content). HasLength c e.1.len) (sym other.good) other.writable.length }
+      fresh : IsOther shape.kind e.1 → IsEntryOf shape (fresh_entry (v.generation + 1) e)
+      fresh other = record {
+        name = name;
+        info = other.writable.info;
+        len = other.writable.small;
+        content = subst (λ (c : Content). HasLength e.1.len c) (sym other.good) other.writable.length;
+        lacking = (no_numbers shape.place.copies).copies_are;
+        ascend = (no_numbers shape.place.copies).ascend;
+      }
 
-      by : (o : Option Entry) → entry_at e.0 v.entries ≡ o → (b : Bool) → is_same (option_map (judged_element test) o) e.1 ≡ b → IsReadEntry shape.kind (kept_or_fresh (v.generation + 1) b o e)
-      by (Some x) found true same = item_each entry_name (IsReadEntry shape.kind) e.0 v.entries x sync.read.each found
+      by : (o : Option Entry) → entry_at e.0 v.entries ≡ o → (b : Bool) → is_same (option_map (judged_element test) o) e.1 ≡ b → IsEntryOf shape (kept_or_fresh (v.generation + 1) b o e)
+      by (Some x) found true same = item_each entry_name (IsEntryOf shape) e.0 v.entries x sync.read.each found
       by None found true same = absurd cc
       by (Some x) found false same = fresh (is_other shape.kind (Some (judged_element test x)) e.1 (subst (λ (o : Option Entry). IsHeld shape.kind (option_map (judged_element test) o) e.1 e.1.content) found (held_new e.0 e.1 is)) same)
       by None found false same = fresh (is_other shape.kind None e.1 (subst (λ (o : Option Entry). IsHeld shape.kind (option_map (judged_element test) o) e.1 e.1.content) found (held_new e.0 e.1 is)) same)
@@ -159,13 +169,6 @@ module _ (shape : Shape) (test : List ℕ → Bool) (v : View) (synced new : Map
   all_made : (P : Entry → Type 0) (m : Map) → AllByRecursion (λ e. P (made e)) m → AllByRecursion P (map made m)
   all_made P [] all = tt
   all_made P (e ∷ m) all = (all.0, all_made P m all.1)
-
-  pub committed_read : IsReadView shape.kind (committed shape v synced new)
-  unfolding committed
-  committed_read = record {
-    names_ascend = ascends_map pair_name entry_name made made_name new sync.next.names_ascend;
-    each = all_made (IsReadEntry shape.kind) new (each_new (λ e. IsReadEntry shape.kind (made e)) (λ name e is. made_read (name, e) is));
-  }
 
   -- an element that is made shows what the map says
   shown : Passes test new → (e : List ℕ × Element) → element_at new e.0 ≡ Some e.1 → judged_pair test (made e) ≡ e
@@ -226,6 +229,33 @@ module _ (shape : Shape) (test : List ℕ → Bool) (v : View) (synced new : Map
   length_made : (m : Map) → length (map made m) ≡ length m
   length_made [] = refl
   length_made (e ∷ m) = ap suc (length_made m)
+
+  -- ---- the committed view is as it will be read
+
+  all_lacking : (scope : Scope) → AreNumbers shape.place.copies (lacking_by scope (map made new) shape.place.copies)
+  all_lacking scopes.Element = no_numbers shape.place.copies
+  all_lacking scopes.Storage = numbers_passing (λ copy. lacks_one (map made new) (copy + 1)) shape.place.copies
+
+  each_named : (P : List ℕ → Type 0) (m : Map) → AllByRecursion P (maps.names_of m) → AllByRecursion (λ (e : List ℕ × Element). P e.0) m
+  each_named P [] all = tt
+  each_named P (e ∷ m) all = (all.0, each_named P m all.1)
+
+  made_by : (m : Map) → AllByRecursion (λ (e : List ℕ × Element). element_at new e.0 ≡ Some e.1) m → AllByRecursion (λ (e : List ℕ × Element). IsName e.0) m
+      → AllByRecursion (λ e. IsEntryOf shape (made e)) m
+  made_by [] found names = tt
+  made_by (e ∷ m) found names = (made_read e found.0 names.0, made_by m found.1 names.1)
+
+  pub committed_read : AllByRecursion IsName (maps.names_of new) → IsView shape (committed shape v synced new)
+  unfolding committed
+  committed_read names = record {
+    generation = omega arith;
+    each = all_made (IsEntryOf shape) new (made_by new (each_new (λ e. element_at new e.0 ≡ Some e.1) (λ name e is. is)) (each_named IsName new names));
+    names_ascend = ascends_map pair_name entry_name made made_name new sync.next.names_ascend;
+    few = let few : length new ≤ 1024 = sync.next.few in let same : length (map made new) ≡ length new = length_made new in omega arith;
+    small = let small : maps.size_of new ≤ shape.allowed = sync.next.small in let same : size_of (map made new) ≡ maps.size_of new = sizes new in omega arith;
+    lacking = (all_lacking shape.scope).copies_are;
+    ascend = (all_lacking shape.scope).ascend;
+  }
 
   -- ---- the changes may be committed
 

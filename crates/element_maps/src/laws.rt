@@ -1,6 +1,6 @@
 //! The laws, for the proofs of callers: the function does nothing when it runs.
 
-ghost use Rattle.element_maps.specs.Laws.{CommittedLaw, CostLaw, HeldLaw, NothingLaw, ReadLaw, SizeLaw, TakenLaw};
+ghost use Rattle.element_maps.specs.Laws.{CommittedLaw, CostLaw, ExactCostLaw, HeldLaw, NothingLaw, ReadLaw, SizeLaw, TakenLaw};
 
 /// The changes that make the map that a storage holds into another may be committed; the storage then holds the other, and only what
 /// differs is written, nothing where both are equal.
@@ -11,5 +11,6 @@ pub fn changes_make_maps()
     ensures read { ReadLaw }
     ensures size { SizeLaw }
     ensures cost { CostLaw }
+    ensures exact_cost { ExactCostLaw }
     ensures nothing { NothingLaw }
 {}
