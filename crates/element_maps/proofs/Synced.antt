@@ -1,11 +1,9 @@
 -- All names: the entries after the changes, and the map that they stand for.
-use Rattle.std.proofs.Common.{◌≡◌, ℕ, suc, ◌+◌, ◌<◌, ◌≤◌, Bool, true, false, cond, List, [], ◌∷◌, length, map, Option, Some, None, refl, sym, ap, subst, ◌∙◌, inl, inr, arith}
-use Rattle.std.specs.Prelude.{option_map, sum_by, IsTrue, ◌↔◌}
+use Rattle.std.proofs.Common.{◌≡◌, ℕ, suc, ◌+◌, ◌<◌, ◌≤◌, Bool, true, false, cond, List, [], ◌∷◌, length, map, Option, Some, None, refl, sym, ap, subst, ◌∙◌, arith}
+use Rattle.std.specs.Prelude.{option_map, ◌↔◌}
 use Rattle.std.specs.List.{AllByRecursion}
 use Rattle.std.specs.Str.{bytes_eq}
 use Rattle.std.specs.BTreeMap.{is_at}
-use Rattle.std.specs.Ordering.{is_eq}
-use Rattle.std.proofs.lemmas.Bool.{cases_Bool}
 use Rattle.std.proofs.lemmas.List.Sums.{sum_by-cons}
 use Rattle.std.proofs.lemmas.Map.Text.{is_eq-slice_cmp}
 use Rattle.per_base.specs.declared.elements.Scope.{Scope}
@@ -25,15 +23,15 @@ use Rattle.element_state.specs.Conditions.{AreChanges, IsChange, changed_name, s
 use Rattle.element_state.specs.Chosen.{HasLength}
 use Rattle.element_state.specs.Read.{IsEntryOf, IsView}
 use Rattle.element_state.specs.States.{fresh_entry, whole_view, lacking_by, greatest_generation}
-use Rattle.element_state.specs.Views.{element_of, judged_entry, judged_content, lacks_one}
+use Rattle.element_state.specs.Views.{element_of, judged_entry, judged_content, lacks_one, map_of}
 use Rattle.element_maps.specs.Differences.{difference, change_at}
 use Rattle.element_maps.specs.Sessions.{IsHeld, IsNext, IsSync, Passes, synchronised}
-use Rattle.element_maps.proofs.Names.{eq_back, eq_itself, same_names, false_true}
-use Rattle.element_maps.proofs.InOrder.{NamesAscend, item_each, item_named, item_first, each_item, item_map, names_map, ascends_map, same_lists, names_apart}
-use Rattle.element_maps.proofs.Same.{element, is_same_is, is_same_from}
+use Rattle.element_maps.proofs.Names.{eq_back, same_names}
+use Rattle.element_maps.proofs.InOrder.{NamesAscend, item_each, item_named, item_first, each_item, item_map, ascends_map, same_lists, names_apart}
+use Rattle.element_maps.proofs.Same.{element, is_same_is}
 use Rattle.element_maps.proofs.Entries.{ascends_after, after_all, entry_after}
 use Rattle.element_maps.proofs.Copies.{AreNumbers, no_numbers, numbers_passing}
-use Rattle.element_maps.proofs.Points.{judged_element, point, point_taken, no_change, unchanged, is_other, IsOther}
+use Rattle.element_maps.proofs.Points.{judged_element, judged_good, point, point_taken, no_change, unchanged, is_other, IsOther}
 
 -- ---- maps as lists of items
 
@@ -88,6 +86,57 @@ synced_at test v name = go v.entries
 
 synced_ascends : (test : List ℕ → Bool) (v : View) → NamesAscend entry_name v.entries → NamesAscend pair_name (synchronised test v)
 synced_ascends test v sorted = subst (λ (m : Map). NamesAscend pair_name m) (sym (maps_through test v.entries)) (ascends_map entry_name pair_name (judged_pair test) (λ e. refl) v.entries sorted)
+
+-- ---- the map of a view
+
+untested_content : (content : Content) → judged_content (λ bytes. true) content ≡ content
+untested_content (Good value) = refl
+untested_content (Bad None) = refl
+untested_content (Bad (Some salvage)) = refl
+
+pub untested : (v : View) → synchronised (λ bytes. true) v ≡ map_of v
+untested v = go v.entries
+  where
+    go : (es : List Entry) → map element_of (map (judged_entry (λ bytes. true)) es) ≡ map element_of es
+    go [] = refl
+    go (e ∷ es) = ap (λ c. (e.name, element e.info e.len c) ∷ map element_of (map (judged_entry (λ bytes. true)) es)) (untested_content e.content) ∙ ap (λ m. element_of e ∷ m) (go es)
+
+synced_length : (test : List ℕ → Bool) (es : List Entry) → length (map (judged_pair test) es) ≡ length es
+synced_length test [] = refl
+synced_length test (e ∷ es) = ap suc (synced_length test es)
+
+synced_size : (test : List ℕ → Bool) (es : List Entry) → maps.size_of (map (judged_pair test) es) ≡ size_of es
+synced_size test [] = refl
+synced_size test (e ∷ es) =
+    let later = synced_size test es in
+    omega (arith, sum_by-cons (λ (x : Entry). length x.name + x.len) e es, sum_by-cons (λ (x : List ℕ × Element). length x.0 + x.1.len) (judged_pair test e) (map (judged_pair test) es), later)
+
+-- an entry that is read shows an element as its kind asks
+read_held : (shape : Shape) (test : List ℕ → Bool) (x : Entry) (e : Element) → IsEntryOf shape x → judged_element test x ≡ e → IsHeld shape.kind (Some e) e e.content
+read_held shape test x e read is = subst (λ (y : Element). IsHeld shape.kind (Some y) y y.content) is (by (judged_content test x.content) refl)
+  where
+    by : (content : Content) → judged_content test x.content ≡ content → IsHeld shape.kind (Some (judged_element test x)) (judged_element test x) content
+    by (Good bytes) good = record {
+      info = read.info;
+      length = subst (λ (c : Content). HasLength x.len c) (judged_good test x.content bytes good) read.content;
+      small = read.len;
+    }
+    by (Bad salvage) bad = refl
+
+pub owed : (shape : Shape) (test : List ℕ → Bool) (v : View) → IsView shape v → IsNext shape (synchronised test v) (synchronised test v)
+owed shape test v read = record {
+  names_ascend = synced_ascends test v read.names_ascend;
+  few = let few : length v.entries ≤ 1024 = read.few in let same : length (synchronised test v) ≡ length v.entries = ap length (maps_through test v.entries) ∙ synced_length test v.entries in omega arith;
+  small = let small : size_of v.entries ≤ shape.allowed = read.small in
+      let same : maps.size_of (synchronised test v) ≡ size_of v.entries = ap maps.size_of (maps_through test v.entries) ∙ synced_size test v.entries in omega arith;
+  each = λ name e is.
+      let found : option_map (judged_element test) (entry_at name v.entries) ≡ Some e = sym (synced_at test v name) ∙ is in
+      subst (λ (o : Option Element). IsHeld shape.kind o e e.content) (sym is) (by name e (entry_at name v.entries) refl found);
+}
+  where
+    by : (name : List ℕ) (e : Element) (o : Option Entry) → entry_at name v.entries ≡ o → option_map (judged_element test) o ≡ Some e → IsHeld shape.kind (Some e) e e.content
+    by name e None at found = absurd cc
+    by name e (Some x) at found = let one : judged_element test x ≡ e = cc in read_held shape test x e (item_each entry_name (IsEntryOf shape) name v.entries x read.each at) one
 
 -- ---- the entries after the changes
 

@@ -1,5 +1,5 @@
 -- What comes of the changes that make one map into another.
-use Rattle.std.specs.Prelude.{◌≡◌, ◌↔◌, ◌≤◌, ◌<◌, ◌+◌, ℕ, List, [], Bool, IsTrue, ⊤}
+use Rattle.std.specs.Prelude.{◌≡◌, ◌↔◌, ◌≤◌, ◌<◌, ◌+◌, ℕ, List, [], Bool, true, IsTrue, ⊤}
 use Rattle.std.specs.List.{AllByRecursion}
 use Rattle.per_base.specs.declared.elements.StoreKind.{StoreKind}
 use Rattle.per_base.specs.declared.elements.StoreKind.TheVariants.{Keys, Files}
@@ -13,8 +13,9 @@ use Rattle.element_state.specs.States.{greatest_generation}
 use Rattle.element_state.specs.Changes.{after_changes, committed_by, committed}
 use Rattle.element_state.specs.Conditions.{AreChanges, size_of}
 use Rattle.element_state.specs.Read.{IsView}
+use Rattle.element_state.specs.Views.{map_of}
 use Rattle.element_state.specs.Written.{commit_cost, map_cost}
-use Rattle.element_maps.specs.Sessions.{IsSync, Passes, synchronised}
+use Rattle.element_maps.specs.Sessions.{IsNext, IsSync, Passes, synchronised}
 
 -- they may be committed
 abbrev pub TakenLaw : Type 0
@@ -59,3 +60,13 @@ ExactCostLaw = (shape : Shape) (test : List ℕ → Bool) (v : View) (synced new
 abbrev pub NothingLaw : Type 0
 NothingLaw = (shape : Shape) (test : List ℕ → Bool) (v : View) (synced new : Map) (changes : List Change) → IsSync shape test v synced new changes
     → (changes ≡ []) ↔ (synced ≡ new)
+
+-- ---- the map of a view
+
+-- with no test it is the view's own
+abbrev pub UntestedLaw : Type 0
+UntestedLaw = (v : View) → synchronised (λ bytes. true) v ≡ map_of v
+
+-- what is synchronised may be handed down as it is: in order, within the limits, each element as its kind asks
+abbrev pub SynchronisedLaw : Type 0
+SynchronisedLaw = (shape : Shape) (test : List ℕ → Bool) (v : View) → IsView shape v → IsNext shape (synchronised test v) (synchronised test v)

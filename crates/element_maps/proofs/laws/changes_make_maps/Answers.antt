@@ -1,5 +1,5 @@
 use Rattle.element_maps.proofs.Synced.{taken, committed_is, held_next, committed_read, size_is, nothing}
-use Rattle.element_maps.proofs.Costs.{cost_le}
+use Rattle.element_maps.proofs.Costs.{cost_le, cost_is}
 use Rattle.element_maps.proofs.laws.changes_make_maps.Goals as goal
 
 pub returns-clause-taken : goal.returns-clause-taken
@@ -22,3 +22,6 @@ returns-clause-cost c = cost_le
 
 pub returns-clause-nothing : goal.returns-clause-nothing
 returns-clause-nothing c = nothing
+
+pub returns-clause-exact_cost : goal.returns-clause-exact_cost
+returns-clause-exact_cost c = cost_is
