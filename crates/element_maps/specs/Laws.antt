@@ -3,6 +3,7 @@ use Rattle.std.specs.Prelude.{◌≡◌, ◌↔◌, ◌≤◌, ◌<◌, ◌+◌,
 use Rattle.std.specs.List.{AllByRecursion}
 use Rattle.per_base.specs.declared.elements.StoreKind.{StoreKind}
 use Rattle.per_base.specs.declared.elements.StoreKind.TheVariants.{Keys, Files}
+use Rattle.per_base.specs.declared.elements.Element.{Element}
 use Rattle.per_base.specs.Maps as maps
 use Rattle.per_base.specs.Maps.{Map, names_of}
 use Rattle.per_base.specs.Names.{IsName}
@@ -10,7 +11,7 @@ use Rattle.element_state.specs.declared.shapes.Change.{Change}
 use Rattle.element_state.specs.declared.shapes.Shape.{Shape}
 use Rattle.element_state.specs.declared.shapes.View.{View}
 use Rattle.element_state.specs.States.{greatest_generation}
-use Rattle.element_state.specs.Changes.{after_changes, committed_by, committed}
+use Rattle.element_state.specs.Changes.{after_changes, committed_by, committed, same_element}
 use Rattle.element_state.specs.Conditions.{AreChanges, size_of}
 use Rattle.element_state.specs.Read.{IsView}
 use Rattle.element_state.specs.Views.{map_of}
@@ -70,3 +71,7 @@ UntestedLaw = (v : View) → synchronised (λ bytes. true) v ≡ map_of v
 -- what is synchronised may be handed down as it is: in order, within the limits, each element as its kind asks
 abbrev pub SynchronisedLaw : Type 0
 SynchronisedLaw = (shape : Shape) (test : List ℕ → Bool) (v : View) → IsView shape v → IsNext shape (synchronised test v) (synchronised test v)
+
+-- elements that are the same by test are equal
+abbrev pub SameLaw : Type 0
+SameLaw = (a b : Element) → IsTrue (same_element a b) ↔ (a ≡ b)

@@ -1,3 +1,4 @@
+use Rattle.element_maps.proofs.Same.{same_is, same_from}
 use Rattle.element_maps.proofs.Synced.{untested, owed}
 use Rattle.element_maps.proofs.laws.views_are_maps.Goals as goal
 
@@ -6,3 +7,6 @@ returns-clause-untested c = untested
 
 pub returns-clause-synchronised : goal.returns-clause-synchronised
 returns-clause-synchronised c = owed
+
+pub returns-clause-same : goal.returns-clause-same
+returns-clause-same c a b = (same_is a b, same_from a b)
