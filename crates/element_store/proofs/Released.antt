@@ -111,8 +111,8 @@ entry_gained es i e h now new lt is added gained b =
     ∙ or_both (h b) (named_in (blocks_of (take i es)) b) (named_in e.blocks b)
     ∙ ap (λ (t : Bool). h b || t) (sym (named_more es i e b lt is))
 
-pub gained_none : (s : List Bool) (b : ℕ) → holds s b ≡ (holds s b || false)
-gained_none s b = sym (or_false (holds s b))
+pub gained_none : (h : Bool) → h ≡ (h || false)
+gained_none h = sym (or_false h)
 
 -- ---- how many are free
 
@@ -130,24 +130,18 @@ all_free (false ∷ s) none = let rest = all_free s (λ b is. none (suc b) is) i
 -- a set that has none but these blocks leaves all others free
 pub enough_free : (blocks : List ℕ) (s : List Bool) → ((b : ℕ) → holds s b ≡ true → named_in blocks b ≡ true) → length s ≤ free_of s + length blocks
 enough_free [] s only = let all = all_free s (λ b is. let e : false ≡ true = only b is in cc) in omega (arith, all)
-enough_free (k ∷ blocks) s only = ⊎_elim inside past (cases_lt k (length s))
-  where
-    others : (b : ℕ) → (k == b) ≡ false → holds s b ≡ true → named_in blocks b ≡ true
-    others b apart is = one_true (k == b) (named_in blocks b) apart (only b is)
-
-    inside : k < length s → length s ≤ free_of s + length (k ∷ blocks)
-    inside lt =
-        let rest = enough_free blocks (set s k false) (λ b is.
-        let both = both_true (holds s b) (not (k == b)) (sym (lose_one s k b lt) ∙ is) in
-        others b (not_true (k == b) both.1) both.0) in
-        let long = length-set s k false in
-        let count = sum_by-set count_free s k false false lt in
-        omega (arith, rest, long, count)
-
-    past : length s ≤ k → length s ≤ free_of s + length (k ∷ blocks)
-    past far =
-        let rest = enough_free blocks s (λ b is. others b (ne_eqb k b (λ e. let lt = below s b is in omega (arith, far, lt, e))) is) in
-        omega (arith, rest)
+enough_free (k ∷ blocks) s only = ⊎_elim
+    (λ lt.
+    let rest = enough_free blocks (set s k false) (λ b is.
+    let both = both_true (holds s b) (not (k == b)) (sym (lose_one s k b lt) ∙ is) in
+    one_true (k == b) (named_in blocks b) (not_true (k == b) both.1) (only b both.0)) in
+    let long = length-set s k false in
+    let count = sum_by-set count_free s k false false lt in
+    omega (arith, rest, long, count))
+    (λ far.
+    let rest = enough_free blocks s (λ b is. one_true (k == b) (named_in blocks b) (ne_eqb k b (λ e. let lt = below s b is in omega (arith, far, lt, e))) (only b is)) in
+    omega (arith, rest))
+    (cases_lt k (length s))
 
 -- ---- the set of the later of two indexes
 
