@@ -171,7 +171,7 @@ pub names_apart : (changes : List Change) (i : ℕ) (c : Change) → IsDistinct 
     → IsUnchanged (take i changes) (changed_name c)
 names_apart changes i c distinct lt is k d less same =
     let before : k < i = (let l = length-take i changes in omega (arith, less, l)) in
-    let long = length-map changed_name changes in
+    let long = length-map changes changed_name in
     let apart = apart_from_distinct bytes_eq (map changed_name changes) k i [] distinct before (omega (arith, lt, long)) in
     let one = get_or-map changed_name changes k d [] (omega (arith, before, lt)) in
     let two = get_or-map changed_name changes i c [] lt in
