@@ -125,6 +125,11 @@ module _ (in_use : InUseLaw) (shape : Shape) (set now : List Bool) (index : Inde
 
 -- ---- a commit
 
+committed_is : (shape : Shape) (v : View) (changes : List Change)
+    → committed_by shape v changes ≡ whole_view shape (v.generation + 1) (after_changes (v.generation + 1) v.entries changes)
+unfolding committed_by
+committed_is shape v changes = refl
+
 module _ (told : Bool) (store : Store) (changes : List Change) (now : List Bool) (next : Index) (jobs : List Job) (old : Medium)
     (used : IsUsed told old.image store) (plan : IsCommitPlan store.shape store.index (view_in store) changes store.used now next jobs) (tells : IsTrue told) where
   abbrev set : List Bool
@@ -158,10 +163,6 @@ module _ (told : Bool) (store : Store) (changes : List Change) (now : List Bool)
   pub commit_shares : All (HasShared old.image place.first place.copies) jobs
   commit_shares = plan_shares shape old.image store.index v in_use_now rules jobs plan.shares
 
-  committed_is : committed_by shape v changes ≡ whole_view shape (v.generation + 1) after
-  unfolding committed_by
-  committed_is = refl
-
   module _ (mid : Medium) where
     -- while the jobs are written, also where a write fails
     pub commit_keeps_jobs : InUseLaw → ContentsLaw → ContentsDoneLaw → (done : Type 0) (state : State)
@@ -193,7 +194,7 @@ module _ (told : Bool) (store : Store) (changes : List Change) (now : List Bool)
       pub commit_keeps : InUseLaw → ContentsLaw → ContentsDoneLaw → CarriedLaw → IndexLaw → KeptThroughout shape (Opens (committed_by shape v changes) []) old new
       commit_keeps in_use contents contents_done carried law quiet clean c past = ⊎_elim
           (λ first. commit_keeps_jobs mid in_use contents contents_done all (Opens (committed_by shape v changes) []) (λ d. keeps) each quiet clean c first)
-          (λ second. subst (λ (w : View). IsKeptCase shape (store_at old.image shape) (Opens w []) c) (sym committed_is)
+          (λ second. subst (λ (w : View). IsKeptCase shape (store_at old.image shape) (Opens w []) c) (sym (committed_is shape v changes))
           (index_kept in_use shape set now store.index v jobs is rules takes plan.placed old in_use_now carried mid next after zip law new plan.text.fit keeps clean stops_here c second))
           (cases_on before later c past)
 
@@ -216,7 +217,7 @@ module _ (told : Bool) (store : Store) (changes : List Change) (now : List Bool)
       same_here = subst (λ (p : Place). Spares (IsNoSlot p.first p.copies) mid.image new.image) used.memory.place same
 
       pub commit_in_use : IsInUse shape new.image next (committed_by shape v changes)
-      commit_in_use = subst (λ (w : View). IsInUse shape new.image next w) (sym committed_is)
+      commit_in_use = subst (λ (w : View). IsInUse shape new.image next w) (sym (committed_is shape v changes))
           (after_in_use shape old.image mid.image new.image set store.index v is in_use_now takes
           (keeps_less (λ f none. none) (λ k taken. left_of_placed set now jobs plan.placed k taken) keeps) same_here next after zip alone plan.text.fit)
 
@@ -324,9 +325,4 @@ module _ (told : Bool) (store : Store) (changes : List Change) (now : List Bool)
       ∙ ap (λ (n : ℕ). 4 + sum_by (entry_length n next.kind) next.entries) two
       ∙ ap (λ (k : StoreKind). 4 + sum_by (entry_length 2 k) next.entries) kind
       ∙ ap (λ (n : ℕ). 4 + n) (all_listed store.shape.kind next.entries (after_changes ((view_in store).generation + 1) (view_in store).entries changes) rules plan.entries)
-      ∙ sym (ap (λ (w : View). index_length store.shape.kind w.entries) committed_is)
-    where
-      committed_is : committed_by store.shape (view_in store) changes
-          ≡ whole_view store.shape ((view_in store).generation + 1) (after_changes ((view_in store).generation + 1) (view_in store).entries changes)
-      unfolding committed_by
-      committed_is = refl
+      ∙ sym (ap (λ (w : View). index_length store.shape.kind w.entries) (committed_is store.shape (view_in store) changes))
