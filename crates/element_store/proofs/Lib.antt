@@ -13,6 +13,7 @@ mod Traced
 pub mod InPlace
 pub mod Opened
 pub mod Finds
+pub mod StoreViews
 pub mod Moments
 pub mod Created
 mod InOrder
