@@ -8,6 +8,8 @@ pub mod Made
 pub mod Cleaned
 pub mod Around
 pub mod Taken
+mod Released
+mod Traced
 pub mod InPlace
 pub mod Opened
 pub mod Finds
