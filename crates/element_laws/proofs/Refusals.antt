@@ -21,7 +21,7 @@ use Rattle.element_state.specs.Clean.{where_of}
 use Rattle.element_state.specs.Conditions.{IsMended, IsInUse}
 use Rattle.element_state.specs.Kept.{HasEnough, IsSpared, KeepsGood}
 use Rattle.element_laws.specs.Phases.{InUseLaw, CarriedLaw, WholeLaw, OpenedLaw, CorruptLaw}
-use Rattle.element_laws.specs.Refused.{one, IndexFirst, OldOverwritten, OtherValue, Planted, CopyEaten, OtherRaised, SalvageRaised}
+use Rattle.element_laws.specs.Refused.{one, IndexFirst, IndexFirstAnew, OldOverwritten, OtherValue, Planted, CopyEaten, OtherRaised, SalvageRaised}
 use Rattle.element_laws.proofs.Lists.{In, Contains-In, In-Contains, map-In, Contains-head, all_in, nothing_listed, not_none, some_is}
 use Rattle.element_laws.proofs.Copies.{good_same, bad_good, gifts}
 use Rattle.element_laws.proofs.Standing.{gift_of, generation_of}
@@ -56,6 +56,11 @@ index_first shape g was is le k =
           let both = subst (λ v. KeepsGood shape [] (one (g + 1) (Bad None)) v) (sym after) keeps in
           bad_good None is (both.0 is refl (inr (all_left shape le)))
     ]
+
+pub index_first_anew : IndexFirstAnew
+index_first_anew shape g salvage is le k =
+    let becomes = k.stays (one g (Bad None)) [] refl in
+    bad_good None is (becomes.1.0 is refl (inr (all_left shape le)))
 
 pub old_overwritten : OldOverwritten
 old_overwritten shape g was is le k =
@@ -100,7 +105,7 @@ other_raised shape g h was other others rest le ne k =
     ]
 
 pub salvage_raised : SalvageRaised
-salvage_raised shape g was is others rest k = not_next g (sym (k.stays (one g (Good was)) rest refl).generation)
+salvage_raised shape g was is others rest k = not_next g (sym (k.stays (one g (Good was)) rest refl).0.generation)
 
 -- ---- storages in use
 

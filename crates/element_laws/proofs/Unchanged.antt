@@ -1,22 +1,20 @@
 -- What a storage is on two images that agree on the files of its place.
-use Rattle.std.proofs.Common.{◌≡◌, ℕ, zero, suc, ◌+◌, ◌*◌, ◌<◌, ◌≤◌, Bool, true, false, cond, ◌&&◌, not, List, [], ◌∷◌, length, Option, Some, None, refl, sym, ap, subst, ◌∙◌, arith, ⊎_elim}
+use Rattle.std.proofs.Common.{◌≡◌, ℕ, zero, suc, ◌+◌, ◌<◌, ◌≤◌, Bool, cond, ◌&&◌, not, List, [], ◌∷◌, length, Option, Some, None, refl, sym, ap, subst, ◌∙◌, arith, ⊎_elim}
 use Rattle.std.specs.Prelude.{map, is_some, nat_le}
 use Rattle.std.specs.List.{filter, range_with_len, list_all}
 use Rattle.per_base.specs.declared.elements.Scope.{Scope}
 use Rattle.per_base.specs.declared.elements.Scope.TheVariants as scope
 use Rattle.per_base.specs.declared.elements.Entry.{Entry}
-use Rattle.disk_model.specs.declared.place.Place.{Place}
 use Rattle.disk_model.specs.Image.{Image}
-use Rattle.disk_model.specs.Place.{slot, area, IsOutside}
+use Rattle.disk_model.specs.Place.{slot, area}
 use Rattle.disk_model.proofs.Frames.{settled_less}
 use Rattle.hash_guard.specs.SealedText.{VerifiesAs, verified}
 use Rattle.m_of_n.specs.Vote.{voted}
-use Rattle.guarded_cell.specs.declared.looking.Seen.{Seen}
 use Rattle.guarded_cell.specs.Register.{Holds, IsAlone, IsBlank, own, other}
-use Rattle.guarded_cell.specs.Held.{held, of_parity, with_slot, copies_that, is_text}
+use Rattle.guarded_cell.specs.Held.{held, of_parity, with_slot, is_text}
 use Rattle.block_files.specs.Aside.{Where}
 use Rattle.block_files.specs.Areas.{within}
-use Rattle.block_files.specs.Contents.{counting, contents, first_content, lacks, lacking}
+use Rattle.block_files.specs.Contents.{counting, first_content, lacks, lacking}
 use Rattle.index_text.specs.declared.entries.Index.{Index}
 use Rattle.index_text.specs.declared.entries.IndexEntry.{IndexEntry}
 use Rattle.index_text.specs.Spelling.{index_text}
@@ -25,11 +23,11 @@ use Rattle.element_state.specs.declared.shapes.View.{View}
 use Rattle.element_state.specs.Fit.{FitText, fit_among, fit_texts, is_settled}
 use Rattle.element_state.specs.Views.{holds_text, counts, holds_all, supporters, qualifies, given, content_of, entry_view, entries_of, store_lacking, lacks_number, view_of}
 use Rattle.element_state.specs.States.{Opens, corrupt_state, store_at, state_of, picked, beside}
-use Rattle.element_state.specs.Clean.{where_of, counting_at, IsNamed, IsClean}
+use Rattle.element_state.specs.Clean.{counting_at, IsNamed, IsClean}
 use Rattle.element_state.specs.Conditions.{IsInUse}
 use Rattle.element_state.proofs.Supported.{copies_alike}
 use Rattle.element_laws.specs.Phases.{IsOfPlace}
-use Rattle.element_laws.specs.Apart.{IsUnchanged, FrameLaw, LieApart, OutsideLaw, ElsewhereLaw, ElsewhereCaseLaw}
+use Rattle.element_laws.specs.Apart.{IsUnchanged, FrameLaw, OutsideLaw, ElsewhereLaw, ElsewhereCaseLaw}
 use Rattle.element_laws.proofs.Phases.{untouched}
 
 -- ---- lists by functions that agree

@@ -1,5 +1,5 @@
 -- What a stop may not leave, by small states that nothing may lead to: one element, in every copy.
-use Rattle.std.specs.Prelude.{◌≢◌, ℕ, ◌+◌, ◌<◌, ◌≤◌, List, [], ◌∷◌, true, Some, None}
+use Rattle.std.specs.Prelude.{◌≢◌, ℕ, ◌+◌, ◌<◌, ◌≤◌, List, [], ◌∷◌, true, Option, Some, None}
 use Rattle.per_base.specs.declared.elements.Entry.{Entry}
 use Rattle.per_base.specs.declared.elements.Content.{Content}
 use Rattle.per_base.specs.declared.elements.Content.TheVariants.{Good, Bad}
@@ -23,6 +23,11 @@ lacking_one generation copy content = record { generation = generation; lacking 
 abbrev pub IndexFirst : Type 0
 IndexFirst = (shape : Shape) (g : ℕ) (was is : List ℕ) → shape.m ≤ shape.place.copies
     → ¬ (Kept shape [] (Opens (one (g + 1) (Bad None)) []) (Opens (one g (Good was)) []) (Opens (one (g + 1) (Good is)) []))
+
+-- and so while a corrupt storage is made anew
+abbrev pub IndexFirstAnew : Type 0
+IndexFirstAnew = (shape : Shape) (g : ℕ) (salvage : Option View) (is : List ℕ) → shape.m ≤ shape.place.copies
+    → ¬ (Kept shape [] (Opens (one g (Bad None)) []) (Corrupt salvage []) (Opens (one g (Good is)) []))
 
 -- new contents in blocks of the index that stands: its element cannot be read
 abbrev pub OldOverwritten : Type 0

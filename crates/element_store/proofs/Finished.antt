@@ -1,5 +1,5 @@
 -- The second half of a commit.
-use Rattle.std.proofs.Common.{◌≡◌, ℕ, ◌+◌, ◌*◌, ◌<◌, ◌≤◌, List, Bool, Vec, Global, IsTrue, refl, sym, ap, ◌∙◌, subst, arith, inl, inr, ⊎_elim}
+use Rattle.std.proofs.Common.{◌≡◌, ℕ, ◌+◌, ◌*◌, ◌≤◌, List, Bool, Vec, Global, IsTrue, refl, sym, ap, ◌∙◌, subst, arith, inl, inr, ⊎_elim}
 use Rattle.std.specs.List.{AllByRecursion, AllZip}
 use Rattle.per_base.specs.declared.elements.StoreKind.{StoreKind}
 use Rattle.per_base.specs.declared.elements.StoreKind.TheVariants.{Keys, Files}
@@ -67,7 +67,7 @@ of_either store is next used these those one two grown =
 pub contents_within : (store : Store) (changes slice : List Change) (before after : ℕ) → slice ≡ changes
     → after ≤ before + store.shape.place.copies * commit_cost store.shape.kind store.entries.items slice
     → IsWithin store.shape.place.copies (commit_cost store.shape.kind store.entries.items changes)
-        (index_length store.shape.kind (committed_by store.shape (view_in store) changes).entries) before after
+    (index_length store.shape.kind (committed_by store.shape (view_in store) changes).entries) before after
 contents_within store changes slice before after same cost =
     let here = subst (λ (cs : List Change). after ≤ before + store.shape.place.copies * commit_cost store.shape.kind store.entries.items cs) same cost in
     within store.shape.place.copies (commit_cost store.shape.kind store.entries.items changes) (index_length store.shape.kind (committed_by store.shape (view_in store) changes).entries) here

@@ -1,8 +1,7 @@
 -- A storage that was opened: its elements after they were mended, and that it is in use.
-use Rattle.std.proofs.Common.{◌≡◌, ◌≢◌, ◌⊎◌, ℕ, zero, suc, ◌+◌, ◌-◌, ◌*◌, ◌<◌, ◌≤◌, List, [], ◌∷◌, length, get_or, Bool, true, false, IsTrue, Option, Some, None, inl, inr, refl, sym, ap, ◌∙◌, subst, arith, ⊎_elim, Global}
-use Rattle.std.specs.Prelude.{map, filter, not, is_some, find, cond, IfSome, ◌&&◌}
-use Rattle.std.specs.List.{AllZip, AllByRecursion, Contains, list_all, range_with_len}
-use Rattle.std.specs.Option.{option_map}
+use Rattle.std.proofs.Common.{◌≡◌, ◌⊎◌, ℕ, zero, suc, ◌+◌, ◌-◌, ◌<◌, ◌≤◌, List, [], ◌∷◌, length, get_or, Bool, true, false, IsTrue, Option, Some, None, inl, inr, refl, sym, ap, ◌∙◌, subst, arith, ⊎_elim, Global}
+use Rattle.std.specs.Prelude.{map, is_some, find, cond}
+use Rattle.std.specs.List.{AllZip, AllByRecursion, Contains, list_all}
 use Rattle.std.specs.Str.{bytes_eq}
 use Rattle.std.proofs.lemmas.Bool.{cases_Bool, cond-true, cond-false, leb-true}
 use Rattle.std.proofs.lemmas.Slice.Eq.{bytes_eq-Decides}
@@ -21,8 +20,7 @@ use Rattle.disk_model.specs.Place.{area, slot, IsNoArea, IsNoSlot}
 use Rattle.m_of_n.specs.Vote.{voted}
 use Rattle.guarded_cell.specs.declared.cell.Cell.{Cell}
 use Rattle.guarded_cell.specs.Cells.{CellAt, IsCellOf}
-use Rattle.guarded_cell.specs.Register.{IsAlone, IsBlank, Holds, own, other}
-use Rattle.guarded_cell.specs.Held.{holds, copies_that}
+use Rattle.guarded_cell.specs.Register.{IsAlone, IsBlank, own, other}
 use Rattle.guarded_cell.specs.CopyLaws.{enough_pass, passing_enough, passing_is}
 use Rattle.guarded_cell.specs.StopLaws.{at_least_map}
 use Rattle.block_files.specs.Areas.{joined, within, IsFull, AllFull, area_of}
@@ -33,7 +31,7 @@ use Rattle.index_text.specs.declared.entries.IndexEntry.{IndexEntry}
 use Rattle.index_text.specs.Spelling.{index_text}
 use Rattle.element_state.specs.declared.shapes.Shape.{Shape}
 use Rattle.element_state.specs.declared.shapes.View.{View}
-use Rattle.element_state.specs.Clean.{where_of, counting_at, IsNamed, IsClean}
+use Rattle.element_state.specs.Clean.{where_of, IsNamed, IsClean}
 use Rattle.element_state.specs.Fit.{FitText, fit_index, fit_texts}
 use Rattle.element_state.specs.Views.{entry_view, given, counts, content_of, holds_text, holds_all, supporters, qualifies, view_of}
 use Rattle.element_state.specs.States.{Opens, store_at, whole_view, mended_by, mended_entry, mended_view}

@@ -1,9 +1,8 @@
 -- A storage in use, as a plan of changes finds it, and the index of a plan.
-use Rattle.std.proofs.Common.{◌≡◌, ◌≢◌, ℕ, zero, suc, ◌+◌, ◌-◌, ◌*◌, ◌/◌, ◌<◌, ◌≤◌, List, [], ◌∷◌, ◌++◌, length, get_or, map, Bool, true, false, eqb, Some, Option, IsTrue, refl, sym, ap, subst, ◌∙◌, inl, inr, arith, length-append, eq-eqb}
-use Rattle.std.specs.Prelude.{sum_by, nat_eq, nat_lt, nat_le, ◌&&◌, ◌||◌, cond}
-use Rattle.std.specs.List.{All, AllZip, AllByRecursion, IsDistinct, list_all}
-use Rattle.std.specs.Str.{bytes_eq}
-use Rattle.std.proofs.lemmas.Bool.{cases_Bool, and_parts, and_from, le-leb}
+use Rattle.std.proofs.Common.{◌≡◌, ◌≢◌, ℕ, ◌+◌, ◌-◌, ◌<◌, ◌≤◌, List, [], ◌∷◌, ◌++◌, length, get_or, Bool, true, eqb, Some, Option, refl, sym, ap, subst, ◌∙◌, inl, inr, arith, length-append, eq-eqb}
+use Rattle.std.specs.Prelude.{sum_by, nat_eq, nat_lt, nat_le, ◌&&◌}
+use Rattle.std.specs.List.{AllZip, AllByRecursion, IsDistinct, list_all}
+use Rattle.std.proofs.lemmas.Bool.{and_parts, and_from, le-leb}
 use Rattle.std.proofs.lemmas.List.{get_or_append_left, get_or-append_right}
 use Rattle.std.proofs.lemmas.List.Sums.{sum_by-cons}
 use Rattle.std.proofs.lemmas.Map.Keys.{apart_from_distinct}

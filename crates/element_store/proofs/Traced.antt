@@ -1,5 +1,5 @@
 -- What a change leaves of the entries of other names and of the blocks of all.
-use Rattle.std.proofs.Common.{◌≡◌, ◌≢◌, ◌⊎◌, ℕ, zero, suc, ◌<◌, List, [], ◌∷◌, ◌++◌, length, get_or, map, take, Bool, true, false, cond, Option, Some, None, refl, sym, ap, ◌∙◌, subst, arith, inl, inr, ⊎_elim}
+use Rattle.std.proofs.Common.{◌≡◌, ◌≢◌, ◌⊎◌, ℕ, zero, suc, ◌<◌, List, [], ◌∷◌, ◌++◌, length, get_or, map, take, Bool, true, false, Some, refl, sym, ap, ◌∙◌, subst, arith, inl, inr, ⊎_elim}
 use Rattle.std.specs.Prelude.{◌||◌, ◌==◌}
 use Rattle.std.specs.List.{All, AllByRecursion, Contains, IsDistinct}
 use Rattle.std.specs.Str.{bytes_eq}
@@ -16,7 +16,6 @@ use Rattle.index_text.specs.Rules.{blocks_of}
 use Rattle.per_base.specs.Names.{name_cmp}
 use Rattle.per_base.specs.declared.elements.FileInfo.{FileInfo}
 use Rattle.element_state.specs.declared.shapes.Change.{Change}
-use Rattle.element_state.specs.declared.shapes.Change.TheVariants.{Put, Remove, Touch}
 use Rattle.element_state.specs.Changes.{item_at, insert_item, without_item}
 use Rattle.element_state.specs.Conditions.{changed_name}
 use Rattle.element_store.specs.Named.{NamesAscend}

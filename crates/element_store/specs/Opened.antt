@@ -1,5 +1,5 @@
 -- An opening: what it knows before it writes, and what it takes for granted of halves of a mend.
-use Rattle.std.specs.Prelude.{◌≡◌, List, map, true, Some, find}
+use Rattle.std.specs.Prelude.{◌≡◌, map, true, Some, find}
 use Rattle.std.specs.List.{AllZip}
 use Rattle.disk_model.specs.Image.{Image}
 use Rattle.disk_model.specs.Case.{Case}

@@ -13,6 +13,9 @@
 //! A creation and a rebuild leave a clean place, and an opening and a commit keep one clean. On a clean place a stop at any moment of an
 //! opening, a commit or a rebuild leaves the storage of before or that of after. A failure of the disk comes only where its count of
 //! faults rose. What is read is a view on every disk, told or not: names ascend, and lengths are right.
+//! The promise, on every image: the exact view, a quiet disk, a place that is clean where it was so or is made anew, and no file elsewhere changed at
+//! any moment. A stop at any moment of an opening, a commit or a rebuild leaves the storage of before or that of after. A failure of the
+//! disk comes only where its count of faults rose. What is read is a view on every disk, told or not: names ascend, and lengths are right.
 //!
 //! Limits: at most 1,024 elements, 8 copies, and 4,194,304 bytes of names and contents; one caller at a time. A creation gives up what its
 //! place held, and a stop in it may leave a corrupt storage.

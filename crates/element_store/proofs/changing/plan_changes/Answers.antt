@@ -1,4 +1,4 @@
-use Rattle.std.proofs.Common.{◌≡◌, ℕ, ◌+◌, ◌≤◌, List, [], ◌∷◌, ◌++◌, take, length, refl, sym, ap, subst, ◌∙◌, inl, arith}
+use Rattle.std.proofs.Common.{◌≡◌, ℕ, ◌+◌, ◌≤◌, List, [], ◌∷◌, ◌++◌, take, refl, sym, ap, subst, ◌∙◌, inl, arith}
 use Rattle.std.specs.Prelude.{sum_by}
 use Rattle.std.proofs.lemmas.List.{take_more}
 use Rattle.index_text.specs.declared.entries.IndexEntry.{IndexEntry}
@@ -8,7 +8,7 @@ use Rattle.element_state.specs.Changes.{after_change, after_changes}
 use Rattle.element_state.specs.Written.{change_cost}
 use Rattle.element_store.specs.declared.jobs.Job.{Job}
 use Rattle.element_store.specs.Jobs.{jobs_cost}
-use Rattle.element_store.specs.Changing.{change_blocks, blocks_of_changes, IsPlanned, IsTraced}
+use Rattle.element_store.specs.Changing.{change_blocks, IsPlanned, IsTraced}
 use Rattle.element_store.proofs.Places.{sum_push, sum_take, fold_push}
 use Rattle.element_store.proofs.Changed.{planned_start}
 use Rattle.element_store.proofs.Traced.{traced_more, names_apart}

@@ -1,4 +1,4 @@
-use Rattle.std.proofs.Common.{◌≡◌, ◌≤◌, ◌+◌, length, take, sum_by}
+use Rattle.std.proofs.Common.{◌≤◌, ◌+◌, length, take, sum_by}
 use Rattle.std.specs.Vec.{vec_len, vec_capacity}
 use Rattle.block_files.specs.BlockSets.{free_of}
 use Rattle.element_state.specs.Changes.{after_changes}

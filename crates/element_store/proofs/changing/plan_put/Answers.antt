@@ -1,4 +1,4 @@
-use Rattle.std.proofs.Common.{◌≡◌, ℕ, ◌∷◌, ◌++◌, List, [], length, sym, ap, subst, ◌∙◌, arith}
+use Rattle.std.proofs.Common.{ℕ, ◌∷◌, ◌++◌, List, [], length, sym, ap, subst, ◌∙◌, arith}
 use Rattle.block_files.specs.Parts.{blocks_for}
 use Rattle.block_files.specs.BlockSets.{AreDistinct, IsAdded, SharesBlocks}
 use Rattle.index_text.specs.declared.entries.IndexEntry.{IndexEntry}
@@ -10,7 +10,7 @@ use Rattle.element_store.specs.Changing.{named_by, IsPlanned, KeepsOthers, IsGro
 use Rattle.element_store.proofs.Traced.{put_others, put_grown}
 use Rattle.element_store.proofs.Earlier.{changed_at_most}
 use Rattle.element_store.proofs.PlanSteps.{added_keeps}
-use Rattle.element_store.proofs.Put.{earlier_room, earlier_distinct, earlier_taken, standing_keeps, planned_put}
+use Rattle.element_store.proofs.Put.{earlier_room, earlier_distinct, standing_keeps, planned_put}
 use Rattle.element_store.proofs.changing.plan_put.Goals as goal
 
 pub reserve_shared-requires-clause-room : goal.reserve_shared-requires-clause-room

@@ -1,10 +1,5 @@
-use Rattle.std.proofs.Common.{◌≡◌, ℕ, List, IsTrue, refl, sym, ap, ◌∙◌, subst}
+use Rattle.std.proofs.Common.{refl, ap, ◌∙◌}
 use Rattle.disk_model.specs.Image.{Image}
-use Rattle.disk_model.specs.Frame.{Spares}
-use Rattle.disk_model.specs.Medium.{EachCase}
-use Rattle.disk_model.specs.Place.{IsNoSlot}
-use Rattle.guarded_cell.specs.Stops.{PutStops}
-use Rattle.element_laws.specs.Phases.{OpensAt}
 use Rattle.element_store.specs.declared.store.Store.{Store}
 use Rattle.element_store.specs.Committing.{index_in}
 use Rattle.element_store.proofs.Opened.{opening_used, opening_view, opening_clean, opening_shown, opening_alone, opening_opens, opening_spared, opening_whole, opening_by}

@@ -1,5 +1,5 @@
-use Rattle.std.proofs.Common.{◌<◌, ◌≡◌, ℕ, List, length, take, ap, ◌∙◌, sym, subst, arith}
-use Rattle.std.specs.Prelude.{Bool, not, ◌&&◌, ◌||◌}
+use Rattle.std.proofs.Common.{◌<◌, ◌≡◌, ℕ, List, length, ◌∙◌, sym, subst, arith}
+use Rattle.std.specs.Prelude.{not, ◌&&◌, ◌||◌}
 use Rattle.std.specs.List.{All}
 use Rattle.std.proofs.lemmas.List.{take_all}
 use Rattle.disk_model.specs.Orders.{named_in}

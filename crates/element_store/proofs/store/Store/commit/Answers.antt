@@ -1,11 +1,10 @@
-use Rattle.std.proofs.Common.{◌≡◌, ℕ, ◌+◌, List, length, sym, ap, subst, ◌∙◌, arith}
+use Rattle.std.proofs.Common.{◌≡◌, ℕ, List, length, sym, ap, subst, ◌∙◌, arith}
 use Rattle.disk_model.specs.declared.place.Place.{Place}
 use Rattle.disk_model.specs.Frame.{Spares}
 use Rattle.disk_model.specs.Place.{IsNoSlot}
 use Rattle.guarded_cell.specs.Register.{IsAlone}
 use Rattle.index_text.specs.Spelling.{index_text}
 use Rattle.index_text.proofs.Lengths.{text_is_short}
-use Rattle.hash_guard.specs.SealedText.{header}
 use Rattle.element_state.specs.declared.shapes.Change.{Change}
 use Rattle.element_store.specs.Committing.{IsReady, index_length}
 use Rattle.std.proofs.Common.{[], refl, Err}

@@ -1,4 +1,4 @@
-use Rattle.std.proofs.Common.{◌≡◌, ◌∙◌, List, Ok, Err, get_or, refl, sym, ap, subst}
+use Rattle.std.proofs.Common.{◌∙◌, List, Ok, Err, get_or, refl, sym, ap, subst}
 use Rattle.per_base.specs.declared.elements.Entry.{Entry}
 use Rattle.element_state.specs.Changes.{entry_name}
 use Rattle.element_store.specs.Named.{NamesAscend}
