@@ -9,10 +9,6 @@
 //! the next generation. In each of these the contents are durable before the index that names them takes its place. [`inspect`] and
 //! [`salvage`] look at a storage and write nothing, and [`reports_of`] gives what an opening reports of a view.
 //!
-//! The promise, on every image: the exact view and a quiet disk after each call, and no file outside the place changed at any moment.
-//! A creation and a rebuild leave a clean place, and an opening and a commit keep one clean. On a clean place a stop at any moment of an
-//! opening, a commit or a rebuild leaves the storage of before or that of after. A failure of the disk comes only where its count of
-//! faults rose. What is read is a view on every disk, told or not: names ascend, and lengths are right.
 //! The promise, on every image: the exact view, a quiet disk, a place that is clean where it was so or is made anew, and no file elsewhere changed at
 //! any moment. A stop at any moment of an opening, a commit or a rebuild leaves the storage of before or that of after. A failure of the
 //! disk comes only where its count of faults rose. What is read is a view on every disk, told or not: names ascend, and lengths are right.
