@@ -1,5 +1,5 @@
 -- What a stop may not leave, by small states that nothing may lead to: one element, in every copy.
-use Rattle.std.specs.Prelude.{◌≢◌, ℕ, ◌+◌, ◌<◌, ◌≤◌, List, [], ◌∷◌, true, Option, None}
+use Rattle.std.specs.Prelude.{◌≢◌, ℕ, ◌+◌, ◌<◌, ◌≤◌, List, [], ◌∷◌, true, Option, Some, None}
 use Rattle.per_base.specs.declared.elements.Entry.{Entry}
 use Rattle.per_base.specs.declared.elements.Content.{Content}
 use Rattle.per_base.specs.declared.elements.Content.TheVariants.{Good, Bad}
@@ -48,3 +48,13 @@ Planted = (shape : Shape) (g h : ℕ) (was is never : List ℕ) → h ≢ g → 
 abbrev pub CopyEaten : Type 0
 CopyEaten = (shape : Shape) (g copy : ℕ) (was is : List ℕ) → copy < shape.place.copies
     → ¬ (Kept shape [] (Opens (lacking_one g copy (Good was)) []) (Opens (one g (Good was)) []) (Opens (one (g + 1) (Good is)) []))
+
+-- another text that is held, and that enough copies came to support by what was mended before the index was adopted: the storage opens at it
+abbrev pub OtherRaised : Type 0
+OtherRaised = (shape : Shape) (g h : ℕ) (was other : List ℕ) (others rest : List View) → shape.m ≤ shape.place.copies → h ≢ g
+    → ¬ (Kept shape [] (Opens (one h (Good other)) rest) (Opens (one g (Good was)) others) (Opens (one g (Good was)) []))
+
+-- contents in blocks of the salvage of a corrupt storage, or beside a text that was not given up: the storage opens at what it did not open at
+abbrev pub SalvageRaised : Type 0
+SalvageRaised = (shape : Shape) (g : ℕ) (was is : List ℕ) (others rest : List View)
+    → ¬ (Kept shape [] (Opens (one g (Good was)) rest) (Corrupt (Some (one g (Bad None))) others) (Opens (one (g + 1) (Good is)) []))
