@@ -49,7 +49,7 @@ pub fn create<D: Disk>(
     // No file outside the place changes, at the end and at any moment.
     ensures elsewhere { IsTrue D.told
         → Spares (IsOutside shape.place.first shape.place.copies) (D.medium disk.old).image (D.medium disk.new).image }
-    ensures any_moment { IsTrue D.told → Quiet (D.medium disk.old)
+    ensures outside { IsTrue D.told → Quiet (D.medium disk.old)
         → EachCase (IsSettledOn (IsOutside shape.place.first shape.place.copies) (D.medium disk.old).image)
         (D.medium disk.old) (D.medium disk.new) }
     ensures time { Elapses (D.medium disk.old) (D.medium disk.new) }

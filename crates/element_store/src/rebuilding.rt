@@ -55,7 +55,7 @@ pub fn rebuild<D: Disk>(
         (D.medium disk.old) (D.medium disk.new) }
     ensures elsewhere { IsTrue D.told
         → Spares (IsOutside shape.now.place.first shape.now.place.copies) (D.medium disk.old).image (D.medium disk.new).image }
-    ensures any_moment { IsTrue D.told → Quiet (D.medium disk.old)
+    ensures outside { IsTrue D.told → Quiet (D.medium disk.old)
         → EachCase (IsSettledOn (IsOutside shape.now.place.first shape.now.place.copies) (D.medium disk.old).image)
         (D.medium disk.old) (D.medium disk.new) }
     ensures time { Elapses (D.medium disk.old) (D.medium disk.new) }

@@ -22,8 +22,8 @@ put_contents-requires-clause-free g c =
 pub returns-in_err-spelled-clause-elsewhere : goal.returns-in_err-spelled-clause-elsewhere
 returns-in_err-spelled-clause-elsewhere g c = λ tells. areas_around c.args.shape.place.first c.args.shape.place.copies _ _ (c.in_err-spelled.ensures.elsewhere tells)
 
-pub returns-in_err-spelled-clause-any_moment : goal.returns-in_err-spelled-clause-any_moment
-returns-in_err-spelled-clause-any_moment g c = λ tells quiet. contents_around c.args.shape.place.first c.args.shape.place.copies _ (g.D.Disk.medium c.args.disk.now) (g.D.Disk.medium c.put_contents.new.disk) _ quiet (c.in_err-spelled.ensures.elsewhere tells) c.in_err-spelled.ensures.during
+pub returns-in_err-spelled-clause-outside : goal.returns-in_err-spelled-clause-outside
+returns-in_err-spelled-clause-outside g c = λ tells quiet. contents_around c.args.shape.place.first c.args.shape.place.copies _ (g.D.Disk.medium c.args.disk.now) (g.D.Disk.medium c.put_contents.new.disk) _ quiet (c.in_err-spelled.ensures.elsewhere tells) c.in_err-spelled.ensures.during
 
 pub blocks_taken_by-requires : goal.blocks_taken_by-requires
 blocks_taken_by-requires g c =
@@ -32,14 +32,14 @@ blocks_taken_by-requires g c =
 pub returns-in_err-taken-clause-elsewhere : goal.returns-in_err-taken-clause-elsewhere
 returns-in_err-taken-clause-elsewhere g c = λ tells. areas_around c.args.shape.place.first c.args.shape.place.copies _ _ (c.in_ok-spelled.ensures.elsewhere tells)
 
-pub returns-in_err-taken-clause-any_moment : goal.returns-in_err-taken-clause-any_moment
-returns-in_err-taken-clause-any_moment g c = λ tells quiet. contents_around c.args.shape.place.first c.args.shape.place.copies _ (g.D.Disk.medium c.args.disk.now) (g.D.Disk.medium c.put_contents.new.disk) _ quiet (c.in_ok-spelled.ensures.elsewhere tells) c.in_ok-spelled.ensures.during
+pub returns-in_err-taken-clause-outside : goal.returns-in_err-taken-clause-outside
+returns-in_err-taken-clause-outside g c = λ tells quiet. contents_around c.args.shape.place.first c.args.shape.place.copies _ (g.D.Disk.medium c.args.disk.now) (g.D.Disk.medium c.put_contents.new.disk) _ quiet (c.in_ok-spelled.ensures.elsewhere tells) c.in_ok-spelled.ensures.during
 
 pub returns-in_err-entries-clause-elsewhere : goal.returns-in_err-entries-clause-elsewhere
 returns-in_err-entries-clause-elsewhere g c = λ tells. areas_around c.args.shape.place.first c.args.shape.place.copies _ _ (c.in_ok-spelled.ensures.elsewhere tells)
 
-pub returns-in_err-entries-clause-any_moment : goal.returns-in_err-entries-clause-any_moment
-returns-in_err-entries-clause-any_moment g c = λ tells quiet. contents_around c.args.shape.place.first c.args.shape.place.copies _ (g.D.Disk.medium c.args.disk.now) (g.D.Disk.medium c.put_contents.new.disk) _ quiet (c.in_ok-spelled.ensures.elsewhere tells) c.in_ok-spelled.ensures.during
+pub returns-in_err-entries-clause-outside : goal.returns-in_err-entries-clause-outside
+returns-in_err-entries-clause-outside g c = λ tells quiet. contents_around c.args.shape.place.first c.args.shape.place.copies _ (g.D.Disk.medium c.args.disk.now) (g.D.Disk.medium c.put_contents.new.disk) _ quiet (c.in_ok-spelled.ensures.elsewhere tells) c.in_ok-spelled.ensures.during
 
 pub format_cell-requires : goal.format_cell-requires
 format_cell-requires g c =
@@ -53,8 +53,8 @@ pub returns-in_err-cell-clause-elsewhere : goal.returns-in_err-cell-clause-elsew
 returns-in_err-cell-clause-elsewhere g c = λ tells. both_around c.args.shape.place.first c.args.shape.place.copies _ (g.D.Disk.medium c.put_contents.new.disk).image _
     (c.in_ok-spelled.ensures.elsewhere tells) (c.in_err-cell.ensures.elsewhere tells)
 
-pub returns-in_err-cell-clause-any_moment : goal.returns-in_err-cell-clause-any_moment
-returns-in_err-cell-clause-any_moment g c = λ tells quiet. format_around c.args.shape.place.first c.args.shape.place.copies _ c.as_slice-2.result.now
+pub returns-in_err-cell-clause-outside : goal.returns-in_err-cell-clause-outside
+returns-in_err-cell-clause-outside g c = λ tells quiet. format_around c.args.shape.place.first c.args.shape.place.copies _ c.as_slice-2.result.now
     (g.D.Disk.medium c.args.disk.now) (g.D.Disk.medium c.put_contents.new.disk) (g.D.Disk.medium c.format_cell.new.disk) _
     quiet c.in_ok-spelled.ensures.time c.in_err-cell.ensures.time (c.in_ok-spelled.ensures.elsewhere tells) c.in_ok-spelled.ensures.during
     (c.in_err-cell.ensures.any_moment tells c.in_ok-spelled.ensures.quiet)
@@ -63,8 +63,8 @@ pub returns-clause-elsewhere : goal.returns-clause-elsewhere
 returns-clause-elsewhere g c = λ tells. both_around c.args.shape.place.first c.args.shape.place.copies _ (g.D.Disk.medium c.put_contents.new.disk).image _
     (c.in_ok-spelled.ensures.elsewhere tells) (c.in_ok-cell.ensures.elsewhere tells)
 
-pub returns-clause-any_moment : goal.returns-clause-any_moment
-returns-clause-any_moment g c = λ tells quiet. format_around c.args.shape.place.first c.args.shape.place.copies _ c.as_slice-2.result.now
+pub returns-clause-outside : goal.returns-clause-outside
+returns-clause-outside g c = λ tells quiet. format_around c.args.shape.place.first c.args.shape.place.copies _ c.as_slice-2.result.now
     (g.D.Disk.medium c.args.disk.now) (g.D.Disk.medium c.put_contents.new.disk) (g.D.Disk.medium c.format_cell.new.disk) _
     quiet c.in_ok-spelled.ensures.time c.in_ok-cell.ensures.time (c.in_ok-spelled.ensures.elsewhere tells) c.in_ok-spelled.ensures.during
     (c.in_ok-cell.ensures.any_moment tells c.in_ok-spelled.ensures.quiet)

@@ -18,8 +18,8 @@ returns-in_err-used-clause-kept g c = λ tells. c.in_err-used.ensures.kept tells
 pub returns-in_err-used-clause-elsewhere : goal.returns-in_err-used-clause-elsewhere
 returns-in_err-used-clause-elsewhere g c = λ tells f out. c.in_err-used.ensures.elsewhere tells f (outside_no_slot c.args.shape.now.place.first c.args.shape.now.place.copies f out)
 
-pub returns-in_err-used-clause-any_moment : goal.returns-in_err-used-clause-any_moment
-returns-in_err-used-clause-any_moment g c = λ tells quiet x past.
+pub returns-in_err-used-clause-outside : goal.returns-in_err-used-clause-outside
+returns-in_err-used-clause-outside g c = λ tells quiet x past.
     settled_less (λ f out. outside_no_slot c.args.shape.now.place.first c.args.shape.now.place.copies f out) (c.in_err-used.ensures.any_moment tells quiet x past)
 
 pub put_contents-requires-clause-free : goal.put_contents-requires-clause-free
@@ -36,8 +36,8 @@ returns-in_err-spelled-clause-kept g c = λ tells. contents_anew c.args.shape.no
 pub returns-in_err-spelled-clause-elsewhere : goal.returns-in_err-spelled-clause-elsewhere
 returns-in_err-spelled-clause-elsewhere g c = λ tells. contents_elsewhere c.args.shape.now.place.first c.args.shape.now.place.copies c.in_ok-used.field-0.used (g.D.Disk.medium c.args.disk.now) (g.D.Disk.medium c.prepare.new.disk) (g.D.Disk.medium c.put_contents.new.disk) c.in_ok-used.ensures.time c.in_err-spelled.ensures.time (c.in_ok-used.ensures.elsewhere tells) (c.in_err-spelled.ensures.elsewhere tells)
 
-pub returns-in_err-spelled-clause-any_moment : goal.returns-in_err-spelled-clause-any_moment
-returns-in_err-spelled-clause-any_moment g c = λ tells quiet. contents_outside c.args.shape.now.place.first c.args.shape.now.place.copies c.in_ok-used.field-0.used (g.D.Disk.medium c.args.disk.now) (g.D.Disk.medium c.prepare.new.disk) (g.D.Disk.medium c.put_contents.new.disk) c.in_ok-used.ensures.time c.in_err-spelled.ensures.time (c.in_ok-used.ensures.elsewhere tells) (c.in_err-spelled.ensures.elsewhere tells)
+pub returns-in_err-spelled-clause-outside : goal.returns-in_err-spelled-clause-outside
+returns-in_err-spelled-clause-outside g c = λ tells quiet. contents_outside c.args.shape.now.place.first c.args.shape.now.place.copies c.in_ok-used.field-0.used (g.D.Disk.medium c.args.disk.now) (g.D.Disk.medium c.prepare.new.disk) (g.D.Disk.medium c.put_contents.new.disk) c.in_ok-used.ensures.time c.in_err-spelled.ensures.time (c.in_ok-used.ensures.elsewhere tells) (c.in_err-spelled.ensures.elsewhere tells)
     (c.in_ok-used.ensures.any_moment tells quiet) c.in_ok-used.ensures.quiet (false ≡ true) c.in_err-spelled.ensures.during
 
 pub adopt-requires-clause-short : goal.adopt-requires-clause-short
@@ -59,8 +59,8 @@ returns-in_err-adopt-clause-kept g c = λ tells. index_anew c.args.shape.now c.i
 pub returns-in_err-adopt-clause-elsewhere : goal.returns-in_err-adopt-clause-elsewhere
 returns-in_err-adopt-clause-elsewhere g c = λ tells. index_elsewhere c.args.shape.now.place.first c.args.shape.now.place.copies c.in_ok-used.field-0.used (g.D.Disk.medium c.args.disk.now) (g.D.Disk.medium c.prepare.new.disk) (g.D.Disk.medium c.put_contents.new.disk) c.in_ok-used.ensures.time c.in_ok-spelled.ensures.time (c.in_ok-used.ensures.elsewhere tells) (c.in_ok-spelled.ensures.elsewhere tells) (g.D.Disk.medium c.adopt.new.disk) (c.in_err-adopt.ensures.elsewhere tells)
 
-pub returns-in_err-adopt-clause-any_moment : goal.returns-in_err-adopt-clause-any_moment
-returns-in_err-adopt-clause-any_moment g c = λ tells quiet. index_outside c.args.shape.now.place.first c.args.shape.now.place.copies c.in_ok-used.field-0.used (g.D.Disk.medium c.args.disk.now) (g.D.Disk.medium c.prepare.new.disk) (g.D.Disk.medium c.put_contents.new.disk) c.in_ok-used.ensures.time c.in_ok-spelled.ensures.time (c.in_ok-used.ensures.elsewhere tells) (c.in_ok-spelled.ensures.elsewhere tells)
+pub returns-in_err-adopt-clause-outside : goal.returns-in_err-adopt-clause-outside
+returns-in_err-adopt-clause-outside g c = λ tells quiet. index_outside c.args.shape.now.place.first c.args.shape.now.place.copies c.in_ok-used.field-0.used (g.D.Disk.medium c.args.disk.now) (g.D.Disk.medium c.prepare.new.disk) (g.D.Disk.medium c.put_contents.new.disk) c.in_ok-used.ensures.time c.in_ok-spelled.ensures.time (c.in_ok-used.ensures.elsewhere tells) (c.in_ok-spelled.ensures.elsewhere tells)
     (c.in_ok-used.ensures.any_moment tells quiet) c.in_ok-used.ensures.quiet _ c.in_ok-spelled.ensures.during (g.D.Disk.medium c.adopt.new.disk) c.in_ok-used.field-0.generation c.as_slice.result.now
     c.in_err-adopt.ensures.time (c.in_err-adopt.ensures.any_moment tells c.in_ok-spelled.ensures.quiet)
 
@@ -75,8 +75,8 @@ returns-clause-kept g c = λ tells. index_anew c.args.shape.now c.in_ok-used.fie
 pub returns-clause-elsewhere : goal.returns-clause-elsewhere
 returns-clause-elsewhere g c = λ tells. index_elsewhere c.args.shape.now.place.first c.args.shape.now.place.copies c.in_ok-used.field-0.used (g.D.Disk.medium c.args.disk.now) (g.D.Disk.medium c.prepare.new.disk) (g.D.Disk.medium c.put_contents.new.disk) c.in_ok-used.ensures.time c.in_ok-spelled.ensures.time (c.in_ok-used.ensures.elsewhere tells) (c.in_ok-spelled.ensures.elsewhere tells) (g.D.Disk.medium c.adopt.new.disk) (c.in_ok-adopt.ensures.elsewhere tells)
 
-pub returns-clause-any_moment : goal.returns-clause-any_moment
-returns-clause-any_moment g c = λ tells quiet. index_outside c.args.shape.now.place.first c.args.shape.now.place.copies c.in_ok-used.field-0.used (g.D.Disk.medium c.args.disk.now) (g.D.Disk.medium c.prepare.new.disk) (g.D.Disk.medium c.put_contents.new.disk) c.in_ok-used.ensures.time c.in_ok-spelled.ensures.time (c.in_ok-used.ensures.elsewhere tells) (c.in_ok-spelled.ensures.elsewhere tells)
+pub returns-clause-outside : goal.returns-clause-outside
+returns-clause-outside g c = λ tells quiet. index_outside c.args.shape.now.place.first c.args.shape.now.place.copies c.in_ok-used.field-0.used (g.D.Disk.medium c.args.disk.now) (g.D.Disk.medium c.prepare.new.disk) (g.D.Disk.medium c.put_contents.new.disk) c.in_ok-used.ensures.time c.in_ok-spelled.ensures.time (c.in_ok-used.ensures.elsewhere tells) (c.in_ok-spelled.ensures.elsewhere tells)
     (c.in_ok-used.ensures.any_moment tells quiet) c.in_ok-used.ensures.quiet _ c.in_ok-spelled.ensures.during (g.D.Disk.medium c.adopt.new.disk) c.in_ok-used.field-0.generation c.as_slice.result.now
     c.in_ok-adopt.ensures.time (c.in_ok-adopt.ensures.any_moment tells c.in_ok-spelled.ensures.quiet)
 
