@@ -79,7 +79,7 @@ pub record IsPlanned (kind : StoreKind) (standing : List IndexEntry) (views : Li
 abbrev pub entry_of_name : List ℕ → List IndexEntry → Option IndexEntry
 entry_of_name name entries = item_at named_by name entries
 
--- none of the changes is one of this name
+-- each of the changes is of another name
 abbrev pub AreOfOthers : List Change → List ℕ → Type 0
 AreOfOthers changes name = All (λ change. changed_name change ≢ name) changes
 
