@@ -20,7 +20,7 @@ use Rattle.element_state.specs.Changes.{item_at, insert_item, without_item}
 use Rattle.element_state.specs.Conditions.{changed_name}
 use Rattle.element_store.specs.Named.{NamesAscend}
 use Rattle.element_store.specs.Plans.{HasAll}
-use Rattle.element_store.specs.Changing.{named_by, entry_of_name, IsUnchanged, KeepsOthers, IsGrownBy, IsTraced, touched_entry}
+use Rattle.element_store.specs.Changing.{named_by, entry_of_name, AreOfOthers, KeepsOthers, IsGrownBy, IsTraced, touched_entry}
 use Rattle.element_store.proofs.InOrder.{eq_names, found_here}
 use Rattle.element_store.proofs.Places.{same_default}
 use Rattle.element_store.proofs.PlanSteps.{all_front, all_last}
@@ -143,14 +143,14 @@ put_grown e es blocks old new there added b is = ⊎_elim
     (cases_apart blocks b)
 
 pub traced_more : (standing es ns : List IndexEntry) (start old new : List Bool) (done : List Change) (c : Change)
-    → IsUnchanged done (changed_name c) → NamesAscend named_by es → AllByRecursion (λ (e : IndexEntry). HasAll start e.blocks) standing
+    → AreOfOthers done (changed_name c) → NamesAscend named_by es → AllByRecursion (λ (e : IndexEntry). HasAll start e.blocks) standing
     → IsTraced standing start old done es → KeepsOthers (c ∷ []) es ns → IsGrownBy ns old new → IsTraced standing start new (done ++ c ∷ []) ns
 traced_more standing es ns start old new done c apart ascend taken traced others grown = record {
   others = λ n none. others n (all_one (λ (x : Change). changed_name x ≢ n) c (all_last_of n none)) ∙ traced.others n (all_front (λ (x : Change). changed_name x ≢ n) done c none);
   grown = λ b is. ⊎_elim (λ was. ⊎_elim (λ s. inl s) (λ n. from_old b n) (traced.grown b was)) (λ n. inr n) (grown b is);
 }
   where
-    all_last_of : (n : List ℕ) → IsUnchanged (done ++ c ∷ []) n → changed_name c ≢ n
+    all_last_of : (n : List ℕ) → AreOfOthers (done ++ c ∷ []) n → changed_name c ≢ n
     all_last_of n none = all_last (λ (x : Change). changed_name x ≢ n) done c none
 
     from_old : (b : ℕ) → named_in (blocks_of es) b ≡ true → (holds start b ≡ true) ⊎ (named_in (blocks_of ns) b ≡ true)
@@ -167,7 +167,7 @@ traced_more standing es ns start old new done c apart ascend taken traced others
 
 -- no name comes twice
 pub names_apart : (changes : List Change) (i : ℕ) (c : Change) → IsDistinct bytes_eq (map changed_name changes) → i < length changes → c ≡ get_or changes i c
-    → IsUnchanged (take i changes) (changed_name c)
+    → AreOfOthers (take i changes) (changed_name c)
 names_apart changes i c distinct lt is k d less same =
     let before : k < i = (let l = length-take i changes in omega (arith, less, l)) in
     let long = length-map changes changed_name in

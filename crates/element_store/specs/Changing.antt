@@ -79,13 +79,13 @@ pub record IsPlanned (kind : StoreKind) (standing : List IndexEntry) (views : Li
 abbrev pub entry_of_name : List ℕ → List IndexEntry → Option IndexEntry
 entry_of_name name entries = item_at named_by name entries
 
--- none of the changes is one of this name
-abbrev pub IsUnchanged : List Change → List ℕ → Type 0
-IsUnchanged changes name = All (λ change. changed_name change ≢ name) changes
+-- each of the changes is of another name
+abbrev pub AreOfOthers : List Change → List ℕ → Type 0
+AreOfOthers changes name = All (λ change. changed_name change ≢ name) changes
 
 -- an entry whose name no change has is as it was
 abbrev pub KeepsOthers : List Change → (old new : List IndexEntry) → Type 0
-KeepsOthers changes old new = (name : List ℕ) → IsUnchanged changes name → entry_of_name name new ≡ entry_of_name name old
+KeepsOthers changes old new = (name : List ℕ) → AreOfOthers changes name → entry_of_name name new ≡ entry_of_name name old
 
 -- what the set has now and did not have then is blocks of these entries
 abbrev pub IsGrownBy : List IndexEntry → (then now : List Bool) → Type 0
