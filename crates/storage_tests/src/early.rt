@@ -1,9 +1,10 @@
 //! A storage whose index was written in format 1.
 
 use crate::images::{KeyText, fill, hold, index_of};
+use crate::restarts::{ENOUGH, RESTARTS, Restart, restarted};
 use crate::usage::{InUse, Plan, SMALL, value_of};
 use disk_model::MemDisk;
-use element_store::{Store, inspect};
+use element_store::inspect;
 use guarded_cell::look;
 use per_base::{Entry, Name};
 use std::alloc::Global;
@@ -110,25 +111,27 @@ fn assert_early_or_changed(
     Ok(())
 }
 
-#[test]
-fn stops_of_a_first_change(rt: HostRuntime) -> Result<(), Fail> {
-    let alloc = rt.alloc();
-    for passing in 0..64 {
-        let mut all = false;
-        for way in 0..3 {
-            let (opened, _reports) = InUse::open(alloc, EARLY, early(alloc)?)?;
-            let (disk, done) = opened.commit_until(alloc, passing, "work", &[5])?;
-            let disk = match way {
-                0 => disk.crash(true)?,
-                1 => disk.crash(false)?,
-                _ => disk.crash_torn(0x5555_5555_5555_5555)?,
-            };
-            assert_early_or_changed(&rt, alloc, disk, done)?;
-            all = done;
-        }
-        if all {
+// The disk on which the first change is stopped after so many calls, and whether it succeeded.
+fn stopped(alloc: Global, passing: u64) -> Result<(MemDisk, bool), Fail> {
+    let (opened, _reports) = InUse::open(alloc, EARLY, early(alloc)?)?;
+    opened.commit_until(alloc, passing, "work", &[5])
+}
+
+fn follow(rt: &impl Abort, alloc: Global, way: Restart) -> Result<(), Fail> {
+    for passing in 0..ENOUGH {
+        let (disk, done) = stopped(alloc, passing)?;
+        assert_early_or_changed(rt, alloc, restarted(disk, way)?, done)?;
+        if done {
             return Ok(());
         }
     }
     Err(Fail::new("the commit does not end"))
+}
+
+#[test]
+fn stops_of_a_first_change(rt: HostRuntime) -> Result<(), Fail> {
+    for way in RESTARTS {
+        follow(&rt, rt.alloc(), way)?;
+    }
+    Ok(())
 }

@@ -15,6 +15,8 @@ mod images;
 #[cfg(test)]
 mod lost;
 #[cfg(test)]
+mod restarts;
+#[cfg(test)]
 mod stops;
 #[cfg(test)]
 mod usage;

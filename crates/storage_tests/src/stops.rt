@@ -1,19 +1,17 @@
 //! A commit, an opening of a damaged place and a rebuild, each stopped after each call of the disk and restarted in five ways.
 
 use crate::images::complement;
+use crate::restarts::{ENOUGH, RESTARTS, Restart, restarted};
 use crate::usage::{InUse, Plan, SMALL, rebuild_until};
 use disk_model::MemDisk;
 use element_store::open_store;
 use per_base::{Content, Entry, Scope};
-use std::alloc::{AllocError, Global};
+use std::alloc::Global;
 use std::test::Fail;
 
 const OLD: [u8; 2] = [1, 2];
 
 const NEW: [u8; 2] = [9, 0];
-
-// No call of a storage makes so many calls of the disk.
-const ENOUGH: u64 = 200;
 
 // By elements with each m, and by the whole storage.
 const PLANS: [Plan; 4] = [
@@ -40,22 +38,6 @@ const PLANS: [Plan; 4] = [
     },
 ];
 
-// What a restart keeps of the writes since the last sync.
-#[derive(Clone, Copy)]
-enum Restart {
-    All,
-    Nothing,
-    Some(u64),
-}
-
-const RESTARTS: [Restart; 5] = [
-    Restart::All,
-    Restart::Nothing,
-    Restart::Some(0x5555_5555_5555_5555),
-    Restart::Some(0xaaaa_aaaa_aaaa_aaaa),
-    Restart::Some(6),
-];
-
 #[derive(Clone, Copy)]
 enum Step {
     Commit,
@@ -70,14 +52,6 @@ enum Reading {
     New,
     // Too few copies agree, and the salvage is the old value.
     Salvage,
-}
-
-fn restarted(disk: MemDisk, way: Restart) -> Result<MemDisk, AllocError> {
-    match way {
-        Restart::All => disk.crash(true),
-        Restart::Nothing => disk.crash(false),
-        Restart::Some(pattern) => disk.crash_torn(pattern),
-    }
 }
 
 // The disk on which a step from the old value to the new one is stopped after so many calls, and whether it succeeded.

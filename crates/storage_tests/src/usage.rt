@@ -1,13 +1,13 @@
 //! Storages on a disk in memory, made and changed one element at a time.
 
-ghost use Rattle.std.specs.Prelude.{◌≡◌, ◌≤◌, ◌+◌, ◌×◌, true, IsTrue, IfOk, length};
+ghost use Rattle.std.specs.Prelude.{◌≡◌, ◌≤◌, true, IsTrue, IfOk, OnOk};
 ghost use Rattle.disk_model.specs.Memory.{mem_medium};
 ghost use Rattle.element_state.specs.Conditions.{IsShape, IsFresh, AreContents, AreChanges};
 ghost use Rattle.element_store.specs.Stores.{IsUsed, shape_of, view_in};
 ghost use Rattle.storage_tests.specs.Single.{IsAddition};
 
 use disk_model::{MemDisk, Place};
-use element_store::{Change, Shape, Store, create, open_store, rebuild, salvage};
+use element_store::{Change, Shape, Store, View, create, inspect, open_store, rebuild, salvage};
 use per_base::{Bytes, Cause, Content, Entry, FileInfo, Fresh, Name, Report, Scope, StoreKind};
 use std::alloc::Global;
 use std::test::Fail;
@@ -106,19 +106,20 @@ pub(crate) fn alone(alloc: Global, shape: &Shape, fresh: Fresh) -> Result<Vec<Fr
     Ok(vec![in alloc; fresh]?)
 }
 
-/// A storage in use on a disk in memory.
+/// A storage on a disk in memory. Its calls ask that it is in use there, and hand that on.
 #[derive(Drop)]
 pub(crate) struct InUse {
     pub(crate) disk: MemDisk,
     pub(crate) store: Store,
     pub(crate) shape: Shape,
-    ghost used: { IsUsed true (mem_medium disk).image store },
-    ghost kept: { shape_of store ≡ shape },
 }
 
 impl InUse {
     /// A storage that is made with one element, on an empty disk.
-    pub(crate) fn create(alloc: Global, plan: Plan, name: &str, bytes: &[u8]) -> Result<InUse, Fail> {
+    pub(crate) fn create(alloc: Global, plan: Plan, name: &str, bytes: &[u8]) -> Result<InUse, Fail>
+        ensures used { IfOk result (λ kept. IsUsed true (mem_medium kept.disk).image kept.store) }
+        ensures shape { IfOk result (λ kept. shape_of kept.store ≡ kept.shape) }
+    {
         let shape = plan.shape(alloc)?;
         let mut disk = MemDisk::new(alloc);
         let contents = alone(alloc, &shape, element(alloc, plan.kind, name, bytes)?)?;
@@ -131,7 +132,10 @@ impl InUse {
         alloc: Global,
         plan: Plan,
         mut disk: MemDisk,
-    ) -> Result<(InUse, Vec<Report>), Fail> {
+    ) -> Result<(InUse, Vec<Report>), Fail>
+        ensures used { IfOk result (λ opened. IsUsed true (mem_medium opened.0.disk).image opened.0.store) }
+        ensures shape { IfOk result (λ opened. shape_of opened.0.store ≡ opened.0.shape) }
+    {
         let shape = plan.shape(alloc)?;
         let opened = open_store(alloc, &mut disk, shape.copy()?)?;
         let store = opened.store;
@@ -140,6 +144,8 @@ impl InUse {
 
     /// The change alone, where the storage can take it.
     fn single(&self, alloc: Global, change: Change) -> Result<Vec<Change>, Fail>
+        requires used { IsUsed true (mem_medium self.now.disk).image self.now.store }
+        requires shape { shape_of self.now.store ≡ self.now.shape }
         ensures { IfOk result (λ changes. AreChanges (shape_of self.now.store) (view_in self.now.store) changes.items) }
     {
         if self.store.generation() == u64::MAX || self.store.entries().len() >= 1024 {
@@ -152,7 +158,12 @@ impl InUse {
     }
 
     /// Commits one change.
-    pub(crate) fn commit(self, alloc: Global, change: Change) -> Result<InUse, Fail> {
+    pub(crate) fn commit(self, alloc: Global, change: Change) -> Result<InUse, Fail>
+        requires used { IsUsed true (mem_medium self.disk).image self.store }
+        requires shape { shape_of self.store ≡ self.shape }
+        ensures used { IfOk result (λ kept. IsUsed true (mem_medium kept.disk).image kept.store) }
+        ensures shape { IfOk result (λ kept. shape_of kept.store ≡ kept.shape) }
+    {
         let changes = self.single(alloc, change)?;
         let InUse {
             mut disk,
@@ -164,13 +175,23 @@ impl InUse {
     }
 
     /// Commits another content of an element.
-    pub(crate) fn put(self, alloc: Global, name: &str, bytes: &[u8]) -> Result<InUse, Fail> {
+    pub(crate) fn put(self, alloc: Global, name: &str, bytes: &[u8]) -> Result<InUse, Fail>
+        requires used { IsUsed true (mem_medium self.disk).image self.store }
+        requires shape { shape_of self.store ≡ self.shape }
+        ensures used { IfOk result (λ kept. IsUsed true (mem_medium kept.disk).image kept.store) }
+        ensures shape { IfOk result (λ kept. shape_of kept.store ≡ kept.shape) }
+    {
         let fresh = element(alloc, self.shape.kind, name, bytes)?;
         self.commit(alloc, Change::Put(fresh))
     }
 
     /// Commits that an element goes.
-    pub(crate) fn remove(self, alloc: Global, name: &str) -> Result<InUse, Fail> {
+    pub(crate) fn remove(self, alloc: Global, name: &str) -> Result<InUse, Fail>
+        requires used { IsUsed true (mem_medium self.disk).image self.store }
+        requires shape { shape_of self.store ≡ self.shape }
+        ensures used { IfOk result (λ kept. IsUsed true (mem_medium kept.disk).image kept.store) }
+        ensures shape { IfOk result (λ kept. shape_of kept.store ≡ kept.shape) }
+    {
         let name = Name::new(alloc, name)?;
         self.commit(alloc, Change::Remove(name))
     }
@@ -182,15 +203,30 @@ impl InUse {
         passing: u64,
         name: &str,
         bytes: &[u8],
-    ) -> Result<(MemDisk, bool), Fail> {
+    ) -> Result<(MemDisk, bool), Fail>
+        requires used { IsUsed true (mem_medium self.disk).image self.store }
+        requires shape { shape_of self.store ≡ self.shape }
+    {
         let fresh = element(alloc, self.shape.kind, name, bytes)?;
         let changes = self.single(alloc, Change::Put(fresh))?;
         let InUse {
-            mut disk, store, ..
+            mut disk,
+            store,
+            ..
         } = self;
         disk.stop_after(passing);
         let done = store.commit(&mut disk, changes).is_ok();
         Ok((disk, done))
+    }
+
+    /// What the copies stand for.
+    pub(crate) fn view(&mut self, alloc: Global) -> Result<View, Fail>
+        requires used { IsUsed true (mem_medium self.old.disk).image self.old.store }
+        requires shape { shape_of self.old.store ≡ self.old.shape }
+        ensures used { OnOk result (IsUsed true (mem_medium self.new.disk).image self.new.store) }
+        ensures shape { OnOk result (shape_of self.new.store ≡ self.new.shape) }
+    {
+        Ok(inspect(alloc, &mut self.disk, &self.shape)?)
     }
 
     /// How many bytes were written so far.
