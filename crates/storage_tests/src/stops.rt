@@ -116,8 +116,8 @@ fn ends(plan: Plan, step: Step) -> (Reading, Reading) {
     }
 }
 
-// Stops the step after each call. The key reads as before or as after; as before where no call passed, and as after where all did. Where a
-// restart keeps all writes or none, it reads as after from one call on.
+// Stops the step after each call. The key reads as before or as after, and as after once all calls passed. Where a restart keeps all
+// writes or none, it reads as after from one call on.
 fn follow(alloc: Global, plan: Plan, step: Step, way: Restart) -> Result<(), Fail> {
     let (before, after) = ends(plan, step);
     let mut last = before;
