@@ -1,0 +1,1 @@
+-- What a storage shows is what a session of keys asks of its entries.
