@@ -6,6 +6,8 @@ use Rattle.per_base.specs.declared.elements.Content.{Content}
 use Rattle.per_base.specs.declared.elements.Content.TheVariants.{Good, Bad}
 use Rattle.per_base.specs.declared.elements.Element.{Element}
 use Rattle.per_base.specs.declared.elements.Entry.{Entry}
+use Rattle.per_base.specs.declared.elements.Scope.{Scope}
+use Rattle.per_base.specs.declared.elements.Scope.TheVariants as scope
 use Rattle.per_base.specs.declared.reports.Report.{Report}
 use Rattle.per_base.specs.Maps.{Map}
 use Rattle.element_state.specs.declared.shapes.Shape.{Shape}
@@ -33,9 +35,15 @@ readable_is test (Bad (Some salvage)) = by (test salvage)
     by true = refl
     by false = refl
 
+same_recovered : (test : List ℕ → Bool) (scope : Scope) (shape : Shape) (e : Entry) → recovered_reports scope shape (judged_entry test e) ≡ recovered_reports scope shape e
+same_recovered test scope.Element shape e = refl
+same_recovered test scope.Storage shape e = refl
+
 entry_reports : (test : List ℕ → Bool) (shape : Shape) (e : Entry) → element_reports (λ bytes. true) shape (judged_entry test e) ≡ element_reports test shape e
 entry_reports test shape e =
-    ap (λ (b : Bool). cond b (recovered_reports shape.scope shape e) (report_of (element_failed shape.kind) shape (Some e.name) e.lacking ∷ [])) (readable_is test e.content)
+    ap (λ (l : List Report). cond (is_readable (λ bytes. true) (judged_content test e.content)) l (report_of (element_failed shape.kind) shape (Some e.name) e.lacking ∷ []))
+        (same_recovered test shape.scope shape e)
+    ∙ ap (λ (b : Bool). cond b (recovered_reports shape.scope shape e) (report_of (element_failed shape.kind) shape (Some e.name) e.lacking ∷ [])) (readable_is test e.content)
 
 all_reports : (test : List ℕ → Bool) (shape : Shape) (es : List Entry)
     → flat_map (element_reports (λ bytes. true) shape) (map (judged_entry test) es) ≡ flat_map (element_reports test shape) es

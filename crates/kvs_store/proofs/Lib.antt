@@ -1,3 +1,4 @@
 pub mod Handed
 pub mod Judged
 pub mod Stored
+pub mod Synced

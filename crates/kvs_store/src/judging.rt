@@ -1,7 +1,7 @@
 //! Keys of a view that are judged: bytes that encode no value are unreadable.
 
-ghost use Rattle.std.specs.Prelude.{◌≡◌, IfOk, OnOk, map};
-ghost use Rattle.element_state.specs.Views.{judged_content, judged_entry, judged_view};
+ghost use Rattle.std.specs.Prelude.{◌≡◌, IfOk, map};
+ghost use Rattle.element_state.specs.Views.{judged_entry, judged_view};
 ghost use Rattle.key_maps.specs.KeyElements.{is_encoding};
 
 use element_state::View;
@@ -20,8 +20,7 @@ pub(crate) fn judged(alloc: Global, view: View) -> Result<View, AllocError>
         settled,
         entries,
     } = view;
-    let mut entries = entries.into_vec();
-    judge_each(alloc, &mut entries)?;
+    let entries = judge_all(alloc, entries.into_vec())?;
     Ok(View {
         generation,
         lacking,
@@ -30,27 +29,29 @@ pub(crate) fn judged(alloc: Global, view: View) -> Result<View, AllocError>
     })
 }
 
-fn judge_each(alloc: Global, entries: &mut [Entry]) -> Result<(), AllocError>
-    ensures { OnOk result (entries.new ≡ map (judged_entry is_encoding) entries.old) }
+fn judge_all(alloc: Global, entries: Vec<Entry>) -> Result<Vec<Entry>, AllocError>
+    ensures { IfOk result (λ judged. judged.items ≡ map (judged_entry is_encoding) entries.items) }
 {
+    let mut judged = Vec::with_capacity(alloc, entries.len())?;
     for entry in entries {
-        judge(alloc, entry)?;
+        judged.push(judge(alloc, entry)?)?;
     }
-    Ok(())
+    Ok(judged)
 }
 
-fn judge(alloc: Global, entry: &mut Entry) -> Result<(), AllocError>
-    ensures { OnOk result (entry.new ≡ judged_entry is_encoding entry.old) }
+fn judge(alloc: Global, entry: Entry) -> Result<Entry, AllocError>
+    ensures { IfOk result (λ judged. judged ≡ judged_entry is_encoding entry) }
 {
     let keeps = match &entry.content {
         Content::Good(bytes) => encodes(alloc, bytes)?,
         Content::Bad(Some(salvage)) => encodes(alloc, salvage)?,
         Content::Bad(None) => true,
     };
+    let mut entry = entry;
     if !keeps {
         entry.content = Content::Bad(None);
     }
-    Ok(())
+    Ok(entry)
 }
 
 // Whether some value encodes to the bytes.

@@ -75,7 +75,6 @@ pub fn open_kvs<D: Disk>(
     ensures time { Elapses (D.medium disk.old) (D.medium disk.new) }
 {
     let OpenedStore { store, before, .. } = open_store(alloc, disk, shape.copy()?)?;
-    store.holds();
     let session = KeySession::new(alloc, config, store.entries())?;
     let reports = reports_of(alloc, &shape, &judged(alloc, before)?)?;
     let kvs = Kvs {

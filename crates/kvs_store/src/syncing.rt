@@ -17,6 +17,8 @@ ghost use Rattle.kvs_store.specs.Synced.{HandsBack, IsDeviceFault, IsSynced, set
 
 use crate::storages::Kvs;
 use disk_model::Disk;
+use element_laws::untouched_is_kept;
+use element_maps::changes_make_maps;
 use element_store::CommitFault;
 
 /// Why a sync gave up.
@@ -77,6 +79,10 @@ impl Kvs {
             (D.medium disk.old).written (D.medium disk.new).written) }
         ensures time { Elapses (D.medium disk.old) (D.medium disk.new) }
     {
+        untouched_is_kept();
+        changes_make_maps();
+        self.store.holds();
+        self.session.holds();
         if !self.session.has_changes() {
             return Ok(self);
         }
