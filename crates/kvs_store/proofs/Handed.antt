@@ -27,7 +27,7 @@ use Rattle.key_maps.specs.declared.changes.KeyChange.TheVariants.{Put, Remove}
 use Rattle.key_maps.specs.Changes as keys
 use Rattle.key_maps.specs.Changes.{AreChanges}
 use Rattle.key_maps.specs.KeyElements.{IsKey}
-use Rattle.key_maps.specs.TwoMaps.{IsKeyMap}
+use Rattle.key_maps.specs.TwoMaps.{AreTwoMaps, IsKeyMap}
 use Rattle.kvs_store.specs.Handed.{handed, handed_as}
 
 -- ---- names
@@ -118,9 +118,13 @@ key_at m is name = by (element_at m name) refl
     by None p = tt
     by (Some key) p = is.keys name key p
 
-pub handed_make : (cs : List (List ℕ × KeyChange)) (old new : Map) → IsKeyMap old → IsKeyMap new → AreChanges cs old new → MakeInto (map handed cs) old new
+handed_make : (cs : List (List ℕ × KeyChange)) (old new : Map) → IsKeyMap old → IsKeyMap new → AreChanges cs old new → MakeInto (map handed cs) old new
 handed_make cs old new one other are = record {
   names_ascend = subst (λ (l : List (List ℕ)). IsStrictlySortedBy name_cmp l) (sym (handed_names cs)) are.ordered;
   exact = λ name. handed_at name cs ∙ ap (option_map (handed_as name)) (are.exact name)
       ∙ handed_difference name (element_at old name) (element_at new name) (key_at old one name) (key_at new other name);
 }
+
+pub handed_changes : (cs : List (List ℕ × KeyChange)) (all : List Change) (old new : Map) → AreTwoMaps (record { synced = old; visible = new }) → AreChanges cs old new
+    → all ≡ map handed cs → MakeInto all old new
+handed_changes cs all old new maps are is = subst (λ (l : List Change). MakeInto l old new) (sym is) (handed_make cs old new maps.synced maps.visible are)

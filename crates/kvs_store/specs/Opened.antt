@@ -24,5 +24,5 @@ pub record IsOpened (told : Bool) (image : Image) (shape : Shape) (config : Stor
   pub seen : IsTrue told → opened_of (store_at image shape) ≡ Some before
   pub session : session_of opened.kvs ≡ opened_session config before
   pub view : view_in opened.kvs ≡ mended_view shape before
-  pub shape : shape_of opened.kvs ≡ shape
+  pub place : shape_of opened.kvs ≡ shape
   pub reports : opened.reports.items ≡ reports is_encoding shape before

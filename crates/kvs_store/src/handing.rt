@@ -14,14 +14,15 @@ use std::alloc::{AllocError, Global};
 
 impl Kvs {
     // The changes that make what is synchronised into what the calls see, exactly where the two differ.
+    #[tactic(auto, using(crate::proofs::Handed::handed_changes))]
     pub(crate) fn changes(&self) -> Result<Vec<Change>, AllocError>
         ensures { IfOk result (λ changes. MakeInto changes.items (session_of self.now).synced (session_of self.now).visible) }
     {
         self.session.holds();
-        match self.session.changes() {
-            Ok(changes) => hand_all(self.alloc, changes),
-            Err(_) => Err(AllocError),
-        }
+        let Ok(changes) = self.session.changes() else {
+            return Err(AllocError);
+        };
+        Ok(hand_all(self.alloc, changes)?)
     }
 }
 

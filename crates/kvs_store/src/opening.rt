@@ -11,9 +11,9 @@ ghost use Rattle.element_state.specs.Chosen.{opened_of};
 ghost use Rattle.element_state.specs.Clean.{IsClean};
 ghost use Rattle.element_state.specs.Kept.{IsKeptCase};
 ghost use Rattle.element_state.specs.States.{State, store_at};
-ghost use Rattle.element_store.specs.Opened.{MendsByNoChance};
+ghost use Rattle.element_store.specs.Opened.{MendsByNoChance, OpensBy};
 ghost use Rattle.kvs_store.specs.Opened.{IsOpened};
-ghost use Rattle.kvs_store.specs.Storages.{IsKvs, LiesAs};
+ghost use Rattle.kvs_store.specs.Storages.{IsKvs, LiesAs, index_in};
 
 use crate::judging::judged;
 use crate::storages::Kvs;
@@ -51,6 +51,8 @@ pub fn open_kvs<D: Disk>(
     // Both maps are the keys that the storage shows, and the reports are exact.
     ensures opened { IfOk result (IsOpened D.told (D.medium disk.old).image shape (storage_data config.now)) }
     ensures in_use { IfOk result (λ o. IsKvs D.told (D.medium disk.new).image o.kvs) }
+    // Its index is the one that was found.
+    ensures adopted { IsTrue D.told → IfOk result (λ o. OpensBy (D.medium disk.old).image shape (index_in o.kvs)) }
     ensures clean { IsTrue D.told → IsClean shape (D.medium disk.old).image → OnOk result (IsClean shape (D.medium disk.new).image) }
     ensures quiet { OnOk result (Quiet (D.medium disk.new)) }
 
@@ -74,9 +76,10 @@ pub fn open_kvs<D: Disk>(
         (D.medium disk.old) (D.medium disk.new) }
     ensures time { Elapses (D.medium disk.old) (D.medium disk.new) }
 {
-    let OpenedStore { store, before, .. } = open_store(alloc, disk, shape.copy()?)?;
+    let copy = shape.copy()?;
+    let OpenedStore { store, before, .. } = open_store(alloc, disk, shape)?;
     let session = KeySession::new(alloc, config, store.entries())?;
-    let reports = reports_of(alloc, &shape, &judged(alloc, before)?)?;
+    let reports = reports_of(alloc, &copy, &judged(alloc, before)?)?;
     let kvs = Kvs {
         alloc,
         store,

@@ -1,6 +1,6 @@
 //! The sync: what the calls see becomes what lies on the disk.
 
-ghost use Rattle.std.specs.Prelude.{◌≡◌, ◌≢◌, ◌↔◌, IsTrue, IfOk, IfErr, OnOk, length};
+ghost use Rattle.std.specs.Prelude.{◌≡◌, ◌≢◌, ◌↔◌, [], IsTrue, IfOk, IfErr, OnOk, length};
 ghost use Rattle.per_base.specs.declared.elements.StoreKind.TheVariants.{Keys};
 ghost use Rattle.per_base.specs.Causes.{Rose};
 ghost use Rattle.disk_model.specs.Frame.{Spares, IsSettledOn};
