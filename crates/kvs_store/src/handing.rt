@@ -14,7 +14,6 @@ use std::alloc::{AllocError, Global};
 
 impl Kvs {
     // The changes that make what is synchronised into what the calls see, exactly where the two differ.
-    #[tactic(auto, using(crate::proofs::Handed::handed_changes))]
     pub(crate) fn changes(&self) -> Result<Vec<Change>, AllocError>
         ensures { IfOk result (λ changes. MakeInto changes.items (session_of self.now).synced (session_of self.now).visible) }
     {
