@@ -2,3 +2,4 @@ pub mod Handed
 pub mod Judged
 pub mod Stored
 pub mod Synced
+pub mod Opened
