@@ -8,10 +8,12 @@ use Rattle.per_base.specs.declared.reports.Report.{Report}
 use Rattle.per_base.specs.Maps.{Map, size_of}
 use Rattle.per_base.specs.Names.{name_cmp}
 use Rattle.disk_model.specs.Image.{Image}
+use Rattle.deployment_model.specs.Conditions.{IsStorage}
 use Rattle.deployment_model.specs.Data.{StorageData}
 use Rattle.element_state.specs.declared.shapes.Shape.{Shape}
 use Rattle.element_state.specs.declared.shapes.View.{View}
 use Rattle.element_state.specs.Chosen.{opened_of}
+use Rattle.element_state.specs.Conditions.{IsShape}
 use Rattle.element_state.specs.Read.{IsView}
 use Rattle.element_state.specs.Reports.{reports}
 use Rattle.element_state.specs.States.{store_at, mended_view}
@@ -71,3 +73,10 @@ opened_is told image shape config entries before copy seen opened found view pla
   where
     keys : judged_map entries ≡ keys_in before
     keys = ap judged_map shown ∙ (judged_synchronised (view_in opened.kvs) ∙ (ap keys_in view ∙ mended_keys shape before))
+
+pub shape_is : (shape : Shape) (config : StorageData) → IsStorage config → LiesAs shape config → IsShape shape
+shape_is shape config is lies = record {
+  some = omega (arith, is.some_agree, lies.m);
+  enough = omega (arith, is.enough_copies, lies.m, lies.copies);
+  small = omega (arith, is.maximum, lies.allowed);
+}

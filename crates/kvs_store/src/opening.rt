@@ -19,6 +19,7 @@ use crate::judging::judged;
 use crate::storages::Kvs;
 use deployment_model::StorageConfig;
 use disk_model::Disk;
+use element_laws::untouched_is_kept;
 use element_state::{Shape, StoreError};
 use element_store::{OpenedStore, open_store, reports_of};
 use kvs_core::KeySession;
@@ -76,6 +77,7 @@ pub fn open_kvs<D: Disk>(
         (D.medium disk.old) (D.medium disk.new) }
     ensures time { Elapses (D.medium disk.old) (D.medium disk.new) }
 {
+    untouched_is_kept();
     let copy = shape.copy()?;
     let OpenedStore { store, before, .. } = open_store(alloc, disk, shape)?;
     let session = KeySession::new(alloc, config, store.entries())?;

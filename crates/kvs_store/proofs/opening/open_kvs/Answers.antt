@@ -1,5 +1,6 @@
 use Rattle.deployment_model.specs.Data.{storage_data}
-use Rattle.kvs_store.proofs.Opened.{entries_are_few, entries_are_keys, entries_ascend, entries_have_room, opened_in_use, opened_is}
+use Rattle.element_store.proofs.CommitKept.{none_kept}
+use Rattle.kvs_store.proofs.Opened.{entries_are_few, entries_are_keys, entries_ascend, entries_have_room, opened_in_use, opened_is, shape_is}
 use Rattle.kvs_store.proofs.opening.open_kvs.Goals as goal
 
 pub new-requires-clause-keys : goal.new-requires-clause-keys
@@ -22,3 +23,7 @@ pub returns-clause-opened : goal.returns-clause-opened
 returns-clause-opened g c = opened_is g.D.Disk.told (g.D.Disk.medium c.args.disk.now).image c.args.shape (storage_data c.args.config.now) c.entries.result.now
     c.in_ok-store.field-0.before c.in_ok-copy.copy c.in_ok-seen.seen _ c.in_ok-store.ensures.before c.in_ok-store.ensures.view c.in_ok-store.ensures.shape c.entries.ensures
     c.in_ok-session.ensures c.in_ok-copy.ensures c.in_ok-seen.ensures c.in_ok-reports.ensures
+
+pub returns-in_err-copy-clause-any_moment : goal.returns-in_err-copy-clause-any_moment
+returns-in_err-copy-clause-any_moment g c = λ tells quiet clean after x since chance. none_kept c.untouched_is_kept.ensures.untouched g.D.Disk.told c.args.shape after (g.D.Disk.medium c.args.disk.now)
+    (shape_is c.args.shape (storage_data c.args.config.now) c.requires.configured c.requires.lies) (g.met.D.Disk.lawful c.args.disk.now) quiet clean x since
