@@ -30,7 +30,8 @@ fn fav(alloc: Global) -> Result<StorageConfig, Fail>
 {
     let name = Name::new(alloc, "fav")?;
     let home = Name::new(alloc, "home")?;
-    let _grammar = (name.as_str(), home.as_str());
+    let _storage = name.as_str();
+    let _key = home.as_str();
     let home = ElementConfig {
         name: home,
         value_type: Some(ValueType::U16),
