@@ -1,6 +1,6 @@
 -- A view whose keys are judged: its reports, and its map.
 use Rattle.std.proofs.Common.{◌≡◌, ℕ, List, [], ◌∷◌, ◌++◌, map, Bool, true, false, cond, refl, sym, ◌∙◌, ap}
-use Rattle.std.specs.Prelude.{Option, Some, None}
+use Rattle.std.specs.Prelude.{Some, None}
 use Rattle.std.specs.List.{flat_map}
 use Rattle.per_base.specs.declared.elements.Content.{Content}
 use Rattle.per_base.specs.declared.elements.Content.TheVariants.{Good, Bad}
@@ -9,7 +9,6 @@ use Rattle.per_base.specs.declared.elements.Entry.{Entry}
 use Rattle.per_base.specs.declared.elements.Scope.{Scope}
 use Rattle.per_base.specs.declared.elements.Scope.TheVariants as scope
 use Rattle.per_base.specs.declared.reports.Report.{Report}
-use Rattle.per_base.specs.Maps.{Map}
 use Rattle.element_state.specs.declared.shapes.Shape.{Shape}
 use Rattle.element_state.specs.declared.shapes.View.{View}
 use Rattle.element_state.specs.Reports.{element_failed, element_reports, is_readable, recovered_reports, report_of, report_some, reports, store_recovered}
@@ -42,7 +41,7 @@ same_recovered test scope.Storage shape e = refl
 entry_reports : (test : List ℕ → Bool) (shape : Shape) (e : Entry) → element_reports (λ bytes. true) shape (judged_entry test e) ≡ element_reports test shape e
 entry_reports test shape e =
     ap (λ (l : List Report). cond (is_readable (λ bytes. true) (judged_content test e.content)) l (report_of (element_failed shape.kind) shape (Some e.name) e.lacking ∷ []))
-        (same_recovered test shape.scope shape e)
+    (same_recovered test shape.scope shape e)
     ∙ ap (λ (b : Bool). cond b (recovered_reports shape.scope shape e) (report_of (element_failed shape.kind) shape (Some e.name) e.lacking ∷ [])) (readable_is test e.content)
 
 all_reports : (test : List ℕ → Bool) (shape : Shape) (es : List Entry)

@@ -1,10 +1,9 @@
 -- An opening: what a session asks of the storage that was opened, and what the opening gives.
-use Rattle.std.proofs.Common.{◌≡◌, ℕ, ◌≤◌, List, length, Bool, true, refl, sym, ◌∙◌, ap, subst, arith}
+use Rattle.std.proofs.Common.{◌≡◌, ◌≤◌, List, length, Bool, true, sym, ◌∙◌, ap, subst, arith}
 use Rattle.std.specs.Prelude.{Some, IsTrue}
 use Rattle.std.specs.List.{All}
 use Rattle.std.specs.List.Sorted.{IsStrictlySortedBy}
 use Rattle.per_base.specs.declared.elements.Entry.{Entry}
-use Rattle.per_base.specs.declared.reports.Report.{Report}
 use Rattle.per_base.specs.Maps.{Map, size_of}
 use Rattle.per_base.specs.Names.{name_cmp}
 use Rattle.disk_model.specs.Image.{Image}
@@ -25,14 +24,13 @@ use Rattle.key_maps.specs.KeyElements.{IsKeyEntry, entry_names, is_encoding, jud
 use Rattle.kvs_core.specs.Sessions.{Session}
 use Rattle.kvs_store.specs.declared.opening.OpenedKvs.{OpenedKvs}
 use Rattle.kvs_store.specs.declared.storages.Kvs.{Kvs}
-use Rattle.kvs_store.specs.Opened.{IsOpened, opened_session}
+use Rattle.kvs_store.specs.Opened.{IsOpened}
 use Rattle.kvs_store.specs.Storages.{IsKvs, LiesAs, keys_in, session_of, shape_of, view_in}
 use Rattle.kvs_store.proofs.Judged.{judged_reports, judged_synchronised, mended_keys}
 use Rattle.kvs_store.proofs.Stored.{key_entries, keys_fit}
 
 module _ (shape : Shape) (config : StorageData) (store : Store) (entries : List Entry) (lies : LiesAs shape config) (is : IsView shape (stores.view_in store))
     (shown : entries ≡ stores.entries_of store) where
-
   pub entries_are_keys : All IsKeyEntry entries
   entries_are_keys = subst (λ (es : List Entry). All IsKeyEntry es) (sym shown) (key_entries shape (stores.view_in store) lies.of_keys is)
 

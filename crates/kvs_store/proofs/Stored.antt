@@ -1,5 +1,5 @@
 -- What a storage of keys shows is what a session asks of its entries.
-use Rattle.std.proofs.Common.{◌≡◌, ℕ, ◌≤◌, List, length, Bool, refl, sym, ◌∙◌, ap, subst, arith}
+use Rattle.std.proofs.Common.{◌≡◌, ℕ, ◌≤◌, refl, subst, arith}
 use Rattle.std.specs.Prelude.{Option, Some, None, IsTrue}
 use Rattle.std.specs.List.{All}
 use Rattle.per_base.specs.declared.elements.Content.{Content}

@@ -1,6 +1,6 @@
 -- A sync: what is handed down may be committed, and what the commit makes.
-use Rattle.std.proofs.Common.{◌≡◌, ◌≢◌, ℕ, ◌+◌, ◌*◌, ◌≤◌, ◌<◌, List, [], length, Bool, false, refl, sym, ◌∙◌, ap, subst, arith}
-use Rattle.std.specs.Prelude.{Option, Some, None, IsTrue}
+use Rattle.std.proofs.Common.{◌≡◌, ◌≢◌, ℕ, ◌+◌, ◌*◌, ◌≤◌, ◌<◌, List, [], Bool, false, refl, sym, ◌∙◌, ap, subst, arith}
+use Rattle.std.specs.Prelude.{Option, Some}
 use Rattle.std.proofs.Math.Nat.{mul-le-mul_left}
 use Rattle.per_base.specs.declared.elements.Content.{Content}
 use Rattle.per_base.specs.declared.elements.Content.TheVariants.{Good, Bad}
@@ -10,7 +10,6 @@ use Rattle.per_base.specs.declared.elements.StoreKind.TheVariants.{Keys}
 use Rattle.per_base.specs.Maps.{Map, element_at, size_of}
 use Rattle.disk_model.specs.Image.{Image}
 use Rattle.disk_model.specs.Medium.{Medium}
-use Rattle.index_text.specs.Rules.{has_info, max_len}
 use Rattle.element_state.specs.declared.shapes.Change.{Change}
 use Rattle.element_state.specs.declared.shapes.Shape.{Shape}
 use Rattle.element_state.specs.declared.shapes.View.{View}
@@ -46,7 +45,6 @@ held_as kind keys synced key (Bad salvage) p is unreadable = unreadable refl
 
 module _ (shape : Shape) (v : View) (synced visible : Map) (keys : shape.kind ≡ Keys) (maximum : ℕ) (allows : shape.allowed ≡ maximum)
     (maps : AreTwoMaps (record { synced = synced; visible = visible })) (room : size_of visible ≤ maximum) where
-
   next_map : IsNext shape synced visible
   next_map = record {
     names_ascend = maps.visible.ordered;
@@ -74,7 +72,6 @@ module _ (told : Bool) (image : Image) (kvs : Kvs) (is : IsKvs told image kvs) (
     (maps : AreTwoMaps (record { synced = (session_of kvs).synced; visible = (session_of kvs).visible }))
     (room : HasRoom (session_of kvs).config (record { synced = (session_of kvs).synced; visible = (session_of kvs).visible }))
     (changes : List Change) (made : MakeInto changes (session_of kvs).synced (session_of kvs).visible) where
-
   sync : IsSync (shape_of kvs) is_encoding (view_in kvs) (session_of kvs).synced (session_of kvs).visible changes
   sync = syncs (shape_of kvs) (view_in kvs) (session_of kvs).synced (session_of kvs).visible is.lies.of_keys (session_of kvs).config.maximum is.lies.allowed maps room.visible
       read is.synced changes made

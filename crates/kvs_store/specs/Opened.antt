@@ -1,5 +1,5 @@
 -- What an opening gives.
-use Rattle.std.specs.Prelude.{◌≡◌, List, Bool, IsTrue, Some}
+use Rattle.std.specs.Prelude.{◌≡◌, Bool, IsTrue, Some}
 use Rattle.disk_model.specs.Image.{Image}
 use Rattle.deployment_model.specs.Data.{StorageData}
 use Rattle.element_state.specs.declared.shapes.Shape.{Shape}

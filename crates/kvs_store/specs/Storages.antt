@@ -1,5 +1,5 @@
 -- A key-value storage in use: a session of keys beside its storage on the disk.
-use Rattle.std.specs.Prelude.{◌≡◌, ℕ, List, Bool}
+use Rattle.std.specs.Prelude.{◌≡◌, Bool}
 use Rattle.per_base.specs.declared.elements.StoreKind.TheVariants.{Keys}
 use Rattle.per_base.specs.Maps.{Map}
 use Rattle.disk_model.specs.Image.{Image}
@@ -7,7 +7,6 @@ use Rattle.deployment_model.specs.Data.{StorageData}
 use Rattle.index_text.specs.declared.entries.Index.{Index}
 use Rattle.element_state.specs.declared.shapes.Shape.{Shape}
 use Rattle.element_state.specs.declared.shapes.View.{View}
-use Rattle.element_store.specs.declared.store.Store.{Store}
 use Rattle.element_store.specs.Stores as stores
 use Rattle.element_store.specs.Stores.{IsUsed}
 use Rattle.element_store.specs.Committing as committing

@@ -18,8 +18,6 @@ mod opening;
 mod reading;
 mod storages;
 mod syncing;
-#[cfg(test)]
-mod tests;
 mod writing;
 
 pub use element_state::{Shape, StoreError};
