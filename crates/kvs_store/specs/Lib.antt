@@ -1,0 +1,4 @@
+pub mod Storages
+pub mod Opened
+pub mod Synced
+pub mod Handed

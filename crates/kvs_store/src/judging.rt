@@ -1,0 +1,66 @@
+//! Keys of a view that are judged: bytes that encode no value are unreadable.
+
+ghost use Rattle.std.specs.Prelude.{◌≡◌, IfOk, map};
+ghost use Rattle.element_state.specs.Views.{judged_entry, judged_view};
+ghost use Rattle.key_maps.specs.KeyElements.{is_encoding};
+
+use element_state::View;
+use per_base::{Bytes, Content, Entry, Sequence};
+use std::alloc::{AllocError, Global};
+use value_code::decode;
+use value_model::DecodeError;
+
+// The view with each of its keys judged.
+pub(crate) fn judged(alloc: Global, view: View) -> Result<View, AllocError>
+    ensures { IfOk result (λ judged. judged ≡ judged_view is_encoding view) }
+{
+    let View {
+        generation,
+        lacking,
+        settled,
+        entries,
+    } = view;
+    let entries = judge_all(alloc, entries.into_vec())?;
+    Ok(View {
+        generation,
+        lacking,
+        settled,
+        entries: Sequence::new(entries),
+    })
+}
+
+fn judge_all(alloc: Global, entries: Vec<Entry>) -> Result<Vec<Entry>, AllocError>
+    ensures { IfOk result (λ judged. judged.items ≡ map (judged_entry is_encoding) entries.items) }
+{
+    let mut judged = Vec::with_capacity(alloc, entries.len())?;
+    for entry in entries {
+        judged.push(judge(alloc, entry)?)?;
+    }
+    Ok(judged)
+}
+
+fn judge(alloc: Global, entry: Entry) -> Result<Entry, AllocError>
+    ensures { IfOk result (λ judged. judged ≡ judged_entry is_encoding entry) }
+{
+    let keeps = match &entry.content {
+        Content::Good(bytes) => encodes(alloc, bytes)?,
+        Content::Bad(Some(salvage)) => encodes(alloc, salvage)?,
+        Content::Bad(None) => true,
+    };
+    let mut entry = entry;
+    if !keeps {
+        entry.content = Content::Bad(None);
+    }
+    Ok(entry)
+}
+
+// Whether some value encodes to the bytes.
+fn encodes(alloc: Global, bytes: &Bytes) -> Result<bool, AllocError>
+    ensures { IfOk result (λ answer. answer ≡ is_encoding bytes.now) }
+{
+    match decode(alloc, bytes.as_slice()) {
+        Ok(_) => Ok(true),
+        Err(DecodeError::NotAValue) => Ok(false),
+        Err(DecodeError::OutOfMemory) => Err(AllocError),
+    }
+}

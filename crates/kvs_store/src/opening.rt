@@ -1,0 +1,92 @@
+//! The opening of a key-value storage.
+
+ghost use Rattle.std.specs.Prelude.{◌≡◌, IsTrue, IfOk, OnOk, IsErrOf, None};
+ghost use Rattle.per_base.specs.Causes.{Rose};
+ghost use Rattle.disk_model.specs.Frame.{Spares, IsSettledOn};
+ghost use Rattle.disk_model.specs.Medium.{Quiet, EachCase, Elapses};
+ghost use Rattle.disk_model.specs.Place.{IsOutside};
+ghost use Rattle.deployment_model.specs.Conditions.{IsStorage};
+ghost use Rattle.deployment_model.specs.Data.{storage_data};
+ghost use Rattle.element_state.specs.Chosen.{opened_of};
+ghost use Rattle.element_state.specs.Clean.{IsClean};
+ghost use Rattle.element_state.specs.Kept.{IsKeptCase};
+ghost use Rattle.element_state.specs.States.{State, store_at};
+ghost use Rattle.element_store.specs.Opened.{MendsByNoChance, OpensBy};
+ghost use Rattle.kvs_store.specs.Opened.{IsOpened};
+ghost use Rattle.kvs_store.specs.Storages.{IsKvs, LiesAs, index_in};
+
+use crate::judging::judged;
+use crate::storages::Kvs;
+use deployment_model::StorageConfig;
+use disk_model::Disk;
+use element_laws::untouched_is_kept;
+use element_state::{Shape, StoreError};
+use element_store::{OpenedStore, open_store, reports_of};
+use kvs_core::KeySession;
+use per_base::Report;
+use std::alloc::Global;
+
+/// A key-value storage that was opened.
+#[derive(Drop)]
+pub struct OpenedKvs {
+    pub kvs: Kvs,
+    /// What was lacking, or could not be read: of the storage first, then of its keys by their names.
+    pub reports: Vec<Report>,
+}
+
+/// Opens a key-value storage: brings every copy to the text at which it opens, writes each key again, on which enough copies agree, in
+/// the copies that lack it, and reads all keys.
+///
+/// # Errors
+///
+/// `Corrupt` exactly where no text qualifies: then nothing is written. `Device` where the disk fails, and `OutOfMemory`.
+pub fn open_kvs<D: Disk>(
+    alloc: Global,
+    disk: &mut D,
+    shape: Shape,
+    config: &StorageConfig,
+) -> Result<OpenedKvs, StoreError>
+    requires configured { IsStorage (storage_data config.now) }
+    requires lies { LiesAs shape (storage_data config.now) }
+
+    // Both maps are the keys that the storage shows, and the reports are exact.
+    ensures opened { IfOk result (IsOpened D.told (D.medium disk.old).image shape (storage_data config.now)) }
+    ensures in_use { IfOk result (λ o. IsKvs D.told (D.medium disk.new).image o.kvs) }
+    // Its index is the one that was found.
+    ensures adopted { IsTrue D.told → IfOk result (λ o. OpensBy (D.medium disk.old).image shape (index_in o.kvs)) }
+    ensures clean { IsTrue D.told → IsClean shape (D.medium disk.old).image → OnOk result (IsClean shape (D.medium disk.new).image) }
+    ensures quiet { OnOk result (Quiet (D.medium disk.new)) }
+
+    // A corrupt storage is left as it is.
+    ensures corrupt { IsTrue D.told → IsErrOf result StoreError.Corrupt → opened_of (store_at (D.medium disk.old).image shape) ≡ None }
+    ensures untouched { IsErrOf result StoreError.Corrupt → (D.medium disk.new).image ≡ (D.medium disk.old).image }
+    ensures unwritten { IsErrOf result StoreError.Corrupt → (D.medium disk.new).written ≡ (D.medium disk.old).written }
+    ensures settled { IsErrOf result StoreError.Corrupt → Quiet (D.medium disk.new) }
+    ensures cause { IsErrOf result StoreError.Device → Rose (D.medium disk.old).faults (D.medium disk.new).faults }
+
+    // No file outside the place changes, at the end and at any moment.
+    ensures elsewhere { IsTrue D.told
+        → Spares (IsOutside shape.place.first shape.place.copies) (D.medium disk.old).image (D.medium disk.new).image }
+    ensures outside { IsTrue D.told → Quiet (D.medium disk.old)
+        → EachCase (IsSettledOn (IsOutside shape.place.first shape.place.copies) (D.medium disk.old).image)
+        (D.medium disk.old) (D.medium disk.new) }
+
+    // A stop at any moment keeps the storage, where no half of a mend passes for a content by chance.
+    ensures any_moment { IsTrue D.told → Quiet (D.medium disk.old) → IsClean shape (D.medium disk.old).image → (after : State)
+        → EachCase (λ c. MendsByNoChance shape (D.medium disk.old).image c → IsKeptCase shape (store_at (D.medium disk.old).image shape) after c)
+        (D.medium disk.old) (D.medium disk.new) }
+    ensures time { Elapses (D.medium disk.old) (D.medium disk.new) }
+{
+    untouched_is_kept();
+    let copy = shape.copy()?;
+    let OpenedStore { store, before, .. } = open_store(alloc, disk, shape)?;
+    let session = KeySession::new(alloc, config, store.entries())?;
+    let seen = judged(alloc, before)?;
+    let reports = reports_of(alloc, &copy, &seen)?;
+    let kvs = Kvs {
+        alloc,
+        store,
+        session,
+    };
+    Ok(OpenedKvs { kvs, reports })
+}

@@ -1,0 +1,70 @@
+//! Reading keys.
+
+ghost use Rattle.std.specs.Prelude.{◌≡◌, IfErr, IfOk};
+ghost use Rattle.per_base.specs.Maps.{has, names_of, size_of};
+ghost use Rattle.value_model.specs.Validity.{IsValue};
+ghost use Rattle.kvs_core.specs.Calls as calls;
+ghost use Rattle.kvs_core.specs.Refusals.{IsRefusal};
+ghost use Rattle.kvs_store.specs.Storages.{session_of};
+
+use crate::storages::Kvs;
+use per_base::{Name, PerError};
+use per_value::PerValue;
+use value_model::Value;
+
+impl Kvs {
+    /// Whether this name is visible, readable or not. Takes no memory.
+    pub fn key_exists(&self, name: &Name) -> bool
+        ensures { result ≡ has (session_of self.now).visible name.now }
+    {
+        self.session.key_exists(name)
+    }
+
+    /// The visible names, ascending.
+    ///
+    /// # Errors
+    ///
+    /// `OutOfMemory` alone.
+    pub fn all_keys(&self) -> Result<Vec<Name>, PerError>
+        ensures names { IfOk result (λ names. names.items ≡ names_of (session_of self.now).visible) }
+        ensures memory { IfErr result (λ error. error ≡ PerError.OutOfMemory) }
+    {
+        self.session.all_keys()
+    }
+
+    /// The size of what is visible in bytes: names and encodings, readable or not. Takes no memory.
+    pub fn current_size(&self) -> u64
+        ensures { result ≡ size_of (session_of self.now).visible }
+    {
+        self.session.current_size()
+    }
+
+    /// The value of a key.
+    ///
+    /// # Errors
+    ///
+    /// `KeyNotFound` where it is not visible; `IntegrityCorrupted` where it is unreadable; `OutOfMemory`.
+    pub fn get_any(&self, name: &Name) -> Result<&Value, PerError>
+        ensures ok { IfOk result (λ value.
+            calls.get_any (session_of self.now).config (session_of self.now).visible name.now ≡ Ok value.now) }
+        ensures valid { IfOk result (λ value. IsValue value.now) }
+        ensures refused { IfErr result (λ error.
+            IsRefusal (calls.get_any (session_of self.now).config (session_of self.now).visible name.now) error) }
+    {
+        self.session.get_any(name)
+    }
+
+    /// The thing of a Rust type that a key's value is.
+    ///
+    /// # Errors
+    ///
+    /// Those of `get_any`; `DataTypeMismatch` with the stored and the asked type where they differ; `OutOfMemory`.
+    pub fn get_value<T: PerValue>(&self, name: &Name) -> Result<T, PerError>
+        ensures ok { IfOk result (λ thing.
+            calls.get_as (session_of self.now).config (session_of self.now).visible name.now T.kind ≡ Ok (T.tree thing)) }
+        ensures refused { IfErr result (λ error.
+            IsRefusal (calls.get_as (session_of self.now).config (session_of self.now).visible name.now T.kind) error) }
+    {
+        self.session.get_value(name)
+    }
+}

@@ -1,0 +1,119 @@
+//! Writing, removing and restoring keys: what the calls see changes, and nothing on the disk.
+
+ghost use Rattle.std.specs.Prelude.{◌≡◌, IfErr, OnErr, OnOk};
+ghost use Rattle.kvs_core.specs.Calls as calls;
+ghost use Rattle.kvs_core.specs.Refusals.{IsRefusal};
+ghost use Rattle.kvs_store.specs.Storages.{StaysInUse, session_of, showing};
+
+use crate::storages::Kvs;
+use per_base::{Name, PerError};
+use per_value::PerValue;
+use value_model::Value;
+
+impl Kvs {
+    /// Makes a value visible under a name.
+    ///
+    /// # Errors
+    ///
+    /// `IllegalWriteAccess` where the storage is read-only; `DataTypeMismatch` where the value's type differs from the configured one,
+    /// or for a key that is not configured from that of its visible readable value; `LimitReached` with `Elements` where the name is not
+    /// visible and 1,024 are; `OutOfStorageSpace` where the visible size would exceed the maximum, with both numbers; `OutOfMemory`.
+    pub fn set_any(&mut self, name: &Name, value: Value) -> Result<(), PerError>
+        ensures ok { OnOk result (calls.set_any (session_of self.old).config (session_of self.old).visible name.now value ≡ Ok (session_of self.new).visible) }
+        ensures refused { IfErr result (λ error.
+            IsRefusal (calls.set_any (session_of self.old).config (session_of self.old).visible name.now value) error) }
+        ensures beside { self.new ≡ showing self.old (session_of self.new).visible }
+        ensures unchanged { OnErr result (self.new ≡ self.old) }
+        ensures in_use { StaysInUse self.old self.new }
+    {
+        self.session.set_any(name, value)
+    }
+
+    /// Makes the value of a Rust thing visible under a name.
+    ///
+    /// # Errors
+    ///
+    /// `LimitReached` with `ValueDepth` or `ValueBytes` where the value is too deep or too long; then as `set_any`.
+    pub fn set_value<T: PerValue>(&mut self, name: &Name, value: &T) -> Result<(), PerError>
+        ensures ok { OnOk result (calls.set_value (session_of self.old).config (session_of self.old).visible name.now (T.tree value.now) ≡ Ok (session_of self.new).visible) }
+        ensures refused { IfErr result (λ error.
+            IsRefusal (calls.set_value (session_of self.old).config (session_of self.old).visible name.now (T.tree value.now)) error) }
+        ensures beside { self.new ≡ showing self.old (session_of self.new).visible }
+        ensures unchanged { OnErr result (self.new ≡ self.old) }
+        ensures in_use { StaysInUse self.old self.new }
+    {
+        self.session.set_value(name, value)
+    }
+
+    /// Makes nothing visible under a name. Takes no memory.
+    ///
+    /// # Errors
+    ///
+    /// `IllegalWriteAccess` where the storage is read-only; `KeyNotFound` where the name is not visible.
+    pub fn remove_key(&mut self, name: &Name) -> Result<(), PerError>
+        ensures ok { OnOk result (calls.remove_key (session_of self.old).config (session_of self.old).visible name.now ≡ Ok (session_of self.new).visible) }
+        ensures refused { IfErr result (λ error. calls.remove_key (session_of self.old).config (session_of self.old).visible name.now ≡ Err error) }
+        ensures beside { self.new ≡ showing self.old (session_of self.new).visible }
+        ensures unchanged { OnErr result (self.new ≡ self.old) }
+        ensures in_use { StaysInUse self.old self.new }
+    {
+        self.session.remove_key(name)
+    }
+
+    /// Makes nothing visible at all. Takes no memory.
+    ///
+    /// # Errors
+    ///
+    /// `IllegalWriteAccess` where the storage is read-only.
+    pub fn remove_all_keys(&mut self) -> Result<(), PerError>
+        ensures ok { OnOk result (calls.remove_all_keys (session_of self.old).config (session_of self.old).visible ≡ Ok (session_of self.new).visible) }
+        ensures refused { IfErr result (λ error. calls.remove_all_keys (session_of self.old).config (session_of self.old).visible ≡ Err error) }
+        ensures beside { self.new ≡ showing self.old (session_of self.new).visible }
+        ensures unchanged { OnErr result (self.new ≡ self.old) }
+        ensures in_use { StaysInUse self.old self.new }
+    {
+        self.session.remove_all_keys()
+    }
+
+    /// A readable key stays; an unreadable one becomes its salvage, else its initial value, else it goes.
+    ///
+    /// # Errors
+    ///
+    /// `IllegalWriteAccess` where the storage is read-only; `KeyNotFound` where the name is not visible; `OutOfStorageSpace` where the
+    /// initial value does not fit; `OutOfMemory`.
+    pub fn recover_key(&mut self, name: &Name) -> Result<(), PerError>
+        ensures ok { OnOk result (calls.recover_key (session_of self.old).config (session_of self.old).visible name.now ≡ Ok (session_of self.new).visible) }
+        ensures refused { IfErr result (λ error.
+            IsRefusal (calls.recover_key (session_of self.old).config (session_of self.old).visible name.now) error) }
+        ensures beside { self.new ≡ showing self.old (session_of self.new).visible }
+        ensures unchanged { OnErr result (self.new ≡ self.old) }
+        ensures in_use { StaysInUse self.old self.new }
+    {
+        self.session.recover_key(name)
+    }
+
+    /// The initial value of a key becomes its visible value.
+    ///
+    /// # Errors
+    ///
+    /// `IllegalWriteAccess` where the storage is read-only; `InitValueNotAvailable` where there is no initial value; `LimitReached` with
+    /// `Elements`; `OutOfStorageSpace`; `OutOfMemory`.
+    pub fn reset_key(&mut self, name: &Name) -> Result<(), PerError>
+        ensures ok { OnOk result (calls.reset_key (session_of self.old).config (session_of self.old).visible name.now ≡ Ok (session_of self.new).visible) }
+        ensures refused { IfErr result (λ error.
+            IsRefusal (calls.reset_key (session_of self.old).config (session_of self.old).visible name.now) error) }
+        ensures beside { self.new ≡ showing self.old (session_of self.new).visible }
+        ensures unchanged { OnErr result (self.new ≡ self.old) }
+        ensures in_use { StaysInUse self.old self.new }
+    {
+        self.session.reset_key(name)
+    }
+
+    /// Makes visible what is synchronised: the pending changes are gone. Takes no memory.
+    pub fn discard_pending_changes(&mut self)
+        ensures discarded { self.new ≡ showing self.old (session_of self.old).synced }
+        ensures in_use { StaysInUse self.old self.new }
+    {
+        self.session.discard_pending_changes();
+    }
+}
