@@ -1,0 +1,43 @@
+-- What is installed is stored as a storage is read.
+use Rattle.std.proofs.Common.{◌≡◌, ℕ, Bool, true, false, List, [], ◌∷◌, ◌++◌, map, Option, Some, None, refl, sym, ap, subst, ◌∙◌}
+use Rattle.std.specs.Prelude.{find, cond}
+use Rattle.std.specs.List.{AllByRecursion, AllZip}
+use Rattle.std.specs.List.Sorted.{IsStrictlySortedBy}
+use Rattle.per_base.specs.declared.elements.Entry.{Entry}
+use Rattle.per_base.specs.declared.elements.Fresh.{Fresh}
+use Rattle.per_base.specs.declared.elements.StoreKind.{StoreKind}
+use Rattle.per_base.specs.Names.{name_cmp}
+use Rattle.update_plan.specs.Limits.{AreContents, IsFresh}
+use Rattle.update_plan.specs.Plans.{AreStored, IsStored}
+use Rattle.update_tests.specs.Stores.{Stores}
+
+-- what holds of all holds of the one that is found
+pub of_found : {A : Type 0} (P : A → Type 0) (p : A → Bool) (xs : List A) (x : A) → AllByRecursion P xs → find p xs ≡ Some x → P x
+of_found P p [] x all found = cc
+of_found P p (y ∷ ys) x all found =
+    elim (p y) as (λ b. cond b (Some y) (find p ys) ≡ Some x → P x) [
+      | true ↦ λ e. let same : y ≡ x = cc in subst P same all.0
+      | false ↦ λ e. of_found P p ys x all.1 e
+    ] found
+
+pub all_more : {A : Type 0} (P : A → Type 0) (xs : List A) (x : A) → AllByRecursion P xs → P x → AllByRecursion P (xs ++ x ∷ [])
+all_more P [] x all here = (here, tt)
+all_more P (y ∷ xs) x all here = (all.0, all_more P xs x all.1 here)
+
+same_names : (made : List Fresh) (es : List Entry) → AllZip Stores made es → map (λ (e : Entry). e.name) es ≡ map (λ (x : Fresh). x.name) made
+same_names [] [] h = refl
+same_names [] (e ∷ es) h = absurd h
+same_names (x ∷ xs) [] h = absurd h
+same_names (x ∷ xs) (e ∷ es) h = ap (λ n. n ∷ map (λ (e : Entry). e.name) es) h.0.named ∙ ap (λ ns. x.name ∷ ns) (same_names xs es h.1)
+
+each_stored : (kind : StoreKind) (made : List Fresh) (es : List Entry) → AllZip Stores made es → AllByRecursion (IsFresh kind) made → AllByRecursion (IsStored kind) es
+each_stored kind [] [] h all = tt
+each_stored kind [] (e ∷ es) h all = absurd h
+each_stored kind (x ∷ xs) [] h all = absurd h
+each_stored kind (x ∷ xs) (e ∷ es) h all = (h.0.stored kind all.0, each_stored kind xs es h.1 all.1)
+
+pub are_stored : (kind : StoreKind) (maximum : ℕ) (made : List Fresh) (es : List Entry) → AllZip Stores made es → AreContents kind maximum made → AreStored kind es
+are_stored kind maximum made es h contents = record {
+  names_ascend = subst (IsStrictlySortedBy name_cmp) (sym (same_names made es h)) contents.names_ascend;
+  each = each_stored kind made es h contents.each;
+}
