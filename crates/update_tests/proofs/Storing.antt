@@ -1,5 +1,5 @@
 -- What is installed is stored as a storage is read.
-use Rattle.std.proofs.Common.{◌≡◌, ℕ, Bool, true, false, List, [], ◌∷◌, ◌++◌, map, Option, Some, None, refl, sym, ap, subst, ◌∙◌}
+use Rattle.std.proofs.Common.{◌≡◌, ◌<◌, ℕ, zero, suc, Bool, true, false, List, length, get_or, arith, [], ◌∷◌, ◌++◌, map, Option, Some, None, refl, sym, ap, subst, ◌∙◌}
 use Rattle.std.specs.Prelude.{find, cond}
 use Rattle.std.specs.List.{AllByRecursion, AllZip}
 use Rattle.std.specs.List.Sorted.{IsStrictlySortedBy}
@@ -41,3 +41,9 @@ are_stored kind maximum made es h contents = record {
   names_ascend = subst (IsStrictlySortedBy name_cmp) (sym (same_names made es h)) contents.names_ascend;
   each = each_stored kind made es h contents.each;
 }
+
+-- what holds of the images of all holds of the image of an item
+pub of_item : {A B : Type 0} (P : B → Type 0) (f : A → B) (xs : List A) (i : ℕ) (x : A) → AllByRecursion P (map f xs) → i < length xs → x ≡ get_or xs i x → P (f x)
+of_item P f [] i x all lt e = absurd (omega (arith, lt))
+of_item P f (y ∷ ys) zero x all lt e = subst (λ z. P (f z)) (sym e) all.0
+of_item P f (y ∷ ys) (suc i) x all lt e = of_item P f ys i x all.1 (omega (arith, lt)) e

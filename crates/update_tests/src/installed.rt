@@ -1,12 +1,11 @@
 //! Manifests that are read, and what is stored once they are installed.
 
-ghost use Rattle.std.specs.Prelude.{◌≡◌, ◌≤◌, IfOk, length};
+ghost use Rattle.std.specs.Prelude.{◌≤◌, IfOk, length};
 ghost use Rattle.std.specs.List.{AllByRecursion};
 ghost use Rattle.deployment_model.specs.Conditions.{IsDeployment, IsStorage};
 ghost use Rattle.deployment_model.specs.Data.{deployment_data, storage_data};
-ghost use Rattle.per_base.specs.declared.elements.StoreKind.{StoreKind};
-ghost use Rattle.update_plan.specs.Limits.{IsFresh};
-ghost use Rattle.update_plan.specs.Plans.{AreStored, IsOf, IsStored};
+ghost use Rattle.update_plan.specs.Plans.{AreStored, IsOf};
+ghost use Rattle.update_tests.specs.Stores.{Stores};
 
 use deployment_model::{Deployment, StorageConfig};
 use manifest::read_manifest;
@@ -73,8 +72,7 @@ fn entries(alloc: Global, storage: &StorageConfig, damaged: &str) -> Result<Vec<
 /// An element as it is stored.
 fn entry(alloc: Global, fresh: &Fresh, damaged: &str) -> Result<Entry, AllocError>
     requires { length fresh.now.bytes ≤ 1048576 }
-    ensures name { IfOk result (λ e. e.name ≡ fresh.now.name) }
-    ensures stored { IfOk result (λ e. (kind : StoreKind) → IsFresh kind fresh.now → IsStored kind e) }
+    ensures { IfOk result (Stores fresh.now) }
 {
     let bytes = fresh.bytes.copy()?;
     let len = bytes.len() as u32;
