@@ -12,6 +12,8 @@
 mod chains;
 mod migrations;
 mod search;
+#[cfg(test)]
+mod tests;
 
 pub use chains::Chain;
 pub use migrations::{Converter, Migration, Migrations};
