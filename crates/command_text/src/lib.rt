@@ -17,8 +17,6 @@ mod lines;
 mod parsing;
 mod printing;
 mod replies;
-#[cfg(test)]
-mod tests;
 mod words;
 
 pub use asked::AskedType;
