@@ -42,8 +42,13 @@ pub struct FlashDisk<F> {
     pub(crate) sequence: u64,
     /// A page that a failed call may have left anything in.
     pub(crate) unsure: Option<Place>,
-    /// What is moved while the spare block is filled, with room for a block.
+    /// What was moved into the current block, with room for a block. Until the rivalled ones among it are written again, the spare block
+    /// is not erased.
     pub(crate) moved: Vec<(FilePage, Newest)>,
+    /// Whether another record would be read once the spare block is erased.
+    pub(crate) stuck: bool,
+    /// Where the last byte ends that an older record has past the end of its file.
+    pub(crate) stray_end: u64,
     pub(crate) own: u64,
 }
 

@@ -4,10 +4,11 @@ ghost use Rattle.std.specs.Prelude.{◌≡◌, ◌+◌, ◌≤◌, IfOk, length}
 ghost use Rattle.per_base.specs.Causes.{HasCause};
 
 use crate::disk::FlashDisk;
+use crate::opening::newest_at;
 use crate::table::{FilePage, Newest, Place};
 use disk_model::DiskFailed;
-use flash_model::{BLANK_PAGE, BLOCK_PAGES, Flash};
-use flash_record::{RECORD_BYTES, read_record, record_page};
+use flash_model::{BLANK_PAGE, BLOCK_PAGES, Flash, PAGE_BYTES};
+use flash_record::{RECORD_BYTES, Record, read_record, record_page};
 
 impl<F: Flash> FlashDisk<F> {
     // Reads again what a failed call may have left anything in.
@@ -25,7 +26,7 @@ impl<F: Flash> FlashDisk<F> {
                 file: record.file,
                 page: record.page,
             };
-            self.enter(key, place, record.sequence, record.len);
+            self.enter(key, place, record);
         }
         Ok(())
     }
@@ -52,16 +53,30 @@ impl<F: Flash> FlashDisk<F> {
         ensures { HasCause ((F.medium self.old.flash).faults + self.old.own) ((F.medium self.new.flash).faults + self.new.own) result }
     {
         self.make_room()?;
+        self.add(key, len, bytes)
+    }
+
+    // Adds a record to the current block.
+    fn add(&mut self, key: FilePage, len: u64, bytes: &[u8]) -> Result<(), DiskFailed>
+        requires { length bytes.now ≡ 256 }
+        ensures { HasCause ((F.medium self.old.flash).faults + self.old.own) ((F.medium self.new.flash).faults + self.new.own) result }
+    {
         let sequence = self.next_sequence()?;
         let place = Place {
             block: self.current,
             page: self.fill,
         };
         self.fill = self.fill.saturating_add(1);
-        let page = record_page(sequence, key.file, key.page, len, bytes);
-        match self.program_page(place, &page) {
+        let record = Record {
+            sequence,
+            file: key.file,
+            page: key.page,
+            len,
+            bytes,
+        };
+        match self.program_page(place, &page_of(record)) {
             Ok(true) => {
-                self.enter(key, place, sequence, len);
+                self.enter(key, place, record);
                 Ok(())
             }
             Ok(false) => Err(self.fault()),
@@ -73,36 +88,86 @@ impl<F: Flash> FlashDisk<F> {
     }
 
     // A record is the newest of its page.
-    fn enter(&mut self, key: FilePage, place: Place, sequence: u64, len: u64)
+    fn enter(&mut self, key: FilePage, place: Place, record: Record<'_>)
         ensures flash { self.new.flash ≡ self.old.flash }
         ensures own { self.new.own ≡ self.old.own }
     {
-        let new = Newest {
-            place,
-            sequence,
-            len,
-            twin: None,
-        };
-        if self.table.put(key, new) {
-            self.table.lengthen(key.file, len);
+        if self.table.put(key, newest_at(place, record)) {
+            self.table.lengthen(key.file, record.len);
         }
     }
 
-    // Sees to it that the current block has a page that was not tried yet.
+    // Sees to it that the current block has a page that was not tried yet. Where each block takes a whole block to move, the first
+    // round makes one lighter.
     fn make_room(&mut self) -> Result<(), DiskFailed>
         ensures { HasCause ((F.medium self.old.flash).faults + self.old.own) ((F.medium self.new.flash).faults + self.new.own) result }
     {
+        for _round in 0..2 {
+            self.renumber()?;
+            if self.fill < BLOCK_PAGES {
+                return Ok(());
+            }
+            self.collect()?;
+        }
+        self.renumber()?;
         if self.fill < BLOCK_PAGES {
             return Ok(());
         }
+        Err(self.fault())
+    }
+
+    // Moves the newest records of the block where they are fewest into the spare block, which is the current one from then on.
+    fn collect(&mut self) -> Result<(), DiskFailed>
+        ensures { HasCause ((F.medium self.old.flash).faults + self.old.own) ((F.medium self.new.flash).faults + self.new.own) result }
+    {
         let target = self.spare;
+        let victim = self.table.lightest_but(target);
+        if self.stuck || self.table.load_of(victim) > BLOCK_PAGES {
+            return Err(self.fault());
+        }
         self.erase_block(target)?;
-        let victim = self.table.emptiest_but(target);
-        self.copy_needed(victim, target)?;
+        if let Err(e) = self.copy_needed(victim, target) {
+            self.moved.clear();
+            return Err(e);
+        }
         self.table.put_all(&self.moved);
         self.fill = self.moved.len().min(BLOCK_PAGES as usize) as u32;
         self.current = target;
         self.spare = victim;
+        Ok(())
+    }
+
+    // Writes what was moved though it is rivalled again, under new numbers: where it was until then it came before its rival, and from
+    // now on it is newer.
+    fn renumber(&mut self) -> Result<(), DiskFailed>
+        ensures { HasCause ((F.medium self.old.flash).faults + self.old.own) ((F.medium self.new.flash).faults + self.new.own) result }
+    {
+        for i in 0..self.moved.len() {
+            self.renumber_one(i)?;
+        }
+        self.moved.clear();
+        Ok(())
+    }
+
+    // Writes the i-th record that was moved again under a new number, if it is rivalled.
+    fn renumber_one(&mut self, i: usize) -> Result<(), DiskFailed>
+        ensures { HasCause ((F.medium self.old.flash).faults + self.old.own) ((F.medium self.new.flash).faults + self.new.own) result }
+    {
+        let Some((key, moved)) = self.moved.get(i).copied() else {
+            return Ok(());
+        };
+        if !moved.rivalled {
+            return Ok(());
+        }
+        let mut page = BLANK_PAGE;
+        self.read_page(moved.place, &mut page)?;
+        let Some(record) = read_record(&page) else {
+            return Err(self.fault());
+        };
+        self.add(key, record.len, record.bytes)?;
+        if let Some(slot) = self.moved.get_mut(i) {
+            slot.1.rivalled = false;
+        }
         Ok(())
     }
 
@@ -155,4 +220,14 @@ impl<F: Flash> FlashDisk<F> {
         let newest = self.table.find(key)?;
         Some((key, newest))
     }
+}
+
+// The page of flash that is this record.
+fn page_of(record: Record<'_>) -> [u8; PAGE_BYTES]
+    requires sequence { 1 ≤ record.sequence }
+    requires bytes { length record.bytes.now ≡ 256 }
+{
+    let mut bytes = [0; RECORD_BYTES];
+    bytes.copy_from_slice(record.bytes);
+    record_page(record.sequence, record.file, record.page, record.len, &bytes)
 }

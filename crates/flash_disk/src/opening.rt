@@ -1,11 +1,11 @@
 //! Opening a flash as a disk.
 
-ghost use Rattle.std.specs.Prelude.{◌≡◌, ◌⊎◌, ◌↔◌, ◌≤◌, ◌<◌, ◌+◌, ◌*◌, IsTrue, IfOk, IfErr, OnOk, Some, None};
+ghost use Rattle.std.specs.Prelude.{◌≡◌, ◌⊎◌, ◌↔◌, ◌≤◌, ◌<◌, ◌+◌, ◌*◌, IsTrue, IsFalse, IfOk, IfErr, IfSome, OnOk, Some, None};
 ghost use Rattle.flash_record.specs.PageRecord.{record_in};
 ghost use Rattle.flash_record.specs.Stated.{stated};
 ghost use Rattle.flash_disk.specs.Newest.{record_at, places, page_limit, IsSpare, NeedsPlace, FindsSpare, IsUsable, IsUnusable, SaysUsable};
 ghost use Rattle.flash_disk.specs.Known.{known, limit_of, page_of, IsEmptyTable};
-ghost use Rattle.flash_disk.specs.Learnt.{number, HasLearnt, LearnsNext, LearnsAll, TwinAt};
+ghost use Rattle.flash_disk.specs.Learnt.{number, HasLearnt, LearnsNext, LearnsAll, SaysTheSame, TwinAt};
 ghost use Rattle.per_base.specs.Causes.{HasCause, Rose};
 
 use crate::disk::{FlashDisk, FlashOpenError, FlashRefused};
@@ -55,6 +55,8 @@ impl<F: Flash> FlashDisk<F> {
             sequence: 0,
             unsure: None,
             moved,
+            stuck: false,
+            stray_end: 0,
             own: 0,
         };
         match disk.learn(blocks) {
@@ -94,7 +96,8 @@ impl<F: Flash> FlashDisk<F> {
         if !self.find_spare(blocks)? {
             return Ok(false);
         }
-        self.table.open(self.spare);
+        self.stuck = self.table.open(self.spare);
+        self.stray_end = self.table.stray_end();
         match self.flash.settle() {
             Ok(()) => Ok(true),
             Err(_) => Err(DiskFailed),
@@ -266,6 +269,7 @@ impl<F: Flash> FlashDisk<F> {
         self.read_page(old.place, &mut page)?;
         let new = Newest {
             twin: twin_at(&page, found, old, place),
+            rivalled: old.rivalled || !says_the_same(&page, found),
             ..old
         };
         Ok(self.table.put(key, new))
@@ -273,29 +277,51 @@ impl<F: Flash> FlashDisk<F> {
 }
 
 // The entry of a record that was found in this place.
-fn newest_at(place: Place, found: Record<'_>) -> Newest
-    ensures { result ≡ record { place = place; sequence = found.entry.sequence; len = found.entry.len; twin = None } }
+pub(crate) fn newest_at(place: Place, found: Record<'_>) -> Newest
+    ensures place { result.place ≡ place }
+    ensures sequence { result.sequence ≡ found.entry.sequence }
+    ensures len { result.len ≡ found.entry.len }
+    ensures twin { result.twin ≡ None }
 {
     Newest {
         place,
         sequence: found.sequence,
         len: found.len,
         twin: None,
+        rivalled: false,
+        filled: filled_of(found.bytes),
     }
+}
+
+// How many bytes are left without the zeros at their end.
+fn filled_of(bytes: &[u8]) -> u32 {
+    let mut filled = 0;
+    for (i, byte) in bytes.iter().enumerate() {
+        if *byte != 0 {
+            filled = i.saturating_add(1);
+        }
+    }
+    filled.min(256) as u32
 }
 
 // Where the twin of a newest record lies, after another with its number was found in this place.
 fn twin_at(page: &[u8], found: Record<'_>, old: Newest, place: Place) -> Option<Place>
     ensures { TwinAt (record_in page.now) (stated found.entry) old place result }
 {
-    if place.block == old.place.block {
+    if place.block == old.place.block || !says_the_same(page, found) {
         return old.twin;
     }
+    Some(place)
+}
+
+// Whether a page is a record with the length and the bytes of another.
+fn says_the_same(page: &[u8], found: Record<'_>) -> bool
+    ensures record { IsTrue result → IfSome (record_in page.now) (λ first. SaysTheSame first (stated found.entry)) }
+    ensures another { IsFalse result → IfSome (record_in page.now) (λ first. SaysTheSame first (stated found.entry) → ⊥) }
+    ensures none { record_in page.now ≡ None → IsFalse result }
+{
     let Some(first) = read_record(page) else {
-        return old.twin;
+        return false;
     };
-    if first.len == found.len && first.bytes == found.bytes {
-        return Some(place);
-    }
-    old.twin
+    first.len == found.len && first.bytes == found.bytes
 }

@@ -4,7 +4,7 @@ ghost use Rattle.std.specs.Prelude.{◌≡◌, ◌+◌, ◌≤◌, length, false
 ghost use Rattle.per_base.specs.Causes.{HasCause};
 
 use crate::disk::FlashDisk;
-use crate::table::FilePage;
+use crate::table::{FilePage, end_of_bytes};
 use disk_model::{Disk, DiskFailed};
 use flash_model::{BLANK_PAGE, Flash};
 use flash_record::{RECORD_BYTES, read_record};
@@ -57,6 +57,41 @@ impl<F: Flash> FlashDisk<F> {
                 content[from + i] = *byte;
             }
         }
+        self.append(key, len, &content)
+    }
+
+    // Rewrites the records of a file that have bytes past its end and before the byte `at`, without those bytes, so that they do not show
+    // once the file is longer.
+    fn wipe_strays(&mut self, file: u32, at: u64) -> Result<(), DiskFailed>
+        requires { at ≤ 1099511627776 }
+        ensures { HasCause ((F.medium self.old.flash).faults + self.old.own) ((F.medium self.new.flash).faults + self.new.own) result }
+    {
+        let len = self.table.len_of(file);
+        let end = self.stray_end.min(at);
+        if end <= len {
+            return Ok(());
+        }
+        for page in len / PAGE..end.div_ceil(PAGE) {
+            let key = FilePage {
+                file,
+                page: page as u32,
+            };
+            self.wipe_stray(key, len)?;
+        }
+        Ok(())
+    }
+
+    // Rewrites a record that has bytes past the end of its file without them.
+    fn wipe_stray(&mut self, key: FilePage, len: u64) -> Result<(), DiskFailed>
+        ensures { HasCause ((F.medium self.old.flash).faults + self.old.own) ((F.medium self.new.flash).faults + self.new.own) result }
+    {
+        let Some(newest) = self.table.find(key) else {
+            return Ok(());
+        };
+        if end_of_bytes(key, newest) <= len {
+            return Ok(());
+        }
+        let content = self.content(key)?;
         self.append(key, len, &content)
     }
 
@@ -159,6 +194,7 @@ impl<F: Flash> Disk for FlashDisk<F> {
         if self.flash.announce(file, at, bytes).is_err() {
             return Err(DiskFailed);
         }
+        self.wipe_strays(file, at)?;
         let len = self.table.len_of(file).max(end);
         self.write_pages(file, at, bytes, len)
     }

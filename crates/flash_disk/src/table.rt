@@ -28,6 +28,10 @@ pub struct Newest {
     pub len: u64,
     /// Where another block has an equal record.
     pub twin: Option<Place>,
+    /// Whether another record of the page may have its number and other bytes.
+    pub rivalled: bool,
+    /// How many of its bytes are left without the zeros at their end.
+    pub filled: u32,
 }
 
 /// The newest records of all pages.
@@ -35,8 +39,8 @@ pub struct Newest {
 pub struct Table {
     newest: HashMap<FilePage, Newest>,
     lens: HashMap<u32, u64>,
-    /// How many newest records each block has.
-    live: Vec<u32>,
+    /// How many pages it takes to move the newest records of each block: one for each, and one more for each that is rivalled.
+    load: Vec<u32>,
     blocks: u32,
     /// At most how many pages may have a record.
     limit: usize,
@@ -54,7 +58,7 @@ impl Table {
         Ok(Table {
             newest: HashMap::with_capacity(alloc, limit)?,
             lens: HashMap::with_capacity(alloc, limit)?,
-            live: vec![in alloc; 0; blocks as usize]?,
+            load: vec![in alloc; 0; blocks as usize]?,
             blocks,
             limit,
         })
@@ -79,9 +83,9 @@ impl Table {
         self.limit.saturating_sub(self.newest.len())
     }
 
-    /// How many newest records a block has.
-    pub fn live_in(&self, block: u32) -> u32 {
-        self.live.get(block as usize).copied().unwrap_or(0)
+    /// How many pages it takes to move the newest records of a block.
+    pub fn load_of(&self, block: u32) -> u32 {
+        self.load.get(block as usize).copied().unwrap_or(0)
     }
 
     /// Sets the newest record of a page; `false`, and no change, where there is no room for it.
@@ -96,9 +100,9 @@ impl Table {
             return false;
         }
         if let Some(old) = old {
-            self.count_less(old.place.block);
+            self.count_less(old);
         }
-        self.count_more(new.place.block);
+        self.count_more(new);
         true
     }
 
@@ -142,11 +146,11 @@ impl Table {
         self.lens.insert(file, len).is_ok()
     }
 
-    /// The block other than this one that has the fewest newest records.
-    pub fn emptiest_but(&self, but: u32) -> u32 {
+    /// The block other than this one whose newest records take the fewest pages to move.
+    pub fn lightest_but(&self, but: u32) -> u32 {
         let mut best = but;
         for block in 0..self.blocks {
-            if block != but && (best == but || self.live_in(block) < self.live_in(best)) {
+            if block != but && (best == but || self.load_of(block) < self.load_of(best)) {
                 best = block;
             }
         }
@@ -154,26 +158,41 @@ impl Table {
     }
 
     /// Ends the opening: leads from the records of this block, which is spare, to the equal ones elsewhere, and takes the lengths of the
-    /// files.
-    pub fn open(&mut self, spare: u32) {
+    /// files. Says whether one of them is rivalled, so that another record may count once the block is erased.
+    pub fn open(&mut self, spare: u32) -> bool {
+        let mut rivalled = false;
         for newest in self.newest.values_mut() {
             if newest.place.block == spare {
                 newest.place = newest.twin.unwrap_or(newest.place);
+                rivalled = rivalled || newest.rivalled;
             }
             newest.twin = None;
         }
         self.recount();
         self.measure();
+        rivalled
     }
 
-    // Counts the newest records of each block.
+    /// Where the last byte other than zero ends that lies past the end of its file; 0 where there is none.
+    pub fn stray_end(&self) -> u64 {
+        let mut stray = 0;
+        for (key, newest) in self.newest.iter() {
+            let end = end_of_bytes(*key, *newest);
+            if end > self.len_of(key.file) {
+                stray = end.max(stray);
+            }
+        }
+        stray
+    }
+
+    // Counts the pages that it takes to move the newest records of each block.
     fn recount(&mut self) {
-        for count in self.live.iter_mut() {
-            *count = 0;
+        for load in self.load.iter_mut() {
+            *load = 0;
         }
         for newest in self.newest.values() {
-            if let Some(count) = self.live.get_mut(newest.place.block as usize) {
-                *count = count.saturating_add(1);
+            if let Some(load) = self.load.get_mut(newest.place.block as usize) {
+                *load = load.saturating_add(load_of_one(*newest));
             }
         }
     }
@@ -186,21 +205,34 @@ impl Table {
         }
     }
 
-    fn count_more(&mut self, block: u32)
+    fn count_more(&mut self, newest: Newest)
         ensures records { SameRecords self.old self.new }
         ensures limit { limit_of self.new ≡ limit_of self.old }
     {
-        if let Some(count) = self.live.get_mut(block as usize) {
-            *count = count.saturating_add(1);
+        if let Some(load) = self.load.get_mut(newest.place.block as usize) {
+            *load = load.saturating_add(load_of_one(newest));
         }
     }
 
-    fn count_less(&mut self, block: u32)
+    fn count_less(&mut self, newest: Newest)
         ensures records { SameRecords self.old self.new }
         ensures limit { limit_of self.new ≡ limit_of self.old }
     {
-        if let Some(count) = self.live.get_mut(block as usize) {
-            *count = count.saturating_sub(1);
+        if let Some(load) = self.load.get_mut(newest.place.block as usize) {
+            *load = load.saturating_sub(load_of_one(newest));
         }
     }
+}
+
+/// Where the last byte other than zero of a record ends in its file.
+pub fn end_of_bytes(key: FilePage, newest: Newest) -> u64 {
+    if newest.filled == 0 {
+        return 0;
+    }
+    256 * key.page as u64 + newest.filled as u64
+}
+
+// How many pages it takes to move a newest record.
+fn load_of_one(newest: Newest) -> u32 {
+    if newest.rivalled { 2 } else { 1 }
 }
