@@ -1,2 +1,6 @@
 mod Learning
 mod Usable
+mod Lengths
+mod Lightest
+mod Leading
+mod Reading

@@ -1,5 +1,5 @@
 -- How a table is tied to the records on a flash.
-use Rattle.std.specs.Prelude.{◌≡◌, ◌≢◌, ℕ, ◌+◌, ◌*◌, ◌<◌, ◌≤◌, Bool, true, false, Option, Some, None}
+use Rattle.std.specs.Prelude.{◌≡◌, ◌≢◌, ℕ, ◌+◌, ◌*◌, ◌<◌, ◌≤◌, Bool, true, false, List, Option, Some, None, nat_lt, slice_index, if◌then◌else◌}
 use Rattle.flash_model.specs.Pages.{Pages}
 use Rattle.flash_disk.specs.declared.table.FilePage.{FilePage}
 use Rattle.flash_disk.specs.declared.table.Place.{Place}
@@ -7,7 +7,8 @@ use Rattle.flash_disk.specs.declared.table.Newest.{Newest}
 use Rattle.flash_disk.specs.declared.table.Table.{Table}
 use Rattle.flash_disk.specs.Newest.{Placed, record_at, newest, page_count, IsCopyOf}
 use Rattle.flash_record.specs.PageRecord.{PageRecord}
-use Rattle.flash_disk.specs.Known.{known, page_len, limit_of, HasRoom}
+use Rattle.flash_disk.specs.Known.{known, page_len, limit_of, len_known, HasRoom}
+use Rattle.flash_disk.specs.FlashFiles.{file_byte, file_len, IsFileLen}
 
 abbrev pub number : Place → ℕ
 number place = 64 * place.block + place.page
@@ -62,3 +63,32 @@ pub record TwinAt (first : Option PageRecord) (r : PageRecord) (old : Newest) (p
 abbrev pub LearnsAll : Pages → (n limit : ℕ) → Table → Bool → Type 0
 LearnsAll pages n limit table true = HasLearnt pages n table
 LearnsAll pages n limit table false = limit < page_count pages n
+
+-- an entry leads to a record that is equal to the newest one, and says where a copy of that lies
+pub record Led (pages : Pages) (n : ℕ) (entry : Newest) (x : Placed) : Type 0 where
+  pub within : number entry.place < n
+  pub leads : LeadsTo pages entry x
+  pub twin : TwinSays pages n x entry.twin
+
+abbrev pub LedOf : Pages → ℕ → Option Newest → Option Placed → Type 0
+LedOf pages n None None = Unit {0}
+LedOf pages n None (Some x) = ⊥
+LedOf pages n (Some entry) None = ⊥
+LedOf pages n (Some entry) (Some x) = Led pages n entry x
+
+-- the table leads from each page of a file to its newest record, or an equal one
+pub record IsLed (pages : Pages) (n : ℕ) (table : Table) : Type 0 where
+  pub says : (key : FilePage) → LedOf pages n (known table key) (newest pages key.file key.page n)
+  pub count : page_len table ≡ page_count pages n
+  pub room : HasRoom table
+  pub fits : page_len table ≤ limit_of table
+
+-- it also knows how long each file is
+pub record Knows (pages : Pages) (n : ℕ) (table : Table) : Type 0 where
+  pub led : IsLed pages n table
+  pub lens : (file : ℕ) → IsFileLen pages n file (len_known table file)
+
+-- the bytes of a page of a file, with zeros past the end of the file
+abbrev pub IsContent : Pages → ℕ → FilePage → List ℕ → Type 0
+IsContent pages n key bytes = (j : ℕ) → j < 256
+    → slice_index bytes j ≡ (if nat_lt (256 * key.page + j) (file_len pages n key.file) then file_byte pages n key.file (256 * key.page + j) else 0)

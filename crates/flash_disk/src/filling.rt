@@ -1,6 +1,7 @@
 //! Records that are added to the block that is being filled, and blocks that are made free for it.
 
-ghost use Rattle.std.specs.Prelude.{◌≡◌, ◌+◌, ◌≤◌, IfOk, length};
+ghost use Rattle.std.specs.Prelude.{◌≡◌, ◌+◌, ◌≤◌, IfOk, IfSome, Some, length};
+ghost use Rattle.flash_disk.specs.Known.{known};
 ghost use Rattle.per_base.specs.Causes.{HasCause};
 
 use crate::disk::FlashDisk;
@@ -22,11 +23,7 @@ impl<F: Flash> FlashDisk<F> {
         self.read_page(place, &mut page)?;
         self.unsure = None;
         if let Some(record) = read_record(&page) {
-            let key = FilePage {
-                file: record.file,
-                page: record.page,
-            };
-            self.enter(key, place, record);
+            self.enter(place, record);
         }
         Ok(())
     }
@@ -46,18 +43,19 @@ impl<F: Flash> FlashDisk<F> {
     // Adds a record, which is the newest of its page from then on.
     pub(crate) fn append(
         &mut self,
-        key: FilePage,
+        file: u32,
+        page: u32,
         len: u64,
         bytes: &[u8; RECORD_BYTES],
     ) -> Result<(), DiskFailed>
         ensures { HasCause ((F.medium self.old.flash).faults + self.old.own) ((F.medium self.new.flash).faults + self.new.own) result }
     {
         self.make_room()?;
-        self.add(key, len, bytes)
+        self.add(file, page, len, bytes)
     }
 
     // Adds a record to the current block.
-    fn add(&mut self, key: FilePage, len: u64, bytes: &[u8]) -> Result<(), DiskFailed>
+    fn add(&mut self, file: u32, page: u32, len: u64, bytes: &[u8]) -> Result<(), DiskFailed>
         requires { length bytes.now ≡ 256 }
         ensures { HasCause ((F.medium self.old.flash).faults + self.old.own) ((F.medium self.new.flash).faults + self.new.own) result }
     {
@@ -69,14 +67,14 @@ impl<F: Flash> FlashDisk<F> {
         self.fill = self.fill.saturating_add(1);
         let record = Record {
             sequence,
-            file: key.file,
-            page: key.page,
+            file,
+            page,
             len,
             bytes,
         };
         match self.program_page(place, &page_of(record)) {
             Ok(true) => {
-                self.enter(key, place, record);
+                self.enter(place, record);
                 Ok(())
             }
             Ok(false) => Err(self.fault()),
@@ -88,12 +86,16 @@ impl<F: Flash> FlashDisk<F> {
     }
 
     // A record is the newest of its page.
-    fn enter(&mut self, key: FilePage, place: Place, record: Record<'_>)
+    fn enter(&mut self, place: Place, record: Record<'_>)
         ensures flash { self.new.flash ≡ self.old.flash }
         ensures own { self.new.own ≡ self.old.own }
     {
+        let key = FilePage {
+            file: record.file,
+            page: record.page as u64,
+        };
         if self.table.put(key, newest_at(place, record)) {
-            self.table.lengthen(key.file, record.len);
+            self.table.lengthen(record.file, record.len);
         }
     }
 
@@ -153,7 +155,7 @@ impl<F: Flash> FlashDisk<F> {
     fn renumber_one(&mut self, i: usize) -> Result<(), DiskFailed>
         ensures { HasCause ((F.medium self.old.flash).faults + self.old.own) ((F.medium self.new.flash).faults + self.new.own) result }
     {
-        let Some((key, moved)) = self.moved.get(i).copied() else {
+        let Some((_key, moved)) = self.moved.get(i).copied() else {
             return Ok(());
         };
         if !moved.rivalled {
@@ -164,7 +166,7 @@ impl<F: Flash> FlashDisk<F> {
         let Some(record) = read_record(&page) else {
             return Err(self.fault());
         };
-        self.add(key, record.len, record.bytes)?;
+        self.add(record.file, record.page, record.len, record.bytes)?;
         if let Some(slot) = self.moved.get_mut(i) {
             slot.1.rivalled = false;
         }
@@ -211,11 +213,13 @@ impl<F: Flash> FlashDisk<F> {
     }
 
     // The page of a file that a page of the flash is a record of, and the newest record of it.
-    fn newest_in(&self, page: &[u8]) -> Option<(FilePage, Newest)> {
+    pub(crate) fn newest_in(&self, page: &[u8]) -> Option<(FilePage, Newest)>
+        ensures { IfSome result (λ found. known self.now.table found.0 ≡ Some found.1) }
+    {
         let record = read_record(page)?;
         let key = FilePage {
             file: record.file,
-            page: record.page,
+            page: record.page as u64,
         };
         let newest = self.table.find(key)?;
         Some((key, newest))
