@@ -30,7 +30,6 @@ module _ (pages : Pages) (n : ℕ) where
   pub leads_at_first : (table : Table) → HasLearnt pages n table → IsLed pages n table
   leads_at_first table learnt = record {
     says = λ key. led_of key.file key.page (known table key) (newest pages key.file key.page n) (newest_is pages key.file key.page n) (learnt.says key);
-    count = learnt.count;
     room = learnt.room;
     fits = learnt.fits;
   }
@@ -60,10 +59,9 @@ module _ (pages : Pages) (n : ℕ) where
           is.one;
     }
 
-  same_newest : (old new : Table) → IsLed pages n old → new.newest ≡ old.newest → limit_of new ≡ limit_of old → IsLed pages n new
+  pub same_newest : (old new : Table) → IsLed pages n old → new.newest ≡ old.newest → limit_of new ≡ limit_of old → IsLed pages n new
   same_newest old new led same limit = record {
     says = λ key. subst (λ m. LedOf pages n (get same_page m key) (newest pages key.file key.page n)) (sym same) (led.says key);
-    count = ap hash_map_len same ∙ led.count;
     room = subst (λ m. new.limit ≤ hash_map_len m + spare m) (sym same) (subst (λ l. l ≤ hash_map_len old.newest + spare old.newest) (sym limit) led.room);
     fits = subst (λ m. hash_map_len m ≤ new.limit) (sym same) (subst (λ l. hash_map_len old.newest ≤ l) (sym limit) led.fits);
   }

@@ -4,3 +4,4 @@ mod Lengths
 mod Lightest
 mod Leading
 mod Reading
+mod Programming

@@ -1,5 +1,5 @@
 -- How a table is tied to the records on a flash.
-use Rattle.std.specs.Prelude.{◌≡◌, ◌≢◌, ℕ, ◌+◌, ◌*◌, ◌<◌, ◌≤◌, Bool, true, false, List, Option, Some, None, nat_lt, slice_index, if◌then◌else◌}
+use Rattle.std.specs.Prelude.{◌≡◌, ◌≢◌, ◌⊎◌, ℕ, ◌+◌, ◌*◌, ◌<◌, ◌≤◌, Bool, true, false, List, Option, Some, None, IsSome, nat_lt, slice_index, if◌then◌else◌}
 use Rattle.flash_model.specs.Pages.{Pages}
 use Rattle.flash_disk.specs.declared.table.FilePage.{FilePage}
 use Rattle.flash_disk.specs.declared.table.Place.{Place}
@@ -79,7 +79,6 @@ LedOf pages n (Some entry) (Some x) = Led pages n entry x
 -- the table leads from each page of a file to its newest record, or an equal one
 pub record IsLed (pages : Pages) (n : ℕ) (table : Table) : Type 0 where
   pub says : (key : FilePage) → LedOf pages n (known table key) (newest pages key.file key.page n)
-  pub count : page_len table ≡ page_count pages n
   pub room : HasRoom table
   pub fits : page_len table ≤ limit_of table
 
@@ -92,3 +91,16 @@ pub record Knows (pages : Pages) (n : ℕ) (table : Table) : Type 0 where
 abbrev pub IsContent : Pages → ℕ → FilePage → List ℕ → Type 0
 IsContent pages n key bytes = (j : ℕ) → j < 256
     → slice_index bytes j ≡ (if nat_lt (256 * key.page + j) (file_len pages n key.file) then file_byte pages n key.file (256 * key.page + j) else 0)
+
+-- a record came to lie where none was, newer than all others
+pub record Adds (old new : Pages) (n : ℕ) (place : Place) (r : PageRecord) : Type 0 where
+  pub small : place.page < 64
+  pub within : number place < n
+  pub nothing : record_at old (number place) ≡ None
+  pub here : record_at new (number place) ≡ Some r
+  pub elsewhere : (j : ℕ) → j ≢ number place → record_at new j ≡ record_at old j
+  pub newer : (j : ℕ) (q : PageRecord) → j < n → record_at old j ≡ Some q → q.sequence < r.sequence
+
+-- the table has an entry for the page, or room for one more
+abbrev pub HasPlace : Table → FilePage → Type 0
+HasPlace table key = IsSome (known table key) ⊎ (page_len table < limit_of table)

@@ -1,7 +1,11 @@
 //! Records that are added to the block that is being filled, and blocks that are made free for it.
 
-ghost use Rattle.std.specs.Prelude.{◌≡◌, ◌+◌, ◌≤◌, IfOk, IfSome, Some, length};
-ghost use Rattle.flash_disk.specs.Known.{known};
+ghost use Rattle.std.specs.Prelude.{◌≡◌, ◌+◌, ◌≤◌, ℕ, IfOk, IfSome, Some, length};
+ghost use Rattle.flash_model.specs.Pages.{Pages};
+ghost use Rattle.flash_record.specs.PageRecord.{record_in};
+ghost use Rattle.flash_record.specs.Stated.{stated};
+ghost use Rattle.flash_disk.specs.Known.{known, page_of};
+ghost use Rattle.flash_disk.specs.Learnt.{Adds, HasPlace, IsLed};
 ghost use Rattle.per_base.specs.Causes.{HasCause};
 
 use crate::disk::FlashDisk;
@@ -72,7 +76,7 @@ impl<F: Flash> FlashDisk<F> {
             len,
             bytes,
         };
-        match self.program_page(place, &page_of(record)) {
+        match self.program_page(place, &page_with(record)) {
             Ok(true) => {
                 self.enter(place, record);
                 Ok(())
@@ -86,16 +90,18 @@ impl<F: Flash> FlashDisk<F> {
     }
 
     // A record is the newest of its page.
-    fn enter(&mut self, place: Place, record: Record<'_>)
+    fn enter(&mut self, place: Place, found: Record<'_>)
         ensures flash { self.new.flash ≡ self.old.flash }
         ensures own { self.new.own ≡ self.old.own }
+        ensures leads { (old new : Pages) (n : ℕ) → Adds old new n place (stated found.entry) → IsLed old n self.old.table
+            → HasPlace self.old.table (page_of (stated found.entry)) → IsLed new n self.new.table }
     {
         let key = FilePage {
-            file: record.file,
-            page: record.page as u64,
+            file: found.file,
+            page: found.page as u64,
         };
-        if self.table.put(key, newest_at(place, record)) {
-            self.table.lengthen(record.file, record.len);
+        if self.table.put(key, newest_at(place, found)) {
+            self.table.lengthen(found.file, found.len);
         }
     }
 
@@ -227,11 +233,12 @@ impl<F: Flash> FlashDisk<F> {
 }
 
 // The page of flash that is this record.
-fn page_of(record: Record<'_>) -> [u8; PAGE_BYTES]
-    requires sequence { 1 ≤ record.sequence }
-    requires bytes { length record.bytes.now ≡ 256 }
+fn page_with(found: Record<'_>) -> [u8; PAGE_BYTES]
+    requires sequence { 1 ≤ found.sequence }
+    requires bytes { length found.bytes.now ≡ 256 }
+    ensures { record_in result ≡ Some (stated found.entry) }
 {
     let mut bytes = [0; RECORD_BYTES];
-    bytes.copy_from_slice(record.bytes);
-    record_page(record.sequence, record.file, record.page, record.len, &bytes)
+    bytes.copy_from_slice(found.bytes);
+    record_page(found.sequence, found.file, found.page, found.len, &bytes)
 }
