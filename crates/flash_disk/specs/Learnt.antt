@@ -1,13 +1,13 @@
 -- How a table is tied to the records on a flash.
 use Rattle.std.specs.Prelude.{◌≡◌, ◌≢◌, ◌⊎◌, ℕ, ◌+◌, ◌*◌, ◌<◌, ◌≤◌, Bool, true, false, List, Option, Some, None, IsSome, nat_lt, slice_index, if◌then◌else◌}
-use Rattle.flash_model.specs.Pages.{Pages}
+use Rattle.flash_model.specs.Pages.{Pages, blank_page, program_page}
 use Rattle.flash_disk.specs.declared.table.FilePage.{FilePage}
 use Rattle.flash_disk.specs.declared.table.Place.{Place}
 use Rattle.flash_disk.specs.declared.table.Newest.{Newest}
 use Rattle.flash_disk.specs.declared.table.Table.{Table}
 use Rattle.flash_disk.specs.Newest.{Placed, record_at, newest, page_count, IsCopyOf}
 use Rattle.flash_record.specs.PageRecord.{PageRecord}
-use Rattle.flash_disk.specs.Known.{known, page_len, limit_of, len_known, HasRoom}
+use Rattle.flash_disk.specs.Known.{same_page, known, page_len, limit_of, len_known, HasRoom}
 use Rattle.flash_disk.specs.FlashFiles.{file_byte, file_len, IsFileLen}
 
 abbrev pub number : Place → ℕ
@@ -104,3 +104,20 @@ pub record Adds (old new : Pages) (n : ℕ) (place : Place) (r : PageRecord) : T
 -- the table has an entry for the page, or room for one more
 abbrev pub HasPlace : Table → FilePage → Type 0
 HasPlace table key = IsSome (known table key) ⊎ (page_len table < limit_of table)
+
+-- no record has a greater number
+abbrev pub Tops : Pages → (n top : ℕ) → Type 0
+Tops pages n top = (j : ℕ) (q : PageRecord) → j < n → record_at pages j ≡ Some q → q.sequence ≤ top
+
+-- a blank page was programmed with these bytes, or nothing was
+abbrev pub ProgramsIf : Bool → Place → (blocks : ℕ) → List ℕ → Pages → Pages → Type 0
+ProgramsIf true place blocks bytes old new = (place.block < blocks) × (place.page < 64) × (old place.block place.page ≡ blank_page)
+    × (new ≡ program_page old place.block place.page bytes)
+ProgramsIf false place blocks bytes old new = new ≡ old
+
+-- a page of a file has a new record, to which the table leads, and all others have the records that they had
+pub record HasWritten (old new : Pages) (n : ℕ) (key : FilePage) (len : ℕ) (bytes : List ℕ) (table : Table) (top : ℕ) : Type 0 where
+  pub led : IsLed new n table
+  pub tops : Tops new n top
+  pub record_is : (x : Placed) × (newest new key.file key.page n ≡ Some x) × (x.says.len ≡ len) × (x.says.bytes ≡ bytes)
+  pub elsewhere : (file page : ℕ) → same_page key (record { file = file; page = page }) ≡ false → newest new file page n ≡ newest old file page n

@@ -1,11 +1,12 @@
 //! Records that are added to the block that is being filled, and blocks that are made free for it.
 
-ghost use Rattle.std.specs.Prelude.{◌≡◌, ◌+◌, ◌≤◌, ℕ, IfOk, IfSome, Some, length};
+ghost use Rattle.std.specs.Prelude.{◌≡◌, ◌+◌, ◌≤◌, ℕ, IsTrue, IfOk, IfSome, OnOk, Some, length};
 ghost use Rattle.flash_model.specs.Pages.{Pages};
 ghost use Rattle.flash_record.specs.PageRecord.{record_in};
 ghost use Rattle.flash_record.specs.Stated.{stated};
 ghost use Rattle.flash_disk.specs.Known.{known, page_of};
-ghost use Rattle.flash_disk.specs.Learnt.{Adds, HasPlace, IsLed};
+ghost use Rattle.flash_disk.specs.Learnt.{Adds, HasPlace, HasWritten, IsLed, Tops};
+ghost use Rattle.flash_disk.specs.Newest.{places};
 ghost use Rattle.per_base.specs.Causes.{HasCause};
 
 use crate::disk::FlashDisk;
@@ -35,6 +36,8 @@ impl<F: Flash> FlashDisk<F> {
     // The next sequence number.
     pub(crate) fn next_sequence(&mut self) -> Result<u64, DiskFailed>
         ensures positive { IfOk result (λ sequence. 1 ≤ sequence) }
+        ensures flash { self.new.flash ≡ self.old.flash }
+        ensures next { IfOk result (λ sequence. (sequence ≡ self.old.sequence + 1) × (self.new ≡ record self.old { sequence = sequence })) }
         ensures cause { HasCause ((F.medium self.old.flash).faults + self.old.own) ((F.medium self.new.flash).faults + self.new.own) result }
     {
         if self.sequence == u64::MAX {
@@ -61,7 +64,14 @@ impl<F: Flash> FlashDisk<F> {
     // Adds a record to the current block.
     fn add(&mut self, file: u32, page: u32, len: u64, bytes: &[u8]) -> Result<(), DiskFailed>
         requires { length bytes.now ≡ 256 }
-        ensures { HasCause ((F.medium self.old.flash).faults + self.old.own) ((F.medium self.new.flash).faults + self.new.own) result }
+        ensures written { IsTrue F.told
+            → IsLed (F.medium self.old.flash).state.pages (places (F.medium self.old.flash).blocks) self.old.table
+            → Tops (F.medium self.old.flash).state.pages (places (F.medium self.old.flash).blocks) self.old.sequence
+            → HasPlace self.old.table (record { file = file; page = page })
+            → OnOk result (HasWritten (F.medium self.old.flash).state.pages (F.medium self.new.flash).state.pages
+            (places (F.medium self.old.flash).blocks) (record { file = file; page = page }) len bytes.now self.new.table self.new.sequence) }
+        ensures blocks { (F.medium self.new.flash).blocks ≡ (F.medium self.old.flash).blocks }
+        ensures cause { HasCause ((F.medium self.old.flash).faults + self.old.own) ((F.medium self.new.flash).faults + self.new.own) result }
     {
         let sequence = self.next_sequence()?;
         let place = Place {
@@ -93,6 +103,7 @@ impl<F: Flash> FlashDisk<F> {
     fn enter(&mut self, place: Place, found: Record<'_>)
         ensures flash { self.new.flash ≡ self.old.flash }
         ensures own { self.new.own ≡ self.old.own }
+        ensures sequence { self.new.sequence ≡ self.old.sequence }
         ensures leads { (old new : Pages) (n : ℕ) → Adds old new n place (stated found.entry) → IsLed old n self.old.table
             → HasPlace self.old.table (page_of (stated found.entry)) → IsLed new n self.new.table }
     {
