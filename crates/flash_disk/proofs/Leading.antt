@@ -1,19 +1,16 @@
 -- The table leads to the newest records once the spare block is left, and so knows how long each file is.
-use Rattle.std.proofs.Common.{◌≡◌, ◌⊎◌, ℕ, ◌≤◌, ◌+◌, Bool, true, false, cond, refl, sym, ap, subst, ◌∙◌, inl, inr, ⊎_elim, arith, true≢false}
-use Rattle.std.specs.Prelude.{Option, Some, None, is_some}
-use Rattle.std.proofs.lemmas.Option.{same_Some, none-some}
+use Rattle.std.proofs.Common.{◌≡◌, ℕ, ◌≤◌, ◌+◌, refl, sym, subst, ◌∙◌, inl, inr, ⊎_elim, arith}
+use Rattle.std.specs.Prelude.{Option, Some, None}
 use Rattle.flash_model.specs.Pages.{Pages}
-use Rattle.flash_record.specs.PageRecord.{PageRecord}
 use Rattle.flash_disk.specs.declared.table.FilePage.{FilePage}
-use Rattle.flash_disk.specs.declared.table.Place.{Place}
 use Rattle.flash_disk.specs.declared.table.Newest.{Newest}
 use Rattle.flash_disk.specs.declared.table.Table.{Table}
-use Rattle.flash_disk.specs.Newest.{Placed, record_at, newest, IsNewestOf}
+use Rattle.flash_disk.specs.Newest.{Placed, newest, IsNewestOf}
 use Rattle.flash_disk.specs.NewestLaws.{newest_is}
 use Rattle.flash_disk.specs.FlashFiles.{IsFileLen}
 use Rattle.std.specs.HashMap.{get, hash_map_len, spare}
-use Rattle.flash_disk.specs.Known.{same_page, known, page_len, limit_of, len_known, IsLongest}
-use Rattle.flash_disk.specs.Learnt.{number, TwinSays, Learns, LearnsOf, HasLearnt, Led, LedOf, IsLed, Knows}
+use Rattle.flash_disk.specs.Known.{same_page, known, limit_of, len_known, IsLongest}
+use Rattle.flash_disk.specs.Learnt.{LearnsOf, HasLearnt, LedOf, IsLed, Knows}
 
 module _ (pages : Pages) (n : ℕ) where
   led_of : (file page : ℕ) (k : Option Newest) (b : Option Placed) → IsNewestOf pages file page n b → LearnsOf pages n k b → LedOf pages n k b

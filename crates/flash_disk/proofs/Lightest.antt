@@ -1,7 +1,6 @@
 -- The lightest of the blocks so far, after one more was looked at.
-use Rattle.std.proofs.Common.{◌≡◌, ◌≢◌, ◌⊎◌, ℕ, ◌+◌, ◌<◌, ◌≤◌, Bool, true, false, refl, sym, ap, subst, inl, inr, ⊎_elim, arith, true≢false}
-use Rattle.std.specs.Prelude.{IsTrue, ◌↔◌}
-use Rattle.std.proofs.lemmas.Bool.{cases_lt, cases_eq}
+use Rattle.std.proofs.Common.{◌≡◌, ◌≢◌, ◌⊎◌, ℕ, ◌+◌, ◌<◌, ◌≤◌, sym, subst, inl, inr, ⊎_elim, arith}
+use Rattle.std.proofs.lemmas.Bool.{cases_lt}
 
 module _ (load : ℕ → ℕ) (but blocks : ℕ) where
   abbrev pub IsBest : ℕ → ℕ → Type 0
@@ -14,10 +13,13 @@ module _ (load : ℕ → ℕ) (but blocks : ℕ) where
   taken block best within is beats = (
     (λ _. within),
     (λ b below other. ⊎_elim
-        (λ before. (beats.0, (let old = is.1 b before other in ⊎_elim
-        (λ none. absurd (old.0 none))
-        (λ less. let le = old.1 in omega (arith, less, le))
-        beats.1)))
+        (λ before. (
+          beats.0,
+          (let old = is.1 b before other in ⊎_elim
+              (λ none. absurd (old.0 none))
+              (λ less. let le = old.1 in omega (arith, less, le))
+              beats.1),
+        ))
         (λ past. let e : block ≡ b = omega arith in subst (λ q. (block ≢ but) × (load block ≤ load q)) e (beats.0, omega arith))
         (cases_lt b block)),
   )

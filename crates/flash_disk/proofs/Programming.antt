@@ -1,5 +1,5 @@
 -- What a newer record makes of the newest records, once it is programmed where no record was.
-use Rattle.std.proofs.Common.{◌≡◌, ◌≢◌, ◌⊎◌, ℕ, ◌+◌, ◌*◌, ◌/◌, ◌%◌, ◌<◌, ◌≤◌, List, Bool, true, false, cond, refl, sym, ap, subst, ◌∙◌, inl, inr, ⊎_elim, arith, true≢false, eq-eqb, ne_eqb}
+use Rattle.std.proofs.Common.{◌≡◌, ◌⊎◌, ℕ, ◌+◌, ◌*◌, ◌/◌, ◌%◌, ◌<◌, List, Bool, true, false, cond, refl, sym, ap, subst, ◌∙◌, inl, inr, ⊎_elim, arith, true≢false, eq-eqb}
 use Rattle.std.specs.Prelude.{Option, Some, None, nat_eq, ◌&&◌}
 use Rattle.std.proofs.lemmas.Bool.{cases_lt, cases_eq, eqb-true}
 use Rattle.std.proofs.lemmas.Option.{same_Some, none-some}
@@ -26,9 +26,9 @@ module _ (pages : Pages) (file page n : ℕ) where
   same_placed : (x y : Placed) → IsNewest pages file page n x → IsNewest pages file page n y → x ≡ y
   same_placed x y is_x is_y =
       let place : x.place ≡ y.place = ⊎_elim
-          (λ before. absurd (same_place x y is_x is_y before))
-          (λ late. ⊎_elim (λ after. absurd (same_place y x is_y is_x after)) (λ early. let e : x.place ≡ y.place = omega arith in e) (cases_lt y.place x.place))
-          (cases_lt x.place y.place) in
+      (λ before. absurd (same_place x y is_x is_y before))
+      (λ late. ⊎_elim (λ after. absurd (same_place y x is_y is_x after)) (λ early. let e : x.place ≡ y.place = omega arith in e) (cases_lt y.place x.place))
+      (cases_lt x.place y.place) in
       let says : x.says ≡ y.says = same_Some x.says y.says (sym is_x.there ∙ (ap (record_at pages) place ∙ is_y.there)) in
       ap (λ p. let z : Placed = record { place = p; says = x.says } in z) place ∙ ap (λ q. let z : Placed = record { place = y.place; says = q } in z) says
 
@@ -167,7 +167,7 @@ adds_by old new blocks place bytes r top (block, small, blank, done) is tops seq
     let p : number place % 64 ≡ place.page = omega (arith, small) in
     let was : record_at old (number place) ≡ None = rw (b, p) (ap record_in blank ∙ blank_is_none) in
     let own : (nat_eq (number place / 64) place.block && nat_eq (number place % 64) place.page) ≡ true =
-        rw (eq-eqb (number place / 64) place.block b, eq-eqb (number place % 64) place.page p) refl in record {
+    rw (eq-eqb (number place / 64) place.block b, eq-eqb (number place % 64) place.page p) refl in record {
       small = small;
       within = omega (arith, small, block);
       nothing = was;

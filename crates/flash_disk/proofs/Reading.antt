@@ -12,7 +12,7 @@ use Rattle.flash_disk.specs.Newest.{Placed, record_at, newest, places}
 use Rattle.flash_disk.specs.FlashFiles.{record_byte, byte_in, file_byte, file_len, flash_files}
 use Rattle.flash_disk.specs.FlashFilesLaws.{one_len, length-flash_files, byte-flash_files}
 use Rattle.flash_disk.specs.Known.{known, len_known}
-use Rattle.flash_disk.specs.Learnt.{number, Led, LedOf, IsLed, Knows, IsContent}
+use Rattle.flash_disk.specs.Learnt.{number, LedOf, Knows, IsContent}
 use Rattle.flash_disk.proofs.Learning.{record_at_place}
 
 -- the same test, before and after both sides grow
@@ -66,11 +66,11 @@ module _ (pages : Pages) (n : ℕ) (table : Table) (knows : Knows pages n table)
           → IsContent pages n key bytes
       content page bytes read cuts = λ j small.
           let test : nat_lt j (len_known table key.file - 256 * key.page) ≡ nat_lt (256 * key.page + j) (file_len pages n key.file) =
-              ap (λ l. nat_lt j (l - 256 * key.page)) (len_is key.file) ∙ same_test j (file_len pages n key.file) (256 * key.page) in
+          ap (λ l. nat_lt j (l - 256 * key.page)) (len_is key.file) ∙ same_test j (file_len pages n key.file) (256 * key.page) in
           let byte : record_byte (record_in page) j ≡ file_byte pages n key.file (256 * key.page + j) =
-              ap (λ p. record_byte (record_in p) j) read
-              ∙ (ap (λ r. record_byte r j) (sym (record_at_place pages e.place.block e.place.page is_there.0))
-              ∙ (byte_by (newest pages key.file key.page n) says j ∙ sym (byte_of j small))) in
+          ap (λ p. record_byte (record_in p) j) read
+          ∙ (ap (λ r. record_byte r j) (sym (record_at_place pages e.place.block e.place.page is_there.0))
+          ∙ (byte_by (newest pages key.file key.page n) says j ∙ sym (byte_of j small))) in
           cuts j small ∙ (ap (λ b. cond b (record_byte (record_in page) j) 0) test
           ∙ ap (λ v. cond (nat_lt (256 * key.page + j) (file_len pages n key.file)) v 0) byte)
 

@@ -1,5 +1,5 @@
 -- What a flash stands for as files: each has the bytes of its newest records, cut to the greatest length that one of these says.
-use Rattle.std.specs.Prelude.{◌≡◌, ◌⊎◌, ℕ, zero, suc, ◌/◌, ◌%◌, ◌≤◌, ◌==◌, ◌&&◌, Bool, false, max, List, map, Option, Some, None, slice_index, if◌then◌else◌}
+use Rattle.std.specs.Prelude.{◌≡◌, ◌⊎◌, ℕ, zero, suc, ◌/◌, ◌%◌, ◌≤◌, ◌==◌, ◌&&◌, Bool, false, max, map, Option, Some, None, slice_index, if◌then◌else◌}
 use Rattle.std.specs.List.{range_with_len}
 use Rattle.disk_model.specs.Image.{Image}
 use Rattle.flash_model.specs.Pages.{Pages}

@@ -1,15 +1,14 @@
 -- How long a file of a flash is, and its bytes one by one.
-use Rattle.std.specs.Prelude.{◌≡◌, ◌⊎◌, ℕ, zero, suc, ◌+◌, ◌/◌, ◌%◌, ◌<◌, ◌≤◌, ◌==◌, ◌&&◌, Bool, true, false, max, cond, length, map, Option, Some, None, nat_eq, slice_index}
-use Rattle.std.specs.List.{range_with_len}
+use Rattle.std.specs.Prelude.{◌≡◌, ◌⊎◌, ℕ, zero, suc, ◌+◌, ◌<◌, ◌≤◌, ◌&&◌, Bool, true, false, max, cond, length, Option, Some, None, nat_eq}
 use Rattle.std.proofs.Common.{refl, sym, ap, subst, ◌∙◌, inl, inr, ⊎_elim, arith, true≢false, get_or, eq-eqb}
 use Rattle.std.proofs.lemmas.Bool.{cases_lt, eqb-true}
-use Rattle.std.proofs.lemmas.Option.{same_Some, none-some}
+use Rattle.std.proofs.lemmas.Option.{same_Some}
 use Rattle.std.proofs.lemmas.List.FromFn.{length-map-range_with_len, get_or-map-range_with_len}
 use Rattle.flash_model.specs.Pages.{Pages}
 use Rattle.flash_record.specs.PageRecord.{PageRecord}
-use Rattle.flash_disk.specs.Newest.{Placed, record_at, is_of, newest, places, IsNewest, IsNewestOf}
+use Rattle.flash_disk.specs.Newest.{Placed, record_at, newest, places, IsNewest, IsNewestOf}
 use Rattle.flash_disk.specs.NewestLaws.{newest_is}
-use Rattle.flash_disk.specs.FlashFiles.{byte_in, file_byte, lies_at, len_at, longest_below, file_len, flash_files, IsFileLen}
+use Rattle.flash_disk.specs.FlashFiles.{file_byte, lies_at, len_at, longest_below, file_len, flash_files, IsFileLen}
 
 both_parts : (a b : Bool) → (a && b) ≡ true → (a ≡ true) × (b ≡ true)
 both_parts true true e = (refl, refl)
@@ -48,7 +47,7 @@ module _ (pages : Pages) (n file : ℕ) where
     x,
     subst (λ q. newest pages q r.page n ≡ Some x) f is,
     (let e : x.place ≡ i = eqb-true x.place i lies in
-    let same : r ≡ x.says = same_Some r x.says (sym here ∙ (ap (record_at pages) (sym e) ∙ is_newest.there)) in ap (λ q. q.len) same),
+        let same : r ≡ x.says = same_Some r x.says (sym here ∙ (ap (record_at pages) (sym e) ∙ is_newest.there)) in ap (λ q. q.len) same),
   )
 
   by_test : (i : ℕ) (r : PageRecord) → record_at pages i ≡ Some r → (b : Bool) → (nat_eq r.file file && lies_at i (newest pages r.file r.page n)) ≡ b → Says (cond b r.len 0)

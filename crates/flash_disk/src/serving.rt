@@ -121,7 +121,13 @@ impl<F: Flash> FlashDisk<F> {
             let start = at + done as u64;
             let from = (start % PAGE) as usize;
             let count = (RECORD_BYTES - from).min(bytes.len() - done);
-            self.write_page(file, (start / PAGE) as u32, len, from, &bytes[done..done + count])?;
+            self.write_page(
+                file,
+                (start / PAGE) as u32,
+                len,
+                from,
+                &bytes[done..done + count],
+            )?;
             done += count;
         }
         Ok(())

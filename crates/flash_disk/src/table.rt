@@ -255,7 +255,9 @@ pub fn end_of_bytes(key: FilePage, newest: Newest) -> u64 {
     if newest.filled == 0 {
         return 0;
     }
-    key.page.saturating_mul(256).saturating_add(newest.filled as u64)
+    key.page
+        .saturating_mul(256)
+        .saturating_add(newest.filled as u64)
 }
 
 // How many pages it takes to move a newest record.

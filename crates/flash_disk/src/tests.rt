@@ -203,7 +203,14 @@ fn a_stop_at_each_call(rt: HostRuntime) {
 }
 
 // A record that this program did not write: page `page` of a file of `len` bytes, each of them this byte.
-fn foreign_record(place: Place, sequence: u64, file: u32, page: u32, len: u64, byte: u8) -> Foreign {
+fn foreign_record(
+    place: Place,
+    sequence: u64,
+    file: u32,
+    page: u32,
+    len: u64,
+    byte: u8,
+) -> Foreign {
     Foreign {
         place,
         bytes: record_page(sequence.max(1), file, page, len, &[byte; 256]),
@@ -230,7 +237,8 @@ fn plant(disk: &mut FlashDisk<MemFlash>, record: Foreign) -> bool {
 fn reads(disk: &mut FlashDisk<MemFlash>, file: u32, at: u64, count: usize, byte: u8) -> bool {
     let mut bytes = [9; 600];
     let count = count.min(600);
-    disk.read(file, at, &mut bytes[..count]) == Ok(count) && bytes[..count].iter().all(|b| *b == byte)
+    disk.read(file, at, &mut bytes[..count]) == Ok(count)
+        && bytes[..count].iter().all(|b| *b == byte)
 }
 
 #[test]
@@ -238,7 +246,10 @@ fn bytes_past_an_old_end_do_not_show(rt: HostRuntime) {
     let made = fresh(rt.alloc(), 4);
     assert!(rt; made.is_some());
     let Some(mut disk) = made else { return };
-    assert!(rt; plant(&mut disk, foreign_record(page_at(0, 0), 1, 1, 0, 3, 7)) && plant(&mut disk, foreign_record(page_at(0, 1), 1, 1, 1, 3, 7)));
+    assert!(rt;
+        plant(&mut disk, foreign_record(page_at(0, 0), 1, 1, 0, 3, 7))
+            && plant(&mut disk, foreign_record(page_at(0, 1), 1, 1, 1, 3, 7))
+    );
     let again = reopened(rt.alloc(), disk);
     assert!(rt; again.is_some());
     let Some(mut disk) = again else { return };
@@ -291,7 +302,10 @@ fn plant_loads(disk: &mut FlashDisk<MemFlash>) -> bool {
     let mut done = true;
     for block in 0..3 {
         for page in 0..42 {
-            done = plant(disk, foreign_record(page_at(block, page), 1, block, page, 16_384, 1)) && done;
+            done = plant(
+                disk,
+                foreign_record(page_at(block, page), 1, block, page, 16_384, 1),
+            ) && done;
         }
     }
     for block in 0..3 {
@@ -316,5 +330,9 @@ fn blocks_that_take_a_whole_block_to_move(rt: HostRuntime) {
     let again = reopened(rt.alloc(), disk);
     assert!(rt; again.is_some());
     let Some(mut disk) = again else { return };
-    assert!(rt; reads(&mut disk, 0, 256 * 21, 256, 1) && reads(&mut disk, 2, 0, 256, 1) && reads(&mut disk, 1, 256, 256, 1));
+    assert!(rt;
+        reads(&mut disk, 0, 256 * 21, 256, 1)
+            && reads(&mut disk, 2, 0, 256, 1)
+            && reads(&mut disk, 1, 256, 256, 1)
+    );
 }

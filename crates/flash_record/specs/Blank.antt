@@ -1,6 +1,6 @@
 -- A blank page is no record: no text is as long as it says.
-use Rattle.std.specs.Prelude.{◌≡◌, ℕ, ◌+◌, ◌&&◌, List, length, Bool, true, false, cond, Option, Some, None, nat_le}
-use Rattle.std.proofs.Common.{refl, ap, ◌∙◌, true≢false}
+use Rattle.std.specs.Prelude.{◌≡◌, ℕ, ◌+◌, ◌&&◌, List, length, Bool, true, false, cond, Some, None, nat_le}
+use Rattle.std.proofs.Common.{refl, ap, true≢false}
 use Rattle.flash_model.specs.Pages.{blank_page}
 use Rattle.hash_guard.specs.SealedText.{header, max_body, generation_in, length_in, body_in, verified}
 use Rattle.flash_record.specs.PageRecord.{record_by, record_in}

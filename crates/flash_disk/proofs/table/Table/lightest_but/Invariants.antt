@@ -1,4 +1,4 @@
-use Rattle.std.proofs.Common.{◌≡◌, ◌≢◌, ℕ, ◌≤◌, ◌<◌}
+use Rattle.std.proofs.Common.{◌≢◌, ℕ, ◌≤◌, ◌<◌}
 use Rattle.flash_disk.specs.Known.{load_known}
 use Rattle.flash_disk.proofs.table.Table.lightest_but.Given as goal
 

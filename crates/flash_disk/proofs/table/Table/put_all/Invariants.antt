@@ -1,4 +1,4 @@
-use Rattle.std.proofs.Common.{◌≡◌, ℕ, take}
+use Rattle.std.proofs.Common.{◌≡◌, take}
 use Rattle.std.specs.Prelude.{All, IsSome}
 use Rattle.std.specs.Map.{update_all}
 use Rattle.flash_disk.specs.declared.table.FilePage.{FilePage}
