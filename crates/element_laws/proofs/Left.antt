@@ -114,7 +114,7 @@ module _ (shape : Shape) (image : Image) (clean : IsClean shape image) (copy : �
   abbrev its_text : FitText
   its_text = fit_at image shape g t i
 
-  counts_all : (c : ℕ) → holds_all image shape.place its_text c ≡ true → (e : IndexEntry) → In e i.entries → (v : List ℕ) × Gives (gift_of image shape (where_of e)) c v
+  pub counts_all : (c : ℕ) → holds_all image shape.place its_text c ≡ true → (e : IndexEntry) → In e i.entries → (v : List ℕ) × Gives (gift_of image shape (where_of e)) c v
   counts_all c all e h =
       let r = both_true (holds_text image shape.place its_text c) (list_all (λ e. counts image shape.place e c) i.entries) all in
       there_is (gift_of image shape (where_of e) c) (list_all-In (λ e. counts image shape.place e c) e i.entries r.1 h)

@@ -21,7 +21,7 @@ use Rattle.element_state.specs.Clean.{where_of}
 use Rattle.element_state.specs.Conditions.{IsMended, IsInUse}
 use Rattle.element_state.specs.Kept.{HasEnough, IsSpared, KeepsGood}
 use Rattle.element_laws.specs.Phases.{InUseLaw, CarriedLaw, WholeLaw, OpenedLaw, CorruptLaw}
-use Rattle.element_laws.specs.Refused.{one, IndexFirst, OldOverwritten, OtherValue, Planted, CopyEaten}
+use Rattle.element_laws.specs.Refused.{one, IndexFirst, IndexFirstAnew, OldOverwritten, OtherValue, Planted, CopyEaten, OtherRaised, SalvageRaised}
 use Rattle.element_laws.proofs.Lists.{In, Contains-In, In-Contains, map-In, Contains-head, all_in, nothing_listed, not_none, some_is}
 use Rattle.element_laws.proofs.Copies.{good_same, bad_good, gifts}
 use Rattle.element_laws.proofs.Standing.{gift_of, generation_of}
@@ -57,6 +57,11 @@ index_first shape g was is le k =
           bad_good None is (both.0 is refl (inr (all_left shape le)))
     ]
 
+pub index_first_anew : IndexFirstAnew
+index_first_anew shape g salvage is le k =
+    let becomes = k.stays (one g (Bad None)) [] refl in
+    bad_good None is (becomes.1.0 is refl (inr (all_left shape le)))
+
 pub old_overwritten : OldOverwritten
 old_overwritten shape g was is le k =
     let r = k.stays (all_left shape le) in
@@ -86,6 +91,21 @@ pub copy_eaten : CopyEaten
 copy_eaten shape g copy was is lt k =
     let costs = k.copies (record { generation = refl; entries = refl }) in
     costs.0 was copy refl lt (λ j small. nothing_listed (shape.place.first + 4 * copy + j), nothing_listed (copy + 1)) (Contains-head (copy + 1) (copy + 1) [] refl)
+
+pub other_raised : OtherRaised
+other_raised shape g h was other others rest le ne k =
+    let r = k.stays (all_left shape le) in
+    let w : one h (Good other) ≡ r.0 = view_at (one h (Good other)) r.0 rest r.1 r.2 in
+    let e = ap (λ (v : View). v.generation) w in
+    elim r.3 [
+      | inl old ↦ ne (e ∙ old.0.generation)
+      | inr new ↦
+          let after : one g (Good was) ≡ new.1 = view_at (one g (Good was)) new.1 [] new.2 new.3 in
+          ne (e ∙ new.4.generation ∙ sym (ap (λ (v : View). v.generation) after))
+    ]
+
+pub salvage_raised : SalvageRaised
+salvage_raised shape g was is others rest k = not_next g (sym (k.stays (one g (Good was)) rest refl).0.generation)
 
 -- ---- storages in use
 

@@ -19,7 +19,7 @@ use Rattle.element_state.specs.Fit.{FitText, fit_index, fit_texts}
 use Rattle.element_state.specs.Views.{entry_view, view_of, content_of, qualifies}
 use Rattle.element_state.specs.States.{State, Opens, Corrupt, picked, state_of, store_at, corrupt_state, salvage_of}
 use Rattle.element_state.specs.Clean.{where_of, counting_at, IsClean}
-use Rattle.element_state.specs.Kept.{heading, SameHeadings, IsLeftOf, IsFrom, IsFromOneOf, HasEnough, KeepsGood, CostsNoCopy, listed, all_views, OpensLike, Stays, CopiesStay, Kept}
+use Rattle.element_state.specs.Kept.{heading, SameHeadings, IsLeftOf, IsFrom, IsFromOneOf, HasEnough, KeepsGood, CostsNoCopy, listed, all_views, BecomesAs, Stays, CopiesStay, Kept}
 use Rattle.element_laws.proofs.Lists.{In, all_by, some_is, zip_left, zip_with, zip_both}
 use Rattle.element_laws.proofs.Copies.{Gift, Gives, gifts, Backed, left_of, good_now}
 use Rattle.element_laws.proofs.Fits.{fit_at, In-fit, fit-In, fit_descends, pick_greatest, picked_parts, In-views}
@@ -120,7 +120,7 @@ module _ (shape : Shape) (image : Image) (damaged : List ℕ) (positive : 1 ≤ 
       ap (λ o. content_of o (first_content (gifts gift shape.place.copies)))
       (good_now shape.m shape.place.copies positive gift v all (b.1 v good enough))
 
-  keeps : (g : ℕ) (t : List ℕ) (i : Index) (there : View) → StandsFor shape image g i there → AllZip (HasValue shape image damaged) i.entries there.entries
+  pub keeps : (g : ℕ) (t : List ℕ) (i : Index) (there : View) → StandsFor shape image g i there → AllZip (HasValue shape image damaged) i.entries there.entries
       → KeepsGood shape damaged (view (fit_at image shape g t i)) there
   unfolding view_of
   keeps g t i there s n =
@@ -209,7 +209,7 @@ module _ (shape : Shape) (image : Image) (damaged : List ℕ) (positive : 1 ≤ 
 
   -- where nothing opened before, what opens is the view of after
   pub kept_corrupt : (salvage : Option View) (others : List View) (after : State) → EachStands (Corrupt salvage others) after
-      → ((w : View) (rest : List View) → store_at image shape ≡ Opens w rest → OpensLike w after) → Kept shape damaged (store_at image shape) (Corrupt salvage others) after
+      → ((w : View) (rest : List View) → store_at image shape ≡ Opens w rest → BecomesAs shape damaged w after) → Kept shape damaged (store_at image shape) (Corrupt salvage others) after
   kept_corrupt salvage others after each like = record {
     known = known_by (Corrupt salvage others) after each;
     stays = like;
@@ -217,6 +217,6 @@ module _ (shape : Shape) (image : Image) (damaged : List ℕ) (positive : 1 ≤ 
   }
 
   pub corrupt_kept : (vs : List View) (after : State) → EachStands (corrupt_state vs) after
-      → ((w : View) (rest : List View) → store_at image shape ≡ Opens w rest → OpensLike w after) → Kept shape damaged (store_at image shape) (corrupt_state vs) after
+      → ((w : View) (rest : List View) → store_at image shape ≡ Opens w rest → BecomesAs shape damaged w after) → Kept shape damaged (store_at image shape) (corrupt_state vs) after
   corrupt_kept [] after each like = kept_corrupt None [] after each like
   corrupt_kept (v ∷ vs) after each like = kept_corrupt (Some v) vs after each like

@@ -1,6 +1,14 @@
 -- An image on which copies hold texts of before, and one new text.
 use Rattle.std.proofs.Common.{◌≡◌, ℕ, ◌<◌, ◌≤◌, ◌⊎◌, true, List, [], ◌∷◌, Option, Some, None, refl, sym, ap, subst, ◌∙◌, inl, inr}
-use Rattle.std.specs.Prelude.{map}
+use Rattle.std.specs.Prelude.{length, map, nat_le}
+use Rattle.std.proofs.lemmas.Bool.{leb-true}
+use Rattle.per_base.specs.declared.elements.Scope.{Scope}
+use Rattle.per_base.specs.declared.elements.Scope.TheVariants as scope
+use Rattle.per_base.specs.declared.elements.Content.{Content}
+use Rattle.per_base.specs.declared.elements.Entry.{Entry}
+use Rattle.disk_model.specs.Damage.{AtLeast}
+use Rattle.guarded_cell.specs.CopyLaws.{enough_pass}
+use Rattle.guarded_cell.specs.StopLaws.{at_least_map}
 use Rattle.std.specs.List.{AllZip}
 use Rattle.disk_model.specs.Image.{Image}
 use Rattle.guarded_cell.specs.Register.{Holds}
@@ -11,18 +19,18 @@ use Rattle.index_text.specs.Reading.{index_of}
 use Rattle.element_state.specs.declared.shapes.Shape.{Shape}
 use Rattle.element_state.specs.declared.shapes.View.{View}
 use Rattle.element_state.specs.Fit.{FitText, fit_index, fit_texts}
-use Rattle.element_state.specs.Views.{qualifies, view_of}
+use Rattle.element_state.specs.Views.{holds_all, supporters, qualifies, view_of}
 use Rattle.element_state.specs.States.{Opens, picked, state_of, store_at, corrupt_state}
 use Rattle.element_state.specs.Clean.{where_of, IsNamed, IsClean}
-use Rattle.element_state.specs.Kept.{SameHeadings, all_views, Kept}
+use Rattle.element_state.specs.Kept.{IsSpared, BecomesAs, all_views, Kept}
 use Rattle.element_laws.specs.Phases.{IsCorruptAt}
-use Rattle.element_laws.proofs.Lists.{In, Contains-In, In-map, append-In, some_is}
-use Rattle.element_laws.proofs.Copies.{Gives, AreAlike, voted_given}
+use Rattle.element_laws.proofs.Lists.{In, Contains-In, In-map, append-In, some_is, zip_with}
+use Rattle.element_laws.proofs.Copies.{Gives, AreAlike, Backed, voted_given}
 use Rattle.element_laws.proofs.Fits.{fit_at, In-fit, fit-In, fit-spelled, picked_parts, none_passes}
-use Rattle.element_laws.proofs.Standing.{gift_of, StandsFor, EachStands, same_headings, corrupt_kept}
-use Rattle.element_laws.proofs.Left.{value_at, named, qualifies_back}
+use Rattle.element_laws.proofs.Standing.{gift_of, StandsFor, HasValue, EachStands, same_headings, keeps, corrupt_kept}
+use Rattle.element_laws.proofs.Left.{value_at, named, counts_all, qualifies_back}
 use Rattle.element_laws.proofs.Keeping.{WasHeld, stood}
-use Rattle.element_laws.proofs.NewText.{EntryStands, new_stands}
+use Rattle.element_laws.proofs.NewText.{EntryStands, new_stands, new_costs}
 use Rattle.element_laws.proofs.Phases.{no_open, corrupt_pick}
 
 module _ (shape : Shape) (start new : Image) (damaged : List ℕ) (positive : 1 ≤ shape.m) (clean : IsClean shape start)
@@ -108,8 +116,34 @@ module _ (shape : Shape) (start new : Image) (damaged : List ℕ) (positive : 1 
     abbrev pick_new : Option (FitText × List FitText)
     pick_new = picked (qualifies new shape) (fit_texts shape new)
 
+    -- copies give the values of a new text that qualifies
+    module _ (copy : ℕ) (lt : copy < shape.place.copies) (holds : Holds new shape.place.first copy g next) (passes : qualifies new shape (fit_at new shape g next index) ≡ true) where
+      enough_all : shape.scope ≡ scope.Storage → AtLeast (λ c. holds_all new shape.place (fit_at new shape g next index) c ≡ true) shape.place.copies shape.m
+      enough_all storage = enough_pass (holds_all new shape.place (fit_at new shape g next index)) shape.place.copies shape.m
+          (leb-true shape.m (length (supporters scope.Storage new shape.place (fit_at new shape g next index)))
+          (subst (λ (s : Scope). nat_le shape.m (length (supporters s new shape.place (fit_at new shape g next index))) ≡ true) storage passes))
+
+      value_of : (e : IndexEntry) (f : Entry) → In e index.entries → EntryStands shape new damaged e f → HasValue shape new damaged e f
+      value_of e f h s v good enough = elim enough [
+        | inl storage ↦ at_least_map (λ c. holds_all new shape.place (fit_at new shape g next index) c ≡ true) (λ c. Gives (gift_of new shape (where_of e)) c v) shape.place.copies shape.m
+            (λ c ltc all.
+            let w = counts_all shape new two_clean copy g next index lt holds fit c all e h in
+            let backed = subst (λ (x : Content). Backed shape.m shape.place.copies (gift_of new shape (where_of e)) x) good s.backed in
+            subst (λ (x : List ℕ). Gives (gift_of new shape (where_of e)) c x) (backed c w.0 ltc w.1) w.1) (enough_all storage)
+        | inr spared ↦ at_least_map (IsSpared shape damaged f.lacking) (λ c. Gives (gift_of new shape (where_of e)) c v) shape.place.copies shape.m
+            (λ c ltc is. (s.gives v c good ltc is.0).1) spared
+      ]
+
+      becomes : BecomesAs shape damaged (view_of new shape (fit_at new shape g next index)) (Opens view others)
+      becomes = (
+        same_headings shape new damaged positive two_clean g next index view (stands_new copy lt holds),
+        keeps shape new damaged positive two_clean g next index view (stands_new copy lt holds)
+            (zip_with (EntryStands shape new damaged) (HasValue shape new damaged) index.entries view.entries (λ e f h k s. value_of e f h s) (stand copy lt holds)),
+        new_costs shape new damaged g next index view (stand copy lt holds) generation_is positive,
+      )
+
     opens_like : (o : Option (FitText × List FitText)) → pick_new ≡ o → (w : View) (rest : List View)
-        → state_of (view_of new shape) (fit_texts shape new) o ≡ Opens w rest → SameHeadings w view
+        → state_of (view_of new shape) (fit_texts shape new) o ≡ Opens w rest → BecomesAs shape damaged w (Opens view others)
     opens_like None e w rest is = absurd (no_open (map (view_of new shape) (fit_texts shape new)) w rest is)
     opens_like (Some r) e w rest is =
         let parts = picked_parts (qualifies new shape) (fit_texts shape new) r e in
@@ -128,11 +162,11 @@ module _ (shape : Shape) (start new : Image) (damaged : List ℕ) (positive : 1 
               let one : u.index ≡ index = some_is u.index index (sym u.fit ∙ ap (fit_index shape) same.1 ∙ fit) in
               let held = subst (λ (k : ℕ). Holds new shape.place.first u.copy k next) same.0 (subst (λ (x : List ℕ). Holds new shape.place.first u.copy u.generation x) same.1 u.holds) in
               let at : fit_at new shape g next index ≡ r.0 = (λ j. fit_at new shape (sym same.0 j) (sym same.1 j) (sym one j)) ∙ u.is in
-              subst (λ v. SameHeadings v view) (ap (view_of new shape) at ∙ shown)
-              (same_headings shape new damaged positive two_clean g next index view (stands_new u.copy u.inside held))
+              subst (λ v. BecomesAs shape damaged v (Opens view others)) (ap (view_of new shape) at ∙ shown)
+              (becomes u.copy u.inside held (subst (λ x. qualifies new shape x ≡ true) (sym at) parts.2))
         ]
 
-    like : (w : View) (rest : List View) → store_at new shape ≡ Opens w rest → SameHeadings w view
+    like : (w : View) (rest : List View) → store_at new shape ≡ Opens w rest → BecomesAs shape damaged w (Opens view others)
     unfolding store_at
     like w rest is = opens_like pick_new refl w rest is
 

@@ -1,11 +1,11 @@
 -- What a stop may not leave, by small states that nothing may lead to: one element, in every copy.
-use Rattle.std.specs.Prelude.{◌≢◌, ℕ, ◌+◌, ◌<◌, ◌≤◌, List, [], ◌∷◌, true, None}
+use Rattle.std.specs.Prelude.{◌≢◌, ℕ, ◌+◌, ◌<◌, ◌≤◌, List, [], ◌∷◌, true, Option, Some, None}
 use Rattle.per_base.specs.declared.elements.Entry.{Entry}
 use Rattle.per_base.specs.declared.elements.Content.{Content}
 use Rattle.per_base.specs.declared.elements.Content.TheVariants.{Good, Bad}
 use Rattle.element_state.specs.declared.shapes.Shape.{Shape}
 use Rattle.element_state.specs.declared.shapes.View.{View}
-use Rattle.element_state.specs.States.{Opens}
+use Rattle.element_state.specs.States.{Opens, Corrupt}
 use Rattle.element_state.specs.Kept.{Kept}
 
 -- an element of one byte, which these copies lack
@@ -23,6 +23,11 @@ lacking_one generation copy content = record { generation = generation; lacking 
 abbrev pub IndexFirst : Type 0
 IndexFirst = (shape : Shape) (g : ℕ) (was is : List ℕ) → shape.m ≤ shape.place.copies
     → ¬ (Kept shape [] (Opens (one (g + 1) (Bad None)) []) (Opens (one g (Good was)) []) (Opens (one (g + 1) (Good is)) []))
+
+-- and so while a corrupt storage is made anew
+abbrev pub IndexFirstAnew : Type 0
+IndexFirstAnew = (shape : Shape) (g : ℕ) (salvage : Option View) (is : List ℕ) → shape.m ≤ shape.place.copies
+    → ¬ (Kept shape [] (Opens (one g (Bad None)) []) (Corrupt salvage []) (Opens (one g (Good is)) []))
 
 -- new contents in blocks of the index that stands: its element cannot be read
 abbrev pub OldOverwritten : Type 0
@@ -43,3 +48,13 @@ Planted = (shape : Shape) (g h : ℕ) (was is never : List ℕ) → h ≢ g → 
 abbrev pub CopyEaten : Type 0
 CopyEaten = (shape : Shape) (g copy : ℕ) (was is : List ℕ) → copy < shape.place.copies
     → ¬ (Kept shape [] (Opens (lacking_one g copy (Good was)) []) (Opens (one g (Good was)) []) (Opens (one (g + 1) (Good is)) []))
+
+-- another text that is held, and that enough copies came to support by what was mended before the index was adopted: the storage opens at it
+abbrev pub OtherRaised : Type 0
+OtherRaised = (shape : Shape) (g h : ℕ) (was other : List ℕ) (others rest : List View) → shape.m ≤ shape.place.copies → h ≢ g
+    → ¬ (Kept shape [] (Opens (one h (Good other)) rest) (Opens (one g (Good was)) others) (Opens (one g (Good was)) []))
+
+-- contents in blocks of the salvage of a corrupt storage, or beside a text that was not given up: the storage opens at what it did not open at
+abbrev pub SalvageRaised : Type 0
+SalvageRaised = (shape : Shape) (g : ℕ) (was is : List ℕ) (others rest : List View)
+    → ¬ (Kept shape [] (Opens (one g (Good was)) rest) (Corrupt (Some (one g (Bad None))) others) (Opens (one (g + 1) (Good is)) []))

@@ -1,7 +1,8 @@
 //! The laws, one after another, for the proofs of callers: none of these functions does anything when it runs.
 
 ghost use Rattle.element_laws.specs.Phases.{OpenedLaw, CorruptLaw, DamageLaw, UntouchedLaw, AdoptLaw, KeepLaw, ContentsLaw, ContentsDoneLaw, IndexLaw, GivenUpLaw, TakenLaw, AnewContentsLaw, AnewDoneLaw, AnewIndexLaw, CleanLaw, AdoptedLaw, SettledLaw, MendStartLaw, MendStepLaw, MendSyncLaw, MendLaw, InUseLaw, CarriedLaw, WholeLaw};
-ghost use Rattle.element_laws.specs.Refused.{IndexFirst, OldOverwritten, OtherValue, Planted, CopyEaten};
+ghost use Rattle.element_laws.specs.Apart.{FrameLaw, OutsideLaw, ElsewhereLaw, ElsewhereCaseLaw};
+ghost use Rattle.element_laws.specs.Refused.{IndexFirst, IndexFirstAnew, OldOverwritten, OtherValue, Planted, CopyEaten, OtherRaised, SalvageRaised};
 
 use block_files::contents_stand_aside;
 
@@ -9,6 +10,15 @@ use block_files::contents_stand_aside;
 pub fn untouched_is_kept()
     ensures damage { DamageLaw }
     ensures untouched { UntouchedLaw }
+{}
+
+/// What a storage is depends on the files of its place alone, and those of one place lie outside another that lies apart. So what leaves
+/// all files outside one place alone, at its end and at every moment, leaves a storage at the other as it was.
+pub fn places_stand_apart()
+    ensures frame { FrameLaw }
+    ensures outside { OutsideLaw }
+    ensures unchanged { ElsewhereLaw }
+    ensures case { ElsewhereCaseLaw }
 {}
 
 /// A stop while every copy is brought to the text at which a storage opens keeps it; so does one while all texts but one are taken
@@ -73,11 +83,14 @@ pub fn use_is_adopted()
 {}
 
 /// What a stop may not leave: an index before its contents, an old block overwritten, another value, a text that was never
-/// synchronised, or a copy lost on the way.
+/// synchronised, a copy lost on the way, or a text that stands only by what was mended or written beside it.
 pub fn outcomes_are_refused()
     ensures index_first { IndexFirst }
+    ensures index_first_anew { IndexFirstAnew }
     ensures old_overwritten { OldOverwritten }
     ensures other_value { OtherValue }
     ensures planted { Planted }
     ensures copy_eaten { CopyEaten }
+    ensures other_raised { OtherRaised }
+    ensures salvage_raised { SalvageRaised }
 {}

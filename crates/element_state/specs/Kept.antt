@@ -71,11 +71,6 @@ listed (Some v) = v ∷ []
 abbrev pub all_views : State → List View
 all_views state = listed (salvage_of state) ++ others_of state
 
--- the state opens at a view of these headings
-abbrev pub OpensLike : View → State → Type 0
-OpensLike v (Opens w others) = SameHeadings v w
-OpensLike v (Corrupt salvage others) = ⊥
-
 -- it opens at the view of before, or at that of after and then no copy was lost on the way
 abbrev pub StaysAs : Shape → (damaged : List ℕ) → (left before : View) → (after : State) → Type 0
 StaysAs shape damaged left before after =
@@ -83,11 +78,16 @@ StaysAs shape damaged left before after =
     ⊎ (¬ (SameHeadings left before) × (v : View) × (others : List View) × (after ≡ Opens v others)
     × SameHeadings left v × KeepsGood shape damaged left v × CostsNoCopy shape damaged left v)
 
+-- it opens at the view of after, with each good element of which enough copies are left, and no copy was lost on the way
+abbrev pub BecomesAs : Shape → (damaged : List ℕ) → (left : View) → (after : State) → Type 0
+BecomesAs shape damaged left (Opens v others) = SameHeadings left v × KeepsGood shape damaged left v × CostsNoCopy shape damaged left v
+BecomesAs shape damaged left (Corrupt salvage others) = ⊥
+
 -- with enough copies left of a storage that opens, it opens; one that was corrupt opens at most at the view of after
 abbrev pub Stays : Shape → (damaged : List ℕ) → (left before after : State) → Type 0
 Stays shape damaged left (Opens v others) after = HasEnough shape damaged v.lacking
     → (w : View) × (rest : List View) × (left ≡ Opens w rest) × StaysAs shape damaged w v after
-Stays shape damaged left (Corrupt salvage others) after = (w : View) (rest : List View) → left ≡ Opens w rest → OpensLike w after
+Stays shape damaged left (Corrupt salvage others) after = (w : View) (rest : List View) → left ≡ Opens w rest → BecomesAs shape damaged w after
 
 -- where both open alike, the stop has cost no copy
 abbrev pub CopiesStay : Shape → (damaged : List ℕ) → (left before : State) → Type 0

@@ -1,42 +1,30 @@
 -- Plans of changes, one change after another.
-use Rattle.std.proofs.Common.{◌≡◌, ◌≢◌, ◌⊎◌, ℕ, zero, suc, ◌+◌, ◌*◌, ◌<◌, ◌≤◌, List, [], ◌∷◌, ◌++◌, length, get_or, map, Bool, true, false, Some, None, Option, refl, sym, ap, subst, ◌∙◌, inl, inr, arith}
+use Rattle.std.proofs.Common.{◌≡◌, ◌≢◌, ◌⊎◌, ℕ, zero, suc, ◌<◌, List, [], ◌∷◌, length, get_or, map, Bool, true, Some, Option, refl, sym, ap, subst, ◌∙◌, inl, inr, arith}
 use Rattle.std.specs.Prelude.{IsTrue}
-use Rattle.std.specs.List.{All, AllZip, AllByRecursion, Contains}
+use Rattle.std.specs.List.{AllZip, AllByRecursion}
 use Rattle.std.specs.Str.{bytes_eq}
 use Rattle.std.specs.Ordering.{is_lt}
 use Rattle.std.specs.List.Sorted.{IsStrictlySortedBy}
 use Rattle.std.proofs.lemmas.Bool.{cases_Bool}
-use Rattle.std.proofs.lemmas.List.Elements.{All-push}
 use Rattle.std.proofs.lemmas.Slice.Eq.{bytes_eq-Decides}
-use Rattle.sha2.specs.Sha256.{sha256}
-use Rattle.sha2.proofs.Facts256.{length-sha256}
 use Rattle.per_base.specs.Names.{name_cmp}
 use Rattle.per_base.specs.declared.elements.StoreKind.{StoreKind}
-use Rattle.per_base.specs.declared.elements.StoreKind.TheVariants.{Keys, Files}
+use Rattle.per_base.specs.declared.elements.StoreKind.TheVariants.{Files}
 use Rattle.per_base.specs.declared.elements.FileInfo.{FileInfo}
-use Rattle.per_base.specs.declared.elements.Content.{Content}
-use Rattle.per_base.specs.declared.elements.Content.TheVariants.{Good}
 use Rattle.per_base.specs.declared.elements.Entry.{Entry}
-use Rattle.per_base.specs.declared.elements.Fresh.{Fresh}
-use Rattle.block_files.specs.Parts.{blocks_for, is_changed}
-use Rattle.block_files.specs.BlockSets.{holds, AreDistinct, IsAdded, SharesBlocks}
-use Rattle.block_files.proofs.PartLemmas.{same_part}
-use Rattle.block_files.proofs.Partly.{length-part}
+use Rattle.block_files.specs.BlockSets.{AreDistinct}
 use Rattle.index_text.specs.declared.entries.IndexEntry.{IndexEntry}
 use Rattle.index_text.specs.Rules.{IsEntry, has_info}
 use Rattle.element_state.specs.Changes.{insert_item, without_item, entry_at, entry_name, touched}
-use Rattle.element_state.specs.Chosen.{HasLength}
-use Rattle.element_state.specs.Conditions.{IsFresh, IsGoodEntry}
-use Rattle.element_state.specs.States.{fresh_entry, fresh_element}
+use Rattle.element_state.specs.Conditions.{IsGoodEntry}
 use Rattle.element_store.specs.declared.jobs.Job.{Job}
-use Rattle.element_store.specs.Jobs.{IsRoomy}
-use Rattle.element_store.specs.Plans.{HasAll, KeepsBlocks, AreDisjoint, AreLaidApart, ArePlaced, IsMade}
+use Rattle.element_store.specs.Plans.{HasAll, AreDisjoint, AreLaidApart}
 use Rattle.element_store.specs.Named.{NamesAscend}
-use Rattle.element_store.specs.Commits.{AreBeside, IsHeadedBy, IsCarriedFrom, IsWrittenBy, IsBesideOne, SharesWith}
-use Rattle.element_store.specs.Changing.{named_by, IsSeenAs, IsStanding, IsEarlier, IsOwn, IsSound, IsPlanned, touched_entry}
-use Rattle.element_store.proofs.InOrder.{eq_names, each_insert, each_without, ascends_without, ascends_put, apart_without, ascends_as, zip_insert, zip_without, zip_names, found_here}
-use Rattle.element_store.proofs.Places.{same_default, each_at, each_both, each_by_place, each_through, zip_at, zip_length, zip_map, zip_through, zip_by_place, in_front, at_last}
-use Rattle.element_store.proofs.PlanSteps.{each_map, both_ways, added_keeps, keeps_all, placed_none, placed_push, none_same}
+use Rattle.element_store.specs.Commits.{AreBeside, IsHeadedBy, IsCarriedFrom, IsWrittenBy}
+use Rattle.element_store.specs.Changing.{named_by, IsSeenAs, IsStanding, IsOwn, IsSound, IsPlanned, touched_entry}
+use Rattle.element_store.proofs.InOrder.{each_insert, each_without, ascends_without, zip_without, zip_names, found_here}
+use Rattle.element_store.proofs.Places.{same_default, each_at, each_both, each_by_place, each_through, zip_at, zip_through, zip_by_place}
+use Rattle.element_store.proofs.PlanSteps.{each_map, placed_none}
 
 -- ---- entries that are laid apart
 

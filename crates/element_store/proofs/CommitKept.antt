@@ -21,7 +21,14 @@ use Rattle.block_files.specs.BlockSets.{holds, Ascend}
 use Rattle.block_files.specs.Contents.{AreCopies}
 use Rattle.index_text.specs.declared.entries.Index.{Index}
 use Rattle.index_text.specs.declared.entries.IndexEntry.{IndexEntry}
-use Rattle.index_text.specs.Rules.{IsIndex}
+use Rattle.index_text.specs.Rules.{IsIndex, IsEntry}
+use Rattle.index_text.specs.Sizes.{area_blocks, entry_length}
+use Rattle.index_text.proofs.Lengths.{length-index_text}
+use Rattle.block_files.specs.Parts.{blocks_for}
+use Rattle.std.specs.Prelude.{sum_by, Option}
+use Rattle.std.proofs.lemmas.List.Sums.{sum_by-cons}
+use Rattle.per_base.specs.declared.elements.StoreKind.{StoreKind}
+use Rattle.per_base.specs.declared.elements.FileInfo.{FileInfo}
 use Rattle.index_text.specs.Spelling.{index_text}
 use Rattle.element_state.specs.declared.shapes.Shape.{Shape}
 use Rattle.element_state.specs.declared.shapes.View.{View}
@@ -42,10 +49,13 @@ use Rattle.element_store.specs.Jobs.{IsDone, HasShared, IsLeftByAll, IsJobsCase,
 use Rattle.element_store.specs.Plans.{HasAll, ArePlaced}
 use Rattle.element_store.specs.Stores.{IsUsed, view_in, generation_in}
 use Rattle.element_store.specs.Commits.{IsHeadedBy, IsWrittenBy, IsCarriedOver, IsCommitPlan}
+use Rattle.element_store.specs.Committing.{listed_length, index_length}
 use Rattle.element_store.proofs.PlanSteps.{left_of_placed, jobs_to_contents}
 use Rattle.element_store.proofs.Around.{contents_around}
 use Rattle.element_store.proofs.Fulls.{view_full}
 use Rattle.element_store.proofs.Shown.{view_gives}
+use Rattle.element_store.proofs.TakenBlocks.{taken_all}
+use Rattle.element_store.proofs.Standing.{kind_is}
 use Rattle.element_store.proofs.Committed.{IsPut, IsStill, IsPutOrStill, entries_of_plan, plan_shares, after_in_use, after_clean}
 
 -- ---- where nothing is written
@@ -115,9 +125,16 @@ module _ (in_use : InUseLaw) (shape : Shape) (set now : List Bool) (index : Inde
 
 -- ---- a commit
 
-module _ (told : Bool) (store : Store) (changes : List Change) (set now : List Bool) (next : Index) (jobs : List Job) (old : Medium)
-    (used : IsUsed told old.image store) (takes : AllByRecursion (λ (e : IndexEntry). HasAll set e.blocks) store.index.entries)
-    (plan : IsCommitPlan store.shape store.index (view_in store) changes set now next jobs) (tells : IsTrue told) where
+committed_is : (shape : Shape) (v : View) (changes : List Change)
+    → committed_by shape v changes ≡ whole_view shape (v.generation + 1) (after_changes (v.generation + 1) v.entries changes)
+unfolding committed_by
+committed_is shape v changes = refl
+
+module _ (told : Bool) (store : Store) (changes : List Change) (now : List Bool) (next : Index) (jobs : List Job) (old : Medium)
+    (used : IsUsed told old.image store) (plan : IsCommitPlan store.shape store.index (view_in store) changes store.used now next jobs) (tells : IsTrue told) where
+  abbrev set : List Bool
+  set = store.used
+
   abbrev shape : Shape
   shape = store.shape
 
@@ -139,13 +156,12 @@ module _ (told : Bool) (store : Store) (changes : List Change) (set now : List B
   rules : IsIndex store.index
   rules = used.memory.index.rules
 
+  takes : AllByRecursion (λ (e : IndexEntry). HasAll store.used e.blocks) store.index.entries
+  takes = taken_all (area_blocks store.shape.allowed) store.index.entries store.used used.memory.taken
+
   -- each copy has what the jobs share with it
   pub commit_shares : All (HasShared old.image place.first place.copies) jobs
   commit_shares = plan_shares shape old.image store.index v in_use_now rules jobs plan.shares
-
-  committed_is : committed_by shape v changes ≡ whole_view shape (v.generation + 1) after
-  unfolding committed_by
-  committed_is = refl
 
   module _ (mid : Medium) where
     -- while the jobs are written, also where a write fails
@@ -178,7 +194,7 @@ module _ (told : Bool) (store : Store) (changes : List Change) (set now : List B
       pub commit_keeps : InUseLaw → ContentsLaw → ContentsDoneLaw → CarriedLaw → IndexLaw → KeptThroughout shape (Opens (committed_by shape v changes) []) old new
       commit_keeps in_use contents contents_done carried law quiet clean c past = ⊎_elim
           (λ first. commit_keeps_jobs mid in_use contents contents_done all (Opens (committed_by shape v changes) []) (λ d. keeps) each quiet clean c first)
-          (λ second. subst (λ (w : View). IsKeptCase shape (store_at old.image shape) (Opens w []) c) (sym committed_is)
+          (λ second. subst (λ (w : View). IsKeptCase shape (store_at old.image shape) (Opens w []) c) (sym (committed_is shape v changes))
           (index_kept in_use shape set now store.index v jobs is rules takes plan.placed old in_use_now carried mid next after zip law new plan.text.fit keeps clean stops_here c second))
           (cases_on before later c past)
 
@@ -201,7 +217,7 @@ module _ (told : Bool) (store : Store) (changes : List Change) (set now : List B
       same_here = subst (λ (p : Place). Spares (IsNoSlot p.first p.copies) mid.image new.image) used.memory.place same
 
       pub commit_in_use : IsInUse shape new.image next (committed_by shape v changes)
-      commit_in_use = subst (λ (w : View). IsInUse shape new.image next w) (sym committed_is)
+      commit_in_use = subst (λ (w : View). IsInUse shape new.image next w) (sym (committed_is shape v changes))
           (after_in_use shape old.image mid.image new.image set store.index v is in_use_now takes
           (keeps_less (λ f none. none) (λ k taken. left_of_placed set now jobs plan.placed k taken) keeps) same_here next after zip alone plan.text.fit)
 
@@ -212,19 +228,17 @@ module _ (told : Bool) (store : Store) (changes : List Change) (set now : List B
 
 -- ---- what it writes, and the elements in memory
 
-module _ (told : Bool) (store : Store) (changes : List Change) (set now : List Bool) (next : Index) (jobs : List Job) (old : Medium)
-    (used : IsUsed told old.image store) (plan : IsCommitPlan store.shape store.index (view_in store) changes set now next jobs) where
+module _ (told : Bool) (store : Store) (changes : List Change) (now : List Bool) (next : Index) (jobs : List Job) (old : Medium)
+    (used : IsUsed told old.image store) (plan : IsCommitPlan store.shape store.index (view_in store) changes store.used now next jobs) where
   module _ (mid : Medium) (first_cost : mid.written ≤ old.written + store.shape.place.copies * jobs_cost jobs) where
     abbrev cost : ℕ
     cost = commit_cost store.shape.kind (view_in store).entries changes
 
-    pub commit_written_jobs : IsWithin store.shape.place.copies cost (length (index_text next)) old.written mid.written
+    -- the contents alone
+    pub commit_written_jobs : mid.written ≤ old.written + store.shape.place.copies * cost
     commit_written_jobs =
-        let n = store.shape.place.copies in
-        let few : n * jobs_cost jobs ≤ n * cost = mul-le-mul_left n plan.cost in
-        let l = length (index_text next) in
-        let split : n * (cost + l + 88) ≡ n * cost + n * (l + 88) = omega arith in
-        omega (arith, first_cost, few, split)
+        let few : store.shape.place.copies * jobs_cost jobs ≤ store.shape.place.copies * cost = mul-le-mul_left store.shape.place.copies plan.cost in
+        omega (arith, first_cost, few)
 
     pub commit_written : (new : Medium) (text : List ℕ) → text ≡ index_text next
         → new.written ≤ mid.written + (place_of store.cell).copies * (header + length text + header)
@@ -283,3 +297,32 @@ module _ (told : Bool) (store : Store) (changes : List Change) (set now : List B
   commit_read = zip_with (λ e f. IsWrittenBy jobs e f ⊎ IsCarriedOver store.index (view_in store) e f) (IsReadBy store.shape.place.copies) next.entries
       (after_changes ((view_in store).generation + 1) (view_in store).entries changes)
       (λ e f i j w. ⊎_elim (λ written. written_read e f written) (λ carried. carried_read e f carried) w) plan.entries
+
+  -- ---- and how long the text of its index is
+
+  listed : (kind : StoreKind) (e : IndexEntry) (f : Entry) → IsEntry 2 kind e → IsHeadedBy e f → entry_length 2 kind e ≡ listed_length kind f
+  listed kind e f rules headed =
+      let name = ap (λ (h : List ℕ × Option FileInfo × ℕ × ℕ). length h.0) headed in
+      let blocks = rules.blocks ∙ ap (λ (h : List ℕ × Option FileInfo × ℕ × ℕ). blocks_for h.2) headed in
+      omega (arith, name, blocks)
+
+  all_listed : (kind : StoreKind) (es : List IndexEntry) (fs : List Entry) → AllByRecursion (IsEntry 2 kind) es
+      → AllZip (λ e f. IsWrittenBy jobs e f ⊎ IsCarriedOver store.index (view_in store) e f) es fs → sum_by (entry_length 2 kind) es ≡ sum_by (listed_length kind) fs
+  all_listed kind [] [] each pairs = refl
+  all_listed kind [] (f ∷ fs) each pairs = absurd pairs
+  all_listed kind (e ∷ es) [] each pairs = absurd pairs
+  all_listed kind (e ∷ es) (f ∷ fs) each pairs =
+      let headed : IsHeadedBy e f = ⊎_elim (λ written. written.headed) (λ carried. carried.headed) pairs.0 in
+      sum_by-cons (entry_length 2 kind) e es ∙ ap (λ (n : ℕ). n + sum_by (entry_length 2 kind) es) (listed kind e f each.0 headed)
+      ∙ ap (λ (n : ℕ). listed_length kind f + n) (all_listed kind es fs each.1 pairs.1) ∙ sym (sum_by-cons (listed_length kind) f fs)
+
+  pub commit_length : next.format ≡ 2 → length (index_text next) ≡ index_length store.shape.kind (committed_by store.shape (view_in store) changes).entries
+  commit_length two =
+      let kind = kind_is store.shape.kind store.shape.allowed next plan.text.fits in
+      let rules : AllByRecursion (IsEntry 2 store.shape.kind) next.entries =
+      subst (λ (k : StoreKind). AllByRecursion (IsEntry 2 k) next.entries) kind (subst (λ (n : ℕ). AllByRecursion (IsEntry n next.kind) next.entries) two plan.text.rules.each) in
+      length-index_text next plan.text.rules
+      ∙ ap (λ (n : ℕ). 4 + sum_by (entry_length n next.kind) next.entries) two
+      ∙ ap (λ (k : StoreKind). 4 + sum_by (entry_length 2 k) next.entries) kind
+      ∙ ap (λ (n : ℕ). 4 + n) (all_listed store.shape.kind next.entries (after_changes ((view_in store).generation + 1) (view_in store).entries changes) rules plan.entries)
+      ∙ sym (ap (λ (w : View). index_length store.shape.kind w.entries) (committed_is store.shape (view_in store) changes))

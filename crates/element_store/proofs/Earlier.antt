@@ -1,6 +1,5 @@
 -- The content beside which another one is written.
-use Rattle.std.proofs.Common.{◌≡◌, ◌⊎◌, ℕ, zero, suc, ◌+◌, ◌*◌, ◌<◌, ◌≤◌, List, [], length, get_or, Option, Some, None, Ok, Err, refl, sym, ap, subst, ◌∙◌, inl, inr, arith}
-use Rattle.std.specs.Prelude.{cond}
+use Rattle.std.proofs.Common.{◌≡◌, ℕ, zero, suc, ◌*◌, ◌<◌, ◌≤◌, List, [], length, get_or, Option, Some, None, Ok, Err, sym, ap, subst, ◌∙◌, inl, inr, arith}
 use Rattle.std.specs.List.{AllZip}
 use Rattle.std.proofs.lemmas.Bool.{cases_Bool}
 use Rattle.per_base.specs.declared.elements.StoreKind.{StoreKind}
@@ -10,13 +9,12 @@ use Rattle.per_base.specs.declared.elements.Content.TheVariants.{Good, Bad}
 use Rattle.per_base.specs.declared.elements.Entry.{Entry}
 use Rattle.block_files.specs.Parts.{blocks_for, is_changed, changed, changed_to}
 use Rattle.index_text.specs.declared.entries.IndexEntry.{IndexEntry}
-use Rattle.element_state.specs.Changes.{entry_at, entry_name}
+use Rattle.element_state.specs.Changes.{entry_name}
 use Rattle.element_state.specs.Written.{cost_beside, content_at}
 use Rattle.element_store.specs.Named.{NamesAscend, IsPlaceOf}
-use Rattle.element_store.specs.Commits.{AreBeside}
 use Rattle.element_store.specs.Changing.{named_by, IsSeenAs, IsEarlier}
 use Rattle.element_store.proofs.InOrder.{found_here, found_none, parted_apart}
-use Rattle.element_store.proofs.Places.{same_default, zip_at, zip_length}
+use Rattle.element_store.proofs.Places.{zip_at, zip_length}
 use Rattle.element_store.proofs.Changed.{seen_names}
 
 pub changed_at_most : (new old : List ℕ) (n : ℕ) → changed_to new old n ≤ n

@@ -1,5 +1,5 @@
 -- The text at which a storage opens, from what a survey hands up.
-use Rattle.std.proofs.Common.{◌≡◌, List, [], ◌∷◌, Bool, true, false, Option, Some, None, refl, sym, ap, ◌∙◌, subst}
+use Rattle.std.proofs.Common.{◌≡◌, List, [], ◌∷◌, Bool, true, false, Option, Some, None, sym, ap, ◌∙◌, subst}
 use Rattle.std.specs.Prelude.{find, IfSome}
 use Rattle.std.specs.Option.{option_map}
 use Rattle.disk_model.specs.Image.{Image}
@@ -8,11 +8,9 @@ use Rattle.element_state.specs.declared.shapes.View.{View}
 use Rattle.element_state.specs.declared.surveying.Found.{Found}
 use Rattle.element_state.specs.Fit.{FitText, fit_texts}
 use Rattle.element_state.specs.Views.{qualifies, view_of}
-use Rattle.element_state.specs.States.{State, Opens, store_at}
-use Rattle.element_state.specs.Chosen.{chosen, or_first, first_of, opened_of}
+use Rattle.element_state.specs.States.{State, store_at}
+use Rattle.element_state.specs.Chosen.{chosen, or_first, opened_of}
 use Rattle.element_state.specs.Surveys.{IsOf, IsViewedOn, text_of}
-use Rattle.element_store.specs.declared.opening.Ready.{Ready}
-use Rattle.element_store.specs.Opened.{IsFoundOn}
 
 abbrev flagged : Bool → FitText → Option (Bool × FitText)
 flagged b t = Some (b, t)

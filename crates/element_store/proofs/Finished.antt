@@ -1,5 +1,5 @@
 -- The second half of a commit.
-use Rattle.std.proofs.Common.{◌≡◌, ℕ, ◌+◌, ◌<◌, ◌≤◌, List, Bool, Vec, Global, IsTrue, refl, sym, ap, ◌∙◌, subst, arith}
+use Rattle.std.proofs.Common.{◌≡◌, ℕ, ◌+◌, ◌*◌, ◌≤◌, List, Bool, Vec, Global, IsTrue, refl, sym, ap, ◌∙◌, subst, arith, inl, inr, ⊎_elim}
 use Rattle.std.specs.List.{AllByRecursion, AllZip}
 use Rattle.per_base.specs.declared.elements.StoreKind.{StoreKind}
 use Rattle.per_base.specs.declared.elements.StoreKind.TheVariants.{Keys, Files}
@@ -7,6 +7,7 @@ use Rattle.per_base.specs.declared.elements.Entry.{Entry}
 use Rattle.guarded_cell.specs.declared.cell.Cell.{Cell}
 use Rattle.guarded_cell.specs.Cells.{place_of, IsCellOf}
 use Rattle.index_text.specs.declared.entries.Index.{Index}
+use Rattle.index_text.specs.declared.entries.IndexEntry.{IndexEntry}
 use Rattle.index_text.specs.Sizes.{area_blocks}
 use Rattle.index_text.specs.Spelling.{index_text}
 use Rattle.element_state.specs.declared.shapes.View.{View}
@@ -16,9 +17,12 @@ use Rattle.element_state.specs.Changes.{after_changes, committed_by, entry_name}
 use Rattle.element_state.specs.Chosen.{IsReadBy}
 use Rattle.element_state.specs.Conditions.{IsChange, IsInUse}
 use Rattle.element_state.specs.States.{whole_view}
+use Rattle.element_state.specs.Written.{commit_cost, IsWithin}
 use Rattle.element_store.specs.declared.store.Store.{Store}
 use Rattle.element_store.specs.Named.{NamesAscend}
-use Rattle.element_store.specs.Changing.{IsSmallChange}
+use Rattle.element_store.specs.Changing.{IsSmallChange, IsGrownBy}
+use Rattle.element_store.specs.Committing.{index_length}
+use Rattle.element_store.specs.Taking.{AreOfEither}
 use Rattle.element_store.specs.Spelled.{IsTextOf}
 use Rattle.element_store.specs.Stores.{IsStore, IsUsed, AreTaken, view_in, generation_in}
 use Rattle.element_store.proofs.PlanSteps.{each_map}
@@ -51,6 +55,26 @@ small_changes kind views changes may = each_map (IsChange kind views) IsSmallCha
 pub store_ascends : (store : Store) → IsStore store → NamesAscend entry_name store.entries.items
 store_ascends store is = let st = standing_of store store.used is is.taken in views_ascend store.index.entries store.entries.items st.ascend st.read
 
+-- the set of a commit on its way has blocks of the standing index and of the next one
+pub of_either : (store : Store) → IsStore store → (next : Index) (used : List Bool) (these those : List IndexEntry) → these ≡ store.index.entries → those ≡ next.entries
+    → IsGrownBy next.entries store.used used → AreOfEither these those used
+of_either store is next used these those one two grown =
+    subst (λ (es : List IndexEntry). AreOfEither es those used) (sym one)
+    (subst (λ (es : List IndexEntry). AreOfEither store.index.entries es used) (sym two)
+    (λ b has. ⊎_elim (λ was. inl (sym (is.taken.exact b) ∙ was)) (λ new. inr new) (grown b has)))
+
+-- contents that are written stay within what a commit may write
+pub contents_within : (store : Store) (changes slice : List Change) (before after : ℕ) → slice ≡ changes
+    → after ≤ before + store.shape.place.copies * commit_cost store.shape.kind store.entries.items slice
+    → IsWithin store.shape.place.copies (commit_cost store.shape.kind store.entries.items changes)
+    (index_length store.shape.kind (committed_by store.shape (view_in store) changes).entries) before after
+contents_within store changes slice before after same cost =
+    let here = subst (λ (cs : List Change). after ≤ before + store.shape.place.copies * commit_cost store.shape.kind store.entries.items cs) same cost in
+    within store.shape.place.copies (commit_cost store.shape.kind store.entries.items changes) (index_length store.shape.kind (committed_by store.shape (view_in store) changes).entries) here
+  where
+    within : (n c l : ℕ) → after ≤ before + n * c → after ≤ before + n * (c + l + 88)
+    within n c l few = let split : n * (c + l + 88) ≡ n * c + n * (l + 88) = omega arith in omega (arith, few, split)
+
 -- the storage that a commit hands up
 module _ (told : Bool) (store s : Store) (changes : List Change) (alloc : Global) (cell : Cell) (index : Index) (entries : Vec Entry Global) (used : List Bool)
     (is : s ≡ record { alloc = alloc; shape = store.shape; cell = cell; index = index; entries = entries; used = used })
@@ -74,6 +98,7 @@ module _ (told : Bool) (store s : Store) (changes : List Change) (alloc : Global
     memory = subst IsStore (sym is) (record {
       place = of.lies ∙ old.place;
       shape = old.shape;
+      positive = (let counts = of.counts in omega (arith, counts));
       index = text;
       entries = subst (λ (es : List Entry). AllZip (IsReadBy store.shape.place.copies) index.entries es) (sym after_is) read;
       taken = taken;

@@ -1,7 +1,7 @@
 -- Elements that are mended one after another.
-use Rattle.std.proofs.Common.{◌≡◌, ◌≢◌, ◌⊎◌, ℕ, zero, suc, ◌+◌, ◌-◌, ◌*◌, ◌<◌, ◌≤◌, List, [], ◌∷◌, length, get_or, take, Bool, IsTrue, Option, Some, None, inl, inr, refl, sym, ap, ◌∙◌, subst, arith, ⊎_elim, length-append, eq-eqb}
-use Rattle.std.specs.Prelude.{map, nat_eq}
-use Rattle.std.specs.List.{All, AllZip, AllByRecursion, Contains, IsDistinct}
+use Rattle.std.proofs.Common.{◌≡◌, ◌≢◌, ℕ, zero, suc, ◌+◌, ◌-◌, ◌*◌, ◌<◌, ◌≤◌, List, [], ◌∷◌, length, get_or, take, Bool, IsTrue, Some, refl, sym, ap, ◌∙◌, subst, arith, ⊎_elim, length-append, eq-eqb}
+use Rattle.std.specs.Prelude.{nat_eq}
+use Rattle.std.specs.List.{AllZip, AllByRecursion, Contains, IsDistinct}
 use Rattle.std.proofs.lemmas.Map.Keys.{apart_from_distinct}
 use Rattle.std.proofs.lemmas.Bool.{cases_eq, cases_lt}
 use Rattle.std.proofs.lemmas.List.{get_or_default, get_or-map}
@@ -10,9 +10,9 @@ use Rattle.std.proofs.lemmas.List.Folds.{length-flat_map-take}
 use Rattle.per_base.specs.declared.elements.Entry.{Entry}
 use Rattle.per_base.specs.declared.elements.Content.TheVariants.{Good}
 use Rattle.disk_model.specs.Image.{Image}
-use Rattle.disk_model.specs.Case.{Case, IsSettledAt, Follows}
+use Rattle.disk_model.specs.Case.{Case, Follows}
 use Rattle.disk_model.specs.Medium.{Medium, Quiet, IsLawful, Elapses, EachCase, OnlyReads, WritesNothing}
-use Rattle.disk_model.specs.Frame.{Spares, Keeps, KeepsCase}
+use Rattle.disk_model.specs.Frame.{Spares, KeepsCase}
 use Rattle.disk_model.specs.Place.{area, IsNoArea}
 use Rattle.disk_model.proofs.Frames.{keeps_none, keeps_tears}
 use Rattle.disk_model.proofs.Moments.{elapses_none, elapses_on, cases_on}

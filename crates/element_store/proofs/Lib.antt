@@ -8,9 +8,12 @@ pub mod Made
 pub mod Cleaned
 pub mod Around
 pub mod Taken
+mod Released
+mod Traced
 pub mod InPlace
 pub mod Opened
 pub mod Finds
+pub mod StoreViews
 pub mod Moments
 pub mod Created
 mod InOrder

@@ -1,10 +1,9 @@
 -- Every moment of an opening.
-use Rattle.std.proofs.Common.{◌≡◌, ℕ, List, sym, subst, ◌∙◌, ⊎_elim, Some}
-use Rattle.std.specs.Prelude.{find}
+use Rattle.std.proofs.Common.{◌≡◌, ℕ, List, subst, ◌∙◌, ⊎_elim}
 use Rattle.per_base.specs.declared.elements.Entry.{Entry}
 use Rattle.disk_model.specs.Image.{Image}
 use Rattle.disk_model.specs.Case.{Case}
-use Rattle.disk_model.specs.Medium.{Medium, Quiet, IsIdle, Elapses, EachCase}
+use Rattle.disk_model.specs.Medium.{Medium, IsIdle, Elapses, EachCase}
 use Rattle.disk_model.specs.Frame.{Spares, IsSettledOn}
 use Rattle.disk_model.specs.Place.{IsNoArea, IsNoSlot, IsOutside}
 use Rattle.disk_model.proofs.Frames.{settled_on, settled_before, settled_less}

@@ -1,6 +1,6 @@
 -- A plan, one content more.
-use Rattle.std.proofs.Common.{◌≡◌, ◌≢◌, ◌⊎◌, ℕ, ◌+◌, ◌*◌, ◌/◌, ◌<◌, ◌≤◌, List, [], ◌∷◌, ◌++◌, length, get_or, Bool, true, false, Some, None, Option, refl, sym, ap, subst, ◌∙◌, inl, inr, arith}
-use Rattle.std.specs.List.{All, AllZip, AllByRecursion, Contains}
+use Rattle.std.proofs.Common.{◌≡◌, ◌≢◌, ℕ, ◌*◌, ◌<◌, ◌≤◌, List, [], ◌∷◌, ◌++◌, length, get_or, Bool, true, false, Option, refl, sym, ap, subst, ◌∙◌, inl, inr, arith}
+use Rattle.std.specs.List.{AllZip}
 use Rattle.std.specs.Str.{bytes_eq}
 use Rattle.std.proofs.lemmas.Bool.{cases_Bool}
 use Rattle.std.proofs.lemmas.List.Elements.{All-push}
@@ -12,7 +12,7 @@ use Rattle.per_base.specs.declared.elements.Content.{Content}
 use Rattle.per_base.specs.declared.elements.Content.TheVariants.{Good}
 use Rattle.per_base.specs.declared.elements.Entry.{Entry}
 use Rattle.per_base.specs.declared.elements.Fresh.{Fresh}
-use Rattle.std.specs.Prelude.{IsTrue, sum_by}
+use Rattle.std.specs.Prelude.{IsTrue}
 use Rattle.block_files.specs.Parts.{blocks_for, is_changed}
 use Rattle.block_files.specs.BlockSets.{holds, AreDistinct, IsAdded, SharesBlocks}
 use Rattle.block_files.proofs.PartLemmas.{same_part}
@@ -24,9 +24,8 @@ use Rattle.element_state.specs.Chosen.{HasLength}
 use Rattle.element_state.specs.Conditions.{IsFresh}
 use Rattle.element_state.specs.States.{fresh_entry, fresh_element}
 use Rattle.element_store.specs.declared.jobs.Job.{Job}
-use Rattle.element_store.specs.Jobs.{IsRoomy}
-use Rattle.element_store.specs.Plans.{HasAll, KeepsBlocks, AreDisjoint, AreLaidApart, ArePlaced, IsMade}
-use Rattle.element_store.specs.Commits.{AreBeside, IsHeadedBy, IsCarriedFrom, IsWrittenBy, IsBesideOne, SharesWith}
+use Rattle.element_store.specs.Plans.{HasAll, KeepsBlocks, AreDisjoint, ArePlaced, IsMade}
+use Rattle.element_store.specs.Commits.{AreBeside, SharesWith}
 use Rattle.element_store.specs.Changing.{named_by, IsSeenAs, IsStanding, IsEarlier, IsOwn, IsSound, IsPlanned}
 use Rattle.element_store.proofs.InOrder.{eq_names, each_without, ascends_put, apart_without, zip_insert, zip_without, each_insert}
 use Rattle.element_store.proofs.Places.{same_default, each_at, each_both, zip_at, zip_map, in_front, at_last}

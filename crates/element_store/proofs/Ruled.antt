@@ -72,7 +72,7 @@ list_all_from p (x ∷ xs) each = and_from (p x) (list_all p xs) (each 0 (omega 
 has_below : (set : List Bool) (b : ℕ) → holds set b ≡ true → b < length set
 has_below set b is = ⊎_elim (λ lt. lt) (λ past. absurd (both_ways (holds set b) is (get_or_past set b false past))) (cases_lt b (length set))
 
-has_joined : (set : List Bool) (es : List IndexEntry) → AllByRecursion (λ (e : IndexEntry). HasAll set e.blocks) es → HasAll set (blocks_of es)
+pub has_joined : (set : List Bool) (es : List IndexEntry) → AllByRecursion (λ (e : IndexEntry). HasAll set e.blocks) es → HasAll set (blocks_of es)
 has_joined set [] all i lt = absurd (omega (arith, lt))
 has_joined set (e ∷ es) all i lt = ⊎_elim
     (λ inside. ap (holds set) (get_or_append_left e.blocks (blocks_of es) 0 i inside) ∙ all.0 i inside)

@@ -1,9 +1,8 @@
 -- A storage in use, as a plan of changes finds it, and the index of a plan.
-use Rattle.std.proofs.Common.{◌≡◌, ◌≢◌, ℕ, zero, suc, ◌+◌, ◌-◌, ◌*◌, ◌/◌, ◌<◌, ◌≤◌, List, [], ◌∷◌, ◌++◌, length, get_or, map, Bool, true, false, eqb, Some, Option, IsTrue, refl, sym, ap, subst, ◌∙◌, inl, inr, arith, length-append, eq-eqb}
-use Rattle.std.specs.Prelude.{sum_by, nat_eq, nat_lt, nat_le, ◌&&◌, ◌||◌, cond}
-use Rattle.std.specs.List.{All, AllZip, AllByRecursion, IsDistinct, list_all}
-use Rattle.std.specs.Str.{bytes_eq}
-use Rattle.std.proofs.lemmas.Bool.{cases_Bool, and_parts, and_from, le-leb}
+use Rattle.std.proofs.Common.{◌≡◌, ◌≢◌, ℕ, ◌+◌, ◌-◌, ◌<◌, ◌≤◌, List, [], ◌∷◌, ◌++◌, length, get_or, Bool, true, eqb, Some, Option, refl, sym, ap, subst, ◌∙◌, inl, inr, arith, length-append, eq-eqb}
+use Rattle.std.specs.Prelude.{sum_by, nat_eq, nat_lt, nat_le, ◌&&◌}
+use Rattle.std.specs.List.{AllZip, AllByRecursion, IsDistinct, list_all}
+use Rattle.std.proofs.lemmas.Bool.{and_parts, and_from, le-leb}
 use Rattle.std.proofs.lemmas.List.{get_or_append_left, get_or-append_right}
 use Rattle.std.proofs.lemmas.List.Sums.{sum_by-cons}
 use Rattle.std.proofs.lemmas.Map.Keys.{apart_from_distinct}
@@ -33,13 +32,12 @@ use Rattle.element_store.specs.Plans.{HasAll, AreDisjoint, AreLaidApart}
 use Rattle.element_store.specs.Spelled.{IsTextOf, index_with}
 use Rattle.element_store.specs.Stores.{IsStore, AreTaken, view_in}
 use Rattle.element_store.specs.Commits.{IsHeadedBy, IsCommitPlan}
-use Rattle.element_store.specs.Changing.{blocks_of_changes, IsSeenAs, IsStanding, IsSound, IsPlanned}
+use Rattle.element_store.specs.Changing.{blocks_of_changes, IsSeenAs, IsStanding, IsSound, IsPlanned, IsTraced}
 use Rattle.element_store.proofs.Places.{zip_length, zip_map}
 use Rattle.element_store.proofs.PlanSteps.{each_map}
 use Rattle.element_store.proofs.Made.{fit_of}
 use Rattle.element_store.proofs.Ruled.{laid_distinct, blocks_below}
 use Rattle.element_store.proofs.TakenBlocks.{taken_all, taken_room}
-use Rattle.element_store.proofs.Taken.{taken_area, taken_below}
 use Rattle.element_store.proofs.Room.{changes_fit}
 use Rattle.guarded_cell.specs.Cells.{generation_of}
 use Rattle.element_store.specs.Committing.{IsPrepared}
@@ -101,7 +99,7 @@ same_kind Keys Files e = absurd cc
 same_kind Files Keys e = absurd cc
 same_kind Files Files e = refl
 
-kind_is : (kind : StoreKind) (allowed : ℕ) (index : Index) → Fits kind allowed index → index.kind ≡ kind
+pub kind_is : (kind : StoreKind) (allowed : ℕ) (index : Index) → Fits kind allowed index → index.kind ≡ kind
 kind_is kind allowed index fit =
     let small = and_parts (eqb (kind_code index.kind) (kind_code kind) && nat_le (size_of index.entries) allowed) (list_all (λ b. nat_lt b (area_blocks allowed)) (blocks_of index.entries)) fit in
     same_kind index.kind kind (and_parts (eqb (kind_code index.kind) (kind_code kind)) (nat_le (size_of index.entries) allowed) small.0).0
@@ -194,11 +192,11 @@ module _ (shape : Shape) (index : Index) (v : View) (changes : List Change) (sta
 
 -- ---- what is planned for a storage
 
-module _ (store : Store) (changes : List Change) (i : List IndexEntry) (vs : List Entry) (g blocks : ℕ) (set now : List Bool)
-    (is_i : i ≡ store.index.entries) (is_vs : vs ≡ store.entries.items) (is_g : g ≡ generation_of store.cell) (is_blocks : blocks ≡ area_blocks store.shape.allowed)
-    (is : IsStore store) (are : AreChanges store.shape (view_in store) changes) (taken : AreTaken blocks i set) where
+module _ (store : Store) (changes : List Change) (i : List IndexEntry) (vs : List Entry) (g : ℕ) (set : List Bool)
+    (is_i : i ≡ store.index.entries) (is_vs : vs ≡ store.entries.items) (is_g : g ≡ generation_of store.cell) (is_set : set ≡ store.used)
+    (is : IsStore store) (are : AreChanges store.shape (view_in store) changes) where
   taken_here : AreTaken (area_blocks store.shape.allowed) store.index.entries set
-  taken_here = taken_area store.shape store.index i blocks set is_i is_blocks taken
+  taken_here = subst (λ (s : List Bool). AreTaken (area_blocks store.shape.allowed) store.index.entries s) (sym is_set) is.taken
 
   pub store_stands : IsStanding store.shape.kind set i vs
   store_stands = subst (λ (es : List IndexEntry). IsStanding store.shape.kind set es vs) (sym is_i)
@@ -213,7 +211,7 @@ module _ (store : Store) (changes : List Change) (i : List IndexEntry) (vs : Lis
       let b = taken_room store.shape.kind store.shape.allowed store.index set taken_here is.index.rules is.index.fits in
       omega (arith, a, b)
 
-  module _ (es : List IndexEntry) (jobs : List Job)
+  module _ (now : List Bool) (es : List IndexEntry) (jobs : List Job)
       (planned : IsPlanned store.shape.kind i vs set now es (after_changes (g + 1) vs changes) jobs) where
     planned_here : IsPlanned store.shape.kind store.index.entries (view_in store).entries set now es (after_changes ((view_in store).generation + 1) (view_in store).entries changes) jobs
     planned_here =
@@ -225,7 +223,7 @@ module _ (store : Store) (changes : List Change) (i : List IndexEntry) (vs : Lis
     store_rules = next_rules store.shape store.index (view_in store) changes set now es jobs are taken_here.capacity planned_here
 
     module _ (next : Index) (text : List ℕ) (next_is : next ≡ index_with store.shape.kind es) (spelled : text ≡ index_text next) (reads : index_of text ≡ Some next) where
-      pub store_text : IsTextOf store.shape (index_text next) next
+      store_text : IsTextOf store.shape (index_text next) next
       store_text = next_text store.shape store.index (view_in store) changes set now es jobs are taken_here.capacity planned_here next text next_is spelled reads
 
       pub store_short : length text ≤ max_body
@@ -234,14 +232,15 @@ module _ (store : Store) (changes : List Change) (i : List IndexEntry) (vs : Lis
           let a = ap length spelled in
           omega (arith, short, a)
 
-      pub store_prepared : (used : List Bool) (new : List IndexEntry) → new ≡ next.entries → AreTaken blocks new used → jobs_cost jobs ≤ sum_by (change_cost store.shape.kind vs) changes
-          → IsPrepared store changes next text used jobs
-      store_prepared used new new_is later cost = record {
-        set = set;
-        now = now;
-        takes = taken_all (area_blocks store.shape.allowed) store.index.entries set taken_here;
-        plan = next_plan store.shape store.index (view_in store) changes set now es jobs are taken_here.capacity planned_here next text next_is spelled reads
-            (subst (λ (fs : List Entry). jobs_cost jobs ≤ sum_by (change_cost store.shape.kind fs) changes) is_vs cost);
+      pub store_prepared : IsTraced i set now changes es → jobs_cost jobs ≤ sum_by (change_cost store.shape.kind vs) changes → IsPrepared store changes next text now jobs
+      store_prepared traced cost = record {
+        plan = subst (λ (s : List Bool). IsCommitPlan store.shape store.index (view_in store) changes s now next jobs) is_set
+            (next_plan store.shape store.index (view_in store) changes set now es jobs are taken_here.capacity planned_here next text next_is spelled reads
+            (subst (λ (fs : List Entry). jobs_cost jobs ≤ sum_by (change_cost store.shape.kind fs) changes) is_vs cost));
         spelled = spelled;
-        taken = taken_area store.shape next new blocks used new_is is_blocks later;
+        format = ap (λ (x : Index). x.format) next_is;
+        traced = subst (λ (s : List Bool). IsTraced store.index.entries s now changes next.entries) is_set
+            (subst (λ (x : Index). IsTraced store.index.entries set now changes x.entries) (sym next_is)
+            (subst (λ (xs : List IndexEntry). IsTraced xs set now changes es) is_i traced));
+        capacity = planned_here.capacity ∙ taken_here.capacity;
       }

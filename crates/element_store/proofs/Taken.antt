@@ -21,7 +21,7 @@ use Rattle.element_store.specs.Spelled.{IsTextOf}
 use Rattle.element_store.specs.Stores.{AreTaken}
 
 -- a block is one of a list, or none
-cases_apart : (xs : List ℕ) (b : ℕ) → ((i : ℕ) × (i < length xs) × (get_or xs i 0 ≡ b)) ⊎ IsApart xs b
+pub cases_apart : (xs : List ℕ) (b : ℕ) → ((i : ℕ) × (i < length xs) × (get_or xs i 0 ≡ b)) ⊎ IsApart xs b
 cases_apart [] b = inr (λ i lt. absurd (omega (arith, lt)))
 cases_apart (x ∷ xs) b = ⊎_elim
     (λ same. inl (0, omega arith, sym same))
@@ -35,10 +35,10 @@ cases_apart (x ∷ xs) b = ⊎_elim
     none other apart zero lt = other
     none other apart (suc i) lt = apart i (omega (arith, lt))
 
-named_at : (xs : List ℕ) (b i : ℕ) → i < length xs → get_or xs i 0 ≡ b → named_in xs b ≡ true
+pub named_at : (xs : List ℕ) (b i : ℕ) → i < length xs → get_or xs i 0 ≡ b → named_in xs b ≡ true
 named_at xs b i lt is = list_any_at (λ n. n == b) xs i 0 lt (eq-eqb (get_or xs i 0) b is)
 
-unnamed : (xs : List ℕ) (b : ℕ) → IsApart xs b → named_in xs b ≡ false
+pub unnamed : (xs : List ℕ) (b : ℕ) → IsApart xs b → named_in xs b ≡ false
 unnamed [] b apart = refl
 unnamed (x ∷ xs) b apart =
     let here = ne_eqb x b (λ same. apart 0 (omega arith) (sym same)) in

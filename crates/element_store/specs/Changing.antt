@@ -1,17 +1,21 @@
 -- Plans of changes on their way: what stands before them, and what the plan is after some of them.
-use Rattle.std.specs.Prelude.{◌≡◌, ◌≢◌, ◌⊎◌, ℕ, ◌*◌, ◌≤◌, List, [], length, Bool, cond, Some, sum_by, ⊤}
+use Rattle.std.specs.Prelude.{◌≡◌, ◌≢◌, ◌⊎◌, ℕ, ◌*◌, ◌≤◌, List, [], length, Bool, true, cond, Option, Some, sum_by, ⊤}
 use Rattle.std.specs.List.{All, AllZip, AllByRecursion}
 use Rattle.std.specs.Str.{bytes_eq}
 use Rattle.per_base.specs.declared.elements.StoreKind.{StoreKind}
 use Rattle.per_base.specs.declared.elements.FileInfo.{FileInfo}
 use Rattle.per_base.specs.declared.elements.Content.TheVariants.{Good}
 use Rattle.per_base.specs.declared.elements.Entry.{Entry}
+use Rattle.disk_model.specs.Orders.{named_in}
 use Rattle.block_files.specs.Parts.{blocks_for, changed}
+use Rattle.block_files.specs.BlockSets.{holds}
 use Rattle.index_text.specs.declared.entries.IndexEntry.{IndexEntry}
-use Rattle.index_text.specs.Rules.{IsEntry}
+use Rattle.index_text.specs.Rules.{IsEntry, blocks_of}
 use Rattle.element_state.specs.declared.shapes.Change.{Change}
 use Rattle.element_state.specs.declared.shapes.Change.TheVariants.{Put, Remove, Touch}
+use Rattle.element_state.specs.Changes.{item_at}
 use Rattle.element_state.specs.Chosen.{HasLength}
+use Rattle.element_state.specs.Conditions.{changed_name}
 use Rattle.element_state.specs.Written.{cost_beside, content_at}
 use Rattle.element_store.specs.declared.jobs.Job.{Job}
 use Rattle.element_store.specs.Plans.{HasAll, KeepsBlocks, AreDisjoint, AreLaidApart, ArePlaced}
@@ -70,6 +74,27 @@ pub record IsPlanned (kind : StoreKind) (standing : List IndexEntry) (views : Li
   pub shares : All (SharesWith standing views) jobs
   pub keeps : KeepsBlocks start now
   pub capacity : length now ≡ length start
+
+-- the entry of a name
+abbrev pub entry_of_name : List ℕ → List IndexEntry → Option IndexEntry
+entry_of_name name entries = item_at named_by name entries
+
+-- each of the changes is of another name
+abbrev pub AreOfOthers : List Change → List ℕ → Type 0
+AreOfOthers changes name = All (λ change. changed_name change ≢ name) changes
+
+-- an entry whose name no change has is as it was
+abbrev pub KeepsOthers : List Change → (old new : List IndexEntry) → Type 0
+KeepsOthers changes old new = (name : List ℕ) → AreOfOthers changes name → entry_of_name name new ≡ entry_of_name name old
+
+-- what the set has now and did not have then is blocks of these entries
+abbrev pub IsGrownBy : List IndexEntry → (then now : List Bool) → Type 0
+IsGrownBy entries then now = (b : ℕ) → holds now b ≡ true → (holds then b ≡ true) ⊎ (named_in (blocks_of entries) b ≡ true)
+
+-- what comes of standing entries and of the set of their blocks by changes: what no change names stays, and the set has grown by the next entries
+pub record IsTraced (standing : List IndexEntry) (start now : List Bool) (changes : List Change) (next : List IndexEntry) : Type 0 where
+  pub others : KeepsOthers changes standing next
+  pub grown : IsGrownBy next start now
 
 -- the entry with another info, if it has the name
 abbrev pub touched_entry : (generation : ℕ) → List ℕ → FileInfo → IndexEntry → IndexEntry

@@ -1,12 +1,14 @@
 -- A commit on its way: what is ready once its contents are durable, and how it fails.
-use Rattle.std.specs.Prelude.{◌≡◌, ℕ, ◌*◌, ◌+◌, ◌≤◌, List, length, Bool, IsTrue}
-use Rattle.std.specs.List.{All, AllByRecursion}
+use Rattle.std.specs.Prelude.{◌≡◌, ℕ, ◌*◌, ◌+◌, ◌≤◌, List, length, sum_by, Bool, IsTrue}
+use Rattle.std.specs.List.{All}
+use Rattle.per_base.specs.declared.elements.StoreKind.{StoreKind}
+use Rattle.per_base.specs.declared.elements.Entry.{Entry}
 use Rattle.disk_model.specs.Medium.{Medium, Quiet, EachCase, Elapses}
 use Rattle.disk_model.specs.Frame.{Keeps, Spares}
 use Rattle.disk_model.specs.Place.{IsNoArea}
 use Rattle.index_text.specs.declared.entries.Index.{Index}
-use Rattle.index_text.specs.declared.entries.IndexEntry.{IndexEntry}
-use Rattle.index_text.specs.Sizes.{area_blocks}
+use Rattle.block_files.specs.Parts.{blocks_for}
+use Rattle.index_text.specs.Sizes.{area_blocks, info_length}
 use Rattle.index_text.specs.Spelling.{index_text}
 use Rattle.element_state.specs.declared.shapes.Change.{Change}
 use Rattle.element_store.specs.declared.committing.CommitFault.{CommitFault}
@@ -14,13 +16,20 @@ use Rattle.element_store.specs.declared.committing.CommitFault.TheVariants.{Devi
 use Rattle.element_store.specs.declared.jobs.Job.{Job}
 use Rattle.element_store.specs.declared.store.Store.{Store}
 use Rattle.element_store.specs.Jobs.{IsDone, IsLeftByAll, IsJobsCase, jobs_cost}
-use Rattle.element_store.specs.Plans.{HasAll}
 use Rattle.element_store.specs.Commits.{IsCommitPlan}
-use Rattle.element_store.specs.Stores.{AreTaken, view_in}
+use Rattle.element_store.specs.Changing.{IsTraced}
+use Rattle.element_store.specs.Stores.{view_in}
 
 -- the index of a storage in use, which every copy holds
 abbrev pub index_in : Store → Index
 index_in store = store.index
+
+-- how long the text of an index of these elements is: its head, and for each element a name, numbers, a hash and its blocks
+abbrev pub listed_length : StoreKind → Entry → ℕ
+listed_length kind f = 45 + info_length kind + length f.name + 4 * blocks_for f.len
+
+abbrev pub index_length : StoreKind → List Entry → ℕ
+index_length kind entries = 4 + sum_by (listed_length kind) entries
 
 -- a want of memory hands the storage back, and then this holds
 abbrev pub HandsBack : Store → CommitFault → Type 0 → Type 0
@@ -32,14 +41,13 @@ abbrev pub IsDeviceFault : CommitFault → Type 0
 IsDeviceFault Device = Unit {0}
 IsDeviceFault (OutOfMemory store) = ⊥
 
--- The next index with the set of its blocks, and the jobs that write its contents: all in memory.
+-- The next index, the jobs that write its contents, and the set of its blocks and those of the standing index: all in memory.
 pub record IsPrepared (store : Store) (changes : List Change) (next : Index) (text : List ℕ) (used : List Bool) (jobs : List Job) : Type 0 where
-  pub set : List Bool
-  pub now : List Bool
-  pub takes : AllByRecursion (λ (e : IndexEntry). HasAll set e.blocks) store.index.entries
-  pub plan : IsCommitPlan store.shape store.index (view_in store) changes set now next jobs
+  pub plan : IsCommitPlan store.shape store.index (view_in store) changes store.used used next jobs
   pub spelled : text ≡ index_text next
-  pub taken : AreTaken (area_blocks store.shape.allowed) next.entries used
+  pub format : next.format ≡ 2
+  pub traced : IsTraced store.index.entries store.used used changes next.entries
+  pub capacity : length used ≡ area_blocks store.shape.allowed
 
 -- The same, once the contents were made durable.
 pub record IsReady (told : Bool) (store : Store) (changes : List Change) (old mid : Medium) (next : Index) (text : List ℕ) (used : List Bool) : Type 0 where

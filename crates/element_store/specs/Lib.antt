@@ -1,6 +1,7 @@
 pub mod Jobs
 pub mod Plans
 pub mod Stores
+pub mod Taking
 pub mod Spelled
 pub mod Mends
 pub mod Opened

@@ -1,17 +1,18 @@
 //! Plans of changes: the next entries of an index and the jobs that write their contents, before anything is written.
 
-ghost use Rattle.std.specs.Prelude.{◌≡◌, [], ◌<◌, ◌≤◌, ◌+◌, ◌^◌, List, Bool, IfOk, OnOk, length, map, sum_by};
-ghost use Rattle.std.specs.List.{AllByRecursion, AllZip};
+ghost use Rattle.std.specs.Prelude.{◌≡◌, [], ◌∷◌, ◌<◌, ◌≤◌, ◌+◌, ◌^◌, List, Bool, IfOk, OnOk, length, map, sum_by};
+ghost use Rattle.std.specs.List.{AllByRecursion, AllZip, IsDistinct};
+ghost use Rattle.std.specs.Str.{bytes_eq};
 ghost use Rattle.std.specs.Vec.{vec_len, vec_capacity};
 ghost use Rattle.block_files.specs.BlockSets.{free_of};
 ghost use Rattle.per_base.specs.declared.elements.Entry.{Entry};
 ghost use Rattle.element_state.specs.Changes.{after_change, after_changes};
-ghost use Rattle.element_state.specs.Conditions.{IsChange, IsFresh};
+ghost use Rattle.element_state.specs.Conditions.{IsChange, IsFresh, changed_name};
 ghost use Rattle.element_state.specs.Written.{change_cost};
 ghost use Rattle.element_state.specs.declared.shapes.Change.TheVariants.{Put};
 ghost use Rattle.element_store.specs.Jobs.{jobs_cost};
 ghost use Rattle.element_store.specs.Named.{NamesAscend};
-ghost use Rattle.element_store.specs.Changing.{named_by, IsSeenAs, change_blocks, blocks_of_changes, IsStanding, IsEarlier, IsPlanned, touched_entry};
+ghost use Rattle.element_store.specs.Changing.{named_by, IsSeenAs, change_blocks, blocks_of_changes, IsStanding, IsEarlier, IsPlanned, KeepsOthers, IsGrownBy, IsTraced, touched_entry};
 
 use crate::jobs::Job;
 use crate::named::{place_of, put_in, take_out};
@@ -47,9 +48,11 @@ pub(crate) fn plan_changes<'a>(
 ) -> Result<Plan<'a>, AllocError>
     requires standing { IsStanding standing.kind used.old standing.index.now standing.entries.now }
     requires changes { AllByRecursion (IsChange standing.kind standing.entries.now) changes.now }
+    requires apart { IsDistinct bytes_eq (map changed_name changes.now) }
     requires free { blocks_of_changes changes.now ≤ free_of used.old }
     ensures planned { IfOk result (λ plan. IsPlanned standing.entry.kind standing.entry.index.now standing.entry.entries.now used.old used.new
         plan.entries.items (after_changes standing.entry.generation standing.entry.entries.now changes.now) plan.jobs.items) }
+    ensures traced { IfOk result (λ plan. IsTraced standing.entry.index.now used.old used.new changes.now plan.entries.items) }
     ensures cost { IfOk result (λ plan.
         jobs_cost plan.jobs.items ≤ sum_by (change_cost standing.entry.kind standing.entry.entries.now) changes.now) }
 {
@@ -96,6 +99,8 @@ fn plan_change<'a>(
         → IsPlanned standing.entry.kind standing.entry.index.now standing.entry.entries.now start used.old plan.old.entries.items elements plan.old.jobs.items
         → IsPlanned standing.entry.kind standing.entry.index.now standing.entry.entries.now start used.new plan.new.entries.items
         (after_change standing.entry.generation elements change.now) plan.new.jobs.items) }
+    ensures others { OnOk result (KeepsOthers (change.now ∷ []) plan.old.entries.items plan.new.entries.items) }
+    ensures grown { OnOk result (IsGrownBy plan.new.entries.items used.old used.new) }
     ensures standing { OnOk result (IsStanding standing.entry.kind used.new standing.entry.index.now standing.entry.entries.now) }
     ensures free { OnOk result (free_of used.old ≤ free_of used.new + change_blocks change.now) }
     ensures cost { OnOk result (jobs_cost plan.new.jobs.items
@@ -130,6 +135,8 @@ fn plan_put<'a>(
         → IsPlanned standing.entry.kind standing.entry.index.now standing.entry.entries.now start used.old plan.old.entries.items elements plan.old.jobs.items
         → IsPlanned standing.entry.kind standing.entry.index.now standing.entry.entries.now start used.new plan.new.entries.items
         (after_change standing.entry.generation elements (Put fresh.now)) plan.new.jobs.items) }
+    ensures others { OnOk result (KeepsOthers (Put fresh.now ∷ []) plan.old.entries.items plan.new.entries.items) }
+    ensures grown { OnOk result (IsGrownBy plan.new.entries.items used.old used.new) }
     ensures standing { OnOk result (IsStanding standing.entry.kind used.new standing.entry.index.now standing.entry.entries.now) }
     ensures free { OnOk result (free_of used.old ≤ free_of used.new + change_blocks (Put fresh.now)) }
     ensures cost { OnOk result (jobs_cost plan.new.jobs.items

@@ -1,6 +1,6 @@
 //! A commit: all of its changes, or none.
 
-ghost use Rattle.std.specs.Prelude.{◌≡◌, [], ◌<◌, ◌≤◌, ◌+◌, List, IsTrue, IfOk, IfErr, OnOk, IsErrOf, length, map};
+ghost use Rattle.std.specs.Prelude.{◌≡◌, [], ◌<◌, ◌≤◌, ◌+◌, ◌*◌, List, IsTrue, IfOk, IfErr, OnOk, IsErrOf, length, map};
 ghost use Rattle.std.specs.List.{AllByRecursion};
 ghost use Rattle.std.specs.Vec.{vec_len, vec_capacity};
 ghost use Rattle.hash_guard.specs.SealedText.{header};
@@ -13,7 +13,7 @@ ghost use Rattle.element_state.specs.Conditions.{AreChanges};
 ghost use Rattle.element_state.specs.States.{Opens};
 ghost use Rattle.element_state.specs.Kept.{KeptThroughout};
 ghost use Rattle.element_store.specs.Named.{NamesAscend};
-ghost use Rattle.element_store.specs.Changing.{IsSmallChange};
+ghost use Rattle.element_store.specs.Changing.{IsSmallChange, KeepsOthers};
 ghost use Rattle.element_store.specs.Committing.{IsPrepared, IsReady};
 ghost use Rattle.element_store.specs.Stores.{IsStore, IsUsed, shape_of, view_in};
 
@@ -24,8 +24,7 @@ use crate::named::{place_of, put_in, take_out};
 use crate::planning::Plan;
 use crate::spelling::{Spelled, spell};
 use crate::store::Store;
-use crate::taking::blocks_taken_by;
-use crate::writing::blocks_in_area;
+use crate::taking::release_replaced;
 use block_files::BlockSet;
 use disk_model::Disk;
 use element_laws::{contents_keep, index_keeps, untouched_is_kept, use_is_adopted};
@@ -50,6 +49,7 @@ struct Ready {
     index: Index,
     text: Bytes,
     room: Vec<u8>,
+    /// The blocks of the index that stands and of the next one.
     used: BlockSet,
     entries: Vec<Entry>,
 }
@@ -66,7 +66,7 @@ impl Store {
     ghost use Rattle.element_state.specs.Written.{commit_cost, IsWithin};
     ghost use Rattle.index_text.specs.Spelling.{index_text};
     ghost use Rattle.element_store.specs.Stores.{entries_of};
-    ghost use Rattle.element_store.specs.Committing.{HandsBack, IsDeviceFault, index_in};
+    ghost use Rattle.element_store.specs.Committing.{HandsBack, IsDeviceFault, index_in, index_length};
 
     /// Makes the changes all at once: a stop at any moment leaves the storage of before or that of after. Only what changed is
     /// written, and of a file that could be read only the blocks that differ.
@@ -86,6 +86,10 @@ impl Store {
         ensures clean { IsTrue D.told → IsClean (shape_of self) (D.medium disk.old).image
             → OnOk result (IsClean (shape_of self) (D.medium disk.new).image) }
 
+        // What no change names keeps its entry: the same blocks, length, hash, info and number of its last change.
+        ensures carried { IfOk result (λ store. KeepsOthers changes.items (index_in self).entries (index_in store).entries) }
+        ensures format { IfOk result (λ store. (index_in store).format ≡ 2) }
+
         // A want of memory hands the storage back, and then nothing happened. Only a disk that failed closes it.
         ensures memory { IfErr result (λ fault. HandsBack self fault (disk.new ≡ disk.old)) }
         ensures cause { IfErr result (λ fault. IsDeviceFault fault → Rose (D.medium disk.old).faults (D.medium disk.new).faults) }
@@ -99,10 +103,15 @@ impl Store {
         ensures any_moment { IsTrue D.told → KeptThroughout (shape_of self)
             (Opens (committed_by (shape_of self) (view_in self) changes.items) []) (D.medium disk.old) (D.medium disk.new) }
 
-        // In each copy the contents that changed, and the index.
+        // In each copy the contents that changed, and the index; at most as much where the disk failed.
         ensures written { IfOk result (λ store. IsWithin (shape_of self).place.copies
             (commit_cost (shape_of self).kind (entries_of self) changes.items) (length (index_text (index_in store)))
             (D.medium disk.old).written (D.medium disk.new).written) }
+        ensures text { IfOk result (λ store. length (index_text (index_in store)) ≡ index_length (shape_of self).kind (entries_of store)) }
+        ensures at_most { IsWithin (shape_of self).place.copies
+            (commit_cost (shape_of self).kind (entries_of self) changes.items)
+            (index_length (shape_of self).kind (committed_by (shape_of self) (view_in self) changes.items).entries)
+            (D.medium disk.old).written (D.medium disk.new).written }
         ensures time { Elapses (D.medium disk.old) (D.medium disk.new) }
     {
         use_is_adopted();
@@ -118,20 +127,25 @@ impl Store {
             index,
             text,
             mut room,
-            used,
+            mut used,
             entries: roomy,
         } = ready;
         let Store {
             alloc,
             shape,
             cell,
-            index: _,
+            index: standing,
             entries,
             used: _,
         } = self;
         let Ok(cell) = cell.write_in(disk, text.as_slice(), &mut room) else {
             return Err(CommitFault::Device);
         };
+        release_replaced(
+            &mut used,
+            standing.entries.as_slice(),
+            index.entries.as_slice(),
+        );
         let entries = changed(alloc, cell.generation(), moved(entries, roomy), changes);
         Ok(Store::new(alloc, shape, cell, index, entries, used))
     }
@@ -147,6 +161,9 @@ impl Store {
         ensures empty { IfOk result (λ ready. ready.entries.items ≡ []) }
         ensures capacity { IfOk result (λ ready.
             length (entries_of self.now) + length changes.now ≤ vec_capacity ready.entries) }
+
+        ensures cost { (D.medium disk.new).written ≤ (D.medium disk.old).written
+            + (shape_of self.now).place.copies * commit_cost (shape_of self.now).kind (entries_of self.now) changes.now }
 
         ensures memory { IsErrOf result StoreError.OutOfMemory → disk.new ≡ disk.old }
         ensures never_corrupt { IsErrOf result StoreError.Corrupt → ⊥ }
@@ -183,18 +200,16 @@ impl Store {
             length (entries_of self.now) + length changes.now ≤ vec_capacity p.ready.entries) }
     {
         let alloc = self.alloc;
-        let capacity = blocks_in_area(&self.shape);
         let standing = Standing {
             kind: self.shape.kind,
             generation: self.cell.generation() + 1,
             index: self.index.entries.as_slice(),
             entries: self.entries.as_slice(),
         };
-        let mut taken = blocks_taken_by(alloc, capacity, standing.index)?;
-        let Plan { entries, jobs } = plan_changes(alloc, standing, changes, &mut taken)?;
+        let mut used = self.used.copy()?;
+        let Plan { entries, jobs } = plan_changes(alloc, standing, changes, &mut used)?;
         let Spelled { index, text } = spell(alloc, standing.kind, entries)?;
         let room = Cell::room(alloc, text.len())?;
-        let used = blocks_taken_by(alloc, capacity, index.entries.as_slice())?;
         let entries = Vec::with_capacity(alloc, standing.entries.len() + changes.len())?;
         let ready = Ready {
             index,

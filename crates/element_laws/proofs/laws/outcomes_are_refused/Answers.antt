@@ -1,8 +1,11 @@
-use Rattle.element_laws.proofs.Refusals.{index_first, old_overwritten, other_value, planted, copy_eaten}
+use Rattle.element_laws.proofs.Refusals.{index_first, index_first_anew, old_overwritten, other_value, planted, copy_eaten, other_raised, salvage_raised}
 use Rattle.element_laws.proofs.laws.outcomes_are_refused.Goals as goal
 
 pub returns-clause-index_first : goal.returns-clause-index_first
 returns-clause-index_first c = index_first
+
+pub returns-clause-index_first_anew : goal.returns-clause-index_first_anew
+returns-clause-index_first_anew c = index_first_anew
 
 pub returns-clause-old_overwritten : goal.returns-clause-old_overwritten
 returns-clause-old_overwritten c = old_overwritten
@@ -15,3 +18,9 @@ returns-clause-planted c = planted
 
 pub returns-clause-copy_eaten : goal.returns-clause-copy_eaten
 returns-clause-copy_eaten c = copy_eaten
+
+pub returns-clause-other_raised : goal.returns-clause-other_raised
+returns-clause-other_raised c = other_raised
+
+pub returns-clause-salvage_raised : goal.returns-clause-salvage_raised
+returns-clause-salvage_raised c = salvage_raised

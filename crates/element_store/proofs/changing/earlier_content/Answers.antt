@@ -1,4 +1,4 @@
-use Rattle.std.proofs.Common.{◌≡◌, sym, ap, ◌∙◌, arith}
+use Rattle.std.proofs.Common.{sym, ap, ◌∙◌, arith}
 use Rattle.per_base.specs.declared.elements.Content.TheVariants.{Good}
 use Rattle.per_base.specs.declared.elements.Entry.{Entry}
 use Rattle.index_text.specs.declared.entries.IndexEntry.{IndexEntry}

@@ -1,14 +1,16 @@
-use Rattle.std.proofs.Common.{◌≡◌, ℕ, ◌∷◌, ◌++◌, List, [], length, sym, ap, subst, ◌∙◌, arith}
+use Rattle.std.proofs.Common.{ℕ, ◌∷◌, ◌++◌, List, [], length, sym, ap, subst, ◌∙◌, arith}
 use Rattle.block_files.specs.Parts.{blocks_for}
 use Rattle.block_files.specs.BlockSets.{AreDistinct, IsAdded, SharesBlocks}
 use Rattle.index_text.specs.declared.entries.IndexEntry.{IndexEntry}
 use Rattle.element_state.specs.Changes.{insert_item, without_item, entry_name}
 use Rattle.element_state.specs.States.{fresh_entry, fresh_element}
 use Rattle.element_store.specs.declared.jobs.Job.{Job}
-use Rattle.element_store.specs.Changing.{IsPlanned}
+use Rattle.element_state.specs.declared.shapes.Change.TheVariants.{Put}
+use Rattle.element_store.specs.Changing.{named_by, IsPlanned, KeepsOthers, IsGrownBy}
+use Rattle.element_store.proofs.Traced.{put_others, put_grown}
 use Rattle.element_store.proofs.Earlier.{changed_at_most}
 use Rattle.element_store.proofs.PlanSteps.{added_keeps}
-use Rattle.element_store.proofs.Put.{earlier_room, earlier_distinct, earlier_taken, standing_keeps, planned_put}
+use Rattle.element_store.proofs.Put.{earlier_room, earlier_distinct, standing_keeps, planned_put}
 use Rattle.element_store.proofs.changing.plan_put.Goals as goal
 
 pub reserve_shared-requires-clause-room : goal.reserve_shared-requires-clause-room
@@ -45,3 +47,12 @@ returns-clause-planned c = λ start elements p. (
 pub returns-clause-standing : goal.returns-clause-standing
 returns-clause-standing c = standing_keeps c.args.standing.kind c.args.used.now c.reserve_shared.new.used c.args.standing.index.now c.args.standing.entries.now
     (added_keeps c.in_ok-blob.blob.blocks c.args.used.now c.reserve_shared.new.used c.in_ok-blob.ensures.used) c.requires.standing
+
+pub returns-clause-others : goal.returns-clause-others
+returns-clause-others c = subst (λ (es : List IndexEntry). KeepsOthers (Put c.args.fresh.now ∷ []) c.args.plan.now.entries.items es) (sym c.put_in.ensures.items)
+    (put_others (Put c.args.fresh.now) c.in_ok-entry.entry c.args.plan.now.entries.items c.in_ok-entry.ensures.made.name)
+
+pub returns-clause-grown : goal.returns-clause-grown
+returns-clause-grown c = subst (λ (es : List IndexEntry). IsGrownBy es c.args.used.now c.reserve_shared.new.used) (sym c.put_in.ensures.items)
+    (put_grown c.in_ok-entry.entry (without_item named_by c.in_ok-entry.entry.name c.args.plan.now.entries.items) c.in_ok-blob.blob.blocks c.args.used.now c.reserve_shared.new.used
+    c.in_ok-entry.ensures.in_place c.in_ok-blob.ensures.used)

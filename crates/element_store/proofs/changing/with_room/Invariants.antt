@@ -1,5 +1,5 @@
 use Rattle.std.proofs.Common.{◌≡◌, ◌≤◌, ◌+◌, length, take}
-use Rattle.std.specs.Vec.{vec_len, vec_capacity}
+use Rattle.std.specs.Vec.{vec_capacity}
 use Rattle.element_store.proofs.changing.with_room.Given as goal
 
 abbrev pub invariant-loop-entry : goal.invariant-loop-entry

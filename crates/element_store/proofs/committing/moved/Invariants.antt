@@ -1,4 +1,4 @@
-use Rattle.std.proofs.Common.{◌≡◌, ◌≤◌, ◌++◌, List, ℕ}
+use Rattle.std.proofs.Common.{◌≡◌, ◌≤◌, ◌++◌, List}
 use Rattle.std.specs.Vec.{vec_len, vec_capacity}
 use Rattle.per_base.specs.declared.elements.Entry.{Entry}
 use Rattle.element_store.proofs.committing.moved.Given as goal

@@ -1,4 +1,4 @@
-use Rattle.std.proofs.Common.{ℕ, List, Some, [], Ok, Err, refl, ap, set, ◌∙◌, sym}
+use Rattle.std.proofs.Common.{ℕ, List, Some, [], Ok, Err, refl, ap, set, ◌∙◌}
 use Rattle.per_base.specs.declared.elements.Entry.{Entry}
 use Rattle.element_state.specs.Changes.{entry_name}
 use Rattle.element_store.proofs.InOrder.{place_moved, touch_none, touch_here, parted_apart, ascends_touched, ascends_as}

@@ -1,4 +1,5 @@
-use Rattle.std.proofs.Common.{◌≡◌, ℕ, List, length, IsTrue, sym, ap, subst, arith}
+use Rattle.element_store.specs.declared.store.Store.{Store}
+use Rattle.std.proofs.Common.{◌≡◌, ◌∙◌, ℕ, List, length, IsTrue, sym, ap, subst, arith}
 use Rattle.per_base.specs.declared.elements.Fresh.{Fresh}
 use Rattle.std.specs.List.{AllZip}
 use Rattle.index_text.proofs.Lengths.{text_is_short}
@@ -21,8 +22,8 @@ put_contents-requires-clause-free g c =
 pub returns-in_err-spelled-clause-elsewhere : goal.returns-in_err-spelled-clause-elsewhere
 returns-in_err-spelled-clause-elsewhere g c = λ tells. areas_around c.args.shape.place.first c.args.shape.place.copies _ _ (c.in_err-spelled.ensures.elsewhere tells)
 
-pub returns-in_err-spelled-clause-any_moment : goal.returns-in_err-spelled-clause-any_moment
-returns-in_err-spelled-clause-any_moment g c = λ tells quiet. contents_around c.args.shape.place.first c.args.shape.place.copies _ (g.D.Disk.medium c.args.disk.now) (g.D.Disk.medium c.put_contents.new.disk) _ quiet (c.in_err-spelled.ensures.elsewhere tells) c.in_err-spelled.ensures.during
+pub returns-in_err-spelled-clause-outside : goal.returns-in_err-spelled-clause-outside
+returns-in_err-spelled-clause-outside g c = λ tells quiet. contents_around c.args.shape.place.first c.args.shape.place.copies _ (g.D.Disk.medium c.args.disk.now) (g.D.Disk.medium c.put_contents.new.disk) _ quiet (c.in_err-spelled.ensures.elsewhere tells) c.in_err-spelled.ensures.during
 
 pub blocks_taken_by-requires : goal.blocks_taken_by-requires
 blocks_taken_by-requires g c =
@@ -31,14 +32,14 @@ blocks_taken_by-requires g c =
 pub returns-in_err-taken-clause-elsewhere : goal.returns-in_err-taken-clause-elsewhere
 returns-in_err-taken-clause-elsewhere g c = λ tells. areas_around c.args.shape.place.first c.args.shape.place.copies _ _ (c.in_ok-spelled.ensures.elsewhere tells)
 
-pub returns-in_err-taken-clause-any_moment : goal.returns-in_err-taken-clause-any_moment
-returns-in_err-taken-clause-any_moment g c = λ tells quiet. contents_around c.args.shape.place.first c.args.shape.place.copies _ (g.D.Disk.medium c.args.disk.now) (g.D.Disk.medium c.put_contents.new.disk) _ quiet (c.in_ok-spelled.ensures.elsewhere tells) c.in_ok-spelled.ensures.during
+pub returns-in_err-taken-clause-outside : goal.returns-in_err-taken-clause-outside
+returns-in_err-taken-clause-outside g c = λ tells quiet. contents_around c.args.shape.place.first c.args.shape.place.copies _ (g.D.Disk.medium c.args.disk.now) (g.D.Disk.medium c.put_contents.new.disk) _ quiet (c.in_ok-spelled.ensures.elsewhere tells) c.in_ok-spelled.ensures.during
 
 pub returns-in_err-entries-clause-elsewhere : goal.returns-in_err-entries-clause-elsewhere
 returns-in_err-entries-clause-elsewhere g c = λ tells. areas_around c.args.shape.place.first c.args.shape.place.copies _ _ (c.in_ok-spelled.ensures.elsewhere tells)
 
-pub returns-in_err-entries-clause-any_moment : goal.returns-in_err-entries-clause-any_moment
-returns-in_err-entries-clause-any_moment g c = λ tells quiet. contents_around c.args.shape.place.first c.args.shape.place.copies _ (g.D.Disk.medium c.args.disk.now) (g.D.Disk.medium c.put_contents.new.disk) _ quiet (c.in_ok-spelled.ensures.elsewhere tells) c.in_ok-spelled.ensures.during
+pub returns-in_err-entries-clause-outside : goal.returns-in_err-entries-clause-outside
+returns-in_err-entries-clause-outside g c = λ tells quiet. contents_around c.args.shape.place.first c.args.shape.place.copies _ (g.D.Disk.medium c.args.disk.now) (g.D.Disk.medium c.put_contents.new.disk) _ quiet (c.in_ok-spelled.ensures.elsewhere tells) c.in_ok-spelled.ensures.during
 
 pub format_cell-requires : goal.format_cell-requires
 format_cell-requires g c =
@@ -52,8 +53,8 @@ pub returns-in_err-cell-clause-elsewhere : goal.returns-in_err-cell-clause-elsew
 returns-in_err-cell-clause-elsewhere g c = λ tells. both_around c.args.shape.place.first c.args.shape.place.copies _ (g.D.Disk.medium c.put_contents.new.disk).image _
     (c.in_ok-spelled.ensures.elsewhere tells) (c.in_err-cell.ensures.elsewhere tells)
 
-pub returns-in_err-cell-clause-any_moment : goal.returns-in_err-cell-clause-any_moment
-returns-in_err-cell-clause-any_moment g c = λ tells quiet. format_around c.args.shape.place.first c.args.shape.place.copies _ c.as_slice-2.result.now
+pub returns-in_err-cell-clause-outside : goal.returns-in_err-cell-clause-outside
+returns-in_err-cell-clause-outside g c = λ tells quiet. format_around c.args.shape.place.first c.args.shape.place.copies _ c.as_slice-2.result.now
     (g.D.Disk.medium c.args.disk.now) (g.D.Disk.medium c.put_contents.new.disk) (g.D.Disk.medium c.format_cell.new.disk) _
     quiet c.in_ok-spelled.ensures.time c.in_err-cell.ensures.time (c.in_ok-spelled.ensures.elsewhere tells) c.in_ok-spelled.ensures.during
     (c.in_err-cell.ensures.any_moment tells c.in_ok-spelled.ensures.quiet)
@@ -62,8 +63,8 @@ pub returns-clause-elsewhere : goal.returns-clause-elsewhere
 returns-clause-elsewhere g c = λ tells. both_around c.args.shape.place.first c.args.shape.place.copies _ (g.D.Disk.medium c.put_contents.new.disk).image _
     (c.in_ok-spelled.ensures.elsewhere tells) (c.in_ok-cell.ensures.elsewhere tells)
 
-pub returns-clause-any_moment : goal.returns-clause-any_moment
-returns-clause-any_moment g c = λ tells quiet. format_around c.args.shape.place.first c.args.shape.place.copies _ c.as_slice-2.result.now
+pub returns-clause-outside : goal.returns-clause-outside
+returns-clause-outside g c = λ tells quiet. format_around c.args.shape.place.first c.args.shape.place.copies _ c.as_slice-2.result.now
     (g.D.Disk.medium c.args.disk.now) (g.D.Disk.medium c.put_contents.new.disk) (g.D.Disk.medium c.format_cell.new.disk) _
     quiet c.in_ok-spelled.ensures.time c.in_ok-cell.ensures.time (c.in_ok-spelled.ensures.elsewhere tells) c.in_ok-spelled.ensures.during
     (c.in_ok-cell.ensures.any_moment tells c.in_ok-spelled.ensures.quiet)
@@ -82,7 +83,10 @@ returns-clause-used g c =
     c.args.shape 1 c.args.contents.items c.in_ok-cell.cell c.in_ok-spelled.spelled.index c.as_slice-2.result.now c.requires.shape c.in_ok-cell.ensures.cell
     (subst (λ (t : List ℕ). IsTextOf c.args.shape t c.in_ok-spelled.spelled.index) (sym c.as_slice-2.ensures) c.in_ok-spelled.ensures.fit)
     c.in_ok-cell.ensures.held c.in_ok-cell.ensures.elsewhere (subst Q c.deref.ensures.value c.in_ok-spelled.ensures.shown)
-    c.args.alloc c.in_ok-entries.entries c.in_ok-taken.taken (taken_area c.args.shape c.in_ok-spelled.spelled.index c.as_slice.result.now c.blocks_in_area-2.result c.in_ok-taken.taken c.as_slice.ensures c.blocks_in_area-2.ensures c.in_ok-taken.ensures) (subst P c.deref.ensures.value c.in_ok-spelled.ensures.made) c.in_ok-entries.ensures c.new-2.result c.new-2.ensures
+    c.args.alloc c.in_ok-entries.entries c.in_ok-taken.taken (taken_area c.args.shape c.in_ok-spelled.spelled.index c.as_slice.result.now c.blocks_in_area-2.result c.in_ok-taken.taken c.as_slice.ensures c.blocks_in_area-2.ensures c.in_ok-taken.ensures) (subst P c.deref.ensures.value c.in_ok-spelled.ensures.made) c.in_ok-entries.ensures (omega arith) c.new-2.result c.new-2.ensures
+
+pub returns-clause-format : goal.returns-clause-format
+returns-clause-format g c = ap (λ (s : Store). s.index.format) c.new-2.ensures ∙ c.in_ok-spelled.ensures.format
 
 pub returns-clause-view : goal.returns-clause-view
 returns-clause-view g c =
@@ -92,4 +96,4 @@ returns-clause-view g c =
     c.args.shape 1 c.args.contents.items c.in_ok-cell.cell c.in_ok-spelled.spelled.index c.as_slice-2.result.now c.requires.shape c.in_ok-cell.ensures.cell
     (subst (λ (t : List ℕ). IsTextOf c.args.shape t c.in_ok-spelled.spelled.index) (sym c.as_slice-2.ensures) c.in_ok-spelled.ensures.fit)
     c.in_ok-cell.ensures.held c.in_ok-cell.ensures.elsewhere (subst Q c.deref.ensures.value c.in_ok-spelled.ensures.shown)
-    c.args.alloc c.in_ok-entries.entries c.in_ok-taken.taken (taken_area c.args.shape c.in_ok-spelled.spelled.index c.as_slice.result.now c.blocks_in_area-2.result c.in_ok-taken.taken c.as_slice.ensures c.blocks_in_area-2.ensures c.in_ok-taken.ensures) (subst P c.deref.ensures.value c.in_ok-spelled.ensures.made) c.in_ok-entries.ensures c.new-2.result c.new-2.ensures
+    c.args.alloc c.in_ok-entries.entries c.in_ok-taken.taken (taken_area c.args.shape c.in_ok-spelled.spelled.index c.as_slice.result.now c.blocks_in_area-2.result c.in_ok-taken.taken c.as_slice.ensures c.blocks_in_area-2.ensures c.in_ok-taken.ensures) (subst P c.deref.ensures.value c.in_ok-spelled.ensures.made) c.in_ok-entries.ensures (omega arith) c.new-2.result c.new-2.ensures

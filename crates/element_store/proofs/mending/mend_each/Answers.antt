@@ -1,7 +1,4 @@
-use Rattle.std.proofs.Common.{◌≡◌, ℕ, ◌*◌, ◌<◌, List, length, get_or, sym, ap, ◌∙◌, subst, arith}
-use Rattle.per_base.specs.declared.elements.Entry.{Entry}
-use Rattle.per_base.specs.declared.elements.Content.TheVariants.{Good}
-use Rattle.block_files.proofs.Outcomes.{on_err}
+use Rattle.std.proofs.Common.{◌≡◌, ℕ, ◌*◌, List, length, get_or, sym, ap, ◌∙◌, subst, arith}
 use Rattle.block_files.specs.Areas.{NamedFull}
 use Rattle.block_files.specs.BlockSets.{IsApart, AreDistinct}
 use Rattle.block_files.specs.Contents.{AreCopies}

@@ -1,6 +1,6 @@
-use Rattle.std.proofs.Common.{◌≡◌, Bool, true, Result, Ok, Err, refl, sym, ap, ◌∙◌}
-use Rattle.std.specs.Prelude.{IsOk, is_ok, if◌then◌else◌}
-use Rattle.element_state.specs.Changes.{insert_item, without_item}
+use Rattle.std.proofs.Common.{◌≡◌, Bool, true, Ok, Err, refl, sym, ap, ◌∙◌}
+use Rattle.std.specs.Prelude.{is_ok, if◌then◌else◌}
+use Rattle.element_state.specs.Changes.{insert_item}
 use Rattle.element_store.proofs.InOrder.{place_moved, ascends_as, put_here, put_there, ascends_put, without_none, parted_apart}
 use Rattle.element_store.proofs.named.put_in.Goals as goal
 

@@ -1,4 +1,4 @@
-use Rattle.std.proofs.Common.{◌≡◌, Ok, Err, sym, ◌∙◌, refl}
+use Rattle.std.proofs.Common.{Ok, Err, sym, ◌∙◌, refl}
 use Rattle.element_store.proofs.InOrder.{place_moved, ascends_as, take_here, ascends_without, without_none, parted_apart}
 use Rattle.element_store.proofs.named.take_out.Goals as goal
 

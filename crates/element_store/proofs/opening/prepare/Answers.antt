@@ -1,8 +1,5 @@
-use Rattle.std.proofs.Common.{◌≡◌, refl}
 use Rattle.element_store.proofs.Finds.{found_first, found_view, found_opens}
 use Rattle.element_store.proofs.opening.prepare.Goals as goal
-use Rattle.element_store.proofs.Opened.{opening_used, opening_view, opening_clean}
-use Rattle.element_store.proofs.Moments.{third_kept, third_outside}
 
 pub returns-clause-found : goal.returns-clause-found
 returns-clause-found g c = λ tells.

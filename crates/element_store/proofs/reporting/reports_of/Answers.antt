@@ -1,4 +1,4 @@
-use Rattle.std.proofs.Common.{◌≡◌, ◌++◌, List, length, take, true, None, ap, ◌∙◌, arith}
+use Rattle.std.proofs.Common.{◌++◌, List, length, true, None, ap, ◌∙◌, arith}
 use Rattle.std.specs.List.{flat_map}
 use Rattle.std.proofs.lemmas.List.{take_all}
 use Rattle.per_base.specs.declared.elements.Entry.{Entry}

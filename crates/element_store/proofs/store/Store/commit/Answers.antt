@@ -1,25 +1,27 @@
-use Rattle.std.proofs.Common.{◌≡◌, ℕ, ◌+◌, List, length, sym, ap, subst, ◌∙◌, arith}
+use Rattle.std.proofs.Common.{◌≡◌, ℕ, List, length, sym, ap, subst, ◌∙◌, arith}
 use Rattle.disk_model.specs.declared.place.Place.{Place}
 use Rattle.disk_model.specs.Frame.{Spares}
 use Rattle.disk_model.specs.Place.{IsNoSlot}
 use Rattle.guarded_cell.specs.Register.{IsAlone}
 use Rattle.index_text.specs.Spelling.{index_text}
 use Rattle.index_text.proofs.Lengths.{text_is_short}
-use Rattle.hash_guard.specs.SealedText.{header}
 use Rattle.element_state.specs.declared.shapes.Change.{Change}
-use Rattle.element_store.specs.Committing.{IsReady}
+use Rattle.element_store.specs.Committing.{IsReady, index_length}
 use Rattle.std.proofs.Common.{[], refl, Err}
 use Rattle.index_text.specs.declared.entries.Index.{Index}
 use Rattle.element_state.specs.Written.{IsWithin, commit_cost}
 use Rattle.element_store.specs.declared.store.Store.{Store}
+use Rattle.element_state.specs.declared.shapes.View.{View}
+use Rattle.element_store.specs.Changing.{KeepsOthers}
 use Rattle.element_store.specs.Stores.{view_in}
+use Rattle.element_store.proofs.Taken.{taken_below, taken_area}
 use Rattle.element_state.specs.Conditions.{AreChanges}
 use Rattle.element_state.specs.Kept.{KeptThroughout}
 use Rattle.element_state.specs.States.{Opens}
 use Rattle.element_state.specs.Changes.{committed_by, after_changes, entry_name}
 use Rattle.element_store.proofs.Around.{both_around}
-use Rattle.element_store.proofs.CommitKept.{commit_keeps, commit_around, commit_in_use, commit_clean, commit_written, commit_read}
-use Rattle.element_store.proofs.Finished.{alone_still, small_changes, store_ascends, finished_view, finished_used}
+use Rattle.element_store.proofs.CommitKept.{commit_keeps, commit_around, commit_in_use, commit_clean, commit_written, commit_read, commit_length}
+use Rattle.element_store.proofs.Finished.{alone_still, small_changes, store_ascends, finished_view, finished_used, of_either, contents_within}
 use Rattle.element_store.proofs.InOrder.{ascends_as}
 use Rattle.disk_model.proofs.Moments.{elapses_on}
 use Rattle.per_base.specs.declared.elements.Entry.{Entry}
@@ -65,13 +67,13 @@ pub returns-in_default-clause-outside : goal.returns-in_default-clause-outside
 returns-in_default-clause-outside g c = λ tells quiet. (
     let ready = subst (λ (cs : List Change). IsReady g.D.Disk.told c.args.self cs (g.D.Disk.medium c.args.disk.now) (g.D.Disk.medium c.write_contents.new.disk) c.in-Ok.ready.index c.in-Ok.ready.text c.in-Ok.ready.used) c.deref.ensures.value c.in-Ok.ensures.ready in
     let prep = ready.prepared in
-    commit_around g.D.Disk.told c.args.self c.args.changes.items prep.set prep.now c.in-Ok.ready.index ready.jobs (g.D.Disk.medium c.args.disk.now) c.requires.used prep.takes prep.plan tells (g.D.Disk.medium c.write_contents.new.disk) (g.D.Disk.medium c.write_in.new.disk) c.as_slice.result.now (c.as_slice.ensures ∙ prep.spelled) (ready.keeps tells) (ready.done tells) ready.time c.in_default.ensures.time (Unit {0}) ready.each (c.in_default.ensures.any_moment tells ready.quiet) quiet (ready.elsewhere tells))
+    commit_around g.D.Disk.told c.args.self c.args.changes.items c.in-Ok.ready.used c.in-Ok.ready.index ready.jobs (g.D.Disk.medium c.args.disk.now) c.requires.used prep.plan tells (g.D.Disk.medium c.write_contents.new.disk) (g.D.Disk.medium c.write_in.new.disk) c.as_slice.result.now (c.as_slice.ensures ∙ prep.spelled) (ready.keeps tells) (ready.done tells) ready.time c.in_default.ensures.time (Unit {0}) ready.each (c.in_default.ensures.any_moment tells ready.quiet) quiet (ready.elsewhere tells))
 
 pub returns-in_default-clause-any_moment : goal.returns-in_default-clause-any_moment
 returns-in_default-clause-any_moment g c = λ tells. (
     let ready = subst (λ (cs : List Change). IsReady g.D.Disk.told c.args.self cs (g.D.Disk.medium c.args.disk.now) (g.D.Disk.medium c.write_contents.new.disk) c.in-Ok.ready.index c.in-Ok.ready.text c.in-Ok.ready.used) c.deref.ensures.value c.in-Ok.ensures.ready in
     let prep = ready.prepared in
-    commit_keeps g.D.Disk.told c.args.self c.args.changes.items prep.set prep.now c.in-Ok.ready.index ready.jobs (g.D.Disk.medium c.args.disk.now) c.requires.used prep.takes prep.plan tells (g.D.Disk.medium c.write_contents.new.disk) (g.D.Disk.medium c.write_in.new.disk) c.as_slice.result.now (c.as_slice.ensures ∙ prep.spelled) (ready.keeps tells) (ready.done tells) ready.time c.in_default.ensures.time (Unit {0}) ready.each (c.in_default.ensures.any_moment tells ready.quiet)
+    commit_keeps g.D.Disk.told c.args.self c.args.changes.items c.in-Ok.ready.used c.in-Ok.ready.index ready.jobs (g.D.Disk.medium c.args.disk.now) c.requires.used prep.plan tells (g.D.Disk.medium c.write_contents.new.disk) (g.D.Disk.medium c.write_in.new.disk) c.as_slice.result.now (c.as_slice.ensures ∙ prep.spelled) (ready.keeps tells) (ready.done tells) ready.time c.in_default.ensures.time (Unit {0}) ready.each (c.in_default.ensures.any_moment tells ready.quiet)
     c.use_is_adopted.ensures.adopted c.contents_keep.ensures.during c.contents_keep.ensures.done c.use_is_adopted.ensures.carried c.index_keeps.ensures)
 
 pub returns-clause-elsewhere : goal.returns-clause-elsewhere
@@ -85,13 +87,13 @@ pub returns-clause-outside : goal.returns-clause-outside
 returns-clause-outside g c = λ tells quiet. (
     let ready = subst (λ (cs : List Change). IsReady g.D.Disk.told c.args.self cs (g.D.Disk.medium c.args.disk.now) (g.D.Disk.medium c.write_contents.new.disk) c.in-Ok.ready.index c.in-Ok.ready.text c.in-Ok.ready.used) c.deref.ensures.value c.in-Ok.ensures.ready in
     let prep = ready.prepared in
-    commit_around g.D.Disk.told c.args.self c.args.changes.items prep.set prep.now c.in-Ok.ready.index ready.jobs (g.D.Disk.medium c.args.disk.now) c.requires.used prep.takes prep.plan tells (g.D.Disk.medium c.write_contents.new.disk) (g.D.Disk.medium c.write_in.new.disk) c.as_slice.result.now (c.as_slice.ensures ∙ prep.spelled) (ready.keeps tells) (ready.done tells) ready.time c.in-Ok-write_in.ensures.time (Unit {0}) ready.each (c.in-Ok-write_in.ensures.any_moment tells ready.quiet) quiet (ready.elsewhere tells))
+    commit_around g.D.Disk.told c.args.self c.args.changes.items c.in-Ok.ready.used c.in-Ok.ready.index ready.jobs (g.D.Disk.medium c.args.disk.now) c.requires.used prep.plan tells (g.D.Disk.medium c.write_contents.new.disk) (g.D.Disk.medium c.write_in.new.disk) c.as_slice.result.now (c.as_slice.ensures ∙ prep.spelled) (ready.keeps tells) (ready.done tells) ready.time c.in-Ok-write_in.ensures.time (Unit {0}) ready.each (c.in-Ok-write_in.ensures.any_moment tells ready.quiet) quiet (ready.elsewhere tells))
 
 pub returns-clause-any_moment : goal.returns-clause-any_moment
 returns-clause-any_moment g c = λ tells. (
     let ready = subst (λ (cs : List Change). IsReady g.D.Disk.told c.args.self cs (g.D.Disk.medium c.args.disk.now) (g.D.Disk.medium c.write_contents.new.disk) c.in-Ok.ready.index c.in-Ok.ready.text c.in-Ok.ready.used) c.deref.ensures.value c.in-Ok.ensures.ready in
     let prep = ready.prepared in
-    commit_keeps g.D.Disk.told c.args.self c.args.changes.items prep.set prep.now c.in-Ok.ready.index ready.jobs (g.D.Disk.medium c.args.disk.now) c.requires.used prep.takes prep.plan tells (g.D.Disk.medium c.write_contents.new.disk) (g.D.Disk.medium c.write_in.new.disk) c.as_slice.result.now (c.as_slice.ensures ∙ prep.spelled) (ready.keeps tells) (ready.done tells) ready.time c.in-Ok-write_in.ensures.time (Unit {0}) ready.each (c.in-Ok-write_in.ensures.any_moment tells ready.quiet)
+    commit_keeps g.D.Disk.told c.args.self c.args.changes.items c.in-Ok.ready.used c.in-Ok.ready.index ready.jobs (g.D.Disk.medium c.args.disk.now) c.requires.used prep.plan tells (g.D.Disk.medium c.write_contents.new.disk) (g.D.Disk.medium c.write_in.new.disk) c.as_slice.result.now (c.as_slice.ensures ∙ prep.spelled) (ready.keeps tells) (ready.done tells) ready.time c.in-Ok-write_in.ensures.time (Unit {0}) ready.each (c.in-Ok-write_in.ensures.any_moment tells ready.quiet)
     c.use_is_adopted.ensures.adopted c.contents_keep.ensures.during c.contents_keep.ensures.done c.use_is_adopted.ensures.carried c.index_keeps.ensures)
 
 pub write_contents-requires-clause-used : goal.write_contents-requires-clause-used
@@ -151,15 +153,16 @@ pub returns-clause-used : goal.returns-clause-used
 returns-clause-used g c = (
     let ready = subst (λ (cs : List Change). IsReady g.D.Disk.told c.args.self cs (g.D.Disk.medium c.args.disk.now) (g.D.Disk.medium c.write_contents.new.disk) c.in-Ok.ready.index c.in-Ok.ready.text c.in-Ok.ready.used) c.deref.ensures.value c.in-Ok.ensures.ready in
     let prep = ready.prepared in
-    finished_used g.D.Disk.told c.args.self c.new.result c.args.changes.items _ c.in-Ok-write_in.cell c.in-Ok.ready.index c.changed-entries.result c.in-Ok.ready.used c.new.ensures c.requires.used.memory c.in-Ok-write_in.ensures.next (c.changed-entries.ensures ∙ ap (λ (n : ℕ). after_changes n c.moved.result.items c.args.changes.items) c.generation.ensures ∙ ap (λ (es : List Entry). after_changes c.in-Ok-write_in.cell.generation es c.args.changes.items) c.moved.ensures.items) (g.D.Disk.medium c.write_in.new.disk).image prep.plan.text
-    (commit_read g.D.Disk.told c.args.self c.args.changes.items prep.set prep.now c.in-Ok.ready.index ready.jobs (g.D.Disk.medium c.args.disk.now) c.requires.used prep.plan) prep.taken
-    (λ tells. commit_in_use g.D.Disk.told c.args.self c.args.changes.items prep.set prep.now c.in-Ok.ready.index ready.jobs (g.D.Disk.medium c.args.disk.now) c.requires.used prep.takes prep.plan tells (g.D.Disk.medium c.write_contents.new.disk) (g.D.Disk.medium c.write_in.new.disk) c.as_slice.result.now (c.as_slice.ensures ∙ prep.spelled) (ready.keeps tells) (ready.done tells) c.in-Ok-write_in.cell c.in-Ok-write_in.ensures.next (c.in-Ok-write_in.ensures.held tells) (c.in-Ok-write_in.ensures.elsewhere tells)))
+    finished_used g.D.Disk.told c.args.self c.new.result c.args.changes.items _ c.in-Ok-write_in.cell c.in-Ok.ready.index c.changed-entries.result c.release_replaced.new.taken c.new.ensures c.requires.used.memory c.in-Ok-write_in.ensures.next (c.changed-entries.ensures ∙ ap (λ (n : ℕ). after_changes n c.moved.result.items c.args.changes.items) c.generation.ensures ∙ ap (λ (es : List Entry). after_changes c.in-Ok-write_in.cell.generation es c.args.changes.items) c.moved.ensures.items) (g.D.Disk.medium c.write_in.new.disk).image prep.plan.text
+    (commit_read g.D.Disk.told c.args.self c.args.changes.items c.in-Ok.ready.used c.in-Ok.ready.index ready.jobs (g.D.Disk.medium c.args.disk.now) c.requires.used prep.plan)
+    (taken_area c.args.self.shape c.in-Ok.ready.index c.as_slice-3.result.now (length c.in-Ok.ready.used) c.release_replaced.new.taken c.as_slice-3.ensures prep.capacity c.release_replaced.ensures)
+    (λ tells. commit_in_use g.D.Disk.told c.args.self c.args.changes.items c.in-Ok.ready.used c.in-Ok.ready.index ready.jobs (g.D.Disk.medium c.args.disk.now) c.requires.used prep.plan tells (g.D.Disk.medium c.write_contents.new.disk) (g.D.Disk.medium c.write_in.new.disk) c.as_slice.result.now (c.as_slice.ensures ∙ prep.spelled) (ready.keeps tells) (ready.done tells) c.in-Ok-write_in.cell c.in-Ok-write_in.ensures.next (c.in-Ok-write_in.ensures.held tells) (c.in-Ok-write_in.ensures.elsewhere tells)))
 
 pub returns-clause-shape : goal.returns-clause-shape
 returns-clause-shape g c = ap (λ (st : Store). st.shape) c.new.ensures
 
 pub returns-clause-view : goal.returns-clause-view
-returns-clause-view g c = finished_view g.D.Disk.told c.args.self c.new.result c.args.changes.items _ c.in-Ok-write_in.cell c.in-Ok.ready.index c.changed-entries.result c.in-Ok.ready.used c.new.ensures c.requires.used.memory c.in-Ok-write_in.ensures.next (c.changed-entries.ensures ∙ ap (λ (n : ℕ). after_changes n c.moved.result.items c.args.changes.items) c.generation.ensures ∙ ap (λ (es : List Entry). after_changes c.in-Ok-write_in.cell.generation es c.args.changes.items) c.moved.ensures.items)
+returns-clause-view g c = finished_view g.D.Disk.told c.args.self c.new.result c.args.changes.items _ c.in-Ok-write_in.cell c.in-Ok.ready.index c.changed-entries.result c.release_replaced.new.taken c.new.ensures c.requires.used.memory c.in-Ok-write_in.ensures.next (c.changed-entries.ensures ∙ ap (λ (n : ℕ). after_changes n c.moved.result.items c.args.changes.items) c.generation.ensures ∙ ap (λ (es : List Entry). after_changes c.in-Ok-write_in.cell.generation es c.args.changes.items) c.moved.ensures.items)
 
 pub returns-clause-quiet : goal.returns-clause-quiet
 returns-clause-quiet g c = c.in-Ok-write_in.ensures.quiet
@@ -168,7 +171,7 @@ pub returns-clause-clean : goal.returns-clause-clean
 returns-clause-clean g c = λ tells clean. (
     let ready = subst (λ (cs : List Change). IsReady g.D.Disk.told c.args.self cs (g.D.Disk.medium c.args.disk.now) (g.D.Disk.medium c.write_contents.new.disk) c.in-Ok.ready.index c.in-Ok.ready.text c.in-Ok.ready.used) c.deref.ensures.value c.in-Ok.ensures.ready in
     let prep = ready.prepared in
-    commit_clean g.D.Disk.told c.args.self c.args.changes.items prep.set prep.now c.in-Ok.ready.index ready.jobs (g.D.Disk.medium c.args.disk.now) c.requires.used prep.takes prep.plan tells (g.D.Disk.medium c.write_contents.new.disk) (g.D.Disk.medium c.write_in.new.disk) c.as_slice.result.now (c.as_slice.ensures ∙ prep.spelled) (ready.keeps tells) (ready.done tells) c.in-Ok-write_in.cell c.in-Ok-write_in.ensures.next (c.in-Ok-write_in.ensures.held tells) (c.in-Ok-write_in.ensures.elsewhere tells) clean)
+    commit_clean g.D.Disk.told c.args.self c.args.changes.items c.in-Ok.ready.used c.in-Ok.ready.index ready.jobs (g.D.Disk.medium c.args.disk.now) c.requires.used prep.plan tells (g.D.Disk.medium c.write_contents.new.disk) (g.D.Disk.medium c.write_in.new.disk) c.as_slice.result.now (c.as_slice.ensures ∙ prep.spelled) (ready.keeps tells) (ready.done tells) c.in-Ok-write_in.cell c.in-Ok-write_in.ensures.next (c.in-Ok-write_in.ensures.held tells) (c.in-Ok-write_in.ensures.elsewhere tells) clean)
 
 pub returns-clause-written : goal.returns-clause-written
 returns-clause-written g c = (
@@ -176,7 +179,7 @@ returns-clause-written g c = (
     let prep = ready.prepared in
     subst (λ (i : Index). IsWithin c.args.self.shape.place.copies (commit_cost c.args.self.shape.kind c.args.self.entries.items c.args.changes.items) (length (index_text i)) (g.D.Disk.medium c.args.disk.now).written (g.D.Disk.medium c.write_in.new.disk).written)
     (sym (ap (λ (st : Store). st.index) c.new.ensures))
-    (commit_written g.D.Disk.told c.args.self c.args.changes.items prep.set prep.now c.in-Ok.ready.index ready.jobs (g.D.Disk.medium c.args.disk.now) c.requires.used prep.plan (g.D.Disk.medium c.write_contents.new.disk) ready.cost (g.D.Disk.medium c.write_in.new.disk) c.as_slice.result.now (c.as_slice.ensures ∙ prep.spelled) c.in-Ok-write_in.ensures.written))
+    (commit_written g.D.Disk.told c.args.self c.args.changes.items c.in-Ok.ready.used c.in-Ok.ready.index ready.jobs (g.D.Disk.medium c.args.disk.now) c.requires.used prep.plan (g.D.Disk.medium c.write_contents.new.disk) ready.cost (g.D.Disk.medium c.write_in.new.disk) c.as_slice.result.now (c.as_slice.ensures ∙ prep.spelled) c.in-Ok-write_in.ensures.written))
 
 pub returns-clause-time : goal.returns-clause-time
 returns-clause-time g c = elapses_on c.in-Ok.ensures.ready.time c.in-Ok-write_in.ensures.time
@@ -210,3 +213,67 @@ returns-in-Err-Corrupt-clause-any_moment g c = λ tells. subst (λ (cs : List Ch
 
 pub returns-in-Err-Corrupt-clause-time : goal.returns-in-Err-Corrupt-clause-time
 returns-in-Err-Corrupt-clause-time g c = c.in-Err-Corrupt.ensures.time
+
+pub release_replaced-requires-clause-earlier : goal.release_replaced-requires-clause-earlier
+release_replaced-requires-clause-earlier g c = (
+    let ready = subst (λ (cs : List Change). IsReady g.D.Disk.told c.args.self cs (g.D.Disk.medium c.args.disk.now) (g.D.Disk.medium c.write_contents.new.disk) c.in-Ok.ready.index c.in-Ok.ready.text c.in-Ok.ready.used) c.deref.ensures.value c.in-Ok.ensures.ready in
+    let prep = ready.prepared in
+    taken_below c.args.self.shape (index_text c.args.self.index) c.args.self.index c.as_slice-2.result.now (length c.in-Ok.ready.used) c.requires.used.memory.index c.as_slice-2.ensures prep.capacity)
+
+pub release_replaced-requires-clause-later : goal.release_replaced-requires-clause-later
+release_replaced-requires-clause-later g c = (
+    let ready = subst (λ (cs : List Change). IsReady g.D.Disk.told c.args.self cs (g.D.Disk.medium c.args.disk.now) (g.D.Disk.medium c.write_contents.new.disk) c.in-Ok.ready.index c.in-Ok.ready.text c.in-Ok.ready.used) c.deref.ensures.value c.in-Ok.ensures.ready in
+    let prep = ready.prepared in
+    taken_below c.args.self.shape (index_text c.in-Ok.ready.index) c.in-Ok.ready.index c.as_slice-3.result.now (length c.in-Ok.ready.used) prep.plan.text c.as_slice-3.ensures prep.capacity)
+
+pub release_replaced-requires-clause-either : goal.release_replaced-requires-clause-either
+release_replaced-requires-clause-either g c = (
+    let ready = subst (λ (cs : List Change). IsReady g.D.Disk.told c.args.self cs (g.D.Disk.medium c.args.disk.now) (g.D.Disk.medium c.write_contents.new.disk) c.in-Ok.ready.index c.in-Ok.ready.text c.in-Ok.ready.used) c.deref.ensures.value c.in-Ok.ensures.ready in
+    let prep = ready.prepared in
+    of_either c.args.self c.requires.used.memory c.in-Ok.ready.index c.in-Ok.ready.used c.as_slice-2.result.now c.as_slice-3.result.now c.as_slice-2.ensures c.as_slice-3.ensures prep.traced.grown)
+
+pub returns-clause-carried : goal.returns-clause-carried
+returns-clause-carried g c = (
+    let ready = subst (λ (cs : List Change). IsReady g.D.Disk.told c.args.self cs (g.D.Disk.medium c.args.disk.now) (g.D.Disk.medium c.write_contents.new.disk) c.in-Ok.ready.index c.in-Ok.ready.text c.in-Ok.ready.used) c.deref.ensures.value c.in-Ok.ensures.ready in
+    let prep = ready.prepared in
+    subst (λ (i : Index). KeepsOthers c.args.changes.items c.args.self.index.entries i.entries) (sym (ap (λ (st : Store). st.index) c.new.ensures)) prep.traced.others)
+
+pub returns-clause-format : goal.returns-clause-format
+returns-clause-format g c = (
+    let ready = subst (λ (cs : List Change). IsReady g.D.Disk.told c.args.self cs (g.D.Disk.medium c.args.disk.now) (g.D.Disk.medium c.write_contents.new.disk) c.in-Ok.ready.index c.in-Ok.ready.text c.in-Ok.ready.used) c.deref.ensures.value c.in-Ok.ensures.ready in
+    let prep = ready.prepared in
+    ap (λ (st : Store). st.index.format) c.new.ensures ∙ prep.format)
+
+pub returns-clause-text : goal.returns-clause-text
+returns-clause-text g c = (
+    let ready = subst (λ (cs : List Change). IsReady g.D.Disk.told c.args.self cs (g.D.Disk.medium c.args.disk.now) (g.D.Disk.medium c.write_contents.new.disk) c.in-Ok.ready.index c.in-Ok.ready.text c.in-Ok.ready.used) c.deref.ensures.value c.in-Ok.ensures.ready in
+    let prep = ready.prepared in
+    let view : view_in c.new.result ≡ committed_by c.args.self.shape (view_in c.args.self) c.args.changes.items = finished_view g.D.Disk.told c.args.self c.new.result c.args.changes.items _ c.in-Ok-write_in.cell c.in-Ok.ready.index c.changed-entries.result c.release_replaced.new.taken c.new.ensures c.requires.used.memory c.in-Ok-write_in.ensures.next (c.changed-entries.ensures ∙ ap (λ (n : ℕ). after_changes n c.moved.result.items c.args.changes.items) c.generation.ensures ∙ ap (λ (es : List Entry). after_changes c.in-Ok-write_in.cell.generation es c.args.changes.items) c.moved.ensures.items) in
+    ap (λ (st : Store). length (index_text st.index)) c.new.ensures
+    ∙ commit_length g.D.Disk.told c.args.self c.args.changes.items c.in-Ok.ready.used c.in-Ok.ready.index ready.jobs (g.D.Disk.medium c.args.disk.now) c.requires.used prep.plan prep.format
+    ∙ sym (ap (λ (w : View). index_length c.args.self.shape.kind w.entries) view))
+
+pub returns-clause-at_most : goal.returns-clause-at_most
+returns-clause-at_most g c = (
+    let ready = subst (λ (cs : List Change). IsReady g.D.Disk.told c.args.self cs (g.D.Disk.medium c.args.disk.now) (g.D.Disk.medium c.write_contents.new.disk) c.in-Ok.ready.index c.in-Ok.ready.text c.in-Ok.ready.used) c.deref.ensures.value c.in-Ok.ensures.ready in
+    let prep = ready.prepared in
+    subst (λ (n : ℕ). IsWithin c.args.self.shape.place.copies (commit_cost c.args.self.shape.kind c.args.self.entries.items c.args.changes.items) n (g.D.Disk.medium c.args.disk.now).written (g.D.Disk.medium c.write_in.new.disk).written)
+    (commit_length g.D.Disk.told c.args.self c.args.changes.items c.in-Ok.ready.used c.in-Ok.ready.index ready.jobs (g.D.Disk.medium c.args.disk.now) c.requires.used prep.plan prep.format)
+    (commit_written g.D.Disk.told c.args.self c.args.changes.items c.in-Ok.ready.used c.in-Ok.ready.index ready.jobs (g.D.Disk.medium c.args.disk.now) c.requires.used prep.plan (g.D.Disk.medium c.write_contents.new.disk) ready.cost (g.D.Disk.medium c.write_in.new.disk) c.as_slice.result.now (c.as_slice.ensures ∙ prep.spelled) c.in-Ok-write_in.ensures.written))
+
+pub returns-in_default-clause-at_most : goal.returns-in_default-clause-at_most
+returns-in_default-clause-at_most g c = (
+    let ready = subst (λ (cs : List Change). IsReady g.D.Disk.told c.args.self cs (g.D.Disk.medium c.args.disk.now) (g.D.Disk.medium c.write_contents.new.disk) c.in-Ok.ready.index c.in-Ok.ready.text c.in-Ok.ready.used) c.deref.ensures.value c.in-Ok.ensures.ready in
+    let prep = ready.prepared in
+    subst (λ (n : ℕ). IsWithin c.args.self.shape.place.copies (commit_cost c.args.self.shape.kind c.args.self.entries.items c.args.changes.items) n (g.D.Disk.medium c.args.disk.now).written (g.D.Disk.medium c.write_in.new.disk).written)
+    (commit_length g.D.Disk.told c.args.self c.args.changes.items c.in-Ok.ready.used c.in-Ok.ready.index ready.jobs (g.D.Disk.medium c.args.disk.now) c.requires.used prep.plan prep.format)
+    (commit_written g.D.Disk.told c.args.self c.args.changes.items c.in-Ok.ready.used c.in-Ok.ready.index ready.jobs (g.D.Disk.medium c.args.disk.now) c.requires.used prep.plan (g.D.Disk.medium c.write_contents.new.disk) ready.cost (g.D.Disk.medium c.write_in.new.disk) c.as_slice.result.now (c.as_slice.ensures ∙ prep.spelled) c.in_default.ensures.written))
+
+pub returns-in-Err-OutOfMemory-clause-at_most : goal.returns-in-Err-OutOfMemory-clause-at_most
+returns-in-Err-OutOfMemory-clause-at_most g c = contents_within c.args.self c.args.changes.items c.deref.result.now _ _ c.deref.ensures.value c.in-Err-OutOfMemory.ensures.cost
+
+pub returns-in-Err-Device-clause-at_most : goal.returns-in-Err-Device-clause-at_most
+returns-in-Err-Device-clause-at_most g c = contents_within c.args.self c.args.changes.items c.deref.result.now _ _ c.deref.ensures.value c.in-Err-Device.ensures.cost
+
+pub returns-in-Err-Corrupt-clause-at_most : goal.returns-in-Err-Corrupt-clause-at_most
+returns-in-Err-Corrupt-clause-at_most g c = contents_within c.args.self c.args.changes.items c.deref.result.now _ _ c.deref.ensures.value c.in-Err-Corrupt.ensures.cost
