@@ -38,7 +38,7 @@ same_page_is a b e = let parts = both_parts (nat_eq a.file b.file) (nat_eq a.pag
     let page : a.page ≡ b.page = eqb-true a.page b.page parts.1 in
     ap (λ f. let k : FilePage = record { file = f; page = a.page } in k) file ∙ ap (λ p. let k : FilePage = record { file = b.file; page = p } in k) page
 
-same_page_refl : (a : FilePage) → same_page a a ≡ true
+pub same_page_refl : (a : FilePage) → same_page a a ≡ true
 same_page_refl a = rw (eq-eqb a.file a.file refl, eq-eqb a.page a.page refl) refl
 
 -- the number of a place leads back to it
@@ -298,9 +298,9 @@ module _ (pages : Pages) (n : ℕ) where
           (cases_eq place.block e.place.block)
 
       -- what is put in for a record with the newest one's number
-      pub equal : (first : Option PageRecord) → first ≡ record_at pages (number e.place) → (twin : Option Place) → TwinAt first r e place twin
-          → LearnsOf pages (suc n) (Some (record e { twin = twin })) (newer (newest pages r.file r.page n) placed)
-      equal first is twin at = stays_newest old e learnt known_is (record e { twin = twin }) (omega (arith, sequence)) (record {
+      pub equal : (first : Option PageRecord) → first ≡ record_at pages (number e.place) → (twin : Option Place) (rivalled : Bool) → TwinAt first r e place twin
+          → LearnsOf pages (suc n) (Some (record e { twin = twin; rivalled = rivalled })) (newer (newest pages r.file r.page n) placed)
+      equal first is twin rivalled at = stays_newest old e learnt known_is (record e { twin = twin; rivalled = rivalled }) (omega (arith, sequence)) (record {
         leads = record { small = before_is.leads.small; there = before_is.leads.there; sequence = before_is.leads.sequence; len = before_is.leads.len };
         place = before_is.place;
         twin = twin_says first (is ∙ before_is.leads.there) twin at;

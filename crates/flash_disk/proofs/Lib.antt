@@ -1,2 +1,7 @@
 mod Learning
 mod Usable
+mod Lengths
+mod Lightest
+mod Leading
+mod Reading
+mod Programming

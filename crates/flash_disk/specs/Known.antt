@@ -1,6 +1,7 @@
 -- What a table says of the newest records.
-use Rattle.std.specs.Prelude.{◌≡◌, ℕ, ◌+◌, ◌≤◌, ◌&&◌, Bool, Option, Some, None, nat_eq, is_some, if◌then◌else◌}
-use Rattle.std.specs.HashMap.{get, hash_map_len, spare}
+use Rattle.std.specs.Prelude.{◌≡◌, ◌⊎◌, ℕ, ◌+◌, ◌≤◌, ◌&&◌, ◌==◌, Bool, List, Option, Some, None, max, nat_eq, is_some, unwrap_or, slice_index, if◌then◌else◌}
+use Rattle.std.specs.HashMap.{HashMap, get, hash_map_len, spare}
+use Rattle.std.specs.Map.{update_all}
 use Rattle.flash_record.specs.PageRecord.{PageRecord}
 use Rattle.flash_disk.specs.declared.table.FilePage.{FilePage}
 use Rattle.flash_disk.specs.declared.table.Newest.{Newest}
@@ -29,6 +30,17 @@ limit_of table = table.limit
 abbrev pub HasRoom : Table → Type 0
 HasRoom table = table.limit ≤ hash_map_len table.newest + spare table.newest
 
+-- how long a file is by a table of lengths, and by the table
+abbrev pub len_in : {S : Type 0} → HashMap ℕ ℕ S → ℕ → ℕ
+len_in lens file = unwrap_or (get nat_eq lens file) 0
+
+abbrev pub len_known : Table → ℕ → ℕ
+len_known table file = len_in table.lens file
+
+-- how many pages the table says that it takes to move the newest records of a block
+abbrev pub load_known : Table → ℕ → ℕ
+load_known table block = slice_index table.load.items block
+
 -- a page now has this entry, and all others have what they had
 pub record Puts (old new : Table) (key : FilePage) (entry : Newest) : Type 0 where
   pub known_is : (k : FilePage) → known new k ≡ (if same_page key k then Some entry else known old k)
@@ -43,8 +55,26 @@ pub record SameRecords (old new : Table) : Type 0 where
   pub room : HasRoom old → HasRoom new
   pub fits : page_len old ≤ limit_of old → page_len new ≤ limit_of new
 
--- it has nothing of any page
+-- the table with entries put in one after the other, each for a page that has one
+abbrev pub PutsAll : Table → Table → List (FilePage × Newest) → Type 0
+PutsAll old new news = (k : FilePage) → known new k ≡ update_all same_page (known old) news k
+
+-- a file is now at least so long, and all others are as long as they were
+abbrev pub Lengthens : Table → Table → ℕ → ℕ → Type 0
+Lengthens old new file len = (f : ℕ) → len_known new f ≡ (if f == file then max (len_known old f) len else len_known old f)
+
+abbrev pub SameLens : Table → Table → Type 0
+SameLens old new = (f : ℕ) → len_known new f ≡ len_known old f
+
+-- the greatest length that an entry for a page of the file says; 0 where there is no entry
+pub record IsLongest {S : Type 0} (entries : HashMap FilePage Newest S) (file len : ℕ) : Type 0 where
+  pub most : (key : FilePage) (entry : Newest) → get same_page entries key ≡ Some entry → key.file ≡ file → entry.len ≤ len
+  pub one : (len ≡ 0) ⊎ ((key : FilePage) × (entry : Newest) × (get same_page entries key ≡ Some entry) × (key.file ≡ file) × (len ≡ entry.len))
+
+-- it has nothing of any page, and memory for the lengths of as many files as pages
 pub record IsEmptyTable (table : Table) : Type 0 where
   pub nothing : (key : FilePage) → known table key ≡ None
   pub len : page_len table ≡ 0
   pub room : HasRoom table
+  pub lens : (file : ℕ) → len_known table file ≡ 0
+  pub len_room : table.limit ≤ spare table.lens

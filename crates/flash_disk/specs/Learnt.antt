@@ -1,13 +1,14 @@
 -- How a table is tied to the records on a flash.
-use Rattle.std.specs.Prelude.{◌≡◌, ◌≢◌, ℕ, ◌+◌, ◌*◌, ◌<◌, ◌≤◌, Bool, true, false, Option, Some, None}
-use Rattle.flash_model.specs.Pages.{Pages}
+use Rattle.std.specs.Prelude.{◌≡◌, ◌≢◌, ◌⊎◌, ℕ, ◌+◌, ◌*◌, ◌<◌, ◌≤◌, Bool, true, false, List, Option, Some, None, IsSome, nat_lt, slice_index, if◌then◌else◌}
+use Rattle.flash_model.specs.Pages.{Pages, blank_page, program_page}
 use Rattle.flash_disk.specs.declared.table.FilePage.{FilePage}
 use Rattle.flash_disk.specs.declared.table.Place.{Place}
 use Rattle.flash_disk.specs.declared.table.Newest.{Newest}
 use Rattle.flash_disk.specs.declared.table.Table.{Table}
 use Rattle.flash_disk.specs.Newest.{Placed, record_at, newest, page_count, IsCopyOf}
 use Rattle.flash_record.specs.PageRecord.{PageRecord}
-use Rattle.flash_disk.specs.Known.{known, page_len, limit_of, HasRoom}
+use Rattle.flash_disk.specs.Known.{same_page, known, page_len, limit_of, len_known, HasRoom}
+use Rattle.flash_disk.specs.FlashFiles.{file_byte, file_len, IsFileLen}
 
 abbrev pub number : Place → ℕ
 number place = 64 * place.block + place.page
@@ -62,3 +63,61 @@ pub record TwinAt (first : Option PageRecord) (r : PageRecord) (old : Newest) (p
 abbrev pub LearnsAll : Pages → (n limit : ℕ) → Table → Bool → Type 0
 LearnsAll pages n limit table true = HasLearnt pages n table
 LearnsAll pages n limit table false = limit < page_count pages n
+
+-- an entry leads to a record that is equal to the newest one, and says where a copy of that lies
+pub record Led (pages : Pages) (n : ℕ) (entry : Newest) (x : Placed) : Type 0 where
+  pub within : number entry.place < n
+  pub leads : LeadsTo pages entry x
+  pub twin : TwinSays pages n x entry.twin
+
+abbrev pub LedOf : Pages → ℕ → Option Newest → Option Placed → Type 0
+LedOf pages n None None = Unit {0}
+LedOf pages n None (Some x) = ⊥
+LedOf pages n (Some entry) None = ⊥
+LedOf pages n (Some entry) (Some x) = Led pages n entry x
+
+-- the table leads from each page of a file to its newest record, or an equal one
+pub record IsLed (pages : Pages) (n : ℕ) (table : Table) : Type 0 where
+  pub says : (key : FilePage) → LedOf pages n (known table key) (newest pages key.file key.page n)
+  pub room : HasRoom table
+  pub fits : page_len table ≤ limit_of table
+
+-- it also knows how long each file is
+pub record Knows (pages : Pages) (n : ℕ) (table : Table) : Type 0 where
+  pub led : IsLed pages n table
+  pub lens : (file : ℕ) → IsFileLen pages n file (len_known table file)
+
+-- the bytes of a page of a file, with zeros past the end of the file
+abbrev pub IsContent : Pages → ℕ → FilePage → List ℕ → Type 0
+IsContent pages n key bytes = (j : ℕ) → j < 256
+    → slice_index bytes j ≡ (if nat_lt (256 * key.page + j) (file_len pages n key.file) then file_byte pages n key.file (256 * key.page + j) else 0)
+
+-- a record came to lie where none was, newer than all others
+pub record Adds (old new : Pages) (n : ℕ) (place : Place) (r : PageRecord) : Type 0 where
+  pub small : place.page < 64
+  pub within : number place < n
+  pub nothing : record_at old (number place) ≡ None
+  pub here : record_at new (number place) ≡ Some r
+  pub elsewhere : (j : ℕ) → j ≢ number place → record_at new j ≡ record_at old j
+  pub newer : (j : ℕ) (q : PageRecord) → j < n → record_at old j ≡ Some q → q.sequence < r.sequence
+
+-- the table has an entry for the page, or room for one more
+abbrev pub HasPlace : Table → FilePage → Type 0
+HasPlace table key = IsSome (known table key) ⊎ (page_len table < limit_of table)
+
+-- no record has a greater number
+abbrev pub Tops : Pages → (n top : ℕ) → Type 0
+Tops pages n top = (j : ℕ) (q : PageRecord) → j < n → record_at pages j ≡ Some q → q.sequence ≤ top
+
+-- a blank page was programmed with these bytes, or nothing was
+abbrev pub ProgramsIf : Bool → Place → (blocks : ℕ) → List ℕ → Pages → Pages → Type 0
+ProgramsIf true place blocks bytes old new = (place.block < blocks) × (place.page < 64) × (old place.block place.page ≡ blank_page)
+    × (new ≡ program_page old place.block place.page bytes)
+ProgramsIf false place blocks bytes old new = new ≡ old
+
+-- a page of a file has a new record, to which the table leads, and all others have the records that they had
+pub record HasWritten (old new : Pages) (n : ℕ) (key : FilePage) (len : ℕ) (bytes : List ℕ) (table : Table) (top : ℕ) : Type 0 where
+  pub led : IsLed new n table
+  pub tops : Tops new n top
+  pub record_is : (x : Placed) × (newest new key.file key.page n ≡ Some x) × (x.says.len ≡ len) × (x.says.bytes ≡ bytes)
+  pub elsewhere : (file page : ℕ) → same_page key (record { file = file; page = page }) ≡ false → newest new file page n ≡ newest old file page n

@@ -3,6 +3,7 @@
 ghost use Rattle.std.specs.Prelude.{◌≡◌, ◌⊎◌, ◌↔◌, ◌≤◌, ◌<◌, ◌+◌, IsTrue, IfOk, IfErr, OnOk, OnErr, Ok, Err};
 ghost use Rattle.per_base.specs.Causes.{HasCause, Rose};
 ghost use Rattle.flash_model.specs.Pages.{blank_page};
+ghost use Rattle.flash_disk.specs.Learnt.{ProgramsIf};
 
 use crate::table::{FilePage, Newest, Place, Table};
 use disk_model::DiskFailed;
@@ -42,8 +43,13 @@ pub struct FlashDisk<F> {
     pub(crate) sequence: u64,
     /// A page that a failed call may have left anything in.
     pub(crate) unsure: Option<Place>,
-    /// What is moved while the spare block is filled, with room for a block.
+    /// What was moved into the current block, with room for a block. Until the rivalled ones among it are written again, the spare block
+    /// is not erased.
     pub(crate) moved: Vec<(FilePage, Newest)>,
+    /// Whether another record would be read once the spare block is erased.
+    pub(crate) stuck: bool,
+    /// Where the last byte ends that an older record has past the end of its file.
+    pub(crate) stray_end: u64,
     pub(crate) own: u64,
 }
 
@@ -64,6 +70,7 @@ impl<F: Flash> FlashDisk<F> {
 
     // Counts a failure of its own.
     pub(crate) fn fault(&mut self) -> DiskFailed
+        ensures flash { self.new.flash ≡ self.old.flash }
         ensures later { (F.medium self.old.flash).faults + self.old.own ≤ (F.medium self.new.flash).faults + self.new.own }
         ensures rose { Rose ((F.medium self.old.flash).faults + self.old.own) ((F.medium self.new.flash).faults + self.new.own) }
     {
@@ -101,7 +108,12 @@ impl<F: Flash> FlashDisk<F> {
         place: Place,
         bytes: &[u8; PAGE_BYTES],
     ) -> Result<bool, DiskFailed>
-        ensures { HasCause ((F.medium self.old.flash).faults + self.old.own) ((F.medium self.new.flash).faults + self.new.own) result }
+        ensures programs { IsTrue F.told → IfOk result (λ done. ProgramsIf done place (F.medium self.old.flash).blocks bytes.now
+            (F.medium self.old.flash).state.pages (F.medium self.new.flash).state.pages) }
+        ensures blocks { (F.medium self.new.flash).blocks ≡ (F.medium self.old.flash).blocks }
+        ensures table { self.new.table ≡ self.old.table }
+        ensures sequence { self.new.sequence ≡ self.old.sequence }
+        ensures cause { HasCause ((F.medium self.old.flash).faults + self.old.own) ((F.medium self.new.flash).faults + self.new.own) result }
     {
         if !self.has(place) {
             return Ok(false);
@@ -123,7 +135,12 @@ impl<F: Flash> FlashDisk<F> {
         requires block { place.block < (F.medium self.old.flash).blocks }
         requires page { place.page < 64 }
         requires found { IsTrue F.told → (F.medium self.old.flash).state.pages place.block place.page ≡ found.now }
-        ensures { HasCause ((F.medium self.old.flash).faults + self.old.own) ((F.medium self.new.flash).faults + self.new.own) result }
+        ensures programs { IsTrue F.told → IfOk result (λ done. ProgramsIf done place (F.medium self.old.flash).blocks bytes.now
+            (F.medium self.old.flash).state.pages (F.medium self.new.flash).state.pages) }
+        ensures blocks { (F.medium self.new.flash).blocks ≡ (F.medium self.old.flash).blocks }
+        ensures table { self.new.table ≡ self.old.table }
+        ensures sequence { self.new.sequence ≡ self.old.sequence }
+        ensures cause { HasCause ((F.medium self.old.flash).faults + self.old.own) ((F.medium self.new.flash).faults + self.new.own) result }
     {
         if !is_blank(found) {
             return Ok(false);

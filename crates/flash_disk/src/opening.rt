@@ -1,11 +1,12 @@
 //! Opening a flash as a disk.
 
-ghost use Rattle.std.specs.Prelude.{◌≡◌, ◌⊎◌, ◌↔◌, ◌≤◌, ◌<◌, ◌+◌, ◌*◌, IsTrue, IfOk, IfErr, OnOk, Some, None};
+ghost use Rattle.std.specs.Prelude.{◌≡◌, ◌⊎◌, ◌↔◌, ◌≤◌, ◌<◌, ◌+◌, ◌*◌, ℕ, IsTrue, IsFalse, IfOk, IfErr, IfSome, OnOk, Some, None};
 ghost use Rattle.flash_record.specs.PageRecord.{record_in};
 ghost use Rattle.flash_record.specs.Stated.{stated};
 ghost use Rattle.flash_disk.specs.Newest.{record_at, places, page_limit, IsSpare, NeedsPlace, FindsSpare, IsUsable, IsUnusable, SaysUsable};
 ghost use Rattle.flash_disk.specs.Known.{known, limit_of, page_of, IsEmptyTable};
-ghost use Rattle.flash_disk.specs.Learnt.{number, HasLearnt, LearnsNext, LearnsAll, TwinAt};
+ghost use Rattle.flash_disk.specs.Learnt.{number, HasLearnt, LearnsNext, LearnsAll, SaysTheSame, TwinAt, IsLed, Knows};
+ghost use Rattle.flash_model.specs.Pages.{Pages};
 ghost use Rattle.per_base.specs.Causes.{HasCause, Rose};
 
 use crate::disk::{FlashDisk, FlashOpenError, FlashRefused};
@@ -28,6 +29,10 @@ impl<F: Flash> FlashDisk<F> {
         ensures usable { IsTrue F.told → OnOk result (IsUsable (F.medium flash).state.pages (F.medium flash).blocks) }
         ensures unusable { IsTrue F.told → IfErr result (λ refused. refused.error ≡ FlashOpenError.Unusable
             → IsUnusable (F.medium flash).state.pages (F.medium flash).blocks) }
+
+        // The disk knows the newest record of each page, and how long each file is.
+        ensures knows { IsTrue F.told → IfOk result (λ disk.
+            Knows (F.medium flash).state.pages (places (F.medium flash).blocks) disk.table) }
 
         // No page changes.
         ensures pages { IsTrue F.told → IfOk result (λ disk. (F.medium disk.flash).state.pages ≡ (F.medium flash).state.pages) }
@@ -55,6 +60,8 @@ impl<F: Flash> FlashDisk<F> {
             sequence: 0,
             unsure: None,
             moved,
+            stuck: false,
+            stray_end: 0,
             own: 0,
         };
         match disk.learn(blocks) {
@@ -86,7 +93,10 @@ impl<F: Flash> FlashDisk<F> {
         requires limit { limit_of self.old.table ≡ page_limit blocks }
         ensures flash { HasCause (F.medium self.old.flash).faults (F.medium self.new.flash).faults result }
         ensures pages { IsTrue F.told → (F.medium self.new.flash).state.pages ≡ (F.medium self.old.flash).state.pages }
+        ensures blocks { (F.medium self.new.flash).blocks ≡ (F.medium self.old.flash).blocks }
         ensures usable { IsTrue F.told → IfOk result (SaysUsable (F.medium self.old.flash).state.pages blocks) }
+        ensures knows { IsTrue F.told → IfOk result (λ usable. IsTrue usable
+            → Knows (F.medium self.old.flash).state.pages (places blocks) self.new.table) }
     {
         if !self.learn_blocks(blocks)? {
             return Ok(false);
@@ -94,7 +104,9 @@ impl<F: Flash> FlashDisk<F> {
         if !self.find_spare(blocks)? {
             return Ok(false);
         }
-        self.table.open(self.spare);
+        self.leave_spare()?;
+        self.table.measure();
+        self.stray_end = self.table.stray_end();
         match self.flash.settle() {
             Ok(()) => Ok(true),
             Err(_) => Err(DiskFailed),
@@ -109,6 +121,7 @@ impl<F: Flash> FlashDisk<F> {
         ensures pages { IsTrue F.told → (F.medium self.new.flash).state.pages ≡ (F.medium self.old.flash).state.pages }
         ensures blocks { (F.medium self.new.flash).blocks ≡ (F.medium self.old.flash).blocks }
         ensures limit { limit_of self.new.table ≡ limit_of self.old.table }
+        ensures lens { self.new.table.lens ≡ self.old.table.lens }
         ensures learns { IsTrue F.told
             → IfOk result (LearnsAll (F.medium self.old.flash).state.pages (places blocks) (limit_of self.old.table) self.new.table) }
     {
@@ -127,6 +140,7 @@ impl<F: Flash> FlashDisk<F> {
         ensures pages { IsTrue F.told → (F.medium self.new.flash).state.pages ≡ (F.medium self.old.flash).state.pages }
         ensures blocks { (F.medium self.new.flash).blocks ≡ (F.medium self.old.flash).blocks }
         ensures limit { limit_of self.new.table ≡ limit_of self.old.table }
+        ensures lens { self.new.table.lens ≡ self.old.table.lens }
         ensures learns { IsTrue F.told → HasLearnt (F.medium self.old.flash).state.pages (64 * block) self.old.table
             → IfOk result (LearnsAll (F.medium self.old.flash).state.pages (64 * block + 64) (limit_of self.old.table) self.new.table) }
     {
@@ -155,6 +169,48 @@ impl<F: Flash> FlashDisk<F> {
             }
         }
         Ok(false)
+    }
+
+    // Leads from the newest records in the spare block to the equal ones in other blocks.
+    fn leave_spare(&mut self) -> Result<(), DiskFailed>
+        ensures flash { HasCause (F.medium self.old.flash).faults (F.medium self.new.flash).faults result }
+        ensures pages { IsTrue F.told → (F.medium self.new.flash).state.pages ≡ (F.medium self.old.flash).state.pages }
+        ensures blocks { (F.medium self.new.flash).blocks ≡ (F.medium self.old.flash).blocks }
+        ensures limit { limit_of self.new.table ≡ limit_of self.old.table }
+        ensures lens { self.new.table.lens ≡ self.old.table.lens }
+        ensures leads { (pages : Pages) (n : ℕ) → IsLed pages n self.old.table → IsLed pages n self.new.table }
+    {
+        let spare = self.spare;
+        for page in 0..BLOCK_PAGES {
+            self.leave_page(Place { block: spare, page })?;
+        }
+        Ok(())
+    }
+
+    // Leads from the record in a page, if it is a newest one, to the equal one in another block.
+    fn leave_page(&mut self, place: Place) -> Result<(), DiskFailed>
+        ensures flash { HasCause (F.medium self.old.flash).faults (F.medium self.new.flash).faults result }
+        ensures pages { IsTrue F.told → (F.medium self.new.flash).state.pages ≡ (F.medium self.old.flash).state.pages }
+        ensures blocks { (F.medium self.new.flash).blocks ≡ (F.medium self.old.flash).blocks }
+        ensures limit { limit_of self.new.table ≡ limit_of self.old.table }
+        ensures lens { self.new.table.lens ≡ self.old.table.lens }
+        ensures leads { (pages : Pages) (n : ℕ) → IsLed pages n self.old.table → IsLed pages n self.new.table }
+    {
+        let mut page = BLANK_PAGE;
+        self.read_page(place, &mut page)?;
+        let Some((key, old)) = self.newest_in(&page) else {
+            return Ok(());
+        };
+        if old.place != place {
+            return Ok(());
+        }
+        let Some(twin) = old.twin else {
+            return Ok(());
+        };
+        self.stuck = self.stuck || old.rivalled;
+        let new = Newest { place: twin, ..old };
+        self.table.put(key, new);
+        Ok(())
     }
 
     // Whether a block has no record that is needed.
@@ -197,7 +253,7 @@ impl<F: Flash> FlashDisk<F> {
         };
         let key = FilePage {
             file: record.file,
-            page: record.page,
+            page: record.page as u64,
         };
         let Some(newest) = self.table.find(key) else {
             return Ok(false);
@@ -216,6 +272,7 @@ impl<F: Flash> FlashDisk<F> {
         ensures pages { IsTrue F.told → (F.medium self.new.flash).state.pages ≡ (F.medium self.old.flash).state.pages }
         ensures blocks { (F.medium self.new.flash).blocks ≡ (F.medium self.old.flash).blocks }
         ensures limit { limit_of self.new.table ≡ limit_of self.old.table }
+        ensures lens { self.new.table.lens ≡ self.old.table.lens }
         ensures learns { IsTrue F.told → HasLearnt (F.medium self.old.flash).state.pages (number place) self.old.table
             → IfOk result (LearnsNext (F.medium self.old.flash).state.pages (number place + 1) self.old.table self.new.table) }
     {
@@ -227,7 +284,7 @@ impl<F: Flash> FlashDisk<F> {
         self.sequence = self.sequence.max(record.sequence);
         let key = FilePage {
             file: record.file,
-            page: record.page,
+            page: record.page as u64,
         };
         let Some(old) = self.table.find(key) else {
             return Ok(self.table.put(key, newest_at(place, record)));
@@ -258,6 +315,7 @@ impl<F: Flash> FlashDisk<F> {
         ensures pages { IsTrue F.told → (F.medium self.new.flash).state.pages ≡ (F.medium self.old.flash).state.pages }
         ensures blocks { (F.medium self.new.flash).blocks ≡ (F.medium self.old.flash).blocks }
         ensures limit { limit_of self.new.table ≡ limit_of self.old.table }
+        ensures lens { self.new.table.lens ≡ self.old.table.lens }
         ensures learns { IsTrue F.told → HasLearnt (F.medium self.old.flash).state.pages (number place) self.old.table
             → record_at (F.medium self.old.flash).state.pages (number place) ≡ Some (stated found.entry)
             → IfOk result (LearnsNext (F.medium self.old.flash).state.pages (number place + 1) self.old.table self.new.table) }
@@ -266,6 +324,7 @@ impl<F: Flash> FlashDisk<F> {
         self.read_page(old.place, &mut page)?;
         let new = Newest {
             twin: twin_at(&page, found, old, place),
+            rivalled: is_rivalled(&page, found, old),
             ..old
         };
         Ok(self.table.put(key, new))
@@ -273,29 +332,56 @@ impl<F: Flash> FlashDisk<F> {
 }
 
 // The entry of a record that was found in this place.
-fn newest_at(place: Place, found: Record<'_>) -> Newest
-    ensures { result ≡ record { place = place; sequence = found.entry.sequence; len = found.entry.len; twin = None } }
+pub(crate) fn newest_at(place: Place, found: Record<'_>) -> Newest
+    ensures place { result.place ≡ place }
+    ensures sequence { result.sequence ≡ found.entry.sequence }
+    ensures len { result.len ≡ found.entry.len }
+    ensures twin { result.twin ≡ None }
 {
     Newest {
         place,
         sequence: found.sequence,
         len: found.len,
         twin: None,
+        rivalled: false,
+        filled: filled_of(found.bytes),
     }
+}
+
+// How many bytes are left without the zeros at their end.
+fn filled_of(bytes: &[u8]) -> u32 {
+    let mut filled = 0;
+    for (i, byte) in bytes.iter().enumerate() {
+        if *byte != 0 {
+            filled = i.saturating_add(1);
+        }
+    }
+    filled.min(256) as u32
 }
 
 // Where the twin of a newest record lies, after another with its number was found in this place.
 fn twin_at(page: &[u8], found: Record<'_>, old: Newest, place: Place) -> Option<Place>
     ensures { TwinAt (record_in page.now) (stated found.entry) old place result }
 {
-    if place.block == old.place.block {
+    if place.block == old.place.block || !says_the_same(page, found) {
         return old.twin;
     }
+    Some(place)
+}
+
+// Whether a newest record is rivalled, after another with its number was found.
+fn is_rivalled(page: &[u8], found: Record<'_>, old: Newest) -> bool {
+    old.rivalled || !says_the_same(page, found)
+}
+
+// Whether a page is a record with the length and the bytes of another.
+fn says_the_same(page: &[u8], found: Record<'_>) -> bool
+    ensures record { IsTrue result → IfSome (record_in page.now) (λ first. SaysTheSame first (stated found.entry)) }
+    ensures another { IsFalse result → IfSome (record_in page.now) (λ first. SaysTheSame first (stated found.entry) → ⊥) }
+    ensures none { record_in page.now ≡ None → IsFalse result }
+{
     let Some(first) = read_record(page) else {
-        return old.twin;
+        return false;
     };
-    if first.len == found.len && first.bytes == found.bytes {
-        return Some(place);
-    }
-    old.twin
+    first.len == found.len && first.bytes == found.bytes
 }

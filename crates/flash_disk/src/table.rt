@@ -1,15 +1,17 @@
 //! Where the newest record of each page of a file lies, and how long each file is.
 
-ghost use Rattle.std.specs.Prelude.{◌≡◌, ◌↔◌, ◌≤◌, ◌<◌, ◌+◌, ◌-◌, ◌*◌, IfOk, IsSome, IsTrue, IsFalse, None};
+ghost use Rattle.std.specs.Prelude.{◌≡◌, ◌≢◌, ◌⊎◌, ◌↔◌, ◌≤◌, ◌<◌, ◌+◌, ◌-◌, ◌*◌, ◌==◌, ℕ, IfOk, IsSome, IsTrue, IsFalse, None, All, max, if◌then◌else◌};
+ghost use Rattle.std.specs.HashMap.{hash_map_len, spare};
+ghost use Rattle.flash_disk.specs.Known.{len_in, IsLongest};
 
 use std::alloc::{AllocError, Global};
 use std::collections::HashMap;
 
-/// A page of a file.
+/// A page of a file. Records are only of pages below 2^32.
 #[derive(Clone, Copy, Debug, PartialEq, Eq, Hash)]
 pub struct FilePage {
     pub file: u32,
-    pub page: u32,
+    pub page: u64,
 }
 
 /// A page of the flash.
@@ -28,6 +30,10 @@ pub struct Newest {
     pub len: u64,
     /// Where another block has an equal record.
     pub twin: Option<Place>,
+    /// Whether another record of the page may have its number and other bytes.
+    pub rivalled: bool,
+    /// How many of its bytes are left without the zeros at their end.
+    pub filled: u32,
 }
 
 /// The newest records of all pages.
@@ -35,15 +41,15 @@ pub struct Newest {
 pub struct Table {
     newest: HashMap<FilePage, Newest>,
     lens: HashMap<u32, u64>,
-    /// How many newest records each block has.
-    live: Vec<u32>,
+    /// How many pages it takes to move the newest records of each block: one for each, and one more for each that is rivalled.
+    load: Vec<u32>,
     blocks: u32,
     /// At most how many pages may have a record.
     limit: usize,
 }
 
 impl Table {
-    ghost use Rattle.flash_disk.specs.Known.{known, page_len, limit_of, Puts, SameRecords, IsEmptyTable, HasRoom};
+    ghost use Rattle.flash_disk.specs.Known.{known, page_len, limit_of, len_known, load_known, Puts, PutsAll, SameRecords, Lengthens, SameLens, IsEmptyTable, HasRoom};
 
     /// An empty table for a flash of so many blocks.
     pub fn new(alloc: Global, blocks: u32) -> Result<Table, AllocError>
@@ -54,7 +60,7 @@ impl Table {
         Ok(Table {
             newest: HashMap::with_capacity(alloc, limit)?,
             lens: HashMap::with_capacity(alloc, limit)?,
-            live: vec![in alloc; 0; blocks as usize]?,
+            load: vec![in alloc; 0; blocks as usize]?,
             blocks,
             limit,
         })
@@ -68,7 +74,9 @@ impl Table {
     }
 
     /// How long a file is.
-    pub fn len_of(&self, file: u32) -> u64 {
+    pub fn len_of(&self, file: u32) -> u64
+        ensures { result ≡ len_known self.now file }
+    {
         self.lens.get(&file).copied().unwrap_or(0)
     }
 
@@ -79,9 +87,11 @@ impl Table {
         self.limit.saturating_sub(self.newest.len())
     }
 
-    /// How many newest records a block has.
-    pub fn live_in(&self, block: u32) -> u32 {
-        self.live.get(block as usize).copied().unwrap_or(0)
+    /// How many pages it takes to move the newest records of a block.
+    pub fn load_of(&self, block: u32) -> u32
+        ensures { result ≡ load_known self.now block }
+    {
+        self.load.get(block as usize).copied().unwrap_or(0)
     }
 
     /// Sets the newest record of a page; `false`, and no change, where there is no room for it.
@@ -90,15 +100,16 @@ impl Table {
         ensures put { IsTrue result → Puts self.old self.new key new }
         ensures same { IsFalse result → SameRecords self.old self.new }
         ensures limit { limit_of self.new ≡ limit_of self.old }
+        ensures lens { self.new.lens ≡ self.old.lens }
     {
         let old = self.find(key);
         if !self.store(key, new) {
             return false;
         }
         if let Some(old) = old {
-            self.count_less(old.place.block);
+            self.count_less(old);
         }
-        self.count_more(new.place.block);
+        self.count_more(new);
         true
     }
 
@@ -108,6 +119,7 @@ impl Table {
         ensures put { IsTrue result → Puts self.old self.new key new }
         ensures same { IsFalse result → SameRecords self.old self.new }
         ensures limit { limit_of self.new ≡ limit_of self.old }
+        ensures lens { self.new.lens ≡ self.old.lens }
     {
         if self.newest.contains_key(&key) {
             self.replace(key, new);
@@ -121,6 +133,7 @@ impl Table {
         requires { IsSome (known self.old key) }
         ensures put { Puts self.old self.new key new }
         ensures limit { limit_of self.new ≡ limit_of self.old }
+        ensures lens { self.new.lens ≡ self.old.lens }
     {
         if let Some(slot) = self.newest.get_mut(&key) {
             *slot = new;
@@ -128,79 +141,126 @@ impl Table {
     }
 
     /// Sets the newest records of pages that have one.
-    pub fn put_all(&mut self, news: &[(FilePage, Newest)]) {
+    pub fn put_all(&mut self, news: &[(FilePage, Newest)])
+        ensures put { All (λ new. IsSome (known self.old new.0)) news.now → HasRoom self.old → PutsAll self.old self.new news.now }
+        ensures limit { limit_of self.new ≡ limit_of self.old }
+        ensures lens { self.new.lens ≡ self.old.lens }
+    {
         for new in news {
             self.put(new.0, new.1);
         }
     }
 
     /// Makes a file at least so long; `false`, and no change, where there is no room for it.
-    pub fn lengthen(&mut self, file: u32, len: u64) -> bool {
+    pub fn lengthen(&mut self, file: u32, len: u64) -> bool
+        ensures lengthened { IsTrue result → Lengthens self.old self.new file len }
+        ensures same { IsFalse result → SameLens self.old self.new }
+        ensures records { self.new.newest ≡ self.old.newest }
+        ensures limit { limit_of self.new ≡ limit_of self.old }
+    {
         if len <= self.len_of(file) {
             return true;
         }
-        self.lens.insert(file, len).is_ok()
+        raise(&mut self.lens, file, len)
     }
 
-    /// The block other than this one that has the fewest newest records.
-    pub fn emptiest_but(&self, but: u32) -> u32 {
+    /// The block other than this one whose newest records take the fewest pages to move; this one where there is no other.
+    pub fn lightest_but(&self, but: u32) -> u32
+        ensures within { result ≢ but → result < self.now.blocks }
+        ensures lightest { (block : ℕ) → block < self.now.blocks → block ≢ but
+            → (result ≢ but) × (load_known self.now result ≤ load_known self.now block) }
+    {
         let mut best = but;
         for block in 0..self.blocks {
-            if block != but && (best == but || self.live_in(block) < self.live_in(best)) {
+            if self.is_lighter(block, best, but) {
                 best = block;
             }
         }
         best
     }
 
-    /// Ends the opening: leads from the records of this block, which is spare, to the equal ones elsewhere, and takes the lengths of the
-    /// files.
-    pub fn open(&mut self, spare: u32) {
-        for newest in self.newest.values_mut() {
-            if newest.place.block == spare {
-                newest.place = newest.twin.unwrap_or(newest.place);
-            }
-            newest.twin = None;
-        }
-        self.recount();
-        self.measure();
+    // Whether a block is better than the best other than `but` so far, or the first.
+    fn is_lighter(&self, block: u32, best: u32, but: u32) -> bool
+        ensures { IsTrue result ↔ ((block ≢ but) × ((best ≡ but) ⊎ (load_known self.now block < load_known self.now best))) }
+    {
+        block != but && (best == but || self.load_of(block) < self.load_of(best))
     }
 
-    // Counts the newest records of each block.
-    fn recount(&mut self) {
-        for count in self.live.iter_mut() {
-            *count = 0;
-        }
-        for newest in self.newest.values() {
-            if let Some(count) = self.live.get_mut(newest.place.block as usize) {
-                *count = count.saturating_add(1);
-            }
-        }
+    /// Takes the lengths of the files from the newest records.
+    pub fn measure(&mut self)
+        ensures lens { page_len self.old ≤ spare self.old.lens → ((file : ℕ) → len_known self.old file ≡ 0)
+            → (file : ℕ) → IsLongest self.old.newest file (len_known self.new file) }
+        ensures records { self.new.newest ≡ self.old.newest }
+        ensures limit { limit_of self.new ≡ limit_of self.old }
+    {
+        raise_all(&mut self.lens, &self.newest);
     }
 
-    // Takes the lengths of the files from the newest records.
-    fn measure(&mut self) {
+    /// Where the last byte other than zero ends that lies past the end of its file; 0 where there is none.
+    pub fn stray_end(&self) -> u64 {
+        let mut stray = 0;
         for (key, newest) in self.newest.iter() {
-            let len = self.lens.get(&key.file).copied().unwrap_or(0);
-            let _known = self.lens.insert(key.file, len.max(newest.len));
+            let end = end_of_bytes(*key, *newest);
+            if end > self.len_of(key.file) {
+                stray = end.max(stray);
+            }
+        }
+        stray
+    }
+
+    fn count_more(&mut self, newest: Newest)
+        ensures records { SameRecords self.old self.new }
+        ensures limit { limit_of self.new ≡ limit_of self.old }
+        ensures lens { self.new.lens ≡ self.old.lens }
+    {
+        if let Some(load) = self.load.get_mut(newest.place.block as usize) {
+            *load = load.saturating_add(load_of_one(newest));
         }
     }
 
-    fn count_more(&mut self, block: u32)
+    fn count_less(&mut self, newest: Newest)
         ensures records { SameRecords self.old self.new }
         ensures limit { limit_of self.new ≡ limit_of self.old }
+        ensures lens { self.new.lens ≡ self.old.lens }
     {
-        if let Some(count) = self.live.get_mut(block as usize) {
-            *count = count.saturating_add(1);
+        if let Some(load) = self.load.get_mut(newest.place.block as usize) {
+            *load = load.saturating_sub(load_of_one(newest));
         }
     }
+}
 
-    fn count_less(&mut self, block: u32)
-        ensures records { SameRecords self.old self.new }
-        ensures limit { limit_of self.new ≡ limit_of self.old }
-    {
-        if let Some(count) = self.live.get_mut(block as usize) {
-            *count = count.saturating_sub(1);
-        }
+// Takes the lengths of the files from the newest records.
+fn raise_all(lens: &mut HashMap<u32, u64>, newest: &HashMap<FilePage, Newest>)
+    ensures { hash_map_len newest.now ≤ spare lens.old → ((file : ℕ) → len_in lens.old file ≡ 0)
+        → (file : ℕ) → IsLongest newest.now file (len_in lens.new file) }
+{
+    for (key, entry) in newest.iter() {
+        raise(lens, key.file, entry.len);
     }
+}
+
+// Makes a file at least so long; `false`, and no change, where there is no room for it.
+fn raise(lens: &mut HashMap<u32, u64>, file: u32, len: u64) -> bool
+    ensures raised { IsTrue result → (f : ℕ) → len_in lens.new f ≡ (if f == file then max (len_in lens.old f) len else len_in lens.old f) }
+    ensures same { IsFalse result → (f : ℕ) → len_in lens.new f ≡ len_in lens.old f }
+    ensures succeeds { 0 < spare lens.old → IsTrue result }
+    ensures spare { spare lens.old ≤ spare lens.new + 1 }
+{
+    let old = lens.get(&file).copied().unwrap_or(0);
+    lens.insert(file, old.max(len)).is_ok()
+}
+
+/// Where the last byte other than zero of a record ends in its file.
+pub fn end_of_bytes(key: FilePage, newest: Newest) -> u64 {
+    if newest.filled == 0 {
+        return 0;
+    }
+    key.page
+        .saturating_mul(256)
+        .saturating_add(newest.filled as u64)
+}
+
+// How many pages it takes to move a newest record.
+fn load_of_one(newest: Newest) -> u32 {
+    if newest.rivalled { 2 } else { 1 }
 }

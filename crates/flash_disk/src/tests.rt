@@ -201,3 +201,138 @@ fn a_stop_at_each_call(rt: HostRuntime) {
         assert!(rt; stops_well(rt.alloc(), calls) == Some(true));
     }
 }
+
+// A record that this program did not write: page `page` of a file of `len` bytes, each of them this byte.
+fn foreign_record(
+    place: Place,
+    sequence: u64,
+    file: u32,
+    page: u32,
+    len: u64,
+    byte: u8,
+) -> Foreign {
+    Foreign {
+        place,
+        bytes: record_page(sequence.max(1), file, page, len, &[byte; 256]),
+    }
+}
+
+#[derive(Clone, Copy)]
+struct Foreign {
+    place: Place,
+    bytes: [u8; 512],
+}
+
+// A page of a flash of four blocks.
+fn page_at(block: u32, page: u32) -> Place {
+    Place { block, page }
+}
+
+// Adds a record to a flash, through a disk that is not used otherwise.
+fn plant(disk: &mut FlashDisk<MemFlash>, record: Foreign) -> bool {
+    disk.program_page(record.place, &record.bytes) == Ok(true)
+}
+
+// Whether these bytes of a file are all this byte.
+fn reads(disk: &mut FlashDisk<MemFlash>, file: u32, at: u64, count: usize, byte: u8) -> bool {
+    let mut bytes = [9; 600];
+    let count = count.min(600);
+    disk.read(file, at, &mut bytes[..count]) == Ok(count)
+        && bytes[..count].iter().all(|b| *b == byte)
+}
+
+#[test]
+fn bytes_past_an_old_end_do_not_show(rt: HostRuntime) {
+    let made = fresh(rt.alloc(), 4);
+    assert!(rt; made.is_some());
+    let Some(mut disk) = made else { return };
+    assert!(rt;
+        plant(&mut disk, foreign_record(page_at(0, 0), 1, 1, 0, 3, 7))
+            && plant(&mut disk, foreign_record(page_at(0, 1), 1, 1, 1, 3, 7))
+    );
+    let again = reopened(rt.alloc(), disk);
+    assert!(rt; again.is_some());
+    let Some(mut disk) = again else { return };
+    assert!(rt; disk.size(1) == Ok(3) && disk.write_at(1, 600, b"z").is_ok());
+    assert!(rt; reads(&mut disk, 1, 0, 3, 7) && reads(&mut disk, 1, 3, 597, 0));
+    let again = reopened(rt.alloc(), disk);
+    assert!(rt; again.is_some());
+    let Some(mut disk) = again else { return };
+    assert!(rt; reads(&mut disk, 1, 0, 3, 7) && reads(&mut disk, 1, 3, 597, 0));
+}
+
+// So many writes of one byte into 64 pages of file 9, one after the other; whether all were Ok.
+fn churns(disk: &mut FlashDisk<MemFlash>, writes: u32) -> bool {
+    for k in 0..writes {
+        if disk.write_at(9, 256 * (k % 64) as u64, &[3]).is_err() {
+            return false;
+        }
+    }
+    true
+}
+
+// Four blocks, of which the first two have a page of file 1 with one number and other bytes, and the second ten pages of file 2.
+fn plant_rivals(disk: &mut FlashDisk<MemFlash>) -> bool {
+    let mut done = plant(disk, foreign_record(page_at(0, 0), 5, 1, 0, 256, 1));
+    done = plant(disk, foreign_record(page_at(1, 0), 5, 1, 0, 256, 2)) && done;
+    for page in 1..11 {
+        done = plant(disk, foreign_record(page_at(1, page), 5, 2, page, 4096, 4)) && done;
+    }
+    done
+}
+
+#[test]
+fn the_first_of_two_rivals_stays(rt: HostRuntime) {
+    let made = fresh(rt.alloc(), 4);
+    assert!(rt; made.is_some());
+    let Some(mut disk) = made else { return };
+    assert!(rt; plant_rivals(&mut disk));
+    let again = reopened(rt.alloc(), disk);
+    assert!(rt; again.is_some());
+    let Some(mut disk) = again else { return };
+    assert!(rt; churns(&mut disk, 200) && reads(&mut disk, 1, 0, 256, 1));
+    let again = reopened(rt.alloc(), disk);
+    assert!(rt; again.is_some());
+    let Some(mut disk) = again else { return };
+    assert!(rt; reads(&mut disk, 1, 0, 256, 1) && disk.own_faults() == 0);
+}
+
+// Three blocks of 42 newest records each, of which 22 have a rival in the next block.
+fn plant_loads(disk: &mut FlashDisk<MemFlash>) -> bool {
+    let mut done = true;
+    for block in 0..3 {
+        for page in 0..42 {
+            done = plant(
+                disk,
+                foreign_record(page_at(block, page), 1, block, page, 16_384, 1),
+            ) && done;
+        }
+    }
+    for block in 0..3 {
+        for page in 0..22 {
+            let place = page_at(block + 1, page + 42);
+            done = plant(disk, foreign_record(place, 1, block, page, 16_384, 2)) && done;
+        }
+    }
+    done
+}
+
+#[test]
+fn blocks_that_take_a_whole_block_to_move(rt: HostRuntime) {
+    let made = fresh(rt.alloc(), 4);
+    assert!(rt; made.is_some());
+    let Some(mut disk) = made else { return };
+    assert!(rt; plant_loads(&mut disk));
+    let again = reopened(rt.alloc(), disk);
+    assert!(rt; again.is_some());
+    let Some(mut disk) = again else { return };
+    assert!(rt; repeated(&mut disk, 300) == 300 && disk.own_faults() == 0);
+    let again = reopened(rt.alloc(), disk);
+    assert!(rt; again.is_some());
+    let Some(mut disk) = again else { return };
+    assert!(rt;
+        reads(&mut disk, 0, 256 * 21, 256, 1)
+            && reads(&mut disk, 2, 0, 256, 1)
+            && reads(&mut disk, 1, 256, 256, 1)
+    );
+}

@@ -1,2 +1,3 @@
 pub mod PageRecord
 pub mod Stated
+pub mod Blank

@@ -10,3 +10,4 @@ invariant-loop-page g l = ((g.F.Flash.medium l.initial.self.flash).faults ≤ (g
     × (limit_of l.self.table ≡ limit_of l.initial.self.table)
     × (g.F.Flash.told ≡ true → HasLearnt (g.F.Flash.medium l.initial.self.flash).state.pages (64 * l.block) l.initial.self.table
     → HasLearnt (g.F.Flash.medium l.initial.self.flash).state.pages (64 * l.block + l.page) l.self.table)
+    × (l.self.table.lens ≡ l.initial.self.table.lens)

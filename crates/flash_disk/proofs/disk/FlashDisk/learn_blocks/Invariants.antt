@@ -9,3 +9,4 @@ invariant-loop-block g l = ((g.F.Flash.medium l.initial.self.flash).faults ≤ (
     × ((g.F.Flash.medium l.self.flash).blocks ≡ (g.F.Flash.medium l.initial.self.flash).blocks)
     × (limit_of l.self.table ≡ limit_of l.initial.self.table)
     × (g.F.Flash.told ≡ true → HasLearnt (g.F.Flash.medium l.initial.self.flash).state.pages (64 * l.block) l.self.table)
+    × (l.self.table.lens ≡ l.initial.self.table.lens)

@@ -18,7 +18,7 @@ returns-in_default-find-clause-learns g c told learnt =
     let none : known old (page_of r) ≡ None = ap (λ t. known t (page_of r)) (sym c.in_ok-read_page.ensures.table) ∙ (sym c.find.ensures ∙ c.in_default-find.is) in
     let entry = c.newest_at.ensures in
     put_learns pages n r here old c.read_page.new.self.table c.put.new.self (page_of r) c.newest_at.result c.put.result c.in_ok-read_page.ensures.table refl learnt
-    (first pages n r here old c.newest_at.result learnt none (rw entry (refl, c.requires.page, refl, refl, refl)))
+    (first pages n r here old c.newest_at.result learnt none (ap number entry.place, rw entry.place c.requires.page, entry.sequence, entry.len, entry.twin))
     c.put.ensures.full c.put.ensures.put
 
 pub returns-then-old-record-clause-learns : goal.returns-then-old-record-clause-learns
@@ -33,7 +33,7 @@ returns-then-old-record-clause-learns g c told learnt =
     let entry = c.newest_at-then-old-record.ensures in
     put_learns pages n r here old c.read_page.new.self.table c.put-then-old-record.new.self (page_of r) c.newest_at-then-old-record.result c.put-then-old-record.result
     c.in_ok-read_page.ensures.table refl learnt
-    (newer_one pages n r here old c.in-Some-find.old learnt is c.newest_at-then-old-record.result (rw entry (refl, c.requires.page, refl, refl, refl)) c.if-old-record.true)
+    (newer_one pages n r here old c.in-Some-find.old learnt is c.newest_at-then-old-record.result (ap number entry.place, rw entry.place c.requires.page, entry.sequence, entry.len, entry.twin) c.if-old-record.true)
     c.put-then-old-record.ensures.full c.put-then-old-record.ensures.put
 
 pub returns-then-old-record-2-clause-learns : goal.returns-then-old-record-2-clause-learns

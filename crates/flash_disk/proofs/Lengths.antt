@@ -1,0 +1,83 @@
+-- The greatest length that the entries of a table say for a file.
+use Rattle.std.proofs.Common.{◌≡◌, ◌⊎◌, ℕ, ◌≤◌, List, [], ◌∷◌, Bool, true, false, cond, refl, sym, ap, subst, ◌∙◌, inl, inr, ⊎_elim, arith, eq-eqb}
+use Rattle.std.specs.Prelude.{Some, None, nat_eq, max}
+use Rattle.std.specs.List.{IsDistinct, AllByRecursion}
+use Rattle.std.specs.Map.{keys_of, lookup}
+use Rattle.std.proofs.lemmas.Bool.{cases_lt, eqb-true}
+use Rattle.std.proofs.lemmas.Option.{same_Some, none-some}
+use Rattle.flash_disk.specs.declared.table.FilePage.{FilePage}
+use Rattle.flash_disk.specs.declared.table.Newest.{Newest}
+use Rattle.flash_disk.specs.Known.{same_page}
+use Rattle.flash_disk.proofs.Learning.{same_page_is, same_page_refl}
+
+abbrev pub Entry : Type 0
+Entry = FilePage × Newest
+
+-- the greatest length that one of these entries says for a page of the file
+abbrev pub longest : ℕ → List Entry → ℕ
+longest file [] = 0
+longest file (e ∷ es) = cond (nat_eq file e.0.file) (max e.1.len (longest file es)) (longest file es)
+
+-- a key that differs from all keys is not found
+not_found : (k : FilePage) (es : List Entry) → AllByRecursion (λ y. same_page k y ≡ false) (keys_of es) → lookup (same_page k) es ≡ None
+not_found k [] none = refl
+not_found k (e ∷ es) none = rw none.0 (not_found k es none.1)
+
+module _ (file : ℕ) where
+  rest_by : (len rest : ℕ) (b : Bool) → rest ≤ cond b (max len rest) rest
+  rest_by len rest true = omega arith
+  rest_by len rest false = omega arith
+
+  own_by : (e : Entry) (rest : ℕ) → e.0.file ≡ file → e.1.len ≤ cond (nat_eq file e.0.file) (max e.1.len rest) rest
+  own_by e rest is = rw (eq-eqb file e.0.file (sym is)) (omega arith)
+
+  most_step : (e : Entry) (es : List Entry) (key : FilePage) (entry : Newest) (b : Bool) → same_page key e.0 ≡ b
+      → (lookup (same_page key) es ≡ Some entry → entry.len ≤ longest file es) → key.file ≡ file
+      → cond b (Some e.1) (lookup (same_page key) es) ≡ Some entry → entry.len ≤ longest file (e ∷ es)
+  most_step e es key entry true same less of_file found =
+      let own = own_by e (longest file es) (ap (λ k. k.file) (sym (same_page_is key e.0 same)) ∙ of_file) in
+      subst (λ (w : Newest). w.len ≤ longest file (e ∷ es)) (same_Some e.1 entry found) own
+  most_step e es key entry false other less of_file found =
+      let le = less found in let more = rest_by e.1.len (longest file es) (nat_eq file e.0.file) in omega (arith, le, more)
+
+  pub most : (es : List Entry) (key : FilePage) (entry : Newest) → lookup (same_page key) es ≡ Some entry → key.file ≡ file → entry.len ≤ longest file es
+  most [] key entry found of_file = absurd (none-some entry found)
+  most (e ∷ es) key entry found of_file = most_step e es key entry (same_page key e.0) refl (λ there. most es key entry there of_file) of_file found
+
+  abbrev pub Says : List Entry → ℕ → Type 0
+  Says es len = (len ≡ 0) ⊎ ((key : FilePage) × (entry : Newest) × (lookup (same_page key) es ≡ Some entry) × (key.file ≡ file) × (len ≡ entry.len))
+
+  lift_by : (e : Entry) (es : List Entry) → AllByRecursion (λ y. same_page e.0 y ≡ false) (keys_of es) → (key : FilePage) (entry : Newest)
+      → lookup (same_page key) es ≡ Some entry → (b : Bool) → same_page key e.0 ≡ b → cond b (Some e.1) (lookup (same_page key) es) ≡ Some entry
+  lift_by e es apart key entry found true same = absurd (none-some entry
+      (sym (not_found e.0 es apart) ∙ subst (λ k. lookup (same_page k) es ≡ Some entry) (same_page_is key e.0 same) found))
+  lift_by e es apart key entry found false other = found
+
+  lift : (e : Entry) (es : List Entry) → AllByRecursion (λ y. same_page e.0 y ≡ false) (keys_of es) → (len : ℕ) → Says es len → Says (e ∷ es) len
+  lift e es apart len says = ⊎_elim
+      (λ none. inl none)
+      (λ some. inr (some.0, some.1, lift_by e es apart some.0 some.1 some.2 (same_page some.0 e.0) refl, some.3, some.4))
+      says
+
+  one_step : (e : Entry) (es : List Entry) → AllByRecursion (λ y. same_page e.0 y ≡ false) (keys_of es) → Says es (longest file es)
+      → (b : Bool) → nat_eq file e.0.file ≡ b → Says (e ∷ es) (cond b (max e.1.len (longest file es)) (longest file es))
+  one_step e es apart says false other = lift e es apart (longest file es) says
+  one_step e es apart says true of_file = ⊎_elim
+      (λ less. let same : longest file es ≡ max e.1.len (longest file es) = omega arith in subst (Says (e ∷ es)) same (lift e es apart (longest file es) says))
+      (λ more. let same : e.1.len ≡ max e.1.len (longest file es) = omega arith in subst (Says (e ∷ es)) same
+      (inr (e.0, e.1, rw (same_page_refl e.0) refl, sym (eqb-true file e.0.file of_file), refl)))
+      (cases_lt e.1.len (longest file es))
+
+  pub one : (es : List Entry) → IsDistinct same_page (keys_of es) → Says es (longest file es)
+  unfolding IsDistinct
+  one [] distinct = inl refl
+  one (e ∷ es) distinct = one_step e es distinct.0 (one es distinct.1) (nat_eq file e.0.file) refl
+
+-- one entry more is taken
+taken_by : (was now len rest : ℕ) (b : Bool) → now ≡ cond b (max was len) was → max now rest ≡ max was (cond b (max len rest) rest)
+taken_by was now len rest true is = omega (arith, is)
+taken_by was now len rest false is = omega (arith, is)
+
+pub taken : (f was now : ℕ) (e : Entry) (es : List Entry) → now ≡ cond (nat_eq f e.0.file) (max was e.1.len) was
+    → max now (longest f es) ≡ max was (longest f (e ∷ es))
+taken f was now e es is = taken_by was now e.1.len (longest f es) (nat_eq f e.0.file) is

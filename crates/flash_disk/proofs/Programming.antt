@@ -1,0 +1,191 @@
+-- What a newer record makes of the newest records, once it is programmed where no record was.
+use Rattle.std.proofs.Common.{◌≡◌, ◌⊎◌, ℕ, ◌+◌, ◌*◌, ◌/◌, ◌%◌, ◌<◌, List, Bool, true, false, cond, refl, sym, ap, subst, ◌∙◌, inl, inr, ⊎_elim, arith, true≢false, eq-eqb}
+use Rattle.std.specs.Prelude.{Option, Some, None, nat_eq, ◌&&◌}
+use Rattle.std.proofs.lemmas.Bool.{cases_lt, cases_eq, eqb-true}
+use Rattle.std.proofs.lemmas.Option.{same_Some, none-some}
+use Rattle.flash_model.specs.Pages.{Pages}
+use Rattle.flash_record.specs.PageRecord.{PageRecord, record_in}
+use Rattle.flash_disk.specs.Newest.{Placed, record_at, is_of, newest, places, IsNewest, IsNewestOf}
+use Rattle.flash_disk.specs.NewestLaws.{newest_is}
+use Rattle.flash_disk.specs.declared.table.FilePage.{FilePage}
+use Rattle.flash_disk.specs.declared.table.Place.{Place}
+use Rattle.flash_disk.specs.declared.table.Newest.{Newest}
+use Rattle.flash_disk.specs.declared.table.Table.{Table}
+use Rattle.flash_disk.specs.Known.{same_page, page_of, known, limit_of, Puts}
+use Rattle.flash_disk.specs.Learnt.{number, TwinSays, Led, LedOf, IsLed, Adds, Tops, ProgramsIf, HasWritten}
+use Rattle.flash_disk.proofs.Learning.{same_page_is}
+use Rattle.flash_disk.proofs.Leading.{same_newest}
+use Rattle.flash_record.specs.Blank.{blank_is_none}
+
+module _ (pages : Pages) (file page n : ℕ) where
+  same_place : (x y : Placed) → IsNewest pages file page n x → IsNewest pages file page n y → x.place < y.place → ⊥
+  same_place x y is_x is_y before =
+      let less = is_y.first x.place x.says before is_x.there is_x.of_page in
+      let most = is_x.most y.place y.says is_y.within is_y.there is_y.of_page in omega (arith, less, most)
+
+  same_placed : (x y : Placed) → IsNewest pages file page n x → IsNewest pages file page n y → x ≡ y
+  same_placed x y is_x is_y =
+      let place : x.place ≡ y.place = ⊎_elim
+      (λ before. absurd (same_place x y is_x is_y before))
+      (λ late. ⊎_elim (λ after. absurd (same_place y x is_y is_x after)) (λ early. let e : x.place ≡ y.place = omega arith in e) (cases_lt y.place x.place))
+      (cases_lt x.place y.place) in
+      let says : x.says ≡ y.says = same_Some x.says y.says (sym is_x.there ∙ (ap (record_at pages) place ∙ is_y.there)) in
+      ap (λ p. let z : Placed = record { place = p; says = x.says } in z) place ∙ ap (λ q. let z : Placed = record { place = y.place; says = q } in z) says
+
+  -- a page has one newest record
+  pub one_newest : (a b : Option Placed) → IsNewestOf pages file page n a → IsNewestOf pages file page n b → a ≡ b
+  one_newest None None is_a is_b = refl
+  one_newest None (Some y) is_a is_b = absurd (is_a y.place y.says is_b.within is_b.there is_b.of_page)
+  one_newest (Some x) None is_a is_b = absurd (is_b x.place x.says is_a.within is_a.there is_a.of_page)
+  one_newest (Some x) (Some y) is_a is_b = ap Some (same_placed x y is_a is_b)
+
+both_false : (a b : Bool) → (a ≡ true → b ≡ true → ⊥) → (a && b) ≡ false
+both_false true true never = absurd (never refl refl)
+both_false true false never = refl
+both_false false b never = refl
+
+module _ (old new : Pages) (n : ℕ) (place : Place) (r : PageRecord) (adds : Adds old new n place r) where
+  abbrev pub placed : Placed
+  placed = record { place = number place; says = r }
+
+  -- where a record was it is still
+  pub still : (j : ℕ) (q : PageRecord) → record_at old j ≡ Some q → record_at new j ≡ Some q
+  still j q there = adds.elsewhere j (λ same. none-some q (sym adds.nothing ∙ subst (λ k. record_at old k ≡ Some q) same there)) ∙ there
+
+  -- a record is the one that was added, or was there
+  pub either : (j : ℕ) (q : PageRecord) → record_at new j ≡ Some q → ((j ≡ number place) × (q ≡ r)) ⊎ (record_at old j ≡ Some q)
+  either j q there = ⊎_elim
+      (λ same. inl (same, same_Some q r (sym (subst (λ k. record_at new k ≡ Some q) same there) ∙ adds.here)))
+      (λ apart. inr (sym (adds.elsewhere j apart) ∙ there))
+      (cases_eq j (number place))
+
+  own_page : is_of r.file r.page r ≡ true
+  own_page = rw (eq-eqb r.file r.file refl, eq-eqb r.page r.page refl) refl
+
+  -- it is the newest of its page
+  pub newest_here : newest new r.file r.page n ≡ Some placed
+  newest_here = one_newest new r.file r.page n (newest new r.file r.page n) (Some placed) (newest_is new r.file r.page n) (record {
+    of_page = own_page;
+    within = adds.within;
+    there = adds.here;
+    most = λ j q inside there of_page. ⊎_elim
+        (λ own. (let e : q.sequence ≡ r.sequence = ap (λ z. z.sequence) own.1 in omega (arith, e)))
+        (λ was. (let less = adds.newer j q inside was in omega (arith, less)))
+        (either j q there);
+    first = λ j q before there of_page. ⊎_elim
+        (λ own. (let e = own.0 in absurd (omega (arith, e, before))))
+        (λ was. (let within = adds.within in adds.newer j q (omega (arith, before, within)) was))
+        (either j q there);
+  })
+
+  kept : (file page : ℕ) → is_of file page r ≡ false → (best : Option Placed) → IsNewestOf old file page n best → IsNewestOf new file page n best
+  kept file page other None none = λ j q inside there of_page. ⊎_elim
+      (λ own. true≢false (sym of_page ∙ (ap (is_of file page) own.1 ∙ other)))
+      (λ was. none j q inside was of_page)
+      (either j q there)
+  kept file page other (Some x) is_newest = record {
+    of_page = is_newest.of_page;
+    within = is_newest.within;
+    there = still x.place x.says is_newest.there;
+    most = λ j q inside there of_page. ⊎_elim
+        (λ own. absurd (true≢false (sym of_page ∙ (ap (is_of file page) own.1 ∙ other))))
+        (λ was. is_newest.most j q inside was of_page)
+        (either j q there);
+    first = λ j q before there of_page. ⊎_elim
+        (λ own. absurd (true≢false (sym of_page ∙ (ap (is_of file page) own.1 ∙ other))))
+        (λ was. is_newest.first j q before was of_page)
+        (either j q there);
+  }
+
+  -- every other page keeps its newest record
+  pub newest_elsewhere : (file page : ℕ) → is_of file page r ≡ false → newest new file page n ≡ newest old file page n
+  newest_elsewhere file page other = one_newest new file page n (newest new file page n) (newest old file page n) (newest_is new file page n)
+      (kept file page other (newest old file page n) (newest_is old file page n))
+
+  twin_kept : (x : Placed) → x.says.sequence < r.sequence → (twin : Option Place) → TwinSays old n x twin → TwinSays new n x twin
+  twin_kept x older None alone = λ j copy. ⊎_elim
+      (λ own. (let e : x.says.sequence ≡ r.sequence = ap (λ z. z.sequence) own.1 in omega (arith, e, older)))
+      (λ was. alone j (record { within = copy.within; apart = copy.apart; same = was }))
+      (either j x.says copy.same)
+  twin_kept x older (Some t) twin = (twin.0, record { within = twin.1.within; apart = twin.1.apart; same = still (number t) x.says twin.1.same })
+
+  led_kept : (file page : ℕ) (e : Option Newest) (best : Option Placed) → IsNewestOf old file page n best → LedOf old n e best → LedOf new n e best
+  led_kept file page None None is led = led
+  led_kept file page None (Some x) is led = led
+  led_kept file page (Some e) None is led = led
+  led_kept file page (Some e) (Some x) is led = record {
+    within = led.within;
+    leads = record { small = led.leads.small; there = still (number e.place) x.says led.leads.there; sequence = led.leads.sequence; len = led.leads.len };
+    twin = twin_kept x (adds.newer x.place x.says is.within is.there) e.twin led.twin;
+  }
+
+  -- the entry of the record itself
+  abbrev pub IsItsEntry : Newest → Type 0
+  IsItsEntry e = (e.place ≡ place) × (e.sequence ≡ r.sequence) × (e.len ≡ r.len) × (e.twin ≡ None)
+
+  led_here : (e : Newest) → IsItsEntry e → Led new n e placed
+  led_here e (at, sequence, len, twin) = record {
+    within = subst (λ p. number p < n) (sym at) adds.within;
+    leads = record { small = subst (λ (p : Place). p.page < 64) (sym at) adds.small; there = ap (λ p. record_at new (number p)) at ∙ adds.here; sequence = sequence; len = len };
+    twin = subst (TwinSays new n placed) (sym twin) (λ j copy. ⊎_elim
+        (λ own. copy.apart (ap (λ k. k / 64) own.0))
+        (λ was. (let less = adds.newer j r copy.within was in omega (arith, less)))
+        (either j r copy.same));
+  }
+
+  by_key : (table : Table) (e : Newest) → IsItsEntry e → IsLed old n table → (key : FilePage) (b : Bool) → same_page (page_of r) key ≡ b
+      → LedOf new n (cond b (Some e) (known table key)) (newest new key.file key.page n)
+  by_key table e is led key true same = subst (λ k. LedOf new n (Some e) (newest new k.file k.page n)) (same_page_is (page_of r) key same)
+      (subst (LedOf new n (Some e)) (sym newest_here) (led_here e is))
+  by_key table e is led key false other = subst (LedOf new n (known table key)) (sym (newest_elsewhere key.file key.page other))
+      (led_kept key.file key.page (known table key) (newest old key.file key.page n) (newest_is old key.file key.page n) (led.says key))
+
+  -- the table leads to it once its entry is put in
+  pub added : (table after : Table) (e : Newest) → IsItsEntry e → IsLed old n table → Puts table after (page_of r) e → IsLed new n after
+  added table after e is led puts = record {
+    says = λ key. subst (λ k. LedOf new n k (newest new key.file key.page n)) (sym (puts.known_is key)) (by_key table e is led key (same_page (page_of r) key) refl);
+    room = puts.room led.room;
+    fits = puts.fits led.fits;
+  }
+
+  -- the lengths of files matter to no entry
+  pub same_led : (table after : Table) → after.newest ≡ table.newest → limit_of after ≡ limit_of table → IsLed new n table → IsLed new n after
+  same_led table after same limit led = same_newest new n table after led same limit
+
+  -- no record has a greater number than it
+  pub tops_after : Tops new n r.sequence
+  tops_after = λ j q inside there. ⊎_elim
+      (λ own. (let e : q.sequence ≡ r.sequence = ap (λ z. z.sequence) own.1 in omega (arith, e)))
+      (λ was. (let less = adds.newer j q inside was in omega (arith, less)))
+      (either j q there)
+
+-- a record that is programmed over a blank page, with a number above all, is added
+pub adds_by : (old new : Pages) (blocks : ℕ) (place : Place) (bytes : List ℕ) (r : PageRecord) (top : ℕ) → ProgramsIf true place blocks bytes old new
+    → record_in bytes ≡ Some r → Tops old (places blocks) top → r.sequence ≡ top + 1 → Adds old new (places blocks) place r
+adds_by old new blocks place bytes r top (block, small, blank, done) is tops sequence =
+    let b : number place / 64 ≡ place.block = omega (arith, small) in
+    let p : number place % 64 ≡ place.page = omega (arith, small) in
+    let was : record_at old (number place) ≡ None = rw (b, p) (ap record_in blank ∙ blank_is_none) in
+    let own : (nat_eq (number place / 64) place.block && nat_eq (number place % 64) place.page) ≡ true =
+    rw (eq-eqb (number place / 64) place.block b, eq-eqb (number place % 64) place.page p) refl in record {
+      small = small;
+      within = omega (arith, small, block);
+      nothing = was;
+      here = ap (λ f. record_at f (number place)) done
+          ∙ (ap (λ t. record_in (cond t bytes (old (number place / 64) (number place % 64)))) own ∙ is);
+      elsewhere = λ j apart. ap (λ f. record_at f j) done ∙ ap (λ t. record_in (cond t bytes (old (j / 64) (j % 64))))
+          (both_false (nat_eq (j / 64) place.block) (nat_eq (j % 64) place.page)
+          (λ x y. apart (let u : j / 64 ≡ place.block = eqb-true (j / 64) place.block x in let v : j % 64 ≡ place.page = eqb-true (j % 64) place.page y in
+          let e : j ≡ 64 * place.block + place.page = omega (arith, u, v) in e)));
+      newer = λ j q inside there. (let le = tops j q inside there in omega (arith, le, sequence));
+    }
+
+-- what a call that adds a record leaves
+pub written_by : (old new : Pages) (n : ℕ) (place : Place) (r : PageRecord) → Adds old new n place r → (table : Table) (top : ℕ) → IsLed new n table → top ≡ r.sequence
+    → HasWritten old new n (page_of r) r.len r.bytes table top
+written_by old new n place r adds table top led top_is = record {
+  led = led;
+  tops = subst (Tops new n) (sym top_is) (tops_after old new n place r adds);
+  record_is = (placed old new n place r adds, newest_here old new n place r adds, refl, refl);
+  elsewhere = λ file page other. newest_elsewhere old new n place r adds file page other;
+}

@@ -1,0 +1,7 @@
+use Rattle.std.proofs.Common.{◌≢◌, ℕ, ◌≤◌, ◌<◌}
+use Rattle.flash_disk.specs.Known.{load_known}
+use Rattle.flash_disk.proofs.table.Table.lightest_but.Given as goal
+
+abbrev pub invariant-loop-block : goal.invariant-loop-block
+invariant-loop-block l = (l.best ≢ l.but → l.best < l.self.blocks)
+    × ((b : ℕ) → b < l.block → b ≢ l.but → (l.best ≢ l.but) × (load_known l.self l.best ≤ load_known l.self b))
