@@ -308,13 +308,13 @@ module _ (told : Bool) (store : Store) (changes : List Change) (now : List Bool)
 
   all_listed : (kind : StoreKind) (es : List IndexEntry) (fs : List Entry) → AllByRecursion (IsEntry 2 kind) es
       → AllZip (λ e f. IsWrittenBy jobs e f ⊎ IsCarriedOver store.index (view_in store) e f) es fs → sum_by (entry_length 2 kind) es ≡ sum_by (listed_length kind) fs
-  all_listed kind [] [] rules zip = refl
-  all_listed kind [] (f ∷ fs) rules zip = absurd zip
-  all_listed kind (e ∷ es) [] rules zip = absurd zip
-  all_listed kind (e ∷ es) (f ∷ fs) rules zip =
-      let headed : IsHeadedBy e f = ⊎_elim (λ written. written.headed) (λ carried. carried.headed) zip.0 in
-      sum_by-cons (entry_length 2 kind) e es ∙ ap (λ (n : ℕ). n + sum_by (entry_length 2 kind) es) (listed kind e f rules.0 headed)
-      ∙ ap (λ (n : ℕ). listed_length kind f + n) (all_listed kind es fs rules.1 zip.1) ∙ sym (sum_by-cons (listed_length kind) f fs)
+  all_listed kind [] [] each pairs = refl
+  all_listed kind [] (f ∷ fs) each pairs = absurd pairs
+  all_listed kind (e ∷ es) [] each pairs = absurd pairs
+  all_listed kind (e ∷ es) (f ∷ fs) each pairs =
+      let headed : IsHeadedBy e f = ⊎_elim (λ written. written.headed) (λ carried. carried.headed) pairs.0 in
+      sum_by-cons (entry_length 2 kind) e es ∙ ap (λ (n : ℕ). n + sum_by (entry_length 2 kind) es) (listed kind e f each.0 headed)
+      ∙ ap (λ (n : ℕ). listed_length kind f + n) (all_listed kind es fs each.1 pairs.1) ∙ sym (sum_by-cons (listed_length kind) f fs)
 
   pub commit_length : next.format ≡ 2 → length (index_text next) ≡ index_length store.shape.kind (committed_by store.shape (view_in store) changes).entries
   commit_length two =
