@@ -1,0 +1,3 @@
+pub mod FileSessions
+pub mod Scopes
+pub mod Syncs
