@@ -1,0 +1,59 @@
+-- What makes one map of elements into another, as the changes of a commit.
+use Rattle.std.specs.Prelude.{◌≡◌, ℕ, List, map, Bool, false, cond, ◌&&◌, nat_eq, Option, None, Some}
+use Rattle.std.specs.List.Sorted.{IsStrictlySortedBy}
+use Rattle.std.specs.Str.{bytes_eq}
+use Rattle.per_base.specs.declared.elements.Content.{Content}
+use Rattle.per_base.specs.declared.elements.Content.TheVariants.{Good, Bad}
+use Rattle.per_base.specs.declared.elements.Element.{Element}
+use Rattle.per_base.specs.declared.elements.FileInfo.{FileInfo}
+use Rattle.per_base.specs.Maps.{Map, element_at}
+use Rattle.per_base.specs.Names.{name_cmp}
+use Rattle.element_state.specs.declared.shapes.Change.{Change}
+use Rattle.element_state.specs.declared.shapes.Change.TheVariants.{Put, Remove, Touch}
+use Rattle.element_state.specs.Changes.{item_at, same_element}
+use Rattle.element_state.specs.Conditions.{changed_name}
+use Rattle.element_state.specs.Written.{bytes_of}
+
+-- both can be read, and have the same bytes
+abbrev pub same_value : Content → Content → Bool
+same_value (Good old) (Good new) = bytes_eq old new
+same_value (Good old) (Bad salvage) = false
+same_value (Bad salvage) new = false
+
+abbrev pub same_bytes : Element → Element → Bool
+same_bytes old new = nat_eq old.len new.len && same_value old.content new.content
+
+-- all of an element
+abbrev pub put : List ℕ → Element → Change
+put name new = Put (record { name = name; info = new.info; bytes = bytes_of new.content })
+
+-- its info, where it has one
+abbrev pub touch : List ℕ → Element → Option FileInfo → Change
+touch name new None = put name new
+touch name new (Some info) = Touch name info
+
+-- for one that stands and differs: the info where the bytes are the same
+abbrev pub replacement : List ℕ → Element → Element → Change
+replacement name old new = cond (same_bytes old new) (touch name new new.info) (put name new)
+
+abbrev pub removal : List ℕ → Option Element → Option Change
+removal name None = None
+removal name (Some old) = Some (Remove name)
+
+abbrev pub arrival : List ℕ → Option Element → Element → Option Change
+arrival name None new = Some (put name new)
+arrival name (Some old) new = cond (same_element old new) None (Some (replacement name old new))
+
+-- what is to be done at a name where the one element stands and the other shall, and nothing where both are the same
+abbrev pub difference : List ℕ → (old new : Option Element) → Option Change
+difference name old None = removal name old
+difference name old (Some new) = arrival name old new
+
+-- the change of this name
+abbrev pub change_at : List ℕ → List Change → Option Change
+change_at name changes = item_at changed_name name changes
+
+-- the changes that make the first map into the second: in the order of the names, and exactly where the two differ
+pub record MakeInto (changes : List Change) (old new : Map) : Type 0 where
+  pub names_ascend : IsStrictlySortedBy name_cmp (map changed_name changes)
+  pub exact : (name : List ℕ) → change_at name changes ≡ difference name (element_at old name) (element_at new name)
