@@ -1,6 +1,9 @@
 //! The calls by name.
 
-ghost use Rattle.std.specs.Prelude.{◌≡◌, IfErr, IfOk, OnErr, OnOk, Ok, Err};
+ghost use Rattle.std.specs.Prelude.{◌≡◌, ◌≤◌, length, ⊤, MatchOption, option_copied, IfErr, IfOk, OnErr, OnOk, Ok, Err};
+ghost use Rattle.per_base.specs.declared.elements.StoreKind.TheVariants.{Files};
+ghost use Rattle.deployment_model.specs.Conditions.{IsStorage};
+ghost use Rattle.deployment_model.specs.Data.{storage_data};
 ghost use Rattle.per_base.specs.Maps.{has, names_of, size_of};
 ghost use Rattle.deployment_model.specs.Lookups.{initial_of};
 ghost use Rattle.file_core.specs.Refusals.{IsRefusal};
@@ -8,6 +11,7 @@ ghost use Rattle.file_handles.specs.ByName as calls;
 ghost use Rattle.file_storage.specs.FileSessions.{storage_of};
 
 use crate::files::Files;
+use deployment_model::StorageConfig;
 use per_base::{FileInfo, Name, PerError};
 
 impl Files {
@@ -100,5 +104,19 @@ impl Files {
     {
         let initial = initial_content(&self.config, name);
         self.table.reset_file(name, now, initial)
+    }
+}
+
+/// What the file of this name starts with.
+#[tactic(auto, using(crate::proofs::Initials::initial_small))]
+fn initial_content<'a>(config: &'a StorageConfig, name: &Name) -> Option<&'a [u8]>
+    requires valid { IsStorage (storage_data config.now) }
+    requires of_files { config.now.kind ≡ Files }
+    ensures initial { option_copied result ≡ initial_of (storage_data config.now) name.now }
+    ensures small { MatchOption (option_copied result) ⊤ (λ bytes. length bytes ≤ 1048576) }
+{
+    match config.initial(name) {
+        Some(bytes) => Some(bytes.as_slice()),
+        None => None,
     }
 }

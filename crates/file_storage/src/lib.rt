@@ -12,11 +12,16 @@
 #![tactic(auto)]
 
 mod by_name;
+mod changing;
+mod differences;
 mod files;
 mod handling;
 mod opening;
+mod opening_files;
 mod scoped;
+mod syncing;
 
 pub use files::Files;
 pub use opening::{OpenedFiles, open_files};
 pub use scoped::Scoped;
+pub use syncing::{Closed, FilesFault, FilesOutcome};

@@ -39,11 +39,22 @@ impl Files {
         ensures others { IfOk result (λ scoped. without_handle scoped.files.now.session.handles scoped.handle ≡ self.old.session.handles) }
         ensures refused { IfErr result (λ error. IsRefusal (opening.open_file (storage_of self.old.config) self.old.session name.now kind mode now) error) }
     {
+        self.table.holds();
         let handle = self.open_file(name, kind, mode, now)?;
         Ok(Scoped {
             files: self,
             handle,
         })
+    }
+}
+
+impl Files {
+    /// Releases the handle of this number, where it is open; nothing else changes.
+    fn release(&mut self, handle: u32)
+        ensures { self.new ≡ closed self.old handle }
+    {
+        self.table.holds();
+        let _closed = self.close(handle);
     }
 }
 
@@ -61,6 +72,7 @@ impl<'a> Scoped<'a> {
         ensures others { without_handle self.new.files.now.session.handles self.new.handle ≡ without_handle self.old.files.now.session.handles self.old.handle }
         ensures unchanged { OnErr result (self.new.files.now ≡ self.old.files.now) }
     {
+        self.files.holds();
         self.files.read_all(self.handle)
     }
 
@@ -78,6 +90,7 @@ impl<'a> Scoped<'a> {
         ensures others { without_handle self.new.files.now.session.handles self.new.handle ≡ without_handle self.old.files.now.session.handles self.old.handle }
         ensures unchanged { OnErr result (self.new.files.now ≡ self.old.files.now) }
     {
+        self.files.holds();
         self.files.write(self.handle, bytes)
     }
 }
@@ -88,6 +101,6 @@ impl Drop for Scoped<'_> {
         ensures { self.exit.0.now ≡ closed self.entry.files.now self.entry.handle }
     {
         let Scoped { files, handle } = self;
-        let _closed = files.close(handle);
+        files.release(handle);
     }
 }
