@@ -16,7 +16,7 @@ use Rattle.m_of_n.specs.Vote.{texts_of, holders, voted}
 use Rattle.m_of_n.specs.Laws.{holders-cons, voted-held}
 use Rattle.block_files.specs.BlockSets.{Ascend}
 use Rattle.block_files.specs.Areas.{joined, within}
-use Rattle.block_files.specs.Contents.{counting, contents, lacks, lacking, lacking_in, AreCopies, HaveSize}
+use Rattle.block_files.specs.Contents.{counting, contents, first_content, lacks, lacking, lacking_in, AreCopies, HaveSize}
 
 -- ---- one copy
 
@@ -204,3 +204,9 @@ pub voted_size : (size m : ℕ) (given : List (Option (List ℕ))) (value : Opti
 voted_size size m given None positive is sizes = tt
 voted_size size m given (Some text) positive is sizes =
     held_size size given text sizes (omega (arith, voted-held m given text (sym is)))
+
+pub first_size : (size : ℕ) (given : List (Option (List ℕ))) (salvage : Option (List ℕ)) → salvage ≡ first_content given → HaveSize size given → IfSome salvage (λ text. length text ≡ size)
+first_size size given None is sizes = tt
+first_size size [] (Some text) is sizes = cc
+first_size size (None ∷ given) (Some text) is sizes = first_size size given (Some text) is (λ i. sizes (suc i))
+first_size size (Some other ∷ given) (Some text) is sizes = sizes 0 text (sym is)

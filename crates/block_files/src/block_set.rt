@@ -36,6 +36,19 @@ impl BlockSet {
         Ok(BlockSet { flags })
     }
 
+    /// A copy that holds the same blocks.
+    ///
+    /// # Errors
+    ///
+    /// Only want of memory.
+    pub fn copy(&self) -> Result<BlockSet, AllocError>
+        ensures { IfOk result (λ copy. copy ≡ self.now) }
+    {
+        Ok(BlockSet {
+            flags: self.flags.clone()?,
+        })
+    }
+
     /// The blocks that the set can hold are those below this number. Takes no memory.
     pub fn capacity(&self) -> u32
         ensures { result ≡ length self.now }

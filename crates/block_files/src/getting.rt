@@ -52,6 +52,7 @@ pub fn get_blob<D: Disk>(
 
     // Whether the disk tells its bytes or not.
     ensures size { IfOk result (λ blob. IfSome blob.value (λ value. length value ≡ min len (256 * length blocks.now))) }
+    ensures salvage_size { IfOk result (λ blob. IfSome blob.salvage (λ salvage. length salvage ≡ min len (256 * length blocks.now))) }
     ensures copies { IfOk result (λ blob. AreCopies place.copies blob.lacking) }
     ensures ascending { IfOk result (λ blob. Ascend blob.lacking) }
 

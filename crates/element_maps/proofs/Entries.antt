@@ -1,9 +1,8 @@
 -- The entries after changes: what is found under each name.
-use Rattle.std.proofs.Common.{◌≡◌, ℕ, Bool, true, false, cond, List, [], ◌∷◌, map, Option, Some, None, refl, sym, ap, subst, ◌∙◌, inl, inr}
+use Rattle.std.proofs.Common.{◌≡◌, ℕ, Bool, true, false, cond, List, [], ◌∷◌, Option, Some, None, refl, ap, subst, ◌∙◌, inl, inr}
 use Rattle.std.specs.Prelude.{option_map}
 use Rattle.std.specs.Str.{bytes_eq}
 use Rattle.std.proofs.lemmas.Bool.{cases_Bool}
-use Rattle.per_base.specs.declared.elements.Element.{Element}
 use Rattle.per_base.specs.declared.elements.Entry.{Entry}
 use Rattle.per_base.specs.declared.elements.FileInfo.{FileInfo}
 use Rattle.element_state.specs.declared.shapes.Change.{Change}
@@ -75,10 +74,10 @@ after_all generation es (c ∷ cs) name sorted =
     after_all generation (after_change generation es c) cs name (rest changed_name c cs sorted) in
     elim (cases_Bool (bytes_eq (changed_name c) name)) [
       | inl t ↦
-        let none : change_at name cs ≡ None = subst (λ (n : List ℕ). change_at n cs ≡ None) (same_names (changed_name c) name t) (item_above changed_name (changed_name c) cs (first changed_name c cs sorted)) in
-        let now : entry_at name (after_change generation es c) ≡ changed_entry generation c (entry_at name es) = after_one generation es c name ∙ rw t refl in
-        later ∙ ap (λ o. entry_after generation o (entry_at name (after_change generation es c))) none ∙ now ∙ rw t refl
+          let none : change_at name cs ≡ None = subst (λ (n : List ℕ). change_at n cs ≡ None) (same_names (changed_name c) name t) (item_above changed_name (changed_name c) cs (first changed_name c cs sorted)) in
+          let now : entry_at name (after_change generation es c) ≡ changed_entry generation c (entry_at name es) = after_one generation es c name ∙ rw t refl in
+          later ∙ ap (λ o. entry_after generation o (entry_at name (after_change generation es c))) none ∙ now ∙ rw t refl
       | inr f ↦
-        let now : entry_at name (after_change generation es c) ≡ entry_at name es = after_one generation es c name ∙ rw f refl in
-        later ∙ ap (λ o. entry_after generation (change_at name cs) o) now ∙ rw f refl
+          let now : entry_at name (after_change generation es c) ≡ entry_at name es = after_one generation es c name ∙ rw f refl in
+          later ∙ ap (λ o. entry_after generation (change_at name cs) o) now ∙ rw f refl
     ]

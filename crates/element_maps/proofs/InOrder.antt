@@ -12,7 +12,7 @@ use Rattle.std.proofs.lemmas.List.Sums.{sum_by-cons}
 use Rattle.std.proofs.lemmas.Map.Keys.{IsDistinct-cons}
 use Rattle.per_base.specs.Names.{name_cmp}
 use Rattle.element_state.specs.Changes.{item_at, insert_item, without_item}
-use Rattle.element_maps.proofs.Names.{same_names, eq_names, eq_itself, eq_back, not_true, false_true, tied_names, less_apart, greater_less, less_less, less_from, above_from}
+use Rattle.element_maps.proofs.Names.{same_names, eq_names, eq_itself, eq_back, false_true, tied_names, less_apart, greater_less, less_less, less_from, above_from}
 
 abbrev pub NamesAscend : {X : Type 0} → (X → List ℕ) → List X → Type 0
 NamesAscend name_of xs = IsStrictlySortedBy name_cmp (map name_of xs)
@@ -68,8 +68,8 @@ module _ {X : Type 0} (name_of : X → List ℕ) where
   pub item_later : (name : List ℕ) (x : X) (xs : List X) (z : X) → NamesAscend name_of (x ∷ xs) → item_at name_of name xs ≡ Some z → item_at name_of name (x ∷ xs) ≡ Some z
   item_later name x xs z sorted e = elim (cases_Bool (bytes_eq (name_of x) name)) [
     | inl t ↦
-      let none : item_at name_of name xs ≡ None = subst (λ (n : List ℕ). item_at name_of n xs ≡ None) (same_names (name_of x) name t) (item_above (name_of x) xs (first x xs sorted)) in
-      absurd cc
+        let none : item_at name_of name xs ≡ None = subst (λ (n : List ℕ). item_at name_of n xs ≡ None) (same_names (name_of x) name t) (item_above (name_of x) xs (first x xs sorted)) in
+        absurd cc
     | inr f ↦ rw f e
   ]
 
@@ -211,15 +211,15 @@ module _ {X : Type 0} (name_of : X → List ℕ) where
       tails : name_of x ≡ name_of y → (name : List ℕ) → item_at name_of name xs ≡ item_at name_of name ys
       tails is name = elim (cases_Bool (bytes_eq (name_of x) name)) [
         | inl t ↦
-          let named : name_of x ≡ name = same_names (name_of x) name t in
-          let one : item_at name_of name xs ≡ None = subst (λ (n : List ℕ). item_at name_of n xs ≡ None) named (item_above (name_of x) xs (first x xs up)) in
-          let two : item_at name_of name ys ≡ None = subst (λ (n : List ℕ). item_at name_of n ys ≡ None) (sym is ∙ named) (item_above (name_of y) ys (first y ys also)) in
-          one ∙ sym two
+            let named : name_of x ≡ name = same_names (name_of x) name t in
+            let one : item_at name_of name xs ≡ None = subst (λ (n : List ℕ). item_at name_of n xs ≡ None) named (item_above (name_of x) xs (first x xs up)) in
+            let two : item_at name_of name ys ≡ None = subst (λ (n : List ℕ). item_at name_of n ys ≡ None) (sym is ∙ named) (item_above (name_of y) ys (first y ys also)) in
+            one ∙ sym two
         | inr f ↦
-          let g : bytes_eq (name_of y) name ≡ false = ap (λ n. bytes_eq n name) (sym is) ∙ f in
-          let one : item_at name_of name (x ∷ xs) ≡ item_at name_of name xs = rw f refl in
-          let two : item_at name_of name (y ∷ ys) ≡ item_at name_of name ys = rw g refl in
-          sym one ∙ found name ∙ two
+            let g : bytes_eq (name_of y) name ≡ false = ap (λ n. bytes_eq n name) (sym is) ∙ f in
+            let one : item_at name_of name (x ∷ xs) ≡ item_at name_of name xs = rw f refl in
+            let two : item_at name_of name (y ∷ ys) ≡ item_at name_of name ys = rw g refl in
+            sym one ∙ found name ∙ two
       ]
 
       by : (o : Ordering) → name_cmp (name_of x) (name_of y) ≡ o → (((name : List ℕ) → item_at name_of name xs ≡ item_at name_of name ys) → xs ≡ ys) → x ∷ xs ≡ y ∷ ys
@@ -289,9 +289,9 @@ module _ {Y : Type 0} (title_of : Y → List ℕ) (g : Y → ℕ) where
       left : (name : List ℕ) (z : X) → item_at name_of name xs ≡ Some z → f z ≤ weight_of g (item_at title_of name (without_item title_of (name_of x) ys))
       left name z e = elim (cases_Bool (bytes_eq (name_of x) name)) [
         | inl t ↦
-          let none : item_at name_of name xs ≡ None = subst (λ (n : List ℕ). item_at name_of n xs ≡ None) (same_names (name_of x) name t) (item_above name_of (name_of x) xs (first name_of x xs up)) in
-          absurd cc
+            let none : item_at name_of name xs ≡ None = subst (λ (n : List ℕ). item_at name_of n xs ≡ None) (same_names (name_of x) name t) (item_above name_of (name_of x) xs (first name_of x xs up)) in
+            absurd cc
         | inr h ↦
-          let is : item_at title_of name (without_item title_of (name_of x) ys) ≡ item_at title_of name ys = item_without title_of name (name_of x) ys ∙ rw h refl in
-          rw is (found name z (item_later name_of name x xs z up e))
+            let is : item_at title_of name (without_item title_of (name_of x) ys) ≡ item_at title_of name ys = item_without title_of name (name_of x) ys ∙ rw h refl in
+            rw is (found name z (item_later name_of name x xs z up e))
       ]

@@ -1,7 +1,6 @@
 -- One name: what its change makes of its entry, where an element stands and another shall.
-use Rattle.std.proofs.Common.{◌≡◌, ◌≤◌, ℕ, Bool, true, false, cond, ◌&&◌, nat_eq, List, [], length, Option, Some, None, refl, sym, ap, subst, ◌∙◌, inl, inr}
+use Rattle.std.proofs.Common.{◌≡◌, ◌≤◌, ℕ, Bool, true, false, cond, nat_eq, List, [], length, Option, Some, None, refl, sym, ap, subst, ◌∙◌, inl, inr}
 use Rattle.std.specs.Prelude.{option_map, IsTrue}
-use Rattle.std.specs.Str.{bytes_eq}
 use Rattle.std.proofs.lemmas.Bool.{cases_Bool}
 use Rattle.std.proofs.lemmas.Slice.Eq.{bytes_eq-Decides}
 use Rattle.per_base.specs.declared.elements.StoreKind.{StoreKind}
@@ -13,17 +12,17 @@ use Rattle.per_base.specs.declared.elements.Entry.{Entry}
 use Rattle.per_base.specs.declared.elements.FileInfo.{FileInfo}
 use Rattle.index_text.specs.Rules.{has_info, max_len}
 use Rattle.element_state.specs.declared.shapes.Change.{Change}
-use Rattle.element_state.specs.declared.shapes.Change.TheVariants.{Put, Remove, Touch}
-use Rattle.element_state.specs.Changes.{same_content, same_element, is_same, kept_or_fresh, entry_at}
-use Rattle.element_state.specs.Conditions.{IsChange, IsFresh, IsGoodEntry}
+use Rattle.element_state.specs.declared.shapes.Change.TheVariants.{Remove}
+use Rattle.element_state.specs.Changes.{same_element, is_same, kept_or_fresh, entry_at}
+use Rattle.element_state.specs.Conditions.{IsChange, IsGoodEntry}
 use Rattle.element_state.specs.States.{fresh_entry, fresh_element}
 use Rattle.element_state.specs.Views.{judged_content}
 use Rattle.element_state.specs.Written.{bytes_of}
-use Rattle.element_maps.specs.Differences.{difference, arrival, replacement, touch, put, same_bytes, same_value}
+use Rattle.element_maps.specs.Differences.{difference, replacement, touch, put, same_bytes, same_value}
 use Rattle.element_maps.specs.Sessions.{IsHeld, IsWritable}
 use Rattle.element_maps.proofs.Names.{false_true}
-use Rattle.element_maps.proofs.Same.{both, same_number, content_is, element, element_is, same_is, same_from, is_same_is, is_same_from}
-use Rattle.element_maps.proofs.Entries.{informed, changed_entry, entry_after}
+use Rattle.element_maps.proofs.Same.{both, same_number, element, same_is, same_from, is_same_from}
+use Rattle.element_maps.proofs.Entries.{changed_entry, entry_after}
 
 -- what a session holds of an entry
 abbrev pub judged_element : (List ℕ → Bool) → Entry → Element

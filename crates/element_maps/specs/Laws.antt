@@ -1,15 +1,22 @@
 -- What comes of the changes that make one map into another.
-use Rattle.std.specs.Prelude.{◌≡◌, ◌↔◌, ◌≤◌, ◌<◌, ◌+◌, ℕ, List, [], Bool}
+use Rattle.std.specs.Prelude.{◌≡◌, ◌↔◌, ◌≤◌, ◌<◌, ◌+◌, ℕ, List, [], Bool, true, IsTrue, ⊤}
+use Rattle.std.specs.List.{AllByRecursion}
+use Rattle.per_base.specs.declared.elements.StoreKind.{StoreKind}
+use Rattle.per_base.specs.declared.elements.StoreKind.TheVariants.{Keys, Files}
+use Rattle.per_base.specs.declared.elements.Element.{Element}
 use Rattle.per_base.specs.Maps as maps
-use Rattle.per_base.specs.Maps.{Map}
+use Rattle.per_base.specs.Maps.{Map, names_of}
+use Rattle.per_base.specs.Names.{IsName}
 use Rattle.element_state.specs.declared.shapes.Change.{Change}
 use Rattle.element_state.specs.declared.shapes.Shape.{Shape}
 use Rattle.element_state.specs.declared.shapes.View.{View}
 use Rattle.element_state.specs.States.{greatest_generation}
-use Rattle.element_state.specs.Changes.{after_changes, committed_by, committed}
+use Rattle.element_state.specs.Changes.{after_changes, committed_by, committed, same_element}
 use Rattle.element_state.specs.Conditions.{AreChanges, size_of}
+use Rattle.element_state.specs.Read.{IsView}
+use Rattle.element_state.specs.Views.{map_of}
 use Rattle.element_state.specs.Written.{commit_cost, map_cost}
-use Rattle.element_maps.specs.Sessions.{IsReadView, IsSync, Passes, synchronised}
+use Rattle.element_maps.specs.Sessions.{IsNext, IsSync, Passes, synchronised}
 
 -- they may be committed
 abbrev pub TakenLaw : Type 0
@@ -26,22 +33,45 @@ abbrev pub HeldLaw : Type 0
 HeldLaw = (shape : Shape) (test : List ℕ → Bool) (v : View) (synced new : Map) (changes : List Change) → IsSync shape test v synced new changes
     → Passes test new → synchronised test (committed shape v synced new) ≡ new
 
--- as it is read
+-- as it will be read, where all its names are in the grammar
 abbrev pub ReadLaw : Type 0
 ReadLaw = (shape : Shape) (test : List ℕ → Bool) (v : View) (synced new : Map) (changes : List Change) → IsSync shape test v synced new changes
-    → IsReadView shape.kind (committed shape v synced new)
+    → AllByRecursion IsName (names_of new) → IsView shape (committed shape v synced new)
 
 -- with the size of the new map
 abbrev pub SizeLaw : Type 0
 SizeLaw = (shape : Shape) (test : List ℕ → Bool) (v : View) (synced new : Map) (changes : List Change) → IsSync shape test v synced new changes
     → size_of (after_changes (v.generation + 1) v.entries changes) ≡ maps.size_of new
 
--- only what differs is paid for
+-- no more is paid for than what differs
 abbrev pub CostLaw : Type 0
 CostLaw = (shape : Shape) (test : List ℕ → Bool) (v : View) (synced new : Map) (changes : List Change) → IsSync shape test v synced new changes
     → commit_cost shape.kind v.entries changes ≤ map_cost shape.kind synced new
+
+-- and just that, where no content of a file fails the test
+abbrev pub IsUntested : StoreKind → (List ℕ → Bool) → Type 0
+IsUntested Keys test = ⊤
+IsUntested Files test = (bytes : List ℕ) → IsTrue (test bytes)
+
+abbrev pub ExactCostLaw : Type 0
+ExactCostLaw = (shape : Shape) (test : List ℕ → Bool) (v : View) (synced new : Map) (changes : List Change) → IsSync shape test v synced new changes
+    → IsUntested shape.kind test → commit_cost shape.kind v.entries changes ≡ map_cost shape.kind synced new
 
 -- there is nothing to change exactly where both maps are equal
 abbrev pub NothingLaw : Type 0
 NothingLaw = (shape : Shape) (test : List ℕ → Bool) (v : View) (synced new : Map) (changes : List Change) → IsSync shape test v synced new changes
     → (changes ≡ []) ↔ (synced ≡ new)
+
+-- ---- the map of a view
+
+-- with no test it is the view's own
+abbrev pub UntestedLaw : Type 0
+UntestedLaw = (v : View) → synchronised (λ bytes. true) v ≡ map_of v
+
+-- what is synchronised may be handed down as it is: in order, within the limits, each element as its kind asks
+abbrev pub SynchronisedLaw : Type 0
+SynchronisedLaw = (shape : Shape) (test : List ℕ → Bool) (v : View) → IsView shape v → IsNext shape (synchronised test v) (synchronised test v)
+
+-- elements that are the same by test are equal
+abbrev pub SameLaw : Type 0
+SameLaw = (a b : Element) → IsTrue (same_element a b) ↔ (a ≡ b)

@@ -1,38 +1,21 @@
 -- What a session of a storage owes: the map that the storage holds, and the one that it is to hold next.
-use Rattle.std.specs.Prelude.{◌≡◌, ◌≤◌, ℕ, List, length, map, Bool, Option, Some, IsTrue, ⊤}
-use Rattle.std.specs.List.{AllByRecursion}
+use Rattle.std.specs.Prelude.{◌≡◌, ◌≤◌, ℕ, List, length, Bool, Option, Some, IsTrue}
 use Rattle.std.specs.List.Sorted.{IsStrictlySortedBy}
 use Rattle.per_base.specs.declared.elements.StoreKind.{StoreKind}
 use Rattle.per_base.specs.declared.elements.Content.{Content}
 use Rattle.per_base.specs.declared.elements.Content.TheVariants.{Good, Bad}
 use Rattle.per_base.specs.declared.elements.Element.{Element}
-use Rattle.per_base.specs.declared.elements.Entry.{Entry}
 use Rattle.per_base.specs.Maps.{Map, element_at, names_of, size_of}
 use Rattle.per_base.specs.Names.{name_cmp}
 use Rattle.index_text.specs.Rules.{has_info, max_len}
 use Rattle.element_state.specs.declared.shapes.Change.{Change}
 use Rattle.element_state.specs.declared.shapes.Shape.{Shape}
 use Rattle.element_state.specs.declared.shapes.View.{View}
-use Rattle.element_state.specs.Changes.{entry_name}
+use Rattle.element_state.specs.Read.{IsView}
 use Rattle.element_state.specs.Views.{judged_view, map_of}
 use Rattle.element_maps.specs.Differences.{MakeInto}
 
 -- ---- what the storage holds
-
--- a value has the length that is said of it
-abbrev pub HasLength : Content → ℕ → Type 0
-HasLength (Good bytes) len = length bytes ≡ len
-HasLength (Bad salvage) len = ⊤
-
--- an entry as it is read
-pub record IsReadEntry (kind : StoreKind) (e : Entry) : Type 0 where
-  pub info : IsTrue (has_info kind e.info)
-  pub length : HasLength e.content e.len
-
--- a view as it is read
-pub record IsReadView (kind : StoreKind) (v : View) : Type 0 where
-  pub names_ascend : IsStrictlySortedBy name_cmp (map entry_name v.entries)
-  pub each : AllByRecursion (IsReadEntry kind) v.entries
 
 -- the map that a view stands for with a test of contents: a value that fails it is unreadable
 abbrev pub synchronised : (List ℕ → Bool) → View → Map
@@ -62,9 +45,9 @@ pub record IsNext (shape : Shape) (synced new : Map) : Type 0 where
 abbrev pub Passes : (List ℕ → Bool) → Map → Type 0
 Passes test new = (name : List ℕ) (element : Element) (bytes : List ℕ) → element_at new name ≡ Some element → element.content ≡ Good bytes → IsTrue (test bytes)
 
--- the changes by which a storage at this view comes to hold the new map in place of what is synchronised
+-- the changes by which a storage that was read as this view comes to hold the new map in place of what is synchronised
 pub record IsSync (shape : Shape) (test : List ℕ → Bool) (v : View) (synced new : Map) (changes : List Change) : Type 0 where
-  pub read : IsReadView shape.kind v
+  pub read : IsView shape v
   pub held : synced ≡ synchronised test v
   pub next : IsNext shape synced new
   pub made : MakeInto changes synced new

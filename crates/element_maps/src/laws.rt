@@ -1,6 +1,6 @@
-//! The laws, for the proofs of callers: the function does nothing when it runs.
+//! The laws, for the proofs of callers: none of these functions does anything when it runs.
 
-ghost use Rattle.element_maps.specs.Laws.{CommittedLaw, CostLaw, HeldLaw, NothingLaw, ReadLaw, SizeLaw, TakenLaw};
+ghost use Rattle.element_maps.specs.Laws.{CommittedLaw, CostLaw, ExactCostLaw, HeldLaw, NothingLaw, ReadLaw, SameLaw, SizeLaw, SynchronisedLaw, TakenLaw, UntestedLaw};
 
 /// The changes that make the map that a storage holds into another may be committed; the storage then holds the other, and only what
 /// differs is written, nothing where both are equal.
@@ -11,5 +11,14 @@ pub fn changes_make_maps()
     ensures read { ReadLaw }
     ensures size { SizeLaw }
     ensures cost { CostLaw }
+    ensures exact_cost { ExactCostLaw }
     ensures nothing { NothingLaw }
+{}
+
+/// What a view stands for is a map as a session owes it; with no test of contents it is the view's own. Elements that are the same by
+/// test are equal.
+pub fn views_are_maps()
+    ensures untested { UntestedLaw }
+    ensures synchronised { SynchronisedLaw }
+    ensures same { SameLaw }
 {}

@@ -1,10 +1,11 @@
 //! Maps of elements over a storage: sessions hold maps, a storage holds entries.
 //!
 //! The definitions in `specs/` say which changes make one map into another, and what a session owes of the map that it hands down.
-//! The laws, each the contract of a function with nothing to do, say what a commit of these changes makes: it may be called, the
-//! storage then holds the new map as its two maps say, and only what differs is paid for.
+//! The laws are contracts of functions with nothing to do, which a caller calls to cite them. [`changes_make_maps`] says that these
+//! changes may be committed, that the storage then holds the new map and is the one that its two maps say, and that only what differs
+//! is paid for; [`views_are_maps`] that the map of a view is one that may be handed down.
 #![tactic(auto)]
 
 mod laws;
 
-pub use laws::changes_make_maps;
+pub use laws::{changes_make_maps, views_are_maps};

@@ -1,5 +1,5 @@
 -- The first that passes a test, and the texts that fit among those that are held.
-use Rattle.std.proofs.Common.{◌≡◌, ℕ, zero, suc, ◌+◌, ◌<◌, List, [], ◌∷◌, ◌++◌, length, get_or, take, map, Bool, true, false, cond, Option, Some, None, All, find, refl, sym, ap, ◌∙◌, subst, arith, IfSome}
+use Rattle.std.proofs.Common.{◌≡◌, ℕ, zero, suc, ◌+◌, ◌<◌, ◌≤◌, not, List, [], ◌∷◌, ◌++◌, length, get_or, take, map, Bool, true, false, cond, Option, Some, None, All, find, refl, sym, ap, ◌∙◌, subst, arith, IfSome}
 use Rattle.std.specs.List.{AllByRecursion, AllZip, cons_option}
 use Rattle.std.specs.Option.{option_map}
 use Rattle.std.proofs.lemmas.Bool.{cond-true, cond-false}
@@ -19,6 +19,8 @@ use Rattle.element_state.specs.Chosen.{chosen, or_first, first_of, opened_of, Is
 use Rattle.element_state.specs.Surveys.{IsFound, IsHeldOn, IsOf, IsViewedOn, opened_view, opened_if, text_of, view_by}
 use Rattle.element_state.proofs.Entrywise.{all_at}
 use Rattle.element_state.proofs.Viewing.{view_is}
+use Rattle.element_state.proofs.ViewsRead.{AreNumbers, view_read, lacking_are}
+use Rattle.disk_model.specs.Orders.{named_in}
 use Rattle.per_base.specs.declared.elements.Entry.{Entry}
 
 -- ---- the first that passes
@@ -163,12 +165,19 @@ found_chosen f b t eo et =
 module _ (shape : Shape) (texts : List FitText) (f : Found) (at : ℕ) (settled : Bool) (entries : List Entry) (lt : at < length texts)
     (text : (f.seen, f.index) ≡ get_or texts at (f.seen, f.index)) (view : f.view ≡ view_by shape f.seen settled entries) where
   pub found_read : AllByRecursion (IsFit shape) texts → AllZip (IsReadBy shape.place.copies) (get_or texts at (f.seen, f.index)).1.entries entries → IsFound shape f
-  found_read fit read = record {
-    text = subst (IsFit shape) (sym text) (all_at (IsFit shape) texts at (f.seen, f.index) fit lt);
-    generation = ap (λ (v : View). v.generation) view;
-    entries = subst (λ (es : List Entry). AllZip (IsReadBy shape.place.copies) f.index.entries es) (sym (ap (λ (v : View). v.entries) view))
-        (subst (λ (t : FitText). AllZip (IsReadBy shape.place.copies) t.1.entries entries) (sym text) read);
-  }
+  found_read fit read =
+      let is = subst (IsFit shape) (sym text) (all_at (IsFit shape) texts at (f.seen, f.index) fit lt) in
+      let rows = subst (λ (es : List Entry). AllZip (IsReadBy shape.place.copies) f.index.entries es) (sym (ap (λ (v : View). v.entries) view))
+      (subst (λ (t : FitText). AllZip (IsReadBy shape.place.copies) t.1.entries entries) (sym text) read) in
+      let lacks = subst (AreNumbers shape.place.copies) (sym (ap (λ (v : View). v.lacking) view))
+      (lacking_are shape (λ copy. not (named_in f.seen.copies (copy + 1))) entries) in
+      let positive = subst (λ (n : ℕ). 1 ≤ n) (sym (ap (λ (v : View). v.generation) view)) is.sealable.positive in
+      record {
+        text = is;
+        generation = ap (λ (v : View). v.generation) view;
+        entries = rows;
+        read = view_read shape f.index f.view is.index.rules is.index.fits rows positive lacks;
+      }
 
   pub found_viewed : (image : Image) → texts ≡ fit_texts shape image → AllByRecursion (IsHeldOn image shape) texts → settled ≡ is_settled texts
       → entries ≡ entries_of image shape (f.seen, f.index) → Some (text_of f) ≡ chosen image shape → IsViewedOn image shape f

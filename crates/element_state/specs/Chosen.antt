@@ -41,10 +41,11 @@ opened_of (Corrupt salvage others) = None
 
 -- ---- what is so of all that is read, whatever the disk tells
 
--- a value is as long as its entry says
+-- a value is as long as its entry says, and so is a salvage
 abbrev pub HasLength : ℕ → Content → Type 0
 HasLength len (Good value) = length value ≡ len
-HasLength len (Bad salvage) = Unit {0}
+HasLength len (Bad None) = Unit {0}
+HasLength len (Bad (Some salvage)) = length salvage ≡ len
 
 -- an element that was read by an entry of an index
 pub record IsReadBy (copies : ℕ) (e : IndexEntry) (f : Entry) : Type 0 where

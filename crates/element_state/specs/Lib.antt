@@ -9,5 +9,6 @@ pub mod Written
 pub mod Conditions
 pub mod Failures
 pub mod Chosen
+pub mod Read
 pub mod Surveys
 pub mod Samples

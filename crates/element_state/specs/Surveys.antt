@@ -13,12 +13,14 @@ use Rattle.element_state.specs.Fit.{FitText}
 use Rattle.element_state.specs.Views.{holds_text, qualifies, entries_of, store_lacking, view_of}
 use Rattle.element_state.specs.States.{State, Opens, Corrupt, store_at}
 use Rattle.element_state.specs.Chosen.{IsFit, IsReadBy}
+use Rattle.element_state.specs.Read.{IsView}
 
 -- a text that fits, and a view by its entries
 pub record IsFound (shape : Shape) (found : Found) : Type 0 where
   pub text : IsFit shape (found.seen, found.index)
   pub generation : found.view.generation ≡ found.seen.generation
   pub entries : AllZip (IsReadBy shape.place.copies) found.index.entries found.view.entries
+  pub read : IsView shape found.view
 
 -- whether the storage opens at the text, and the text
 abbrev pub text_of : Found → Bool × FitText

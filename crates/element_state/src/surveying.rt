@@ -7,6 +7,7 @@ ghost use Rattle.disk_model.specs.Medium.{Quiet, IsIdle, Elapses};
 ghost use Rattle.element_state.specs.Conditions.{IsShape};
 ghost use Rattle.element_state.specs.States.{store_at, salvage_of};
 ghost use Rattle.element_state.specs.Chosen.{chosen, opened_of};
+ghost use Rattle.element_state.specs.Read.{IsView};
 ghost use Rattle.element_state.specs.Surveys.{IsFound, IsViewedOn, opened_view, text_of};
 
 use crate::choosing::choose;
@@ -77,6 +78,9 @@ pub fn inspect<D: Disk>(alloc: Global, disk: &mut D, shape: &Shape) -> Result<Vi
     ensures view { IsTrue D.told → IfOk result (λ view. opened_of (store_at (D.medium disk.old).image shape.now) ≡ Some view) }
     ensures corrupt { IsTrue D.told → IsErrOf result StoreError.Corrupt → opened_of (store_at (D.medium disk.old).image shape.now) ≡ None }
 
+    // Whether the disk tells its bytes or not.
+    ensures read { IfOk result (IsView shape.now) }
+
     ensures quiet { OnOk result (Quiet (D.medium disk.new)) }
     ensures settled { IsErrOf result StoreError.Corrupt → Quiet (D.medium disk.new) }
     ensures image { (D.medium disk.new).image ≡ (D.medium disk.old).image }
@@ -110,6 +114,9 @@ pub fn salvage<D: Disk>(
 ) -> Result<Option<View>, StoreError>
     requires { IsShape shape.now }
     ensures view { IsTrue D.told → IfOk result (λ view. view ≡ salvage_of (store_at (D.medium disk.old).image shape.now)) }
+
+    // Whether the disk tells its bytes or not.
+    ensures read { IfOk result (λ view. IfSome view (IsView shape.now)) }
 
     ensures quiet { OnOk result (Quiet (D.medium disk.new)) }
     ensures image { (D.medium disk.new).image ≡ (D.medium disk.old).image }
