@@ -13,3 +13,4 @@ pub mod IndexLaws
 pub mod AnewLaws
 pub mod MendLaws
 pub mod Refusals
+pub mod Unchanged

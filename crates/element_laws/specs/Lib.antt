@@ -1,3 +1,4 @@
 pub mod Phases
 pub mod Refused
 pub mod Weaker
+pub mod Apart

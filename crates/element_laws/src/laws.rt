@@ -1,6 +1,7 @@
 //! The laws, one after another, for the proofs of callers: none of these functions does anything when it runs.
 
 ghost use Rattle.element_laws.specs.Phases.{OpenedLaw, CorruptLaw, DamageLaw, UntouchedLaw, AdoptLaw, KeepLaw, ContentsLaw, ContentsDoneLaw, IndexLaw, GivenUpLaw, TakenLaw, AnewContentsLaw, AnewDoneLaw, AnewIndexLaw, CleanLaw, AdoptedLaw, SettledLaw, MendStartLaw, MendStepLaw, MendSyncLaw, MendLaw, InUseLaw, CarriedLaw, WholeLaw};
+ghost use Rattle.element_laws.specs.Apart.{FrameLaw, OutsideLaw, ElsewhereLaw, ElsewhereCaseLaw};
 ghost use Rattle.element_laws.specs.Refused.{IndexFirst, OldOverwritten, OtherValue, Planted, CopyEaten};
 
 use block_files::contents_stand_aside;
@@ -9,6 +10,15 @@ use block_files::contents_stand_aside;
 pub fn untouched_is_kept()
     ensures damage { DamageLaw }
     ensures untouched { UntouchedLaw }
+{}
+
+/// What a storage is depends on the files of its place alone, and those of one place lie outside another that lies apart. So what leaves
+/// all files outside one place alone, at its end and at every moment, leaves a storage at the other as it was.
+pub fn places_stand_apart()
+    ensures frame { FrameLaw }
+    ensures outside { OutsideLaw }
+    ensures unchanged { ElsewhereLaw }
+    ensures case { ElsewhereCaseLaw }
 {}
 
 /// A stop while every copy is brought to the text at which a storage opens keeps it; so does one while all texts but one are taken

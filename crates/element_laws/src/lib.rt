@@ -7,6 +7,8 @@
 //! before to the one after, in both scopes and with shared blocks: it stands as before or as after, no text or value comes up that was
 //! never synchronised, no copy is lost that was not damaged, and its place stays clean.
 //!
+//! Storages at places that lie apart do not touch each other ([`places_stand_apart`]).
+//!
 //! [`places_are_clean`] and [`use_is_adopted`] say where the laws begin and end, and [`outcomes_are_refused`] what they exclude.
 //!
 //! The premises are that no torn piece passes its hash by chance, and that one storage has one caller at a time.
@@ -16,5 +18,5 @@ mod laws;
 
 pub use laws::{
     adopting_keeps, contents_keep, index_keeps, making_anew_keeps, mending_keeps,
-    outcomes_are_refused, places_are_clean, untouched_is_kept, use_is_adopted,
+    outcomes_are_refused, places_are_clean, places_stand_apart, untouched_is_kept, use_is_adopted,
 };

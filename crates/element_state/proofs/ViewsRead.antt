@@ -1,6 +1,6 @@
 -- What is read by an index that fits is a view.
-use Rattle.std.proofs.Common.{◌≡◌, ℕ, zero, suc, ◌+◌, ◌<◌, ◌≤◌, List, [], ◌∷◌, ◌++◌, length, get_or, map, Bool, true, false, eqb, cond, Option, Some, None, IsTrue, IfSome, refl, sym, ap, ◌∙◌, subst, arith, length-append, ⊎_elim}
-use Rattle.std.specs.Prelude.{sum_by, nat_le, nat_lt, ◌&&◌}
+use Rattle.std.proofs.Common.{◌≡◌, ℕ, zero, suc, ◌+◌, ◌<◌, ◌≤◌, List, [], ◌∷◌, ◌++◌, length, get_or, map, Bool, true, false, eqb, cond, Option, IsTrue, refl, sym, ap, ◌∙◌, subst, arith, length-append, ⊎_elim}
+use Rattle.std.specs.Prelude.{nat_le, nat_lt, ◌&&◌}
 use Rattle.std.specs.List.{AllByRecursion, AllZip, list_all}
 use Rattle.std.specs.List.Sorted.{IsStrictlySortedBy}
 use Rattle.std.proofs.lemmas.Bool.{and_parts, leb-true, cases_lt}
@@ -8,8 +8,6 @@ use Rattle.std.proofs.lemmas.List.{get_or_append_left, get_or_push, append-nil}
 use Rattle.std.proofs.lemmas.List.Sums.{sum_by-cons}
 use Rattle.per_base.specs.declared.elements.StoreKind.{StoreKind}
 use Rattle.per_base.specs.declared.elements.StoreKind.TheVariants.{Keys, Files}
-use Rattle.per_base.specs.declared.elements.Scope.{Scope}
-use Rattle.per_base.specs.declared.elements.Scope.TheVariants as scope
 use Rattle.per_base.specs.declared.elements.Entry.{Entry}
 use Rattle.per_base.specs.declared.elements.FileInfo.{FileInfo}
 use Rattle.per_base.specs.Names.{IsName, name_cmp}
@@ -18,7 +16,7 @@ use Rattle.block_files.specs.BlockSets.{Ascend}
 use Rattle.block_files.specs.Contents.{AreCopies}
 use Rattle.index_text.specs.declared.entries.Index.{Index}
 use Rattle.index_text.specs.declared.entries.IndexEntry.{IndexEntry}
-use Rattle.index_text.specs.Rules.{IsEntry, IsIndex, has_info, max_len, names_of, blocks_of}
+use Rattle.index_text.specs.Rules.{IsEntry, IsIndex, has_info, names_of, blocks_of}
 use Rattle.index_text.specs.Sizes.{Fits, size_of, area_blocks}
 use Rattle.index_text.specs.Spelling.{kind_code}
 use Rattle.element_state.specs.declared.shapes.Shape.{Shape}

@@ -1,5 +1,5 @@
 -- What is so of every view that is read, whatever the disk tells.
-use Rattle.std.specs.Prelude.{◌≤◌, List, length, map, IsTrue}
+use Rattle.std.specs.Prelude.{◌≤◌, length, map, IsTrue}
 use Rattle.std.specs.List.{AllByRecursion}
 use Rattle.std.specs.List.Sorted.{IsStrictlySortedBy}
 use Rattle.per_base.specs.declared.elements.Entry.{Entry}

@@ -9,9 +9,11 @@ use std::alloc::AllocError;
 /// A storage as a deployment gives it.
 #[derive(Debug, Drop)]
 pub struct Shape {
+    /// By which reports call it.
     pub name: Name,
     /// Where its copies lie.
     pub place: Place,
+    /// Keys or files.
     pub kind: StoreKind,
     /// So many copies must agree.
     pub m: u32,
@@ -40,6 +42,7 @@ impl Shape {
 /// What the copies of a storage stand for.
 #[derive(Debug, Drop)]
 pub struct View {
+    /// That of its index, at least 1.
     pub generation: u64,
     /// The copies that lack the storage, counted from 1 and ascending.
     pub lacking: Numbers,

@@ -1,5 +1,5 @@
 -- A storage that was just created is in use.
-use Rattle.std.proofs.Common.{◌≡◌, ℕ, List, [], ◌∷◌, Bool, IsTrue, refl, sym, ap, ◌∙◌, subst, arith, Vec, Global}
+use Rattle.std.proofs.Common.{◌≡◌, ◌≤◌, ℕ, List, [], ◌∷◌, Bool, IsTrue, refl, sym, ap, ◌∙◌, subst, arith, Vec, Global}
 use Rattle.std.specs.Prelude.{map, Some}
 use Rattle.std.specs.List.{AllZip}
 use Rattle.per_base.specs.declared.elements.Entry.{Entry}
@@ -72,7 +72,7 @@ module _ (told : Bool) (mid image : Image) (shape : Shape) (generation : ℕ) (c
   created_clean tells = made_clean shape image generation contents index (alone tells) fit (shows tells)
 
   module _ (alloc : Global) (entries : Vec Entry Global) (set : List Bool) (taken : AreTaken (area_blocks shape.allowed) index.entries set) (made : AllZip (IsMade generation) contents index.entries)
-      (filled : entries.items ≡ map (fresh_entry generation) (fresh_map contents)) where
+      (filled : entries.items ≡ map (fresh_entry generation) (fresh_map contents)) (least : 1 ≤ generation) where
     pub created_view : whole_view shape cell.generation entries.items ≡ fresh_view generation (fresh_map contents)
     created_view =
         ap (λ (g : ℕ). whole_view shape g entries.items) of.counts
@@ -87,6 +87,7 @@ module _ (told : Bool) (mid image : Image) (shape : Shape) (generation : ℕ) (c
       memory = record {
         place = of.lies;
         shape = is;
+        positive = (let counts = of.counts in omega (arith, counts, least));
         index = record { spelled = refl; rules = spelled.rules; fits = spelled.fits; fit = fit };
         entries = subst (λ (es : List Entry). AllZip (IsReadBy shape.place.copies) index.entries es) (sym filled) (read_of_made shape.place.copies generation contents index.entries made);
         taken = taken;

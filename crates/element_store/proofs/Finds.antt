@@ -11,7 +11,7 @@ use Rattle.element_state.specs.Views.{qualifies, view_of}
 use Rattle.element_state.specs.States.{State, Opens, store_at}
 use Rattle.element_state.specs.Chosen.{chosen, or_first, first_of, opened_of}
 use Rattle.element_state.specs.Surveys.{IsOf, IsViewedOn, text_of}
-use Rattle.element_store.specs.declared.opening.Ready.{Ready}
+use Rattle.element_store.specs.declared.opening.OpeningPlan.{OpeningPlan}
 use Rattle.element_store.specs.Opened.{IsFoundOn}
 
 abbrev flagged : Bool → FitText → Option (Bool × FitText)

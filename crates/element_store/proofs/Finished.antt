@@ -74,6 +74,7 @@ module _ (told : Bool) (store s : Store) (changes : List Change) (alloc : Global
     memory = subst IsStore (sym is) (record {
       place = of.lies ∙ old.place;
       shape = old.shape;
+      positive = (let counts = of.counts in omega (arith, counts));
       index = text;
       entries = subst (λ (es : List Entry). AllZip (IsReadBy store.shape.place.copies) index.entries es) (sym after_is) read;
       taken = taken;

@@ -11,6 +11,7 @@ pub mod Taken
 pub mod InPlace
 pub mod Opened
 pub mod Finds
+pub mod StoreViews
 pub mod Moments
 pub mod Created
 mod InOrder

@@ -44,10 +44,10 @@ use Rattle.element_laws.proofs.Copies.{filtered_that, named_Contains, Contains_n
 use Rattle.element_laws.proofs.Lists.{In, In-Contains, map-In, false_not_true, list_all-In, In-list_all, both_true, true_both, all_by, all_in}
 use Rattle.element_laws.proofs.Fits.{fit-spelled}
 use Rattle.element_laws.proofs.Frames.{slot_no_area, area_no_slot}
-use Rattle.element_store.specs.declared.opening.Ready.{Ready}
+use Rattle.element_store.specs.declared.opening.OpeningPlan.{OpeningPlan}
 use Rattle.element_store.specs.declared.store.Store.{Store}
 use Rattle.element_store.specs.Mends.{IsWholeIn, AreShown, SparesOthers}
-use Rattle.element_store.specs.Opened.{IsReady, IsFoundOn}
+use Rattle.element_store.specs.Opened.{IsOpeningPlan, IsFoundOn, OpensBy}
 use Rattle.element_store.specs.Stores.{IsUsed, view_in}
 use Rattle.element_store.proofs.Alone.{alone_text, opens_alone, supports_element, all_hold}
 use Rattle.element_store.proofs.Fulls.{view_full, view_same, counting_full}
@@ -361,8 +361,8 @@ read_mended copies (e ∷ es) (f ∷ fs) zip = (one f.content refl, read_mended 
     })
     one (Bad s) at = subst (λ (z : Entry). IsReadBy copies e z) (sym (ap (λ (y : Content). mended_by y f) at)) zip.0
 
-module _ (told : Bool) (start now image : Image) (shape : Shape) (r : Ready) (cell : Cell) (text : List ℕ)
-    (is : IsShape shape) (ready : IsReady shape r) (same : text ≡ r.seen.text)
+module _ (told : Bool) (start now image : Image) (shape : Shape) (r : OpeningPlan) (cell : Cell) (text : List ℕ)
+    (is : IsShape shape) (ready : IsOpeningPlan shape r) (same : text ≡ r.seen.text)
     (of : IsCellOf shape.place r.seen.generation cell) (held : IsTrue told → CellAt now cell text)
     (found : IsTrue told → IsFoundOn start shape r) (areas : IsTrue told → Spares (IsNoSlot shape.place.first shape.place.copies) start now)
     (spared : IsTrue told → SparesOthers shape r.index r.before.entries now image)
@@ -413,6 +413,7 @@ module _ (told : Bool) (start now image : Image) (shape : Shape) (r : Ready) (ce
     memory = record {
       place = of.lies;
       shape = is;
+      positive = (let counts = of.counts in let least = ready.text.sealable.positive in omega (arith, counts, least));
       index = record { spelled = refl; rules = ready.text.index.rules; fits = ready.text.index.fits; fit = fit };
       entries = subst (λ (fs : List Entry). AllZip (IsReadBy shape.place.copies) r.index.entries fs) (sym ready.entries) (read_mended shape.place.copies r.index.entries r.before.entries ready.read);
       taken = ready.taken;
@@ -425,13 +426,19 @@ module _ (told : Bool) (start now image : Image) (shape : Shape) (r : Ready) (ce
 
 -- ---- what the moments of an opening ask
 
-pub opening_shown : (start : Image) (shape : Shape) (r : Ready) (views : List Entry) → IsFoundOn start shape r → views ≡ r.before.entries → AreShown shape r.index views start
+pub opening_shown : (start : Image) (shape : Shape) (r : OpeningPlan) (views : List Entry) → IsFoundOn start shape r → views ≡ r.before.entries → AreShown shape r.index views start
 unfolding view_of
 opening_shown start shape r views found same = same ∙ ap (λ (v : View). v.entries) found.view
 
-pub opening_opens : (start : Image) (shape : Shape) (r : Ready) (text : List ℕ) → IsFoundOn start shape r → text ≡ r.seen.text → OpenedLaw → OpensAt shape start r.seen.generation text r.index
+pub opening_opens : (start : Image) (shape : Shape) (r : OpeningPlan) (text : List ℕ) → IsFoundOn start shape r → text ≡ r.seen.text → OpenedLaw → OpensAt shape start r.seen.generation text r.index
 opening_opens start shape r text found same opened =
     subst (λ (t : List ℕ). OpensAt shape start r.seen.generation t r.index) (sym same) (opened shape start (r.seen, r.index) found.first)
+
+pub opening_by : (start : Image) (shape : Shape) (r : OpeningPlan) (index : Index) → index ≡ r.index → IsFoundOn start shape r → OpensBy start shape index
+opening_by start shape r index same found = record {
+  seen = r.seen;
+  first = found.first ∙ ap (λ (i : Index). (let o : Option FitText = Some (r.seen, i) in o)) (sym same);
+}
 
 pub opening_alone : (image : Image) (shape : Shape) (g : ℕ) (cell : Cell) (text : List ℕ) → IsCellOf shape.place g cell → CellAt image cell text
     → IsAlone image shape.place.first shape.place.copies g text
@@ -439,7 +446,7 @@ opening_alone image shape g cell text of held =
     subst (λ (n : ℕ). IsAlone image shape.place.first shape.place.copies n text) of.counts
     (subst (λ (p : Place). IsAlone image p.first p.copies cell.generation text) of.lies held)
 
-module _ (told : Bool) (shape : Shape) (r : Ready) (views : List Entry) where
+module _ (told : Bool) (shape : Shape) (r : OpeningPlan) (views : List Entry) where
   pub opening_spared : (now image : Image) → views ≡ r.before.entries → (IsTrue told → SparesOthers shape r.index views now image)
       → IsTrue told → SparesOthers shape r.index r.before.entries now image
   opening_spared now image same spared tells = subst (λ (fs : List Entry). SparesOthers shape r.index fs now image) same (spared tells)

@@ -27,7 +27,7 @@ use Rattle.element_laws.proofs.AnewLaws.{given_up, taken_named, anew_contents, a
 use Rattle.element_laws.proofs.Refusals.{opened as opened_law, corrupt as corrupt_law}
 use Rattle.element_store.specs.Plans.{HasAll}
 use Rattle.element_store.specs.Stores.{AreTaken}
-use Rattle.element_store.specs.Rebuilds.{IsReady, IsLeftWith, SettleStops, HasNext}
+use Rattle.element_store.specs.Rebuilds.{IsGround, IsLeftWith, SettleStops, HasNext}
 use Rattle.element_store.proofs.Rebuilt.{opened_at, corrupt_at, ready_opened, ready_salvaged, ready_none, idle_kept, adopt_kept, keep_kept}
 use Rattle.element_store.proofs.Taken.{fits_below, taken_area}
 use Rattle.element_store.proofs.TakenBlocks.{taken_all, taken_room}
@@ -36,8 +36,8 @@ module _ (shape : Shape) (is : IsShape shape) (old mid : Medium) (same : mid.ima
   pub surveyed_kept : (state : State) → (Quiet old → IsIdle old mid) → KeptThroughout shape state old mid
   surveyed_kept state idle = idle_kept shape is state untouched old mid idle
 
-  pub none_ready : (set : List Bool) → IsClean shape old.image → chosen old.image shape ≡ None → IsReady shape old.image mid.image set 1
-  none_ready set clean none = subst (λ (im : Image). IsReady shape old.image im set 1) (sym same)
+  pub none_ready : (set : List Bool) → IsClean shape old.image → chosen old.image shape ≡ None → IsGround shape old.image mid.image set 1
+  none_ready set clean none = subst (λ (im : Image). IsGround shape old.image im set 1) (sym same)
       (ready_none corrupt_law (anew_contents aside) (anew_done aside) (anew_index aside) shape old.image set is clean none)
 
   module _ (new : Medium) where
@@ -54,7 +54,7 @@ module _ (shape : Shape) (is : IsShape shape) (old mid : Medium) (same : mid.ima
     settled_ready_by : (opens : Bool) (seen : Seen) (index : Index) (set : List Bool) → IsClean shape old.image → chosen old.image shape ≡ Some (opens, (seen, index))
         → fit_index shape seen.text ≡ Some index → IsIndex index → AllByRecursion (λ (e : IndexEntry). HasAll set e.blocks) index.entries
         → IsLeftWith opens shape.place.first shape.place.copies seen.generation seen.text old.image new.image
-        → Spares (IsNoSlot shape.place.first shape.place.copies) old.image new.image → IsReady shape old.image new.image set (seen.generation + 1)
+        → Spares (IsNoSlot shape.place.first shape.place.copies) old.image new.image → IsGround shape old.image new.image set (seen.generation + 1)
     settled_ready_by true seen index set clean chose fit rules takes left areas =
         ready_opened shape old.image new.image set is (contents_law aside) (contents_done_law aside) (index_law aside) seen.generation seen.text index
         (record { clean = clean; opens = opened_at shape old.image opened_law (seen, index) chose; alone = left; areas = areas }) rules takes
@@ -66,13 +66,13 @@ module _ (shape : Shape) (is : IsShape shape) (old mid : Medium) (same : mid.ima
       pub settled_ready : (next : ℕ) → HasNext (salvage_of (store_at old.image shape)) → salvage_of (store_at old.image shape) ≡ Some found.view
           → next ≡ min (found.view.generation + 1) (2 ^ 64 - 1) → IsClean shape old.image → Some (text_of found) ≡ chosen old.image shape
           → IsLeftWith found.opens shape.place.first shape.place.copies found.seen.generation found.seen.text mid.image new.image
-          → Spares (IsNoSlot shape.place.first shape.place.copies) mid.image new.image → IsReady shape old.image new.image set next
+          → Spares (IsNoSlot shape.place.first shape.place.copies) mid.image new.image → IsGround shape old.image new.image set next
       settled_ready next fresh salvaged next_is clean chose left areas =
           let below : found.view.generation < 2 ^ 64 - 1 = subst HasNext salvaged fresh in
           let generation_is = found_is.generation in
           let e : next ≡ found.seen.generation + 1 = omega (arith, next_is, below, generation_is) in
           let fit = found_is.text.index in
-          subst (λ (n : ℕ). IsReady shape old.image new.image set n) (sym e)
+          subst (λ (n : ℕ). IsGround shape old.image new.image set n) (sym e)
           (settled_ready_by found.opens found.seen found.index set clean (sym chose) fit.fit fit.rules (taken_all (area_blocks shape.allowed) found.index.entries set taken)
           (subst (λ (im : Image). IsLeftWith found.opens shape.place.first shape.place.copies found.seen.generation found.seen.text im new.image) same left)
           (subst (λ (im : Image). Spares (IsNoSlot shape.place.first shape.place.copies) im new.image) same areas))

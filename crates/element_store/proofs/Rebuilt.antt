@@ -21,7 +21,7 @@ use Rattle.index_text.specs.Rules.{IsIndex}
 use Rattle.element_state.specs.declared.shapes.Shape.{Shape}
 use Rattle.element_state.specs.Chosen.{chosen, or_first}
 use Rattle.element_state.specs.Clean.{IsClean}
-use Rattle.element_state.specs.Conditions.{IsShape}
+use Rattle.element_state.specs.Conditions.{IsInUse, IsShape}
 use Rattle.element_state.specs.Fit.{FitText, fit_index, fit_texts}
 use Rattle.element_state.specs.Kept.{heading, IsKeptCase, KeptThroughout}
 use Rattle.element_state.specs.States.{State, store_at, fresh_entry, fresh_map, fresh_view, fresh_state}
@@ -31,8 +31,8 @@ use Rattle.element_laws.proofs.Lists.{In, zip_with, some_is, not_false}
 use Rattle.element_laws.proofs.Fits.{fit_at, fit-In, fit-spelled}
 use Rattle.element_store.specs.Plans.{HasAll}
 use Rattle.element_store.specs.Spelled.{ShowsFresh, IsTextOf, IsContentsCase}
-use Rattle.element_store.specs.Rebuilds.{IsReady}
-use Rattle.element_store.proofs.Made.{shown_still, made_opens}
+use Rattle.element_store.specs.Rebuilds.{IsGround}
+use Rattle.element_store.proofs.Made.{shown_still, made_in_use, made_opens}
 use Rattle.element_store.proofs.Fulls.{view_areas}
 use Rattle.element_store.proofs.Shown.{view_gives}
 
@@ -78,7 +78,7 @@ module _ (shape : Shape) (start : Image) where
 module _ (shape : Shape) (start now : Image) (set : List Bool) (is : IsShape shape) where
   -- beside the text at which it opened
   pub ready_opened : ContentsLaw → ContentsDoneLaw → IndexLaw → (g : ℕ) (text : List ℕ) (index : Index) → IsAdopted shape start now g text index → IsIndex index
-      → AllByRecursion (λ (e : IndexEntry). HasAll set e.blocks) index.entries → IsReady shape start now set (g + 1)
+      → AllByRecursion (λ (e : IndexEntry). HasAll set e.blocks) index.entries → IsGround shape start now set (g + 1)
   ready_opened contents contents_done law g text index adopted rules takes = record {
     during = λ after old c settled keeps. contents shape start now g text index (holds set) after old c is.some adopted rules takes settled keeps;
     done = λ then after c keeps settled. contents_done shape start now then g text index (holds set) after c is.some adopted rules takes keeps settled;
@@ -89,7 +89,7 @@ module _ (shape : Shape) (start now : Image) (set : List Bool) (is : IsShape sha
 
   -- beside what is held of a corrupt one
   pub ready_given_up : AnewContentsLaw → AnewDoneLaw → AnewIndexLaw → (g : ℕ) → IsGivenUp shape start now → TakesNamed (holds set) shape.place now
-      → ((copy h : ℕ) (u : List ℕ) → copy < shape.place.copies → Holds now shape.place.first copy h u → h < g) → IsReady shape start now set g
+      → ((copy h : ℕ) (u : List ℕ) → copy < shape.place.copies → Holds now shape.place.first copy h u → h < g) → IsGround shape start now set g
   ready_given_up contents contents_done law g given_up takes below = record {
     during = λ after old c settled keeps. contents shape start now (holds set) after old c is.some given_up takes settled keeps;
     done = λ then after c keeps settled. contents_done shape start now then (holds set) after c is.some given_up takes keeps settled;
@@ -100,7 +100,7 @@ module _ (shape : Shape) (start now : Image) (set : List Bool) (is : IsShape sha
   -- beside its salvage
   pub ready_salvaged : GivenUpLaw → TakenLaw → AnewContentsLaw → AnewDoneLaw → AnewIndexLaw → (g : ℕ) (text : List ℕ) (index : Index) → IsClean shape start → IsCorruptAt shape start
       → fit_index shape text ≡ Some index → IsIndex index → AllByRecursion (λ (e : IndexEntry). HasAll set e.blocks) index.entries
-      → IsKeptAlone shape.place.first shape.place.copies g text start now → Spares (IsNoSlot shape.place.first shape.place.copies) start now → IsReady shape start now set (g + 1)
+      → IsKeptAlone shape.place.first shape.place.copies g text start now → Spares (IsNoSlot shape.place.first shape.place.copies) start now → IsGround shape start now set (g + 1)
   ready_salvaged given_up taken contents contents_done law g text index clean corrupt fit rules takes alone areas =
       let (up, only) = given_up shape start now g text clean corrupt alone areas in
       ready_given_up contents contents_done law (g + 1) up
@@ -109,7 +109,7 @@ module _ (shape : Shape) (start now : Image) (set : List Bool) (is : IsShape sha
 
 -- beside nothing
 pub ready_none : CorruptLaw → AnewContentsLaw → AnewDoneLaw → AnewIndexLaw → (shape : Shape) (start : Image) (set : List Bool) → IsShape shape → IsClean shape start
-    → chosen start shape ≡ None → IsReady shape start start set 1
+    → chosen start shape ≡ None → IsGround shape start start set 1
 ready_none corrupt contents contents_done law shape start set is clean none =
     let nothing = none_held shape start clean none in
     ready_given_up shape start start set is contents contents_done law 1
@@ -164,7 +164,7 @@ written_fresh shape then g (f ∷ fs) (e ∷ es) zip = (
   written_fresh shape then g fs es zip.1,
 )
 
-module _ (shape : Shape) (start : Image) (set : List Bool) (g : ℕ) (contents : List Fresh) (old mid : Medium) (ready : IsReady shape start old.image set g) (quiet : Quiet old) where
+module _ (shape : Shape) (start : Image) (set : List Bool) (g : ℕ) (contents : List Fresh) (old mid : Medium) (ready : IsGround shape start old.image set g) (quiet : Quiet old) where
   pub contents_kept : (state : State) (done : Type 0) → (done → Keeps (IsNoArea shape.place.first shape.place.copies) (λ k. holds set k ≡ true) old.image mid.image)
       → EachCase (IsContentsCase shape.place.first shape.place.copies set old mid done) old mid → EachCase (IsKeptCase shape (store_at start shape) state) old mid
   contents_kept state done keeps each c past = ⊎_elim
@@ -187,6 +187,14 @@ module _ (mid image : Image) (shape : Shape) (g : ℕ) (contents : List Fresh) (
   pub rebuilt_opens : store_at image shape ≡ fresh_state g (fresh_map contents)
   unfolding fresh_state
   rebuilt_opens = made_opens shape image g contents index is
+      (subst (λ (t : List ℕ). IsAlone image shape.place.first shape.place.copies g t) spelled.spelled alone)
+      (subst (λ (t : List ℕ). fit_index shape t ≡ Some index) spelled.spelled spelled.fit)
+      (shown_still mid image shape.place shape.m g
+      (λ e. view_areas mid image shape.place shape.m e (λ c lt. same (area shape.place.first c) (area_no_slot shape.place.first shape.place.copies c)))
+      contents index.entries shown)
+
+  pub rebuilt_in_use : IsInUse shape image index (fresh_view g (fresh_map contents))
+  rebuilt_in_use = made_in_use shape image g contents index is
       (subst (λ (t : List ℕ). IsAlone image shape.place.first shape.place.copies g t) spelled.spelled alone)
       (subst (λ (t : List ℕ). fit_index shape t ≡ Some index) spelled.spelled spelled.fit)
       (shown_still mid image shape.place shape.m g

@@ -17,19 +17,19 @@ use Rattle.block_files.specs.BlockSets.{holds}
 use Rattle.index_text.specs.declared.entries.Index.{Index}
 use Rattle.element_state.specs.declared.shapes.Shape.{Shape}
 use Rattle.element_state.specs.Clean.{IsClean}
-use Rattle.element_state.specs.Conditions.{IsShape}
+use Rattle.element_state.specs.Conditions.{IsInUse, IsShape}
 use Rattle.element_state.specs.Kept.{IsKeptCase, KeptThroughout}
-use Rattle.element_state.specs.States.{State, store_at, salvage_of, next_generation, fresh_map, fresh_state}
+use Rattle.element_state.specs.States.{State, store_at, salvage_of, next_generation, fresh_map, fresh_state, fresh_view}
 use Rattle.element_store.specs.Spelled.{ShowsFresh, IsTextOf, IsContentsCase}
-use Rattle.element_store.specs.Rebuilds.{IsReady}
+use Rattle.element_store.specs.Rebuilds.{IsGround, IsMadeAnew}
 use Rattle.element_store.proofs.Around.{contents_around}
-use Rattle.element_store.proofs.Rebuilt.{contents_kept, anew_kept, rebuilt_opens}
+use Rattle.element_store.proofs.Rebuilt.{contents_kept, anew_kept, rebuilt_in_use, rebuilt_opens}
 
 -- ---- at every moment
 
 module _ (shape : Shape) (set : List Bool) (g : ℕ) (contents : List Fresh) (start ready_at : Medium) (before : Elapses start ready_at)
     (prepared : (state : State) → KeptThroughout shape state start ready_at)
-    (ready : IsClean shape start.image → IsReady shape start.image ready_at.image set g) (quiet_now : Quiet ready_at) (mid : Medium) (then : Elapses ready_at mid) where
+    (ready : IsClean shape start.image → IsGround shape start.image ready_at.image set g) (quiet_now : Quiet ready_at) (mid : Medium) (then : Elapses ready_at mid) where
   -- until the contents are there
   pub contents_anew : (state : State) (done : Type 0) → (done → Keeps (IsNoArea shape.place.first shape.place.copies) (λ k. holds set k ≡ true) ready_at.image mid.image)
       → EachCase (IsContentsCase shape.place.first shape.place.copies set ready_at mid done) ready_at mid → KeptThroughout shape state start mid
@@ -83,3 +83,17 @@ anew_opens mid image shape g contents cell index text is of spelled held same sh
     (subst (λ (p : Place). IsAlone image p.first p.copies cell.generation text) of.lies held))
     same shown
     ∙ ap (λ (h : ℕ). fresh_state h (fresh_map contents)) e
+
+-- and is in use there
+pub anew_in_use : (mid image : Image) (shape : Shape) (g : ℕ) (contents : List Fresh) (cell : Cell) (index : Index) (text : List ℕ) → IsShape shape → IsCellOf shape.place g cell
+    → IsTextOf shape text index → index.format ≡ 2 → CellAt image cell text → Spares (IsNoSlot shape.place.first shape.place.copies) mid image
+    → ShowsFresh mid shape.place shape.m g contents index.entries → (n : ℕ) → g ≡ n → IsMadeAnew shape image (fresh_view n (fresh_map contents))
+anew_in_use mid image shape g contents cell index text is of spelled two held same shown n e = record {
+  index = index;
+  format = two;
+  in_use = subst (λ (h : ℕ). IsInUse shape image index (fresh_view h (fresh_map contents))) e
+      (rebuilt_in_use mid image shape g contents index text is spelled
+      (subst (λ (h : ℕ). IsAlone image shape.place.first shape.place.copies h text) of.counts
+      (subst (λ (p : Place). IsAlone image p.first p.copies cell.generation text) of.lies held))
+      same shown);
+}

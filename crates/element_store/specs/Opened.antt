@@ -3,31 +3,40 @@ use Rattle.std.specs.Prelude.{◌≡◌, List, map, true, Some, find}
 use Rattle.std.specs.List.{AllZip}
 use Rattle.disk_model.specs.Image.{Image}
 use Rattle.disk_model.specs.Case.{Case}
+use Rattle.guarded_cell.specs.declared.looking.Seen.{Seen}
+use Rattle.index_text.specs.declared.entries.Index.{Index}
 use Rattle.index_text.specs.Sizes.{area_blocks}
 use Rattle.element_state.specs.declared.shapes.Shape.{Shape}
 use Rattle.element_state.specs.Fit.{FitText, fit_texts}
 use Rattle.element_state.specs.Views.{qualifies, view_of}
 use Rattle.element_state.specs.States.{mended_entry, store_at}
 use Rattle.element_state.specs.Chosen.{IsFit, IsReadBy, opened_of}
+use Rattle.element_state.specs.Read.{IsView}
 use Rattle.element_state.specs.Reports.{reports}
 use Rattle.element_laws.specs.Phases.{MendsNoOther}
-use Rattle.element_store.specs.declared.opening.Ready.{Ready}
+use Rattle.element_store.specs.declared.opening.OpeningPlan.{OpeningPlan}
 use Rattle.element_store.specs.Stores.{AreTaken}
 
 -- whatever the disk tells: a text that fits, its view, and what follows from these
-pub record IsReady (shape : Shape) (r : Ready) : Type 0 where
+pub record IsOpeningPlan (shape : Shape) (r : OpeningPlan) : Type 0 where
   pub text : IsFit shape (r.seen, r.index)
   pub generation : r.before.generation ≡ r.seen.generation
   pub read : AllZip (IsReadBy shape.place.copies) r.index.entries r.before.entries
+  pub view : IsView shape r.before
   pub entries : r.entries.items ≡ map mended_entry r.before.entries
   pub reports : r.reports.items ≡ reports (λ bytes. true) shape r.before
   pub taken : AreTaken (area_blocks shape.allowed) r.index.entries r.used
 
 -- the storage opens at the text, and at its view
-pub record IsFoundOn (image : Image) (shape : Shape) (r : Ready) : Type 0 where
+pub record IsFoundOn (image : Image) (shape : Shape) (r : OpeningPlan) : Type 0 where
   pub first : find (qualifies image shape) (fit_texts shape image) ≡ Some (r.seen, r.index)
   pub view : r.before ≡ view_of image shape (r.seen, r.index)
   pub opens : opened_of (store_at image shape) ≡ Some r.before
+
+-- the storage opens at a text that spells this index
+pub record OpensBy (image : Image) (shape : Shape) (index : Index) : Type 0 where
+  pub seen : Seen
+  pub first : find (qualifies image shape) (fit_texts shape image) ≡ Some (seen, index)
 
 -- no half of a mend of the text at which the storage opens passes for a content in this case
 abbrev pub MendsByNoChance : Shape → (start : Image) → Case → Type 0

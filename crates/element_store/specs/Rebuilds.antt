@@ -11,6 +11,7 @@ use Rattle.block_files.specs.BlockSets.{holds}
 use Rattle.index_text.specs.declared.entries.Index.{Index}
 use Rattle.element_state.specs.declared.shapes.Shape.{Shape}
 use Rattle.element_state.specs.declared.shapes.View.{View}
+use Rattle.element_state.specs.Conditions.{IsInUse}
 use Rattle.element_state.specs.Fit.{fit_index}
 use Rattle.element_state.specs.States.{State, Opens, store_at, greatest_generation}
 use Rattle.element_state.specs.Kept.{IsKeptCase}
@@ -18,7 +19,7 @@ use Rattle.element_laws.specs.Phases.{IsWritten}
 
 -- From here contents may be written outside the blocks of the set, and then an index under this generation: at every moment of it the storage
 -- is kept from its state at the start.
-pub record IsReady (shape : Shape) (start now : Image) (set : List Bool) (generation : ℕ) : Type 0 where
+pub record IsGround (shape : Shape) (start now : Image) (set : List Bool) (generation : ℕ) : Type 0 where
   -- while contents are written
   pub during : (after : State) (old c : Case) → IsSettledAt now old
       → KeepsCase (IsNoArea shape.place.first shape.place.copies) (λ k. holds set k ≡ true) old c → IsKeptCase shape (store_at start shape) after c
@@ -40,6 +41,12 @@ IsLeftWith false first copies generation text old new = IsKeptAlone first copies
 abbrev pub SettleStops : (opens : Bool) → (first copies generation : ℕ) → List ℕ → Image → Case → Type 0
 SettleStops true first copies generation text start c = PutStops first copies generation text start c
 SettleStops false first copies generation text start c = KeepStops first copies generation text start c
+
+-- a storage in use at a view, by an index of format 2
+pub record IsMadeAnew (shape : Shape) (image : Image) (v : View) : Type 0 where
+  pub index : Index
+  pub format : index.format ≡ 2
+  pub in_use : IsInUse shape image index v
 
 -- a generation is left after this view
 abbrev pub HasNext : Option View → Type 0

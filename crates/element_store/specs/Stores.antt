@@ -44,6 +44,7 @@ pub record AreTaken (blocks : ℕ) (entries : List IndexEntry) (set : List Bool)
 pub record IsStore (store : Store) : Type 0 where
   pub place : place_of store.cell ≡ store.shape.place
   pub shape : IsShape store.shape
+  pub positive : 1 ≤ generation_of store.cell
   pub index : IsTextOf store.shape (index_text store.index) store.index
   pub entries : AllZip (IsReadBy store.shape.place.copies) store.index.entries store.entries.items
   pub taken : AreTaken (area_blocks store.shape.allowed) store.index.entries store.used

@@ -9,6 +9,7 @@ ghost use Rattle.disk_model.specs.Place.{IsOutside};
 ghost use Rattle.element_state.specs.States.{fresh_element, fresh_entry, fresh_map, fresh_view};
 ghost use Rattle.element_state.specs.Clean.{IsClean};
 ghost use Rattle.element_state.specs.Conditions.{IsShape, AreContents};
+ghost use Rattle.element_store.specs.Committing.{index_in};
 ghost use Rattle.element_store.specs.Stores.{IsUsed, shape_of, view_in};
 
 use crate::store::Store;
@@ -38,6 +39,7 @@ pub fn create<D: Disk>(
     ensures used { IfOk result (IsUsed D.told (D.medium disk.new).image) }
     ensures shape { IfOk result (λ store. shape_of store ≡ shape) }
     ensures view { IfOk result (λ store. view_in store ≡ fresh_view 1 (fresh_map contents.items)) }
+    ensures format { IfOk result (λ store. (index_in store).format ≡ 2) }
     ensures clean { IsTrue D.told → OnOk result (IsClean shape (D.medium disk.new).image) }
     ensures quiet { OnOk result (Quiet (D.medium disk.new)) }
 

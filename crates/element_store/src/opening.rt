@@ -9,9 +9,11 @@ ghost use Rattle.element_state.specs.Chosen.{opened_of};
 ghost use Rattle.element_state.specs.Clean.{IsClean};
 ghost use Rattle.element_state.specs.Conditions.{IsShape};
 ghost use Rattle.element_state.specs.Kept.{IsKeptCase};
+ghost use Rattle.element_state.specs.Read.{IsView};
 ghost use Rattle.element_state.specs.Reports.{reports};
 ghost use Rattle.element_state.specs.States.{State, store_at, mended_view};
-ghost use Rattle.element_store.specs.Opened.{IsReady, IsFoundOn, MendsByNoChance};
+ghost use Rattle.element_store.specs.Opened.{IsOpeningPlan, IsFoundOn, MendsByNoChance, OpensBy};
+ghost use Rattle.element_store.specs.Committing.{index_in};
 ghost use Rattle.element_store.specs.Stores.{IsUsed, shape_of, view_in};
 
 use crate::mending::{mend_durably, mended_entries};
@@ -33,6 +35,7 @@ use std::alloc::Global;
 /// A storage that was opened.
 #[derive(Debug, Drop)]
 pub struct OpenedStore {
+    /// The storage, in use.
     pub store: Store,
     /// What was lacking, or could not be read: of the storage first, then of its elements by their names.
     pub reports: Vec<Report>,
@@ -57,6 +60,11 @@ pub fn open_store<D: Disk>(
     ensures view { IfOk result (λ o. view_in o.store ≡ mended_view shape o.before) }
     ensures used { IfOk result (λ o. IsUsed D.told (D.medium disk.new).image o.store) }
     ensures shape { IfOk result (λ o. shape_of o.store ≡ shape) }
+    ensures read { IfOk result (λ o. IsView shape o.before) }
+    ensures shown { IfOk result (λ o. IsView shape (view_in o.store)) }
+
+    // It adopts the very text at which the storage opens.
+    ensures adopted { IsTrue D.told → IfOk result (λ o. OpensBy (D.medium disk.old).image shape (index_in o.store)) }
     ensures reports { IfOk result (λ o. o.reports.items ≡ reports (λ bytes. true) shape o.before) }
     ensures clean { IsTrue D.told → IsClean shape (D.medium disk.old).image → OnOk result (IsClean shape (D.medium disk.new).image) }
     ensures quiet { OnOk result (Quiet (D.medium disk.new)) }
@@ -86,7 +94,7 @@ pub fn open_store<D: Disk>(
     adopting_keeps();
     mending_keeps();
     places_are_clean();
-    let Ready {
+    let OpeningPlan {
         seen,
         index,
         before,
@@ -111,7 +119,7 @@ pub fn open_store<D: Disk>(
 
 /// What an opening knows and takes before it writes anything.
 #[derive(Drop)]
-struct Ready {
+struct OpeningPlan {
     seen: Seen,
     index: Index,
     before: View,
@@ -123,9 +131,9 @@ struct Ready {
 }
 
 // Reads the text at which the storage opens, and takes the memory for the rest.
-fn prepare<D: Disk>(alloc: Global, disk: &mut D, shape: &Shape) -> Result<Ready, StoreError>
+fn prepare<D: Disk>(alloc: Global, disk: &mut D, shape: &Shape) -> Result<OpeningPlan, StoreError>
     requires { IsShape shape.now }
-    ensures ready { IfOk result (IsReady shape.now) }
+    ensures ready { IfOk result (IsOpeningPlan shape.now) }
     ensures found { IsTrue D.told → IfOk result (IsFoundOn (D.medium disk.old).image shape.now) }
     ensures corrupt { IsTrue D.told → IsErrOf result StoreError.Corrupt → opened_of (store_at (D.medium disk.old).image shape.now) ≡ None }
 
@@ -151,7 +159,7 @@ fn prepare<D: Disk>(alloc: Global, disk: &mut D, shape: &Shape) -> Result<Ready,
     let entries = mended_entries(alloc, view.entries.as_slice())?;
     let reports = reports_of(alloc, shape, &view)?;
     let used = blocks_taken_by(alloc, blocks_in_area(shape), index.entries.as_slice())?;
-    Ok(Ready {
+    Ok(OpeningPlan {
         seen,
         index,
         before: view,

@@ -8,11 +8,11 @@ ghost use Rattle.disk_model.specs.Place.{IsNoSlot, IsOutside};
 ghost use Rattle.guarded_cell.specs.Seens.{IsSealable};
 ghost use Rattle.block_files.specs.BlockSets.{free_of};
 ghost use Rattle.index_text.specs.Sizes.{area_blocks};
-ghost use Rattle.element_state.specs.States.{State, store_at, salvage_of, next_generation, fresh_map, fresh_state};
+ghost use Rattle.element_state.specs.States.{State, store_at, salvage_of, next_generation, fresh_map, fresh_state, fresh_view};
 ghost use Rattle.element_state.specs.Clean.{IsClean};
 ghost use Rattle.element_state.specs.Conditions.{IsShape, AreContents};
 ghost use Rattle.element_state.specs.Kept.{KeptThroughout};
-ghost use Rattle.element_store.specs.Rebuilds.{IsReady, IsLeftWith, SettleStops, HasNext};
+ghost use Rattle.element_store.specs.Rebuilds.{IsGround, IsMadeAnew, IsLeftWith, SettleStops, HasNext};
 
 use crate::taking::blocks_taken_by;
 use crate::writing::{blocks_in_area, put_contents};
@@ -41,6 +41,8 @@ pub fn rebuild<D: Disk>(
 
     ensures opens { IsTrue D.told → OnOk result (store_at (D.medium disk.new).image shape.now
         ≡ fresh_state (next_generation (salvage_of (store_at (D.medium disk.old).image shape.now))) (fresh_map contents.items)) }
+    ensures in_use { IsTrue D.told → OnOk result (IsMadeAnew shape.now (D.medium disk.new).image
+        (fresh_view (next_generation (salvage_of (store_at (D.medium disk.old).image shape.now))) (fresh_map contents.items))) }
     ensures clean { IsTrue D.told → OnOk result (IsClean shape.now (D.medium disk.new).image) }
     ensures quiet { OnOk result (Quiet (D.medium disk.new)) }
 
@@ -86,7 +88,7 @@ fn prepare<D: Disk>(alloc: Global, disk: &mut D, shape: &Shape) -> Result<Ground
     requires not_worn { IsTrue D.told → HasNext (salvage_of (store_at (D.medium disk.old).image shape.now)) }
 
     ensures ready { IsTrue D.told → IsClean shape.now (D.medium disk.old).image → IfOk result (λ ground.
-        IsReady shape.now (D.medium disk.old).image (D.medium disk.new).image ground.used ground.generation) }
+        IsGround shape.now (D.medium disk.old).image (D.medium disk.new).image ground.used ground.generation) }
     ensures generation { IsTrue D.told → IfOk result (λ ground.
         ground.generation ≡ next_generation (salvage_of (store_at (D.medium disk.old).image shape.now))) }
     ensures positive { IfOk result (λ ground. 1 ≤ ground.generation) }

@@ -8,12 +8,13 @@ use element_state::{Shape, View};
 use per_base::{Content, Entry, Name, Numbers, Report, ReportKind, Scope, StoreKind};
 use std::alloc::{AllocError, Global};
 
-// What an opening reports of this view: first of the storage, then of its elements.
-pub(crate) fn reports_of(
-    alloc: Global,
-    shape: &Shape,
-    view: &View,
-) -> Result<Vec<Report>, AllocError>
+/// What an opening reports of this view: first of the storage, then of its elements by their names. With storage scope a copy that lacks
+/// an element lacks the storage, and is reported with it alone.
+///
+/// # Errors
+///
+/// Only want of memory.
+pub fn reports_of(alloc: Global, shape: &Shape, view: &View) -> Result<Vec<Report>, AllocError>
     ensures { IfOk result (λ found. found.items ≡ reports (λ bytes. true) shape.now view.now) }
 {
     let mut found = Vec::new(alloc);

@@ -2,6 +2,7 @@
 
 ghost use Rattle.std.specs.Prelude.{◌≡◌};
 
+use crate::named::place_of;
 use block_files::BlockSet;
 use element_state::Shape;
 use guarded_cell::Cell;
@@ -25,7 +26,8 @@ impl Store {
     ghost use Rattle.std.specs.Option.{option_copied};
     ghost use Rattle.element_state.specs.Changes.{entry_at};
     ghost use Rattle.element_state.specs.Conditions.{size_of};
-    ghost use Rattle.element_store.specs.Stores.{IsStore, entries_of, generation_in};
+    ghost use Rattle.element_state.specs.Read.{IsView};
+    ghost use Rattle.element_store.specs.Stores.{IsStore, entries_of, generation_in, shape_of, view_in};
 
     // A storage of these parts.
     pub(crate) fn new(
@@ -48,6 +50,12 @@ impl Store {
         }
     }
 
+    /// What a storage in use shows is a view of it, so that names ascend. For the proofs of callers: it does nothing when it runs.
+    pub fn holds(&self)
+        requires { IsStore self.now }
+        ensures { IsView (shape_of self.now) (view_in self.now) }
+    {}
+
     /// The elements, ascending by name. Takes no memory.
     pub fn entries(&self) -> &[Entry]
         ensures { result.now ≡ entries_of self.now }
@@ -57,9 +65,14 @@ impl Store {
 
     /// The element of this name. Takes no memory.
     pub fn entry(&self, name: &Name) -> Option<&Entry>
+        requires { IsStore self.now }
         ensures { option_copied result ≡ entry_at name.now (entries_of self.now) }
     {
-        self.entries.iter().find(|entry| entry.name == *name)
+        let entries = self.entries.as_slice();
+        match place_of(entries, name) {
+            Ok(at) => Some(&entries[at]),
+            Err(_) => None,
+        }
     }
 
     /// The size in bytes: names and contents, readable or not. Takes no memory.

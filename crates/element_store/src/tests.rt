@@ -1,7 +1,8 @@
 //! A storage that is made on a disk in memory.
 
-ghost use Rattle.std.specs.Prelude.{◌≡◌, ◌≤◌, ◌+◌, IsTrue, length};
+ghost use Rattle.std.specs.Prelude.{◌≡◌, ◌≤◌, ◌+◌, IfOk, IsTrue, length};
 ghost use Rattle.index_text.specs.Rules.{has_info};
+ghost use Rattle.element_store.specs.Stores.{IsStore};
 
 use crate::{Shape, Store, StoreError, create};
 use disk_model::{MemDisk, Place};
@@ -28,6 +29,7 @@ fn with_one(
 ) -> Result<Store, StoreError>
     requires info { IsTrue (has_info StoreKind.Keys fresh.info) }
     requires small { length fresh.name + length fresh.bytes ≤ 64 }
+    ensures { IfOk result IsStore }
 {
     let shape = Shape {
         name: storage,

@@ -45,6 +45,7 @@ pub(crate) fn put_contents<D: Disk>(
     requires free { blocks_of_all contents.now ≤ free_of used.old }
 
     ensures fit { IfOk result (λ s. IsTextOf shape.now s.text s.index) }
+    ensures format { IfOk result (λ s. s.index.format ≡ 2) }
     ensures made { IfOk result (λ s. AllZip (IsMade generation) contents.now s.index.entries) }
     ensures shown { IsTrue D.told → IfOk result (λ s.
         ShowsFresh (D.medium disk.new).image shape.now.place shape.now.m generation contents.now s.index.entries) }

@@ -1,4 +1,5 @@
-use Rattle.std.proofs.Common.{◌≡◌, ℕ, List, length, IsTrue, sym, ap, subst, arith}
+use Rattle.element_store.specs.declared.store.Store.{Store}
+use Rattle.std.proofs.Common.{◌≡◌, ◌∙◌, ℕ, List, length, IsTrue, sym, ap, subst, arith}
 use Rattle.per_base.specs.declared.elements.Fresh.{Fresh}
 use Rattle.std.specs.List.{AllZip}
 use Rattle.index_text.proofs.Lengths.{text_is_short}
@@ -82,7 +83,10 @@ returns-clause-used g c =
     c.args.shape 1 c.args.contents.items c.in_ok-cell.cell c.in_ok-spelled.spelled.index c.as_slice-2.result.now c.requires.shape c.in_ok-cell.ensures.cell
     (subst (λ (t : List ℕ). IsTextOf c.args.shape t c.in_ok-spelled.spelled.index) (sym c.as_slice-2.ensures) c.in_ok-spelled.ensures.fit)
     c.in_ok-cell.ensures.held c.in_ok-cell.ensures.elsewhere (subst Q c.deref.ensures.value c.in_ok-spelled.ensures.shown)
-    c.args.alloc c.in_ok-entries.entries c.in_ok-taken.taken (taken_area c.args.shape c.in_ok-spelled.spelled.index c.as_slice.result.now c.blocks_in_area-2.result c.in_ok-taken.taken c.as_slice.ensures c.blocks_in_area-2.ensures c.in_ok-taken.ensures) (subst P c.deref.ensures.value c.in_ok-spelled.ensures.made) c.in_ok-entries.ensures c.new-2.result c.new-2.ensures
+    c.args.alloc c.in_ok-entries.entries c.in_ok-taken.taken (taken_area c.args.shape c.in_ok-spelled.spelled.index c.as_slice.result.now c.blocks_in_area-2.result c.in_ok-taken.taken c.as_slice.ensures c.blocks_in_area-2.ensures c.in_ok-taken.ensures) (subst P c.deref.ensures.value c.in_ok-spelled.ensures.made) c.in_ok-entries.ensures (omega arith) c.new-2.result c.new-2.ensures
+
+pub returns-clause-format : goal.returns-clause-format
+returns-clause-format g c = ap (λ (s : Store). s.index.format) c.new-2.ensures ∙ c.in_ok-spelled.ensures.format
 
 pub returns-clause-view : goal.returns-clause-view
 returns-clause-view g c =
@@ -92,4 +96,4 @@ returns-clause-view g c =
     c.args.shape 1 c.args.contents.items c.in_ok-cell.cell c.in_ok-spelled.spelled.index c.as_slice-2.result.now c.requires.shape c.in_ok-cell.ensures.cell
     (subst (λ (t : List ℕ). IsTextOf c.args.shape t c.in_ok-spelled.spelled.index) (sym c.as_slice-2.ensures) c.in_ok-spelled.ensures.fit)
     c.in_ok-cell.ensures.held c.in_ok-cell.ensures.elsewhere (subst Q c.deref.ensures.value c.in_ok-spelled.ensures.shown)
-    c.args.alloc c.in_ok-entries.entries c.in_ok-taken.taken (taken_area c.args.shape c.in_ok-spelled.spelled.index c.as_slice.result.now c.blocks_in_area-2.result c.in_ok-taken.taken c.as_slice.ensures c.blocks_in_area-2.ensures c.in_ok-taken.ensures) (subst P c.deref.ensures.value c.in_ok-spelled.ensures.made) c.in_ok-entries.ensures c.new-2.result c.new-2.ensures
+    c.args.alloc c.in_ok-entries.entries c.in_ok-taken.taken (taken_area c.args.shape c.in_ok-spelled.spelled.index c.as_slice.result.now c.blocks_in_area-2.result c.in_ok-taken.taken c.as_slice.ensures c.blocks_in_area-2.ensures c.in_ok-taken.ensures) (subst P c.deref.ensures.value c.in_ok-spelled.ensures.made) c.in_ok-entries.ensures (omega arith) c.new-2.result c.new-2.ensures

@@ -5,7 +5,10 @@ use Rattle.disk_model.specs.Medium.{EachCase}
 use Rattle.disk_model.specs.Place.{IsNoSlot}
 use Rattle.guarded_cell.specs.Stops.{PutStops}
 use Rattle.element_laws.specs.Phases.{OpensAt}
-use Rattle.element_store.proofs.Opened.{opening_used, opening_view, opening_clean, opening_shown, opening_alone, opening_opens, opening_spared, opening_whole}
+use Rattle.element_store.specs.declared.store.Store.{Store}
+use Rattle.element_store.specs.Committing.{index_in}
+use Rattle.element_store.proofs.Opened.{opening_used, opening_view, opening_clean, opening_shown, opening_alone, opening_opens, opening_spared, opening_whole, opening_by}
+use Rattle.element_store.proofs.StoreViews.{store_view_as}
 use Rattle.element_store.proofs.Moments.{first_kept, second_kept, third_kept, slots_outside, both_outside, second_outside, third_outside}
 use Rattle.element_store.proofs.opening.open_store.Goals as goal
 
@@ -65,6 +68,15 @@ returns-clause-used g c = opening_used g.D.Disk.told (g.D.Disk.medium c.args.dis
     (opening_spared g.D.Disk.told c.args.shape c.in_ok-seen.field-0 c.as_slice-2.result.now (g.D.Disk.medium c.adopt.new.disk).image (g.D.Disk.medium c.mend_durably.new.disk).image c.as_slice-2.ensures c.in_ok-mend_durably.ensures.spared)
     (opening_whole g.D.Disk.told c.args.shape c.in_ok-seen.field-0 c.as_slice-2.result.now (g.D.Disk.medium c.mend_durably.new.disk).image c.as_slice-2.ensures c.in_ok-mend_durably.ensures.whole)
     c.args.alloc c.new.result c.new.ensures
+
+pub returns-clause-read : goal.returns-clause-read
+returns-clause-read g c = c.in_ok-seen.ensures.ready.view
+
+pub returns-clause-shown : goal.returns-clause-shown
+returns-clause-shown g c = store_view_as c.new.result c.args.shape (ap (λ (s : Store). s.shape) c.new.ensures) (returns-clause-used g c).memory
+
+pub returns-clause-adopted : goal.returns-clause-adopted
+returns-clause-adopted g c = λ tells. opening_by (g.D.Disk.medium c.args.disk.now).image c.args.shape c.in_ok-seen.field-0 (index_in c.new.result) (ap index_in c.new.ensures) (c.in_ok-seen.ensures.found tells)
 
 pub returns-clause-clean : goal.returns-clause-clean
 returns-clause-clean g c = λ tells clean. opening_clean g.D.Disk.told (g.D.Disk.medium c.args.disk.now).image (g.D.Disk.medium c.adopt.new.disk).image (g.D.Disk.medium c.mend_durably.new.disk).image c.args.shape c.in_ok-seen.field-0 c.in_ok-cell.cell c.as_slice.result.now

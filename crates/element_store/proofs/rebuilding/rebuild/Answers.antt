@@ -9,7 +9,7 @@ use Rattle.element_store.specs.Plans.{blocks_of_all}
 use Rattle.element_store.specs.Spelled.{ShowsFresh, IsTextOf}
 use Rattle.element_store.proofs.Created.{created_clean}
 use Rattle.element_store.proofs.Ruled.{blocks_enough}
-use Rattle.element_store.proofs.RebuiltKept.{contents_anew, index_anew, contents_elsewhere, index_elsewhere, contents_outside, index_outside, anew_opens}
+use Rattle.element_store.proofs.RebuiltKept.{contents_anew, index_anew, contents_elsewhere, index_elsewhere, contents_outside, index_outside, anew_in_use, anew_opens}
 use Rattle.element_store.proofs.rebuilding.rebuild.Goals as goal
 
 pub returns-in_err-used-clause-kept : goal.returns-in_err-used-clause-kept
@@ -84,6 +84,14 @@ pub returns-clause-opens : goal.returns-clause-opens
 returns-clause-opens g c = λ tells. anew_opens (g.D.Disk.medium c.put_contents.new.disk).image (g.D.Disk.medium c.adopt.new.disk).image c.args.shape.now c.in_ok-used.field-0.generation c.args.contents.items c.in_ok-adopt.field-0 c.in_ok-spelled.spelled.index c.as_slice.result.now
     c.requires.shape c.in_ok-adopt.ensures.cell
     (subst (λ (t : List ℕ). IsTextOf c.args.shape.now t c.in_ok-spelled.spelled.index) (sym c.as_slice.ensures) c.in_ok-spelled.ensures.fit)
+    (c.in_ok-adopt.ensures.held tells) (c.in_ok-adopt.ensures.elsewhere tells)
+    (subst (λ (fs : List Fresh). ShowsFresh (g.D.Disk.medium c.put_contents.new.disk).image c.args.shape.now.place c.args.shape.now.m c.in_ok-used.field-0.generation fs c.in_ok-spelled.spelled.index.entries) c.deref.ensures.value (c.in_ok-spelled.ensures.shown tells))
+    (next_generation (salvage_of (store_at (g.D.Disk.medium c.args.disk.now).image c.args.shape.now))) (c.in_ok-used.ensures.generation tells)
+
+pub returns-clause-in_use : goal.returns-clause-in_use
+returns-clause-in_use g c = λ tells. anew_in_use (g.D.Disk.medium c.put_contents.new.disk).image (g.D.Disk.medium c.adopt.new.disk).image c.args.shape.now c.in_ok-used.field-0.generation c.args.contents.items c.in_ok-adopt.field-0 c.in_ok-spelled.spelled.index c.as_slice.result.now
+    c.requires.shape c.in_ok-adopt.ensures.cell
+    (subst (λ (t : List ℕ). IsTextOf c.args.shape.now t c.in_ok-spelled.spelled.index) (sym c.as_slice.ensures) c.in_ok-spelled.ensures.fit) c.in_ok-spelled.ensures.format
     (c.in_ok-adopt.ensures.held tells) (c.in_ok-adopt.ensures.elsewhere tells)
     (subst (λ (fs : List Fresh). ShowsFresh (g.D.Disk.medium c.put_contents.new.disk).image c.args.shape.now.place c.args.shape.now.m c.in_ok-used.field-0.generation fs c.in_ok-spelled.spelled.index.entries) c.deref.ensures.value (c.in_ok-spelled.ensures.shown tells))
     (next_generation (salvage_of (store_at (g.D.Disk.medium c.args.disk.now).image c.args.shape.now))) (c.in_ok-used.ensures.generation tells)
