@@ -1,5 +1,7 @@
 pub mod Initials
 pub mod Keeping
-pub mod Others
-pub mod Walked
 pub mod Making
+pub mod Others
+pub mod Stored
+pub mod Synced
+pub mod Walked

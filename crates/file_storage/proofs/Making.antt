@@ -60,12 +60,12 @@ module _ (P : List ℕ → Type 0) where
   each_passing : (file : List ℕ × Element) (others : Map → List Change) → ((stored : Map) → AllByRecursion P (names_of stored) → AllByRecursion P (map changed_name (others stored)))
       → (stored : Map) → P file.0 → AllByRecursion P (names_of stored) → AllByRecursion P (map changed_name (passing file others stored))
   each_passing file others later [] here all = (here, later [] tt)
-  each_passing file others later (e ∷ stored) here all = by (name_cmp e.0 file.0)
+  each_passing file others later (e ∷ stored) here all = by (each_passing file others later stored here all.1) (name_cmp e.0 file.0)
     where
-      by : (r : Ordering) → AllByRecursion P (map changed_name (match_ordering r (removed e ∷ passing file others stored) (cons_option (arrival file.0 (Some e.1) file.1) (others stored)) (put file.0 file.1 ∷ others (e ∷ stored))))
-      by Less = (all.0, each_passing file others later stored here all.1)
-      by Equal = each_option (arrival file.0 (Some e.1) file.1) (others stored) (λ change is. subst P (sym (arrival_name file.0 e.1 file.1 change is)) here) (later stored all.1)
-      by Greater = (here, later (e ∷ stored) all)
+      by : AllByRecursion P (map changed_name (passing file others stored)) → (r : Ordering) → AllByRecursion P (map changed_name (match_ordering r (removed e ∷ passing file others stored) (cons_option (arrival file.0 (Some e.1) file.1) (others stored)) (put file.0 file.1 ∷ others (e ∷ stored))))
+      by behind Less = (all.0, behind)
+      by behind Equal = each_option (arrival file.0 (Some e.1) file.1) (others stored) (λ change is. subst P (sym (arrival_name file.0 e.1 file.1 change is)) here) (later stored all.1)
+      by behind Greater = (here, later (e ∷ stored) all)
 
   each_walked : (files stored : Map) → AllByRecursion P (names_of files) → AllByRecursion P (names_of stored) → AllByRecursion P (map changed_name (walked files stored))
   each_walked [] stored of_files of_stored = each_removed stored of_stored
@@ -93,7 +93,7 @@ ascends_removed (e ∷ stored) sorted = ascends (removed e) (map removed stored)
 ascends_passing : (file : List ℕ × Element) (files stored : Map) → Above file.0 (names_of files) → ((other : Map) → NamesAscend pair_name other → NamesAscend changed_name (walked files other))
     → NamesAscend pair_name stored → NamesAscend changed_name (passing file (walked files) stored)
 ascends_passing file files [] above later sorted = ascends (put file.0 file.1) (walked files []) (each_walked (λ n. name_cmp file.0 n ≡ Less) files [] above tt) (later [] sorted)
-ascends_passing file files (e ∷ stored) above later sorted = by (name_cmp e.0 file.0) refl
+ascends_passing file files (e ∷ stored) above later sorted = by (ascends_passing file files stored above later (rest pair_name e stored sorted)) (name_cmp e.0 file.0) refl
   where
     beyond : Above e.0 (names_of stored)
     beyond = first pair_name e stored sorted
@@ -106,14 +106,14 @@ ascends_passing file files (e ∷ stored) above later sorted = by (name_cmp e.0 
     at_once None named all = later stored tail
     at_once (Some change) named all = ascends change (walked files stored) (subst (λ n. Above n (map changed_name (walked files stored))) (sym (named change refl)) all) (later stored tail)
 
-    by : (r : Ordering) → name_cmp e.0 file.0 ≡ r
+    by : NamesAscend changed_name (passing file (walked files) stored) → (r : Ordering) → name_cmp e.0 file.0 ≡ r
         → NamesAscend changed_name (match_ordering r (removed e ∷ passing file (walked files) stored) (cons_option (arrival file.0 (Some e.1) file.1) (walked files stored)) (put file.0 file.1 ∷ walked files (e ∷ stored)))
-    by Less p = ascends (removed e) (passing file (walked files) stored)
+    by behind Less p = ascends (removed e) (passing file (walked files) stored)
         (each_passing (λ n. name_cmp e.0 n ≡ Less) file (walked files) (λ other all. each_walked (λ n. name_cmp e.0 n ≡ Less) files other (above_all e.0 file.0 (names_of files) p above) all) stored p beyond)
-        (ascends_passing file files stored above later tail)
-    by Equal p = at_once (arrival file.0 (Some e.1) file.1) (λ change is. arrival_name file.0 e.1 file.1 change is)
+        behind
+    by behind Equal p = at_once (arrival file.0 (Some e.1) file.1) (λ change is. arrival_name file.0 e.1 file.1 change is)
         (each_walked (λ n. name_cmp file.0 n ≡ Less) files stored above (subst (λ n. Above n (names_of stored)) (exact_bytes e.0 file.0 p) beyond))
-    by Greater p =
+    by behind Greater p =
         let less : name_cmp file.0 e.0 ≡ Less = greater_less e.0 file.0 p in
         ascends (put file.0 file.1) (walked files (e ∷ stored))
         (each_walked (λ n. name_cmp file.0 n ≡ Less) files (e ∷ stored) above (less, above_all file.0 e.0 (names_of stored) less beyond))
@@ -169,7 +169,7 @@ exact_passing file files [] above later sorted name = by (bytes_eq file.0 name) 
         let named : file.0 ≡ name = same_names file.0 name t in
         change_is name (put file.0 file.1) (walked files []) true t ∙ ap (λ n. Some (put n file.1)) named ∙ sym (ap (difference name None) (head_is name file files true t))
     by false f rest_of = change_is name (put file.0 file.1) (walked files []) false f ∙ rest_of ∙ sym (ap (difference name None) (head_is name file files false f))
-exact_passing file files (e ∷ stored) above later sorted name = by (name_cmp e.0 file.0) refl
+exact_passing file files (e ∷ stored) above later sorted name = by (exact_passing file files stored above later (rest pair_name e stored sorted) name) (name_cmp e.0 file.0) refl
   where
     beyond : Above e.0 (names_of stored)
     beyond = first pair_name e stored sorted
@@ -178,14 +178,14 @@ exact_passing file files (e ∷ stored) above later sorted name = by (name_cmp e
     tail = rest pair_name e stored sorted
 
     -- the stored file comes first: it is taken away
-    removes : name_cmp e.0 file.0 ≡ Less → (b : Bool) → bytes_eq e.0 name ≡ b → ExactAt name (e ∷ stored) (file ∷ files) (removed e ∷ passing file (walked files) stored)
-    removes less true t =
+    removes : ExactAt name stored (file ∷ files) (passing file (walked files) stored) → name_cmp e.0 file.0 ≡ Less → (b : Bool) → bytes_eq e.0 name ≡ b → ExactAt name (e ∷ stored) (file ∷ files) (removed e ∷ passing file (walked files) stored)
+    removes behind less true t =
         let named : e.0 ≡ name = same_names e.0 name t in
         let gone : element_at (file ∷ files) name ≡ None =
         element_above name (file ∷ files) (subst (λ n. Above n (names_of (file ∷ files))) named (less, above_all e.0 file.0 (names_of files) less above)) in
         change_is name (removed e) (passing file (walked files) stored) true t ∙ ap (λ n. let change : Change = Remove n in Some change) named
         ∙ sym (ap (λ o. difference name o (element_at (file ∷ files) name)) (head_is name e stored true t) ∙ ap (difference name (Some e.1)) gone)
-    removes less false f = change_is name (removed e) (passing file (walked files) stored) false f ∙ exact_passing file files stored above later tail name
+    removes behind less false f = change_is name (removed e) (passing file (walked files) stored) false f ∙ behind
         ∙ sym (ap (λ o. difference name o (element_at (file ∷ files) name)) (head_is name e stored false f))
 
     -- both have the name
@@ -225,11 +225,11 @@ exact_passing file files (e ∷ stored) above later sorted name = by (name_cmp e
     adds above_it false f = change_is name (put file.0 file.1) (walked files (e ∷ stored)) false f ∙ later (e ∷ stored) sorted name
         ∙ sym (ap (difference name (element_at (e ∷ stored) name)) (head_is name file files false f))
 
-    by : (r : Ordering) → name_cmp e.0 file.0 ≡ r
+    by : ExactAt name stored (file ∷ files) (passing file (walked files) stored) → (r : Ordering) → name_cmp e.0 file.0 ≡ r
         → ExactAt name (e ∷ stored) (file ∷ files) (match_ordering r (removed e ∷ passing file (walked files) stored) (cons_option (arrival file.0 (Some e.1) file.1) (walked files stored)) (put file.0 file.1 ∷ walked files (e ∷ stored)))
-    by Less p = removes p (bytes_eq e.0 name) refl
-    by Equal p = meets p (bytes_eq file.0 name) refl
-    by Greater p = adds p (bytes_eq file.0 name) refl
+    by behind Less p = removes behind p (bytes_eq e.0 name) refl
+    by behind Equal p = meets p (bytes_eq file.0 name) refl
+    by behind Greater p = adds p (bytes_eq file.0 name) refl
 
 exact_walked : (files stored : Map) → NamesAscend pair_name files → NamesAscend pair_name stored → Exact (walked files stored) stored files
 exact_walked [] stored of_files of_stored = exact_removed stored of_stored

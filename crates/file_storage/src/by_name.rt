@@ -1,7 +1,7 @@
 //! The calls by name.
 
 ghost use Rattle.std.specs.Prelude.{◌≡◌, ◌≤◌, length, ⊤, MatchOption, option_copied, IfErr, IfOk, OnErr, OnOk, Ok, Err};
-ghost use Rattle.per_base.specs.declared.elements.StoreKind.TheVariants.{Files};
+ghost use Rattle.per_base.specs.declared.elements.StoreKind.TheVariants as kinds;
 ghost use Rattle.deployment_model.specs.Conditions.{IsStorage};
 ghost use Rattle.deployment_model.specs.Data.{storage_data};
 ghost use Rattle.per_base.specs.Maps.{has, names_of, size_of};
@@ -75,6 +75,7 @@ impl Files {
         ensures beside { self.new ≡ record self.old { session = self.new.session } }
         ensures unchanged { OnErr result (self.new ≡ self.old) }
     {
+        self.table.holds();
         self.table.delete_file(name)
     }
 
@@ -89,6 +90,7 @@ impl Files {
         ensures unchanged { OnErr result (self.new ≡ self.old) }
     {
         let initial = initial_content(&self.config, name);
+        self.table.holds();
         self.table.recover_file(name, now, initial)
     }
 
@@ -111,7 +113,7 @@ impl Files {
 #[tactic(auto, using(crate::proofs::Initials::initial_small))]
 fn initial_content<'a>(config: &'a StorageConfig, name: &Name) -> Option<&'a [u8]>
     requires valid { IsStorage (storage_data config.now) }
-    requires of_files { config.now.kind ≡ Files }
+    requires of_files { config.now.kind ≡ kinds.Files }
     ensures initial { option_copied result ≡ initial_of (storage_data config.now) name.now }
     ensures small { MatchOption (option_copied result) ⊤ (λ bytes. length bytes ≤ 1048576) }
 {

@@ -2,6 +2,7 @@
 
 ghost use Rattle.std.specs.Prelude.{◌≡◌, ◌≤◌, ℕ, IsTrue, ◌↔◌, length};
 ghost use Rattle.deployment_model.specs.Data.{storage_data};
+ghost use Rattle.element_store.specs.Stores.{shape_of};
 ghost use Rattle.file_handles.specs.Tables.{IsTable};
 ghost use Rattle.file_storage.specs.FileSessions.{AreAsStored, IsConfigured, storage_of, stored_in};
 

@@ -1,7 +1,7 @@
 //! Making the working files durable.
 
 ghost use Rattle.std.specs.Prelude.{◌≡◌, [], IsTrue, IfOk, IfErr, OnOk, Some, None, IsSome, true, false, length, List, ℕ, ◌<◌, ⊤};
-ghost use Rattle.per_base.specs.declared.elements.StoreKind.TheVariants.{Files};
+ghost use Rattle.per_base.specs.declared.elements.StoreKind.TheVariants as kinds;
 ghost use Rattle.per_base.specs.Causes.{Rose};
 ghost use Rattle.disk_model.specs.Frame.{Spares, IsSettledOn};
 ghost use Rattle.disk_model.specs.Medium.{Quiet, EachCase, Elapses};
@@ -25,7 +25,7 @@ use crate::differences::{are_same, differences};
 use crate::files::Files;
 use disk_model::Disk;
 use element_laws::untouched_is_kept;
-use element_maps::changes_make_maps;
+use element_maps::{changes_make_maps, views_are_maps};
 use element_state::Change;
 use element_store::CommitFault;
 use file_core::writes;
@@ -92,7 +92,7 @@ impl Files {
         // Where nothing differs, the disk is not called. Else in each copy the contents that differ, and the index.
         ensures untouched { is_synced self ≡ true → disk.new ≡ disk.old }
         ensures written { is_synced self ≡ false → IfOk result (λ o. o.refused ≡ None → IsWithin (shape_of self.store).place.copies
-            (map_cost Files (stored_in self.store) self.session.files) (length (index_text (index_in o.files.store)))
+            (map_cost kinds.Files (stored_in self.store) self.session.files) (length (index_text (index_in o.files.store)))
             (D.medium disk.old).written (D.medium disk.new).written) }
 
         // A want of memory hands the storage back, and then nothing happened. Only a disk that failed closes it.
@@ -151,7 +151,7 @@ impl Files {
         ensures untouched { is_synced self ≡ true → disk.new ≡ disk.old }
         ensures written { is_synced self ≡ false → IfOk result (λ closed. OnDone closed ((text : List ℕ)
             × (IsTrue D.told → IsAlone (D.medium disk.new).image (shape_of self.store).place.first (shape_of self.store).place.copies (synced_view self).generation text)
-            × IsWithin (shape_of self.store).place.copies (map_cost Files (stored_in self.store) self.session.files) (length text)
+            × IsWithin (shape_of self.store).place.copies (map_cost kinds.Files (stored_in self.store) self.session.files) (length text)
             (D.medium disk.old).written (D.medium disk.new).written)) }
 
         // A want of memory hands the storage back, and then nothing happened. Only a disk that failed closes it.
@@ -208,6 +208,8 @@ impl Files {
         ensures syncing { IsSyncing D.told self (D.medium disk.old) (D.medium disk.new) }
     {
         changes_make_maps();
+        views_are_maps();
+        self.holds();
         let Files {
             alloc,
             config,
@@ -236,9 +238,11 @@ impl Files {
         requires { IsStore self.now.store }
         ensures { IfOk result (λ changes. IsSync (shape_of self.now.store) (λ bytes. true) (view_in self.now.store) (stored_in self.now.store) self.now.session.files changes.items) }
     {
+        views_are_maps();
         self.holds();
-        // self.store.holds();
-        differences(self.alloc, self.store.entries(), self.table.files())
+        self.store.holds();
+        let list = differences(self.alloc, self.store.entries(), self.table.files())?;
+        Ok(list)
     }
 
     /// Whether the working files are the stored ones. Takes no memory.
