@@ -28,9 +28,16 @@ use Rattle.index_text.specs.Rules.{has_info, max_len}
 use Rattle.element_state.specs.declared.shapes.Shape.{Shape}
 use Rattle.element_state.specs.Chosen as chosen
 use Rattle.element_state.specs.Conditions as conditions
+use Rattle.deployment_model.specs.Conditions.{IsStorage}
+use Rattle.deployment_model.specs.Data.{StorageData}
+use Rattle.element_state.specs.declared.shapes.View.{View}
+use Rattle.element_state.specs.Conditions.{IsShape}
 use Rattle.element_state.specs.Read.{IsEntryOf, IsView}
-use Rattle.element_state.specs.States.{mended_by, mended_entry}
-use Rattle.element_state.specs.Views.{element_of}
+use Rattle.element_state.specs.States.{mended_by, mended_entry, mended_view}
+use Rattle.element_state.specs.Views.{element_of, map_of}
+use Rattle.element_store.specs.declared.store.Store.{Store}
+use Rattle.element_store.specs.Stores.{entries_of, view_in}
+use Rattle.file_storage.specs.FileSessions.{IsConfigured, stored_in}
 use Rattle.element_maps.proofs.InOrder.{Above}
 use Rattle.file_storage.specs.StoredFiles.{IsStoredFile}
 
@@ -105,3 +112,24 @@ filled m later e more all sorted parts is =
     subst (λ names. IsStrictlySortedBy name_cmp names) (sym (ap names_of parts ∙ keys_are all)) sorted in
     ap (λ files. files ++ map element_of more) (is ∙ insert_last m e.name (element_of e).1 (map element_of more) ordered)
     ∙ append_assoc m ((e.name, (element_of e).1) ∷ []) (map element_of more) ∙ parts
+
+-- ---- what was opened
+
+pub is_shape : (config : StorageData) (shape : Shape) → IsStorage config → IsConfigured config shape → IsShape shape
+is_shape config shape valid configured = record {
+  some = subst (λ n. 1 ≤ n) (sym configured.m) valid.some_agree;
+  enough = subst (λ n. n ≤ shape.place.copies) (sym configured.m) (subst (λ n. config.m ≤ n) (sym configured.copies) valid.enough_copies);
+  small = subst (λ n. n ≤ 4194304) (sym configured.allowed) valid.maximum;
+}
+
+-- the storage then shows the files of its entries before
+pub opened_map : (shape : Shape) (store : Store) (before : View) → view_in store ≡ mended_view shape before → stored_in store ≡ map element_of before.entries
+unfolding mended_view
+opened_map shape store before view = ap map_of view ∙ mended_map before.entries
+
+pub opened_size : (shape : Shape) (store : Store) (before : View) → view_in store ≡ mended_view shape before → conditions.size_of (entries_of store) ≡ maps.size_of (map element_of before.entries)
+opened_size shape store before view = sym (size_is (entries_of store)) ∙ ap maps.size_of (opened_map shape store before view)
+
+pub opened_room : (config : StorageData) (shape : Shape) (before : View) → IsConfigured config shape → IsView shape before → maps.size_of (map element_of before.entries) ≤ config.maximum
+opened_room config shape before configured view =
+    subst (λ n. n ≤ config.maximum) (sym (size_is before.entries)) (subst (λ n. conditions.size_of before.entries ≤ n) configured.allowed view.small)

@@ -110,7 +110,6 @@ impl Files {
 }
 
 /// What the file of this name starts with.
-#[tactic(auto, using(crate::proofs::Initials::initial_small))]
 fn initial_content<'a>(config: &'a StorageConfig, name: &Name) -> Option<&'a [u8]>
     requires valid { IsStorage (storage_data config.now) }
     requires of_files { config.now.kind ≡ kinds.Files }

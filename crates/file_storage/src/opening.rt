@@ -4,6 +4,7 @@ ghost use Rattle.std.specs.Prelude.{◌≡◌, [], IsTrue, IfOk, OnOk, IsErrOf, 
 ghost use Rattle.std.specs.List.{AllByRecursion};
 ghost use Rattle.std.specs.List.Sorted.{IsStrictlySortedBy};
 ghost use Rattle.per_base.specs.Causes.{Rose};
+ghost use Rattle.per_base.specs.Maps.{with_element};
 ghost use Rattle.per_base.specs.Names.{name_cmp};
 ghost use Rattle.disk_model.specs.Frame.{Spares, IsSettledOn};
 ghost use Rattle.disk_model.specs.Medium.{Quiet, EachCase, Elapses};
@@ -24,6 +25,7 @@ ghost use Rattle.file_storage.specs.StoredFiles.{IsStoredFile};
 use crate::files::Files;
 use deployment_model::StorageConfig;
 use disk_model::Disk;
+use element_laws::untouched_is_kept;
 use element_state::{Shape, StoreError};
 use element_store::{OpenedStore, open_store};
 use file_core::File;
@@ -87,18 +89,22 @@ pub fn open_files<D: Disk>(
         (D.medium disk.old) (D.medium disk.new) }
     ensures time { Elapses (D.medium disk.old) (D.medium disk.new) }
 {
+    untouched_is_kept();
+    let name = config.name.copy()?;
     let storage = Storage {
-        name: config.name.copy()?,
+        name,
         read_only: config.read_only,
         maximum: config.maximum,
     };
     let config = config.copy(alloc)?;
+    let opened = open_store(alloc, disk, shape)?;
     let OpenedStore {
         store,
         reports,
         before,
-    } = open_store(alloc, disk, shape)?;
-    let files = working_files(alloc, before.entries.into_vec())?;
+    } = opened;
+    let entries = before.entries.into_vec();
+    let files = working_files(alloc, entries)?;
     let size = store.size();
     let table = FileTable::new(alloc, storage, files, size);
     let files = Files {
@@ -118,17 +124,27 @@ fn working_files(alloc: Global, entries: Vec<Entry>) -> Result<BTreeMap<Name, Fi
 {
     let mut files = BTreeMap::new(alloc);
     for entry in entries {
-        let Entry {
-            name,
-            info,
-            len,
-            content,
-            changed: _,
-            lacking: _,
-        } = entry;
-        if let Some(info) = info {
-            files.insert(name, File::stored(info, len, content))?;
-        }
+        add(&mut files, entry)?;
     }
     Ok(files)
+}
+
+/// Adds the file of an entry, moved.
+fn add(files: &mut BTreeMap<Name, File>, entry: Entry) -> Result<(), AllocError>
+    requires { IsStoredFile entry }
+    ensures { OnOk result (files.new.entries ≡ with_element files.old.entries entry.name (element_of entry).1) }
+{
+    let Entry {
+        name,
+        info,
+        len,
+        content,
+        changed: _,
+        lacking: _,
+    } = entry;
+    let Some(info) = info else {
+        return Ok(());
+    };
+    files.insert(name, File::stored(info, len, content))?;
+    Ok(())
 }

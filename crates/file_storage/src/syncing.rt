@@ -108,6 +108,7 @@ impl Files {
         ensures any_moment { IsTrue D.told → KeptThroughout (shape_of self.store) (Opens (synced_view self) []) (D.medium disk.old) (D.medium disk.new) }
         ensures time { Elapses (D.medium disk.old) (D.medium disk.new) }
     {
+        untouched_is_kept();
         if let Some(error) = self.refuses_sync(handle) {
             return Ok(FilesOutcome {
                 files: self,
@@ -167,6 +168,7 @@ impl Files {
         ensures any_moment { IsTrue D.told → KeptThroughout (shape_of self.store) (Opens (synced_view self) []) (D.medium disk.old) (D.medium disk.new) }
         ensures time { Elapses (D.medium disk.old) (D.medium disk.new) }
     {
+        untouched_is_kept();
         if let Some(error) = self.refuses_close() {
             return Ok(Closed::Refused(self, error));
         }
