@@ -3,7 +3,6 @@ use Rattle.std.proofs.Common.{◌≡◌, ℕ, ◌≤◌, List, [], ◌∷◌, le
 use Rattle.std.specs.Prelude.{Option, Some, None, MatchOption, ⊤, find, option_and_then}
 use Rattle.std.specs.List.{AllByRecursion}
 use Rattle.std.specs.Str.{bytes_eq}
-use Rattle.per_base.specs.declared.elements.StoreKind.{StoreKind}
 use Rattle.per_base.specs.declared.elements.StoreKind.TheVariants.{Files}
 use Rattle.deployment_model.specs.Conditions.{IsElement, IsStorage, StartsAs}
 use Rattle.deployment_model.specs.Data.{ElementData, StorageData}

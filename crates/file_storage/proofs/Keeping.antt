@@ -1,11 +1,11 @@
 -- What the calls leave of the files that cannot be read: each such file that is there afterwards was there before.
-use Rattle.std.proofs.Common.{◌≡◌, ℕ, ◌+◌, List, [], ◌∷◌, length, Bool, true, false, cond, refl, sym, ◌∙◌, ap, subst}
-use Rattle.std.specs.Prelude.{Option, Some, None, IsTrue, Result, Ok, Err, IfOk, IfErr, OnErr, OnOk, not, ◌&&◌, ◌==◌, nat_lt, take}
+use Rattle.std.proofs.Common.{◌≡◌, ℕ, ◌+◌, List, [], length, Bool, true, false, cond, refl, sym, ◌∙◌, ap, subst}
+use Rattle.std.specs.Prelude.{Option, Some, None, Result, Ok, Err, IfErr, OnErr, OnOk, not, ◌&&◌, ◌==◌, nat_lt, take}
 use Rattle.std.specs.BTreeMap.{is_at}
 use Rattle.std.specs.List.Sorted.{IsStrictlySortedBy}
 use Rattle.std.specs.Map.{keys_of}
 use Rattle.std.specs.Ordering.{nat_cmp}
-use Rattle.per_base.specs.declared.elements.Cause.TheVariants.{Application, Recovery, Reset}
+use Rattle.per_base.specs.declared.elements.Cause.TheVariants.{Application, Recovery}
 use Rattle.per_base.specs.declared.elements.Content.{Content}
 use Rattle.per_base.specs.declared.elements.Content.TheVariants.{Good, Bad}
 use Rattle.per_base.specs.declared.elements.Element.{Element}
@@ -20,8 +20,7 @@ use Rattle.per_base.specs.Modes.{truncates}
 use Rattle.per_base.specs.Names.{name_cmp}
 use Rattle.file_core.specs.declared.cursor.Cursor.{Cursor}
 use Rattle.file_core.specs.declared.room.Room.{Room}
-use Rattle.file_core.specs.Files.{is_good, written, cut, changed_to, opened_at, too_long, bytes_of, file_of}
-use Rattle.file_core.specs.Infos.{made}
+use Rattle.file_core.specs.Files.{is_good, written, cut, changed_to, opened_at, too_long, bytes_of}
 use Rattle.file_core.specs.Places.{writes, write_place, overwritten, moved, within, is_bad_mode, placed}
 use Rattle.file_core.specs.Refusals.{refuse, refused_by}
 use Rattle.file_handles.specs.declared.handle.Handle.{Handle}
@@ -36,7 +35,7 @@ use Rattle.file_handles.proofs.Opens.{first_none, when_none}
 use Rattle.deployment_model.specs.Data.{StorageData}
 use Rattle.element_store.specs.declared.store.Store.{Store}
 use Rattle.file_storage.proofs.Others.{others_moved, others_opened, gone_none}
-use Rattle.file_storage.specs.FileSessions.{AreAsStored, FileSession, IsOpen, storage_of, stored_in}
+use Rattle.file_storage.specs.FileSessions.{FileSession, IsOpen}
 use Rattle.file_storage.specs.Scopes.{closed}
 
 pub record Keeps (files later : Map) : Type 0 where
@@ -249,7 +248,7 @@ open_opens storage s later name kind mode now number is =
       lowest_free = sym n;
       handle = record { name = name; cursor = placed kind mode (opening.file_opened storage.read_only mode now (element_at s.files name)).len };
       handles = subst (λ m. later.handles ≡ with_handle s.handles m (record { name = name; cursor = placed kind mode (opening.file_opened storage.read_only mode now (element_at s.files name)).len })) n
-      (sym (ap (λ o. o.1.handles) same));
+          (sym (ap (λ o. o.1.handles) same));
     }
 
 found_ok : {A : Type 0} (file : Option Element) (call : Element → Result A PerError) (answer : A) → named.found file call ≡ Ok answer → (there : Element) × (call there ≡ Ok answer)

@@ -19,8 +19,8 @@ use Rattle.element_state.specs.declared.shapes.Change.TheVariants.{Remove}
 use Rattle.element_state.specs.Changes.{same_element}
 use Rattle.element_state.specs.Conditions.{changed_name}
 use Rattle.element_maps.specs.Differences.{MakeInto, arrival, change_at, difference, put, replacement, same_bytes, touch}
-use Rattle.element_maps.proofs.InOrder.{Above, NamesAscend, first, rest, item_above}
-use Rattle.element_maps.proofs.Names.{eq_back, greater_less, less_apart, less_less, same_names, tied_names, eq_names}
+use Rattle.element_maps.proofs.InOrder.{Above, NamesAscend, first, rest}
+use Rattle.element_maps.proofs.Names.{eq_back, greater_less, less_apart, less_less, same_names}
 use Rattle.file_storage.specs.Walks.{passing, removed, walked}
 
 abbrev pair_name : List ℕ × Element → List ℕ

@@ -1,6 +1,6 @@
 -- The handles but one, which a call through that one leaves alone.
-use Rattle.std.proofs.Common.{◌≡◌, ℕ, List, [], ◌∷◌, Bool, true, false, cond, refl, sym, ◌∙◌, ap, subst}
-use Rattle.std.specs.Prelude.{Option, Some, None, Result, Ok, Err}
+use Rattle.std.proofs.Common.{◌≡◌, ℕ, List, [], ◌∷◌, Bool, true, false, cond, refl, ap}
+use Rattle.std.specs.Prelude.{Some, None}
 use Rattle.std.specs.declared.cmp.Ordering.{Ordering}
 use Rattle.std.specs.declared.cmp.Ordering.TheVariants.{Less, Equal, Greater}
 use Rattle.std.specs.BTreeMap.{insert_entry, is_at}
@@ -13,7 +13,7 @@ use Rattle.std.proofs.lemmas.Map.{lookup-none}
 use Rattle.std.proofs.lemmas.Map.Entries.{none_below_head}
 use Rattle.std.proofs.lemmas.Map.Keys.{sorted_tail}
 use Rattle.file_handles.specs.declared.handle.Handle.{Handle}
-use Rattle.file_handles.specs.Sessions.{Handles, Session, handle_at, with_handle, without_handle, free_number}
+use Rattle.file_handles.specs.Sessions.{Handles, handle_at, with_handle, without_handle}
 use Rattle.file_handles.proofs.Opens.{put_removed}
 
 -- an entry that is put in the place of another, and removed, leaves what is left without the other

@@ -1,6 +1,6 @@
 -- What a sync owes to a commit, and what a commit makes of a session.
-use Rattle.std.proofs.Common.{◌≡◌, ℕ, ◌+◌, ◌*◌, ◌<◌, ◌≤◌, List, [], ◌∷◌, length, Bool, true, false, refl, sym, ◌∙◌, ap, subst, arith}
-use Rattle.std.specs.Prelude.{Option, Some, None, IsTrue, map, not, ◌&&◌, nat_le}
+use Rattle.std.proofs.Common.{◌≡◌, ℕ, ◌+◌, ◌<◌, ◌≤◌, List, [], ◌∷◌, length, Bool, true, false, refl, sym, ◌∙◌, ap, subst, arith}
+use Rattle.std.specs.Prelude.{Option, Some, None, IsTrue, not, ◌&&◌, nat_le}
 use Rattle.std.specs.List.Sorted.{IsStrictlySortedBy}
 use Rattle.std.proofs.Math.Nat.{mul-le-mul_left}
 use Rattle.std.proofs.lemmas.Bool.Decides.{nat_tests}
@@ -29,18 +29,18 @@ use Rattle.deployment_model.specs.Data.{StorageData}
 use Rattle.element_state.specs.declared.shapes.Change.{Change}
 use Rattle.element_state.specs.declared.shapes.Shape.{Shape}
 use Rattle.element_state.specs.declared.shapes.View.{View}
-use Rattle.element_state.specs.Changes.{committed, committed_by, same_element}
+use Rattle.element_state.specs.Changes.{committed, committed_by}
 use Rattle.element_state.specs.Clean.{IsClean}
 use Rattle.element_state.specs.Kept.{KeptThroughout}
 use Rattle.element_state.specs.Conditions.{IsShape}
 use Rattle.element_state.specs.Read.{IsView}
 use Rattle.element_state.specs.States.{Opens, greatest_generation, is_worn}
-use Rattle.element_state.specs.Views.{element_of, map_of}
+use Rattle.element_state.specs.Views.{map_of}
 use Rattle.element_state.specs.Written.{IsWithin, commit_cost, map_cost}
 use Rattle.element_laws.specs.Phases.{UntouchedLaw}
 use Rattle.element_maps.specs.Differences.{MakeInto}
 use Rattle.element_maps.specs.Laws.{CommittedLaw, CostLaw, HeldLaw, UntestedLaw}
-use Rattle.element_maps.specs.Sessions.{IsHeld, IsNext, IsSync, Passes}
+use Rattle.element_maps.specs.Sessions.{IsHeld, IsSync, Passes}
 use Rattle.element_maps.proofs.Names.{same_names}
 use Rattle.element_maps.proofs.Same.{both, same_is}
 use Rattle.element_store.specs.declared.store.Store.{Store}

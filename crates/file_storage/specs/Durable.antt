@@ -1,5 +1,5 @@
 -- What making the working files durable leaves of the session and of the disk.
-use Rattle.std.specs.Prelude.{◌≡◌, List, [], length, Bool, true, false, IsTrue}
+use Rattle.std.specs.Prelude.{◌≡◌, [], length, Bool, false, IsTrue}
 use Rattle.per_base.specs.declared.elements.StoreKind.TheVariants as kinds
 use Rattle.disk_model.specs.Frame.{Spares, IsSettledOn}
 use Rattle.disk_model.specs.Medium.{Medium, Quiet, EachCase, Elapses}

@@ -1,5 +1,5 @@
 -- The changes that make the stored files into the working ones, as one walk along both maps finds them.
-use Rattle.std.specs.Prelude.{ℕ, List, [], ◌∷◌, map, Option, Some}
+use Rattle.std.specs.Prelude.{ℕ, List, [], ◌∷◌, map, Some}
 use Rattle.std.specs.List.{cons_option}
 use Rattle.std.specs.Ordering.{match_ordering}
 use Rattle.per_base.specs.declared.elements.Element.{Element}

@@ -90,12 +90,7 @@ fn pass<'a>(
 }
 
 /// The change at a name where a file is stored and a working file stands, where they differ.
-fn meet(
-    alloc: Global,
-    list: &mut Vec<Change>,
-    entry: &Entry,
-    file: &File,
-) -> Result<(), AllocError>
+fn meet(alloc: Global, list: &mut Vec<Change>, entry: &Entry, file: &File) -> Result<(), AllocError>
     ensures { OnOk result (list.new.items ≡ list.old.items ++ option_to_list (differences.arrival entry.now.name (Some (element_of entry.now).1) file.now)) }
 {
     if is_same(entry, file) {

@@ -4,7 +4,6 @@ use Rattle.per_base.specs.Maps.{Map}
 use Rattle.element_state.specs.Views.{element_of}
 use Rattle.file_storage.specs.Syncs.{same_files}
 use Rattle.file_storage.proofs.Walked.{none_left}
-use Rattle.file_storage.proofs.Making.{walk_makes}
 use Rattle.file_storage.proofs.differences.are_same.Goals as goal
 
 pub returns : goal.returns

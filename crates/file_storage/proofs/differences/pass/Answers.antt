@@ -1,4 +1,4 @@
-use Rattle.std.proofs.Common.{◌≡◌, ◌++◌, ◌∷◌, [], sym, ◌∙◌, ap}
+use Rattle.std.proofs.Common.{◌++◌, ◌∷◌, [], sym, ◌∙◌, ap}
 use Rattle.file_storage.proofs.Walked.{met, put_before, put_last}
 use Rattle.file_storage.proofs.differences.pass.Goals as goal
 use Rattle.file_storage.proofs.differences.pass.Goals.{in-Some+in-Greater, in_default}

@@ -1,4 +1,4 @@
-use Rattle.std.proofs.Common.{◌≡◌, ◌≤◌, [], refl, sym, ◌∙◌, ap, subst}
+use Rattle.std.proofs.Common.{◌≡◌, ◌≤◌, [], sym, ◌∙◌, ap, subst}
 use Rattle.std.specs.Prelude.{map, Some}
 use Rattle.std.specs.List.{AllByRecursion}
 use Rattle.per_base.specs.Maps.{Map, element_at, size_of}

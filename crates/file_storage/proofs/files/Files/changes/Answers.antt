@@ -1,4 +1,4 @@
-use Rattle.std.proofs.Common.{◌≡◌, sym, ◌∙◌, ap, subst}
+use Rattle.std.proofs.Common.{sym, ◌∙◌, ap, subst}
 use Rattle.std.specs.Prelude.{map, true}
 use Rattle.per_base.specs.Maps.{Map}
 use Rattle.file_handles.specs.Tables.{IsTable}
@@ -6,7 +6,7 @@ use Rattle.deployment_model.specs.Data.{storage_data}
 use Rattle.element_state.specs.Views.{element_of}
 use Rattle.element_maps.specs.Sessions.{IsSync}
 use Rattle.element_store.specs.Stores.{shape_of, view_in}
-use Rattle.file_storage.specs.FileSessions.{AreAsStored, FileSession, IsConfigured, storage_of, stored_in}
+use Rattle.file_storage.specs.FileSessions.{AreAsStored, FileSession, storage_of, stored_in}
 use Rattle.file_storage.specs.Walks.{walked}
 use Rattle.file_storage.proofs.Synced.{is_sync}
 use Rattle.file_storage.proofs.files.Files.changes.Goals as goal

@@ -1,4 +1,4 @@
-use Rattle.std.proofs.Common.{◌≡◌, sym, ◌∙◌}
+use Rattle.std.proofs.Common.{sym, ◌∙◌}
 use Rattle.file_storage.proofs.Synced.{none_durable, none_syncing}
 use Rattle.file_storage.proofs.files.Files.made_durable.Goals as goal
 

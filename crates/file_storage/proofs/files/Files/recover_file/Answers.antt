@@ -1,4 +1,4 @@
-use Rattle.std.proofs.Common.{◌≡◌, subst}
+use Rattle.std.proofs.Common.{subst}
 use Rattle.std.specs.Prelude.{IfErr, option_copied}
 use Rattle.file_core.specs.Refusals.{IsRefusal}
 use Rattle.file_handles.specs.ByName as calls

@@ -1,4 +1,4 @@
-use Rattle.std.proofs.Common.{◌≡◌, subst}
+use Rattle.std.proofs.Common.{subst}
 use Rattle.std.specs.Prelude.{IfErr}
 use Rattle.file_core.specs.Refusals.{IsRefusal}
 use Rattle.file_handles.specs.Handling as calls

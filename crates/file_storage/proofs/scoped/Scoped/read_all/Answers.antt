@@ -1,4 +1,3 @@
-use Rattle.std.proofs.Common.{◌≡◌}
 use Rattle.file_core.specs.Files.{bytes_of}
 use Rattle.file_core.specs.Places as places
 use Rattle.file_storage.proofs.Keeping.{moving_moves, same_others}

@@ -1,4 +1,3 @@
-use Rattle.std.proofs.Common.{◌≡◌}
 use Rattle.file_storage.specs.FileSessions.{storage_of}
 use Rattle.file_storage.proofs.Keeping.{same_others, write_changes}
 use Rattle.file_storage.proofs.scoped.Scoped.write.Goals as goal
