@@ -1,0 +1,199 @@
+-- What a sync owes to a commit, and what a commit makes of a session.
+use Rattle.std.proofs.Common.{◌≡◌, ℕ, ◌+◌, ◌<◌, ◌≤◌, List, [], ◌∷◌, length, Bool, true, false, refl, sym, ◌∙◌, ap, subst, arith}
+use Rattle.std.specs.Prelude.{Option, Some, None, IsTrue, not, ◌&&◌, nat_le}
+use Rattle.std.specs.List.Sorted.{IsStrictlySortedBy}
+use Rattle.std.proofs.Math.Nat.{mul-le-mul_left}
+use Rattle.std.proofs.lemmas.Bool.Decides.{nat_tests}
+use Rattle.per_base.specs.declared.elements.Content.{Content}
+use Rattle.per_base.specs.declared.elements.Content.TheVariants.{Good, Bad}
+use Rattle.per_base.specs.declared.elements.Element.{Element}
+use Rattle.per_base.specs.declared.elements.StoreKind.{StoreKind}
+use Rattle.per_base.specs.declared.elements.StoreKind.TheVariants as kinds
+use Rattle.per_base.specs.declared.errors.PerError.{PerError}
+use Rattle.per_base.specs.Maps as maps
+use Rattle.per_base.specs.Maps.{Map, element_at, names_of}
+use Rattle.per_base.specs.Names.{name_cmp}
+use Rattle.disk_model.specs.Frame.{IsSettledOn, Spares}
+use Rattle.disk_model.specs.Medium.{EachCase, Elapses, Medium, Quiet, IsLawful}
+use Rattle.disk_model.specs.Place.{IsOutside}
+use Rattle.disk_model.proofs.Moments.{elapses_none}
+use Rattle.file_core.specs.Files as core
+use Rattle.file_core.specs.Files.{IsFile, is_good}
+use Rattle.file_handles.specs.Opening as opening
+use Rattle.file_handles.specs.Sessions.{Handles, IsFileAt}
+use Rattle.file_handles.specs.Tables.{IsTable}
+use Rattle.file_handles.specs.declared.storage.Storage.{Storage}
+use Rattle.index_text.specs.Rules.{has_info, max_len}
+use Rattle.index_text.specs.Spelling.{index_text}
+use Rattle.deployment_model.specs.Data.{StorageData}
+use Rattle.element_state.specs.declared.shapes.Change.{Change}
+use Rattle.element_state.specs.declared.shapes.Shape.{Shape}
+use Rattle.element_state.specs.declared.shapes.View.{View}
+use Rattle.element_state.specs.Changes.{committed, committed_by}
+use Rattle.element_state.specs.Clean.{IsClean}
+use Rattle.element_state.specs.Kept.{KeptThroughout}
+use Rattle.element_state.specs.Conditions.{IsShape}
+use Rattle.element_state.specs.Read.{IsView}
+use Rattle.element_state.specs.States.{Opens, greatest_generation, is_worn}
+use Rattle.element_state.specs.Views.{map_of}
+use Rattle.element_state.specs.Written.{IsWithin, commit_cost, map_cost}
+use Rattle.element_laws.specs.Phases.{UntouchedLaw}
+use Rattle.element_maps.specs.Differences.{MakeInto}
+use Rattle.element_maps.specs.Laws.{CommittedLaw, CostLaw, HeldLaw, UntestedLaw}
+use Rattle.element_maps.specs.Sessions.{IsHeld, IsSync, Passes}
+use Rattle.element_maps.proofs.Names.{same_names}
+use Rattle.element_maps.proofs.Same.{both, same_is}
+use Rattle.element_store.specs.declared.store.Store.{Store}
+use Rattle.element_store.specs.Committing.{index_in}
+use Rattle.element_store.specs.Stores.{IsUsed, entries_of, shape_of, view_in}
+use Rattle.element_store.proofs.CommitKept.{none_around, none_kept}
+use Rattle.file_storage.specs.Durable.{IsDurable, IsSyncing}
+use Rattle.file_storage.specs.FileSessions.{AreAsStored, FileSession, IsConfigured, IsOpen, storage_of, stored_in}
+use Rattle.file_storage.specs.Syncs.{is_synced, same_files, synced_view, worn}
+use Rattle.file_storage.specs.Walks.{walked}
+use Rattle.file_storage.proofs.Making.{walk_makes}
+use Rattle.file_storage.proofs.Stored.{keys_are}
+
+-- ---- where nothing differs
+
+pub same_files_are : (m n : Map) → same_files m n ≡ true → m ≡ n
+same_files_are [] [] e = refl
+same_files_are [] (f ∷ fs) e = absurd (cc)
+same_files_are (e ∷ es) [] is = absurd (cc)
+same_files_are (e ∷ es) (f ∷ fs) is =
+    let one = both _ _ is in
+    let two = both _ _ one.0 in
+    ap (λ n. let p : List ℕ × Element = (n, e.1) in p ∷ es) (same_names e.0 f.0 two.0)
+    ∙ ap (λ x. let p : List ℕ × Element = (f.0, x) in p ∷ es) (same_is e.1 f.1 two.1)
+    ∙ ap (λ l. f ∷ l) (same_files_are es fs one.1)
+
+pub same_view : (s : FileSession) → is_synced s ≡ true → synced_view s ≡ view_in s.store
+same_view s is = rw is refl
+
+pub differ_view : (s : FileSession) → is_synced s ≡ false → synced_view s ≡ committed (shape_of s.store) (view_in s.store) (stored_in s.store) s.session.files
+differ_view s is = rw is refl
+
+pub none_syncing : UntouchedLaw → (told : Bool) (s : FileSession) (m : Medium) → IsShape (shape_of s.store) → IsLawful told m → IsSyncing told s m m
+none_syncing untouched told s m is law = record {
+  elsewhere = λ tells file spared. refl;
+  outside = λ tells quiet. none_around told (shape_of s.store).place.first (shape_of s.store).place.copies m law quiet;
+  any_moment = λ tells. none_kept untouched told (shape_of s.store) (Opens (synced_view s) []) m is law;
+  time = elapses_none law;
+}
+
+pub none_durable : (told : Bool) (s : FileSession) (m : Medium) → IsUsed told m.image s.store → is_synced s ≡ true → IsDurable told s s m m
+none_durable told s m used is = record {
+  stored = same_files_are (stored_in s.store) s.session.files is;
+  view = sym (same_view s is);
+  beside = refl;
+  shape = refl;
+  used = used;
+  clean = λ tells clean. clean;
+  quiet = λ quiet. quiet;
+  written = λ differ. absurd (cc);
+}
+
+-- ---- what a commit needs
+
+held : (kind : StoreKind) (stored : Option Element) (file : Element) (content : Content) → kind ≡ kinds.Files → file.content ≡ content → IsFile file → (is_good content ≡ false → stored ≡ Some file) → IsHeld kind stored file content
+held kind stored file (Good bytes) of_files is whole unreadable = record {
+  info = subst (λ k. IsTrue (has_info k file.info)) (sym of_files) whole.informed;
+  length = subst (λ c. core.HasLength c file.len) is whole.measured;
+  small = subst (λ k. file.len ≤ max_len k) (sym of_files) whole.small;
+}
+held kind stored file (Bad salvage) of_files is whole unreadable = unreadable refl
+
+pub is_sync : UntestedLaw → (config : StorageData) (store : Store) (files : Map) (handles : Handles) (changes : List Change) → IsTable (storage_of config) files handles → IsConfigured config (shape_of store) → AreAsStored (stored_in store) files
+    → IsView (shape_of store) (view_in store) → changes ≡ walked files (stored_in store) → IsSync (shape_of store) (λ bytes. true) (view_in store) (stored_in store) files changes
+is_sync untested config store files handles changes table configured unreadable view made = record {
+  read = view;
+  held = sym (untested (view_in store));
+  next = record {
+    names_ascend = table.names;
+    few = table.few_files;
+    small = subst (λ n. maps.size_of files ≤ n) (sym configured.allowed) table.room;
+    each = λ name file at. held (shape_of store).kind (element_at (stored_in store) name) file file.content configured.kind refl
+        (subst (λ found. IsFileAt found) at (table.whole name)) (unreadable name file at);
+  };
+  made = subst (λ cs. MakeInto cs (stored_in store) files) (sym made)
+      (walk_makes files (stored_in store) table.names (subst (λ names. IsStrictlySortedBy name_cmp names) (sym (keys_are (entries_of store))) view.names_ascend));
+}
+
+not_worn_is : (test : Bool) (error : PerError) → opening.when test error ≡ None → test ≡ false
+not_worn_is false error e = refl
+not_worn_is true error e = absurd (cc)
+
+left_over : (same last : Bool) → (not same && last) ≡ false → same ≡ false → last ≡ false
+left_over false last e is = e
+left_over true last e is = absurd (cc)
+
+below : (g : ℕ) → nat_le greatest_generation g ≡ false → g < greatest_generation
+below g e = grind (arith, nat_tests, e)
+
+pub generation_left : (s : FileSession) → worn s ≡ None → is_synced s ≡ false → (view_in s.store).generation < greatest_generation
+generation_left s none differ = below (view_in s.store).generation (left_over (is_synced s) (is_worn (view_in s.store)) (not_worn_is _ _ none) differ)
+
+-- ---- what a commit makes
+
+passes : (files : Map) → Passes (λ bytes. true) files
+passes files name file bytes at is = refl
+
+pub within_more : (copies contents more index before after : ℕ) → contents ≤ more → IsWithin copies contents index before after → IsWithin copies more index before after
+within_more copies contents more index before after le is =
+    let each : contents + index + 88 ≤ more + index + 88 = omega (arith, le) in
+    omega (arith, is, mul-le-mul_left copies each)
+
+pub stored_then : CommittedLaw → HeldLaw → UntestedLaw → (store later : Store) (files : Map) (changes : List Change) → IsSync (shape_of store) (λ bytes. true) (view_in store) (stored_in store) files changes
+    → view_in later ≡ committed_by (shape_of store) (view_in store) changes → stored_in later ≡ files
+stored_then made held untested store later files changes sync view =
+    ap map_of (view ∙ made (shape_of store) (λ bytes. true) (view_in store) (stored_in store) files changes sync)
+    ∙ sym (untested (committed (shape_of store) (view_in store) (stored_in store) files))
+    ∙ held (shape_of store) (λ bytes. true) (view_in store) (stored_in store) files changes sync (passes files)
+
+-- the session over the storage after a commit
+pub open_later : (config : StorageData) (store later : Store) (storage : Storage) (files : Map) → IsOpen config store storage files → shape_of later ≡ shape_of store → stored_in later ≡ files → IsOpen config later storage files
+open_later config store later storage files is shape stored = record {
+  valid = is.valid;
+  configured = subst (λ (sh : Shape). IsConfigured config sh) (sym shape) is.configured;
+  same_storage = is.same_storage;
+  unreadable = λ name file at bad. subst (λ (m : Map). element_at m name ≡ Some file) (sym stored) at;
+}
+
+view_then : CommittedLaw → (s : FileSession) (changes : List Change) → IsSync (shape_of s.store) (λ bytes. true) (view_in s.store) (stored_in s.store) s.session.files changes → is_synced s ≡ false
+    → committed_by (shape_of s.store) (view_in s.store) changes ≡ synced_view s
+view_then made s changes sync differ =
+    made (shape_of s.store) (λ bytes. true) (view_in s.store) (stored_in s.store) s.session.files changes sync ∙ sym (differ_view s differ)
+
+pub commit_durable : CommittedLaw → HeldLaw → UntestedLaw → CostLaw → (told : Bool) (s : FileSession) (later : Store) (changes : List Change) (old new : Medium)
+    → IsSync (shape_of s.store) (λ bytes. true) (view_in s.store) (stored_in s.store) s.session.files changes → is_synced s ≡ false → (shape_of s.store).kind ≡ kinds.Files
+    → view_in later ≡ committed_by (shape_of s.store) (view_in s.store) changes → shape_of later ≡ shape_of s.store → IsUsed told new.image later
+    → (IsTrue told → IsClean (shape_of s.store) old.image → IsClean (shape_of s.store) new.image) → Quiet new
+    → IsWithin (shape_of s.store).place.copies (commit_cost (shape_of s.store).kind (entries_of s.store) changes) (length (index_text (index_in later))) old.written new.written
+    → IsDurable told s (record s { store = later }) old new
+commit_durable made held untested cost told s later changes old new sync differ of_files view shape used clean quiet written = record {
+  stored = stored_then made held untested s.store later s.session.files changes sync view;
+  view = view ∙ view_then made s changes sync differ;
+  beside = refl;
+  shape = shape;
+  used = used;
+  clean = clean;
+  quiet = λ before. quiet;
+  written = λ differs.
+      let most : commit_cost (shape_of s.store).kind (entries_of s.store) changes ≤ map_cost (shape_of s.store).kind (stored_in s.store) s.session.files =
+      cost (shape_of s.store) (λ bytes. true) (view_in s.store) (stored_in s.store) s.session.files changes sync in
+      within_more (shape_of s.store).place.copies (commit_cost (shape_of s.store).kind (entries_of s.store) changes) (map_cost kinds.Files (stored_in s.store) s.session.files) (length (index_text (index_in later))) old.written new.written
+      (subst (λ (k : StoreKind). commit_cost (shape_of s.store).kind (entries_of s.store) changes ≤ map_cost k (stored_in s.store) s.session.files) of_files most) written;
+}
+
+pub commit_syncing : CommittedLaw → (told : Bool) (s : FileSession) (changes : List Change) (old new : Medium)
+    → IsSync (shape_of s.store) (λ bytes. true) (view_in s.store) (stored_in s.store) s.session.files changes → is_synced s ≡ false
+    → (IsTrue told → Spares (IsOutside (shape_of s.store).place.first (shape_of s.store).place.copies) old.image new.image)
+    → (IsTrue told → Quiet old → EachCase (IsSettledOn (IsOutside (shape_of s.store).place.first (shape_of s.store).place.copies) old.image) old new)
+    → (IsTrue told → KeptThroughout (shape_of s.store) (Opens (committed_by (shape_of s.store) (view_in s.store) changes) []) old new)
+    → Elapses old new → IsSyncing told s old new
+commit_syncing made told s changes old new sync differ elsewhere outside any_moment time = record {
+  elsewhere = elsewhere;
+  outside = outside;
+  any_moment = λ tells. subst (λ (v : View). KeptThroughout (shape_of s.store) (Opens v []) old new) (view_then made s changes sync differ) (any_moment tells);
+  time = time;
+}

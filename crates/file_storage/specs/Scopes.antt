@@ -1,0 +1,8 @@
+-- A handle that is closed when it is dropped.
+use Rattle.std.specs.Prelude.{ℕ}
+use Rattle.file_handles.specs.Sessions.{without_handle}
+use Rattle.file_storage.specs.FileSessions.{FileSession}
+
+-- the session once the handle of this number is closed
+abbrev pub closed : FileSession → ℕ → FileSession
+closed s number = record s { session = record s.session { handles = without_handle s.session.handles number } }

@@ -1,0 +1,51 @@
+//! The calls on a handle that change its file or release it.
+
+ghost use Rattle.std.specs.Prelude.{◌≡◌, IfErr, OnErr, OnOk, Ok, Err};
+ghost use Rattle.file_core.specs.Refusals.{IsRefusal};
+ghost use Rattle.file_handles.specs.Handling as calls;
+ghost use Rattle.file_handles.specs.Sessions.{open_at};
+ghost use Rattle.file_storage.specs.FileSessions.{storage_of};
+
+use crate::files::Files;
+use per_base::PerError;
+
+impl Files {
+    /// Writes the piece: it overwrites and extends from the position, or with Append from the size, and the position is then past
+    /// it. An empty piece changes nothing.
+    ///
+    /// Errors: `NotOpen`; `IllegalWriteAccess` for kind Read; `LimitReached` with `FileBytes`; `OutOfStorageSpace`; `OutOfMemory`,
+    /// and this only where the piece reaches past the end of the file.
+    pub fn write(&mut self, handle: u32, bytes: &[u8]) -> Result<(), PerError>
+        ensures ok { OnOk result (calls.write (storage_of self.old.config) self.old.session self.old.moment handle bytes.now ≡ Ok self.new.session) }
+        ensures refused { IfErr result (λ error. IsRefusal (calls.write (storage_of self.old.config) self.old.session self.old.moment handle bytes.now) error) }
+        ensures memory { IfErr result (λ error. error ≡ PerError.OutOfMemory → calls.GrowsBy (open_at self.old.session handle) bytes.now) }
+        ensures beside { self.new ≡ record self.old { session = self.new.session } }
+        ensures unchanged { OnErr result (self.new ≡ self.old) }
+    {
+        self.table.write(handle, bytes)
+    }
+
+    /// Cuts the file to this size; a position beyond becomes the new size. Takes no memory.
+    ///
+    /// Errors: `NotOpen`; `IllegalWriteAccess` for kind Read; `InvalidSize` where it is above the file's size.
+    pub fn set_size(&mut self, handle: u32, size: u64) -> Result<(), PerError>
+        ensures ok { OnOk result (calls.set_size self.old.session self.old.moment handle size ≡ Ok self.new.session) }
+        ensures refused { IfErr result (λ error. calls.set_size self.old.session self.old.moment handle size ≡ Err error) }
+        ensures beside { self.new ≡ record self.old { session = self.new.session } }
+        ensures unchanged { OnErr result (self.new ≡ self.old) }
+    {
+        self.table.set_size(handle, size)
+    }
+
+    /// Releases the handle; the working file stays. Takes no memory.
+    ///
+    /// Errors: `NotOpen`.
+    pub fn close(&mut self, handle: u32) -> Result<(), PerError>
+        ensures ok { OnOk result (calls.close self.old.session handle ≡ Ok self.new.session) }
+        ensures refused { IfErr result (λ error. calls.close self.old.session handle ≡ Err error) }
+        ensures beside { self.new ≡ record self.old { session = self.new.session } }
+        ensures unchanged { OnErr result (self.new ≡ self.old) }
+    {
+        self.table.close(handle)
+    }
+}

@@ -1,0 +1,168 @@
+//! What differs between the stored files and the working ones.
+
+ghost use Rattle.std.specs.Prelude.{◌≡◌, ◌++◌, List, [], ◌∷◌, ℕ, map, false, true, IfOk, OnOk, IsTrue, Some};
+ghost use Rattle.std.specs.Option.{option_to_list};
+ghost use Rattle.per_base.specs.declared.elements.Element.{Element};
+ghost use Rattle.per_base.specs.Maps.{Map};
+ghost use Rattle.file_core.specs.Files.{is_good};
+ghost use Rattle.element_state.specs.Changes as changes;
+ghost use Rattle.element_state.specs.Views.{element_of};
+ghost use Rattle.element_maps.specs.Differences as differences;
+ghost use Rattle.file_storage.specs.FileSessions.{AreAsStored};
+ghost use Rattle.file_storage.specs.Syncs.{same_files};
+ghost use Rattle.file_storage.specs.Walks.{walked};
+
+use element_state::Change;
+use file_core::File;
+use per_base::{Bytes, Content, Entry, FileInfo, Fresh, Name};
+use std::alloc::{AllocError, Global};
+use std::cmp::Ordering;
+use std::collections::BTreeMap;
+
+/// Whether the working files are the stored ones. Takes no memory.
+pub fn are_same(entries: &[Entry], files: &BTreeMap<Name, File>) -> bool
+    ensures { result ≡ same_files (map element_of entries.now) files.now.entries }
+{
+    let mut rest = entries;
+    for (name, file) in files {
+        let Some((entry, more)) = rest.split_first() else {
+            return false;
+        };
+        if entry.name != *name || !is_same(entry, file) {
+            return false;
+        }
+        rest = more;
+    }
+    rest.is_empty()
+}
+
+/// The changes that make the stored files into the working ones, in the order of the names.
+pub fn differences(
+    alloc: Global,
+    entries: &[Entry],
+    files: &BTreeMap<Name, File>,
+) -> Result<Vec<Change>, AllocError>
+    ensures { IfOk result (λ list. list.items ≡ walked files.now.entries (map element_of entries.now)) }
+{
+    let mut list = Vec::new(alloc);
+    let mut rest = entries;
+    for (name, file) in files {
+        rest = pass(alloc, &mut list, rest, name, file)?;
+    }
+    remove_all(&mut list, rest)?;
+    Ok(list)
+}
+
+/// The changes that take these files away.
+fn remove_all(list: &mut Vec<Change>, entries: &[Entry]) -> Result<(), AllocError>
+    ensures { OnOk result (list.new.items ≡ list.old.items ++ map (λ e. Change.Remove e.name) entries.now) }
+{
+    for entry in entries {
+        list.push(Change::Remove(entry.name.copy()?))?;
+    }
+    Ok(())
+}
+
+/// The changes up to the working file of this name, and at it; what is given back of the entries lies behind it.
+fn pass<'a>(
+    alloc: Global,
+    list: &mut Vec<Change>,
+    entries: &'a [Entry],
+    name: &Name,
+    file: &File,
+) -> Result<&'a [Entry], AllocError>
+    ensures { IfOk result (λ rest. (files : Map) → list.new.items ++ walked files (map element_of rest.now) ≡ list.old.items ++ walked ((name.now, file.now) ∷ files) (map element_of entries.now)) }
+{
+    let mut rest = entries;
+    while let Some((entry, more)) = rest.split_first() {
+        match entry.name.cmp(name) {
+            Ordering::Less => list.push(Change::Remove(entry.name.copy()?))?,
+            Ordering::Equal => {
+                meet(alloc, list, entry, file)?;
+                return Ok(more);
+            }
+            Ordering::Greater => break,
+        }
+        rest = more;
+    }
+    list.push(put(alloc, name, file)?)?;
+    Ok(rest)
+}
+
+/// The change at a name where a file is stored and a working file stands, where they differ.
+fn meet(alloc: Global, list: &mut Vec<Change>, entry: &Entry, file: &File) -> Result<(), AllocError>
+    ensures { OnOk result (list.new.items ≡ list.old.items ++ option_to_list (differences.arrival entry.now.name (Some (element_of entry.now).1) file.now)) }
+{
+    if is_same(entry, file) {
+        return Ok(());
+    }
+    list.push(replacement(alloc, entry, file)?)?;
+    Ok(())
+}
+
+/// The change of a file that stands and differs: its info alone where its bytes are the same.
+fn replacement(alloc: Global, entry: &Entry, file: &File) -> Result<Change, AllocError>
+    ensures { IfOk result (λ change. change ≡ differences.replacement entry.now.name (element_of entry.now).1 file.now) }
+{
+    if has_same_bytes(entry, file) {
+        return Ok(Change::Touch(entry.name.copy()?, file.info()));
+    }
+    put(alloc, &entry.name, file)
+}
+
+/// All of a file, as a change.
+fn put(alloc: Global, name: &Name, file: &File) -> Result<Change, AllocError>
+    ensures { IfOk result (λ change. change ≡ differences.put name.now file.now) }
+{
+    let name = name.copy()?;
+    let bytes = Bytes::new(Vec::from_slice(alloc, file.bytes())?);
+    Ok(Change::Put(Fresh {
+        name,
+        info: Some(file.info()),
+        bytes,
+    }))
+}
+
+/// Whether both are the same in all.
+fn is_same(entry: &Entry, file: &File) -> bool
+    ensures { result ≡ changes.same_element (element_of entry.now).1 file.now }
+{
+    is_same_info(entry.info, file.info())
+        && entry.len == file.len()
+        && is_same_content(&entry.content, file.content())
+}
+
+/// Whether both infos are the same.
+fn is_same_info(old: Option<FileInfo>, new: FileInfo) -> bool
+    ensures { result ≡ changes.same_info old (Some new) }
+{
+    old == Some(new)
+}
+
+/// Whether both contents are the same, with the same salvage where they cannot be read.
+fn is_same_content(old: &Content, new: &Content) -> bool
+    ensures { result ≡ changes.same_content old.now new.now }
+{
+    match (old, new) {
+        (Content::Good(old), Content::Good(new)) => old.as_slice() == new.as_slice(),
+        (Content::Bad(None), Content::Bad(None)) => true,
+        (Content::Bad(Some(old)), Content::Bad(Some(new))) => old.as_slice() == new.as_slice(),
+        _ => false,
+    }
+}
+
+/// Whether both can be read, and have the same bytes.
+fn has_same_bytes(entry: &Entry, file: &File) -> bool
+    ensures { result ≡ differences.same_bytes (element_of entry.now).1 file.now }
+{
+    entry.len == file.len() && has_same_value(&entry.content, file.content())
+}
+
+fn has_same_value(old: &Content, new: &Content) -> bool
+    ensures { result ≡ differences.same_value old.now new.now }
+{
+    match (old, new) {
+        (Content::Good(old), Content::Good(new)) => old.as_slice() == new.as_slice(),
+        _ => false,
+    }
+}

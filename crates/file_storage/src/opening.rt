@@ -1,0 +1,150 @@
+//! The opening of a storage of files.
+
+ghost use Rattle.std.specs.Prelude.{◌≡◌, [], IsTrue, IfOk, OnOk, IsErrOf, Some, None, true, option_map, map};
+ghost use Rattle.std.specs.List.{AllByRecursion};
+ghost use Rattle.std.specs.List.Sorted.{IsStrictlySortedBy};
+ghost use Rattle.per_base.specs.Causes.{Rose};
+ghost use Rattle.per_base.specs.Maps.{with_element};
+ghost use Rattle.per_base.specs.Names.{name_cmp};
+ghost use Rattle.disk_model.specs.Frame.{Spares, IsSettledOn};
+ghost use Rattle.disk_model.specs.Medium.{Quiet, EachCase, Elapses};
+ghost use Rattle.disk_model.specs.Place.{IsOutside};
+ghost use Rattle.deployment_model.specs.Conditions.{IsStorage};
+ghost use Rattle.deployment_model.specs.Data.{storage_data};
+ghost use Rattle.element_state.specs.Chosen.{opened_of};
+ghost use Rattle.element_state.specs.Clean.{IsClean};
+ghost use Rattle.element_state.specs.Kept.{IsKeptCase};
+ghost use Rattle.element_state.specs.Reports.{reports};
+ghost use Rattle.element_state.specs.States.{State, store_at, mended_view};
+ghost use Rattle.element_state.specs.Views.{element_of};
+ghost use Rattle.element_store.specs.Opened.{MendsByNoChance};
+ghost use Rattle.element_store.specs.Stores.{IsUsed, shape_of, view_in};
+ghost use Rattle.file_storage.specs.FileSessions.{IsConfigured, stored_in};
+ghost use Rattle.file_storage.specs.StoredFiles.{IsStoredFile};
+
+use crate::files::Files;
+use deployment_model::StorageConfig;
+use disk_model::Disk;
+use element_laws::untouched_is_kept;
+use element_state::{Shape, StoreError};
+use element_store::{OpenedStore, open_store};
+use file_core::File;
+use file_handles::{FileTable, Storage};
+use per_base::{Entry, Name, Report};
+use std::alloc::{AllocError, Global};
+use std::collections::BTreeMap;
+
+/// A storage of files that was opened.
+#[derive(Drop)]
+pub struct OpenedFiles {
+    pub files: Files,
+    /// What was lacking, or could not be read: of the storage first, then of its files by their names.
+    pub reports: Vec<Report>,
+}
+
+/// Opens a storage of files at what its copies hold; each readable file that some copy lacks is written again there. The working
+/// files are the synchronised ones, there is no handle, and the moment is 0.
+///
+/// # Errors
+///
+/// `Corrupt` exactly where no text qualifies: then nothing is written. `Device` where the disk fails, and `OutOfMemory`.
+pub fn open_files<D: Disk>(
+    alloc: Global,
+    disk: &mut D,
+    shape: Shape,
+    config: &StorageConfig,
+) -> Result<OpenedFiles, StoreError>
+    requires valid { IsStorage (storage_data config.now) }
+    requires configured { IsConfigured (storage_data config.now) shape }
+
+    ensures view { IsTrue D.told → IfOk result (λ o.
+        option_map (mended_view shape) (opened_of (store_at (D.medium disk.old).image shape)) ≡ Some (view_in o.files.store)) }
+    ensures reports { IsTrue D.told → IfOk result (λ o.
+        option_map (reports (λ bytes. true) shape) (opened_of (store_at (D.medium disk.old).image shape)) ≡ Some o.reports.items) }
+    ensures session { IfOk result (λ o. o.files.session ≡ record { files = stored_in o.files.store; handles = [] }) }
+    ensures moment { IfOk result (λ o. o.files.moment ≡ 0) }
+    ensures config { IfOk result (λ o. o.files.config ≡ storage_data config.now) }
+    ensures shape { IfOk result (λ o. shape_of o.files.store ≡ shape) }
+    ensures used { IfOk result (λ o. IsUsed D.told (D.medium disk.new).image o.files.store) }
+    ensures clean { IsTrue D.told → IsClean shape (D.medium disk.old).image → OnOk result (IsClean shape (D.medium disk.new).image) }
+    ensures quiet { OnOk result (Quiet (D.medium disk.new)) }
+
+    // A corrupt storage is left as it is.
+    ensures corrupt { IsTrue D.told → IsErrOf result StoreError.Corrupt → opened_of (store_at (D.medium disk.old).image shape) ≡ None }
+    ensures untouched { IsErrOf result StoreError.Corrupt → (D.medium disk.new).image ≡ (D.medium disk.old).image }
+    ensures unwritten { IsErrOf result StoreError.Corrupt → (D.medium disk.new).written ≡ (D.medium disk.old).written }
+    ensures settled { IsErrOf result StoreError.Corrupt → Quiet (D.medium disk.new) }
+    ensures cause { IsErrOf result StoreError.Device → Rose (D.medium disk.old).faults (D.medium disk.new).faults }
+
+    // No file outside the place changes, at the end and at any moment.
+    ensures elsewhere { IsTrue D.told
+        → Spares (IsOutside shape.place.first shape.place.copies) (D.medium disk.old).image (D.medium disk.new).image }
+    ensures outside { IsTrue D.told → Quiet (D.medium disk.old)
+        → EachCase (IsSettledOn (IsOutside shape.place.first shape.place.copies) (D.medium disk.old).image)
+        (D.medium disk.old) (D.medium disk.new) }
+
+    // A stop at any moment keeps the storage, where no half of a mend passes for a content by chance.
+    ensures any_moment { IsTrue D.told → Quiet (D.medium disk.old) → IsClean shape (D.medium disk.old).image → (after : State)
+        → EachCase (λ c. MendsByNoChance shape (D.medium disk.old).image c → IsKeptCase shape (store_at (D.medium disk.old).image shape) after c)
+        (D.medium disk.old) (D.medium disk.new) }
+    ensures time { Elapses (D.medium disk.old) (D.medium disk.new) }
+{
+    untouched_is_kept();
+    let name = config.name.copy()?;
+    let storage = Storage {
+        name,
+        read_only: config.read_only,
+        maximum: config.maximum,
+    };
+    let config = config.copy(alloc)?;
+    let opened = open_store(alloc, disk, shape)?;
+    let OpenedStore {
+        store,
+        reports,
+        before,
+    } = opened;
+    let entries = before.entries.into_vec();
+    let files = working_files(alloc, entries)?;
+    let size = store.size();
+    let table = FileTable::new(alloc, storage, files, size);
+    let files = Files {
+        alloc,
+        config,
+        store,
+        table,
+    };
+    Ok(OpenedFiles { files, reports })
+}
+
+/// The files of these entries, moved.
+fn working_files(alloc: Global, entries: Vec<Entry>) -> Result<BTreeMap<Name, File>, AllocError>
+    requires each { AllByRecursion IsStoredFile entries.items }
+    requires ascend { IsStrictlySortedBy name_cmp (map (λ e. e.name) entries.items) }
+    ensures { IfOk result (λ files. files.entries ≡ map element_of entries.items) }
+{
+    let mut files = BTreeMap::new(alloc);
+    for entry in entries {
+        add(&mut files, entry)?;
+    }
+    Ok(files)
+}
+
+/// Adds the file of an entry, moved.
+fn add(files: &mut BTreeMap<Name, File>, entry: Entry) -> Result<(), AllocError>
+    requires { IsStoredFile entry }
+    ensures { OnOk result (files.new.entries ≡ with_element files.old.entries entry.name (element_of entry).1) }
+{
+    let Entry {
+        name,
+        info,
+        len,
+        content,
+        changed: _,
+        lacking: _,
+    } = entry;
+    let Some(info) = info else {
+        return Ok(());
+    };
+    files.insert(name, File::stored(info, len, content))?;
+    Ok(())
+}

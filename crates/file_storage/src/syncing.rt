@@ -1,0 +1,293 @@
+//! Making the working files durable.
+
+ghost use Rattle.std.specs.Prelude.{◌≡◌, [], IsTrue, IfOk, IfErr, OnOk, Some, None, IsSome, true, false, length, List, ℕ, ◌<◌, ⊤};
+ghost use Rattle.per_base.specs.declared.elements.StoreKind.TheVariants as kinds;
+ghost use Rattle.per_base.specs.Causes.{Rose};
+ghost use Rattle.disk_model.specs.Frame.{Spares, IsSettledOn};
+ghost use Rattle.disk_model.specs.Medium.{Quiet, EachCase, Elapses};
+ghost use Rattle.disk_model.specs.Place.{IsOutside};
+ghost use Rattle.guarded_cell.specs.Register.{IsAlone};
+ghost use Rattle.index_text.specs.Spelling.{index_text};
+ghost use Rattle.element_state.specs.Clean.{IsClean};
+ghost use Rattle.element_state.specs.Kept.{KeptThroughout};
+ghost use Rattle.element_state.specs.States.{Opens, greatest_generation, store_at};
+ghost use Rattle.element_state.specs.Views.{map_of};
+ghost use Rattle.element_state.specs.Written.{IsWithin, map_cost};
+ghost use Rattle.element_maps.specs.Sessions.{IsSync};
+ghost use Rattle.element_store.specs.Committing.{index_in};
+ghost use Rattle.element_store.specs.Stores.{IsStore, IsUsed, shape_of, view_in};
+ghost use Rattle.file_storage.specs.Closes.{HandsBack, IsDeviceFault, MatchClosed, OnDone};
+ghost use Rattle.file_storage.specs.Durable.{IsDurable, IsSyncing};
+ghost use Rattle.file_storage.specs.FileSessions.{stored_in};
+ghost use Rattle.file_storage.specs.Syncs.{close_refused, is_synced, sync_refused, synced_view, worn};
+
+use crate::differences::{are_same, differences};
+use crate::files::Files;
+use disk_model::Disk;
+use element_laws::untouched_is_kept;
+use element_maps::{changes_make_maps, views_are_maps};
+use element_state::Change;
+use element_store::CommitFault;
+use file_core::writes;
+use per_base::{Holder, Limit, PerError};
+use std::alloc::AllocError;
+
+/// What a sync gives back.
+#[derive(Drop)]
+pub struct FilesOutcome {
+    pub files: Files,
+    /// Why nothing was made durable.
+    pub refused: Option<PerError>,
+}
+
+/// Why making the working files durable gave up.
+#[derive(Drop)]
+pub enum FilesFault {
+    /// The disk failed, and the storage is closed.
+    Device,
+    /// Want of memory hands the storage back, and nothing was written.
+    OutOfMemory(Files),
+}
+
+/// Whether the storage was closed.
+#[derive(Drop)]
+pub enum Closed {
+    /// The working files are durable, and the storage is closed.
+    Done,
+    /// It stays open, as it was, for this cause.
+    Refused(Files, PerError),
+}
+
+impl Files {
+    /// Makes the working files of the whole storage durable, all at once, through a handle that writes: a stop at any moment leaves
+    /// the files of before or those of after. Only what differs is written: of a file that could be read only the blocks that do, and
+    /// of one whose info alone changed no content. Where nothing differs, the disk is not called. Handles and positions stay.
+    ///
+    /// It is refused, and nothing changes, with `NotOpen`; `IllegalWriteAccess` for kind Read; `LimitReached` with `Generations` where
+    /// files differ and no generation is left.
+    ///
+    /// # Errors
+    ///
+    /// `OutOfMemory` hands the storage back before any call of the disk. `Device` closes it.
+    pub fn sync_to_file<D: Disk>(
+        self,
+        disk: &mut D,
+        handle: u32,
+    ) -> Result<FilesOutcome, FilesFault>
+        requires { IsUsed D.told (D.medium disk.old).image self.store }
+
+        ensures refused { IfOk result (λ o. o.refused ≡ sync_refused self handle) }
+        ensures unchanged { IfOk result (λ o. IsSome o.refused → (o.files ≡ self) × (disk.new ≡ disk.old)) }
+
+        // The working files are then the synchronised ones, and all else of the session stays.
+        ensures stored { IfOk result (λ o. o.refused ≡ None → stored_in o.files.store ≡ self.session.files) }
+        ensures view { IfOk result (λ o. o.refused ≡ None → view_in o.files.store ≡ synced_view self) }
+        ensures beside { IfOk result (λ o. o.files ≡ record self { store = o.files.store }) }
+        ensures shape { IfOk result (λ o. shape_of o.files.store ≡ shape_of self.store) }
+        ensures used { IfOk result (λ o. IsUsed D.told (D.medium disk.new).image o.files.store) }
+        ensures clean { IsTrue D.told → IsClean (shape_of self.store) (D.medium disk.old).image
+            → OnOk result (IsClean (shape_of self.store) (D.medium disk.new).image) }
+        ensures quiet { Quiet (D.medium disk.old) → OnOk result (Quiet (D.medium disk.new)) }
+
+        // Where nothing differs, the disk is not called. Else in each copy the contents that differ, and the index.
+        ensures untouched { is_synced self ≡ true → disk.new ≡ disk.old }
+        ensures written { is_synced self ≡ false → IfOk result (λ o. o.refused ≡ None → IsWithin (shape_of self.store).place.copies
+            (map_cost kinds.Files (stored_in self.store) self.session.files) (length (index_text (index_in o.files.store)))
+            (D.medium disk.old).written (D.medium disk.new).written) }
+
+        // A want of memory hands the storage back, and then nothing happened. Only a disk that failed closes it.
+        ensures memory { IfErr result (λ fault. HandsBack self fault (disk.new ≡ disk.old)) }
+        ensures cause { IfErr result (λ fault. IsDeviceFault fault → Rose (D.medium disk.old).faults (D.medium disk.new).faults) }
+
+        // No file outside the place changes, and a stop at any moment leaves the storage of before or that of after.
+        ensures elsewhere { IsTrue D.told → Spares (IsOutside (shape_of self.store).place.first (shape_of self.store).place.copies)
+            (D.medium disk.old).image (D.medium disk.new).image }
+        ensures outside { IsTrue D.told → Quiet (D.medium disk.old)
+            → EachCase (IsSettledOn (IsOutside (shape_of self.store).place.first (shape_of self.store).place.copies) (D.medium disk.old).image)
+            (D.medium disk.old) (D.medium disk.new) }
+        ensures any_moment { IsTrue D.told → KeptThroughout (shape_of self.store) (Opens (synced_view self) []) (D.medium disk.old) (D.medium disk.new) }
+        ensures time { Elapses (D.medium disk.old) (D.medium disk.new) }
+    {
+        untouched_is_kept();
+        if let Some(error) = self.refuses_sync(handle) {
+            return Ok(FilesOutcome {
+                files: self,
+                refused: Some(error),
+            });
+        }
+        match self.made_durable(disk) {
+            Ok(files) => Ok(FilesOutcome {
+                files,
+                refused: None,
+            }),
+            Err(fault) => Err(fault),
+        }
+    }
+}
+
+impl Files {
+    /// Makes the working files durable and closes the storage.
+    ///
+    /// It is refused, and nothing changes, with `ResourceBusy` of the lowest handle where one is open; then with `LimitReached` of
+    /// `Generations` where files differ and no generation is left.
+    ///
+    /// # Errors
+    ///
+    /// `OutOfMemory` hands the storage back before any call of the disk. `Device` closes it.
+    pub fn close_storage<D: Disk>(self, disk: &mut D) -> Result<Closed, FilesFault>
+        requires { IsUsed D.told (D.medium disk.old).image self.store }
+
+        ensures refused { IfOk result (λ closed. MatchClosed closed (close_refused self ≡ None)
+            (λ files error. (close_refused self ≡ Some error) × (files ≡ self) × (disk.new ≡ disk.old))) }
+
+        // The storage then opens at the working files.
+        ensures opens { IsTrue D.told → IfOk result (λ closed. OnDone closed
+            (store_at (D.medium disk.new).image (shape_of self.store) ≡ Opens (synced_view self) [])) }
+        ensures stored { IfOk result (λ closed. OnDone closed (map_of (synced_view self) ≡ self.session.files)) }
+        ensures clean { IsTrue D.told → IsClean (shape_of self.store) (D.medium disk.old).image
+            → OnOk result (IsClean (shape_of self.store) (D.medium disk.new).image) }
+        ensures quiet { Quiet (D.medium disk.old) → OnOk result (Quiet (D.medium disk.new)) }
+
+        // Where nothing differs, the disk is not called. Else in each copy the contents that differ, and the index that stands.
+        ensures untouched { is_synced self ≡ true → disk.new ≡ disk.old }
+        ensures written { is_synced self ≡ false → IfOk result (λ closed. OnDone closed ((text : List ℕ)
+            × (IsTrue D.told → IsAlone (D.medium disk.new).image (shape_of self.store).place.first (shape_of self.store).place.copies (synced_view self).generation text)
+            × IsWithin (shape_of self.store).place.copies (map_cost kinds.Files (stored_in self.store) self.session.files) (length text)
+            (D.medium disk.old).written (D.medium disk.new).written)) }
+
+        // A want of memory hands the storage back, and then nothing happened. Only a disk that failed closes it.
+        ensures memory { IfErr result (λ fault. HandsBack self fault (disk.new ≡ disk.old)) }
+        ensures cause { IfErr result (λ fault. IsDeviceFault fault → Rose (D.medium disk.old).faults (D.medium disk.new).faults) }
+
+        // No file outside the place changes, and a stop at any moment leaves the storage of before or that of after.
+        ensures elsewhere { IsTrue D.told → Spares (IsOutside (shape_of self.store).place.first (shape_of self.store).place.copies)
+            (D.medium disk.old).image (D.medium disk.new).image }
+        ensures outside { IsTrue D.told → Quiet (D.medium disk.old)
+            → EachCase (IsSettledOn (IsOutside (shape_of self.store).place.first (shape_of self.store).place.copies) (D.medium disk.old).image)
+            (D.medium disk.old) (D.medium disk.new) }
+        ensures any_moment { IsTrue D.told → KeptThroughout (shape_of self.store) (Opens (synced_view self) []) (D.medium disk.old) (D.medium disk.new) }
+        ensures time { Elapses (D.medium disk.old) (D.medium disk.new) }
+    {
+        untouched_is_kept();
+        if let Some(error) = self.refuses_close() {
+            return Ok(Closed::Refused(self, error));
+        }
+        match self.made_durable(disk) {
+            Ok(_files) => Ok(Closed::Done),
+            Err(fault) => Err(fault),
+        }
+    }
+
+    /// Makes the working files durable, where a generation is left or nothing differs.
+    fn made_durable<D: Disk>(self, disk: &mut D) -> Result<Files, FilesFault>
+        requires used { IsUsed D.told (D.medium disk.old).image self.store }
+        requires not_worn { worn self ≡ None }
+        ensures durable { IfOk result (λ files. IsDurable D.told self files (D.medium disk.old) (D.medium disk.new)) }
+        ensures untouched { is_synced self ≡ true → disk.new ≡ disk.old }
+        ensures memory { IfErr result (λ fault. HandsBack self fault (disk.new ≡ disk.old)) }
+        ensures cause { IfErr result (λ fault. IsDeviceFault fault → Rose (D.medium disk.old).faults (D.medium disk.new).faults) }
+        ensures syncing { IsSyncing D.told self (D.medium disk.old) (D.medium disk.new) }
+    {
+        untouched_is_kept();
+        if self.is_synced() {
+            return Ok(self);
+        }
+        match self.changes() {
+            Ok(changes) => self.commit(disk, changes),
+            Err(_) => Err(FilesFault::OutOfMemory(self)),
+        }
+    }
+
+    /// Commits these changes, which make the stored files into the working ones.
+    fn commit<D: Disk>(self, disk: &mut D, changes: Vec<Change>) -> Result<Files, FilesFault>
+        requires used { IsUsed D.told (D.medium disk.old).image self.store }
+        requires changes { IsSync (shape_of self.store) (λ bytes. true) (view_in self.store) (stored_in self.store) self.session.files changes.items }
+        requires differ { is_synced self ≡ false }
+        requires not_worn { (view_in self.store).generation < greatest_generation }
+        ensures durable { IfOk result (λ files. IsDurable D.told self files (D.medium disk.old) (D.medium disk.new)) }
+        ensures memory { IfErr result (λ fault. HandsBack self fault (disk.new ≡ disk.old)) }
+        ensures cause { IfErr result (λ fault. IsDeviceFault fault → Rose (D.medium disk.old).faults (D.medium disk.new).faults) }
+        ensures syncing { IsSyncing D.told self (D.medium disk.old) (D.medium disk.new) }
+    {
+        changes_make_maps();
+        views_are_maps();
+        self.holds();
+        let Files {
+            alloc,
+            config,
+            store,
+            table,
+        } = self;
+        match store.commit(disk, changes) {
+            Ok(store) => Ok(Files {
+                alloc,
+                config,
+                store,
+                table,
+            }),
+            Err(CommitFault::Device) => Err(FilesFault::Device),
+            Err(CommitFault::OutOfMemory(store)) => Err(FilesFault::OutOfMemory(Files {
+                alloc,
+                config,
+                store,
+                table,
+            })),
+        }
+    }
+
+    /// The changes that make the stored files into the working ones.
+    fn changes(&self) -> Result<Vec<Change>, AllocError>
+        requires { IsStore self.now.store }
+        ensures { IfOk result (λ changes. IsSync (shape_of self.now.store) (λ bytes. true) (view_in self.now.store) (stored_in self.now.store) self.now.session.files changes.items) }
+    {
+        views_are_maps();
+        self.holds();
+        self.store.holds();
+        let list = differences(self.alloc, self.store.entries(), self.table.files())?;
+        Ok(list)
+    }
+
+    /// Whether the working files are the stored ones. Takes no memory.
+    fn is_synced(&self) -> bool
+        ensures { result ≡ is_synced self.now }
+    {
+        are_same(self.store.entries(), self.table.files())
+    }
+
+    /// What refuses a sync by the handle of this number.
+    fn refuses_sync(&self, handle: u32) -> Option<PerError>
+        ensures { result ≡ sync_refused self.now handle }
+    {
+        let Some((open, _)) = self.table.at(handle) else {
+            return Some(PerError::NotOpen);
+        };
+        if !writes(open.cursor.kind) {
+            return Some(PerError::IllegalWriteAccess);
+        }
+        self.worn()
+    }
+
+    /// What refuses to close the storage.
+    fn refuses_close(&self) -> Option<PerError>
+        ensures { result ≡ close_refused self.now }
+    {
+        if let Some(handle) = self.table.lowest_handle() {
+            return Some(PerError::ResourceBusy {
+                holder: Holder::Handle(handle),
+            });
+        }
+        self.worn()
+    }
+
+    /// That no generation is left for files that differ.
+    fn worn(&self) -> Option<PerError>
+        ensures { result ≡ worn self.now }
+    {
+        if !self.is_synced() && self.store.generation() == u64::MAX {
+            return Some(PerError::LimitReached {
+                which: Limit::Generations,
+            });
+        }
+        None
+    }
+}
