@@ -4,3 +4,7 @@ pub mod FlashFiles
 pub mod FlashFilesLaws
 pub mod Known
 pub mod Learnt
+pub mod Standing
+pub mod PutPart
+pub mod Does
+pub mod FlashDiskMedium

@@ -1,0 +1,42 @@
+-- What is said of a disk over a flash: its files are those that the newest records stand for, and what a crash of the flash leaves is
+-- what a crash of the disk leaves, where no page passes its hash by chance.
+use Rattle.std.specs.Prelude.{◌≡◌, ℕ, ◌+◌, Bool, IsTrue, List, [], ◌∷◌}
+use Rattle.disk_model.specs.Image.{Image, put_image}
+use Rattle.disk_model.specs.Case.{Case}
+use Rattle.disk_model.specs.Medium.{Medium}
+use Rattle.flash_model.specs.Pages.{IsPlain}
+use Rattle.flash_model.specs.State.{Announced, FlashState, FlashCase}
+use Rattle.flash_model.specs.FlashMedium.{FlashMedium}
+use Rattle.flash_disk.specs.FlashFiles.{flash_files}
+
+-- the files after these writes
+abbrev pub put_announced : Image → List Announced → Image
+put_announced image [] = image
+put_announced image (w ∷ ws) = put_announced (put_image image w.file w.at w.bytes) ws
+
+-- the case of a disk for a case of its flash
+abbrev pub disk_case : ℕ → FlashCase → Case
+disk_case blocks c = record {
+  base = flash_files c.settled blocks;
+  full = put_announced (flash_files c.settled blocks) c.announced;
+  left = flash_files c.left blocks;
+}
+
+-- the case of a crash between two calls
+abbrev pub still_case : FlashState → FlashCase
+still_case s = record { before = s.pages; whole = s.pages; left = s.pages; settled = s.settled; announced = s.announced }
+
+-- a case of the flash in which no page passes its hash by chance
+abbrev pub IsCaseOf : ℕ → FlashCase → Case → Type 0
+IsCaseOf blocks f c = IsPlain f.before f.whole f.left × (c ≡ disk_case blocks f)
+
+-- a disk over this flash, with this count of its own faults and of the bytes that were written
+abbrev pub flash_disk_medium : (told : Bool) → FlashMedium → (own written : ℕ) → Medium
+flash_disk_medium told m own written = record {
+  image = flash_files m.state.pages m.blocks;
+  now = λ c. IsTrue told × (c ≡ disk_case m.blocks (still_case m.state));
+  moment = m.moment;
+  since = λ t c. IsTrue told × ((f : FlashCase) × m.since t f × IsCaseOf m.blocks f c);
+  faults = m.faults + own;
+  written = written;
+}

@@ -1,0 +1,17 @@
+-- What a write makes of the files of a disk part by part: a range has these bytes, the file is so long, and what lies between is zeros.
+use Rattle.std.specs.Prelude.{◌≡◌, ◌≢◌, ◌⊎◌, ℕ, ◌+◌, ◌-◌, ◌<◌, ◌≤◌, ◌&&◌, List, length, slice_index, nat_le, nat_lt, if◌then◌else◌}
+use Rattle.disk_model.specs.Image.{Image, TornImage}
+
+-- whether byte i lies in a range of n bytes
+abbrev pub in_range : (at n i : ℕ) → _
+in_range at n i = nat_le at i && nat_lt i (at + n)
+
+pub record PutPart (file at : ℕ) (bytes : List ℕ) (len : ℕ) (old new : Image) : Type 0 where
+  pub others : (f : ℕ) → f ≢ file → new f ≡ old f
+  pub long : length (new file) ≡ len
+  pub no_shorter : length (old file) ≤ len
+  pub bytes_are : (i : ℕ) → i < len → slice_index (new file) i ≡ (if in_range at (length bytes) i then slice_index bytes (i - at) else slice_index (old file) i)
+
+-- the write of a part was done, or nothing was
+abbrev pub PutOrNot : (file at : ℕ) → List ℕ → (len : ℕ) → Image → Image → Type 0
+PutOrNot file at bytes len old new = (new ≡ old) ⊎ PutPart file at bytes len old new

@@ -1,0 +1,39 @@
+-- What stays of a flash when pages change: the records that count, and the files that they stand for.
+use Rattle.std.specs.Prelude.{◌≡◌, ◌≢◌, ◌⊎◌, ℕ, ◌*◌, ◌/◌, ◌<◌, ◌≤◌, true, Option, Some, None}
+use Rattle.flash_model.specs.Pages.{Pages}
+use Rattle.flash_record.specs.PageRecord.{PageRecord}
+use Rattle.disk_model.specs.Image.{Image}
+use Rattle.flash_disk.specs.Newest.{Placed, record_at, is_of, newest, places, IsSpare}
+use Rattle.flash_disk.specs.FlashFiles.{file_byte, file_len, flash_files}
+
+-- what the newest record of a page says
+abbrev pub said : Option Placed → Option PageRecord
+said None = None
+said (Some x) = Some x.says
+
+-- all records of a page that have its greatest number are equal, so that it does not matter which of them counts
+abbrev pub IsAgreed : Pages → ℕ → Type 0
+IsAgreed pages n = (file page : ℕ) (x : Placed) → newest pages file page n ≡ Some x
+    → (j : ℕ) (q : PageRecord) → j < n → record_at pages j ≡ Some q → is_of file page q ≡ true → q.sequence ≡ x.says.sequence → q ≡ x.says
+
+-- no record came that was not there, and of each newest record one is left
+pub record Keeps (old new : Pages) (n : ℕ) : Type 0 where
+  pub only : (j : ℕ) (q : PageRecord) → j < n → record_at new j ≡ Some q → (k : ℕ) × (k < n) × (record_at old k ≡ Some q)
+  pub stays : (file page : ℕ) (x : Placed) → newest old file page n ≡ Some x → (k : ℕ) × (k < n) × (record_at new k ≡ Some x.says)
+
+-- some block has no record that is needed
+abbrev pub HasSpare : Pages → ℕ → Type 0
+HasSpare pages blocks = (block : ℕ) × (block < blocks) × IsSpare pages (places blocks) block
+
+-- the pages stand for these files, and some block is spare
+pub record StandsFor (files : Image) (blocks : ℕ) (pages : Pages) : Type 0 where
+  pub files_are : flash_files pages blocks ≡ files
+  pub spare : HasSpare pages blocks
+
+-- no byte shows that lies past the end of its file, from this byte on
+abbrev pub IsStrayless : Pages → (n from : ℕ) → Type 0
+IsStrayless pages n from = (file i : ℕ) → file_len pages n file ≤ i → from ≤ i → file_byte pages n file i ≡ 0
+
+-- a file may grow to this length by a record of this page of it: no other byte past its end shows
+abbrev pub MayGrow : Pages → (n file page len : ℕ) → Type 0
+MayGrow pages n file page len = (i : ℕ) → file_len pages n file ≤ i → i < len → i / 256 ≢ page → file_byte pages n file i ≡ 0
