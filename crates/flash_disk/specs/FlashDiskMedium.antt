@@ -34,12 +34,13 @@ IsCaseOf blocks f c = IsPlain f.before f.whole f.left × (c ≡ disk_case blocks
 abbrev pub files_told : (told : Bool) → FlashMedium → Image
 files_told told m = if told then flash_files m.state.pages m.blocks else (λ f. [])
 
--- a disk over this flash, with this count of its own faults and of the bytes that were written
+-- A disk over this flash, with this count of its own faults and of the bytes that were written. An untold one has no clock: that a moment
+-- counts among those since an earlier one is known of a told flash alone.
 abbrev pub flash_disk_medium : (told : Bool) → FlashMedium → (own written : ℕ) → Medium
 flash_disk_medium told m own written = record {
   image = files_told told m;
   now = λ c. IsTrue told × (c ≡ disk_case m.blocks (still_case m.state));
-  moment = m.moment;
+  moment = if told then m.moment else 0;
   since = λ t c. IsTrue told × ((f : FlashCase) × m.since t f × IsCaseOf m.blocks f c);
   faults = m.faults + own;
   written = written;
