@@ -6,3 +6,5 @@ mod Leading
 mod Reading
 mod Programming
 pub mod Parts
+pub mod Stretches
+pub mod DiskCases

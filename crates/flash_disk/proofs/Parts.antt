@@ -1,9 +1,9 @@
 -- Writes part by part: parts join, a part of a write tears as the write does, and all parts are the write.
-use Rattle.std.proofs.Common.{◌≡◌, ◌≢◌, ◌⊎◌, ℕ, ◌+◌, ◌-◌, ◌*◌, ◌<◌, ◌≤◌, ◌&&◌, Bool, max, true, false, List, ◌++◌, length, take, drop, get_or, sym, refl, ap, ◌∙◌, subst, inl, inr, ⊎_elim, arith, leb, le-leb, lt-ltb, le-ltb, eq-eqb, ne_eqb, take-add, take_all}
+use Rattle.std.proofs.Common.{◌≡◌, ◌≢◌, ◌⊎◌, ℕ, ◌+◌, ◌-◌, ◌*◌, ◌<◌, ◌≤◌, ◌&&◌, Bool, max, true, false, List, ◌++◌, length, take, drop, get_or, sym, refl, ap, ◌∙◌, subst, inl, inr, ⊎_elim, arith, leb, le-leb, lt-ltb, le-ltb, ne_eqb, take-add, take_all}
 use Rattle.std.proofs.Math.Path.{fun_ext}
-use Rattle.std.proofs.lemmas.List.{ext_get_or, length-append, length-take-le, length-drop, get_or_append_left, get_or-append_right}
+use Rattle.std.proofs.lemmas.List.{ext_get_or, length-append, length-take-le, get_or_append_left, get_or-append_right}
 use Rattle.std.proofs.lemmas.Bool.{cases_lt, cases_eq, lt-leb}
-use Rattle.disk_model.specs.Image.{Image, put_bytes, put_image, Torn, TornImage}
+use Rattle.disk_model.specs.Image.{Image, put_bytes, put_image, TornImage}
 use Rattle.disk_model.specs.Written.{put_outside, put_inside, length-put_some, put_image_here, put_image_elsewhere}
 use Rattle.flash_disk.specs.PutPart.{in_range, PutPart, PutOrNot}
 
