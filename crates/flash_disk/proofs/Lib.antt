@@ -5,3 +5,4 @@ mod Lightest
 mod Leading
 mod Reading
 mod Programming
+pub mod Standing

@@ -1,9 +1,9 @@
 -- What a write makes of the files of a disk part by part: a range has these bytes, the file is so long, and what lies between is zeros.
-use Rattle.std.specs.Prelude.{◌≡◌, ◌≢◌, ◌⊎◌, ℕ, ◌+◌, ◌-◌, ◌<◌, ◌≤◌, ◌&&◌, List, length, slice_index, nat_le, nat_lt, if◌then◌else◌}
+use Rattle.std.specs.Prelude.{◌≡◌, ◌≢◌, ◌⊎◌, ℕ, ◌+◌, ◌-◌, ◌<◌, ◌≤◌, ◌&&◌, Bool, List, length, slice_index, nat_le, nat_lt, if◌then◌else◌}
 use Rattle.disk_model.specs.Image.{Image, TornImage}
 
 -- whether byte i lies in a range of n bytes
-abbrev pub in_range : (at n i : ℕ) → _
+abbrev pub in_range : (at n i : ℕ) → Bool
 in_range at n i = nat_le at i && nat_lt i (at + n)
 
 pub record PutPart (file at : ℕ) (bytes : List ℕ) (len : ℕ) (old new : Image) : Type 0 where
