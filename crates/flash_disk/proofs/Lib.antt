@@ -6,3 +6,5 @@ mod Leading
 mod Reading
 mod Programming
 pub mod Standing
+pub mod Sparing
+pub mod Growing
