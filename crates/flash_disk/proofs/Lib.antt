@@ -8,3 +8,4 @@ mod Programming
 pub mod Standing
 pub mod Sparing
 pub mod Growing
+pub mod Tearing
