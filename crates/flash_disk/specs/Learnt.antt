@@ -1,11 +1,11 @@
 -- How a table is tied to the records on a flash.
-use Rattle.std.specs.Prelude.{◌≡◌, ◌≢◌, ◌⊎◌, ℕ, ◌+◌, ◌*◌, ◌<◌, ◌≤◌, Bool, true, false, List, Option, Some, None, IsSome, nat_lt, slice_index, if◌then◌else◌}
+use Rattle.std.specs.Prelude.{◌≡◌, ◌≢◌, ◌⊎◌, ℕ, ◌+◌, ◌*◌, ◌<◌, ◌≤◌, Bool, true, false, List, Option, Some, None, IsFalse, IsSome, nat_lt, slice_index, if◌then◌else◌}
 use Rattle.flash_model.specs.Pages.{Pages, blank_page, program_page}
 use Rattle.flash_disk.specs.declared.table.FilePage.{FilePage}
 use Rattle.flash_disk.specs.declared.table.Place.{Place}
 use Rattle.flash_disk.specs.declared.table.Newest.{Newest}
 use Rattle.flash_disk.specs.declared.table.Table.{Table}
-use Rattle.flash_disk.specs.Newest.{Placed, record_at, newest, page_count, IsCopyOf}
+use Rattle.flash_disk.specs.Newest.{Placed, record_at, is_of, newest, page_count, IsCopyOf}
 use Rattle.flash_record.specs.PageRecord.{PageRecord}
 use Rattle.flash_disk.specs.Known.{same_page, known, page_len, limit_of, len_known, HasRoom}
 use Rattle.flash_disk.specs.FlashFiles.{file_byte, file_len, IsFileLen}
@@ -13,23 +13,30 @@ use Rattle.flash_disk.specs.FlashFiles.{file_byte, file_len, IsFileLen}
 abbrev pub number : Place → ℕ
 number place = 64 * place.block + place.page
 
--- an entry leads to this record, and says its number and length
+-- an entry leads to this record, and says its number, its length and where its last byte other than zero ends
 pub record LeadsTo (pages : Pages) (entry : Newest) (x : Placed) : Type 0 where
   pub small : entry.place.page < 64
   pub there : record_at pages (number entry.place) ≡ Some x.says
   pub sequence : entry.sequence ≡ x.says.sequence
   pub len : entry.len ≡ x.says.len
+  pub filled : (j : ℕ) → entry.filled ≤ j → slice_index x.says.bytes j ≡ 0
 
 -- a twin is a copy in another block; without a twin there is none
 abbrev pub TwinSays : Pages → ℕ → Placed → Option Place → Type 0
 TwinSays pages n x None = (j : ℕ) → IsCopyOf pages n x j → ⊥
 TwinSays pages n x (Some place) = (place.page < 64) × IsCopyOf pages n x (number place)
 
+-- an entry that is not rivalled: all records of the page that have its greatest number are equal
+abbrev pub Unrivalled : Pages → ℕ → Placed → Type 0
+Unrivalled pages n x = (j : ℕ) (q : PageRecord) → j < n → record_at pages j ≡ Some q → is_of x.says.file x.says.page q ≡ true
+    → q.sequence ≡ x.says.sequence → q ≡ x.says
+
 -- while the flash is learnt an entry is that of the newest record itself
 pub record Learns (pages : Pages) (n : ℕ) (entry : Newest) (x : Placed) : Type 0 where
   pub leads : LeadsTo pages entry x
   pub place : number entry.place ≡ x.place
   pub twin : TwinSays pages n x entry.twin
+  pub agreed : IsFalse entry.rivalled → Unrivalled pages n x
 
 abbrev pub LearnsOf : Pages → ℕ → Option Newest → Option Placed → Type 0
 LearnsOf pages n None None = Unit {0}
@@ -64,11 +71,10 @@ abbrev pub LearnsAll : Pages → (n limit : ℕ) → Table → Bool → Type 0
 LearnsAll pages n limit table true = HasLearnt pages n table
 LearnsAll pages n limit table false = limit < page_count pages n
 
--- an entry leads to a record that is equal to the newest one, and says where a copy of that lies
+-- an entry leads to a record that is equal to the newest one
 pub record Led (pages : Pages) (n : ℕ) (entry : Newest) (x : Placed) : Type 0 where
   pub within : number entry.place < n
   pub leads : LeadsTo pages entry x
-  pub twin : TwinSays pages n x entry.twin
 
 abbrev pub LedOf : Pages → ℕ → Option Newest → Option Placed → Type 0
 LedOf pages n None None = Unit {0}

@@ -8,3 +8,5 @@ pub mod Standing
 pub mod PutPart
 pub mod Does
 pub mod FlashDiskMedium
+pub mod Sound
+pub mod Writes

@@ -1,32 +1,46 @@
 //! Records that are added to the block that is being filled, and blocks that are made free for it.
 
-ghost use Rattle.std.specs.Prelude.{◌≡◌, ◌+◌, ◌≤◌, ℕ, IsTrue, IfOk, IfSome, OnOk, Some, length};
+ghost use Rattle.std.specs.Prelude.{◌≡◌, ◌+◌, ◌*◌, ◌≤◌, ◌<◌, ℕ, IsTrue, IsFalse, IfOk, IfSome, OnOk, OnErr, Some, None, length};
+ghost use Rattle.flash_model.specs.State.{IsStill};
+ghost use Rattle.flash_model.specs.FlashMedium.{FlashElapses, EachFlashCase};
 ghost use Rattle.flash_model.specs.Pages.{Pages};
 ghost use Rattle.flash_record.specs.PageRecord.{record_in};
 ghost use Rattle.flash_record.specs.Stated.{stated};
-ghost use Rattle.flash_disk.specs.Known.{known, page_of};
-ghost use Rattle.flash_disk.specs.Learnt.{Adds, HasPlace, HasWritten, IsLed, Tops};
-ghost use Rattle.flash_disk.specs.Newest.{places};
+ghost use Rattle.flash_disk.specs.Known.{known};
+ghost use Rattle.flash_disk.specs.Does.{Does};
+ghost use Rattle.flash_disk.specs.PutPart.{PutPart};
+ghost use Rattle.flash_disk.specs.Standing.{StandsFor};
 ghost use Rattle.per_base.specs.Causes.{HasCause};
 
-use crate::disk::FlashDisk;
+use crate::layer::Layer;
 use crate::opening::newest_at;
 use crate::table::{FilePage, Newest, Place};
 use disk_model::DiskFailed;
 use flash_model::{BLANK_PAGE, BLOCK_PAGES, Flash, PAGE_BYTES};
 use flash_record::{RECORD_BYTES, Record, read_record, record_page};
 
-impl<F: Flash> FlashDisk<F> {
+impl<F: Flash> Layer<F> {
+    ghost use Rattle.flash_disk.specs.Sound.{files_of, Sound, IsSound, Holds, FitsIn, Enters, LeavesPut};
+
     // Reads again what a failed call may have left anything in.
     pub(crate) fn make_sure(&mut self) -> Result<(), DiskFailed>
-        ensures { HasCause ((F.medium self.old.flash).faults + self.old.own) ((F.medium self.new.flash).faults + self.new.own) result }
+        requires holds { IsTrue F.told → Holds (F.medium self.old.flash) self.old.state }
+        ensures holds { IsTrue F.told → Holds (F.medium self.new.flash) self.new.state }
+        ensures sound { IsTrue F.told → OnOk result (IsSound (F.medium self.new.flash) self.new.state) }
+        ensures sure { OnOk result (self.new.state.unsure ≡ None) }
+        ensures sequence { self.new.state.sequence ≡ self.old.state.sequence }
+        ensures unchanged { IsTrue F.told → (F.medium self.new.flash).state ≡ (F.medium self.old.flash).state }
+        ensures during { EachFlashCase (IsStill (F.medium self.old.flash).state) (F.medium self.old.flash) (F.medium self.new.flash) }
+        ensures time { FlashElapses (F.medium self.old.flash) (F.medium self.new.flash) }
+        ensures own { self.new.own ≡ self.old.own }
+        ensures cause { HasCause ((F.medium self.old.flash).faults + self.old.own) ((F.medium self.new.flash).faults + self.new.own) result }
     {
-        let Some(place) = self.unsure else {
+        let Some(place) = self.state.unsure else {
             return Ok(());
         };
         let mut page = BLANK_PAGE;
         self.read_page(place, &mut page)?;
-        self.unsure = None;
+        self.state.unsure = None;
         if let Some(record) = read_record(&page) {
             self.enter(place, record);
         }
@@ -34,17 +48,19 @@ impl<F: Flash> FlashDisk<F> {
     }
 
     // The next sequence number.
-    pub(crate) fn next_sequence(&mut self) -> Result<u64, DiskFailed>
+    fn next_sequence(&mut self) -> Result<u64, DiskFailed>
         ensures positive { IfOk result (λ sequence. 1 ≤ sequence) }
         ensures flash { self.new.flash ≡ self.old.flash }
-        ensures next { IfOk result (λ sequence. (sequence ≡ self.old.sequence + 1) × (self.new ≡ record self.old { sequence = sequence })) }
+        ensures next { IfOk result (λ sequence. (sequence ≡ self.old.state.sequence + 1)
+            × (self.new ≡ record self.old { state = record self.old.state { sequence = sequence } })) }
+        ensures none { OnErr result (self.new.state ≡ self.old.state) }
         ensures cause { HasCause ((F.medium self.old.flash).faults + self.old.own) ((F.medium self.new.flash).faults + self.new.own) result }
     {
-        if self.sequence == u64::MAX {
+        if self.state.sequence == u64::MAX {
             return Err(self.fault());
         }
-        self.sequence += 1;
-        Ok(self.sequence)
+        self.state.sequence += 1;
+        Ok(self.state.sequence)
     }
 
     // Adds a record, which is the newest of its page from then on.
@@ -55,7 +71,20 @@ impl<F: Flash> FlashDisk<F> {
         len: u64,
         bytes: &[u8; RECORD_BYTES],
     ) -> Result<(), DiskFailed>
-        ensures { HasCause ((F.medium self.old.flash).faults + self.old.own) ((F.medium self.new.flash).faults + self.new.own) result }
+        requires sure { self.old.state.unsure ≡ None }
+        requires sound { IsTrue F.told → IsSound (F.medium self.old.flash) self.old.state }
+        requires fits { IsTrue F.told → FitsIn (F.medium self.old.flash) self.old.state file page len bytes.now }
+        ensures sound { IsTrue F.told → OnOk result (IsSound (F.medium self.new.flash) self.new.state) }
+        ensures sure { OnOk result (self.new.state.unsure ≡ None) }
+        ensures put { IsTrue F.told → OnOk result (PutPart file (256 * page) bytes.now len
+            (files_of (F.medium self.old.flash)) (files_of (F.medium self.new.flash))) }
+        ensures failed { IsTrue F.told → OnErr result (Holds (F.medium self.new.flash) self.new.state) }
+        ensures does { IsTrue F.told → Does (LeavesPut file (256 * page) bytes.now len (files_of (F.medium self.old.flash)) (F.medium self.old.flash).blocks)
+            (F.medium self.old.flash) (F.medium self.new.flash) }
+        ensures rises { OnOk result (self.old.state.sequence < self.new.state.sequence) }
+        ensures later { self.old.state.sequence ≤ self.new.state.sequence }
+        ensures time { FlashElapses (F.medium self.old.flash) (F.medium self.new.flash) }
+        ensures cause { HasCause ((F.medium self.old.flash).faults + self.old.own) ((F.medium self.new.flash).faults + self.new.own) result }
     {
         self.make_room()?;
         self.add(file, page, len, bytes)
@@ -63,22 +92,29 @@ impl<F: Flash> FlashDisk<F> {
 
     // Adds a record to the current block.
     fn add(&mut self, file: u32, page: u32, len: u64, bytes: &[u8]) -> Result<(), DiskFailed>
-        requires { length bytes.now ≡ 256 }
-        ensures written { IsTrue F.told
-            → IsLed (F.medium self.old.flash).state.pages (places (F.medium self.old.flash).blocks) self.old.table
-            → Tops (F.medium self.old.flash).state.pages (places (F.medium self.old.flash).blocks) self.old.sequence
-            → HasPlace self.old.table (record { file = file; page = page })
-            → OnOk result (HasWritten (F.medium self.old.flash).state.pages (F.medium self.new.flash).state.pages
-            (places (F.medium self.old.flash).blocks) (record { file = file; page = page }) len bytes.now self.new.table self.new.sequence) }
-        ensures blocks { (F.medium self.new.flash).blocks ≡ (F.medium self.old.flash).blocks }
+        requires bytes { length bytes.now ≡ 256 }
+        requires sure { self.old.state.unsure ≡ None }
+        requires sound { IsTrue F.told → IsSound (F.medium self.old.flash) self.old.state }
+        requires room { self.old.state.fill < 64 }
+        requires fits { IsTrue F.told → FitsIn (F.medium self.old.flash) self.old.state file page len bytes.now }
+        ensures sound { IsTrue F.told → OnOk result (IsSound (F.medium self.new.flash) self.new.state) }
+        ensures sure { OnOk result (self.new.state.unsure ≡ None) }
+        ensures put { IsTrue F.told → OnOk result (PutPart file (256 * page) bytes.now len
+            (files_of (F.medium self.old.flash)) (files_of (F.medium self.new.flash))) }
+        ensures failed { IsTrue F.told → OnErr result (Holds (F.medium self.new.flash) self.new.state) }
+        ensures does { IsTrue F.told → Does (LeavesPut file (256 * page) bytes.now len (files_of (F.medium self.old.flash)) (F.medium self.old.flash).blocks)
+            (F.medium self.old.flash) (F.medium self.new.flash) }
+        ensures rises { OnOk result (self.old.state.sequence < self.new.state.sequence) }
+        ensures later { self.old.state.sequence ≤ self.new.state.sequence }
+        ensures time { FlashElapses (F.medium self.old.flash) (F.medium self.new.flash) }
         ensures cause { HasCause ((F.medium self.old.flash).faults + self.old.own) ((F.medium self.new.flash).faults + self.new.own) result }
     {
         let sequence = self.next_sequence()?;
         let place = Place {
-            block: self.current,
-            page: self.fill,
+            block: self.state.current,
+            page: self.state.fill,
         };
-        self.fill = self.fill.saturating_add(1);
+        self.state.fill += 1;
         let record = Record {
             sequence,
             file,
@@ -87,13 +123,12 @@ impl<F: Flash> FlashDisk<F> {
             bytes,
         };
         match self.program_page(place, &page_with(record)) {
-            Ok(true) => {
+            Ok(()) => {
                 self.enter(place, record);
                 Ok(())
             }
-            Ok(false) => Err(self.fault()),
             Err(e) => {
-                self.unsure = Some(place);
+                self.state.unsure = Some(place);
                 Err(e)
             }
         }
@@ -103,33 +138,40 @@ impl<F: Flash> FlashDisk<F> {
     fn enter(&mut self, place: Place, found: Record<'_>)
         ensures flash { self.new.flash ≡ self.old.flash }
         ensures own { self.new.own ≡ self.old.own }
-        ensures sequence { self.new.sequence ≡ self.old.sequence }
-        ensures leads { (old new : Pages) (n : ℕ) → Adds old new n place (stated found.entry) → IsLed old n self.old.table
-            → HasPlace self.old.table (page_of (stated found.entry)) → IsLed new n self.new.table }
+        ensures unsure { self.new.state.unsure ≡ self.old.state.unsure }
+        ensures sequence { self.new.state.sequence ≡ self.old.state.sequence }
+        ensures sound { (old new : Pages) (blocks : ℕ) → Sound old blocks self.old.state → IsFalse self.old.state.disputed
+            → Enters old new blocks self.old.state place (stated found.entry) → Sound new blocks self.new.state }
     {
         let key = FilePage {
             file: found.file,
             page: found.page as u64,
         };
-        if self.table.put(key, newest_at(place, found)) {
-            self.table.lengthen(found.file, found.len);
+        if self.state.table.put(key, newest_at(place, found)) {
+            self.state.table.lengthen(found.file, found.len);
         }
     }
 
-    // Sees to it that the current block has a page that was not tried yet. Where each block takes a whole block to move, the first
-    // round makes one lighter.
+    // Sees to it that the current block has a page that was not tried yet.
     fn make_room(&mut self) -> Result<(), DiskFailed>
-        ensures { HasCause ((F.medium self.old.flash).faults + self.old.own) ((F.medium self.new.flash).faults + self.new.own) result }
+        requires sure { self.old.state.unsure ≡ None }
+        requires sound { IsTrue F.told → IsSound (F.medium self.old.flash) self.old.state }
+        ensures sound { IsTrue F.told → IsSound (F.medium self.new.flash) self.new.state }
+        ensures sure { self.new.state.unsure ≡ None }
+        ensures room { OnOk result (self.new.state.fill < 64) }
+        ensures fits { IsTrue F.told → (file page len : ℕ) (bytes : _) → FitsIn (F.medium self.old.flash) self.old.state file page len bytes
+            → FitsIn (F.medium self.new.flash) self.new.state file page len bytes }
+        ensures does { IsTrue F.told → Does (StandsFor (files_of (F.medium self.old.flash)) (F.medium self.old.flash).blocks)
+            (F.medium self.old.flash) (F.medium self.new.flash) }
+        ensures sequence { self.new.state.sequence ≡ self.old.state.sequence }
+        ensures time { FlashElapses (F.medium self.old.flash) (F.medium self.new.flash) }
+        ensures cause { HasCause ((F.medium self.old.flash).faults + self.old.own) ((F.medium self.new.flash).faults + self.new.own) result }
     {
-        for _round in 0..2 {
-            self.renumber()?;
-            if self.fill < BLOCK_PAGES {
-                return Ok(());
-            }
-            self.collect()?;
+        if self.state.fill < BLOCK_PAGES {
+            return Ok(());
         }
-        self.renumber()?;
-        if self.fill < BLOCK_PAGES {
+        self.collect()?;
+        if self.state.fill < BLOCK_PAGES {
             return Ok(());
         }
         Err(self.fault())
@@ -137,108 +179,82 @@ impl<F: Flash> FlashDisk<F> {
 
     // Moves the newest records of the block where they are fewest into the spare block, which is the current one from then on.
     fn collect(&mut self) -> Result<(), DiskFailed>
-        ensures { HasCause ((F.medium self.old.flash).faults + self.old.own) ((F.medium self.new.flash).faults + self.new.own) result }
+        requires sure { self.old.state.unsure ≡ None }
+        requires sound { IsTrue F.told → IsSound (F.medium self.old.flash) self.old.state }
+        requires full { 64 ≤ self.old.state.fill }
+        ensures sound { IsTrue F.told → IsSound (F.medium self.new.flash) self.new.state }
+        ensures sure { self.new.state.unsure ≡ None }
+        ensures fits { IsTrue F.told → (file page len : ℕ) (bytes : _) → FitsIn (F.medium self.old.flash) self.old.state file page len bytes
+            → FitsIn (F.medium self.new.flash) self.new.state file page len bytes }
+        ensures does { IsTrue F.told → Does (StandsFor (files_of (F.medium self.old.flash)) (F.medium self.old.flash).blocks)
+            (F.medium self.old.flash) (F.medium self.new.flash) }
+        ensures sequence { self.new.state.sequence ≡ self.old.state.sequence }
+        ensures time { FlashElapses (F.medium self.old.flash) (F.medium self.new.flash) }
+        ensures cause { HasCause ((F.medium self.old.flash).faults + self.old.own) ((F.medium self.new.flash).faults + self.new.own) result }
     {
-        let target = self.spare;
-        let victim = self.table.lightest_but(target);
-        if self.stuck || self.table.load_of(victim) > BLOCK_PAGES {
+        let target = self.state.spare;
+        let victim = self.state.table.lightest_but(target);
+        if self.state.disputed || victim == target {
             return Err(self.fault());
         }
         self.erase_block(target)?;
-        if let Err(e) = self.copy_needed(victim, target) {
-            self.moved.clear();
-            return Err(e);
-        }
-        self.table.put_all(&self.moved);
-        self.fill = self.moved.len().min(BLOCK_PAGES as usize) as u32;
-        self.current = target;
-        self.spare = victim;
-        Ok(())
-    }
-
-    // Writes what was moved though it is rivalled again, under new numbers: where it was until then it came before its rival, and from
-    // now on it is newer.
-    fn renumber(&mut self) -> Result<(), DiskFailed>
-        ensures { HasCause ((F.medium self.old.flash).faults + self.old.own) ((F.medium self.new.flash).faults + self.new.own) result }
-    {
-        for i in 0..self.moved.len() {
-            self.renumber_one(i)?;
-        }
-        self.moved.clear();
-        Ok(())
-    }
-
-    // Writes the i-th record that was moved again under a new number, if it is rivalled.
-    fn renumber_one(&mut self, i: usize) -> Result<(), DiskFailed>
-        ensures { HasCause ((F.medium self.old.flash).faults + self.old.own) ((F.medium self.new.flash).faults + self.new.own) result }
-    {
-        let Some((_key, moved)) = self.moved.get(i).copied() else {
-            return Ok(());
-        };
-        if !moved.rivalled {
-            return Ok(());
-        }
-        let mut page = BLANK_PAGE;
-        self.read_page(moved.place, &mut page)?;
-        let Some(record) = read_record(&page) else {
-            return Err(self.fault());
-        };
-        self.add(record.file, record.page, record.len, record.bytes)?;
-        if let Some(slot) = self.moved.get_mut(i) {
-            slot.1.rivalled = false;
-        }
+        self.state.moved.clear();
+        self.copy_needed(victim, target)?;
+        self.state.table.put_all(&self.state.moved);
+        self.state.fill = self.state.moved.len().min(BLOCK_PAGES as usize) as u32;
+        self.state.current = target;
+        self.state.spare = victim;
         Ok(())
     }
 
     // Copies the newest records of a block to the front of another; the table still leads to where they were.
     fn copy_needed(&mut self, from: u32, to: u32) -> Result<(), DiskFailed>
-        ensures { HasCause ((F.medium self.old.flash).faults + self.old.own) ((F.medium self.new.flash).faults + self.new.own) result }
+        ensures cause { HasCause ((F.medium self.old.flash).faults + self.old.own) ((F.medium self.new.flash).faults + self.new.own) result }
     {
-        self.moved.clear();
-        let mut next = 0;
         for page in 0..BLOCK_PAGES {
-            let place = Place {
-                block: to,
-                page: next,
-            };
-            if self.copy_one(Place { block: from, page }, place)? {
-                next = next.saturating_add(1);
-            }
+            self.copy_one(Place { block: from, page }, to)?;
         }
         Ok(())
     }
 
-    // Copies a record, if it is the newest of its page, and says whether it is.
-    fn copy_one(&mut self, from: Place, to: Place) -> Result<bool, DiskFailed>
-        ensures { HasCause ((F.medium self.old.flash).faults + self.old.own) ((F.medium self.new.flash).faults + self.new.own) result }
+    // Copies a record to the next page of another block, if it is the newest of its page.
+    fn copy_one(&mut self, from: Place, to: u32) -> Result<(), DiskFailed>
+        ensures cause { HasCause ((F.medium self.old.flash).faults + self.old.own) ((F.medium self.new.flash).faults + self.new.own) result }
     {
         let mut page = BLANK_PAGE;
         self.read_page(from, &mut page)?;
         let Some((key, old)) = self.newest_in(&page) else {
-            return Ok(false);
+            return Ok(());
         };
         if old.place != from {
-            return Ok(false);
+            return Ok(());
         }
-        if !self.program_page(to, &page)? {
+        let place = Place {
+            block: to,
+            page: self.state.moved.len() as u32,
+        };
+        self.program_page(place, &page)?;
+        if self
+            .state
+            .moved
+            .push((key, Newest { place, ..old }))
+            .is_err()
+        {
             return Err(self.fault());
         }
-        if self.moved.push((key, Newest { place: to, ..old })).is_err() {
-            return Err(self.fault());
-        }
-        Ok(true)
+        Ok(())
     }
 
     // The page of a file that a page of the flash is a record of, and the newest record of it.
     pub(crate) fn newest_in(&self, page: &[u8]) -> Option<(FilePage, Newest)>
-        ensures { IfSome result (λ found. known self.now.table found.0 ≡ Some found.1) }
+        ensures { IfSome result (λ found. known self.now.state.table found.0 ≡ Some found.1) }
     {
         let record = read_record(page)?;
         let key = FilePage {
             file: record.file,
             page: record.page as u64,
         };
-        let newest = self.table.find(key)?;
+        let newest = self.state.table.find(key)?;
         Some((key, newest))
     }
 }

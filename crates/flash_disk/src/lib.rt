@@ -23,8 +23,10 @@
 //! Limits: files of at most 1,099,511,627,776 bytes, and as many pages as all blocks but two hold; wear is not even.
 #![tactic(auto)]
 
+mod calls;
 mod disk;
 mod filling;
+mod layer;
 mod opening;
 mod serving;
 mod table;

@@ -10,6 +10,7 @@ ghost use Rattle.flash_model.specs.Pages.{Pages};
 ghost use Rattle.per_base.specs.Causes.{HasCause, Rose};
 
 use crate::disk::{FlashDisk, FlashOpenError, FlashRefused};
+use crate::layer::{Layer, LayerState};
 use crate::table::{FilePage, Newest, Place, Table};
 use disk_model::DiskFailed;
 use flash_model::{BLANK_PAGE, BLOCK_PAGES, Flash};
@@ -17,6 +18,8 @@ use flash_record::{Record, read_record};
 use std::alloc::{AllocError, Global};
 
 impl<F: Flash> FlashDisk<F> {
+    ghost use Rattle.flash_disk.specs.FlashDiskMedium.{flash_disk_medium};
+
     /// Opens a flash as a disk. It reads every page, and takes all the memory that the disk ever needs.
     pub fn open(alloc: Global, flash: F) -> Result<FlashDisk<F>, FlashRefused<F>>
         ensures size { OnOk result ((4 ≤ (F.medium flash).blocks) × ((F.medium flash).blocks ≤ 4096)) }
@@ -30,12 +33,10 @@ impl<F: Flash> FlashDisk<F> {
         ensures unusable { IsTrue F.told → IfErr result (λ refused. refused.error ≡ FlashOpenError.Unusable
             → IsUnusable (F.medium flash).state.pages (F.medium flash).blocks) }
 
-        // The disk knows the newest record of each page, and how long each file is.
-        ensures knows { IsTrue F.told → IfOk result (λ disk.
-            Knows (F.medium flash).state.pages (places (F.medium flash).blocks) disk.table) }
-
-        // No page changes.
-        ensures pages { IsTrue F.told → IfOk result (λ disk. (F.medium disk.flash).state.pages ≡ (F.medium flash).state.pages) }
+        // No page changes, nothing counts as a fault of the disk yet, and a crash leaves what the flash held.
+        ensures pages { IsTrue F.told → IfOk result (λ disk. (F.medium disk.layer.flash).state.pages ≡ (F.medium flash).state.pages) }
+        ensures blocks { IfOk result (λ disk. (F.medium disk.layer.flash).blocks ≡ (F.medium flash).blocks) }
+        ensures own { IfOk result (λ disk. (disk.layer.own ≡ 0) × (disk.written ≡ 0)) }
         ensures returned { IsTrue F.told → IfErr result (λ refused. (F.medium refused.flash).state.pages ≡ (F.medium flash).state.pages) }
     {
         let blocks = flash.blocks();
@@ -45,58 +46,68 @@ impl<F: Flash> FlashDisk<F> {
                 error: FlashOpenError::WrongSize,
             });
         }
-        let Ok((table, moved)) = FlashDisk::<F>::memory(alloc, blocks) else {
+        let Ok(state) = empty_state(alloc, blocks) else {
             return Err(FlashRefused {
                 flash,
                 error: FlashOpenError::OutOfMemory,
             });
         };
-        let mut disk = FlashDisk {
+        let mut layer = Layer {
             flash,
-            table,
-            current: 0,
-            fill: BLOCK_PAGES,
-            spare: 0,
-            sequence: 0,
-            unsure: None,
-            moved,
-            stuck: false,
-            stray_end: 0,
+            state,
             own: 0,
         };
-        match disk.learn(blocks) {
-            Ok(true) => Ok(disk),
+        match layer.learn(blocks) {
+            Ok(true) => Ok(FlashDisk { layer, written: 0 }),
             Ok(false) => Err(FlashRefused {
-                flash: disk.into_flash(),
+                flash: layer.flash,
                 error: FlashOpenError::Unusable,
             }),
             Err(_) => Err(FlashRefused {
-                flash: disk.into_flash(),
+                flash: layer.flash,
                 error: FlashOpenError::Device,
             }),
         }
     }
+}
 
-    // All the memory that a disk of so many blocks needs.
-    fn memory(alloc: Global, blocks: u32) -> Result<(Table, Vec<(FilePage, Newest)>), AllocError>
-        ensures { IfOk result (λ made. IsEmptyTable made.0 × (limit_of made.0 ≡ page_limit blocks)) }
-    {
-        let table = Table::new(alloc, blocks)?;
-        let moved = Vec::with_capacity(alloc, BLOCK_PAGES as usize)?;
-        Ok((table, moved))
-    }
+// What is known of a flash of so many blocks before it is read, with all the memory that it will ever need.
+fn empty_state(alloc: Global, blocks: u32) -> Result<LayerState, AllocError>
+    ensures table { IfOk result (λ state. IsEmptyTable state.table × (limit_of state.table ≡ page_limit blocks)) }
+    ensures full { IfOk result (λ state. state.fill ≡ 64) }
+    ensures sure { IfOk result (λ state. state.unsure ≡ None) }
+{
+    Ok(LayerState {
+        table: Table::new(alloc, blocks)?,
+        current: 0,
+        fill: BLOCK_PAGES,
+        spare: 0,
+        sequence: 0,
+        unsure: None,
+        moved: Vec::with_capacity(alloc, BLOCK_PAGES as usize)?,
+        disputed: false,
+        stray_end: 0,
+    })
+}
+
+impl<F: Flash> Layer<F> {
+    ghost use Rattle.flash_disk.specs.Sound.{Sound};
 
     // Learns what the flash holds, and says whether it is usable.
     fn learn(&mut self, blocks: u32) -> Result<bool, DiskFailed>
         requires blocks { blocks ≡ (F.medium self.old.flash).blocks }
-        requires empty { IsEmptyTable self.old.table }
-        requires limit { limit_of self.old.table ≡ page_limit blocks }
+        requires empty { IsEmptyTable self.old.state.table }
+        requires limit { limit_of self.old.state.table ≡ page_limit blocks }
+        requires full { self.old.state.fill ≡ 64 }
+        requires sure { self.old.state.unsure ≡ None }
         ensures flash { HasCause (F.medium self.old.flash).faults (F.medium self.new.flash).faults result }
         ensures pages { IsTrue F.told → (F.medium self.new.flash).state.pages ≡ (F.medium self.old.flash).state.pages }
         ensures blocks { (F.medium self.new.flash).blocks ≡ (F.medium self.old.flash).blocks }
         ensures usable { IsTrue F.told → IfOk result (SaysUsable (F.medium self.old.flash).state.pages blocks) }
-        ensures knows { IsTrue F.told → IfOk result (λ usable. IsTrue usable
-            → Knows (F.medium self.old.flash).state.pages (places blocks) self.new.table) }
+        ensures sound { IsTrue F.told → IfOk result (λ usable. IsTrue usable
+            → Sound (F.medium self.old.flash).state.pages blocks self.new.state) }
+        ensures sure { IfOk result (λ usable. IsTrue usable → self.new.state.unsure ≡ None) }
+        ensures own { self.new.own ≡ self.old.own }
     {
         if !self.learn_blocks(blocks)? {
             return Ok(false);
@@ -105,8 +116,9 @@ impl<F: Flash> FlashDisk<F> {
             return Ok(false);
         }
         self.leave_spare()?;
-        self.table.measure();
-        self.stray_end = self.table.stray_end();
+        self.state.table.measure();
+        self.state.stray_end = self.state.table.stray_end();
+        self.state.disputed = self.state.table.is_disputed();
         match self.flash.settle() {
             Ok(()) => Ok(true),
             Err(_) => Err(DiskFailed),
@@ -116,14 +128,14 @@ impl<F: Flash> FlashDisk<F> {
     // Learns what all blocks hold; `false` where there is no room for it.
     fn learn_blocks(&mut self, blocks: u32) -> Result<bool, DiskFailed>
         requires blocks { blocks ≡ (F.medium self.old.flash).blocks }
-        requires empty { IsEmptyTable self.old.table }
+        requires empty { IsEmptyTable self.old.state.table }
         ensures flash { HasCause (F.medium self.old.flash).faults (F.medium self.new.flash).faults result }
         ensures pages { IsTrue F.told → (F.medium self.new.flash).state.pages ≡ (F.medium self.old.flash).state.pages }
         ensures blocks { (F.medium self.new.flash).blocks ≡ (F.medium self.old.flash).blocks }
-        ensures limit { limit_of self.new.table ≡ limit_of self.old.table }
-        ensures lens { self.new.table.lens ≡ self.old.table.lens }
+        ensures limit { limit_of self.new.state.table ≡ limit_of self.old.state.table }
+        ensures lens { self.new.state.table.lens ≡ self.old.state.table.lens }
         ensures learns { IsTrue F.told
-            → IfOk result (LearnsAll (F.medium self.old.flash).state.pages (places blocks) (limit_of self.old.table) self.new.table) }
+            → IfOk result (LearnsAll (F.medium self.old.flash).state.pages (places blocks) (limit_of self.old.state.table) self.new.state.table) }
     {
         for block in 0..blocks {
             if !self.learn_block(block)? {
@@ -139,10 +151,10 @@ impl<F: Flash> FlashDisk<F> {
         ensures flash { HasCause (F.medium self.old.flash).faults (F.medium self.new.flash).faults result }
         ensures pages { IsTrue F.told → (F.medium self.new.flash).state.pages ≡ (F.medium self.old.flash).state.pages }
         ensures blocks { (F.medium self.new.flash).blocks ≡ (F.medium self.old.flash).blocks }
-        ensures limit { limit_of self.new.table ≡ limit_of self.old.table }
-        ensures lens { self.new.table.lens ≡ self.old.table.lens }
-        ensures learns { IsTrue F.told → HasLearnt (F.medium self.old.flash).state.pages (64 * block) self.old.table
-            → IfOk result (LearnsAll (F.medium self.old.flash).state.pages (64 * block + 64) (limit_of self.old.table) self.new.table) }
+        ensures limit { limit_of self.new.state.table ≡ limit_of self.old.state.table }
+        ensures lens { self.new.state.table.lens ≡ self.old.state.table.lens }
+        ensures learns { IsTrue F.told → HasLearnt (F.medium self.old.flash).state.pages (64 * block) self.old.state.table
+            → IfOk result (LearnsAll (F.medium self.old.flash).state.pages (64 * block + 64) (limit_of self.old.state.table) self.new.state.table) }
     {
         for page in 0..BLOCK_PAGES {
             if !self.learn_page(Place { block, page })? {
@@ -158,13 +170,13 @@ impl<F: Flash> FlashDisk<F> {
         ensures flash { HasCause (F.medium self.old.flash).faults (F.medium self.new.flash).faults result }
         ensures pages { IsTrue F.told → (F.medium self.new.flash).state.pages ≡ (F.medium self.old.flash).state.pages }
         ensures blocks { (F.medium self.new.flash).blocks ≡ (F.medium self.old.flash).blocks }
-        ensures table { self.new.table ≡ self.old.table }
-        ensures spare { IsTrue F.told → HasLearnt (F.medium self.old.flash).state.pages (places blocks) self.old.table
-            → IfOk result (FindsSpare (F.medium self.old.flash).state.pages blocks self.new.spare) }
+        ensures table { self.new.state.table ≡ self.old.state.table }
+        ensures spare { IsTrue F.told → HasLearnt (F.medium self.old.flash).state.pages (places blocks) self.old.state.table
+            → IfOk result (FindsSpare (F.medium self.old.flash).state.pages blocks self.new.state.spare) }
     {
         for block in 0..blocks {
             if self.is_spare(block)? {
-                self.spare = block;
+                self.state.spare = block;
                 return Ok(true);
             }
         }
@@ -176,11 +188,11 @@ impl<F: Flash> FlashDisk<F> {
         ensures flash { HasCause (F.medium self.old.flash).faults (F.medium self.new.flash).faults result }
         ensures pages { IsTrue F.told → (F.medium self.new.flash).state.pages ≡ (F.medium self.old.flash).state.pages }
         ensures blocks { (F.medium self.new.flash).blocks ≡ (F.medium self.old.flash).blocks }
-        ensures limit { limit_of self.new.table ≡ limit_of self.old.table }
-        ensures lens { self.new.table.lens ≡ self.old.table.lens }
-        ensures leads { (pages : Pages) (n : ℕ) → IsLed pages n self.old.table → IsLed pages n self.new.table }
+        ensures limit { limit_of self.new.state.table ≡ limit_of self.old.state.table }
+        ensures lens { self.new.state.table.lens ≡ self.old.state.table.lens }
+        ensures leads { (pages : Pages) (n : ℕ) → IsLed pages n self.old.state.table → IsLed pages n self.new.state.table }
     {
-        let spare = self.spare;
+        let spare = self.state.spare;
         for page in 0..BLOCK_PAGES {
             self.leave_page(Place { block: spare, page })?;
         }
@@ -192,9 +204,9 @@ impl<F: Flash> FlashDisk<F> {
         ensures flash { HasCause (F.medium self.old.flash).faults (F.medium self.new.flash).faults result }
         ensures pages { IsTrue F.told → (F.medium self.new.flash).state.pages ≡ (F.medium self.old.flash).state.pages }
         ensures blocks { (F.medium self.new.flash).blocks ≡ (F.medium self.old.flash).blocks }
-        ensures limit { limit_of self.new.table ≡ limit_of self.old.table }
-        ensures lens { self.new.table.lens ≡ self.old.table.lens }
-        ensures leads { (pages : Pages) (n : ℕ) → IsLed pages n self.old.table → IsLed pages n self.new.table }
+        ensures limit { limit_of self.new.state.table ≡ limit_of self.old.state.table }
+        ensures lens { self.new.state.table.lens ≡ self.old.state.table.lens }
+        ensures leads { (pages : Pages) (n : ℕ) → IsLed pages n self.old.state.table → IsLed pages n self.new.state.table }
     {
         let mut page = BLANK_PAGE;
         self.read_page(place, &mut page)?;
@@ -207,9 +219,8 @@ impl<F: Flash> FlashDisk<F> {
         let Some(twin) = old.twin else {
             return Ok(());
         };
-        self.stuck = self.stuck || old.rivalled;
         let new = Newest { place: twin, ..old };
-        self.table.put(key, new);
+        self.state.table.put(key, new);
         Ok(())
     }
 
@@ -219,9 +230,9 @@ impl<F: Flash> FlashDisk<F> {
         ensures flash { HasCause (F.medium self.old.flash).faults (F.medium self.new.flash).faults result }
         ensures pages { IsTrue F.told → (F.medium self.new.flash).state.pages ≡ (F.medium self.old.flash).state.pages }
         ensures blocks { (F.medium self.new.flash).blocks ≡ (F.medium self.old.flash).blocks }
-        ensures table { self.new.table ≡ self.old.table }
+        ensures table { self.new.state.table ≡ self.old.state.table }
         ensures spare { IsTrue F.told
-            → HasLearnt (F.medium self.old.flash).state.pages (places (F.medium self.old.flash).blocks) self.old.table
+            → HasLearnt (F.medium self.old.flash).state.pages (places (F.medium self.old.flash).blocks) self.old.state.table
             → IfOk result (λ spare. IsTrue spare
             ↔ IsSpare (F.medium self.old.flash).state.pages (places (F.medium self.old.flash).blocks) block) }
     {
@@ -240,9 +251,9 @@ impl<F: Flash> FlashDisk<F> {
         ensures flash { HasCause (F.medium self.old.flash).faults (F.medium self.new.flash).faults result }
         ensures pages { IsTrue F.told → (F.medium self.new.flash).state.pages ≡ (F.medium self.old.flash).state.pages }
         ensures blocks { (F.medium self.new.flash).blocks ≡ (F.medium self.old.flash).blocks }
-        ensures table { self.new.table ≡ self.old.table }
+        ensures table { self.new.state.table ≡ self.old.state.table }
         ensures needed { IsTrue F.told
-            → HasLearnt (F.medium self.old.flash).state.pages (places (F.medium self.old.flash).blocks) self.old.table
+            → HasLearnt (F.medium self.old.flash).state.pages (places (F.medium self.old.flash).blocks) self.old.state.table
             → IfOk result (λ needed. IsTrue needed
             ↔ NeedsPlace (F.medium self.old.flash).state.pages (places (F.medium self.old.flash).blocks) (number place)) }
     {
@@ -255,7 +266,7 @@ impl<F: Flash> FlashDisk<F> {
             file: record.file,
             page: record.page as u64,
         };
-        let Some(newest) = self.table.find(key) else {
+        let Some(newest) = self.state.table.find(key) else {
             return Ok(false);
         };
         if newest.twin.is_some() {
@@ -271,26 +282,26 @@ impl<F: Flash> FlashDisk<F> {
         ensures flash { HasCause (F.medium self.old.flash).faults (F.medium self.new.flash).faults result }
         ensures pages { IsTrue F.told → (F.medium self.new.flash).state.pages ≡ (F.medium self.old.flash).state.pages }
         ensures blocks { (F.medium self.new.flash).blocks ≡ (F.medium self.old.flash).blocks }
-        ensures limit { limit_of self.new.table ≡ limit_of self.old.table }
-        ensures lens { self.new.table.lens ≡ self.old.table.lens }
-        ensures learns { IsTrue F.told → HasLearnt (F.medium self.old.flash).state.pages (number place) self.old.table
-            → IfOk result (LearnsNext (F.medium self.old.flash).state.pages (number place + 1) self.old.table self.new.table) }
+        ensures limit { limit_of self.new.state.table ≡ limit_of self.old.state.table }
+        ensures lens { self.new.state.table.lens ≡ self.old.state.table.lens }
+        ensures learns { IsTrue F.told → HasLearnt (F.medium self.old.flash).state.pages (number place) self.old.state.table
+            → IfOk result (LearnsNext (F.medium self.old.flash).state.pages (number place + 1) self.old.state.table self.new.state.table) }
     {
         let mut page = BLANK_PAGE;
         self.read_page(place, &mut page)?;
         let Some(record) = read_record(&page) else {
             return Ok(true);
         };
-        self.sequence = self.sequence.max(record.sequence);
+        self.state.sequence = self.state.sequence.max(record.sequence);
         let key = FilePage {
             file: record.file,
             page: record.page as u64,
         };
-        let Some(old) = self.table.find(key) else {
-            return Ok(self.table.put(key, newest_at(place, record)));
+        let Some(old) = self.state.table.find(key) else {
+            return Ok(self.state.table.put(key, newest_at(place, record)));
         };
         if old.sequence < record.sequence {
-            return Ok(self.table.put(key, newest_at(place, record)));
+            return Ok(self.state.table.put(key, newest_at(place, record)));
         }
         if old.sequence > record.sequence {
             return Ok(true);
@@ -309,16 +320,16 @@ impl<F: Flash> FlashDisk<F> {
         requires block { place.block < (F.medium self.old.flash).blocks }
         requires page { place.page < 64 }
         requires key { key ≡ page_of (stated found) }
-        requires old { known self.old.table key ≡ Some old }
+        requires old { known self.old.state.table key ≡ Some old }
         requires sequence { old.sequence ≡ found.sequence }
         ensures flash { HasCause (F.medium self.old.flash).faults (F.medium self.new.flash).faults result }
         ensures pages { IsTrue F.told → (F.medium self.new.flash).state.pages ≡ (F.medium self.old.flash).state.pages }
         ensures blocks { (F.medium self.new.flash).blocks ≡ (F.medium self.old.flash).blocks }
-        ensures limit { limit_of self.new.table ≡ limit_of self.old.table }
-        ensures lens { self.new.table.lens ≡ self.old.table.lens }
-        ensures learns { IsTrue F.told → HasLearnt (F.medium self.old.flash).state.pages (number place) self.old.table
+        ensures limit { limit_of self.new.state.table ≡ limit_of self.old.state.table }
+        ensures lens { self.new.state.table.lens ≡ self.old.state.table.lens }
+        ensures learns { IsTrue F.told → HasLearnt (F.medium self.old.flash).state.pages (number place) self.old.state.table
             → record_at (F.medium self.old.flash).state.pages (number place) ≡ Some (stated found.entry)
-            → IfOk result (LearnsNext (F.medium self.old.flash).state.pages (number place + 1) self.old.table self.new.table) }
+            → IfOk result (LearnsNext (F.medium self.old.flash).state.pages (number place + 1) self.old.state.table self.new.state.table) }
     {
         let mut page = BLANK_PAGE;
         self.read_page(old.place, &mut page)?;
@@ -327,7 +338,7 @@ impl<F: Flash> FlashDisk<F> {
             rivalled: is_rivalled(&page, found, old),
             ..old
         };
-        Ok(self.table.put(key, new))
+        Ok(self.state.table.put(key, new))
     }
 }
 

@@ -1,40 +1,49 @@
-//! The calls of a disk.
+//! Reads and writes of the bytes of files, page by page.
 
-ghost use Rattle.std.specs.Prelude.{◌≡◌, ◌+◌, ◌-◌, ◌*◌, ◌/◌, ◌≤◌, ◌<◌, ◌^◌, ℕ, IsTrue, IfOk, OnOk, false, length, min, take, drop, nat_lt, slice_index, if◌then◌else◌};
+ghost use Rattle.std.specs.Prelude.{◌≡◌, ◌+◌, ◌-◌, ◌*◌, ◌/◌, ◌≤◌, ◌<◌, ◌^◌, ℕ, IsTrue, IfOk, OnOk, OnErr, None, length, min, max, take, drop, nat_lt, slice_index, if◌then◌else◌};
 ghost use Rattle.per_base.specs.Causes.{HasCause};
+ghost use Rattle.disk_model.specs.Image.{put_image};
+ghost use Rattle.flash_model.specs.FlashMedium.{FlashElapses};
 ghost use Rattle.flash_record.specs.PageRecord.{record_in};
 ghost use Rattle.flash_disk.specs.Newest.{places};
 ghost use Rattle.flash_disk.specs.FlashFiles.{record_byte, file_byte, file_len, flash_files};
-ghost use Rattle.flash_disk.specs.Learnt.{IsContent, Knows};
+ghost use Rattle.flash_disk.specs.Known.{len_known};
+ghost use Rattle.flash_disk.specs.Learnt.{IsContent, HasPlace, Knows};
+ghost use Rattle.flash_disk.specs.Does.{Does};
+ghost use Rattle.flash_disk.specs.PutPart.{PutPart};
+ghost use Rattle.flash_disk.specs.Standing.{StandsFor};
+ghost use Rattle.flash_disk.specs.Writes.{LeavesTorn, WritesInto};
 
-use crate::disk::FlashDisk;
+use crate::layer::Layer;
 use crate::table::{FilePage, end_of_bytes};
-use disk_model::{Disk, DiskFailed};
+use disk_model::DiskFailed;
 use flash_model::{BLANK_PAGE, Flash};
 use flash_record::{RECORD_BYTES, read_record};
 
 /// Where the greatest file ends.
-const MAX_END: u64 = 1_099_511_627_776;
+pub(crate) const MAX_END: u64 = 1_099_511_627_776;
 
 /// The bytes of a page of a file.
 const PAGE: u64 = 256;
 
-impl<F: Flash> FlashDisk<F> {
+impl<F: Flash> Layer<F> {
+    ghost use Rattle.flash_disk.specs.Sound.{files_of, IsSound, Holds, LeavesPut, ShowsZeros, WipesPage};
+
     // The bytes of a page of a file, with zeros past the end of the file.
     fn content(&mut self, key: FilePage) -> Result<[u8; RECORD_BYTES], DiskFailed>
-        ensures bytes { IsTrue F.told → Knows (F.medium self.old.flash).state.pages (places (F.medium self.old.flash).blocks) self.old.table
+        ensures bytes { IsTrue F.told → Knows (F.medium self.old.flash).state.pages (places (F.medium self.old.flash).blocks) self.old.state.table
             → IfOk result (IsContent (F.medium self.old.flash).state.pages (places (F.medium self.old.flash).blocks) key) }
         ensures pages { IsTrue F.told → (F.medium self.new.flash).state.pages ≡ (F.medium self.old.flash).state.pages }
         ensures blocks { (F.medium self.new.flash).blocks ≡ (F.medium self.old.flash).blocks }
-        ensures table { self.new.table ≡ self.old.table }
+        ensures table { self.new.state.table ≡ self.old.state.table }
         ensures cause { HasCause ((F.medium self.old.flash).faults + self.old.own) ((F.medium self.new.flash).faults + self.new.own) result }
     {
-        let Some(newest) = self.table.find(key) else {
+        let Some(newest) = self.state.table.find(key) else {
             return Ok(zeros());
         };
         let mut page = BLANK_PAGE;
         self.read_page(newest.place, &mut page)?;
-        let len = self.table.len_of(key.file);
+        let len = self.state.table.len_of(key.file);
         Ok(cut(&page, len.saturating_sub(key.page.saturating_mul(PAGE))))
     }
 
@@ -47,29 +56,61 @@ impl<F: Flash> FlashDisk<F> {
         from: usize,
         bytes: &[u8],
     ) -> Result<(), DiskFailed>
-        requires { from + length bytes.now ≤ 256 }
-        ensures { HasCause ((F.medium self.old.flash).faults + self.old.own) ((F.medium self.new.flash).faults + self.new.own) result }
+        requires within { from + length bytes.now ≤ 256 }
+        requires some { 0 < length bytes.now }
+        requires end { 256 * page + from + length bytes.now ≤ len }
+        requires sure { self.old.state.unsure ≡ None }
+        requires sound { IsTrue F.told → IsSound (F.medium self.old.flash) self.old.state }
+        requires grows { IsTrue F.told → ShowsZeros (F.medium self.old.flash) file len }
+        ensures sound { IsTrue F.told → OnOk result (IsSound (F.medium self.new.flash) self.new.state) }
+        ensures sure { OnOk result (self.new.state.unsure ≡ None) }
+        ensures put { IsTrue F.told → OnOk result (PutPart file (256 * page + from) bytes.now len
+            (files_of (F.medium self.old.flash)) (files_of (F.medium self.new.flash))) }
+        ensures failed { IsTrue F.told → OnErr result (Holds (F.medium self.new.flash) self.new.state) }
+        ensures does { IsTrue F.told → Does (LeavesPut file (256 * page + from) bytes.now len (files_of (F.medium self.old.flash)) (F.medium self.old.flash).blocks)
+            (F.medium self.old.flash) (F.medium self.new.flash) }
+        ensures rises { OnOk result (self.old.state.sequence < self.new.state.sequence) }
+        ensures later { self.old.state.sequence ≤ self.new.state.sequence }
+        ensures time { FlashElapses (F.medium self.old.flash) (F.medium self.new.flash) }
+        ensures cause { HasCause ((F.medium self.old.flash).faults + self.old.own) ((F.medium self.new.flash).faults + self.new.own) result }
     {
-        let mut content = self.content(FilePage {
+        let key = FilePage {
             file,
             page: page as u64,
-        })?;
-        for (i, byte) in bytes.iter().enumerate() {
-            if from + i < RECORD_BYTES {
-                content[from + i] = *byte;
-            }
+        };
+        if !self.has_place(key) {
+            return Err(self.fault());
         }
+        let mut content = self.content(key)?;
+        copy_part(&mut content, from, bytes, 0, bytes.len());
         self.append(file, page, len, &content)
     }
 
-    // Rewrites the records of a file that have bytes past its end and before the byte `at`, without those bytes, so that they do not show
-    // once the file is longer.
-    fn wipe_strays(&mut self, file: u32, at: u64) -> Result<(), DiskFailed>
-        requires { at ≤ 1099511627776 }
-        ensures { HasCause ((F.medium self.old.flash).faults + self.old.own) ((F.medium self.new.flash).faults + self.new.own) result }
+    // Whether a page of a file has a record, or there is room for one more.
+    fn has_place(&self, key: FilePage) -> bool
+        ensures { IsTrue result → HasPlace self.now.state.table key }
     {
-        let len = self.table.len_of(file);
-        let end = self.stray_end.min(at);
+        self.state.table.find(key).is_some() || self.state.table.room() > 0
+    }
+
+    // Rewrites the records of a file that have bytes past its end and before this byte, without those bytes, so that they do not show
+    // once the file is longer.
+    fn wipe_strays(&mut self, file: u32, until: u64) -> Result<(), DiskFailed>
+        requires end { until ≤ 1099511627776 }
+        requires sure { self.old.state.unsure ≡ None }
+        requires sound { IsTrue F.told → IsSound (F.medium self.old.flash) self.old.state }
+        ensures sound { IsTrue F.told → OnOk result (IsSound (F.medium self.new.flash) self.new.state) }
+        ensures sure { OnOk result (self.new.state.unsure ≡ None) }
+        ensures wiped { IsTrue F.told → OnOk result (ShowsZeros (F.medium self.new.flash) file until) }
+        ensures failed { IsTrue F.told → OnErr result (Holds (F.medium self.new.flash) self.new.state) }
+        ensures does { IsTrue F.told → Does (StandsFor (files_of (F.medium self.old.flash)) (F.medium self.old.flash).blocks)
+            (F.medium self.old.flash) (F.medium self.new.flash) }
+        ensures later { self.old.state.sequence ≤ self.new.state.sequence }
+        ensures time { FlashElapses (F.medium self.old.flash) (F.medium self.new.flash) }
+        ensures cause { HasCause ((F.medium self.old.flash).faults + self.old.own) ((F.medium self.new.flash).faults + self.new.own) result }
+    {
+        let len = self.state.table.len_of(file);
+        let end = self.state.stray_end.min(until);
         if end <= len {
             return Ok(());
         }
@@ -81,13 +122,25 @@ impl<F: Flash> FlashDisk<F> {
 
     // Rewrites a record that has bytes past the end of its file without them.
     fn wipe_stray(&mut self, file: u32, page: u32, len: u64) -> Result<(), DiskFailed>
-        ensures { HasCause ((F.medium self.old.flash).faults + self.old.own) ((F.medium self.new.flash).faults + self.new.own) result }
+        requires len { len ≡ len_known self.old.state.table file }
+        requires sure { self.old.state.unsure ≡ None }
+        requires sound { IsTrue F.told → IsSound (F.medium self.old.flash) self.old.state }
+        ensures sound { IsTrue F.told → OnOk result (IsSound (F.medium self.new.flash) self.new.state) }
+        ensures sure { OnOk result (self.new.state.unsure ≡ None) }
+        ensures wiped { IsTrue F.told → OnOk result (WipesPage (F.medium self.old.flash) (F.medium self.new.flash) file page) }
+        ensures failed { IsTrue F.told → OnErr result (Holds (F.medium self.new.flash) self.new.state) }
+        ensures does { IsTrue F.told → Does (StandsFor (files_of (F.medium self.old.flash)) (F.medium self.old.flash).blocks)
+            (F.medium self.old.flash) (F.medium self.new.flash) }
+        ensures stray_end { self.new.state.stray_end ≡ self.old.state.stray_end }
+        ensures later { self.old.state.sequence ≤ self.new.state.sequence }
+        ensures time { FlashElapses (F.medium self.old.flash) (F.medium self.new.flash) }
+        ensures cause { HasCause ((F.medium self.old.flash).faults + self.old.own) ((F.medium self.new.flash).faults + self.new.own) result }
     {
         let key = FilePage {
             file,
             page: page as u64,
         };
-        let Some(newest) = self.table.find(key) else {
+        let Some(newest) = self.state.table.find(key) else {
             return Ok(());
         };
         if end_of_bytes(key, newest) <= len {
@@ -104,17 +157,32 @@ impl<F: Flash> FlashDisk<F> {
         let mut new: usize = 0;
         for page in at / PAGE..end.div_ceil(PAGE) {
             let key = FilePage { file, page };
-            if self.table.find(key).is_none() {
+            if self.state.table.find(key).is_none() {
                 new = new.saturating_add(1);
             }
         }
-        new <= self.table.room()
+        new <= self.state.table.room()
     }
 
     // Writes bytes page by page.
     fn write_pages(&mut self, file: u32, at: u64, bytes: &[u8], len: u64) -> Result<(), DiskFailed>
-        requires { at + length bytes.now ≤ 1099511627776 }
-        ensures { HasCause ((F.medium self.old.flash).faults + self.old.own) ((F.medium self.new.flash).faults + self.new.own) result }
+        requires end { at + length bytes.now ≤ 1099511627776 }
+        requires within { at + length bytes.now ≤ len }
+        requires sure { self.old.state.unsure ≡ None }
+        requires sound { IsTrue F.told → IsSound (F.medium self.old.flash) self.old.state }
+        requires grows { IsTrue F.told → ShowsZeros (F.medium self.old.flash) file len }
+        requires len { IsTrue F.told → len ≡ max (length (files_of (F.medium self.old.flash) file)) (at + length bytes.now) }
+        ensures sound { IsTrue F.told → OnOk result (IsSound (F.medium self.new.flash) self.new.state) }
+        ensures put { IsTrue F.told → OnOk result (0 < length bytes.now
+            → files_of (F.medium self.new.flash) ≡ put_image (files_of (F.medium self.old.flash)) file at bytes.now) }
+        ensures sure { OnOk result (self.new.state.unsure ≡ None) }
+        ensures failed { IsTrue F.told → OnErr result (Holds (F.medium self.new.flash) self.new.state) }
+        ensures does { IsTrue F.told → Does (LeavesTorn file at (length bytes.now) (files_of (F.medium self.old.flash)) (F.medium self.old.flash).blocks)
+            (F.medium self.old.flash) (F.medium self.new.flash) }
+        ensures rises { OnOk result (length bytes.now + 256 * self.old.state.sequence ≤ 256 * self.new.state.sequence) }
+        ensures later { self.old.state.sequence ≤ self.new.state.sequence }
+        ensures time { FlashElapses (F.medium self.old.flash) (F.medium self.new.flash) }
+        ensures cause { HasCause ((F.medium self.old.flash).faults + self.old.own) ((F.medium self.new.flash).faults + self.new.own) result }
     {
         let mut done = 0;
         while done < bytes.len() {
@@ -133,15 +201,48 @@ impl<F: Flash> FlashDisk<F> {
         Ok(())
     }
 
+    // Writes bytes into a file.
+    pub(crate) fn write_file(&mut self, file: u32, at: u64, bytes: &[u8]) -> Result<(), DiskFailed>
+        requires some { 0 < length bytes.now }
+        requires sure { self.old.state.unsure ≡ None }
+        requires sound { IsTrue F.told → IsSound (F.medium self.old.flash) self.old.state }
+        ensures holds { IsTrue F.told → Holds (F.medium self.new.flash) self.new.state }
+        ensures put { IsTrue F.told → OnOk result (files_of (F.medium self.new.flash) ≡ put_image (files_of (F.medium self.old.flash)) file at bytes.now) }
+        ensures rises { OnOk result (length bytes.now + 256 * self.old.state.sequence ≤ 256 * self.new.state.sequence) }
+        ensures later { self.old.state.sequence ≤ self.new.state.sequence }
+        ensures writes { IsTrue F.told → WritesInto file at bytes.now (F.medium self.old.flash) (F.medium self.new.flash) }
+        ensures time { FlashElapses (F.medium self.old.flash) (F.medium self.new.flash) }
+        ensures cause { HasCause ((F.medium self.old.flash).faults + self.old.own) ((F.medium self.new.flash).faults + self.new.own) result }
+    {
+        let end = match at.checked_add(bytes.len() as u64) {
+            Some(end) if end <= MAX_END => end,
+            _ => return Err(self.fault()),
+        };
+        if !self.has_room(file, at, end) {
+            return Err(self.fault());
+        }
+        if self.flash.announce(file, at, bytes).is_err() {
+            return Err(DiskFailed);
+        }
+        let len = self.state.table.len_of(file).max(end);
+        self.wipe_strays(file, end)?;
+        self.write_pages(file, at, bytes, len)
+    }
+
     // Reads from the byte `at` on as many bytes as there are, and at most as many as `out` has room for.
-    fn read_file(&mut self, file: u32, at: u64, out: &mut [u8]) -> Result<usize, DiskFailed>
+    pub(crate) fn read_file(
+        &mut self,
+        file: u32,
+        at: u64,
+        out: &mut [u8],
+    ) -> Result<usize, DiskFailed>
         ensures count { IfOk result (λ n. n ≤ length out.old) }
-        ensures bytes { IsTrue F.told → Knows (F.medium self.old.flash).state.pages (places (F.medium self.old.flash).blocks) self.old.table
+        ensures bytes { IsTrue F.told → Knows (F.medium self.old.flash).state.pages (places (F.medium self.old.flash).blocks) self.old.state.table
             → IfOk result (λ n. (n ≡ min (length out.old) (length (flash_files (F.medium self.old.flash).state.pages (F.medium self.old.flash).blocks file) - at))
             × (take n out.new ≡ take n (drop at (flash_files (F.medium self.old.flash).state.pages (F.medium self.old.flash).blocks file)))) }
         ensures pages { IsTrue F.told → (F.medium self.new.flash).state.pages ≡ (F.medium self.old.flash).state.pages }
         ensures blocks { (F.medium self.new.flash).blocks ≡ (F.medium self.old.flash).blocks }
-        ensures table { self.new.table ≡ self.old.table }
+        ensures table { self.new.state.table ≡ self.old.state.table }
         ensures cause { HasCause ((F.medium self.old.flash).faults + self.old.own) ((F.medium self.new.flash).faults + self.new.own) result }
     {
         let len = self.file_size(file);
@@ -151,23 +252,23 @@ impl<F: Flash> FlashDisk<F> {
     }
 
     // How many bytes a file has.
-    fn file_size(&self, file: u32) -> u64
-        ensures { IsTrue F.told → Knows (F.medium self.now.flash).state.pages (places (F.medium self.now.flash).blocks) self.now.table
+    pub(crate) fn file_size(&self, file: u32) -> u64
+        ensures { IsTrue F.told → Knows (F.medium self.now.flash).state.pages (places (F.medium self.now.flash).blocks) self.now.state.table
             → result ≡ length (flash_files (F.medium self.now.flash).state.pages (F.medium self.now.flash).blocks file) }
     {
-        self.table.len_of(file)
+        self.state.table.len_of(file)
     }
 
     // Reads bytes page by page.
     fn read_pages(&mut self, file: u32, at: u64, out: &mut [u8]) -> Result<(), DiskFailed>
         requires { at + length out.old < 2 ^ 64 }
-        ensures bytes { IsTrue F.told → Knows (F.medium self.old.flash).state.pages (places (F.medium self.old.flash).blocks) self.old.table
+        ensures bytes { IsTrue F.told → Knows (F.medium self.old.flash).state.pages (places (F.medium self.old.flash).blocks) self.old.state.table
             → OnOk result (at + length out.old ≤ file_len (F.medium self.old.flash).state.pages (places (F.medium self.old.flash).blocks) file
             → (k : ℕ) → k < length out.old
             → slice_index out.new k ≡ file_byte (F.medium self.old.flash).state.pages (places (F.medium self.old.flash).blocks) file (at + k)) }
         ensures pages { IsTrue F.told → (F.medium self.new.flash).state.pages ≡ (F.medium self.old.flash).state.pages }
         ensures blocks { (F.medium self.new.flash).blocks ≡ (F.medium self.old.flash).blocks }
-        ensures table { self.new.table ≡ self.old.table }
+        ensures table { self.new.state.table ≡ self.old.state.table }
         ensures cause { HasCause ((F.medium self.old.flash).faults + self.old.own) ((F.medium self.new.flash).faults + self.new.own) result }
     {
         let mut done = 0;
@@ -224,52 +325,4 @@ fn cut_bytes(bytes: &[u8], within: u64) -> [u8; RECORD_BYTES]
     let mut content = zeros();
     copy_part(&mut content, 0, bytes, 0, within.min(256) as usize);
     content
-}
-
-impl<F: Flash> Disk for FlashDisk<F> {
-    ghost use Rattle.disk_model.specs.Silence.{silent_medium, silent_is_lawful};
-
-    ghost told = { false };
-
-    ghost medium = { λ disk. silent_medium ((F.medium disk.flash).faults + disk.own) };
-
-    ghost lawful = { λ disk. silent_is_lawful ((F.medium disk.flash).faults + disk.own) };
-
-    fn read(&mut self, file: u32, at: u64, out: &mut [u8]) -> Result<usize, DiskFailed> {
-        self.make_sure()?;
-        self.read_file(file, at, out)
-    }
-
-    fn write_at(&mut self, file: u32, at: u64, bytes: &[u8]) -> Result<(), DiskFailed> {
-        if bytes.is_empty() {
-            return Ok(());
-        }
-        self.make_sure()?;
-        let end = match at.checked_add(bytes.len() as u64) {
-            Some(end) if end <= MAX_END => end,
-            _ => return Err(self.fault()),
-        };
-        if !self.has_room(file, at, end) {
-            return Err(self.fault());
-        }
-        if self.flash.announce(file, at, bytes).is_err() {
-            return Err(DiskFailed);
-        }
-        self.wipe_strays(file, at)?;
-        let len = self.table.len_of(file).max(end);
-        self.write_pages(file, at, bytes, len)
-    }
-
-    fn size(&mut self, file: u32) -> Result<u64, DiskFailed> {
-        self.make_sure()?;
-        Ok(self.file_size(file))
-    }
-
-    fn sync(&mut self) -> Result<(), DiskFailed> {
-        self.make_sure()?;
-        match self.flash.settle() {
-            Ok(()) => Ok(()),
-            Err(_) => Err(DiskFailed),
-        }
-    }
 }

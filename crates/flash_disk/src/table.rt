@@ -41,7 +41,7 @@ pub struct Newest {
 pub struct Table {
     newest: HashMap<FilePage, Newest>,
     lens: HashMap<u32, u64>,
-    /// How many pages it takes to move the newest records of each block: one for each, and one more for each that is rivalled.
+    /// How many newest records each block has.
     load: Vec<u32>,
     blocks: u32,
     /// At most how many pages may have a record.
@@ -196,6 +196,13 @@ impl Table {
         raise_all(&mut self.lens, &self.newest);
     }
 
+    /// Whether two records of a page may have its greatest number and other bytes.
+    pub fn is_disputed(&self) -> bool
+        ensures { IsFalse result → (key : FilePage) (entry : Newest) → known self.now key ≡ Some entry → IsFalse entry.rivalled }
+    {
+        self.newest.values().any(|newest| newest.rivalled)
+    }
+
     /// Where the last byte other than zero ends that lies past the end of its file; 0 where there is none.
     pub fn stray_end(&self) -> u64 {
         let mut stray = 0;
@@ -214,7 +221,7 @@ impl Table {
         ensures lens { self.new.lens ≡ self.old.lens }
     {
         if let Some(load) = self.load.get_mut(newest.place.block as usize) {
-            *load = load.saturating_add(load_of_one(newest));
+            *load = load.saturating_add(1);
         }
     }
 
@@ -224,7 +231,7 @@ impl Table {
         ensures lens { self.new.lens ≡ self.old.lens }
     {
         if let Some(load) = self.load.get_mut(newest.place.block as usize) {
-            *load = load.saturating_sub(load_of_one(newest));
+            *load = load.saturating_sub(1);
         }
     }
 }
@@ -258,9 +265,4 @@ pub fn end_of_bytes(key: FilePage, newest: Newest) -> u64 {
     key.page
         .saturating_mul(256)
         .saturating_add(newest.filled as u64)
-}
-
-// How many pages it takes to move a newest record.
-fn load_of_one(newest: Newest) -> u32 {
-    if newest.rivalled { 2 } else { 1 }
 }

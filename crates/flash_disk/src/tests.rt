@@ -1,9 +1,12 @@
 //! Disks over flash in memory: what is written is read, also after a reopening, a stop, and many writes.
 
+ghost use Rattle.std.specs.Prelude.{◌≡◌, IsTrue};
+ghost use Rattle.flash_model.specs.Pages.{blank_page};
+
 use crate::table::Place;
 use crate::{FlashDisk, FlashOpenError};
 use disk_model::Disk;
-use flash_model::MemFlash;
+use flash_model::{Flash, MemFlash};
 use flash_record::record_page;
 use std::alloc::Global;
 
@@ -102,20 +105,40 @@ fn too_few_blocks(rt: HostRuntime) {
     assert!(rt; refusal(rt.alloc(), 4).is_none());
 }
 
+// Programs a page of a flash with a record that no disk wrote; `false` where it is not blank.
+fn plant(flash: &mut MemFlash, place: Place, bytes: &[u8; 512]) -> bool {
+    let mut found = [0; 512];
+    if place.block >= flash.blocks() || place.page >= 64 {
+        return false;
+    }
+    if flash.read(place.block, place.page, &mut found).is_err() || !is_blank(&found) {
+        return false;
+    }
+    flash.program(place.block, place.page, bytes).is_ok()
+}
+
+// Whether a page is blank.
+#[tactic(auto, unfolding(flash_model::specs::Pages::blank_page))]
+fn is_blank(page: &[u8]) -> bool
+    ensures { IsTrue result → page.now ≡ blank_page }
+{
+    page == [0xff; 512].as_slice()
+}
+
 // A flash of so many blocks, each page a record of another page of file 1.
 fn full(alloc: Global, blocks: u32) -> Option<MemFlash> {
-    let mut disk = fresh(alloc, blocks)?;
+    let mut flash = MemFlash::new(alloc, blocks).ok()?;
     let mut number = 0;
     for block in 0..blocks {
         for page in 0..64 {
             let bytes = record_page(1, 1, number, 131_072, &[1; 256]);
-            if disk.program_page(Place { block, page }, &bytes) != Ok(true) {
+            if !plant(&mut flash, Place { block, page }, &bytes) {
                 return None;
             }
             number = number.saturating_add(1);
         }
     }
-    Some(disk.into_flash())
+    Some(flash)
 }
 
 // Why a flash is refused.
@@ -202,35 +225,48 @@ fn a_stop_at_each_call(rt: HostRuntime) {
     }
 }
 
-// A record that this program did not write: page `page` of a file of `len` bytes, each of them this byte.
-fn foreign_record(
-    place: Place,
+// A record that no disk wrote: page `page` of a file of `len` bytes, each of them this byte.
+#[derive(Clone, Copy)]
+struct Foreign {
+    block: u32,
+    at: u32,
     sequence: u64,
     file: u32,
     page: u32,
     len: u64,
     byte: u8,
-) -> Foreign {
-    Foreign {
+}
+
+// Adds such a record to a flash.
+fn plant_record(flash: &mut MemFlash, record: Foreign) -> bool {
+    let Foreign {
+        sequence,
+        file,
+        page,
+        len,
+        byte,
+        ..
+    } = record;
+    let place = Place {
+        block: record.block,
+        page: record.at,
+    };
+    plant(
+        flash,
         place,
-        bytes: record_page(sequence.max(1), file, page, len, &[byte; 256]),
+        &record_page(sequence.max(1), file, page, len, &[byte; 256]),
+    )
+}
+
+// A disk over a flash of four blocks with these records.
+fn over(alloc: Global, records: &[Foreign]) -> Option<FlashDisk<MemFlash>> {
+    let mut flash = MemFlash::new(alloc, 4).ok()?;
+    for record in records {
+        if !plant_record(&mut flash, *record) {
+            return None;
+        }
     }
-}
-
-#[derive(Clone, Copy)]
-struct Foreign {
-    place: Place,
-    bytes: [u8; 512],
-}
-
-// A page of a flash of four blocks.
-fn page_at(block: u32, page: u32) -> Place {
-    Place { block, page }
-}
-
-// Adds a record to a flash, through a disk that is not used otherwise.
-fn plant(disk: &mut FlashDisk<MemFlash>, record: Foreign) -> bool {
-    disk.program_page(record.place, &record.bytes) == Ok(true)
+    FlashDisk::open(alloc, flash).ok()
 }
 
 // Whether these bytes of a file are all this byte.
@@ -241,18 +277,33 @@ fn reads(disk: &mut FlashDisk<MemFlash>, file: u32, at: u64, count: usize, byte:
         && bytes[..count].iter().all(|b| *b == byte)
 }
 
+// Two pages of file 1, which is 3 bytes long, with bytes past its end.
+const STRAYS: [Foreign; 2] = [
+    Foreign {
+        block: 0,
+        at: 0,
+        sequence: 1,
+        file: 1,
+        page: 0,
+        len: 3,
+        byte: 7,
+    },
+    Foreign {
+        block: 0,
+        at: 1,
+        sequence: 1,
+        file: 1,
+        page: 1,
+        len: 3,
+        byte: 7,
+    },
+];
+
 #[test]
 fn bytes_past_an_old_end_do_not_show(rt: HostRuntime) {
-    let made = fresh(rt.alloc(), 4);
+    let made = over(rt.alloc(), &STRAYS);
     assert!(rt; made.is_some());
     let Some(mut disk) = made else { return };
-    assert!(rt;
-        plant(&mut disk, foreign_record(page_at(0, 0), 1, 1, 0, 3, 7))
-            && plant(&mut disk, foreign_record(page_at(0, 1), 1, 1, 1, 3, 7))
-    );
-    let again = reopened(rt.alloc(), disk);
-    assert!(rt; again.is_some());
-    let Some(mut disk) = again else { return };
     assert!(rt; disk.size(1) == Ok(3) && disk.write_at(1, 600, b"z").is_ok());
     assert!(rt; reads(&mut disk, 1, 0, 3, 7) && reads(&mut disk, 1, 3, 597, 0));
     let again = reopened(rt.alloc(), disk);
@@ -261,78 +312,61 @@ fn bytes_past_an_old_end_do_not_show(rt: HostRuntime) {
     assert!(rt; reads(&mut disk, 1, 0, 3, 7) && reads(&mut disk, 1, 3, 597, 0));
 }
 
-// So many writes of one byte into 64 pages of file 9, one after the other; whether all were Ok.
-fn churns(disk: &mut FlashDisk<MemFlash>, writes: u32) -> bool {
-    for k in 0..writes {
-        if disk.write_at(9, 256 * (k % 64) as u64, &[3]).is_err() {
-            return false;
-        }
-    }
-    true
-}
-
-// Four blocks, of which the first two have a page of file 1 with one number and other bytes, and the second ten pages of file 2.
-fn plant_rivals(disk: &mut FlashDisk<MemFlash>) -> bool {
-    let mut done = plant(disk, foreign_record(page_at(0, 0), 5, 1, 0, 256, 1));
-    done = plant(disk, foreign_record(page_at(1, 0), 5, 1, 0, 256, 2)) && done;
-    for page in 1..11 {
-        done = plant(disk, foreign_record(page_at(1, page), 5, 2, page, 4096, 4)) && done;
-    }
-    done
-}
+// A page of file 1 in two blocks, with one number and other bytes.
+const RIVALS: [Foreign; 2] = [
+    Foreign {
+        block: 0,
+        at: 0,
+        sequence: 5,
+        file: 1,
+        page: 0,
+        len: 256,
+        byte: 1,
+    },
+    Foreign {
+        block: 1,
+        at: 0,
+        sequence: 5,
+        file: 1,
+        page: 0,
+        len: 256,
+        byte: 2,
+    },
+];
 
 #[test]
-fn the_first_of_two_rivals_stays(rt: HostRuntime) {
-    let made = fresh(rt.alloc(), 4);
+fn the_first_of_two_rivals_is_read_and_stays(rt: HostRuntime) {
+    let made = over(rt.alloc(), &RIVALS);
     assert!(rt; made.is_some());
     let Some(mut disk) = made else { return };
-    assert!(rt; plant_rivals(&mut disk));
-    let again = reopened(rt.alloc(), disk);
-    assert!(rt; again.is_some());
-    let Some(mut disk) = again else { return };
-    assert!(rt; churns(&mut disk, 200) && reads(&mut disk, 1, 0, 256, 1));
+    assert!(rt; reads(&mut disk, 1, 0, 256, 1));
+    assert!(rt; disk.write_at(1, 0, b"z").is_err() && disk.own_faults() == 1);
+    assert!(rt; reads(&mut disk, 1, 0, 256, 1));
     let again = reopened(rt.alloc(), disk);
     assert!(rt; again.is_some());
     let Some(mut disk) = again else { return };
     assert!(rt; reads(&mut disk, 1, 0, 256, 1) && disk.own_faults() == 0);
 }
 
-// Three blocks of 42 newest records each, of which 22 have a rival in the next block.
-fn plant_loads(disk: &mut FlashDisk<MemFlash>) -> bool {
-    let mut done = true;
-    for block in 0..3 {
-        for page in 0..42 {
-            done = plant(
-                disk,
-                foreign_record(page_at(block, page), 1, block, page, 16_384, 1),
-            ) && done;
-        }
-    }
-    for block in 0..3 {
-        for page in 0..22 {
-            let place = page_at(block + 1, page + 42);
-            done = plant(disk, foreign_record(place, 1, block, page, 16_384, 2)) && done;
-        }
-    }
-    done
-}
+// A newer record of the page, after which its older rivals do not matter.
+const SETTLED: Foreign = Foreign {
+    block: 2,
+    at: 0,
+    sequence: 6,
+    file: 1,
+    page: 0,
+    len: 256,
+    byte: 3,
+};
 
 #[test]
-fn blocks_that_take_a_whole_block_to_move(rt: HostRuntime) {
-    let made = fresh(rt.alloc(), 4);
+fn rivals_under_a_newer_record_do_not_matter(rt: HostRuntime) {
+    let made = over(rt.alloc(), &[RIVALS[0], RIVALS[1], SETTLED]);
     assert!(rt; made.is_some());
     let Some(mut disk) = made else { return };
-    assert!(rt; plant_loads(&mut disk));
+    assert!(rt; reads(&mut disk, 1, 0, 256, 3) && repeated(&mut disk, 300) == 300);
     let again = reopened(rt.alloc(), disk);
     assert!(rt; again.is_some());
     let Some(mut disk) = again else { return };
-    assert!(rt; repeated(&mut disk, 300) == 300 && disk.own_faults() == 0);
-    let again = reopened(rt.alloc(), disk);
-    assert!(rt; again.is_some());
-    let Some(mut disk) = again else { return };
-    assert!(rt;
-        reads(&mut disk, 0, 256 * 21, 256, 1)
-            && reads(&mut disk, 2, 0, 256, 1)
-            && reads(&mut disk, 1, 256, 256, 1)
-    );
+    assert!(rt; reads(&mut disk, 1, 0, 9, 3) && disk.own_faults() == 0);
 }

@@ -1,0 +1,26 @@
+use Rattle.std.proofs.Common.{◌≡◌, ap, refl, sym, ◌∙◌, arith, ◌<◌, Some}
+use Rattle.flash_record.specs.PageRecord.{record_in}
+use Rattle.flash_record.specs.Stated.{stated}
+use Rattle.flash_disk.specs.Newest.{record_at}
+use Rattle.flash_disk.specs.Known.{known, page_of}
+use Rattle.flash_disk.specs.Learnt.{number}
+use Rattle.flash_disk.proofs.Learning.{record_at_place, put_learns, equal, old_block, old_small}
+use Rattle.flash_disk.proofs.layer.Layer.learn_equal.Goals as goal
+
+pub returns-clause-learns : goal.returns-clause-learns
+returns-clause-learns g c told learnt here =
+    let pages = (g.F.Flash.medium c.args.self.now.flash).state.pages in
+    let n = number c.args.place in
+    let r = stated c.args.found in
+    let old = c.args.self.now.state.table in
+    let e = c.args.old in
+    let is : known old (page_of r) ≡ Some e = ap (known old) (sym c.requires.key) ∙ c.requires.old in
+    let block = old_block pages n r here old e learnt is c.args.place refl c.requires.page c.requires.sequence in
+    let within : e.place.block < (g.F.Flash.medium c.args.self.now.flash).blocks = (let lt = c.requires.block in omega (arith, block, lt)) in
+    let small = old_small pages n r here old e learnt is in
+    let first : record_in c.read_page.new.out ≡ record_at pages (number e.place) = ap record_in (c.in_ok-read_page.ensures.bytes told within small)
+    ∙ sym (record_at_place pages e.place.block e.place.page small) in
+    put_learns pages n r here old c.read_page.new.self.state.table c.put.new.self c.args.key (record e { twin = c.twin_at.result; rivalled = c.is_rivalled.result }) c.put.result
+    c.in_ok-read_page.ensures.table c.requires.key learnt
+    (equal pages n r here old e learnt is c.args.place refl c.requires.page c.requires.sequence (record_in c.read_page.new.out) first c.twin_at.result c.is_rivalled.result c.twin_at.ensures)
+    c.put.ensures.full c.put.ensures.put

@@ -1,0 +1,103 @@
+-- What a disk over flash keeps in memory, and how it fits what the pages hold.
+use Rattle.std.specs.Prelude.{◌≡◌, ◌≢◌, ◌⊎◌, ℕ, ◌/◌, ◌+◌, ◌*◌, ◌<◌, ◌≤◌, List, Option, Some, None, IsFalse, slice_index}
+use Rattle.std.specs.HashMap.{spare}
+use Rattle.disk_model.specs.Image.{Image}
+use Rattle.flash_model.specs.Pages.{Pages, blank_page, TornPage}
+use Rattle.flash_model.specs.FlashMedium.{FlashMedium}
+use Rattle.flash_record.specs.PageRecord.{PageRecord}
+use Rattle.flash_disk.specs.declared.table.FilePage.{FilePage}
+use Rattle.flash_disk.specs.declared.table.Newest.{Newest}
+use Rattle.flash_disk.specs.declared.table.Place.{Place}
+use Rattle.flash_disk.specs.declared.table.Table.{Table}
+use Rattle.flash_disk.specs.declared.layer.LayerState.{LayerState}
+use Rattle.flash_disk.specs.Newest.{record_at, places, page_limit, IsSpare}
+use Rattle.flash_disk.specs.Known.{known, page_len, limit_of, page_of}
+use Rattle.flash_disk.specs.Learnt.{number, Knows, Adds, HasPlace, Tops}
+use Rattle.flash_disk.specs.FlashFiles.{file_byte, file_len, flash_files}
+use Rattle.flash_disk.specs.Standing.{IsAgreed, IsStrayless, MayGrow, HasSpare}
+use Rattle.flash_disk.specs.PutPart.{PutOrNot}
+
+abbrev pub files_of : FlashMedium → Image
+files_of m = flash_files m.state.pages m.blocks
+
+-- no entry leads into this block
+abbrev pub LeavesOut : Table → ℕ → Type 0
+LeavesOut table block = (key : FilePage) (entry : Newest) → known table key ≡ Some entry → entry.place.block ≢ block
+
+-- the block that is being filled is blank from the next page on, and is not the spare one
+pub record IsFresh (pages : Pages) (blocks : ℕ) (s : LayerState) : Type 0 where
+  pub agreed : IsFalse s.disputed
+  pub within : s.current < blocks
+  pub apart : s.current ≢ s.spare
+  pub blank : (p : ℕ) → s.fill ≤ p → p < 64 → pages s.current p ≡ blank_page
+
+-- what is kept fits these pages
+pub record Sound (pages : Pages) (blocks : ℕ) (s : LayerState) : Type 0 where
+  pub knows : Knows pages (places blocks) s.table
+  pub tops : Tops pages (places blocks) s.sequence
+  pub strays : IsStrayless pages (places blocks) s.stray_end
+  pub limit : limit_of s.table ≡ page_limit blocks
+  -- there is memory for the length of a file more for each page more
+  pub files : limit_of s.table ≤ page_len s.table + spare s.table.lens
+  -- the spare block may be erased
+  pub within : s.spare < blocks
+  pub is_spare : IsSpare pages (places blocks) s.spare
+  pub agreed : IsFalse s.disputed → IsAgreed pages (places blocks)
+  pub apart : IsFalse s.disputed → LeavesOut s.table s.spare
+  pub fresh : s.fill < 64 → IsFresh pages blocks s
+
+abbrev pub IsSound : FlashMedium → LayerState → Type 0
+IsSound m s = Sound m.state.pages m.blocks s
+
+-- a record that may be added: there is room for it, and it shows nothing but what it says
+pub record Fits (pages : Pages) (blocks : ℕ) (s : LayerState) (file page len : ℕ) (bytes : List ℕ) : Type 0 where
+  pub place : HasPlace s.table (record { file = file; page = page })
+  pub no_shorter : file_len pages (places blocks) file ≤ len
+  pub zeros : (j : ℕ) → j < 256 → len ≤ 256 * page + j → slice_index bytes j ≡ 0
+  pub grows : MayGrow pages (places blocks) file page len
+
+abbrev pub FitsIn : FlashMedium → LayerState → (file page len : ℕ) → List ℕ → Type 0
+FitsIn m s file page len bytes = Fits m.state.pages m.blocks s file page len bytes
+
+-- the record came to lie in this place of the block that is being filled
+pub record Enters (old new : Pages) (blocks : ℕ) (s : LayerState) (place : Place) (r : PageRecord) : Type 0 where
+  pub adds : Adds old new (places blocks) place r
+  pub fits : Fits old blocks s r.file r.page r.len r.bytes
+  pub numbered : r.sequence ≤ s.sequence
+  pub elsewhere : TornPage place.block place.page old new
+
+-- what a page may hold in which a call that failed may have left anything
+pub record Pends (sure pages : Pages) (blocks : ℕ) (s : LayerState) (place : Place) : Type 0 where
+  pub agreed : IsFalse s.disputed
+  pub small : place.page < 64
+  pub within : place.block < blocks
+  pub apart : place.block ≢ s.spare
+  pub behind : place.block ≡ s.current → place.page < s.fill
+  pub nothing : record_at sure (number place) ≡ None
+  pub elsewhere : TornPage place.block place.page sure pages
+  pub may_enter : (r : PageRecord) → record_at pages (number place) ≡ Some r → Enters sure pages blocks s place r
+
+abbrev pub PendsAt : Pages → Pages → ℕ → LayerState → Option Place → Type 0
+PendsAt sure pages blocks s None = pages ≡ sure
+PendsAt sure pages blocks s (Some place) = Pends sure pages blocks s place
+
+-- what is kept fits the pages but for one that a call that failed may have left anything in
+pub record Holds (m : FlashMedium) (s : LayerState) : Type 0 where
+  pub sure : Pages
+  pub sound : Sound sure m.blocks s
+  pub pends : PendsAt sure m.state.pages m.blocks s s.unsure
+
+-- the write of a part was done, or nothing was, and some block is spare
+pub record LeavesPut (file at : ℕ) (bytes : List ℕ) (len : ℕ) (files : Image) (blocks : ℕ) (pages : Pages) : Type 0 where
+  pub put : PutOrNot file at bytes len files (flash_files pages blocks)
+  pub spare : HasSpare pages blocks
+
+-- no byte of a file shows between its end and this byte
+abbrev pub ShowsZeros : FlashMedium → (file until : ℕ) → Type 0
+ShowsZeros m file until = (i : ℕ) → file_len m.state.pages (places m.blocks) file ≤ i → i < until → file_byte m.state.pages (places m.blocks) file i ≡ 0
+
+-- past the end of a file the bytes of one of its pages are zeros, and all other bytes are what they were
+pub record WipesPage (old new : FlashMedium) (file page : ℕ) : Type 0 where
+  pub len : (f : ℕ) → file_len new.state.pages (places new.blocks) f ≡ file_len old.state.pages (places old.blocks) f
+  pub wiped : (i : ℕ) → i / 256 ≡ page → file_len old.state.pages (places old.blocks) file ≤ i → file_byte new.state.pages (places new.blocks) file i ≡ 0
+  pub kept : (f i : ℕ) → (f ≢ file) ⊎ (i / 256 ≢ page) → file_byte new.state.pages (places new.blocks) f i ≡ file_byte old.state.pages (places old.blocks) f i

@@ -1,0 +1,138 @@
+//! What lies between the files of a disk and the pages of its flash, and the calls of the flash that it makes.
+
+ghost use Rattle.std.specs.Prelude.{◌≡◌, ◌⊎◌, ◌↔◌, ◌≤◌, ◌<◌, ◌+◌, IsTrue, IsFalse, OnOk, OnErr};
+ghost use Rattle.per_base.specs.Causes.{HasCause, Rose};
+ghost use Rattle.flash_model.specs.Pages.{blank_page};
+ghost use Rattle.flash_model.specs.State.{IsStill, ProgramCase, EraseCase, FailsToProgram, FailsToErase, programmed, erased};
+ghost use Rattle.flash_model.specs.FlashMedium.{FlashElapses, EachFlashCase};
+
+use crate::table::{FilePage, Newest, Place, Table};
+use disk_model::DiskFailed;
+use flash_model::{BLANK_PAGE, BLOCK_PAGES, Flash, PAGE_BYTES};
+
+/// A flash, and what is known of it.
+#[derive(Drop)]
+pub struct Layer<F> {
+    pub flash: F,
+    pub state: LayerState,
+    /// How many calls failed though the flash did not, up to the greatest u64.
+    pub own: u64,
+}
+
+/// What is known of a flash.
+#[derive(Drop)]
+pub struct LayerState {
+    pub table: Table,
+    /// The block that is being filled, and its first page that was not tried yet.
+    pub current: u32,
+    pub fill: u32,
+    pub spare: u32,
+    /// The greatest sequence number that was used.
+    pub sequence: u64,
+    /// A page that a failed call may have left anything in.
+    pub unsure: Option<Place>,
+    /// What was moved into the block that is to be filled next, with room for a block.
+    pub moved: Vec<(FilePage, Newest)>,
+    /// Whether two records of a page have its greatest number and other bytes, so that no block may be erased.
+    pub disputed: bool,
+    /// Where the last byte ends that an older record has past the end of its file.
+    pub stray_end: u64,
+}
+
+impl<F: Flash> Layer<F> {
+    // Counts a failure of its own.
+    pub(crate) fn fault(&mut self) -> DiskFailed
+        ensures flash { self.new.flash ≡ self.old.flash }
+        ensures state { self.new.state ≡ self.old.state }
+        ensures later { (F.medium self.old.flash).faults + self.old.own ≤ (F.medium self.new.flash).faults + self.new.own }
+        ensures rose { Rose ((F.medium self.old.flash).faults + self.old.own) ((F.medium self.new.flash).faults + self.new.own) }
+    {
+        self.own = self.own.saturating_add(1);
+        DiskFailed
+    }
+
+    // Reads a page of the flash; one that the flash does not have reads as blank.
+    pub(crate) fn read_page(
+        &mut self,
+        place: Place,
+        out: &mut [u8; PAGE_BYTES],
+    ) -> Result<(), DiskFailed>
+        ensures bytes { IsTrue F.told → OnOk result (place.block < (F.medium self.old.flash).blocks → place.page < 64
+            → out.new ≡ (F.medium self.old.flash).state.pages place.block place.page) }
+        ensures unchanged { IsTrue F.told → (F.medium self.new.flash).state ≡ (F.medium self.old.flash).state }
+        ensures during { EachFlashCase (IsStill (F.medium self.old.flash).state) (F.medium self.old.flash) (F.medium self.new.flash) }
+        ensures time { FlashElapses (F.medium self.old.flash) (F.medium self.new.flash) }
+        ensures flash { HasCause (F.medium self.old.flash).faults (F.medium self.new.flash).faults result }
+        ensures pages { IsTrue F.told → (F.medium self.new.flash).state.pages ≡ (F.medium self.old.flash).state.pages }
+        ensures blocks { (F.medium self.new.flash).blocks ≡ (F.medium self.old.flash).blocks }
+        ensures state { self.new.state ≡ self.old.state }
+        ensures own { self.new.own ≡ self.old.own }
+        ensures cause { HasCause ((F.medium self.old.flash).faults + self.old.own) ((F.medium self.new.flash).faults + self.new.own) result }
+    {
+        if !self.has(place) {
+            *out = BLANK_PAGE;
+            return Ok(());
+        }
+        match self.flash.read(place.block, place.page, out) {
+            Ok(()) => Ok(()),
+            Err(_) => Err(DiskFailed),
+        }
+    }
+
+    // Programs a page that is blank.
+    pub(crate) fn program_page(
+        &mut self,
+        place: Place,
+        bytes: &[u8; PAGE_BYTES],
+    ) -> Result<(), DiskFailed>
+        requires within { IsTrue F.told → (place.block < (F.medium self.old.flash).blocks) × (place.page < 64) }
+        requires blank { IsTrue F.told → (F.medium self.old.flash).state.pages place.block place.page ≡ blank_page }
+        ensures done { IsTrue F.told → OnOk result
+            ((F.medium self.new.flash).state ≡ programmed (F.medium self.old.flash).state place.block place.page bytes.now) }
+        ensures failed { IsTrue F.told → OnErr result
+            (FailsToProgram place.block place.page bytes.now (F.medium self.old.flash).state (F.medium self.new.flash).state) }
+        ensures during { IsTrue F.told → EachFlashCase (λ c. IsStill (F.medium self.old.flash).state c ⊎ (IsStill (F.medium self.new.flash).state c
+            ⊎ ProgramCase place.block place.page bytes.now (F.medium self.old.flash).state c)) (F.medium self.old.flash) (F.medium self.new.flash) }
+        ensures time { FlashElapses (F.medium self.old.flash) (F.medium self.new.flash) }
+        ensures state { self.new.state ≡ self.old.state }
+        ensures own { IsTrue F.told → self.new.own ≡ self.old.own }
+        ensures cause { HasCause ((F.medium self.old.flash).faults + self.old.own) ((F.medium self.new.flash).faults + self.new.own) result }
+    {
+        if !self.has(place) {
+            return Err(self.fault());
+        }
+        match self.flash.program(place.block, place.page, bytes) {
+            Ok(()) => Ok(()),
+            Err(_) => Err(DiskFailed),
+        }
+    }
+
+    // Makes a block blank.
+    pub(crate) fn erase_block(&mut self, block: u32) -> Result<(), DiskFailed>
+        requires { IsTrue F.told → block < (F.medium self.old.flash).blocks }
+        ensures done { IsTrue F.told → OnOk result ((F.medium self.new.flash).state ≡ erased (F.medium self.old.flash).state block) }
+        ensures failed { IsTrue F.told → OnErr result
+            (FailsToErase block (F.medium self.old.flash).state (F.medium self.new.flash).state) }
+        ensures during { IsTrue F.told → EachFlashCase (λ c. IsStill (F.medium self.old.flash).state c ⊎ (IsStill (F.medium self.new.flash).state c
+            ⊎ EraseCase block (F.medium self.old.flash).state c)) (F.medium self.old.flash) (F.medium self.new.flash) }
+        ensures time { FlashElapses (F.medium self.old.flash) (F.medium self.new.flash) }
+        ensures state { self.new.state ≡ self.old.state }
+        ensures own { IsTrue F.told → self.new.own ≡ self.old.own }
+        ensures cause { HasCause ((F.medium self.old.flash).faults + self.old.own) ((F.medium self.new.flash).faults + self.new.own) result }
+    {
+        if block >= self.flash.blocks() {
+            return Err(self.fault());
+        }
+        match self.flash.erase(block) {
+            Ok(()) => Ok(()),
+            Err(_) => Err(DiskFailed),
+        }
+    }
+
+    // Whether the flash has this page.
+    fn has(&self, place: Place) -> bool
+        ensures { IsTrue result ↔ ((place.block < (F.medium self.now.flash).blocks) × (place.page < 64)) }
+    {
+        place.block < self.flash.blocks() && place.page < BLOCK_PAGES
+    }
+}
