@@ -12,3 +12,4 @@ pub mod Standing
 pub mod Sparing
 pub mod Growing
 pub mod Tearing
+pub mod Writing

@@ -1,0 +1,69 @@
+use Rattle.std.proofs.Common.{◌≡◌, ◌*◌, ◌+◌, length, sym, ap, ◌∙◌, subst, arith, rules}
+use Rattle.std.proofs.lemmas.Result.{on_ok_weaker}
+use Rattle.flash_disk.specs.Does.{Does}
+use Rattle.flash_disk.specs.PutPart.{PutPart}
+use Rattle.flash_disk.specs.Sound.{files_of, LeavesPut}
+use Rattle.flash_disk.proofs.Writing.{leaves_nothing, does_none, files_seen, fits_seen, does_after_look, page_fits, page_narrower, leaves_narrower}
+use Rattle.flash_disk.proofs.Stretches.{does_nothing}
+use Rattle.flash_disk.proofs.layer.Layer.write_page.Goals as goal
+
+pub returns-then-not-has_place-clause-does : goal.returns-then-not-has_place-clause-does
+returns-then-not-has_place-clause-does g c told =
+    let a = g.F.Flash.medium c.args.self.now.flash in
+    let at = 256 * c.args.page + c.args.from in
+    let nothing = leaves_nothing a c.args.self.now.state (c.requires.sound told) c.args.file at c.args.bytes.now c.args.len in
+    subst (λ f. Does (LeavesPut c.args.file at c.args.bytes.now c.args.len (files_of a) a.blocks) a (g.F.Flash.medium f)) (sym c.fault.ensures.flash)
+    (does_none g.F.Flash.told a (g.met.F.Flash.lawful c.args.self.now.flash) (LeavesPut c.args.file at c.args.bytes.now c.args.len (files_of a) a.blocks) nothing)
+
+pub returns-in_err-content-clause-does : goal.returns-in_err-content-clause-does
+returns-in_err-content-clause-does g c told =
+    let a = g.F.Flash.medium c.args.self.now.flash in
+    let b = g.F.Flash.medium c.content.new.self.flash in
+    let at = 256 * c.args.page + c.args.from in
+    let e = c.in_err-content.ensures in
+    let nothing = leaves_nothing a c.args.self.now.state (c.requires.sound told) c.args.file at c.args.bytes.now c.args.len in
+    does_nothing a b (LeavesPut c.args.file at c.args.bytes.now c.args.len (files_of a) a.blocks) (e.unchanged told) (e.during told) nothing
+
+pub append-requires-clause-fits : goal.append-requires-clause-fits
+append-requires-clause-fits g c told =
+    let a = g.F.Flash.medium c.args.self.now.flash in
+    let b = g.F.Flash.medium c.content.new.self.flash in
+    let s = c.args.self.now.state in
+    let r = c.requires in
+    let e = c.in_ok-content.ensures in
+    let sound = r.sound told in
+    let copied = c.copy_part.ensures in
+    let fits = page_fits a c.args.file c.args.page c.args.from c.args.len c.args.bytes.now c.in_ok-content.content c.copy_part.new.out
+      (e.bytes told sound.knows) copied.inside copied.before copied.after s (c.has_place.ensures c.if-not-has_place.false) r.end (r.no_shorter told) (r.grows told) in
+    fits_seen a b (e.unchanged told) e.blocks s c.content.new.self.state e.state c.args.file c.args.page c.args.len c.copy_part.new.out fits
+
+pub returns-clause-put : goal.returns-clause-put
+returns-clause-put g c told =
+    let a = g.F.Flash.medium c.args.self.now.flash in
+    let b = g.F.Flash.medium c.content.new.self.flash in
+    let d = g.F.Flash.medium c.append.new.self.flash in
+    let e = c.in_ok-content.ensures in
+    let sound = c.requires.sound told in
+    let copied = c.copy_part.ensures in
+    let full : length c.copy_part.new.out ≡ 256 = omega arith in
+    on_ok_weaker c.append.result
+    (λ put. page_narrower a c.args.file c.args.page c.args.from c.args.len c.args.bytes.now c.in_ok-content.content c.copy_part.new.out
+    (e.bytes told sound.knows) copied.inside copied.before copied.after (files_of d) full c.requires.within
+    (subst (λ f. PutPart c.args.file (256 * c.args.page) c.copy_part.new.out c.args.len f (files_of d)) (files_seen a b (e.unchanged told) e.blocks) put))
+    (c.append.ensures.put told)
+
+pub returns-clause-does : goal.returns-clause-does
+returns-clause-does g c told =
+    let a = g.F.Flash.medium c.args.self.now.flash in
+    let b = g.F.Flash.medium c.content.new.self.flash in
+    let d = g.F.Flash.medium c.append.new.self.flash in
+    let e = c.in_ok-content.ensures in
+    let at = 256 * c.args.page + c.args.from in
+    let sound = c.requires.sound told in
+    let copied = c.copy_part.ensures in
+    let full : length c.copy_part.new.out ≡ 256 = omega arith in
+    does_after_look a b (e.unchanged told) e.blocks (LeavesPut c.args.file (256 * c.args.page) c.copy_part.new.out c.args.len) (LeavesPut c.args.file at c.args.bytes.now c.args.len) d
+    (leaves_narrower a c.args.file c.args.page c.args.from c.args.len c.args.bytes.now c.in_ok-content.content c.copy_part.new.out
+    (e.bytes told sound.knows) copied.inside copied.before copied.after full c.requires.within)
+    (leaves_nothing a c.args.self.now.state sound c.args.file at c.args.bytes.now c.args.len)
+    (e.time told) (c.append.ensures.time told) (e.during told) (c.append.ensures.does told)
