@@ -1,23 +1,31 @@
 -- Writes into files, page by page: what each step finds, and what the steps make of the files together.
-use Rattle.std.proofs.Common.{◌≡◌, ℕ, ◌+◌, ◌*◌, ◌<◌, ◌≤◌, Bool, List, length, get_or, cond, sym, refl, ap, ◌∙◌, subst, inl, inr, ⊎_elim, arith}
-use Rattle.std.specs.Prelude.{IsTrue, None, nat_lt}
-use Rattle.std.proofs.lemmas.Bool.{cases_lt, lt-ltb, le-ltb}
+use Rattle.std.proofs.Common.{◌≡◌, ℕ, ◌+◌, ◌*◌, ◌/◌, ◌%◌, ◌<◌, ◌≤◌, Bool, true, false, List, Result, Ok, Err, OnOk, length, get_or, cond, sym, refl, ap, ◌∙◌, subst, inl, inr, ⊎_elim, arith, eq-eqb}
+use Rattle.std.specs.Prelude.{IsTrue, IsSome, Option, Some, None, nat_eq, nat_lt, ◌&&◌}
+use Rattle.std.proofs.lemmas.Bool.{cases_lt, eqb-true, ne_eqb, and_from, and_left, and_right, lt-ltb, le-ltb}
 use Rattle.std.proofs.lemmas.List.{get_or_past}
 use Rattle.disk_model.specs.Image.{Image}
 use Rattle.flash_model.specs.Pages.{Pages}
 use Rattle.flash_model.specs.State.{FlashState, IsStill}
 use Rattle.flash_model.specs.FlashMedium.{FlashMedium, IsLawfulFlash, FlashElapses, EachFlashCase}
 use Rattle.flash_disk.specs.declared.layer.LayerState.{LayerState}
-use Rattle.flash_disk.specs.Newest.{places}
-use Rattle.flash_disk.specs.FlashFiles.{file_byte, file_len, flash_files}
+use Rattle.flash_disk.specs.declared.table.FilePage.{FilePage}
+use Rattle.flash_disk.specs.declared.table.Newest.{Newest}
+use Rattle.flash_disk.specs.Newest.{Placed, newest, places}
+use Rattle.flash_disk.specs.Known.{known, len_known}
+use Rattle.flash_disk.specs.FlashFiles.{byte_in, file_byte, file_len, flash_files}
 use Rattle.flash_disk.specs.FlashFilesLaws.{length-flash_files, byte-flash_files}
-use Rattle.flash_disk.specs.Learnt.{IsContent, HasPlace}
+use Rattle.flash_disk.specs.Learnt.{LedOf, IsContent, HasPlace}
 use Rattle.flash_disk.specs.Does.{Does}
 use Rattle.flash_disk.specs.PutPart.{PutPart}
-use Rattle.flash_disk.specs.Standing.{HasSpare}
-use Rattle.flash_disk.specs.Sound.{files_of, IsSound, Sound, Fits, Holds, PendsAt, FitsIn, LeavesPut, ShowsZeros}
-use Rattle.flash_disk.proofs.Parts.{narrower}
+use Rattle.flash_disk.specs.Standing.{HasSpare, StandsFor}
+use Rattle.flash_disk.specs.Sound.{files_of, IsSound, Sound, Fits, Holds, PendsAt, FitsIn, LeavesPut, ShowsZeros, ShowsPage, WipesPage}
+use Rattle.flash_disk.proofs.Reading.{len_is}
+use Rattle.flash_disk.proofs.Parts.{narrower, same_part}
 use Rattle.flash_disk.proofs.Stretches.{does_nothing, does_weaken, does_then}
+
+pub on_ok_both : {T E P Q R : Type 0} (r : Result T E) → (P → Q → R) → OnOk r P → OnOk r Q → OnOk r R
+on_ok_both (Ok x) from p q = from p q
+on_ok_both (Err e) from p q = q
 
 -- ---- what a sound layer has
 
@@ -54,6 +62,13 @@ module _ (a b : FlashMedium) (state : b.state ≡ a.state) (blocks : b.blocks �
       (subst (λ k. Fits a.state.pages k t file page len bytes) (sym blocks)
       (subst (λ u. Fits a.state.pages a.blocks u file page len bytes) (sym known) fits))
 
+  byte_seen : (file i : ℕ) → file_byte b.state.pages (places b.blocks) file i ≡ file_byte a.state.pages (places a.blocks) file i
+  byte_seen file i = ap (λ p. file_byte p (places b.blocks) file i) pages_seen ∙ ap (λ k. file_byte a.state.pages (places k) file i) blocks
+
+  pub shown_seen : (d : FlashMedium) (file page : ℕ) (bytes : List ℕ) → ShowsPage b d file page bytes → ShowsPage a d file page bytes
+  shown_seen d file page bytes shown = λ f i. shown f i
+      ∙ ap (λ z. cond (nat_eq f file && nat_eq (i / 256) page) (get_or bytes (i % 256) 0) z) (byte_seen f i)
+
   -- and then a call whose result speaks of what there was before the look
   pub does_after_look : (P Q : Image → ℕ → Pages → Type 0) (c : FlashMedium)
       → ((pages : Pages) → P (files_of a) a.blocks pages → Q (files_of a) a.blocks pages)
@@ -66,13 +81,9 @@ module _ (a b : FlashMedium) (state : b.state ≡ a.state) (blocks : b.blocks �
 
 -- ---- one page
 
--- a page of the file as it is, with these bytes in it from a place on
-module _ (a : FlashMedium) (file page from len : ℕ) (bytes was content : List ℕ)
-    (is : IsContent a.state.pages (places a.blocks) (record { file = file; page = page }) was)
-    (here : (j : ℕ) → j < length bytes → get_or content (from + j) 0 ≡ get_or bytes (0 + j) 0)
-    (before : (k : ℕ) → k < from → get_or content k 0 ≡ get_or was k 0)
-    (after : (k : ℕ) → from + length bytes ≤ k → get_or content k 0 ≡ get_or was k 0) where
-  content_byte : (j : ℕ) → j < 256 → get_or was j 0 ≡ get_or (files_of a file) (256 * page + j) 0
+-- a page of the file as it is
+module _ (a : FlashMedium) (file page : ℕ) (was : List ℕ) (is : IsContent a.state.pages (places a.blocks) (record { file = file; page = page }) was) where
+  pub content_byte : (j : ℕ) → j < 256 → get_or was j 0 ≡ get_or (files_of a file) (256 * page + j) 0
   content_byte j small = ⊎_elim
       (λ within. is j small
       ∙ (ap (λ b. cond b (file_byte a.state.pages (places a.blocks) file (256 * page + j)) 0) (lt-ltb (256 * page + j) (file_len a.state.pages (places a.blocks) file) within)
@@ -82,27 +93,127 @@ module _ (a : FlashMedium) (file page from len : ℕ) (bytes was content : List 
       ∙ sym (get_or_past (files_of a file) (256 * page + j) 0 (let long = length-flash_files a.state.pages a.blocks file in omega (arith, long, past)))))
       (cases_lt (256 * page + j) (file_len a.state.pages (places a.blocks) file))
 
-  -- such a page may be added
-  pub page_fits : (s : LayerState) → HasPlace s.table (record { file = file; page = page }) → 256 * page + from + length bytes ≤ len
-      → length (files_of a file) ≤ len → ShowsZeros a file len → FitsIn a s file page len content
-  page_fits s place end no_shorter grows = let long = length-flash_files a.state.pages a.blocks file in record {
-    place = place;
-    no_shorter = omega (arith, long, no_shorter);
-    zeros = λ j small past. after j (omega (arith, end, past))
-        ∙ (content_byte j small ∙ get_or_past (files_of a file) (256 * page + j) 0 (omega (arith, no_shorter, past)));
-    grows = λ i past inside apart. grows i past inside;
-  }
+  -- with these bytes in it from a place on
+  module _ (from len : ℕ) (bytes content : List ℕ)
+      (here : (j : ℕ) → j < length bytes → get_or content (from + j) 0 ≡ get_or bytes (0 + j) 0)
+      (before : (k : ℕ) → k < from → get_or content k 0 ≡ get_or was k 0)
+      (after : (k : ℕ) → from + length bytes ≤ k → get_or content k 0 ≡ get_or was k 0) where
+    -- it may be added
+    pub page_fits : (s : LayerState) → HasPlace s.table (record { file = file; page = page }) → 256 * page + from + length bytes ≤ len
+        → length (files_of a file) ≤ len → ShowsZeros a file len → FitsIn a s file page len content
+    page_fits s place end no_shorter grows = let long = length-flash_files a.state.pages a.blocks file in record {
+      place = place;
+      no_shorter = omega (arith, long, no_shorter);
+      zeros = λ j small past. after j (omega (arith, end, past))
+          ∙ (content_byte j small ∙ get_or_past (files_of a file) (256 * page + j) 0 (omega (arith, no_shorter, past)));
+      grows = λ i past inside apart. grows i past inside;
+    }
 
-  -- what adding it makes of the files is what the bytes alone make of them
-  pub page_narrower : (next : Image) → length content ≡ 256 → from + length bytes ≤ 256
-      → PutPart file (256 * page) content len (files_of a) next → PutPart file (256 * page + from) bytes len (files_of a) next
-  page_narrower next full within = narrower file page from content bytes len (files_of a) next full within
-      (λ j inside. here j inside ∙ ap (λ k. get_or bytes k 0) (let e : 0 + j ≡ j = omega arith in e))
-      (λ j small out. ⊎_elim (before j) (after j) out ∙ content_byte j small)
+    -- what adding it makes of the files is what the bytes alone make of them
+    pub page_narrower : (next : Image) → length content ≡ 256 → from + length bytes ≤ 256
+        → PutPart file (256 * page) content len (files_of a) next → PutPart file (256 * page + from) bytes len (files_of a) next
+    page_narrower next full within = narrower file page from content bytes len (files_of a) next full within
+        (λ j inside. here j inside ∙ ap (λ k. get_or bytes k 0) (let e : 0 + j ≡ j = omega arith in e))
+        (λ j small out. ⊎_elim (before j) (after j) out ∙ content_byte j small)
 
-  pub leaves_narrower : length content ≡ 256 → from + length bytes ≤ 256 → (pages : Pages)
-      → LeavesPut file (256 * page) content len (files_of a) a.blocks pages → LeavesPut file (256 * page + from) bytes len (files_of a) a.blocks pages
-  leaves_narrower full within pages leaves = record {
-    put = ⊎_elim (λ same. inl same) (λ done. inr (page_narrower (flash_files pages a.blocks) full within done)) leaves.put;
-    spare = leaves.spare;
-  }
+    pub leaves_narrower : length content ≡ 256 → from + length bytes ≤ 256 → (pages : Pages)
+        → LeavesPut file (256 * page) content len (files_of a) a.blocks pages → LeavesPut file (256 * page + from) bytes len (files_of a) a.blocks pages
+    leaves_narrower full within pages leaves = record {
+      put = ⊎_elim (λ same. inl same) (λ done. inr (page_narrower (flash_files pages a.blocks) full within done)) leaves.put;
+      spare = leaves.spare;
+    }
+
+-- ---- bytes past the end of a file
+
+module _ (pages : Pages) (n : ℕ) where
+  byte_none : (k : Option Newest) (best : Option Placed) → k ≡ None → LedOf pages n k best → (j : ℕ) → byte_in best j ≡ 0
+  byte_none k None none led j = refl
+  byte_none k (Some x) none led j = absurd (subst (λ z. LedOf pages n z (Some x)) none led)
+
+  byte_unfilled : (e : Newest) (best : Option Placed) → LedOf pages n (Some e) best → (j : ℕ) → e.filled ≤ j → byte_in best j ≡ 0
+  byte_unfilled e None led j past = absurd led
+  byte_unfilled e (Some x) led j past = led.leads.filled j past
+
+-- where the bytes of a page end, as the table says
+abbrev filled_end : (page filled : ℕ) → ℕ
+filled_end page filled = cond (nat_eq filled 0) 0 (256 * page + filled)
+
+unfilled_by : (page filled len i : ℕ) (b : Bool) → nat_eq filled 0 ≡ b → cond b 0 (256 * page + filled) ≤ len → len ≤ i → i / 256 ≡ page → filled ≤ i % 256
+unfilled_by page filled len i true none end past here = (let z : filled ≡ 0 = eqb-true filled 0 none in omega (arith, z))
+unfilled_by page filled len i false some end past here = omega (arith, end, past, here)
+
+-- the files stand as they are
+pub stands : (m : FlashMedium) (s : LayerState) → IsSound m s → StandsFor (files_of m) m.blocks m.state.pages
+stands m s sound = record { files_are = refl; spare = has_spare m s sound }
+
+module _ (a : FlashMedium) (s : LayerState) (sound : IsSound a s) (file page len : ℕ) (len_known_is : len ≡ len_known s.table file) where
+  pub long_as : file_len a.state.pages (places a.blocks) file ≡ len
+  long_as = sym (len_known_is ∙ len_is a.state.pages (places a.blocks) s.table sound.knows file)
+
+  abbrev key : FilePage
+  key = record { file = file; page = page }
+
+  led : LedOf a.state.pages (places a.blocks) (known s.table key) (newest a.state.pages file page (places a.blocks))
+  led = sound.knows.led.says key
+
+  byte_here : (i : ℕ) → i / 256 ≡ page → byte_in (newest a.state.pages file page (places a.blocks)) (i % 256) ≡ 0 → file_byte a.state.pages (places a.blocks) file i ≡ 0
+  byte_here i here zero = ap (λ p. byte_in (newest a.state.pages file p (places a.blocks)) (i % 256)) here ∙ zero
+
+  wipes_nothing : ((i : ℕ) → i / 256 ≡ page → file_len a.state.pages (places a.blocks) file ≤ i → file_byte a.state.pages (places a.blocks) file i ≡ 0) → WipesPage a a file page
+  wipes_nothing zero = record { len = λ f. refl; wiped = zero; kept = λ f i apart. refl }
+
+  -- a page without a record has nothing to wipe
+  pub wiped_none : known s.table key ≡ None → WipesPage a a file page
+  wiped_none none = wipes_nothing (λ i here past. byte_here i here
+      (byte_none a.state.pages (places a.blocks) (known s.table key) (newest a.state.pages file page (places a.blocks)) none led (i % 256)))
+
+  -- nor has one whose bytes end within the file
+  pub wiped_within : (e : Newest) → known s.table key ≡ Some e → filled_end page e.filled ≤ len → WipesPage a a file page
+  wiped_within e known_is end = wipes_nothing (λ i here past. byte_here i here
+      (byte_unfilled a.state.pages (places a.blocks) e (newest a.state.pages file page (places a.blocks))
+      (subst (λ k. LedOf a.state.pages (places a.blocks) k (newest a.state.pages file page (places a.blocks))) known_is led) (i % 256)
+      (unfilled_by page e.filled len i (nat_eq e.filled 0) refl end (let long = long_as in omega (arith, long, past)) here)))
+
+  module _ (was : List ℕ) (is : IsContent a.state.pages (places a.blocks) (record { file = file; page = page }) was) where
+    zero_past : (j : ℕ) → j < 256 → len ≤ 256 * page + j → get_or was j 0 ≡ 0
+    zero_past j small past = content_byte a file page was is j small
+        ∙ get_or_past (files_of a file) (256 * page + j) 0 (let long = length-flash_files a.state.pages a.blocks file in let own = long_as in omega (arith, long, own, past))
+
+    -- the page as it is shown may be added
+    pub stray_fits : (e : Newest) → known s.table key ≡ Some e → FitsIn a s file page len was
+    stray_fits e known_is = record {
+      place = inl (subst (λ k. IsSome k) (sym known_is) refl);
+      no_shorter = (let long = long_as in omega (arith, long));
+      zeros = zero_past;
+      grows = λ i past inside apart. absurd (let long = long_as in omega (arith, long, past, inside));
+    }
+
+    -- which leaves the files as they are
+    same_files : (next : Image) → length was ≡ 256 → PutPart file (256 * page) was len (files_of a) next → next ≡ files_of a
+    same_files next full part = same_part file (256 * page) was len (files_of a) next part
+        (let long = length-flash_files a.state.pages a.blocks file in let own = long_as in omega (arith, long, own))
+        (λ j inside below. content_byte a file page was is j (omega (arith, inside, full)))
+
+    pub stands_still : length was ≡ 256 → (pages : Pages) → LeavesPut file (256 * page) was len (files_of a) a.blocks pages → StandsFor (files_of a) a.blocks pages
+    stands_still full pages leaves = record {
+      files_are = ⊎_elim (λ same. same) (λ done. same_files (flash_files pages a.blocks) full done) leaves.put;
+      spare = leaves.spare;
+    }
+
+    -- and wipes what lies past the end
+    pub wiped_by : (d : FlashMedium) → length was ≡ 256 → PutPart file (256 * page) was len (files_of a) (files_of d) → ShowsPage a d file page was
+        → WipesPage a d file page
+    wiped_by d full part shown =
+        let same : files_of d ≡ files_of a = same_files (files_of d) full part in record {
+          len = λ f. sym (length-flash_files d.state.pages d.blocks f) ∙ (ap (λ (i : Image). length (i f)) same ∙ length-flash_files a.state.pages a.blocks f);
+          wiped = λ i here past. shown file i
+              ∙ (ap (λ b. cond b (get_or was (i % 256) 0) (file_byte a.state.pages (places a.blocks) file i))
+              (and_from (nat_eq file file) (nat_eq (i / 256) page) (eq-eqb file file refl) (eq-eqb (i / 256) page here))
+              ∙ zero_past (i % 256) (omega arith) (let long = long_as in omega (arith, long, past, here)));
+          kept = λ f i apart. shown f i
+              ∙ ap (λ b. cond b (get_or was (i % 256) 0) (file_byte a.state.pages (places a.blocks) f i))
+              (⊎_elim
+              (λ other. and_left (nat_eq f file) (nat_eq (i / 256) page) (ne_eqb f file other))
+              (λ other. and_right (nat_eq f file) (nat_eq (i / 256) page) (ne_eqb (i / 256) page other))
+              apart);
+        }
