@@ -1,9 +1,9 @@
 -- Writes into files, page by page: what each step finds, and what the steps make of the files together.
-use Rattle.std.proofs.Common.{◌≡◌, ℕ, ◌+◌, ◌*◌, ◌/◌, ◌%◌, ◌<◌, ◌≤◌, Bool, true, false, List, Result, Ok, Err, OnOk, length, get_or, cond, sym, refl, ap, ◌∙◌, subst, inl, inr, ⊎_elim, arith, eq-eqb}
-use Rattle.std.specs.Prelude.{IsTrue, IsSome, Option, Some, None, nat_eq, nat_lt, ◌&&◌}
-use Rattle.std.proofs.lemmas.Bool.{cases_lt, eqb-true, ne_eqb, and_from, and_left, and_right, lt-ltb, le-ltb}
+use Rattle.std.proofs.Common.{◌≡◌, ℕ, ◌+◌, ◌*◌, ◌/◌, ◌%◌, ◌<◌, ◌≤◌, Bool, true, false, List, Result, Ok, Err, OnOk, length, take, drop, max, get_or, cond, sym, refl, ap, ◌∙◌, subst, inl, inr, ⊎_elim, arith, eq-eqb}
+use Rattle.std.specs.Prelude.{min, IsTrue, IsSome, Option, Some, None, nat_eq, nat_lt, ◌&&◌}
+use Rattle.std.proofs.lemmas.Bool.{cases_lt, cases_eq, eqb-true, ne_eqb, and_from, and_left, and_right, lt-ltb, le-ltb}
 use Rattle.std.proofs.lemmas.List.{get_or_past}
-use Rattle.disk_model.specs.Image.{Image}
+use Rattle.disk_model.specs.Image.{Image, put_image}
 use Rattle.flash_model.specs.Pages.{Pages}
 use Rattle.flash_model.specs.State.{FlashState, IsStill}
 use Rattle.flash_model.specs.FlashMedium.{FlashMedium, IsLawfulFlash, FlashElapses, EachFlashCase}
@@ -17,10 +17,11 @@ use Rattle.flash_disk.specs.FlashFilesLaws.{length-flash_files, byte-flash_files
 use Rattle.flash_disk.specs.Learnt.{LedOf, IsContent, HasPlace}
 use Rattle.flash_disk.specs.Does.{Does}
 use Rattle.flash_disk.specs.PutPart.{PutPart}
-use Rattle.flash_disk.specs.Standing.{HasSpare, StandsFor}
+use Rattle.flash_disk.specs.Standing.{HasSpare, IsStrayless, StandsFor}
 use Rattle.flash_disk.specs.Sound.{files_of, IsSound, Sound, Fits, Holds, PendsAt, FitsIn, LeavesPut, ShowsZeros, ShowsPage, WipesPage}
+use Rattle.flash_disk.specs.Writes.{LeavesTorn}
 use Rattle.flash_disk.proofs.Reading.{len_is}
-use Rattle.flash_disk.proofs.Parts.{narrower, same_part}
+use Rattle.flash_disk.proofs.Parts.{PartSoFar, narrower, same_part, part_from_nothing, part_more, part_all, whole_part, torn_in_more, torn_refl}
 use Rattle.flash_disk.proofs.Stretches.{does_nothing, does_weaken, does_then}
 
 pub on_ok_both : {T E P Q R : Type 0} (r : Result T E) → (P → Q → R) → OnOk r P → OnOk r Q → OnOk r R
@@ -217,3 +218,100 @@ module _ (a : FlashMedium) (s : LayerState) (sound : IsSound a s) (file page len
               (λ other. and_right (nat_eq f file) (nat_eq (i / 256) page) (ne_eqb (i / 256) page other))
               apart);
         }
+
+-- ---- pages wiped one after the other
+
+-- the files stand as they stood
+module _ (a b : FlashMedium) (time : FlashElapses a b) where
+  pub files_stand : StandsFor (files_of a) a.blocks b.state.pages → files_of b ≡ files_of a
+  files_stand stands = ap (λ k. flash_files b.state.pages k) time.blocks ∙ stands.files_are
+
+  pub stands_then : (d : FlashMedium) → FlashElapses b d → Does (StandsFor (files_of a) a.blocks) a b → Does (StandsFor (files_of b) b.blocks) b d
+      → Does (StandsFor (files_of a) a.blocks) a d
+  stands_then d second early late = does_then a b d (StandsFor (files_of a) a.blocks) time second early
+      (subst (λ k. Does (StandsFor (files_of a) k) b d) time.blocks (subst (λ f. Does (StandsFor f b.blocks) b d) (files_stand early.now) late))
+
+-- up to this page no byte past the end of the file shows, and none of any file from a byte on
+pub record Wiped (a b : FlashMedium) (file page from : ℕ) : Type 0 where
+  pub len : (f : ℕ) → file_len b.state.pages (places b.blocks) f ≡ file_len a.state.pages (places a.blocks) f
+  pub strayless : IsStrayless b.state.pages (places b.blocks) from
+  pub zeros : (i : ℕ) → file_len a.state.pages (places a.blocks) file ≤ i → i < 256 * page → file_byte b.state.pages (places b.blocks) file i ≡ 0
+
+pub wiped_start : (a : FlashMedium) (s : LayerState) → IsSound a s → (file page : ℕ) → 256 * page ≤ len_known s.table file → Wiped a a file page s.stray_end
+wiped_start a s sound file page early = record {
+  len = λ f. refl;
+  strayless = sound.strays;
+  zeros = λ i past inside. absurd (let long = len_is a.state.pages (places a.blocks) s.table sound.knows file in omega (arith, long, past, inside, early));
+}
+
+module _ (a b : FlashMedium) (file page from : ℕ) (before : Wiped a b file page from) where
+  pub wiped_more : (d : FlashMedium) → WipesPage b d file page → Wiped a d file (page + 1) from
+  wiped_more d wipes = record {
+    len = λ f. wipes.len f ∙ before.len f;
+    strayless = λ f i past from_there. (let same = wipes.len f in
+        let was : file_len b.state.pages (places b.blocks) f ≤ i = omega (arith, past, same) in ⊎_elim
+        (λ of_file. ⊎_elim
+        (λ here. subst (λ q. file_byte d.state.pages (places d.blocks) q i ≡ 0) (sym of_file)
+        (wipes.wiped i here (subst (λ q. file_len b.state.pages (places b.blocks) q ≤ i) of_file was)))
+        (λ apart. wipes.kept f i (inr apart) ∙ before.strayless f i was from_there)
+        (cases_eq (i / 256) page))
+        (λ other. wipes.kept f i (inl other) ∙ before.strayless f i was from_there)
+        (cases_eq f file));
+    zeros = λ i past inside. (let same = before.len file in ⊎_elim
+        (λ here. wipes.wiped i here (omega (arith, past, same)))
+        (λ apart. wipes.kept file i (inr apart) ∙ before.zeros i past (omega (arith, inside, apart)))
+        (cases_eq (i / 256) page));
+  }
+
+-- nothing to wipe: the bytes that may show end within the file
+pub wiped_nowhere : (a : FlashMedium) (s : LayerState) → IsSound a s → (file until : ℕ) → min s.stray_end until ≤ len_known s.table file → ShowsZeros a file until
+wiped_nowhere a s sound file until within = λ i past inside.
+    sound.strays file i past (let long = len_is a.state.pages (places a.blocks) s.table sound.knows file in omega (arith, long, past, inside, within))
+
+-- the table says how long the file is, after this as before
+pub len_still : (a b : FlashMedium) (s t : LayerState) → IsSound a s → IsSound b t → (file : ℕ)
+    → file_len b.state.pages (places b.blocks) file ≡ file_len a.state.pages (places a.blocks) file → len_known s.table file ≡ len_known t.table file
+len_still a b s t sound_a sound_b file same =
+    len_is a.state.pages (places a.blocks) s.table sound_a.knows file ∙ (sym same ∙ sym (len_is b.state.pages (places b.blocks) t.table sound_b.knows file))
+
+-- ---- bytes written page by page
+
+-- The first bytes of a write are done: the files have them, and the file is as long as it will be once the first was written. From there
+-- to the end that it will have nothing shows.
+pub record WroteSoFar (a b : FlashMedium) (file at : ℕ) (bytes : List ℕ) (len done : ℕ) : Type 0 where
+  pub part : PartSoFar file at bytes len done (files_of a) (files_of b)
+  pub no_shorter : length (files_of b file) ≤ len
+  pub grows : ShowsZeros b file len
+
+pub wrote_nothing : (a : FlashMedium) (file at : ℕ) (bytes : List ℕ) (len : ℕ) → length (files_of a file) ≤ len → ShowsZeros a file len
+    → WroteSoFar a a file at bytes len 0
+wrote_nothing a file at bytes len no_shorter grows = record { part = part_from_nothing file at bytes len (files_of a); no_shorter = no_shorter; grows = grows }
+
+module _ (a b : FlashMedium) (file at : ℕ) (bytes : List ℕ) (len done : ℕ) (before : WroteSoFar a b file at bytes len done) where
+  -- the next bytes are written
+  pub wrote_more : (count : ℕ) (d : FlashMedium) → done ≤ length bytes → PutPart file (at + done) (take count (drop done bytes)) len (files_of b) (files_of d)
+      → WroteSoFar a d file at bytes len (done + count)
+  wrote_more count d within put = let long = put.long in record {
+    part = inr (part_more file at bytes len (files_of a) done count (files_of b) (files_of d) within before.part put);
+    no_shorter = omega (arith, long);
+    grows = λ i past inside. absurd (let as_long = length-flash_files d.state.pages d.blocks file in omega (arith, long, as_long, past, inside));
+  }
+
+  -- in their midst the write is one that was cut short
+  pub leaves_torn : (count : ℕ) → done + count ≤ length bytes → 0 < length bytes → len ≤ max (length (files_of a file)) (at + length bytes) → b.blocks ≡ a.blocks
+      → (pages : Pages) → LeavesPut file (at + done) (take count (drop done bytes)) len (files_of b) b.blocks pages
+      → LeavesTorn file at (length bytes) (files_of a) a.blocks pages
+  leaves_torn count within some reach blocks pages leaves =
+      let here : LeavesTorn file at (length bytes) (files_of a) b.blocks pages = record {
+        torn = torn_in_more file at bytes len (files_of a) done count (files_of b) (flash_files pages b.blocks) within some reach before.part leaves.put;
+        spare = leaves.spare;
+      } in subst (λ k. LeavesTorn file at (length bytes) (files_of a) k pages) blocks here
+
+  -- all bytes were written
+  pub wrote_all : length bytes ≡ done → 0 < length bytes → len ≡ max (length (files_of a file)) (at + length bytes) → files_of b ≡ put_image (files_of a) file at bytes
+  wrote_all all some reach = whole_part file at bytes len (files_of a) (files_of b) some reach
+      (part_all file at bytes len (files_of a) (files_of b) some (subst (λ k. PartSoFar file at bytes len k (files_of a) (files_of b)) (sym all) before.part))
+
+-- no byte was written yet
+pub torn_nothing : (m : FlashMedium) (s : LayerState) → IsSound m s → (file at n : ℕ) → LeavesTorn file at n (files_of m) m.blocks m.state.pages
+torn_nothing m s sound file at n = record { torn = torn_refl file at n (files_of m); spare = has_spare m s sound }

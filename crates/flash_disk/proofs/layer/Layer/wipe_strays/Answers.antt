@@ -1,0 +1,66 @@
+use Rattle.std.proofs.Common.{◌/◌, ◌∙◌, arith}
+use Rattle.flash_disk.specs.Standing.{StandsFor}
+use Rattle.flash_disk.specs.Sound.{files_of}
+use Rattle.flash_disk.proofs.Writing.{stands, does_none, stands_then, wiped_start, wiped_more, wiped_nowhere, len_still}
+use Rattle.flash_disk.proofs.Stretches.{elapses_refl, elapses_then}
+use Rattle.flash_disk.proofs.layer.Layer.wipe_strays.Goals as goal
+
+pub returns-then-end-len-clause-wiped : goal.returns-then-end-len-clause-wiped
+returns-then-end-len-clause-wiped g c told =
+    let s = c.args.self.now.state in
+    let end = c.min-end.ensures in
+    let len = c.len_of-len.ensures in
+    let within = c.if-end-len.true in
+    wiped_nowhere (g.F.Flash.medium c.args.self.now.flash) s (c.requires.sound told) c.args.file c.args.until (omega (arith, end, len, within))
+
+pub returns-then-end-len-clause-does : goal.returns-then-end-len-clause-does
+returns-then-end-len-clause-does g c told =
+    let a = g.F.Flash.medium c.args.self.now.flash in
+    does_none g.F.Flash.told a (g.met.F.Flash.lawful c.args.self.now.flash) (StandsFor (files_of a) a.blocks) (stands a c.args.self.now.state (c.requires.sound told))
+
+pub loop-page-init : goal.loop-page-init
+loop-page-init g c =
+    let a = g.F.Flash.medium c.args.self.now.flash in
+    let s = c.args.self.now.state in
+    let lawful = g.met.F.Flash.lawful c.args.self.now.flash in record {
+      sure = c.requires.sure;
+      sound = c.requires.sound;
+      wiped = λ told. wiped_start a s (c.requires.sound told) c.args.file (c.len_of-len.result / 256) (let len = c.len_of-len.ensures in omega (arith, len));
+      does = λ told. does_none g.F.Flash.told a lawful (StandsFor (files_of a) a.blocks) (stands a s (c.requires.sound told));
+      time = λ told. elapses_refl g.F.Flash.told a lawful told;
+      numbered = omega arith;
+      counted = omega arith;
+    }
+
+pub wipe_stray-requires-clause-len : goal.wipe_stray-requires-clause-len
+wipe_stray-requires-clause-len g c told =
+    let a = g.F.Flash.medium c.args.self.now.flash in
+    let b = g.F.Flash.medium c.loop-page.self.flash in
+    let i = c.loop-page.invariant in
+    let wiped = i.wiped told in
+    c.len_of-len.ensures ∙ len_still a b c.args.self.now.state c.loop-page.self.state (c.requires.sound told) (i.sound told) c.args.file (wiped.len c.args.file)
+
+pub returns-in_err-wipe_stray-clause-does : goal.returns-in_err-wipe_stray-clause-does
+returns-in_err-wipe_stray-clause-does g c told =
+    let a = g.F.Flash.medium c.args.self.now.flash in
+    let b = g.F.Flash.medium c.loop-page.self.flash in
+    let d = g.F.Flash.medium c.wipe_stray.new.self.flash in
+    let i = c.loop-page.invariant in
+    let e = c.wipe_stray.ensures in
+    stands_then a b (i.time told) d (e.time told) (i.does told) (e.does told)
+
+pub loop-page-preserved : goal.loop-page-preserved
+loop-page-preserved g c =
+    let a = g.F.Flash.medium c.args.self.now.flash in
+    let b = g.F.Flash.medium c.loop-page.self.flash in
+    let d = g.F.Flash.medium c.wipe_stray.new.self.flash in
+    let i = c.loop-page.invariant in
+    let e = c.in_ok-wipe_stray.ensures in record {
+      sure = e.sure;
+      sound = e.sound;
+      wiped = λ told. wiped_more a b c.args.file c.loop-page.page c.args.self.now.state.stray_end (i.wiped told) d (e.wiped told);
+      does = λ told. stands_then a b (i.time told) d (e.time told) (i.does told) (e.does told);
+      time = λ told. elapses_then a b d (i.time told) (e.time told);
+      numbered = (let before = i.numbered in let on = e.later in omega (arith, before, on));
+      counted = (let before = i.counted in let on = e.cause.later in omega (arith, before, on));
+    }

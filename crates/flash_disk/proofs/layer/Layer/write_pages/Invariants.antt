@@ -1,0 +1,24 @@
+use Rattle.std.proofs.Common.{◌≡◌, ◌≤◌, ◌+◌, ◌*◌, ◌-◌, length, true}
+use Rattle.std.specs.Prelude.{None}
+use Rattle.flash_model.specs.FlashMedium.{FlashElapses}
+use Rattle.flash_disk.specs.Does.{Does}
+use Rattle.flash_disk.specs.Sound.{files_of, IsSound}
+use Rattle.flash_disk.specs.Writes.{LeavesTorn}
+use Rattle.flash_disk.proofs.Writing.{WroteSoFar}
+use Rattle.flash_disk.proofs.layer.Layer.write_pages.Given as goal
+
+abbrev pub decreases-loop-done : goal.decreases-loop-done
+decreases-loop-done g l = length l.bytes - l.done
+
+abbrev pub invariant-loop-done : goal.invariant-loop-done
+invariant-loop-done g l = record {
+  within : l.done ≤ length l.bytes;
+  sure : l.self.state.unsure ≡ None;
+  sound : g.F.Flash.told ≡ true → IsSound (g.F.Flash.medium l.self.flash) l.self.state;
+  wrote : g.F.Flash.told ≡ true → WroteSoFar (g.F.Flash.medium l.initial.self.flash) (g.F.Flash.medium l.self.flash) l.file l.at l.bytes l.len l.done;
+  does : g.F.Flash.told ≡ true → Does (LeavesTorn l.file l.at (length l.bytes) (files_of (g.F.Flash.medium l.initial.self.flash)) (g.F.Flash.medium l.initial.self.flash).blocks)
+    (g.F.Flash.medium l.initial.self.flash) (g.F.Flash.medium l.self.flash);
+  time : g.F.Flash.told ≡ true → FlashElapses (g.F.Flash.medium l.initial.self.flash) (g.F.Flash.medium l.self.flash);
+  numbered : l.done + 256 * l.initial.self.state.sequence ≤ 256 * l.self.state.sequence;
+  counted : (g.F.Flash.medium l.initial.self.flash).faults + l.initial.self.own ≤ (g.F.Flash.medium l.self.flash).faults + l.self.own;
+}
