@@ -1,5 +1,5 @@
 -- Writes into files, page by page: what each step finds, and what the steps make of the files together.
-use Rattle.std.proofs.Common.{◌≡◌, ℕ, ◌+◌, ◌*◌, ◌/◌, ◌%◌, ◌<◌, ◌≤◌, Bool, true, false, List, Result, Ok, Err, OnOk, length, take, drop, max, get_or, cond, sym, refl, ap, ◌∙◌, subst, inl, inr, ⊎_elim, arith, eq-eqb}
+use Rattle.std.proofs.Common.{◌≡◌, ℕ, ◌+◌, ◌-◌, ◌*◌, ◌/◌, ◌%◌, ◌<◌, ◌≤◌, Bool, true, false, List, Result, Ok, Err, OnOk, length, take, drop, max, get_or, cond, sym, refl, ap, ◌∙◌, subst, inl, inr, ⊎_elim, arith, eq-eqb}
 use Rattle.std.specs.Prelude.{min, IsTrue, IsSome, Option, Some, None, nat_eq, nat_lt, ◌&&◌}
 use Rattle.std.proofs.lemmas.Bool.{cases_lt, cases_eq, eqb-true, ne_eqb, and_from, and_left, and_right, lt-ltb, le-ltb}
 use Rattle.std.proofs.lemmas.List.{get_or_past}
@@ -311,6 +311,23 @@ module _ (a b : FlashMedium) (file at : ℕ) (bytes : List ℕ) (len done : ℕ)
   pub wrote_all : length bytes ≡ done → 0 < length bytes → len ≡ max (length (files_of a file)) (at + length bytes) → files_of b ≡ put_image (files_of a) file at bytes
   wrote_all all some reach = whole_part file at bytes len (files_of a) (files_of b) some reach
       (part_all file at bytes len (files_of a) (files_of b) some (subst (λ k. PartSoFar file at bytes len k (files_of a) (files_of b)) (sym all) before.part))
+
+  -- until they are written
+  pub torn_then : (count : ℕ) (d : FlashMedium) → done + count ≤ length bytes → 0 < length bytes → len ≡ max (length (files_of a file)) (at + length bytes)
+      → FlashElapses a b → FlashElapses b d → Does (LeavesTorn file at (length bytes) (files_of a) a.blocks) a b
+      → Does (LeavesPut file (at + done) (take count (drop done bytes)) len (files_of b) b.blocks) b d
+      → Does (LeavesTorn file at (length bytes) (files_of a) a.blocks) a d
+  torn_then count d within some reach first second early late =
+      does_then a b d (LeavesTorn file at (length bytes) (files_of a) a.blocks) first second early
+      (does_weaken b d (LeavesPut file (at + done) (take count (drop done bytes)) len (files_of b) b.blocks) (LeavesTorn file at (length bytes) (files_of a) a.blocks)
+      (leaves_torn count within some (omega (arith, reach)) first.blocks) late)
+
+-- the place of a byte in its page, and how many bytes are taken from a place
+pub moved_there : (P : ℕ → ℕ → Type 0) (start done count : ℕ) → P (256 * (start / 256) + start % 256) (done + count - done) → P start count
+moved_there P start done count holds =
+    let place : 256 * (start / 256) + start % 256 ≡ start = omega arith in
+    let many : done + count - done ≡ count = omega arith in
+    subst (λ k. P start k) many (subst (λ k. P k (done + count - done)) place holds)
 
 -- no byte was written yet
 pub torn_nothing : (m : FlashMedium) (s : LayerState) → IsSound m s → (file at n : ℕ) → LeavesTorn file at n (files_of m) m.blocks m.state.pages

@@ -33,8 +33,8 @@ append-requires-clause-fits g c told =
     let e = c.in_ok-content.ensures in
     let sound = r.sound told in
     let copied = c.copy_part.ensures in
-    let fits = page_fits a c.args.file c.args.page c.args.from c.args.len c.args.bytes.now c.in_ok-content.content c.copy_part.new.out
-      (e.bytes told sound.knows) copied.inside copied.before copied.after s (c.has_place.ensures c.if-not-has_place.false) r.end (r.no_shorter told) (r.grows told) in
+    let fits = page_fits a c.args.file c.args.page c.in_ok-content.content (e.bytes told sound.knows)
+      c.args.from c.args.len c.args.bytes.now c.copy_part.new.out copied.inside copied.before copied.after s (c.has_place.ensures c.if-not-has_place.false) r.end (r.no_shorter told) (r.grows told) in
     fits_seen a b (e.unchanged told) e.blocks s c.content.new.self.state e.state c.args.file c.args.page c.args.len c.copy_part.new.out fits
 
 pub returns-clause-put : goal.returns-clause-put
@@ -47,8 +47,8 @@ returns-clause-put g c told =
     let copied = c.copy_part.ensures in
     let full : length c.copy_part.new.out ≡ 256 = omega arith in
     on_ok_weaker c.append.result
-    (λ put. page_narrower a c.args.file c.args.page c.args.from c.args.len c.args.bytes.now c.in_ok-content.content c.copy_part.new.out
-    (e.bytes told sound.knows) copied.inside copied.before copied.after (files_of d) full c.requires.within
+    (λ put. page_narrower a c.args.file c.args.page c.in_ok-content.content (e.bytes told sound.knows)
+    c.args.from c.args.len c.args.bytes.now c.copy_part.new.out copied.inside copied.before copied.after (files_of d) full c.requires.within
     (subst (λ f. PutPart c.args.file (256 * c.args.page) c.copy_part.new.out c.args.len f (files_of d)) (files_seen a b (e.unchanged told) e.blocks) put))
     (c.append.ensures.put told)
 
@@ -63,7 +63,7 @@ returns-clause-does g c told =
     let copied = c.copy_part.ensures in
     let full : length c.copy_part.new.out ≡ 256 = omega arith in
     does_after_look a b (e.unchanged told) e.blocks (LeavesPut c.args.file (256 * c.args.page) c.copy_part.new.out c.args.len) (LeavesPut c.args.file at c.args.bytes.now c.args.len) d
-    (leaves_narrower a c.args.file c.args.page c.args.from c.args.len c.args.bytes.now c.in_ok-content.content c.copy_part.new.out
-    (e.bytes told sound.knows) copied.inside copied.before copied.after full c.requires.within)
+    (leaves_narrower a c.args.file c.args.page c.in_ok-content.content (e.bytes told sound.knows)
+    c.args.from c.args.len c.args.bytes.now c.copy_part.new.out copied.inside copied.before copied.after full c.requires.within)
     (leaves_nothing a c.args.self.now.state sound c.args.file at c.args.bytes.now c.args.len)
     (e.time told) (c.append.ensures.time told) (e.during told) (c.append.ensures.does told)

@@ -1,0 +1,71 @@
+use Rattle.std.proofs.Common.{◌≡◌, ◌+◌, ◌-◌, ◌*◌, ◌/◌, ◌%◌, ◌≤◌, ◌<◌, length, take, drop, sym, ap, ◌∙◌, subst, refl, arith}
+use Rattle.flash_disk.specs.Does.{Does}
+use Rattle.flash_disk.specs.PutPart.{PutPart}
+use Rattle.flash_disk.specs.Sound.{files_of, LeavesPut}
+use Rattle.flash_disk.specs.Writes.{LeavesTorn}
+use Rattle.flash_disk.proofs.Writing.{does_none, torn_nothing, wrote_nothing, wrote_more, torn_then, moved_there, wrote_all}
+use Rattle.flash_disk.proofs.Stretches.{elapses_refl, elapses_then}
+use Rattle.flash_disk.proofs.layer.Layer.write_pages.Goals as goal
+
+pub loop-done-init : goal.loop-done-init
+loop-done-init g c =
+    let a = g.F.Flash.medium c.args.self.now.flash in
+    let s = c.args.self.now.state in
+    let r = c.requires in
+    let lawful = g.met.F.Flash.lawful c.args.self.now.flash in record {
+      within = omega arith;
+      sure = r.sure;
+      sound = r.sound;
+      wrote = λ told. wrote_nothing a c.args.file c.args.at c.args.bytes.now c.args.len (let len = r.len told in omega (arith, len)) (r.grows told);
+      does = λ told. does_none g.F.Flash.told a lawful (LeavesTorn c.args.file c.args.at (length c.args.bytes.now) (files_of a) a.blocks)
+          (torn_nothing a s (r.sound told) c.args.file c.args.at (length c.args.bytes.now));
+      time = λ told. elapses_refl g.F.Flash.told a lawful told;
+      numbered = omega arith;
+      counted = omega arith;
+    }
+
+pub returns-in_err-write_page-clause-does : goal.returns-in_err-write_page-clause-does
+returns-in_err-write_page-clause-does g c told =
+    let a = g.F.Flash.medium c.args.self.now.flash in
+    let b = g.F.Flash.medium c.loop-done.self.flash in
+    let d = g.F.Flash.medium c.write_page.new.self.flash in
+    let i = c.loop-done.invariant in
+    let e = c.write_page.ensures in
+    let done = c.loop-done.done in
+    let count = c.min-count.result in
+    let start = c.args.at + done in
+    torn_then a b c.args.file c.args.at c.args.bytes.now c.args.len done (i.wrote told) count d (omega arith) (omega arith) (c.requires.len told)
+    (i.time told) (e.time told) (i.does told)
+    (moved_there (λ p k. Does (LeavesPut c.args.file p (take k (drop done c.args.bytes.now)) c.args.len (files_of b) b.blocks) b d) start done count (e.does told))
+
+pub loop-done-preserved : goal.loop-done-preserved
+loop-done-preserved g c =
+    let a = g.F.Flash.medium c.args.self.now.flash in
+    let b = g.F.Flash.medium c.loop-done.self.flash in
+    let d = g.F.Flash.medium c.write_page.new.self.flash in
+    let i = c.loop-done.invariant in
+    let e = c.in_ok-write_page.ensures in
+    let done = c.loop-done.done in
+    let count = c.min-count.result in
+    let start = c.args.at + done in record {
+      within = omega arith;
+      sure = e.sure;
+      sound = e.sound;
+      wrote = λ told. wrote_more a b c.args.file c.args.at c.args.bytes.now c.args.len done (i.wrote told) count d (omega arith)
+          (moved_there (λ p k. PutPart c.args.file p (take k (drop done c.args.bytes.now)) c.args.len (files_of b) (files_of d)) start done count (e.put told));
+      does = λ told. torn_then a b c.args.file c.args.at c.args.bytes.now c.args.len done (i.wrote told) count d (omega arith) (omega arith) (c.requires.len told)
+          (i.time told) (e.time told) (i.does told)
+          (moved_there (λ p k. Does (LeavesPut c.args.file p (take k (drop done c.args.bytes.now)) c.args.len (files_of b) b.blocks) b d) start done count (e.does told));
+      time = λ told. elapses_then a b d (i.time told) (e.time told);
+      numbered = (let before = i.numbered in let on = e.rises in let few = c.min-count.ensures in omega (arith, before, on, few));
+      counted = (let before = i.counted in let on = e.cause.later in omega (arith, before, on));
+    }
+
+pub returns-clause-put : goal.returns-clause-put
+returns-clause-put g c told some =
+    let a = g.F.Flash.medium c.args.self.now.flash in
+    let b = g.F.Flash.medium c.loop-done.self.flash in
+    let i = c.loop-done.invariant in
+    let within = i.within in
+    let past = c.loop-done-test.false in
+    wrote_all a b c.args.file c.args.at c.args.bytes.now c.args.len c.loop-done.done (i.wrote told) (omega (arith, within, past)) some (c.requires.len told)
