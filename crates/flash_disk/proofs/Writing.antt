@@ -1,11 +1,11 @@
 -- Writes into files, page by page: what each step finds, and what the steps make of the files together.
-use Rattle.std.proofs.Common.{◌≡◌, ℕ, ◌+◌, ◌-◌, ◌*◌, ◌/◌, ◌%◌, ◌<◌, ◌≤◌, Bool, true, false, List, Result, Ok, Err, OnOk, length, take, drop, max, get_or, cond, sym, refl, ap, ◌∙◌, subst, inl, inr, ⊎_elim, arith, eq-eqb}
-use Rattle.std.specs.Prelude.{min, IsTrue, IsSome, Option, Some, None, nat_eq, nat_lt, ◌&&◌}
+use Rattle.std.proofs.Common.{◌≡◌, ◌⊎◌, ℕ, ◌+◌, ◌-◌, ◌*◌, ◌/◌, ◌%◌, ◌<◌, ◌≤◌, Bool, true, false, List, Result, Ok, Err, OnOk, OnErr, length, take, drop, max, get_or, cond, sym, refl, ap, ◌∙◌, subst, inl, inr, ⊎_elim, arith, eq-eqb, true≢false}
+use Rattle.std.specs.Prelude.{min, is_err, IsTrue, IsSome, Option, Some, None, nat_eq, nat_lt, ◌&&◌}
 use Rattle.std.proofs.lemmas.Bool.{cases_lt, cases_eq, eqb-true, ne_eqb, and_from, and_left, and_right, lt-ltb, le-ltb}
 use Rattle.std.proofs.lemmas.List.{get_or_past}
-use Rattle.disk_model.specs.Image.{Image, put_image}
+use Rattle.disk_model.specs.Image.{Image, TornImage, put_image}
 use Rattle.flash_model.specs.Pages.{Pages}
-use Rattle.flash_model.specs.State.{FlashState, IsStill}
+use Rattle.flash_model.specs.State.{FlashState, IsStill, announce_write}
 use Rattle.flash_model.specs.FlashMedium.{FlashMedium, IsLawfulFlash, FlashElapses, EachFlashCase}
 use Rattle.flash_disk.specs.declared.layer.LayerState.{LayerState}
 use Rattle.flash_disk.specs.declared.table.FilePage.{FilePage}
@@ -19,7 +19,7 @@ use Rattle.flash_disk.specs.Does.{Does}
 use Rattle.flash_disk.specs.PutPart.{PutPart}
 use Rattle.flash_disk.specs.Standing.{HasSpare, IsStrayless, StandsFor}
 use Rattle.flash_disk.specs.Sound.{files_of, IsSound, Sound, Fits, Holds, PendsAt, FitsIn, LeavesPut, ShowsZeros, ShowsPage, WipesPage}
-use Rattle.flash_disk.specs.Writes.{LeavesTorn}
+use Rattle.flash_disk.specs.Writes.{LeavesTorn, with_write, WritesInto}
 use Rattle.flash_disk.proofs.Reading.{len_is}
 use Rattle.flash_disk.proofs.Parts.{PartSoFar, narrower, same_part, part_from_nothing, part_more, part_all, whole_part, torn_in_more, torn_refl}
 use Rattle.flash_disk.proofs.Stretches.{does_nothing, does_weaken, does_then}
@@ -27,6 +27,10 @@ use Rattle.flash_disk.proofs.Stretches.{does_nothing, does_weaken, does_then}
 pub on_ok_both : {T E P Q R : Type 0} (r : Result T E) → (P → Q → R) → OnOk r P → OnOk r Q → OnOk r R
 on_ok_both (Ok x) from p q = from p q
 on_ok_both (Err e) from p q = q
+
+pub no_error : {T E P : Type 0} (r : Result T E) → is_err r ≡ false → OnOk r P → P
+no_error (Ok x) none p = p
+no_error (Err e) none p = absurd (true≢false none)
 
 -- ---- what a sound layer has
 
@@ -332,3 +336,90 @@ moved_there P start done count holds =
 -- no byte was written yet
 pub torn_nothing : (m : FlashMedium) (s : LayerState) → IsSound m s → (file at n : ℕ) → LeavesTorn file at n (files_of m) m.blocks m.state.pages
 torn_nothing m s sound file at n = record { torn = torn_refl file at n (files_of m); spare = has_spare m s sound }
+
+-- ---- a write as a whole
+
+-- what is known of the flash holds, whether the last call succeeded or failed
+pub holds_either : {T E : Type 0} (m : FlashMedium) (s : LayerState) (r : Result T E) → OnOk r (IsSound m s) → OnOk r (s.unsure ≡ None) → OnErr r (Holds m s) → Holds m s
+holds_either m s (Ok x) sound sure failed = holds_sound m s sound sure
+holds_either m s (Err e) sound sure failed = failed
+
+module _ (file at : ℕ) (bytes : List ℕ) where
+  -- refused, or the announcement failed
+  pub writes_nothing : (a b : FlashMedium) → b.state ≡ a.state → EachFlashCase (λ x. IsStill a.state x ⊎ IsStill b.state x) a b → WritesInto file at bytes a b
+  writes_nothing a b same cases = record {
+    now = inl same;
+    during = λ x past. inl (⊎_elim (λ is. is) (λ is. subst (λ t. IsStill t x) same is) (cases x past));
+  }
+
+  module _ (b c : FlashMedium) (time : FlashElapses b c) (wipes : Does (StandsFor (files_of b) b.blocks) b c) where
+    stands_torn : (pages : Pages) → StandsFor (files_of b) b.blocks pages → LeavesTorn file at (length bytes) (files_of b) b.blocks pages
+    stands_torn pages stands = record {
+      torn = subst (TornImage file at (length bytes) (files_of b)) (sym stands.files_are) (torn_refl file at (length bytes) (files_of b));
+      spare = stands.spare;
+    }
+
+    -- bytes past the end of the file were wiped
+    pub wipes_torn : Does (LeavesTorn file at (length bytes) (files_of b) b.blocks) b c
+    wipes_torn = does_weaken b c (StandsFor (files_of b) b.blocks) (LeavesTorn file at (length bytes) (files_of b) b.blocks) stands_torn wipes
+
+    -- and then the bytes were written
+    pub wipes_then : (d : FlashMedium) → FlashElapses c d → Does (LeavesTorn file at (length bytes) (files_of c) c.blocks) c d
+        → Does (LeavesTorn file at (length bytes) (files_of b) b.blocks) b d
+    wipes_then d second writes = does_then b c d (LeavesTorn file at (length bytes) (files_of b) b.blocks) time second wipes_torn
+        (subst (λ k. Does (LeavesTorn file at (length bytes) (files_of b) k) c d) time.blocks
+        (subst (λ f. Does (LeavesTorn file at (length bytes) f c.blocks) c d) (files_stand b c time wipes.now) writes))
+
+    -- the file is as long as the table said
+    pub len_wiped : (s : LayerState) → IsSound b s → length (files_of c file) ≡ len_known s.table file
+    len_wiped s sound = ap (λ (f : Image). length (f file)) (files_stand b c time wipes.now)
+        ∙ (length-flash_files b.state.pages b.blocks file ∙ sym (len_is b.state.pages (places b.blocks) s.table sound.knows file))
+
+    -- nothing shows up to the end that it will have
+    pub grows_wiped : (s : LayerState) → IsSound b s → (end len : ℕ) → len ≡ max (len_known s.table file) end → ShowsZeros c file end → ShowsZeros c file len
+    grows_wiped s sound end len is zeros = λ i past inside. zeros i past
+        (let known_is = len_wiped s sound in let long = length-flash_files c.state.pages c.blocks file in omega (arith, is, past, inside, known_is, long))
+
+  module _ (a b : FlashMedium) (state : b.state ≡ announce_write a.state file at bytes) (time : FlashElapses a b) where
+    pages_announced : b.state.pages ≡ a.state.pages
+    pages_announced = ap (λ (t : FlashState). t.pages) state
+
+    -- the announcement changes no page
+    pub sound_announced : (s : LayerState) → IsSound a s → IsSound b s
+    sound_announced s sound = subst (λ p. Sound p b.blocks s) (sym pages_announced) (subst (λ k. Sound a.state.pages k s) (sym time.blocks) sound)
+
+    pub files_announced : files_of b ≡ files_of a
+    files_announced = ap (λ p. flash_files p b.blocks) pages_announced ∙ ap (λ k. flash_files a.state.pages k) time.blocks
+
+    torn_announced : (pages : Pages) → LeavesTorn file at (length bytes) (files_of b) b.blocks pages → LeavesTorn file at (length bytes) (files_of a) a.blocks pages
+    torn_announced pages leaves = subst (λ k. LeavesTorn file at (length bytes) (files_of a) k pages) time.blocks
+        (subst (λ f. LeavesTorn file at (length bytes) f b.blocks pages) files_announced leaves)
+
+    settled_announced : b.state.settled ≡ a.state.settled
+    settled_announced = ap (λ (t : FlashState). t.settled) state
+
+    with_announced : b.state.announced ≡ with_write a.state file at bytes
+    with_announced = ap (λ (t : FlashState). t.announced) state
+
+    -- and what comes after it is the write
+    pub writes_into : (s : LayerState) → IsSound a s → EachFlashCase (λ x. IsStill a.state x ⊎ IsStill b.state x) a b
+        → (d : FlashMedium) → FlashElapses b d → Does (LeavesTorn file at (length bytes) (files_of b) b.blocks) b d → WritesInto file at bytes a d
+    writes_into s sound cases d second does = record {
+      now = inr (does.settled ∙ settled_announced, does.announced ∙ with_announced, torn_announced d.state.pages does.now);
+      during = λ x past. ⊎_elim
+          (λ early. ⊎_elim
+          (λ is. inl is)
+          (λ is. inr (record {
+            settled = is.settled ∙ settled_announced;
+            announced = is.announced ∙ with_announced;
+            left = λ plain. subst (LeavesTorn file at (length bytes) (files_of a) a.blocks) (sym (is.left ∙ pages_announced))
+                (torn_nothing a s sound file at (length bytes));
+          }))
+          (cases x early))
+          (λ late. (let leaves = does.during x late in inr (record {
+            settled = leaves.settled ∙ settled_announced;
+            announced = leaves.announced ∙ with_announced;
+            left = λ plain. torn_announced x.left (leaves.left plain);
+          })))
+          (second.nothing_else a.moment x time.later past);
+    }
