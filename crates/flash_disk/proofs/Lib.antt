@@ -5,3 +5,6 @@ mod Lightest
 mod Leading
 mod Reading
 mod Programming
+pub mod Standing
+pub mod Sparing
+pub mod Growing
