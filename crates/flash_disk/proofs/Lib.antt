@@ -8,3 +8,6 @@ mod Programming
 pub mod Standing
 pub mod Sparing
 pub mod Growing
+pub mod Parts
+pub mod Stretches
+pub mod DiskCases
