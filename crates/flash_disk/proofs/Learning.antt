@@ -64,7 +64,7 @@ module _ (pages : Pages) (n : ℕ) where
   stays None None none says = says
   stays None (Some x) none says = says
   stays (Some e) None none says = says
-  stays (Some e) (Some x) none says = record { leads = says.leads; place = says.place; twin = twin_stays x e.twin (none x refl) says.twin }
+  stays (Some e) (Some x) none says = record { leads = says.leads; place = says.place; twin = twin_stays x e.twin (none x refl) says.twin; agreed = ? }
 
   -- a place without a record
   pub nothing : (table : Table) → record_at pages n ≡ None → HasLearnt pages n table → HasLearnt pages (suc n) table
@@ -149,8 +149,9 @@ module _ (pages : Pages) (n : ℕ) where
         → ((j : ℕ) (q : PageRecord) → j < n → record_at pages j ≡ Some q → is_of r.file r.page q ≡ true → q.sequence < r.sequence)
         → Learns pages (suc n) entry placed
     here_learns entry (place, small, sequence, len, twin) less = record {
-      leads = record { small = small; there = ap (record_at pages) place ∙ here; sequence = sequence; len = len };
+      leads = record { small = small; there = ap (record_at pages) place ∙ here; sequence = sequence; len = len; filled = ? };
       place = place;
+      agreed = ?;
       twin = subst (λ w. TwinSays pages (suc n) placed w) (sym twin)
           (λ j copy. ⊎_elim
           (λ below. let lt = less j r below copy.same own_page in omega arith)
@@ -216,6 +217,7 @@ module _ (pages : Pages) (n : ℕ) where
           (stays_newest e (omega arith) (record {
             leads = best.2.leads;
             place = best.2.place;
+            agreed = ?;
             twin = twin_stays best.0 e.twin (λ same apart. let q : r.sequence ≡ best.0.says.sequence = ap (λ z. z.sequence) (same_Some r best.0.says (sym here ∙ same)) in
                 let s = best.2.leads.sequence in omega arith) best.2.twin;
           }))
@@ -301,7 +303,8 @@ module _ (pages : Pages) (n : ℕ) where
       pub equal : (first : Option PageRecord) → first ≡ record_at pages (number e.place) → (twin : Option Place) (rivalled : Bool) → TwinAt first r e place twin
           → LearnsOf pages (suc n) (Some (record e { twin = twin; rivalled = rivalled })) (newer (newest pages r.file r.page n) placed)
       equal first is twin rivalled at = stays_newest old e learnt known_is (record e { twin = twin; rivalled = rivalled }) (omega (arith, sequence)) (record {
-        leads = record { small = before_is.leads.small; there = before_is.leads.there; sequence = before_is.leads.sequence; len = before_is.leads.len };
+        leads = record { small = before_is.leads.small; there = before_is.leads.there; sequence = before_is.leads.sequence; len = before_is.leads.len; filled = before_is.leads.filled };
         place = before_is.place;
+        agreed = ?;
         twin = twin_says first (is ∙ before_is.leads.there) twin at;
       })

@@ -1,6 +1,6 @@
 //! Opening a flash as a disk.
 
-ghost use Rattle.std.specs.Prelude.{◌≡◌, ◌⊎◌, ◌↔◌, ◌≤◌, ◌<◌, ◌+◌, ◌*◌, ℕ, IsTrue, IsFalse, IfOk, IfErr, IfSome, OnOk, Some, None};
+ghost use Rattle.std.specs.Prelude.{◌≡◌, ◌⊎◌, ◌↔◌, ◌≤◌, ◌<◌, ◌+◌, ◌*◌, ℕ, IsTrue, IsFalse, IfOk, IfErr, IfSome, OnOk, Some, None, length, slice_index};
 ghost use Rattle.flash_record.specs.PageRecord.{record_in};
 ghost use Rattle.flash_record.specs.Stated.{stated};
 ghost use Rattle.flash_disk.specs.Newest.{record_at, places, page_limit, IsSpare, NeedsPlace, FindsSpare, IsUsable, IsUnusable, SaysUsable};
@@ -348,6 +348,7 @@ pub(crate) fn newest_at(place: Place, found: Record<'_>) -> Newest
     ensures sequence { result.sequence ≡ found.entry.sequence }
     ensures len { result.len ≡ found.entry.len }
     ensures twin { result.twin ≡ None }
+    ensures filled { length found.entry.bytes.now ≡ 256 → (j : ℕ) → result.filled ≤ j → slice_index found.entry.bytes.now j ≡ 0 }
 {
     Newest {
         place,
@@ -360,7 +361,9 @@ pub(crate) fn newest_at(place: Place, found: Record<'_>) -> Newest
 }
 
 // How many bytes are left without the zeros at their end.
-fn filled_of(bytes: &[u8]) -> u32 {
+fn filled_of(bytes: &[u8]) -> u32
+    ensures filled { length bytes.now ≡ 256 → (j : ℕ) → result ≤ j → slice_index bytes.now j ≡ 0 }
+{
     let mut filled = 0;
     for (i, byte) in bytes.iter().enumerate() {
         if *byte != 0 {
