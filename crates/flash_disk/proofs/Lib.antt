@@ -10,4 +10,5 @@ pub mod Sparing
 pub mod Growing
 pub mod Parts
 pub mod Stretches
+pub mod Entering
 pub mod DiskCases

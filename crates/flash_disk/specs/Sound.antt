@@ -1,5 +1,5 @@
 -- What a disk over flash keeps in memory, and how it fits what the pages hold.
-use Rattle.std.specs.Prelude.{◌≡◌, ◌≢◌, ◌⊎◌, ℕ, ◌/◌, ◌+◌, ◌*◌, ◌<◌, ◌≤◌, List, Option, Some, None, IsFalse, slice_index}
+use Rattle.std.specs.Prelude.{◌≡◌, ◌≢◌, ◌⊎◌, ℕ, ◌/◌, ◌+◌, ◌*◌, ◌<◌, ◌≤◌, List, Option, Some, None, IsFalse, length, slice_index}
 use Rattle.std.specs.HashMap.{spare}
 use Rattle.disk_model.specs.Image.{Image}
 use Rattle.flash_model.specs.Pages.{Pages, blank_page, TornPage}
@@ -64,6 +64,7 @@ FitsIn m s file page len bytes = Fits m.state.pages m.blocks s file page len byt
 pub record Enters (old new : Pages) (blocks : ℕ) (s : LayerState) (place : Place) (r : PageRecord) : Type 0 where
   pub adds : Adds old new (places blocks) place r
   pub fits : Fits old blocks s r.file r.page r.len r.bytes
+  pub full : length r.bytes ≡ 256
   pub numbered : r.sequence ≤ s.sequence
   pub elsewhere : TornPage place.block place.page old new
   pub apart : place.block ≢ s.spare
