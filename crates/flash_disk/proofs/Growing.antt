@@ -14,8 +14,9 @@ use Rattle.flash_disk.specs.FlashFiles.{byte_in, file_byte, file_len, flash_file
 use Rattle.flash_disk.specs.FlashFilesLaws.{file_len_is, one_len, length-flash_files, byte-flash_files}
 use Rattle.flash_disk.specs.Learnt.{number, Adds}
 use Rattle.flash_disk.specs.Standing.{IsAgreed, IsStrayless, MayGrow}
-use Rattle.flash_disk.specs.PutPart.{in_range, PutPart}
+use Rattle.flash_disk.specs.PutPart.{in_range, PutPart, PutOrNot}
 use Rattle.flash_disk.proofs.Programming.{placed, still, either, newest_here, newest_elsewhere}
+use Rattle.flash_disk.proofs.Standing.{HasSameRecords, records_files}
 use Rattle.flash_disk.proofs.Sparing.{LiesElsewhere, spare_of}
 
 -- the page of a record is one page
@@ -139,6 +140,17 @@ module _ (old new : Pages) (n : ℕ) (place : Place) (r : PageRecord) (adds : Ad
   pub adds_spare : (block : ℕ) → LiesElsewhere old n block → number place / 64 ≢ block → IsSpare new n block
   adds_spare block elsewhere apart = spare_of new n block (adds_elsewhere block elsewhere apart)
 
+  -- a spare block in which it does not lie is still spare
+  pub adds_is_spare : (block : ℕ) → IsSpare old n block → number place / 64 ≢ block → IsSpare new n block
+  adds_is_spare block spare apart = λ x needed at. ⊎_elim
+      (λ own. (let is : placed old new n place r adds ≡ x = same_Some (placed old new n place r adds) x (sym own.2 ∙ needed.newest_is) in
+      apart (ap (λ z. z.place / 64) is ∙ at)))
+      (λ other. spare x (record {
+        newest_is = sym other.1 ∙ needed.newest_is;
+        alone = λ j copy. needed.alone j (record { within = copy.within; apart = copy.apart; same = still old new n place r adds j x.says copy.same });
+      }) at)
+      (by_page x.says.file x.says.page)
+
 -- whether a byte lies in a page
 in_page : (page i : ℕ) → i / 256 ≡ page → in_range (256 * page) 256 i ≡ true
 in_page page i here = and_from (nat_le (256 * page) i) (nat_lt i (256 * page + 256))
@@ -198,3 +210,12 @@ module _ (old new : Pages) (blocks : ℕ) (place : Place) (r : PageRecord) (adds
         ∙ subst (λ m. file_byte new (places blocks) r.file i ≡ cond (in_range (256 * r.page) m i) (get_or r.bytes (i - 256 * r.page) 0)
         (get_or (flash_files old blocks r.file) i 0)) (sym full) (byte_is may i inside);
   }
+
+-- the record was added, or no record changed: its bytes were put into its file, or no file changed
+pub grown_put : (old left : Pages) (blocks : ℕ) (place : Place) (r : PageRecord) → HasSameRecords old left ⊎ Adds old left (places blocks) place r
+    → file_len old (places blocks) r.file ≤ r.len → MayGrow old (places blocks) r.file r.page r.len → length r.bytes ≡ 256
+    → PutOrNot r.file (256 * r.page) r.bytes r.len (flash_files old blocks) (flash_files left blocks)
+grown_put old left blocks place r grows no_shorter may full = ⊎_elim
+    (λ same. inl (records_files old left same blocks))
+    (λ adds. inr (adds_put old left blocks place r adds no_shorter may full))
+    grows
