@@ -1,5 +1,5 @@
 -- What stays where no record came and of each newest one an equal one is left: what the newest records say, and so the files.
-use Rattle.std.proofs.Common.{◌≡◌, ◌⊎◌, ℕ, ◌/◌, ◌%◌, ◌<◌, ◌≤◌, zero, suc, map, true, refl, sym, ap, subst, ◌∙◌, inl, inr, ⊎_elim, arith}
+use Rattle.std.proofs.Common.{◌≡◌, ◌⊎◌, ℕ, ◌/◌, ◌%◌, ◌<◌, ◌≤◌, zero, suc, map, get_or, true, refl, sym, ap, subst, ◌∙◌, inl, inr, ⊎_elim, arith}
 use Rattle.std.specs.Prelude.{Option, Some, None, is_none, cond}
 use Rattle.std.specs.List.{range_with_len}
 use Rattle.std.proofs.Math.Path.{fun_ext}
@@ -10,6 +10,7 @@ use Rattle.flash_disk.specs.Newest.{Placed, record_at, is_of, with_record, newes
 use Rattle.flash_disk.specs.NewestLaws.{newest_is}
 use Rattle.flash_disk.specs.FlashFiles.{record_byte, byte_in, file_byte, file_len, flash_files, IsFileLen}
 use Rattle.flash_disk.specs.FlashFilesLaws.{file_len_is, one_len}
+use Rattle.flash_disk.specs.declared.table.FilePage.{FilePage}
 use Rattle.flash_disk.specs.declared.table.Newest.{Newest}
 use Rattle.flash_disk.specs.declared.table.Table.{Table}
 use Rattle.flash_disk.specs.Known.{known, len_known}
@@ -70,7 +71,8 @@ module _ (old new : Pages) (n : ℕ) (alike : SaysAlike old new n) where
   pub said_after : (file page : ℕ) (x : Placed) → newest old file page n ≡ Some x → (y : Placed) × (newest new file page n ≡ Some y) × (y.says ≡ x.says)
   said_after file page x is = said_some (newest new file page n) x.says (alike file page ∙ ap said is)
 
-  same_file_len : (file len : ℕ) → IsFileLen old n file len → IsFileLen new n file len
+  -- a file of some length still has it
+  pub same_file_len : (file len : ℕ) → IsFileLen old n file len → IsFileLen new n file len
   same_file_len file len is = record {
     most = λ page x found. let before = said_before file page x found in
         subst (λ (q : PageRecord). q.len ≤ len) before.2 (is.most page before.0 before.1);
@@ -148,6 +150,41 @@ module _ (old new : Pages) (n : ℕ) where
     -- a file that might grow still may
     pub keeps_may_grow : (file page len : ℕ) → MayGrow old n file page len → MayGrow new n file page len
     keeps_may_grow = same_said_may_grow old new n keeps_said
+
+    -- a file of some length still has it
+    pub keeps_file_len : (file len : ℕ) → IsFileLen old n file len → IsFileLen new n file len
+    keeps_file_len = same_file_len old new n keeps_said
+
+    module _ (table : Table)
+        (there : (key : FilePage) (entry : Newest) → known table key ≡ Some entry → record_at new (number entry.place) ≡ record_at old (number entry.place)) where
+      led_over : (key : FilePage) (e : Option Newest) → known table key ≡ e → (before after : Option Placed) → said after ≡ said before → LedOf old n e before → LedOf new n e after
+      led_over key None is None None alike led = led
+      led_over key None is None (Some y) alike led = absurd (none-some y.says (sym alike))
+      led_over key None is (Some x) after alike led = absurd led
+      led_over key (Some e) is None after alike led = absurd led
+      led_over key (Some e) is (Some x) None alike led = absurd (none-some x.says alike)
+      led_over key (Some e) is (Some x) (Some y) alike led = let says : x.says ≡ y.says = same_Some x.says y.says (sym alike) in record {
+        within = led.within;
+        leads = record {
+          small = led.leads.small;
+          there = there key e is ∙ (led.leads.there ∙ ap Some says);
+          sequence = led.leads.sequence ∙ ap (λ q. q.sequence) says;
+          len = led.leads.len ∙ ap (λ q. q.len) says;
+          filled = subst (λ (q : PageRecord). (j : ℕ) → e.filled ≤ j → get_or q.bytes j 0 ≡ 0) says led.leads.filled;
+        };
+      }
+
+      -- a table whose records stand where they stood still leads to the newest records
+      pub keeps_led : IsLed old n table → IsLed new n table
+      keeps_led led = record {
+        says = λ key. led_over key (known table key) refl (newest old key.file key.page n) (newest new key.file key.page n) (keeps_said key.file key.page) (led.says key);
+        room = led.room;
+        fits = led.fits;
+      }
+
+      -- and knows how long each file is
+      pub keeps_known : Knows old n table → Knows new n table
+      keeps_known knows = record { led = keeps_led knows.led; lens = λ file. keeps_file_len file (len_known table file) (knows.lens file) }
 
     -- what is kept after this is kept
     pub keeps_then : (after : Pages) → Keeps new after n → Keeps old after n

@@ -44,11 +44,16 @@ pub record IsTorn (old left : Pages) (i : ℕ) (r : Option PageRecord) : Type 0 
   pub here : (record_at left i ≡ None) ⊎ (record_at left i ≡ r)
 
 module _ (old : Pages) (block page : ℕ) where
-  torn_elsewhere : (left : Pages) → TornPage block page old left → (j : ℕ) → j ≢ 64 * block + page → record_at left j ≡ record_at old j
+  -- every other place has the record that it had
+  pub torn_elsewhere : (left : Pages) → TornPage block page old left → (j : ℕ) → j ≢ 64 * block + page → record_at left j ≡ record_at old j
   torn_elsewhere left torn j apart = ap record_in (torn (j / 64) (j % 64) (⊎_elim
       (λ here. inr (λ there. apart (let e : j ≡ 64 * block + page = omega (arith, here, there) in e)))
       (λ other. inl other)
       (cases_eq (j / 64) block)))
+
+  -- a page in which anything was left
+  pub torn_page : (left : Pages) → TornPage block page old left → IsTorn old left (64 * block + page) (record_at left (64 * block + page))
+  torn_page left torn = record { elsewhere = torn_elsewhere left torn; here = inr refl }
 
   module _ (bytes : List ℕ) where
     whole_page : program_page old block page bytes block page ≡ bytes
@@ -135,6 +140,17 @@ module _ (old left : Pages) (n : ℕ) (place : Place) (r : PageRecord) (small : 
       (λ none. inl (torn_same old left (number place) (Some r) nothing torn none))
       (λ here. inr (record { small = small; within = within; nothing = nothing; here = here; elsewhere = torn.elsewhere; newer = newer }))
       torn.here
+
+  -- a record that is there was added
+  pub torn_adds_there : IsTorn old left (number place) (Some r) → (q : PageRecord) → record_at left (number place) ≡ Some q → Adds old left n place q
+  torn_adds_there torn q there = record {
+    small = small;
+    within = within;
+    nothing = nothing;
+    here = there;
+    elsewhere = torn.elsewhere;
+    newer = λ j p inside was. subst (λ (z : PageRecord). p.sequence < z.sequence) (sym (torn_is old left (number place) r q torn there)) (newer j p inside was);
+  }
 
 module _ (old : Pages) (n : ℕ) (place : Place) (bytes : List ℕ) (r : PageRecord) (small : place.page < 64) (within : number place < n)
     (blank : old place.block place.page ≡ blank_page) (is : record_in bytes ≡ Some r)
