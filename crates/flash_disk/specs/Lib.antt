@@ -8,3 +8,4 @@ pub mod Standing
 pub mod PutPart
 pub mod Does
 pub mod FlashDiskMedium
+pub mod FlashDiskLaws
