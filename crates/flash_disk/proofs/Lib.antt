@@ -5,3 +5,6 @@ mod Lightest
 mod Leading
 mod Reading
 mod Programming
+pub mod Parts
+pub mod Stretches
+pub mod DiskCases
