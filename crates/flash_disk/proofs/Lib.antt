@@ -8,6 +8,7 @@ mod Programming
 pub mod Standing
 pub mod Sparing
 pub mod Growing
+pub mod Tearing
 pub mod Parts
 pub mod Stretches
 pub mod Entering
