@@ -9,3 +9,6 @@ pub mod Standing
 pub mod Sparing
 pub mod Growing
 pub mod Tearing
+pub mod Parts
+pub mod Stretches
+pub mod DiskCases

@@ -1,6 +1,6 @@
 -- What is said of a disk over a flash: its files are those that the newest records stand for, and what a crash of the flash leaves is
 -- what a crash of the disk leaves, where no page passes its hash by chance.
-use Rattle.std.specs.Prelude.{◌≡◌, ℕ, ◌+◌, Bool, IsTrue, List, [], ◌∷◌}
+use Rattle.std.specs.Prelude.{◌≡◌, ℕ, ◌+◌, Bool, IsTrue, List, [], ◌∷◌, if◌then◌else◌}
 use Rattle.disk_model.specs.Image.{Image, put_image}
 use Rattle.disk_model.specs.Case.{Case}
 use Rattle.disk_model.specs.Medium.{Medium}
@@ -30,12 +30,17 @@ still_case s = record { before = s.pages; whole = s.pages; left = s.pages; settl
 abbrev pub IsCaseOf : ℕ → FlashCase → Case → Type 0
 IsCaseOf blocks f c = IsPlain f.before f.whole f.left × (c ≡ disk_case blocks f)
 
--- a disk over this flash, with this count of its own faults and of the bytes that were written
+-- what reads give; an untold flash says nothing of its pages, not even that a read leaves them alone
+abbrev pub files_told : (told : Bool) → FlashMedium → Image
+files_told told m = if told then flash_files m.state.pages m.blocks else (λ f. [])
+
+-- A disk over this flash, with this count of its own faults and of the bytes that were written. An untold one has no clock: that a moment
+-- counts among those since an earlier one is known of a told flash alone.
 abbrev pub flash_disk_medium : (told : Bool) → FlashMedium → (own written : ℕ) → Medium
 flash_disk_medium told m own written = record {
-  image = flash_files m.state.pages m.blocks;
+  image = files_told told m;
   now = λ c. IsTrue told × (c ≡ disk_case m.blocks (still_case m.state));
-  moment = m.moment;
+  moment = if told then m.moment else 0;
   since = λ t c. IsTrue told × ((f : FlashCase) × m.since t f × IsCaseOf m.blocks f c);
   faults = m.faults + own;
   written = written;

@@ -1,0 +1,273 @@
+-- What a disk over a flash says of crashes, from what the flash says of them.
+use Rattle.std.proofs.Common.{◌≡◌, ◌⊎◌, ℕ, ◌+◌, ◌≤◌, Bool, true, false, cond, List, [], ◌∷◌, ◌++◌, length, sym, refl, ap, ◌∙◌, subst, inl, inr, ⊎_elim, true≢false, le_refl}
+use Rattle.std.specs.Prelude.{IsTrue}
+use Rattle.std.proofs.Math.Path.{fun_ext}
+use Rattle.std.proofs.lemmas.Bool.{cases_eq}
+use Rattle.disk_model.specs.Image.{Image, put_image, TornImage}
+use Rattle.disk_model.specs.Case.{Case, WriteCase, WriteOrNot, Follows}
+use Rattle.disk_model.specs.Medium.{Medium, IsLawful, Elapses, OnlyReads, WritesNothing, Quiet}
+use Rattle.disk_model.specs.Written.{put_none, put_image_here, put_image_elsewhere}
+use Rattle.flash_model.specs.Pages.{Pages}
+use Rattle.flash_model.specs.State.{Announced, FlashState, FlashCase, IsStill, announce_write, settle_pages}
+use Rattle.flash_model.specs.FlashMedium.{FlashMedium, IsLawfulFlash, FlashElapses, EachFlashCase}
+use Rattle.flash_disk.specs.FlashFiles.{flash_files}
+use Rattle.flash_disk.specs.Does.{Does}
+use Rattle.flash_disk.specs.FlashDiskMedium.{put_announced, disk_case, still_case, IsCaseOf, files_told, flash_disk_medium}
+use Rattle.flash_disk.proofs.Parts.{torn_refl}
+
+untold : {X : Type 0} → IsTrue false → X
+untold t = absurd (true≢false (sym t))
+
+-- what a told disk has
+told_moment : (told : Bool) (n : ℕ) → IsTrue told → cond told n 0 ≡ n
+told_moment true n t = refl
+told_moment false n t = untold t
+
+-- what reads of a told disk give
+pub told_files : (told : Bool) (m : FlashMedium) → IsTrue told → files_told told m ≡ flash_files m.state.pages m.blocks
+told_files true m t = refl
+told_files false m t = untold t
+
+-- the same pages, the same files
+same_files : (told : Bool) (m m' : FlashMedium) → (IsTrue told → m'.state.pages ≡ m.state.pages) → (IsTrue told → m'.blocks ≡ m.blocks) → files_told told m' ≡ files_told told m
+same_files true m m' pages blocks = λ i. flash_files (pages refl i) (blocks refl i)
+same_files false m m' pages blocks = refl
+
+-- ---- a crash between two calls
+
+still_is : (s : FlashState) → IsStill s (still_case s)
+still_is s = record { before = refl; whole = refl; left = refl; settled = refl; announced = refl }
+
+same_case : (s : FlashState) (blocks blocks' : ℕ) (f : FlashCase) → blocks' ≡ blocks → IsStill s f → disk_case blocks' f ≡ disk_case blocks (still_case s)
+same_case s blocks blocks' f same is = λ i. record {
+  base = flash_files (is.settled i) (same i);
+  full = put_announced (flash_files (is.settled i) (same i)) (is.announced i);
+  left = flash_files (is.left i) (same i);
+}
+
+module _ (told : Bool) (m : FlashMedium) (own written : ℕ) where
+  abbrev disk : Medium
+  disk = flash_disk_medium told m own written
+
+  pub disk_is_lawful : IsLawfulFlash told m → IsLawful told disk
+  disk_is_lawful lawful = record {
+    counts_now = λ t c le now. (
+      now.0,
+      (
+        still_case m.state,
+        lawful.counts_now now.0 t (still_case m.state) (subst (λ k. t ≤ k) (told_moment told m.moment now.0) le) (still_is m.state),
+        (λ b p generation body verifies. inl refl, now.1),
+      ),
+    );
+    only_now = λ c past.
+        let f = past.1.0 in
+        let since : m.since m.moment f = subst (λ k. m.since k f) (told_moment told m.moment past.0) past.1.1 in
+        (past.0, past.1.2.1 ∙ same_case m.state m.blocks m.blocks f refl (lawful.only_now f since));
+    reads_one = λ t. (disk_case m.blocks (still_case m.state), (t, refl), sym (told_files told m t));
+  }
+
+module _ (told : Bool) (m m' : FlashMedium) (own own' written written' : ℕ) where
+  abbrev start : Medium
+  start = flash_disk_medium told m own written
+
+  abbrev end : Medium
+  end = flash_disk_medium told m' own' written'
+
+  -- the flash's cases since its moment
+  abbrev Since : (FlashCase → Type 0) → Type 0
+  Since P = IsTrue told → EachFlashCase P m m'
+
+  case_since : (c : Case) → end.since start.moment c → (f : FlashCase) × m'.since m.moment f × IsCaseOf m'.blocks f c
+  case_since c past = (past.1.0, subst (λ k. m'.since k past.1.0) (told_moment told m.moment past.0) past.1.1, past.1.2)
+
+  pub disk_elapses : (IsTrue told → FlashElapses m m') → m.faults + own ≤ m'.faults + own' → written ≤ written' → Elapses start end
+  disk_elapses time faults more = record {
+    later = later told time;
+    nothing_else = λ t c le past.
+        let on = time past.0 in
+        ⊎_elim
+        (λ before. inl (past.0, (past.1.0, before, (past.1.2.0, subst (λ n. c ≡ disk_case n past.1.0) on.blocks past.1.2.1))))
+        (λ since. inr (past.0, (past.1.0, subst (λ k. m'.since k past.1.0) (sym (told_moment told m.moment past.0)) since, past.1.2)))
+        (on.nothing_else t past.1.0 (le_of t past.0 le) past.1.1);
+    keeps = λ t c le past.
+        let on = time past.0 in
+        (past.0, (past.1.0, on.keeps t past.1.0 (le_of t past.0 le) past.1.1, (past.1.2.0, subst (λ n. c ≡ disk_case n past.1.0) (sym on.blocks) past.1.2.1)));
+    adds = λ t c le past.
+        let on = time past.0 in
+        let f = case_since c past in
+        (past.0, (f.0, on.adds t f.0 (le_of t past.0 le) f.1, f.2));
+    faults = faults;
+    written = more;
+  }
+    where
+      later : (b : Bool) → (IsTrue b → FlashElapses m m') → cond b m.moment 0 ≤ cond b m'.moment 0
+      later true on = (on refl).later
+      later false on = le_refl 0
+
+      le_of : (t : ℕ) → IsTrue told → t ≤ start.moment → t ≤ m.moment
+      le_of t tells le = subst (λ k. t ≤ k) (told_moment told m.moment tells) le
+
+  -- calls that only look
+  pub disk_reads : (IsTrue told → m'.state ≡ m.state) → (IsTrue told → m'.blocks ≡ m.blocks) → Since (IsStill m.state) → written' ≡ written → OnlyReads start end
+  disk_reads state blocks still wrote = record {
+    image = same_files told m m' (λ t. ap (λ s. s.pages) (state t)) blocks;
+    now = λ c now. (now.0, now.1 ∙ λ i. disk_case (blocks now.0 i) (still_case (state now.0 i)));
+    during = λ c past.
+        let f = case_since c past in
+        (past.0, f.2.1 ∙ same_case m.state m.blocks m'.blocks f.0 (blocks past.0) (still past.0 f.0 f.1));
+    written = wrote;
+  }
+
+  -- a call that failed leaves the state, so it only looked
+  pub failed_looks : (IsTrue told → m'.state ≡ m.state) → Since (λ c. IsStill m.state c ⊎ IsStill m'.state c) → Since (IsStill m.state)
+  failed_looks state cases t f since = ⊎_elim (λ is. is) (λ is. subst (λ s. IsStill s f) (state t) is) (cases t f since)
+
+  -- a settle that failed
+  pub disk_sync_failed : (IsTrue told → m'.state ≡ m.state) → (IsTrue told → m'.blocks ≡ m.blocks) → Since (λ c. IsStill m.state c ⊎ IsStill m'.state c)
+      → written' ≡ written → OnlyReads start end
+  disk_sync_failed state blocks cases wrote = disk_reads state blocks (failed_looks state cases) wrote
+
+  -- a settle: nothing is pending, and no byte changed
+  pub disk_sync : (IsTrue told → m'.state ≡ settle_pages m.state) → (IsTrue told → m'.blocks ≡ m.blocks)
+      → Since (λ c. IsStill m.state c ⊎ IsStill m'.state c) → written' ≡ written → Quiet end × WritesNothing start end
+  disk_sync state blocks cases wrote = (
+    (λ c now.
+        let t = now.0 in
+        let same : flash_files m'.state.settled m'.blocks ≡ flash_files m'.state.pages m'.blocks = λ i. flash_files ((ap (λ s. s.settled) (state t) ∙ sym (ap (λ s. s.pages) (state t))) i) m'.blocks in
+        let image = told_files told m' t in
+        let base = same ∙ sym image in
+        record {
+          base = ap (λ d. d.base) now.1 ∙ base;
+          full = ap (λ d. d.full) now.1 ∙ ((λ i. put_announced (flash_files m'.state.settled m'.blocks) ((state t i).announced)) ∙ base);
+          left = ap (λ d. d.left) now.1 ∙ sym image;
+        }),
+    record {
+      image = same_files told m m' (λ t. ap (λ s. s.pages) (state t)) blocks;
+      during = λ c past.
+          let f = case_since c past in
+          ⊎_elim
+          (λ is. inl (past.0, f.2.1 ∙ same_case m.state m.blocks m'.blocks f.0 (blocks past.0) is))
+          (λ is. inr (past.0, f.2.1 ∙ same_case m'.state m'.blocks m'.blocks f.0 refl is))
+          (cases past.0 f.0 f.1);
+      written = wrote;
+    },
+  )
+
+-- no call at all
+pub disk_rests : (told : Bool) (m : FlashMedium) (own own' written : ℕ) → IsLawfulFlash told m
+    → OnlyReads (flash_disk_medium told m own written) (flash_disk_medium told m own' written)
+disk_rests told m own own' written lawful =
+    disk_reads told m m own own' written written (λ t. refl) (λ t. refl) (λ t f since. lawful.only_now f since) refl
+
+-- reads write nothing
+pub reads_write_nothing : (old new : Medium) → OnlyReads old new → WritesNothing old new
+reads_write_nothing old new reads = record { image = reads.image; during = λ c past. inl (reads.during c past); written = reads.written }
+
+-- ---- writes
+
+-- a write that failed before it was announced, or as it was
+pub disk_write_refused : (old new : Medium) (file at : ℕ) (bytes : List ℕ) → OnlyReads old new
+    → TornImage file at (length bytes) old.image new.image × Follows (WriteOrNot file at bytes) old.now (new.since old.moment)
+disk_write_refused old new file at bytes reads = (
+  subst (TornImage file at (length bytes) old.image) (sym reads.image) (torn_refl file at (length bytes) old.image),
+  λ c past. (c, reads.during c past, inr refl),
+)
+
+-- a write of no bytes
+pub put_nothing : (image : Image) (file at : ℕ) (bytes : List ℕ) → length bytes ≡ 0 → put_image image file at bytes ≡ image
+put_nothing image file at bytes none = fun_ext λ f. ⊎_elim
+    (λ e. subst (λ q. put_image image file at bytes q ≡ image q) (sym e) (put_image_here image file at bytes ∙ put_none (image file) at bytes none))
+    (λ other. put_image_elsewhere image file at bytes f other)
+    (cases_eq f file)
+
+pub disk_write_nothing : (old new : Medium) (file at : ℕ) (bytes : List ℕ) → length bytes ≡ 0 → OnlyReads old new
+    → (new.image ≡ put_image old.image file at bytes) × Follows (WriteCase file at bytes) old.now new.now
+    × Follows (WriteOrNot file at bytes) old.now (new.since old.moment)
+disk_write_nothing old new file at bytes none reads = (
+  reads.image ∙ sym (put_nothing old.image file at bytes none),
+  (λ c now. (c, reads.now c now, record { base = refl; full = sym (put_nothing c.full file at bytes none); left = torn_refl file at (length bytes) c.left })),
+  (disk_write_refused old new file at bytes reads).1,
+)
+
+put_after : (image : Image) (ws : List Announced) (w : Announced) → put_announced image (ws ++ w ∷ []) ≡ put_image (put_announced image ws) w.file w.at w.bytes
+put_after image [] w = refl
+put_after image (v ∷ ws) w = put_after (put_image image v.file v.at v.bytes) ws w
+
+-- A write: m0 before it, m1 after it was announced, m2 after what serves it, or after as much of that as was done.
+module _ (told : Bool) (m0 m1 m2 : FlashMedium) (own own' written written' file at : ℕ) (bytes : List ℕ) where
+  abbrev before : Medium
+  before = flash_disk_medium told m0 own written
+
+  abbrev after : Medium
+  after = flash_disk_medium told m2 own' written'
+
+  -- pages that stand for the files as they were, but for the range of the write
+  abbrev pub TearsFiles : Pages → Type 0
+  TearsFiles pages = TornImage file at (length bytes) (flash_files m0.state.pages m0.blocks) (flash_files pages m0.blocks)
+
+  write_case : (f : FlashCase) → f.settled ≡ m0.state.settled → f.announced ≡ m0.state.announced ++ (record { file = file; at = at; bytes = bytes }) ∷ []
+      → TearsFiles f.left → WriteCase file at bytes (disk_case m0.blocks (still_case m0.state)) (disk_case m0.blocks f)
+  write_case f settled announced torn = record {
+    base = λ i. flash_files (settled i) m0.blocks;
+    full = (λ i. put_announced (flash_files (settled i) m0.blocks) (announced i))
+        ∙ put_after (flash_files m0.state.settled m0.blocks) m0.state.announced (record { file = file; at = at; bytes = bytes });
+    left = torn;
+  }
+
+  module _ (state : IsTrue told → m1.state ≡ announce_write m0.state file at bytes) (serves : IsTrue told → Does TearsFiles m1 m2) where
+    -- what a crash leaves at any moment of it
+    pub disk_write_during : (IsTrue told → EachFlashCase (λ c. IsStill m0.state c ⊎ IsStill m1.state c) m0 m1)
+        → (IsTrue told → FlashElapses m0 m1) → (IsTrue told → FlashElapses m1 m2)
+        → Follows (WriteOrNot file at bytes) before.now (after.since before.moment)
+    disk_write_during cases early late c past =
+        let t = past.0 in
+        let f = past.1.0 in
+        let since : m2.since m0.moment f = subst (λ k. m2.since k f) (told_moment told m0.moment t) past.1.1 in
+        let blocks : m2.blocks ≡ m0.blocks = (late t).blocks ∙ (early t).blocks in
+        let is : c ≡ disk_case m0.blocks f = past.1.2.1 ∙ ap (λ n. disk_case n f) blocks in
+        let written : WriteCase file at bytes (disk_case m0.blocks (still_case m0.state)) (disk_case m0.blocks f)
+        → WriteOrNot file at bytes (disk_case m0.blocks (still_case m0.state)) c = λ w. inl (subst (WriteCase file at bytes (disk_case m0.blocks (still_case m0.state))) (sym is) w) in (
+          disk_case m0.blocks (still_case m0.state),
+          (t, refl),
+          ⊎_elim
+              (λ first. ⊎_elim
+              (λ still. inr (is ∙ same_case m0.state m0.blocks m0.blocks f refl still))
+              (λ still. written (write_case f
+              (still.settled ∙ ap (λ s. s.settled) (state t))
+              (still.announced ∙ ap (λ s. s.announced) (state t))
+              (subst TearsFiles (sym (still.left ∙ ap (λ s. s.pages) (state t))) (torn_refl file at (length bytes) (flash_files m0.state.pages m0.blocks)))))
+              (cases t f first))
+              (λ then.
+              let leaves = (serves t).during f then in
+              written (write_case f
+              (leaves.settled ∙ ap (λ s. s.settled) (state t))
+              (leaves.announced ∙ ap (λ s. s.announced) (state t))
+              (leaves.left past.1.2.0)))
+              ((late t).nothing_else m0.moment f (early t).later since),
+        )
+
+    -- what reads give after it, where it failed
+    pub disk_write_torn : (IsTrue told → m2.blocks ≡ m0.blocks) → IsTrue told → TornImage file at (length bytes) before.image after.image
+    disk_write_torn blocks t =
+        subst (λ image. TornImage file at (length bytes) image after.image) (sym (told_files told m0 t))
+        (subst (TornImage file at (length bytes) (flash_files m0.state.pages m0.blocks)) (sym (told_files told m2 t ∙ ap (flash_files m2.state.pages) (blocks t)))
+        (serves t).now)
+
+    module _ (blocks : IsTrue told → m2.blocks ≡ m0.blocks)
+        (whole : IsTrue told → flash_files m2.state.pages m2.blocks ≡ put_image (flash_files m0.state.pages m0.blocks) file at bytes) where
+      -- what reads give after it, where it was done
+      pub disk_write_image : IsTrue told → after.image ≡ put_image before.image file at bytes
+      disk_write_image t = told_files told m2 t ∙ (whole t ∙ ap (λ image. put_image image file at bytes) (sym (told_files told m0 t)))
+
+      -- what a crash leaves after it, where it was done
+      pub disk_write_now : Follows (WriteCase file at bytes) before.now after.now
+      disk_write_now c now =
+          let t = now.0 in
+          let is : c ≡ disk_case m0.blocks (still_case m2.state) = now.1 ∙ ap (λ n. disk_case n (still_case m2.state)) (blocks t) in (
+            disk_case m0.blocks (still_case m0.state),
+            (t, refl),
+            subst (WriteCase file at bytes (disk_case m0.blocks (still_case m0.state))) (sym is) (write_case (still_case m2.state)
+                ((serves t).settled ∙ ap (λ s. s.settled) (state t))
+                ((serves t).announced ∙ ap (λ s. s.announced) (state t))
+                (serves t).now),
+          )
