@@ -1,5 +1,5 @@
 -- What a table says of the newest records.
-use Rattle.std.specs.Prelude.{◌≡◌, ◌⊎◌, ℕ, ◌+◌, ◌≤◌, ◌&&◌, ◌==◌, Bool, List, Option, Some, None, max, nat_eq, is_some, unwrap_or, slice_index, IsSome, if◌then◌else◌}
+use Rattle.std.specs.Prelude.{◌≡◌, ◌⊎◌, ℕ, ◌+◌, ◌*◌, ◌<◌, ◌≤◌, ◌&&◌, ◌==◌, Bool, List, Option, Some, None, max, nat_eq, is_some, unwrap_or, slice_index, IsSome, if◌then◌else◌}
 use Rattle.std.specs.HashMap.{HashMap, get, hash_map_len, spare}
 use Rattle.std.specs.Map.{update_all}
 use Rattle.flash_record.specs.PageRecord.{PageRecord}
@@ -85,3 +85,8 @@ pub record IsEmptyTable (table : Table) : Type 0 where
   pub room : HasRoom table
   pub lens : (file : ℕ) → len_known table file ≡ 0
   pub len_room : table.limit ≤ spare table.lens
+
+-- the bytes of a record that an entry says, other than zeros, end within its file or by this byte
+abbrev pub EndsBy : {S : Type 0} → HashMap ℕ ℕ S → FilePage → Newest → ℕ → Type 0
+EndsBy lens key entry end = key.page < 4294967296 → 0 < entry.filled
+    → (256 * key.page + entry.filled ≤ len_in lens key.file) ⊎ (256 * key.page + entry.filled ≤ end)

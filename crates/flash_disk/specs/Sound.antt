@@ -24,6 +24,10 @@ files_of m = flash_files m.state.pages m.blocks
 abbrev pub LeavesOut : Table → ℕ → Type 0
 LeavesOut table block = (key : FilePage) (entry : Newest) → known table key ≡ Some entry → entry.place.block ≢ block
 
+-- the same block is being filled, up to the same page
+abbrev pub SameFill : LayerState → LayerState → Type 0
+SameFill old new = (new.fill ≡ old.fill) × (new.unsure ≡ old.unsure)
+
 -- the block that is being filled is blank from the next page on, and is not the spare one
 pub record IsFresh (pages : Pages) (blocks : ℕ) (s : LayerState) : Type 0 where
   pub agreed : IsFalse s.disputed

@@ -4,9 +4,9 @@ ghost use Rattle.std.specs.Prelude.{◌≡◌, ◌+◌, ◌*◌, ◌≤◌, ◌<
 ghost use Rattle.flash_model.specs.State.{IsStill};
 ghost use Rattle.flash_model.specs.FlashMedium.{FlashElapses, EachFlashCase};
 ghost use Rattle.flash_model.specs.Pages.{Pages};
-ghost use Rattle.flash_record.specs.PageRecord.{record_in};
+ghost use Rattle.flash_record.specs.PageRecord.{PageRecord, record_in};
 ghost use Rattle.flash_record.specs.Stated.{stated};
-ghost use Rattle.flash_disk.specs.Known.{known};
+ghost use Rattle.flash_disk.specs.Known.{known, page_of};
 ghost use Rattle.flash_disk.specs.Does.{Does};
 ghost use Rattle.flash_disk.specs.PutPart.{PutPart};
 ghost use Rattle.flash_disk.specs.Standing.{StandsFor};
@@ -247,7 +247,9 @@ impl<F: Flash> Layer<F> {
 
     // The page of a file that a page of the flash is a record of, and the newest record of it.
     pub(crate) fn newest_in(&self, page: &[u8]) -> Option<(FilePage, Newest)>
-        ensures { IfSome result (λ found. known self.now.state.table found.0 ≡ Some found.1) }
+        ensures known { IfSome result (λ found. known self.now.state.table found.0 ≡ Some found.1) }
+        ensures found { (r : PageRecord) (newest : Newest) → record_in page.now ≡ Some r → known self.now.state.table (page_of r) ≡ Some newest
+            → result ≡ Some (page_of r, newest) }
     {
         let record = read_record(page)?;
         let key = FilePage {

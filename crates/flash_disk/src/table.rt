@@ -1,8 +1,8 @@
 //! Where the newest record of each page of a file lies, and how long each file is.
 
-ghost use Rattle.std.specs.Prelude.{◌≡◌, ◌≢◌, ◌⊎◌, ◌↔◌, ◌≤◌, ◌<◌, ◌+◌, ◌-◌, ◌*◌, ◌==◌, ℕ, IfOk, IsSome, IsTrue, IsFalse, None, All, max, if◌then◌else◌};
+ghost use Rattle.std.specs.Prelude.{◌≡◌, ◌≢◌, ◌⊎◌, ◌↔◌, ◌≤◌, ◌<◌, ◌+◌, ◌-◌, ◌*◌, ◌==◌, ℕ, IfOk, IsSome, IsTrue, IsFalse, Some, None, All, max, if◌then◌else◌};
 ghost use Rattle.std.specs.HashMap.{hash_map_len, spare};
-ghost use Rattle.flash_disk.specs.Known.{len_in, HasLenIn, IsLongest};
+ghost use Rattle.flash_disk.specs.Known.{len_in, HasLenIn, IsLongest, EndsBy};
 
 use std::alloc::{AllocError, Global};
 use std::collections::HashMap;
@@ -193,6 +193,7 @@ impl Table {
     pub fn measure(&mut self)
         ensures lens { page_len self.old ≤ spare self.old.lens → ((file : ℕ) → len_known self.old file ≡ 0)
             → (file : ℕ) → IsLongest self.old.newest file (len_known self.new file) }
+        ensures spare { spare self.old.lens ≤ spare self.new.lens + page_len self.old }
         ensures records { self.new.newest ≡ self.old.newest }
         ensures limit { limit_of self.new ≡ limit_of self.old }
     {
@@ -207,7 +208,9 @@ impl Table {
     }
 
     /// Where the last byte other than zero ends that lies past the end of its file; 0 where there is none.
-    pub fn stray_end(&self) -> u64 {
+    pub fn stray_end(&self) -> u64
+        ensures { (key : FilePage) (entry : Newest) → known self.now key ≡ Some entry → EndsBy self.now.lens key entry result }
+    {
         let mut stray = 0;
         for (key, newest) in self.newest.iter() {
             let end = end_of_bytes(*key, *newest);
@@ -241,8 +244,9 @@ impl Table {
 
 // Takes the lengths of the files from the newest records.
 fn raise_all(lens: &mut HashMap<u32, u64>, newest: &HashMap<FilePage, Newest>)
-    ensures { hash_map_len newest.now ≤ spare lens.old → ((file : ℕ) → len_in lens.old file ≡ 0)
+    ensures longest { hash_map_len newest.now ≤ spare lens.old → ((file : ℕ) → len_in lens.old file ≡ 0)
         → (file : ℕ) → IsLongest newest.now file (len_in lens.new file) }
+    ensures spare { spare lens.old ≤ spare lens.new + hash_map_len newest.now }
 {
     for (key, entry) in newest.iter() {
         raise(lens, key.file, entry.len);
@@ -279,7 +283,9 @@ fn raise_known(lens: &mut HashMap<u32, u64>, file: u32, len: u64)
 }
 
 /// Where the last byte other than zero of a record ends in its file.
-pub fn end_of_bytes(key: FilePage, newest: Newest) -> u64 {
+pub fn end_of_bytes(key: FilePage, newest: Newest) -> u64
+    ensures { key.page < 4294967296 → 0 < newest.filled → result ≡ 256 * key.page + newest.filled }
+{
     if newest.filled == 0 {
         return 0;
     }
