@@ -4,8 +4,9 @@ use Rattle.std.specs.Prelude.{Option, Some, None, IsTrue, IsFalse, IsSome, nat_e
 use Rattle.std.specs.HashMap.{get, hash_map_len, spare}
 use Rattle.std.proofs.lemmas.Bool.{cases_eq, cases_Bool, eqb-true, ne_eqb}
 use Rattle.std.proofs.lemmas.Option.{same_Some, none-some}
-use Rattle.flash_model.specs.Pages.{Pages, blank_page}
-use Rattle.flash_record.specs.PageRecord.{PageRecord}
+use Rattle.flash_model.specs.Pages.{Pages, TornPage, blank_page}
+use Rattle.flash_model.specs.FlashMedium.{FlashMedium}
+use Rattle.flash_record.specs.PageRecord.{PageRecord, record_in}
 use Rattle.flash_disk.specs.declared.table.FilePage.{FilePage}
 use Rattle.flash_disk.specs.declared.table.Place.{Place}
 use Rattle.flash_disk.specs.declared.table.Newest.{Newest}
@@ -16,11 +17,13 @@ use Rattle.flash_disk.specs.Known.{same_page, page_of, known, page_len, limit_of
 use Rattle.flash_disk.specs.Learnt.{number, Led, LedOf, IsLed, Knows, Adds, HasPlace, Tops}
 use Rattle.flash_disk.specs.FlashFiles.{file_len, IsFileLen}
 use Rattle.flash_disk.specs.FlashFilesLaws.{file_len_is, one_len}
-use Rattle.flash_disk.specs.Sound.{Sound, IsFresh, Enters, Fits}
+use Rattle.flash_disk.specs.Sound.{Sound, IsSound, IsFresh, Enters, Fits, Pends, PendsAt, Holds}
+use Rattle.flash_disk.proofs.Standing.{HasSameRecords, records_known, records_tops, records_alike, records_spare, records_agreed, same_said_strayless}
+use Rattle.flash_disk.proofs.Tearing.{torn_same, torn_page}
 use Rattle.flash_disk.proofs.Sparing.{LiesElsewhere}
 use Rattle.flash_disk.proofs.Growing.{adds_agreed, adds_len, adds_other_len, adds_strayless, adds_spare}
 use Rattle.flash_disk.proofs.Programming.{IsItsEntry, added, same_led, either}
-use Rattle.flash_disk.proofs.Learning.{same_page_is}
+use Rattle.flash_disk.proofs.Learning.{same_page_is, record_at_place}
 
 -- an entry that leads to the newest record of a page
 by_entry : (pages : Pages) (n : ℕ) (o : Option Newest) (best : Option Placed) (x : Placed) → best ≡ Some x → LedOf pages n o best
@@ -54,6 +57,111 @@ lies_elsewhere pages blocks s sound agreed = λ file page x is.
       (λ same. apart (let e : led.0.place.block ≡ s.spare = omega (arith, same, small) in e)),
       led.2.leads.there,
     )
+
+-- what is kept does not speak of the page in doubt, nor of what was moved
+pub as_said : (pages : Pages) (blocks : ℕ) (s t : LayerState) → Sound pages blocks s → Sound pages blocks (record s { unsure = t.unsure; moved = t.moved })
+as_said pages blocks s t sound = record {
+  knows = sound.knows;
+  tops = sound.tops;
+  strays = sound.strays;
+  limit = sound.limit;
+  files = sound.files;
+  measured = sound.measured;
+  within = sound.within;
+  is_spare = sound.is_spare;
+  agreed = sound.agreed;
+  apart = sound.apart;
+  fresh = λ room. let fresh = sound.fresh room in record { agreed = fresh.agreed; within = fresh.within; apart = fresh.apart; blank = fresh.blank };
+}
+
+-- pages with the same records, and blank where blank ones are to be filled
+pub same_sound : (old new : Pages) (blocks : ℕ) (s : LayerState) → Sound old blocks s → HasSameRecords old new
+    → ((p : ℕ) → s.fill ≤ p → p < 64 → new s.current p ≡ old s.current p) → Sound new blocks s
+same_sound old new blocks s sound same blank = record {
+  knows = records_known old new same (places blocks) s.table sound.knows;
+  tops = records_tops old new same (places blocks) s.sequence sound.tops;
+  strays = same_said_strayless old new (places blocks) (records_alike old new same (places blocks)) s.stray_end sound.strays;
+  limit = sound.limit;
+  files = sound.files;
+  measured = sound.measured;
+  within = sound.within;
+  is_spare = records_spare old new same (places blocks) s.spare sound.is_spare;
+  agreed = λ agreed. records_agreed old new same (places blocks) (sound.agreed agreed);
+  apart = sound.apart;
+  fresh = λ room. let fresh = sound.fresh room in record {
+    agreed = fresh.agreed;
+    within = fresh.within;
+    apart = fresh.apart;
+    blank = λ p past small. blank p past small ∙ fresh.blank p past small;
+  };
+}
+
+-- a torn page in front of the blank ones leaves them so
+pub still_blank : (old new : Pages) (block page current fill : ℕ) → TornPage block page old new → (block ≡ current → page < fill)
+    → (p : ℕ) → fill ≤ p → p < 64 → new current p ≡ old current p
+still_blank old new block page current fill torn behind p past small = torn current p (⊎_elim
+    (λ here. inr (λ same. let before = behind (sym here) in omega (arith, before, same, past)))
+    (λ other. inl other)
+    (cases_eq current block))
+
+-- what fits the pages is what was kept
+pub sound_holds : (m : FlashMedium) (s : LayerState) → IsSound m s → s.unsure ≡ None → Holds m s
+sound_holds m s sound sure = record {
+  sure = m.state.pages;
+  sound = sound;
+  pends = subst (PendsAt m.state.pages m.state.pages m.blocks s) (sym sure) refl;
+}
+
+-- nothing that is kept is in doubt
+pub holds_sound : (m : FlashMedium) (s : LayerState) → Holds m s → s.unsure ≡ None → IsSound m s
+holds_sound m s holds sure =
+    let same : m.state.pages ≡ holds.sure = subst (PendsAt holds.sure m.state.pages m.blocks s) sure holds.pends in
+    subst (λ p. Sound p m.blocks s) (sym same) holds.sound
+
+-- a page in doubt was read
+module _ (m now : FlashMedium) (s t : LayerState) (place : Place) (holds : Holds m s) (is : s.unsure ≡ Some place)
+    (pages : now.state.pages ≡ m.state.pages) (blocks : now.blocks ≡ m.blocks) (state : t ≡ s) (page : List ℕ)
+    (read : place.block < m.blocks → place.page < 64 → page ≡ m.state.pages place.block place.page) where
+  abbrev pub pends : Pends holds.sure m.state.pages m.blocks s place
+  pends = subst (PendsAt holds.sure m.state.pages m.blocks s) is holds.pends
+
+  abbrev sure_state : LayerState
+  sure_state = record t { unsure = None }
+
+  was_sound : Sound holds.sure m.blocks sure_state
+  was_sound = subst (λ (q : LayerState). Sound holds.sure m.blocks (record q { unsure = None })) (sym state)
+      (as_said holds.sure m.blocks s (record s { unsure = None }) holds.sound)
+
+  at_place : record_at m.state.pages (number place) ≡ record_in page
+  at_place = record_at_place m.state.pages place.block place.page pends.small ∙ ap record_in (sym (read pends.within pends.small))
+
+  over_now : (P : Pages → ℕ → Type 0) → P m.state.pages m.blocks → P now.state.pages now.blocks
+  over_now P holds_there = subst (λ b. P now.state.pages b) (sym blocks) (subst (λ p. P p m.blocks) (sym pages) holds_there)
+
+  -- no record lies in it
+  pub nothing_there : record_in page ≡ None → Sound now.state.pages now.blocks sure_state
+  nothing_there none = over_now (λ p b. Sound p b sure_state) (same_sound holds.sure m.state.pages m.blocks sure_state was_sound
+      (torn_same holds.sure m.state.pages (number place) (record_at m.state.pages (number place)) pends.nothing
+      (torn_page holds.sure place.block place.page m.state.pages pends.elsewhere) (at_place ∙ none))
+      (still_blank holds.sure m.state.pages place.block place.page t.current t.fill pends.elsewhere
+      (subst (λ (q : LayerState). place.block ≡ q.current → place.page < q.fill) (sym state) pends.behind)))
+
+  -- a record came to lie in it
+  pub one_there : (r : PageRecord) → record_in page ≡ Some r → (after : LayerState)
+      → ((old new : Pages) (b : ℕ) → Sound old b sure_state → IsFalse t.disputed → Enters old new b sure_state place r → Sound new b after)
+      → Sound now.state.pages now.blocks after
+  one_there r some after enters = over_now (λ p b. Sound p b after) (enters holds.sure m.state.pages m.blocks was_sound
+      (subst (λ (q : LayerState). IsFalse q.disputed) (sym state) pends.agreed)
+      (subst (λ (q : LayerState). Enters holds.sure m.state.pages m.blocks (record q { unsure = None }) place r) (sym state)
+      (let entering = pends.may_enter r (at_place ∙ some) in record {
+        adds = entering.adds;
+        fits = record { place = entering.fits.place; no_shorter = entering.fits.no_shorter; zeros = entering.fits.zeros; grows = entering.fits.grows };
+        full = entering.full;
+        numbered = entering.numbered;
+        elsewhere = entering.elsewhere;
+        apart = entering.apart;
+        behind = entering.behind;
+      })))
 
 module _ (old new : Pages) (blocks : ℕ) (s : LayerState) (place : Place) (r : PageRecord)
     (sound : Sound old blocks s) (agreed : IsFalse s.disputed) (enters : Enters old new blocks s place r)
@@ -168,9 +276,6 @@ module _ (old new : Pages) (blocks : ℕ) (s : LayerState) (place : Place) (r : 
       agreed = fresh.agreed;
       within = fresh.within;
       apart = fresh.apart;
-      blank = λ p past small. enters.elsewhere s.current p (⊎_elim
-          (λ here. inr (let behind = enters.behind (sym here) in λ same. absurd (let lt : p < s.fill = subst (λ q. q < s.fill) (sym same) behind in omega (arith, lt, past))))
-          (λ other. inl other)
-          (cases_eq s.current place.block)) ∙ fresh.blank p past small;
+      blank = λ p past small. still_blank old new place.block place.page s.current s.fill enters.elsewhere enters.behind p past small ∙ fresh.blank p past small;
     };
   }
