@@ -12,4 +12,5 @@ pub mod Tearing
 pub mod Parts
 pub mod Stretches
 pub mod Entering
+pub mod Adding
 pub mod DiskCases
