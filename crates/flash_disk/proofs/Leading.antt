@@ -20,7 +20,6 @@ module _ (pages : Pages) (n : ℕ) where
   led_of file page (Some e) (Some x) is says = record {
     within = (let lt = is.within in let same = says.place in omega (arith, lt, same));
     leads = says.leads;
-    twin = says.twin;
   }
 
   -- what was learnt leads to the newest records

@@ -1,6 +1,6 @@
 -- One place more is learnt.
 use Rattle.std.proofs.Common.{◌≡◌, ◌≢◌, ◌⊎◌, ℕ, suc, ◌+◌, ◌*◌, ◌/◌, ◌%◌, ◌<◌, ◌≤◌, List, Bool, true, false, cond, refl, sym, ap, subst, ◌∙◌, inl, inr, ⊎_elim, arith, true≢false, add-one, eq-eqb}
-use Rattle.std.specs.Prelude.{Option, Some, None, nat_eq, ◌&&◌, is_none, is_some, IsTrue, IsFalse, ◌↔◌}
+use Rattle.std.specs.Prelude.{Option, Some, None, nat_eq, ◌&&◌, is_none, is_some, IsTrue, IsFalse, ◌↔◌, slice_index}
 use Rattle.std.proofs.lemmas.Bool.{lt-ltb, le-ltb, eqb-true, cases_lt, cases_eq}
 use Rattle.std.specs.Str.{bytes_eq}
 use Rattle.std.specs.Bool.{Decides}
@@ -15,7 +15,7 @@ use Rattle.flash_disk.specs.declared.table.Table.{Table}
 use Rattle.flash_disk.specs.Newest.{Placed, record_at, is_of, newer, with_record, newest, opens_page, page_count, IsNewest, IsNewestOf}
 use Rattle.flash_disk.specs.NewestLaws.{newest_is}
 use Rattle.flash_disk.specs.Known.{same_page, page_of, known, page_len, limit_of, Puts, HasRoom}
-use Rattle.flash_disk.specs.Learnt.{number, TwinSays, Learns, LearnsOf, HasLearnt, LearnsNext, SaysTheSame, TwinAt}
+use Rattle.flash_disk.specs.Learnt.{number, TwinSays, Unrivalled, Learns, LearnsOf, HasLearnt, LearnsNext, SaysTheSame, TwinAt, RivalledAt, Tops}
 
 below_suc : (j n : ℕ) → j < suc n → (j < n) ⊎ (j ≡ n)
 below_suc j n within = ⊎_elim inl (λ past. inr (let e : j ≡ n = omega arith in e)) (cases_lt j n)
@@ -60,17 +60,40 @@ module _ (pages : Pages) (n : ℕ) where
       (below_suc j n copy.within)
   twin_stays x (Some place) none copy = (copy.0, record { within = (let lt = copy.1.within in omega arith); apart = copy.1.apart; same = copy.1.same })
 
-  stays : (entry : Option Newest) (best : Option Placed) → ((x : Placed) → best ≡ Some x → NoCopy x) → LearnsOf pages n entry best → LearnsOf pages (suc n) entry best
+  -- a record in place n with the page and the number of x is x
+  abbrev NoRival : Placed → Type 0
+  NoRival x = (q : PageRecord) → record_at pages n ≡ Some q → is_of x.says.file x.says.page q ≡ true → q.sequence ≡ x.says.sequence → q ≡ x.says
+
+  unrivalled_stays : (x : Placed) → NoRival x → Unrivalled pages n x → Unrivalled pages (suc n) x
+  unrivalled_stays x none agreed = λ j q within is of_page same. ⊎_elim
+      (λ below. agreed j q below is of_page same)
+      (λ last. none q (subst (λ k. record_at pages k ≡ Some q) last is) of_page same)
+      (below_suc j n within)
+
+  -- place n holds no record of the page of x
+  abbrev OfAnother : Placed → Type 0
+  OfAnother x = (q : PageRecord) → record_at pages n ≡ Some q → is_of x.says.file x.says.page q ≡ true → ⊥
+
+  own_page_of : (r : PageRecord) → is_of r.file r.page r ≡ true
+  own_page_of r = rw (eq-eqb r.file r.file refl, eq-eqb r.page r.page refl) refl
+
+  stays : (entry : Option Newest) (best : Option Placed) → ((x : Placed) → best ≡ Some x → OfAnother x) → LearnsOf pages n entry best → LearnsOf pages (suc n) entry best
   stays None None none says = says
   stays None (Some x) none says = says
   stays (Some e) None none says = says
-  stays (Some e) (Some x) none says = record { leads = says.leads; place = says.place; twin = twin_stays x e.twin (none x refl) says.twin }
+  stays (Some e) (Some x) none says = record {
+    leads = says.leads;
+    place = says.place;
+    twin = twin_stays x e.twin (λ same apart. none x refl x.says same (own_page_of x.says)) says.twin;
+    agreed = λ calm. unrivalled_stays x (λ q here of_page same. absurd (none x refl q here of_page)) (says.agreed calm);
+    page = says.page;
+  }
 
   -- a place without a record
   pub nothing : (table : Table) → record_at pages n ≡ None → HasLearnt pages n table → HasLearnt pages (suc n) table
   nothing table empty learnt = record {
     says = λ key. subst (λ o. LearnsOf pages (suc n) (known table key) (with_record key.file key.page n o (newest pages key.file key.page n))) (sym empty)
-        (stays (known table key) (newest pages key.file key.page n) (λ x is same apart. none-some x.says (sym empty ∙ same)) (learnt.says key));
+        (stays (known table key) (newest pages key.file key.page n) (λ x is q same of_page. none-some q (sym empty ∙ same)) (learnt.says key));
     count = learnt.count ∙ subst (λ o. page_count pages n ≡ page_count pages n + opens_page pages n o) (sym empty) (omega arith);
     room = learnt.room;
     fits = learnt.fits;
@@ -111,13 +134,21 @@ module _ (pages : Pages) (n : ℕ) where
     same_entry old e known_is key true is = subst (λ k. known old k ≡ Some e) (same_page_is (page_of r) key is) known_is
     same_entry old e known_is key false is = refl
 
+    -- a record of the page of a record of a page
+    same_page_of : (key : FilePage) (x : Placed) → is_of key.file key.page x.says ≡ true → (q : PageRecord) → is_of x.says.file x.says.page q ≡ true
+        → is_of key.file key.page q ≡ true
+    same_page_of key x of_key q of_x =
+        let parts = both_parts (nat_eq x.says.file key.file) (nat_eq x.says.page key.page) of_key in
+        subst (λ p. is_of key.file p q ≡ true) (eqb-true x.says.page key.page parts.1)
+        (subst (λ f. is_of f x.says.page q ≡ true) (eqb-true x.says.file key.file parts.0) of_x)
+
     -- another page keeps its newest record
     elsewhere : (table : Table) → HasLearnt pages n table → (key : FilePage) → same_page (page_of r) key ≡ false
         → LearnsOf pages (suc n) (known table key) (newest pages key.file key.page n)
     elsewhere table learnt key other = stays (known table key) (newest pages key.file key.page n)
-        (λ x is same apart. true≢false (
-        sym (subst (λ b. IsNewestOf pages key.file key.page n b) is (newest_is pages key.file key.page n)).of_page
-        ∙ (ap (is_of key.file key.page) (same_Some x.says r (sym same ∙ here)) ∙ other)))
+        (λ x is q same of_page. true≢false (
+        sym (same_page_of key x (subst (λ b. IsNewestOf pages key.file key.page n b) is (newest_is pages key.file key.page n)).of_page q of_page)
+        ∙ (ap (is_of key.file key.page) (same_Some q r (sym same ∙ here)) ∙ other)))
         (learnt.says key)
 
     by_key : (old : Table) (entry : Newest) → HasLearnt pages n old
@@ -144,18 +175,24 @@ module _ (pages : Pages) (n : ℕ) where
     -- the entry of the record itself
     abbrev pub IsEntryHere : Newest → Type 0
     IsEntryHere entry = (number entry.place ≡ n) × (entry.place.page < 64) × (entry.sequence ≡ r.sequence) × (entry.len ≡ r.len) × (entry.twin ≡ None)
+        × ((j : ℕ) → entry.filled ≤ j → slice_index r.bytes j ≡ 0) × (r.page < 4294967296)
 
     here_learns : (entry : Newest) → IsEntryHere entry
         → ((j : ℕ) (q : PageRecord) → j < n → record_at pages j ≡ Some q → is_of r.file r.page q ≡ true → q.sequence < r.sequence)
         → Learns pages (suc n) entry placed
-    here_learns entry (place, small, sequence, len, twin) less = record {
-      leads = record { small = small; there = ap (record_at pages) place ∙ here; sequence = sequence; len = len };
+    here_learns entry (place, small, sequence, len, twin, filled, page) less = record {
+      leads = record { small = small; there = ap (record_at pages) place ∙ here; sequence = sequence; len = len; filled = filled };
       place = place;
       twin = subst (λ w. TwinSays pages (suc n) placed w) (sym twin)
           (λ j copy. ⊎_elim
           (λ below. let lt = less j r below copy.same own_page in omega arith)
           (λ last. copy.apart (ap (λ k. k / 64) last))
           (below_suc j n copy.within));
+      agreed = λ calm j q within is of_page same. ⊎_elim
+          (λ below. let lt = less j q below is of_page in absurd (omega (arith, lt, same)))
+          (λ last. same_Some q r (sym (subst (λ k. record_at pages k ≡ Some q) last is) ∙ here))
+          (below_suc j n within);
+      page = page;
     }
 
     newer_by : (entry : Newest) → IsEntryHere entry → (x : Placed) → IsNewest pages r.file r.page n x → x.says.sequence < r.sequence
@@ -218,6 +255,9 @@ module _ (pages : Pages) (n : ℕ) where
             place = best.2.place;
             twin = twin_stays best.0 e.twin (λ same apart. let q : r.sequence ≡ best.0.says.sequence = ap (λ z. z.sequence) (same_Some r best.0.says (sym here ∙ same)) in
                 let s = best.2.leads.sequence in omega arith) best.2.twin;
+            agreed = λ calm. unrivalled_stays best.0 (λ q same of_page number. let z : q.sequence ≡ r.sequence = ap (λ z. z.sequence) (same_Some q r (sym same ∙ here)) in
+                let s = best.2.leads.sequence in absurd (omega (arith, z, s, number, less))) (best.2.agreed calm);
+            page = best.2.page;
           }))
 
     -- what putting the entry in answers
@@ -297,11 +337,29 @@ module _ (pages : Pages) (n : ℕ) where
           (λ apart. by_content first is twin at apart)
           (cases_eq place.block e.place.block)
 
+      -- whether it is rivalled after the record was seen
+      agreed_says : (first : Option PageRecord) → first ≡ Some x.says → (rivalled : Bool) → RivalledAt first r e rivalled → IsFalse rivalled → Unrivalled pages (suc n) x
+      agreed_says first is rivalled at calm = let says = at calm in unrivalled_stays x
+          (λ q there of_page number. same_Some q r (sym there ∙ here)
+          ∙ sym (same_record x.says is_newest.of_page (sym before_is.leads.sequence ∙ sequence) (says.1 x.says is)))
+          (before_is.agreed says.0)
+
       -- what is put in for a record with the newest one's number
-      pub equal : (first : Option PageRecord) → first ≡ record_at pages (number e.place) → (twin : Option Place) (rivalled : Bool) → TwinAt first r e place twin
+      pub equal : (seen : Option PageRecord) → seen ≡ record_at pages (number e.place) → (twin : Option Place) (rivalled : Bool) → TwinAt seen r e place twin
+          → RivalledAt seen r e rivalled
           → LearnsOf pages (suc n) (Some (record e { twin = twin; rivalled = rivalled })) (newer (newest pages r.file r.page n) placed)
-      equal first is twin rivalled at = stays_newest old e learnt known_is (record e { twin = twin; rivalled = rivalled }) (omega (arith, sequence)) (record {
-        leads = record { small = before_is.leads.small; there = before_is.leads.there; sequence = before_is.leads.sequence; len = before_is.leads.len };
+      equal seen is twin rivalled at calm = stays_newest old e learnt known_is (record e { twin = twin; rivalled = rivalled }) (omega (arith, sequence)) (record {
+        leads = record { small = before_is.leads.small; there = before_is.leads.there; sequence = before_is.leads.sequence; len = before_is.leads.len; filled = before_is.leads.filled };
         place = before_is.place;
-        twin = twin_says first (is ∙ before_is.leads.there) twin at;
+        twin = twin_says seen (is ∙ before_is.leads.there) twin at;
+        agreed = agreed_says seen (is ∙ before_is.leads.there) rivalled calm;
+        page = before_is.page;
       })
+
+-- no record in the next place has a greater number either
+pub tops_next : (pages : Pages) (n top next : ℕ) → top ≤ next → ((r : PageRecord) → record_at pages n ≡ Some r → r.sequence ≤ next) → Tops pages n top
+    → Tops pages (n + 1) next
+tops_next pages n top next le here tops = λ j q within is. ⊎_elim
+    (λ below. (let less = tops j q below is in omega arith))
+    (λ last. here q (subst (λ k. record_at pages k ≡ Some q) last is))
+    (below_suc j n (omega arith))

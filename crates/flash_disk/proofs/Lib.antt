@@ -5,11 +5,13 @@ mod Lightest
 mod Leading
 mod Reading
 mod Programming
-pub mod Parts
-pub mod Stretches
-pub mod DiskCases
 pub mod Standing
 pub mod Sparing
 pub mod Growing
 pub mod Tearing
 pub mod Writing
+pub mod Parts
+pub mod Stretches
+pub mod Entering
+pub mod Adding
+pub mod DiskCases

@@ -139,13 +139,12 @@ module _ (pages : Pages) (n : ℕ) where
   byte_unfilled e None led j past = absurd led
   byte_unfilled e (Some x) led j past = led.leads.filled j past
 
--- where the bytes of a page end, as the table says
-abbrev filled_end : (page filled : ℕ) → ℕ
-filled_end page filled = cond (nat_eq filled 0) 0 (256 * page + filled)
-
-unfilled_by : (page filled len i : ℕ) (b : Bool) → nat_eq filled 0 ≡ b → cond b 0 (256 * page + filled) ≤ len → len ≤ i → i / 256 ≡ page → filled ≤ i % 256
-unfilled_by page filled len i true none end past here = (let z : filled ≡ 0 = eqb-true filled 0 none in omega (arith, z))
-unfilled_by page filled len i false some end past here = omega (arith, end, past, here)
+-- the bytes of a page end within the file
+unfilled : (page filled len i : ℕ) → (0 < filled → 256 * page + filled ≤ len) → len ≤ i → i / 256 ≡ page → filled ≤ i % 256
+unfilled page filled len i end past here = ⊎_elim
+    (λ some. let fits = end some in omega (arith, fits, past, here))
+    (λ none. omega (arith, none))
+    (cases_lt 0 filled)
 
 -- the files stand as they are
 pub stands : (m : FlashMedium) (s : LayerState) → IsSound m s → StandsFor (files_of m) m.blocks m.state.pages
@@ -173,11 +172,11 @@ module _ (a : FlashMedium) (s : LayerState) (sound : IsSound a s) (file page len
       (byte_none a.state.pages (places a.blocks) (known s.table key) (newest a.state.pages file page (places a.blocks)) none led (i % 256)))
 
   -- nor has one whose bytes end within the file
-  pub wiped_within : (e : Newest) → known s.table key ≡ Some e → filled_end page e.filled ≤ len → WipesPage a a file page
+  pub wiped_within : (e : Newest) → known s.table key ≡ Some e → (0 < e.filled → 256 * page + e.filled ≤ len) → WipesPage a a file page
   wiped_within e known_is end = wipes_nothing (λ i here past. byte_here i here
       (byte_unfilled a.state.pages (places a.blocks) e (newest a.state.pages file page (places a.blocks))
       (subst (λ k. LedOf a.state.pages (places a.blocks) k (newest a.state.pages file page (places a.blocks))) known_is led) (i % 256)
-      (unfilled_by page e.filled len i (nat_eq e.filled 0) refl end (let long = long_as in omega (arith, long, past)) here)))
+      (unfilled page e.filled len i end (let long = long_as in omega (arith, long, past)) here)))
 
   module _ (was : List ℕ) (is : IsContent a.state.pages (places a.blocks) (record { file = file; page = page }) was) where
     zero_past : (j : ℕ) → j < 256 → len ≤ 256 * page + j → get_or was j 0 ≡ 0

@@ -5,7 +5,7 @@ use Rattle.flash_disk.specs.declared.table.FilePage.{FilePage}
 use Rattle.flash_disk.specs.declared.table.Place.{Place}
 use Rattle.flash_disk.specs.declared.table.Newest.{Newest}
 use Rattle.flash_disk.specs.declared.table.Table.{Table}
-use Rattle.flash_disk.specs.Newest.{Placed, record_at, is_of, newest, page_count, IsCopyOf}
+use Rattle.flash_disk.specs.Newest.{Placed, record_at, is_of, newest, page_count, IsCopyOf, IsSpare}
 use Rattle.flash_record.specs.PageRecord.{PageRecord}
 use Rattle.flash_disk.specs.Known.{same_page, known, page_len, limit_of, len_known, HasRoom}
 use Rattle.flash_disk.specs.FlashFiles.{file_byte, file_len, IsFileLen}
@@ -37,6 +37,7 @@ pub record Learns (pages : Pages) (n : ℕ) (entry : Newest) (x : Placed) : Type
   pub place : number entry.place ≡ x.place
   pub twin : TwinSays pages n x entry.twin
   pub agreed : IsFalse entry.rivalled → Unrivalled pages n x
+  pub page : x.says.page < 4294967296
 
 abbrev pub LearnsOf : Pages → ℕ → Option Newest → Option Placed → Type 0
 LearnsOf pages n None None = Unit {0}
@@ -66,6 +67,10 @@ pub record TwinAt (first : Option PageRecord) (r : PageRecord) (old : Newest) (p
   pub equal : (q : PageRecord) → first ≡ Some q → place.block ≢ old.place.block → SaysTheSame q r → twin ≡ Some place
   pub other : (q : PageRecord) → first ≡ Some q → (SaysTheSame q r → ⊥) → twin ≡ old.twin
 
+-- whether the newest record is rivalled after a record with its number was found: where it is not, the two are equal
+abbrev pub RivalledAt : Option PageRecord → PageRecord → Newest → Bool → Type 0
+RivalledAt first r old rivalled = IsFalse rivalled → IsFalse old.rivalled × ((q : PageRecord) → first ≡ Some q → SaysTheSame q r)
+
 -- all these places are learnt, and there are not too many pages; or there are
 abbrev pub LearnsAll : Pages → (n limit : ℕ) → Table → Bool → Type 0
 LearnsAll pages n limit table true = HasLearnt pages n table
@@ -81,6 +86,31 @@ LedOf pages n None None = Unit {0}
 LedOf pages n None (Some x) = ⊥
 LedOf pages n (Some entry) None = ⊥
 LedOf pages n (Some entry) (Some x) = Led pages n entry x
+
+-- an entry while its block is left: it is still that of the newest record itself, or leads to an equal one outside of the block
+pub record Leaves (pages : Pages) (n block : ℕ) (entry : Newest) (x : Placed) : Type 0 where
+  pub led : Led pages n entry x
+  pub twin : TwinSays pages n x entry.twin
+  pub agreed : IsFalse entry.rivalled → Unrivalled pages n x
+  pub page : x.says.page < 4294967296
+  pub moved : (number entry.place ≡ x.place) ⊎ (entry.place.block ≢ block)
+
+abbrev pub LeavesOf : Pages → (n block : ℕ) → Option Newest → Option Placed → Type 0
+LeavesOf pages n block None None = Unit {0}
+LeavesOf pages n block None (Some x) = ⊥
+LeavesOf pages n block (Some entry) None = ⊥
+LeavesOf pages n block (Some entry) (Some x) = Leaves pages n block entry x
+
+-- a table that leads to the newest records while a block is left, to the first few pages of which no entry leads any more
+pub record IsLeaving (pages : Pages) (n block done : ℕ) (table : Table) : Type 0 where
+  pub says : (key : FilePage) → LeavesOf pages n block (known table key) (newest pages key.file key.page n)
+  pub out : (key : FilePage) (entry : Newest) → known table key ≡ Some entry → entry.place.block ≡ block → done ≤ entry.place.page
+  pub room : HasRoom table
+  pub fits : page_len table ≤ limit_of table
+
+-- pages more of a spare block are left
+abbrev pub LeavesBlock : Pages → (n block done next : ℕ) → Table → Table → Type 0
+LeavesBlock pages n block done next old new = IsSpare pages n block → IsLeaving pages n block done old → IsLeaving pages n block next new
 
 -- the table leads from each page of a file to its newest record, or an equal one
 pub record IsLed (pages : Pages) (n : ℕ) (table : Table) : Type 0 where

@@ -4,9 +4,9 @@ ghost use Rattle.std.specs.Prelude.{◌≡◌, ◌+◌, ◌*◌, ◌≤◌, ◌<
 ghost use Rattle.flash_model.specs.State.{IsStill};
 ghost use Rattle.flash_model.specs.FlashMedium.{FlashElapses, EachFlashCase};
 ghost use Rattle.flash_model.specs.Pages.{Pages};
-ghost use Rattle.flash_record.specs.PageRecord.{record_in};
+ghost use Rattle.flash_record.specs.PageRecord.{PageRecord, record_in};
 ghost use Rattle.flash_record.specs.Stated.{stated};
-ghost use Rattle.flash_disk.specs.Known.{known};
+ghost use Rattle.flash_disk.specs.Known.{known, page_of};
 ghost use Rattle.flash_disk.specs.Does.{Does};
 ghost use Rattle.flash_disk.specs.PutPart.{PutPart};
 ghost use Rattle.flash_disk.specs.Standing.{StandsFor};
@@ -31,7 +31,7 @@ impl<F: Flash> Layer<F> {
         ensures sequence { self.new.state.sequence ≡ self.old.state.sequence }
         ensures unchanged { IsTrue F.told → (F.medium self.new.flash).state ≡ (F.medium self.old.flash).state }
         ensures during { EachFlashCase (IsStill (F.medium self.old.flash).state) (F.medium self.old.flash) (F.medium self.new.flash) }
-        ensures time { FlashElapses (F.medium self.old.flash) (F.medium self.new.flash) }
+        ensures time { IsTrue F.told → FlashElapses (F.medium self.old.flash) (F.medium self.new.flash) }
         ensures own { self.new.own ≡ self.old.own }
         ensures cause { HasCause ((F.medium self.old.flash).faults + self.old.own) ((F.medium self.new.flash).faults + self.new.own) result }
     {
@@ -107,7 +107,7 @@ impl<F: Flash> Layer<F> {
             (F.medium self.old.flash) (F.medium self.new.flash) }
         ensures rises { OnOk result (self.old.state.sequence < self.new.state.sequence) }
         ensures later { self.old.state.sequence ≤ self.new.state.sequence }
-        ensures time { FlashElapses (F.medium self.old.flash) (F.medium self.new.flash) }
+        ensures time { IsTrue F.told → FlashElapses (F.medium self.old.flash) (F.medium self.new.flash) }
         ensures cause { HasCause ((F.medium self.old.flash).faults + self.old.own) ((F.medium self.new.flash).faults + self.new.own) result }
     {
         let sequence = self.next_sequence()?;
@@ -165,7 +165,7 @@ impl<F: Flash> Layer<F> {
         ensures does { IsTrue F.told → Does (StandsFor (files_of (F.medium self.old.flash)) (F.medium self.old.flash).blocks)
             (F.medium self.old.flash) (F.medium self.new.flash) }
         ensures sequence { self.new.state.sequence ≡ self.old.state.sequence }
-        ensures time { FlashElapses (F.medium self.old.flash) (F.medium self.new.flash) }
+        ensures time { IsTrue F.told → FlashElapses (F.medium self.old.flash) (F.medium self.new.flash) }
         ensures cause { HasCause ((F.medium self.old.flash).faults + self.old.own) ((F.medium self.new.flash).faults + self.new.own) result }
     {
         if self.state.fill < BLOCK_PAGES {
@@ -190,7 +190,7 @@ impl<F: Flash> Layer<F> {
         ensures does { IsTrue F.told → Does (StandsFor (files_of (F.medium self.old.flash)) (F.medium self.old.flash).blocks)
             (F.medium self.old.flash) (F.medium self.new.flash) }
         ensures sequence { self.new.state.sequence ≡ self.old.state.sequence }
-        ensures time { FlashElapses (F.medium self.old.flash) (F.medium self.new.flash) }
+        ensures time { IsTrue F.told → FlashElapses (F.medium self.old.flash) (F.medium self.new.flash) }
         ensures cause { HasCause ((F.medium self.old.flash).faults + self.old.own) ((F.medium self.new.flash).faults + self.new.own) result }
     {
         let target = self.state.spare;
@@ -248,7 +248,9 @@ impl<F: Flash> Layer<F> {
 
     // The page of a file that a page of the flash is a record of, and the newest record of it.
     pub(crate) fn newest_in(&self, page: &[u8]) -> Option<(FilePage, Newest)>
-        ensures { IfSome result (λ found. known self.now.state.table found.0 ≡ Some found.1) }
+        ensures known { IfSome result (λ found. known self.now.state.table found.0 ≡ Some found.1) }
+        ensures found { (r : PageRecord) (newest : Newest) → record_in page.now ≡ Some r → known self.now.state.table (page_of r) ≡ Some newest
+            → result ≡ Some (page_of r, newest) }
     {
         let record = read_record(page)?;
         let key = FilePage {

@@ -1,11 +1,11 @@
 //! Opening a flash as a disk.
 
-ghost use Rattle.std.specs.Prelude.{◌≡◌, ◌⊎◌, ◌↔◌, ◌≤◌, ◌<◌, ◌+◌, ◌*◌, ℕ, IsTrue, IsFalse, IfOk, IfErr, IfSome, OnOk, Some, None};
+ghost use Rattle.std.specs.Prelude.{◌≡◌, ◌⊎◌, ◌↔◌, ◌≤◌, ◌<◌, ◌+◌, ◌*◌, ℕ, IsTrue, IsFalse, IfOk, IfErr, IfSome, OnOk, Some, None, length, slice_index};
 ghost use Rattle.flash_record.specs.PageRecord.{record_in};
 ghost use Rattle.flash_record.specs.Stated.{stated};
 ghost use Rattle.flash_disk.specs.Newest.{record_at, places, page_limit, IsSpare, NeedsPlace, FindsSpare, IsUsable, IsUnusable, SaysUsable};
 ghost use Rattle.flash_disk.specs.Known.{known, limit_of, page_of, IsEmptyTable};
-ghost use Rattle.flash_disk.specs.Learnt.{number, HasLearnt, LearnsNext, LearnsAll, SaysTheSame, TwinAt, IsLed, Knows};
+ghost use Rattle.flash_disk.specs.Learnt.{number, HasLearnt, LearnsNext, LearnsAll, SaysTheSame, TwinAt, RivalledAt, Tops, LeavesBlock};
 ghost use Rattle.flash_model.specs.Pages.{Pages};
 ghost use Rattle.per_base.specs.Causes.{HasCause, Rose};
 
@@ -91,7 +91,7 @@ fn empty_state(alloc: Global, blocks: u32) -> Result<LayerState, AllocError>
 }
 
 impl<F: Flash> Layer<F> {
-    ghost use Rattle.flash_disk.specs.Sound.{Sound};
+    ghost use Rattle.flash_disk.specs.Sound.{Sound, SameFill};
 
     // Learns what the flash holds, and says whether it is usable.
     fn learn(&mut self, blocks: u32) -> Result<bool, DiskFailed>
@@ -132,10 +132,14 @@ impl<F: Flash> Layer<F> {
         ensures flash { HasCause (F.medium self.old.flash).faults (F.medium self.new.flash).faults result }
         ensures pages { IsTrue F.told → (F.medium self.new.flash).state.pages ≡ (F.medium self.old.flash).state.pages }
         ensures blocks { (F.medium self.new.flash).blocks ≡ (F.medium self.old.flash).blocks }
+        ensures own { self.new.own ≡ self.old.own }
+        ensures fill { SameFill self.old.state self.new.state }
         ensures limit { limit_of self.new.state.table ≡ limit_of self.old.state.table }
         ensures lens { self.new.state.table.lens ≡ self.old.state.table.lens }
         ensures learns { IsTrue F.told
             → IfOk result (LearnsAll (F.medium self.old.flash).state.pages (places blocks) (limit_of self.old.state.table) self.new.state.table) }
+        ensures tops { IsTrue F.told → Tops (F.medium self.old.flash).state.pages 0 self.old.state.sequence
+            → IfOk result (λ fits. IsTrue fits → Tops (F.medium self.old.flash).state.pages (places blocks) self.new.state.sequence) }
     {
         for block in 0..blocks {
             if !self.learn_block(block)? {
@@ -151,10 +155,14 @@ impl<F: Flash> Layer<F> {
         ensures flash { HasCause (F.medium self.old.flash).faults (F.medium self.new.flash).faults result }
         ensures pages { IsTrue F.told → (F.medium self.new.flash).state.pages ≡ (F.medium self.old.flash).state.pages }
         ensures blocks { (F.medium self.new.flash).blocks ≡ (F.medium self.old.flash).blocks }
+        ensures own { self.new.own ≡ self.old.own }
+        ensures fill { SameFill self.old.state self.new.state }
         ensures limit { limit_of self.new.state.table ≡ limit_of self.old.state.table }
         ensures lens { self.new.state.table.lens ≡ self.old.state.table.lens }
         ensures learns { IsTrue F.told → HasLearnt (F.medium self.old.flash).state.pages (64 * block) self.old.state.table
             → IfOk result (LearnsAll (F.medium self.old.flash).state.pages (64 * block + 64) (limit_of self.old.state.table) self.new.state.table) }
+        ensures tops { IsTrue F.told → Tops (F.medium self.old.flash).state.pages (64 * block) self.old.state.sequence
+            → IfOk result (λ fits. IsTrue fits → Tops (F.medium self.old.flash).state.pages (64 * block + 64) self.new.state.sequence) }
     {
         for page in 0..BLOCK_PAGES {
             if !self.learn_page(Place { block, page })? {
@@ -170,6 +178,9 @@ impl<F: Flash> Layer<F> {
         ensures flash { HasCause (F.medium self.old.flash).faults (F.medium self.new.flash).faults result }
         ensures pages { IsTrue F.told → (F.medium self.new.flash).state.pages ≡ (F.medium self.old.flash).state.pages }
         ensures blocks { (F.medium self.new.flash).blocks ≡ (F.medium self.old.flash).blocks }
+        ensures own { self.new.own ≡ self.old.own }
+        ensures fill { SameFill self.old.state self.new.state }
+        ensures sequence { self.new.state.sequence ≡ self.old.state.sequence }
         ensures table { self.new.state.table ≡ self.old.state.table }
         ensures spare { IsTrue F.told → HasLearnt (F.medium self.old.flash).state.pages (places blocks) self.old.state.table
             → IfOk result (FindsSpare (F.medium self.old.flash).state.pages blocks self.new.state.spare) }
@@ -188,9 +199,15 @@ impl<F: Flash> Layer<F> {
         ensures flash { HasCause (F.medium self.old.flash).faults (F.medium self.new.flash).faults result }
         ensures pages { IsTrue F.told → (F.medium self.new.flash).state.pages ≡ (F.medium self.old.flash).state.pages }
         ensures blocks { (F.medium self.new.flash).blocks ≡ (F.medium self.old.flash).blocks }
+        ensures own { self.new.own ≡ self.old.own }
+        ensures fill { SameFill self.old.state self.new.state }
+        ensures sequence { self.new.state.sequence ≡ self.old.state.sequence }
+        ensures spare { self.new.state.spare ≡ self.old.state.spare }
         ensures limit { limit_of self.new.state.table ≡ limit_of self.old.state.table }
         ensures lens { self.new.state.table.lens ≡ self.old.state.table.lens }
-        ensures leads { (pages : Pages) (n : ℕ) → IsLed pages n self.old.state.table → IsLed pages n self.new.state.table }
+        ensures left { IsTrue F.told → self.old.state.spare < (F.medium self.old.flash).blocks
+            → OnOk result (LeavesBlock (F.medium self.old.flash).state.pages (places (F.medium self.old.flash).blocks) self.old.state.spare
+            0 64 self.old.state.table self.new.state.table) }
     {
         let spare = self.state.spare;
         for page in 0..BLOCK_PAGES {
@@ -204,9 +221,15 @@ impl<F: Flash> Layer<F> {
         ensures flash { HasCause (F.medium self.old.flash).faults (F.medium self.new.flash).faults result }
         ensures pages { IsTrue F.told → (F.medium self.new.flash).state.pages ≡ (F.medium self.old.flash).state.pages }
         ensures blocks { (F.medium self.new.flash).blocks ≡ (F.medium self.old.flash).blocks }
+        ensures own { self.new.own ≡ self.old.own }
+        ensures fill { SameFill self.old.state self.new.state }
+        ensures sequence { self.new.state.sequence ≡ self.old.state.sequence }
+        ensures spare { self.new.state.spare ≡ self.old.state.spare }
         ensures limit { limit_of self.new.state.table ≡ limit_of self.old.state.table }
         ensures lens { self.new.state.table.lens ≡ self.old.state.table.lens }
-        ensures leads { (pages : Pages) (n : ℕ) → IsLed pages n self.old.state.table → IsLed pages n self.new.state.table }
+        ensures left { IsTrue F.told → place.block < (F.medium self.old.flash).blocks → place.page < 64
+            → OnOk result (LeavesBlock (F.medium self.old.flash).state.pages (places (F.medium self.old.flash).blocks) place.block
+            place.page (place.page + 1) self.old.state.table self.new.state.table) }
     {
         let mut page = BLANK_PAGE;
         self.read_page(place, &mut page)?;
@@ -230,7 +253,8 @@ impl<F: Flash> Layer<F> {
         ensures flash { HasCause (F.medium self.old.flash).faults (F.medium self.new.flash).faults result }
         ensures pages { IsTrue F.told → (F.medium self.new.flash).state.pages ≡ (F.medium self.old.flash).state.pages }
         ensures blocks { (F.medium self.new.flash).blocks ≡ (F.medium self.old.flash).blocks }
-        ensures table { self.new.state.table ≡ self.old.state.table }
+        ensures own { self.new.own ≡ self.old.own }
+        ensures state { self.new.state ≡ self.old.state }
         ensures spare { IsTrue F.told
             → HasLearnt (F.medium self.old.flash).state.pages (places (F.medium self.old.flash).blocks) self.old.state.table
             → IfOk result (λ spare. IsTrue spare
@@ -251,7 +275,8 @@ impl<F: Flash> Layer<F> {
         ensures flash { HasCause (F.medium self.old.flash).faults (F.medium self.new.flash).faults result }
         ensures pages { IsTrue F.told → (F.medium self.new.flash).state.pages ≡ (F.medium self.old.flash).state.pages }
         ensures blocks { (F.medium self.new.flash).blocks ≡ (F.medium self.old.flash).blocks }
-        ensures table { self.new.state.table ≡ self.old.state.table }
+        ensures own { self.new.own ≡ self.old.own }
+        ensures state { self.new.state ≡ self.old.state }
         ensures needed { IsTrue F.told
             → HasLearnt (F.medium self.old.flash).state.pages (places (F.medium self.old.flash).blocks) self.old.state.table
             → IfOk result (λ needed. IsTrue needed
@@ -282,10 +307,14 @@ impl<F: Flash> Layer<F> {
         ensures flash { HasCause (F.medium self.old.flash).faults (F.medium self.new.flash).faults result }
         ensures pages { IsTrue F.told → (F.medium self.new.flash).state.pages ≡ (F.medium self.old.flash).state.pages }
         ensures blocks { (F.medium self.new.flash).blocks ≡ (F.medium self.old.flash).blocks }
+        ensures own { self.new.own ≡ self.old.own }
+        ensures fill { SameFill self.old.state self.new.state }
         ensures limit { limit_of self.new.state.table ≡ limit_of self.old.state.table }
         ensures lens { self.new.state.table.lens ≡ self.old.state.table.lens }
         ensures learns { IsTrue F.told → HasLearnt (F.medium self.old.flash).state.pages (number place) self.old.state.table
             → IfOk result (LearnsNext (F.medium self.old.flash).state.pages (number place + 1) self.old.state.table self.new.state.table) }
+        ensures tops { IsTrue F.told → Tops (F.medium self.old.flash).state.pages (number place) self.old.state.sequence
+            → OnOk result (Tops (F.medium self.old.flash).state.pages (number place + 1) self.new.state.sequence) }
     {
         let mut page = BLANK_PAGE;
         self.read_page(place, &mut page)?;
@@ -325,6 +354,9 @@ impl<F: Flash> Layer<F> {
         ensures flash { HasCause (F.medium self.old.flash).faults (F.medium self.new.flash).faults result }
         ensures pages { IsTrue F.told → (F.medium self.new.flash).state.pages ≡ (F.medium self.old.flash).state.pages }
         ensures blocks { (F.medium self.new.flash).blocks ≡ (F.medium self.old.flash).blocks }
+        ensures own { self.new.own ≡ self.old.own }
+        ensures fill { SameFill self.old.state self.new.state }
+        ensures sequence { self.new.state.sequence ≡ self.old.state.sequence }
         ensures limit { limit_of self.new.state.table ≡ limit_of self.old.state.table }
         ensures lens { self.new.state.table.lens ≡ self.old.state.table.lens }
         ensures learns { IsTrue F.told → HasLearnt (F.medium self.old.flash).state.pages (number place) self.old.state.table
@@ -348,6 +380,8 @@ pub(crate) fn newest_at(place: Place, found: Record<'_>) -> Newest
     ensures sequence { result.sequence ≡ found.entry.sequence }
     ensures len { result.len ≡ found.entry.len }
     ensures twin { result.twin ≡ None }
+    ensures page { found.entry.page < 4294967296 }
+    ensures filled { length found.entry.bytes.now ≡ 256 → (j : ℕ) → result.filled ≤ j → slice_index found.entry.bytes.now j ≡ 0 }
 {
     Newest {
         place,
@@ -360,7 +394,9 @@ pub(crate) fn newest_at(place: Place, found: Record<'_>) -> Newest
 }
 
 // How many bytes are left without the zeros at their end.
-fn filled_of(bytes: &[u8]) -> u32 {
+fn filled_of(bytes: &[u8]) -> u32
+    ensures { length bytes.now ≡ 256 → (j : ℕ) → result ≤ j → slice_index bytes.now j ≡ 0 }
+{
     let mut filled = 0;
     for (i, byte) in bytes.iter().enumerate() {
         if *byte != 0 {
@@ -381,7 +417,9 @@ fn twin_at(page: &[u8], found: Record<'_>, old: Newest, place: Place) -> Option<
 }
 
 // Whether a newest record is rivalled, after another with its number was found.
-fn is_rivalled(page: &[u8], found: Record<'_>, old: Newest) -> bool {
+fn is_rivalled(page: &[u8], found: Record<'_>, old: Newest) -> bool
+    ensures { RivalledAt (record_in page.now) (stated found.entry) old result }
+{
     old.rivalled || !says_the_same(page, found)
 }
 

@@ -5,11 +5,11 @@ use Rattle.flash_disk.specs.Known.{len_in, IsLongest}
 use Rattle.flash_disk.proofs.Lengths.{longest, most, one}
 use Rattle.flash_disk.proofs.table.raise_all.Goals as goal
 
-pub returns : goal.returns
-returns c fits empty file =
-    let inv = c.loop-key.invariant fits in
+pub returns-clause-longest : goal.returns-clause-longest
+returns-clause-longest c fits empty file =
+    let inv = c.loop-key.invariant in
     let none : c.loop-key.key-iterator ≡ [] = rest_all deref_pair _ _ _ c.in-None.is c.next.ensures.steps in
-    let ends = inv.1 file in
+    let ends = inv.1 fits file in
     let rest : longest file c.loop-key.key-iterator ≡ 0 = ap (longest file) none in
     let start = empty file in
     let len : len_in c.loop-key.lens file ≡ longest file c.args.newest.now.entries = omega (arith, ends, rest, start) in

@@ -10,3 +10,5 @@ invariant-loop-block g l = ((g.F.Flash.medium l.initial.self.flash).faults ≤ (
     × (l.self.state.table ≡ l.initial.self.state.table)
     × (g.F.Flash.told ≡ true → HasLearnt (g.F.Flash.medium l.initial.self.flash).state.pages (places l.blocks) l.initial.self.state.table
     → (b : ℕ) → b < l.block → IsSpare (g.F.Flash.medium l.initial.self.flash).state.pages (places l.blocks) b → ⊥)
+    × (l.self.own ≡ l.initial.self.own)
+    × (l.self.state ≡ l.initial.self.state)

@@ -1,4 +1,4 @@
-use Rattle.std.proofs.Common.{◌+◌, ◌*◌, refl, ◌∙◌, arith}
+use Rattle.std.proofs.Common.{◌+◌, ◌*◌, refl, ap, ◌∙◌, arith}
 use Rattle.flash_disk.specs.Newest.{NeedsPlace, places}
 use Rattle.flash_disk.proofs.Usable.{known_there, not_needed, one_more, spare_block}
 use Rattle.flash_disk.proofs.layer.Layer.is_spare.Goals as goal
@@ -8,10 +8,11 @@ loop-page-preserved g c = let i = c.loop-page.invariant in let e = c.in_ok-is_ne
   (let later = i.0 in let on = e.flash in omega (arith, later, on)),
   (λ told. e.pages told ∙ i.1 told),
   e.blocks ∙ i.2,
-  e.table ∙ i.3,
+  e.state ∙ i.3,
   (λ told learnt. one_more (λ p. NeedsPlace (g.F.Flash.medium c.args.self.now.flash).state.pages (places (g.F.Flash.medium c.args.self.now.flash).blocks) (64 * c.args.block + p)) c.loop-page.page (i.4 told learnt)
-      (not_needed (g.F.Flash.medium c.args.self.now.flash).state.pages (g.F.Flash.medium c.loop-page.self.flash).state.pages (i.1 told) (g.F.Flash.medium c.args.self.now.flash).blocks (g.F.Flash.medium c.loop-page.self.flash).blocks i.2 c.args.self.now.state.table c.loop-page.self.state.table i.3 (64 * c.args.block + c.loop-page.page) c.in_ok-is_needed.field-0 c.if-branch.false
-      (e.needed told (known_there (g.F.Flash.medium c.args.self.now.flash).state.pages (g.F.Flash.medium c.loop-page.self.flash).state.pages (i.1 told) (g.F.Flash.medium c.args.self.now.flash).blocks (g.F.Flash.medium c.loop-page.self.flash).blocks i.2 c.args.self.now.state.table c.loop-page.self.state.table i.3 learnt)))),
+      (not_needed (g.F.Flash.medium c.args.self.now.flash).state.pages (g.F.Flash.medium c.loop-page.self.flash).state.pages (i.1 told) (g.F.Flash.medium c.args.self.now.flash).blocks (g.F.Flash.medium c.loop-page.self.flash).blocks i.2 c.args.self.now.state.table c.loop-page.self.state.table (ap (λ s. s.table) i.3) (64 * c.args.block + c.loop-page.page) c.in_ok-is_needed.field-0 c.if-branch.false
+      (e.needed told (known_there (g.F.Flash.medium c.args.self.now.flash).state.pages (g.F.Flash.medium c.loop-page.self.flash).state.pages (i.1 told) (g.F.Flash.medium c.args.self.now.flash).blocks (g.F.Flash.medium c.loop-page.self.flash).blocks i.2 c.args.self.now.state.table c.loop-page.self.state.table (ap (λ s. s.table) i.3) learnt)))),
+  e.own ∙ i.5,
 )
 
 pub returns-clause-spare : goal.returns-clause-spare

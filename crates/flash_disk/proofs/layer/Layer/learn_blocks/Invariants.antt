@@ -1,6 +1,7 @@
 use Rattle.std.proofs.Common.{◌≡◌, ◌≤◌, ◌*◌, true}
 use Rattle.flash_disk.specs.Known.{limit_of}
-use Rattle.flash_disk.specs.Learnt.{HasLearnt}
+use Rattle.flash_disk.specs.Learnt.{HasLearnt, Tops}
+use Rattle.flash_disk.specs.Sound.{SameFill}
 use Rattle.flash_disk.proofs.layer.Layer.learn_blocks.Given as goal
 
 abbrev pub invariant-loop-block : goal.invariant-loop-block
@@ -10,3 +11,7 @@ invariant-loop-block g l = ((g.F.Flash.medium l.initial.self.flash).faults ≤ (
     × (limit_of l.self.state.table ≡ limit_of l.initial.self.state.table)
     × (g.F.Flash.told ≡ true → HasLearnt (g.F.Flash.medium l.initial.self.flash).state.pages (64 * l.block) l.self.state.table)
     × (l.self.state.table.lens ≡ l.initial.self.state.table.lens)
+    × (l.self.own ≡ l.initial.self.own)
+    × SameFill l.initial.self.state l.self.state
+    × (g.F.Flash.told ≡ true → Tops (g.F.Flash.medium l.initial.self.flash).state.pages 0 l.initial.self.state.sequence
+    → Tops (g.F.Flash.medium l.initial.self.flash).state.pages (64 * l.block) l.self.state.sequence)

@@ -15,10 +15,10 @@ returns-in_default-find-clause-learns g c told learnt =
     let here : record_at pages n ≡ Some r = record_at_place pages c.args.place.block c.args.place.page c.requires.page
     ∙ (ap record_in (sym (c.in_ok-read_page.ensures.bytes told c.requires.block c.requires.page)) ∙ c.in-Some.ensures.record) in
     let old = c.args.self.now.state.table in
-    let none : known old (page_of r) ≡ None = ap (λ t. known t (page_of r)) (sym c.in_ok-read_page.ensures.table) ∙ (sym c.find.ensures ∙ c.in_default-find.is) in
+    let none : known old (page_of r) ≡ None = ap (λ t. known t (page_of r)) (sym (ap (λ s. s.table) c.in_ok-read_page.ensures.state)) ∙ (sym c.find.ensures ∙ c.in_default-find.is) in
     let entry = c.newest_at.ensures in
-    put_learns pages n r here old c.read_page.new.self.state.table c.put.new.self (page_of r) c.newest_at.result c.put.result c.in_ok-read_page.ensures.table refl learnt
-    (first pages n r here old c.newest_at.result learnt none (ap number entry.place, rw entry.place c.requires.page, entry.sequence, entry.len, entry.twin))
+    put_learns pages n r here old c.read_page.new.self.state.table c.put.new.self (page_of r) c.newest_at.result c.put.result (ap (λ s. s.table) c.in_ok-read_page.ensures.state) refl learnt
+    (first pages n r here old c.newest_at.result learnt none (ap number entry.place, rw entry.place c.requires.page, entry.sequence, entry.len, entry.twin, entry.filled c.in-Some.ensures.long, entry.page))
     c.put.ensures.full c.put.ensures.put
 
 pub returns-then-old-record-clause-learns : goal.returns-then-old-record-clause-learns
@@ -29,11 +29,11 @@ returns-then-old-record-clause-learns g c told learnt =
     let here : record_at pages n ≡ Some r = record_at_place pages c.args.place.block c.args.place.page c.requires.page
     ∙ (ap record_in (sym (c.in_ok-read_page.ensures.bytes told c.requires.block c.requires.page)) ∙ c.in-Some.ensures.record) in
     let old = c.args.self.now.state.table in
-    let is : known old (page_of r) ≡ Some c.in-Some-find.old = ap (λ t. known t (page_of r)) (sym c.in_ok-read_page.ensures.table) ∙ (sym c.find.ensures ∙ c.in-Some-find.is) in
+    let is : known old (page_of r) ≡ Some c.in-Some-find.old = ap (λ t. known t (page_of r)) (sym (ap (λ s. s.table) c.in_ok-read_page.ensures.state)) ∙ (sym c.find.ensures ∙ c.in-Some-find.is) in
     let entry = c.newest_at-then-old-record.ensures in
     put_learns pages n r here old c.read_page.new.self.state.table c.put-then-old-record.new.self (page_of r) c.newest_at-then-old-record.result c.put-then-old-record.result
-    c.in_ok-read_page.ensures.table refl learnt
-    (newer_one pages n r here old c.in-Some-find.old learnt is c.newest_at-then-old-record.result (ap number entry.place, rw entry.place c.requires.page, entry.sequence, entry.len, entry.twin) c.if-old-record.true)
+    (ap (λ s. s.table) c.in_ok-read_page.ensures.state) refl learnt
+    (newer_one pages n r here old c.in-Some-find.old learnt is c.newest_at-then-old-record.result (ap number entry.place, rw entry.place c.requires.page, entry.sequence, entry.len, entry.twin, entry.filled c.in-Some.ensures.long, entry.page) c.if-old-record.true)
     c.put-then-old-record.ensures.full c.put-then-old-record.ensures.put
 
 pub returns-then-old-record-2-clause-learns : goal.returns-then-old-record-2-clause-learns
@@ -44,6 +44,6 @@ returns-then-old-record-2-clause-learns g c told learnt =
     let here : record_at pages n ≡ Some r = record_at_place pages c.args.place.block c.args.place.page c.requires.page
     ∙ (ap record_in (sym (c.in_ok-read_page.ensures.bytes told c.requires.block c.requires.page)) ∙ c.in-Some.ensures.record) in
     let old = c.args.self.now.state.table in
-    let is : known old (page_of r) ≡ Some c.in-Some-find.old = ap (λ t. known t (page_of r)) (sym c.in_ok-read_page.ensures.table) ∙ (sym c.find.ensures ∙ c.in-Some-find.is) in
-    rw (add-one n) (subst (HasLearnt pages _) (sym c.in_ok-read_page.ensures.table)
+    let is : known old (page_of r) ≡ Some c.in-Some-find.old = ap (λ t. known t (page_of r)) (sym (ap (λ s. s.table) c.in_ok-read_page.ensures.state)) ∙ (sym c.find.ensures ∙ c.in-Some-find.is) in
+    rw (add-one n) (subst (HasLearnt pages _) (sym (ap (λ s. s.table) c.in_ok-read_page.ensures.state))
     (older pages n r here old c.in-Some-find.old learnt is c.if-old-record-2.true))

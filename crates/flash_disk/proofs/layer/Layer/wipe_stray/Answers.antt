@@ -21,9 +21,10 @@ returns-in_default-clause-does g c told =
 pub returns-then-end_of_bytes-len-clause-wiped : goal.returns-then-end_of_bytes-len-clause-wiped
 returns-then-end_of_bytes-len-clause-wiped g c told =
     let a = g.F.Flash.medium c.args.self.now.flash in
-    let ends = c.end_of_bytes.ensures (omega arith) in
+    let within = c.if-end_of_bytes-len.true in
     wiped_within a c.args.self.now.state (c.requires.sound told) c.args.file c.args.page c.args.len (c.requires.len told) c.in-Some.newest
-    (sym c.find.ensures ∙ c.in-Some.is) (subst (λ k. k ≤ c.args.len) ends c.if-end_of_bytes-len.true)
+    (sym c.find.ensures ∙ c.in-Some.is)
+    (λ some. let ends = c.end_of_bytes.ensures (omega arith) some in omega (arith, ends, within))
 
 pub returns-then-end_of_bytes-len-clause-does : goal.returns-then-end_of_bytes-len-clause-does
 returns-then-end_of_bytes-len-clause-does g c told =
