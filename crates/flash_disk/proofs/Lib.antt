@@ -3,6 +3,7 @@ mod Usable
 mod Lengths
 mod Lightest
 mod Leading
+mod Leaving
 mod Reading
 mod Programming
 pub mod Standing
