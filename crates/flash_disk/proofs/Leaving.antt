@@ -242,8 +242,8 @@ module _ (pages : Pages) (n block : ℕ) where
           (known table (record { file = file; page = i / 256 })) refl (leaving.says (record { file = file; page = i / 256 }))
 
 -- what a call that saw the same flash says
-pub leaves_there : (pages seen : Pages) → seen ≡ pages → (b b' : ℕ) → b' ≡ b → (block p : ℕ) (old new : Table) → LeavesBlock seen (places b') block p (p + 1) old new
-    → LeavesBlock pages (places b) block p (p + 1) old new
-leaves_there pages seen same b b' blocks block p old new =
-    subst (λ k. LeavesBlock seen (places b') block p (p + 1) old new → LeavesBlock pages (places k) block p (p + 1) old new) blocks
-    (subst (λ q. LeavesBlock seen (places b') block p (p + 1) old new → LeavesBlock q (places b') block p (p + 1) old new) same (λ leaves. leaves))
+pub leaves_there : (pages seen : Pages) → seen ≡ pages → (b b' : ℕ) → b' ≡ b → (block p q : ℕ) (old new : Table) → LeavesBlock seen (places b') block p q old new
+    → LeavesBlock pages (places b) block p q old new
+leaves_there pages seen same b b' blocks block p q old new =
+    subst (λ k. LeavesBlock seen (places b') block p q old new → LeavesBlock pages (places k) block p q old new) blocks
+    (subst (λ w. LeavesBlock seen (places b') block p q old new → LeavesBlock w (places b') block p q old new) same (λ leaves. leaves))

@@ -4,6 +4,7 @@ mod Lengths
 mod Lightest
 mod Leading
 mod Leaving
+mod Opened
 mod Reading
 mod Programming
 pub mod Standing

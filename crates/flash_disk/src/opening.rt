@@ -6,7 +6,7 @@ ghost use Rattle.flash_record.specs.Stated.{stated};
 ghost use Rattle.flash_disk.specs.Newest.{record_at, places, page_limit, IsSpare, NeedsPlace, FindsSpare, IsUsable, IsUnusable, SaysUsable};
 ghost use Rattle.flash_disk.specs.Known.{known, limit_of, page_of, IsEmptyTable};
 ghost use Rattle.flash_disk.specs.Learnt.{number, HasLearnt, LearnsNext, LearnsAll, SaysTheSame, TwinAt, RivalledAt, Tops, LeavesBlock};
-ghost use Rattle.flash_model.specs.Pages.{Pages};
+ghost use Rattle.flash_model.specs.State.{settle_pages};
 ghost use Rattle.per_base.specs.Causes.{HasCause, Rose};
 
 use crate::disk::{FlashDisk, FlashOpenError, FlashRefused};
@@ -107,6 +107,8 @@ impl<F: Flash> Layer<F> {
         ensures sound { IsTrue F.told → IfOk result (λ usable. IsTrue usable
             → Sound (F.medium self.old.flash).state.pages blocks self.new.state) }
         ensures sure { IfOk result (λ usable. IsTrue usable → self.new.state.unsure ≡ None) }
+        ensures settled { IsTrue F.told → IfOk result (λ usable. IsTrue usable
+            → (F.medium self.new.flash).state ≡ settle_pages (F.medium self.old.flash).state) }
         ensures own { self.new.own ≡ self.old.own }
     {
         if !self.learn_blocks(blocks)? {

@@ -16,7 +16,7 @@ loop-page-preserved g c = let i = c.loop-page.invariant in let e = c.in_ok-leave
   e.sequence ∙ i.7,
   e.spare ∙ i.8,
   (λ told within spare start. leaves_there (g.F.Flash.medium c.args.self.now.flash).state.pages (g.F.Flash.medium c.loop-page.self.flash).state.pages (i.1 told)
-      (g.F.Flash.medium c.args.self.now.flash).blocks (g.F.Flash.medium c.loop-page.self.flash).blocks i.2 c.args.self.now.state.spare c.loop-page.page
+      (g.F.Flash.medium c.args.self.now.flash).blocks (g.F.Flash.medium c.loop-page.self.flash).blocks i.2 c.args.self.now.state.spare c.loop-page.page (c.loop-page.page + 1)
       c.loop-page.self.state.table c.leave_page.new.self.state.table
       (e.left told (let same = i.2 in omega (arith, within, same)) c.loop-page-test.true) spare (i.9 told within spare start)),
 )
