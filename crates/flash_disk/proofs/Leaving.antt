@@ -102,7 +102,7 @@ module _ (pages : Pages) (n block : ℕ) where
       has_twin key e here none = let x = found key e here.0 in
           spare x.0 (record {
             newest_is = (let of = same_page_is (page_of x.0.says) key x.3.of_page in
-            subst (λ (k : FilePage). newest pages k.file k.page n ≡ Some x.0) (sym of) x.1);
+                subst (λ (k : FilePage). newest pages k.file k.page n ≡ Some x.0) (sym of) x.1);
             alone = subst (TwinSays pages n x.0) none x.2.twin;
           }) (own_block key e here)
 

@@ -1,6 +1,6 @@
 -- What is kept fits the pages once the flash was opened.
 use Rattle.std.proofs.Common.{◌≡◌, ℕ, ◌+◌, ◌<◌, ◌≤◌, sym, ap, subst, ◌∙◌, arith}
-use Rattle.std.specs.Prelude.{Some, IsFalse}
+use Rattle.std.specs.Prelude.{Bool, Some, None, IsTrue, IsFalse}
 use Rattle.std.specs.HashMap.{get, hash_map_len, spare}
 use Rattle.flash_model.specs.Pages.{Pages}
 use Rattle.flash_disk.specs.declared.table.FilePage.{FilePage}
@@ -10,8 +10,14 @@ use Rattle.flash_disk.specs.declared.layer.LayerState.{LayerState}
 use Rattle.flash_disk.specs.Newest.{places, page_limit, IsSpare}
 use Rattle.flash_disk.specs.Known.{same_page, known, page_len, limit_of, len_known, EndsBy, IsLongest}
 use Rattle.flash_disk.specs.Learnt.{IsLed, IsLeaving, Knows, Tops}
-use Rattle.flash_disk.specs.Sound.{Sound}
+use Rattle.flash_disk.specs.Sound.{Sound, PendsAt, Holds}
 use Rattle.flash_disk.specs.FlashFilesLaws.{one_len}
+use Rattle.disk_model.specs.Medium.{Quiet}
+use Rattle.flash_model.specs.State.{FlashState, settle_pages}
+use Rattle.flash_model.specs.FlashMedium.{FlashMedium}
+use Rattle.flash_disk.specs.FlashFiles.{flash_files}
+use Rattle.flash_disk.specs.FlashDiskMedium.{put_announced, files_told, flash_disk_medium}
+use Rattle.flash_disk.proofs.DiskCases.{told_files}
 use Rattle.flash_disk.proofs.Leading.{measured}
 use Rattle.flash_disk.proofs.Leaving.{leads_at_last, left_out, agreed_at_last, strayless_at_last}
 
@@ -54,3 +60,25 @@ module _ (pages : Pages) (blocks : ℕ) (s : LayerState) (left : Table) (leaving
     apart = λ calm key e is. left_out pages (places blocks) s.spare left leaving key e (ap (λ m. get same_page m key) (sym measures.records) ∙ is);
     fresh = λ less. (let full = measures.full in absurd (omega (arith, less, full)));
   }
+
+-- what is kept fits all pages
+pub holds_all : (m : FlashMedium) (s : LayerState) (pages : Pages) → Sound pages m.blocks s → m.state.pages ≡ pages → s.unsure ≡ None → Holds m s
+holds_all m s pages sound same sure = record {
+  sure = pages;
+  sound = sound;
+  pends = subst (PendsAt pages m.state.pages m.blocks s) (sym sure) same;
+}
+
+-- a flash that was settled makes a disk on which nothing is pending
+pub settled_is_quiet : (told : Bool) (m : FlashMedium) (own written : ℕ) (s : FlashState) → (IsTrue told → m.state ≡ settle_pages s)
+    → Quiet (flash_disk_medium told m own written)
+settled_is_quiet told m own written s state c now =
+    let t = now.0 in
+    let image = told_files told m t in
+    let base : flash_files m.state.settled m.blocks ≡ files_told told m =
+    ap (λ q. flash_files q m.blocks) (ap (λ q. q.settled) (state t) ∙ sym (ap (λ q. q.pages) (state t))) ∙ sym image in
+    record {
+      base = ap (λ d. d.base) now.1 ∙ base;
+      full = ap (λ d. d.full) now.1 ∙ (ap (put_announced (flash_files m.state.settled m.blocks)) (ap (λ q. q.announced) (state t)) ∙ base);
+      left = ap (λ d. d.left) now.1 ∙ sym image;
+    }

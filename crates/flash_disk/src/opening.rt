@@ -19,6 +19,7 @@ use std::alloc::{AllocError, Global};
 
 impl<F: Flash> FlashDisk<F> {
     ghost use Rattle.flash_disk.specs.FlashDiskMedium.{flash_disk_medium};
+    ghost use Rattle.disk_model.specs.Medium.{Quiet};
 
     /// Opens a flash as a disk. It reads every page, and takes all the memory that the disk ever needs.
     pub fn open(alloc: Global, flash: F) -> Result<FlashDisk<F>, FlashRefused<F>>
@@ -37,6 +38,8 @@ impl<F: Flash> FlashDisk<F> {
         ensures pages { IsTrue F.told → IfOk result (λ disk. (F.medium disk.layer.flash).state.pages ≡ (F.medium flash).state.pages) }
         ensures blocks { IfOk result (λ disk. (F.medium disk.layer.flash).blocks ≡ (F.medium flash).blocks) }
         ensures own { IfOk result (λ disk. (disk.layer.own ≡ 0) × (disk.written ≡ 0)) }
+        ensures settled { IsTrue F.told → IfOk result (λ disk. (F.medium disk.layer.flash).state ≡ settle_pages (F.medium flash).state) }
+        ensures quiet { IfOk result (λ disk. Quiet (flash_disk_medium F.told (F.medium disk.layer.flash) disk.layer.own disk.written)) }
         ensures returned { IsTrue F.told → IfErr result (λ refused. (F.medium refused.flash).state.pages ≡ (F.medium flash).state.pages) }
     {
         let blocks = flash.blocks();

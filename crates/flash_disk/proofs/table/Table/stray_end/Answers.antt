@@ -27,6 +27,6 @@ pub returns : goal.returns
 returns c key entry is =
     let none : c.loop-key.key-iterator ≡ [] = rest_all deref_pair _ _ _ c.in-None.is c.next.ensures.steps in
     ⊎_elim
-        (λ left. absurd (none-some entry (subst (λ l. lookup (same_page key) l ≡ Some entry) none left)))
-        (λ ends. ends)
-        (c.loop-key.invariant key entry is)
+    (λ left. absurd (none-some entry (subst (λ l. lookup (same_page key) l ≡ Some entry) none left)))
+    (λ ends. ends)
+    (c.loop-key.invariant key entry is)
