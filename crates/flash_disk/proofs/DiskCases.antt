@@ -1,70 +1,27 @@
 -- What a disk over a flash says of crashes, from what the flash says of them.
-use Rattle.std.proofs.Common.{◌≡◌, ◌⊎◌, ℕ, ◌+◌, ◌≤◌, Bool, true, false, cond, List, [], ◌∷◌, ◌++◌, length, sym, refl, ap, ◌∙◌, subst, inl, inr, ⊎_elim, true≢false, le_refl}
+use Rattle.std.proofs.Common.{◌≡◌, ◌⊎◌, ℕ, ◌+◌, ◌≤◌, Bool, true, false, cond, List, [], ◌∷◌, ◌++◌, length, sym, refl, ap, ◌∙◌, subst, inl, inr, ⊎_elim, le_refl}
 use Rattle.std.specs.Prelude.{IsTrue}
 use Rattle.std.proofs.Math.Path.{fun_ext}
 use Rattle.std.proofs.lemmas.Bool.{cases_eq}
 use Rattle.disk_model.specs.Image.{Image, put_image, TornImage}
 use Rattle.disk_model.specs.Case.{Case, WriteCase, WriteOrNot, Follows}
-use Rattle.disk_model.specs.Medium.{Medium, IsLawful, Elapses, OnlyReads, WritesNothing, Quiet}
+use Rattle.disk_model.specs.Medium.{Medium, Elapses, OnlyReads, WritesNothing, Quiet}
 use Rattle.disk_model.specs.Written.{put_none, put_image_here, put_image_elsewhere}
 use Rattle.flash_model.specs.Pages.{Pages}
-use Rattle.flash_model.specs.State.{Announced, FlashState, FlashCase, IsStill, announce_write, settle_pages}
+use Rattle.flash_model.specs.State.{Announced, FlashCase, IsStill, announce_write, settle_pages}
 use Rattle.flash_model.specs.FlashMedium.{FlashMedium, IsLawfulFlash, FlashElapses, EachFlashCase}
 use Rattle.flash_disk.specs.FlashFiles.{flash_files}
 use Rattle.flash_disk.specs.Does.{Does}
 use Rattle.flash_disk.specs.FlashDiskMedium.{put_announced, disk_case, still_case, IsCaseOf, files_told, flash_disk_medium}
+use Rattle.flash_disk.specs.FlashDiskLaws.{told_moment, same_case}
+pub use Rattle.flash_disk.specs.FlashDiskLaws.{told_files, disk_is_lawful}
 use Rattle.flash_disk.proofs.Parts.{torn_refl}
-
-untold : {X : Type 0} → IsTrue false → X
-untold t = absurd (true≢false (sym t))
-
--- what a told disk has
-told_moment : (told : Bool) (n : ℕ) → IsTrue told → cond told n 0 ≡ n
-told_moment true n t = refl
-told_moment false n t = untold t
-
--- what reads of a told disk give
-pub told_files : (told : Bool) (m : FlashMedium) → IsTrue told → files_told told m ≡ flash_files m.state.pages m.blocks
-told_files true m t = refl
-told_files false m t = untold t
+use Rattle.flash_disk.proofs.Stretches.{failed_looks}
 
 -- the same pages, the same files
 same_files : (told : Bool) (m m' : FlashMedium) → (IsTrue told → m'.state.pages ≡ m.state.pages) → (IsTrue told → m'.blocks ≡ m.blocks) → files_told told m' ≡ files_told told m
 same_files true m m' pages blocks = λ i. flash_files (pages refl i) (blocks refl i)
 same_files false m m' pages blocks = refl
-
--- ---- a crash between two calls
-
-still_is : (s : FlashState) → IsStill s (still_case s)
-still_is s = record { before = refl; whole = refl; left = refl; settled = refl; announced = refl }
-
-same_case : (s : FlashState) (blocks blocks' : ℕ) (f : FlashCase) → blocks' ≡ blocks → IsStill s f → disk_case blocks' f ≡ disk_case blocks (still_case s)
-same_case s blocks blocks' f same is = λ i. record {
-  base = flash_files (is.settled i) (same i);
-  full = put_announced (flash_files (is.settled i) (same i)) (is.announced i);
-  left = flash_files (is.left i) (same i);
-}
-
-module _ (told : Bool) (m : FlashMedium) (own written : ℕ) where
-  abbrev disk : Medium
-  disk = flash_disk_medium told m own written
-
-  pub disk_is_lawful : IsLawfulFlash told m → IsLawful told disk
-  disk_is_lawful lawful = record {
-    counts_now = λ t c le now. (
-      now.0,
-      (
-        still_case m.state,
-        lawful.counts_now now.0 t (still_case m.state) (subst (λ k. t ≤ k) (told_moment told m.moment now.0) le) (still_is m.state),
-        (λ b p generation body verifies. inl refl, now.1),
-      ),
-    );
-    only_now = λ c past.
-        let f = past.1.0 in
-        let since : m.since m.moment f = subst (λ k. m.since k f) (told_moment told m.moment past.0) past.1.1 in
-        (past.0, past.1.2.1 ∙ same_case m.state m.blocks m.blocks f refl (lawful.only_now f since));
-    reads_one = λ t. (disk_case m.blocks (still_case m.state), (t, refl), sym (told_files told m t));
-  }
 
 module _ (told : Bool) (m m' : FlashMedium) (own own' written written' : ℕ) where
   abbrev start : Medium
@@ -80,6 +37,7 @@ module _ (told : Bool) (m m' : FlashMedium) (own own' written written' : ℕ) wh
   case_since : (c : Case) → end.since start.moment c → (f : FlashCase) × m'.since m.moment f × IsCaseOf m'.blocks f c
   case_since c past = (past.1.0, subst (λ k. m'.since k past.1.0) (told_moment told m.moment past.0) past.1.1, past.1.2)
 
+  -- time goes on as it does for the flash
   pub disk_elapses : (IsTrue told → FlashElapses m m') → m.faults + own ≤ m'.faults + own' → written ≤ written' → Elapses start end
   disk_elapses time faults more = record {
     later = later told time;
@@ -118,14 +76,10 @@ module _ (told : Bool) (m m' : FlashMedium) (own own' written written' : ℕ) wh
     written = wrote;
   }
 
-  -- a call that failed leaves the state, so it only looked
-  pub failed_looks : (IsTrue told → m'.state ≡ m.state) → Since (λ c. IsStill m.state c ⊎ IsStill m'.state c) → Since (IsStill m.state)
-  failed_looks state cases t f since = ⊎_elim (λ is. is) (λ is. subst (λ s. IsStill s f) (state t) is) (cases t f since)
-
   -- a settle that failed
   pub disk_sync_failed : (IsTrue told → m'.state ≡ m.state) → (IsTrue told → m'.blocks ≡ m.blocks) → Since (λ c. IsStill m.state c ⊎ IsStill m'.state c)
       → written' ≡ written → OnlyReads start end
-  disk_sync_failed state blocks cases wrote = disk_reads state blocks (failed_looks state cases) wrote
+  disk_sync_failed state blocks cases wrote = disk_reads state blocks (λ t. failed_looks m m' (state t) (cases t)) wrote
 
   -- a settle: nothing is pending, and no byte changed
   pub disk_sync : (IsTrue told → m'.state ≡ settle_pages m.state) → (IsTrue told → m'.blocks ≡ m.blocks)
@@ -173,13 +127,14 @@ disk_write_refused old new file at bytes reads = (
   λ c past. (c, reads.during c past, inr refl),
 )
 
--- a write of no bytes
+-- a write of no bytes leaves the files
 pub put_nothing : (image : Image) (file at : ℕ) (bytes : List ℕ) → length bytes ≡ 0 → put_image image file at bytes ≡ image
 put_nothing image file at bytes none = fun_ext λ f. ⊎_elim
     (λ e. subst (λ q. put_image image file at bytes q ≡ image q) (sym e) (put_image_here image file at bytes ∙ put_none (image file) at bytes none))
     (λ other. put_image_elsewhere image file at bytes f other)
     (cases_eq f file)
 
+-- and leaves the cases
 pub disk_write_nothing : (old new : Medium) (file at : ℕ) (bytes : List ℕ) → length bytes ≡ 0 → OnlyReads old new
     → (new.image ≡ put_image old.image file at bytes) × Follows (WriteCase file at bytes) old.now new.now
     × Follows (WriteOrNot file at bytes) old.now (new.since old.moment)
@@ -193,6 +148,10 @@ put_after : (image : Image) (ws : List Announced) (w : Announced) → put_announ
 put_after image [] w = refl
 put_after image (v ∷ ws) w = put_after (put_image image v.file v.at v.bytes) ws w
 
+-- pages that stand for the files as they were at this moment, but for n bytes of a file from a byte on
+abbrev pub TearsFiles : FlashMedium → (file at n : ℕ) → Pages → Type 0
+TearsFiles m file at n pages = TornImage file at n (flash_files m.state.pages m.blocks) (flash_files pages m.blocks)
+
 -- A write: m0 before it, m1 after it was announced, m2 after what serves it, or after as much of that as was done.
 module _ (told : Bool) (m0 m1 m2 : FlashMedium) (own own' written written' file at : ℕ) (bytes : List ℕ) where
   abbrev before : Medium
@@ -201,12 +160,8 @@ module _ (told : Bool) (m0 m1 m2 : FlashMedium) (own own' written written' file 
   abbrev after : Medium
   after = flash_disk_medium told m2 own' written'
 
-  -- pages that stand for the files as they were, but for the range of the write
-  abbrev pub TearsFiles : Pages → Type 0
-  TearsFiles pages = TornImage file at (length bytes) (flash_files m0.state.pages m0.blocks) (flash_files pages m0.blocks)
-
   write_case : (f : FlashCase) → f.settled ≡ m0.state.settled → f.announced ≡ m0.state.announced ++ (record { file = file; at = at; bytes = bytes }) ∷ []
-      → TearsFiles f.left → WriteCase file at bytes (disk_case m0.blocks (still_case m0.state)) (disk_case m0.blocks f)
+      → TearsFiles m0 file at (length bytes) f.left → WriteCase file at bytes (disk_case m0.blocks (still_case m0.state)) (disk_case m0.blocks f)
   write_case f settled announced torn = record {
     base = λ i. flash_files (settled i) m0.blocks;
     full = (λ i. put_announced (flash_files (settled i) m0.blocks) (announced i))
@@ -214,7 +169,7 @@ module _ (told : Bool) (m0 m1 m2 : FlashMedium) (own own' written written' file 
     left = torn;
   }
 
-  module _ (state : IsTrue told → m1.state ≡ announce_write m0.state file at bytes) (serves : IsTrue told → Does TearsFiles m1 m2) where
+  module _ (state : IsTrue told → m1.state ≡ announce_write m0.state file at bytes) (serves : IsTrue told → Does (TearsFiles m0 file at (length bytes)) m1 m2) where
     -- what a crash leaves at any moment of it
     pub disk_write_during : (IsTrue told → EachFlashCase (λ c. IsStill m0.state c ⊎ IsStill m1.state c) m0 m1)
         → (IsTrue told → FlashElapses m0 m1) → (IsTrue told → FlashElapses m1 m2)
@@ -235,7 +190,7 @@ module _ (told : Bool) (m0 m1 m2 : FlashMedium) (own own' written written' file 
               (λ still. written (write_case f
               (still.settled ∙ ap (λ s. s.settled) (state t))
               (still.announced ∙ ap (λ s. s.announced) (state t))
-              (subst TearsFiles (sym (still.left ∙ ap (λ s. s.pages) (state t))) (torn_refl file at (length bytes) (flash_files m0.state.pages m0.blocks)))))
+              (subst (TearsFiles m0 file at (length bytes)) (sym (still.left ∙ ap (λ s. s.pages) (state t))) (torn_refl file at (length bytes) (flash_files m0.state.pages m0.blocks)))))
               (cases t f first))
               (λ then.
               let leaves = (serves t).during f then in

@@ -13,4 +13,6 @@ pub mod Growing
 pub mod Tearing
 pub mod Parts
 pub mod Stretches
+pub mod Entering
+pub mod Adding
 pub mod DiskCases

@@ -1,6 +1,6 @@
 -- What a newer record makes of the newest records, once it is programmed where no record was.
-use Rattle.std.proofs.Common.{◌≡◌, ◌⊎◌, ℕ, ◌+◌, ◌*◌, ◌/◌, ◌%◌, ◌<◌, List, Bool, true, false, cond, refl, sym, ap, subst, ◌∙◌, inl, inr, ⊎_elim, arith, true≢false, eq-eqb}
-use Rattle.std.specs.Prelude.{Option, Some, None, nat_eq, ◌&&◌}
+use Rattle.std.proofs.Common.{◌≡◌, ◌⊎◌, ℕ, ◌+◌, ◌*◌, ◌/◌, ◌%◌, ◌<◌, ◌≤◌, List, Bool, true, false, cond, refl, sym, ap, subst, ◌∙◌, inl, inr, ⊎_elim, arith, true≢false, eq-eqb}
+use Rattle.std.specs.Prelude.{Option, Some, None, nat_eq, ◌&&◌, slice_index}
 use Rattle.std.proofs.lemmas.Bool.{cases_lt, cases_eq, eqb-true}
 use Rattle.std.proofs.lemmas.Option.{same_Some, none-some}
 use Rattle.flash_model.specs.Pages.{Pages}
@@ -12,7 +12,7 @@ use Rattle.flash_disk.specs.declared.table.Place.{Place}
 use Rattle.flash_disk.specs.declared.table.Newest.{Newest}
 use Rattle.flash_disk.specs.declared.table.Table.{Table}
 use Rattle.flash_disk.specs.Known.{same_page, page_of, known, limit_of, Puts}
-use Rattle.flash_disk.specs.Learnt.{number, TwinSays, Led, LedOf, IsLed, Adds, Tops, ProgramsIf, HasWritten}
+use Rattle.flash_disk.specs.Learnt.{number, Led, LedOf, IsLed, Adds, Tops, ProgramsIf, HasWritten}
 use Rattle.flash_disk.proofs.Learning.{same_page_is}
 use Rattle.flash_disk.proofs.Leading.{same_newest}
 use Rattle.flash_record.specs.Blank.{blank_is_none}
@@ -102,35 +102,35 @@ module _ (old new : Pages) (n : ℕ) (place : Place) (r : PageRecord) (adds : Ad
   newest_elsewhere file page other = one_newest new file page n (newest new file page n) (newest old file page n) (newest_is new file page n)
       (kept file page other (newest old file page n) (newest_is old file page n))
 
-  twin_kept : (x : Placed) → x.says.sequence < r.sequence → (twin : Option Place) → TwinSays old n x twin → TwinSays new n x twin
-  twin_kept x older None alone = λ j copy. ⊎_elim
-      (λ own. (let e : x.says.sequence ≡ r.sequence = ap (λ z. z.sequence) own.1 in omega (arith, e, older)))
-      (λ was. alone j (record { within = copy.within; apart = copy.apart; same = was }))
-      (either j x.says copy.same)
-  twin_kept x older (Some t) twin = (twin.0, record { within = twin.1.within; apart = twin.1.apart; same = still (number t) x.says twin.1.same })
-
   led_kept : (file page : ℕ) (e : Option Newest) (best : Option Placed) → IsNewestOf old file page n best → LedOf old n e best → LedOf new n e best
   led_kept file page None None is led = led
   led_kept file page None (Some x) is led = led
   led_kept file page (Some e) None is led = led
   led_kept file page (Some e) (Some x) is led = record {
     within = led.within;
-    leads = record { small = led.leads.small; there = still (number e.place) x.says led.leads.there; sequence = led.leads.sequence; len = led.leads.len };
-    twin = twin_kept x (adds.newer x.place x.says is.within is.there) e.twin led.twin;
+    leads = record {
+      small = led.leads.small;
+      there = still (number e.place) x.says led.leads.there;
+      sequence = led.leads.sequence;
+      len = led.leads.len;
+      filled = led.leads.filled;
+    };
   }
 
   -- the entry of the record itself
   abbrev pub IsItsEntry : Newest → Type 0
-  IsItsEntry e = (e.place ≡ place) × (e.sequence ≡ r.sequence) × (e.len ≡ r.len) × (e.twin ≡ None)
+  IsItsEntry e = (e.place ≡ place) × (e.sequence ≡ r.sequence) × (e.len ≡ r.len) × ((j : ℕ) → e.filled ≤ j → slice_index r.bytes j ≡ 0)
 
   led_here : (e : Newest) → IsItsEntry e → Led new n e placed
-  led_here e (at, sequence, len, twin) = record {
+  led_here e (at, sequence, len, filled) = record {
     within = subst (λ p. number p < n) (sym at) adds.within;
-    leads = record { small = subst (λ (p : Place). p.page < 64) (sym at) adds.small; there = ap (λ p. record_at new (number p)) at ∙ adds.here; sequence = sequence; len = len };
-    twin = subst (TwinSays new n placed) (sym twin) (λ j copy. ⊎_elim
-        (λ own. copy.apart (ap (λ k. k / 64) own.0))
-        (λ was. (let less = adds.newer j r copy.within was in omega (arith, less)))
-        (either j r copy.same));
+    leads = record {
+      small = subst (λ (p : Place). p.page < 64) (sym at) adds.small;
+      there = ap (λ p. record_at new (number p)) at ∙ adds.here;
+      sequence = sequence;
+      len = len;
+      filled = filled;
+    };
   }
 
   by_key : (table : Table) (e : Newest) → IsItsEntry e → IsLed old n table → (key : FilePage) (b : Bool) → same_page (page_of r) key ≡ b

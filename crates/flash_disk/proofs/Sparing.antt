@@ -1,9 +1,16 @@
 -- A block is spare where each newest record, or an equal one, also lies in another block.
-use Rattle.std.proofs.Common.{◌≡◌, ◌≢◌, ℕ, ◌/◌, ◌<◌, ap, ◌∙◌}
-use Rattle.std.specs.Prelude.{Some}
+use Rattle.std.proofs.Common.{◌≡◌, ◌≢◌, ℕ, ◌/◌, ◌+◌, ◌*◌, ◌<◌, refl, sym, ap, subst, ◌∙◌, arith}
+use Rattle.std.specs.Prelude.{Option, Some, None}
 use Rattle.flash_model.specs.Pages.{Pages}
 use Rattle.flash_record.specs.PageRecord.{PageRecord}
 use Rattle.flash_disk.specs.Newest.{Placed, record_at, newest, IsSpare}
+use Rattle.flash_disk.specs.declared.table.FilePage.{FilePage}
+use Rattle.flash_disk.specs.declared.table.Newest.{Newest}
+use Rattle.flash_disk.specs.declared.table.Place.{Place}
+use Rattle.flash_disk.specs.declared.table.Table.{Table}
+use Rattle.flash_disk.specs.Known.{known}
+use Rattle.flash_disk.specs.Learnt.{number, LedOf, IsLed}
+use Rattle.flash_disk.specs.Sound.{LeavesOut}
 use Rattle.flash_disk.specs.Standing.{IsAgreed, Keeps}
 use Rattle.flash_disk.proofs.Standing.{said_before, keeps_said}
 
@@ -25,3 +32,20 @@ elsewhere_kept old new n block agreed keeps elsewhere stays file page x found =
     let before = said_before old new n (keeps_said old new n agreed keeps) file page x found in
     let copy = elsewhere file page before.0 before.1 in
     (copy.0, copy.1, copy.2, stays copy.0 before.0.says copy.2 copy.3 ∙ ap Some before.2)
+
+-- the block of a place
+pub number_block : (place : Place) → place.page < 64 → number place / 64 ≡ place.block
+number_block place small = let e : (64 * place.block + place.page) / 64 ≡ place.block = omega (arith, small) in e
+
+module _ (pages : Pages) (n : ℕ) (table : Table) (led : IsLed pages n table) where
+  led_by : (file page : ℕ) (x : Placed) (k : Option Newest) → known table (record { file = file; page = page }) ≡ k → LedOf pages n k (Some x)
+      → (e : Newest) × (known table (record { file = file; page = page }) ≡ Some e) × (e.place.page < 64) × (number e.place < n) × (record_at pages (number e.place) ≡ Some x.says)
+  led_by file page x None is says = absurd says
+  led_by file page x (Some e) is says = (e, is, says.leads.small, says.within, says.leads.there)
+
+  -- where the table has no entry that leads into a block each newest record, or an equal one, lies outside it
+  pub led_elsewhere : (block : ℕ) → LeavesOut table block → LiesElsewhere pages n block
+  led_elsewhere block leaves file page x found =
+      let key : FilePage = record { file = file; page = page } in
+      let entry = led_by file page x (known table key) refl (subst (LedOf pages n (known table key)) found (led.says key)) in
+      (number entry.0.place, entry.3, (λ here. leaves key entry.0 entry.1 (sym (number_block entry.0.place entry.2) ∙ here)), entry.4)

@@ -1,16 +1,20 @@
 -- What stays where no record came and of each newest one an equal one is left: what the newest records say, and so the files.
-use Rattle.std.proofs.Common.{◌≡◌, ◌⊎◌, ℕ, ◌/◌, ◌%◌, ◌<◌, ◌≤◌, map, true, refl, sym, ap, subst, ◌∙◌, inl, inr, ⊎_elim, arith}
-use Rattle.std.specs.Prelude.{Option, Some, None}
+use Rattle.std.proofs.Common.{◌≡◌, ◌⊎◌, ℕ, ◌/◌, ◌%◌, ◌<◌, ◌≤◌, zero, suc, map, get_or, true, refl, sym, ap, subst, ◌∙◌, inl, inr, ⊎_elim, arith}
+use Rattle.std.specs.Prelude.{Option, Some, None, is_none, cond}
 use Rattle.std.specs.List.{range_with_len}
 use Rattle.std.proofs.Math.Path.{fun_ext}
 use Rattle.std.proofs.lemmas.Option.{same_Some, none-some}
 use Rattle.flash_model.specs.Pages.{Pages}
 use Rattle.flash_record.specs.PageRecord.{PageRecord}
-use Rattle.flash_disk.specs.Newest.{Placed, record_at, is_of, newest, places, IsNewest, IsNewestOf}
+use Rattle.flash_disk.specs.Newest.{Placed, record_at, is_of, with_record, newest, opens_page, page_count, places, IsNewest, IsNewestOf, IsSpare}
 use Rattle.flash_disk.specs.NewestLaws.{newest_is}
 use Rattle.flash_disk.specs.FlashFiles.{record_byte, byte_in, file_byte, file_len, flash_files, IsFileLen}
 use Rattle.flash_disk.specs.FlashFilesLaws.{file_len_is, one_len}
-use Rattle.flash_disk.specs.Learnt.{Tops}
+use Rattle.flash_disk.specs.declared.table.FilePage.{FilePage}
+use Rattle.flash_disk.specs.declared.table.Newest.{Newest}
+use Rattle.flash_disk.specs.declared.table.Table.{Table}
+use Rattle.flash_disk.specs.Known.{known, len_known}
+use Rattle.flash_disk.specs.Learnt.{number, LedOf, IsLed, Knows, Tops}
 use Rattle.flash_disk.specs.Standing.{said, IsAgreed, Keeps, IsStrayless, MayGrow}
 
 -- a page of which something is said has a newest record, which says it
@@ -67,7 +71,8 @@ module _ (old new : Pages) (n : ℕ) (alike : SaysAlike old new n) where
   pub said_after : (file page : ℕ) (x : Placed) → newest old file page n ≡ Some x → (y : Placed) × (newest new file page n ≡ Some y) × (y.says ≡ x.says)
   said_after file page x is = said_some (newest new file page n) x.says (alike file page ∙ ap said is)
 
-  same_file_len : (file len : ℕ) → IsFileLen old n file len → IsFileLen new n file len
+  -- a file of some length still has it
+  pub same_file_len : (file len : ℕ) → IsFileLen old n file len → IsFileLen new n file len
   same_file_len file len is = record {
     most = λ page x found. let before = said_before file page x found in
         subst (λ (q : PageRecord). q.len ≤ len) before.2 (is.most page before.0 before.1);
@@ -146,6 +151,41 @@ module _ (old new : Pages) (n : ℕ) where
     pub keeps_may_grow : (file page len : ℕ) → MayGrow old n file page len → MayGrow new n file page len
     keeps_may_grow = same_said_may_grow old new n keeps_said
 
+    -- a file of some length still has it
+    pub keeps_file_len : (file len : ℕ) → IsFileLen old n file len → IsFileLen new n file len
+    keeps_file_len = same_file_len old new n keeps_said
+
+    module _ (table : Table)
+        (there : (key : FilePage) (entry : Newest) → known table key ≡ Some entry → record_at new (number entry.place) ≡ record_at old (number entry.place)) where
+      led_over : (key : FilePage) (e : Option Newest) → known table key ≡ e → (before after : Option Placed) → said after ≡ said before → LedOf old n e before → LedOf new n e after
+      led_over key None is None None alike led = led
+      led_over key None is None (Some y) alike led = absurd (none-some y.says (sym alike))
+      led_over key None is (Some x) after alike led = absurd led
+      led_over key (Some e) is None after alike led = absurd led
+      led_over key (Some e) is (Some x) None alike led = absurd (none-some x.says alike)
+      led_over key (Some e) is (Some x) (Some y) alike led = let says : x.says ≡ y.says = same_Some x.says y.says (sym alike) in record {
+        within = led.within;
+        leads = record {
+          small = led.leads.small;
+          there = there key e is ∙ (led.leads.there ∙ ap Some says);
+          sequence = led.leads.sequence ∙ ap (λ q. q.sequence) says;
+          len = led.leads.len ∙ ap (λ q. q.len) says;
+          filled = subst (λ (q : PageRecord). (j : ℕ) → e.filled ≤ j → get_or q.bytes j 0 ≡ 0) says led.leads.filled;
+        };
+      }
+
+      -- a table whose records stand where they stood still leads to the newest records
+      pub keeps_led : IsLed old n table → IsLed new n table
+      keeps_led led = record {
+        says = λ key. led_over key (known table key) refl (newest old key.file key.page n) (newest new key.file key.page n) (keeps_said key.file key.page) (led.says key);
+        room = led.room;
+        fits = led.fits;
+      }
+
+      -- and knows how long each file is
+      pub keeps_known : Knows old n table → Knows new n table
+      keeps_known knows = record { led = keeps_led knows.led; lens = λ file. keeps_file_len file (len_known table file) (knows.lens file) }
+
     -- what is kept after this is kept
     pub keeps_then : (after : Pages) → Keeps new after n → Keeps old after n
     keeps_then after then = record {
@@ -182,3 +222,86 @@ keeps_refl pages n = same_records_keep pages pages n (λ j inside. refl)
 -- the files are the same
 pub keeps_files : (old new : Pages) (blocks : ℕ) → IsAgreed old (places blocks) → Keeps old new (places blocks) → flash_files new blocks ≡ flash_files old blocks
 keeps_files old new blocks agreed keeps = same_said_files old new blocks (keeps_said old new (places blocks) agreed keeps)
+
+-- ---- no record changed
+
+-- each place has the record that it had
+abbrev pub HasSameRecords : (old new : Pages) → Type 0
+HasSameRecords old new = (j : ℕ) → record_at new j ≡ record_at old j
+
+module _ (old new : Pages) (same : HasSameRecords old new) where
+  -- each page has the newest record that it had
+  pub records_newest : (file page n : ℕ) → newest new file page n ≡ newest old file page n
+  records_newest file page zero = refl
+  records_newest file page (suc n) = ap (λ o. with_record file page n o (newest new file page n)) (same n)
+      ∙ ap (with_record file page n (record_at old n)) (records_newest file page n)
+
+  -- which says the same
+  pub records_alike : (n : ℕ) → SaysAlike old new n
+  records_alike n file page = ap said (records_newest file page n)
+
+  opens_alike : (n : ℕ) (o : Option PageRecord) → opens_page new n o ≡ opens_page old n o
+  opens_alike n None = refl
+  opens_alike n (Some r) = ap (λ b. cond (is_none b) 1 0) (records_newest r.file r.page n)
+
+  -- as many pages have a record
+  pub records_count : (n : ℕ) → page_count new n ≡ page_count old n
+  records_count zero = refl
+  records_count (suc n) =
+      let before = records_count n in
+      let opens : opens_page new n (record_at new n) ≡ opens_page old n (record_at old n) = ap (opens_page new n) (same n) ∙ opens_alike n (record_at old n) in
+      omega (arith, before, opens)
+
+  -- the files are the same
+  pub records_files : (blocks : ℕ) → flash_files new blocks ≡ flash_files old blocks
+  records_files blocks = same_said_files old new blocks (records_alike (places blocks))
+
+  module _ (n : ℕ) where
+    -- what there was is kept
+    pub records_keep : Keeps old new n
+    records_keep = same_records_keep old new n (λ j inside. same j)
+
+    -- the records are still agreed
+    pub records_agreed : IsAgreed old n → IsAgreed new n
+    records_agreed agreed = λ file page x found j q inside there of_page. agreed file page x (sym (records_newest file page n) ∙ found) j q inside (sym (same j) ∙ there) of_page
+
+    -- no record has a greater number
+    pub records_tops : (top : ℕ) → Tops old n top → Tops new n top
+    records_tops = keeps_tops old new n records_keep
+
+    -- a spare block is still spare
+    pub records_spare : (block : ℕ) → IsSpare old n block → IsSpare new n block
+    records_spare block spare = λ x needed. spare x (record {
+      newest_is = sym (records_newest x.says.file x.says.page n) ∙ needed.newest_is;
+      alone = λ j copy. needed.alone j (record { within = copy.within; apart = copy.apart; same = same j ∙ copy.same });
+    })
+
+    led_alike : (e : Option Newest) (best : Option Placed) → LedOf old n e best → LedOf new n e best
+    led_alike None None led = led
+    led_alike None (Some x) led = led
+    led_alike (Some e) None led = led
+    led_alike (Some e) (Some x) led = record {
+      within = led.within;
+      leads = record {
+        small = led.leads.small;
+        there = same (number e.place) ∙ led.leads.there;
+        sequence = led.leads.sequence;
+        len = led.leads.len;
+        filled = led.leads.filled;
+      };
+    }
+
+    -- the table still leads to the newest records
+    pub records_led : (table : Table) → IsLed old n table → IsLed new n table
+    records_led table led = record {
+      says = λ key. subst (LedOf new n (known table key)) (sym (records_newest key.file key.page n)) (led_alike (known table key) (newest old key.file key.page n) (led.says key));
+      room = led.room;
+      fits = led.fits;
+    }
+
+    -- and knows how long each file is
+    pub records_known : (table : Table) → Knows old n table → Knows new n table
+    records_known table knows = record {
+      led = records_led table knows.led;
+      lens = λ file. same_file_len old new n (records_alike n) file (len_known table file) (knows.lens file);
+    }

@@ -17,7 +17,12 @@ elapses_refl told m lawful tells = record {
   blocks = refl;
 }
 
+-- and it only looks
+pub still_refl : (told : Bool) (m : FlashMedium) → IsLawfulFlash told m → EachFlashCase (IsStill m.state) m m
+still_refl told m lawful c past = lawful.only_now c past
+
 module _ (a b c : FlashMedium) where
+  -- two stretches are one
   pub elapses_then : FlashElapses a b → FlashElapses b c → FlashElapses a c
   elapses_then first second = record {
     later = le_trans first.later second.later;
@@ -52,6 +57,7 @@ module _ (a b c : FlashMedium) where
       (λ x past. inl (early x past))
       (λ x past. subst (λ s. IsStill s x ⊎ IsStill c.state x) same (late x past))
 
+  -- what holds all through two stretches holds all through both
   pub does_then : (P : Pages → Type 0) → FlashElapses a b → FlashElapses b c → Does P a b → Does P b c → Does P a c
   does_then P first second early late = record {
     settled = late.settled ∙ early.settled;
@@ -63,6 +69,7 @@ module _ (a b c : FlashMedium) where
   }
 
 module _ (old new : FlashMedium) where
+  -- and so does all that follows from it
   pub does_weaken : (P Q : Pages → Type 0) → ((pages : Pages) → P pages → Q pages) → Does P old new → Does Q old new
   does_weaken P Q more does = record {
     settled = does.settled;
@@ -81,6 +88,10 @@ module _ (old new : FlashMedium) where
         record { settled = is.settled; announced = is.announced; left = λ plain. subst P (sym is.left) holds };
     now = subst (λ s. P s.pages) (sym same) holds;
   }
+
+  -- a call that failed to change what was settled or announced only looked
+  pub failed_looks : new.state ≡ old.state → EachFlashCase (λ c. IsStill old.state c ⊎ IsStill new.state c) old new → EachFlashCase (IsStill old.state) old new
+  failed_looks same cases x past = ⊎_elim (λ is. is) (λ is. subst (λ s. IsStill s x) same is) (cases x past)
 
   -- a call that changes pages: what holds before it, after it, and of all that is torn by it
   module _ (P : Pages → Type 0) (done : Pages) (Tears : Pages → Pages → Type 0) where
@@ -135,3 +146,7 @@ module _ (old new : FlashMedium) where
       → ((left : Pages) → TornBlock block old.state.pages left → IsPlain old.state.pages (erase_block old.state.pages block) left → P left)
       → Does P old new
   erase_does P block result = ends P (erase_block old.state.pages block) (TornBlock block) result
+
+-- what holds of the pages holds where nothing is called
+pub does_rests : (told : Bool) (m : FlashMedium) (P : Pages → Type 0) → IsLawfulFlash told m → P m.state.pages → Does P m m
+does_rests told m P lawful = does_nothing m m P refl (still_refl told m lawful)

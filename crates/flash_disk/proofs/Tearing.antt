@@ -2,7 +2,7 @@
 use Rattle.std.proofs.Common.{◌≡◌, ◌≢◌, ◌⊎◌, ℕ, ◌+◌, ◌*◌, ◌/◌, ◌%◌, ◌<◌, List, cond, refl, sym, ap, subst, ◌∙◌, inl, inr, ⊎_elim, arith, eq-eqb}
 use Rattle.std.specs.Prelude.{Option, Some, None, nat_eq}
 use Rattle.std.proofs.lemmas.Bool.{cases_eq, cases_Bool, true≢false, ne_eqb, and_from, and_left, and_right}
-use Rattle.std.proofs.lemmas.Option.{none-some}
+use Rattle.std.proofs.lemmas.Option.{same_Some, none-some}
 use Rattle.std.proofs.lemmas.Slice.Eq.{bytes_eq-Decides}
 use Rattle.std.specs.Str.{bytes_eq}
 use Rattle.flash_model.specs.Pages.{Pages, blank_page, program_page, erase_block, TornPage, TornBlock, IsPlain}
@@ -10,11 +10,13 @@ use Rattle.flash_record.specs.PageRecord.{PageRecord, record_in}
 use Rattle.flash_record.specs.Blank.{blank_is_none}
 use Rattle.flash_record.proofs.Bodies.{record_in-none}
 use Rattle.flash_disk.specs.declared.table.Place.{Place}
-use Rattle.flash_disk.specs.Newest.{record_at, newest}
+use Rattle.flash_disk.specs.Newest.{record_at, newest, IsNewest, IsSpare}
+use Rattle.flash_disk.specs.NewestLaws.{newest_is}
 use Rattle.flash_disk.specs.Learnt.{number, Adds}
 use Rattle.flash_disk.specs.Standing.{IsAgreed, Keeps}
 use Rattle.flash_disk.proofs.Learning.{record_at_place}
-use Rattle.flash_disk.proofs.Standing.{is_newest_of}
+use Rattle.flash_disk.proofs.Programming.{one_newest}
+use Rattle.flash_disk.proofs.Standing.{is_newest_of, HasSameRecords}
 use Rattle.flash_disk.proofs.Sparing.{LiesElsewhere, elsewhere_kept}
 
 bytes_tell : (a b : List ℕ) → (a ≡ b) ⊎ (a ≡ b → ⊥)
@@ -41,16 +43,17 @@ pub record IsTorn (old left : Pages) (i : ℕ) (r : Option PageRecord) : Type 0 
   pub elsewhere : (j : ℕ) → j ≢ i → record_at left j ≡ record_at old j
   pub here : (record_at left i ≡ None) ⊎ (record_at left i ≡ r)
 
--- each place has the record that it had
-abbrev pub SameRecords : (old new : Pages) → Type 0
-SameRecords old new = (j : ℕ) → record_at new j ≡ record_at old j
-
 module _ (old : Pages) (block page : ℕ) where
-  torn_elsewhere : (left : Pages) → TornPage block page old left → (j : ℕ) → j ≢ 64 * block + page → record_at left j ≡ record_at old j
+  -- every other place has the record that it had
+  pub torn_elsewhere : (left : Pages) → TornPage block page old left → (j : ℕ) → j ≢ 64 * block + page → record_at left j ≡ record_at old j
   torn_elsewhere left torn j apart = ap record_in (torn (j / 64) (j % 64) (⊎_elim
       (λ here. inr (λ there. apart (let e : j ≡ 64 * block + page = omega (arith, here, there) in e)))
       (λ other. inl other)
       (cases_eq (j / 64) block)))
+
+  -- a page in which anything was left
+  pub torn_page : (left : Pages) → TornPage block page old left → IsTorn old left (64 * block + page) (record_at left (64 * block + page))
+  torn_page left torn = record { elsewhere = torn_elsewhere left torn; here = inr refl }
 
   module _ (bytes : List ℕ) where
     whole_page : program_page old block page bytes block page ≡ bytes
@@ -93,28 +96,68 @@ module _ (old : Pages) (block page : ℕ) where
     pub whole_program : IsTorn old (program_page old block page bytes) (64 * block + page) (record_in bytes)
     whole_program = record { elsewhere = torn_elsewhere (program_page old block page bytes) (whole_torn bytes); here = inr whole_here }
 
+-- a record that is there is the one that was programmed
+pub torn_is : (old left : Pages) (i : ℕ) (r q : PageRecord) → IsTorn old left i (Some r) → record_at left i ≡ Some q → q ≡ r
+torn_is old left i r q torn there = ⊎_elim
+    (λ none. absurd (none-some q (sym none ∙ there)))
+    (λ here. same_Some q r (sym there ∙ here))
+    torn.here
+
+module _ (old left : Pages) (i : ℕ) (r : Option PageRecord) (nothing : record_at old i ≡ None) (torn : IsTorn old left i r) where
+  -- where no record came to lie none changed
+  pub torn_same : record_at left i ≡ None → HasSameRecords old left
+  torn_same none j = ⊎_elim
+      (λ here. subst (λ k. record_at left k ≡ record_at old k) (sym here) (none ∙ sym nothing))
+      (λ apart. torn.elsewhere j apart)
+      (cases_eq j i)
+
+  -- where a record was it is still
+  pub torn_still : (j : ℕ) (q : PageRecord) → record_at old j ≡ Some q → record_at left j ≡ Some q
+  torn_still j q there = torn.elsewhere j (λ here. none-some q (sym nothing ∙ subst (λ k. record_at old k ≡ Some q) here there)) ∙ there
+
+  -- a spare block in which the place does not lie is still spare
+  pub torn_is_spare : (n block : ℕ) → i / 64 ≢ block → IsSpare old n block → IsSpare left n block
+  torn_is_spare n block apart spare = λ x needed at.
+      let is = is_newest_of left x.says.file x.says.page n x needed.newest_is in
+      let was : IsNewest old x.says.file x.says.page n x = record {
+        of_page = is.of_page;
+        within = is.within;
+        there = sym (torn.elsewhere x.place (λ here. apart (ap (λ k. k / 64) (sym here) ∙ at))) ∙ is.there;
+        most = λ j q within there of_page. is.most j q within (torn_still j q there) of_page;
+        first = λ j q before there of_page. is.first j q before (torn_still j q there) of_page;
+      } in
+      spare x (record {
+        newest_is = one_newest old x.says.file x.says.page n (newest old x.says.file x.says.page n) (Some x) (newest_is old x.says.file x.says.page n) was;
+        alone = λ j copy. needed.alone j (record { within = copy.within; apart = copy.apart; same = torn_still j x.says copy.same });
+      }) at
+
 module _ (old left : Pages) (n : ℕ) (place : Place) (r : PageRecord) (small : place.page < 64) (within : number place < n)
     (nothing : record_at old (number place) ≡ None)
     (newer : (j : ℕ) (q : PageRecord) → j < n → record_at old j ≡ Some q → q.sequence < r.sequence) where
-  same_by : IsTorn old left (number place) (Some r) → record_at left (number place) ≡ None → SameRecords old left
-  same_by torn none j = ⊎_elim
-      (λ here. subst (λ k. record_at left k ≡ record_at old k) (sym here) (none ∙ sym nothing))
-      (λ apart. torn.elsewhere j apart)
-      (cases_eq j (number place))
-
   -- a newer record was added, or no record changed
-  pub torn_adds : IsTorn old left (number place) (Some r) → SameRecords old left ⊎ Adds old left n place r
+  pub torn_adds : IsTorn old left (number place) (Some r) → HasSameRecords old left ⊎ Adds old left n place r
   torn_adds torn = ⊎_elim
-      (λ none. inl (same_by torn none))
+      (λ none. inl (torn_same old left (number place) (Some r) nothing torn none))
       (λ here. inr (record { small = small; within = within; nothing = nothing; here = here; elsewhere = torn.elsewhere; newer = newer }))
       torn.here
+
+  -- a record that is there was added
+  pub torn_adds_there : IsTorn old left (number place) (Some r) → (q : PageRecord) → record_at left (number place) ≡ Some q → Adds old left n place q
+  torn_adds_there torn q there = record {
+    small = small;
+    within = within;
+    nothing = nothing;
+    here = there;
+    elsewhere = torn.elsewhere;
+    newer = λ j p inside was. subst (λ (z : PageRecord). p.sequence < z.sequence) (sym (torn_is old left (number place) r q torn there)) (newer j p inside was);
+  }
 
 module _ (old : Pages) (n : ℕ) (place : Place) (bytes : List ℕ) (r : PageRecord) (small : place.page < 64) (within : number place < n)
     (blank : old place.block place.page ≡ blank_page) (is : record_in bytes ≡ Some r)
     (newer : (j : ℕ) (q : PageRecord) → j < n → record_at old j ≡ Some q → q.sequence < r.sequence) where
   -- a newer record was to be added, which was cut short: it was, or no record changed
   pub torn_add : (left : Pages) → TornPage place.block place.page old left → IsPlain old (program_page old place.block place.page bytes) left
-      → SameRecords old left ⊎ Adds old left n place r
+      → HasSameRecords old left ⊎ Adds old left n place r
   torn_add left torn plain = torn_adds old left n place r small within (nothing_there old place.block place.page small blank) newer
       (subst (IsTorn old left (number place)) is (torn_program old place.block place.page small blank left bytes torn plain))
 

@@ -1,5 +1,5 @@
 -- What a table says of the newest records.
-use Rattle.std.specs.Prelude.{◌≡◌, ◌⊎◌, ℕ, ◌+◌, ◌*◌, ◌<◌, ◌≤◌, ◌&&◌, ◌==◌, Bool, List, Option, Some, None, max, nat_eq, is_some, unwrap_or, slice_index, if◌then◌else◌}
+use Rattle.std.specs.Prelude.{◌≡◌, ◌⊎◌, ℕ, ◌+◌, ◌*◌, ◌<◌, ◌≤◌, ◌&&◌, ◌==◌, Bool, List, Option, Some, None, max, nat_eq, is_some, unwrap_or, slice_index, IsSome, if◌then◌else◌}
 use Rattle.std.specs.HashMap.{HashMap, get, hash_map_len, spare}
 use Rattle.std.specs.Map.{update_all}
 use Rattle.flash_record.specs.PageRecord.{PageRecord}
@@ -33,6 +33,13 @@ HasRoom table = table.limit ≤ hash_map_len table.newest + spare table.newest
 -- how long a file is by a table of lengths, and by the table
 abbrev pub len_in : {S : Type 0} → HashMap ℕ ℕ S → ℕ → ℕ
 len_in lens file = unwrap_or (get nat_eq lens file) 0
+
+abbrev pub HasLenIn : {S : Type 0} → HashMap ℕ ℕ S → ℕ → Type 0
+HasLenIn lens file = IsSome (get nat_eq lens file)
+
+-- it has a length for this file
+abbrev pub HasLen : Table → ℕ → Type 0
+HasLen table file = HasLenIn table.lens file
 
 abbrev pub len_known : Table → ℕ → ℕ
 len_known table file = len_in table.lens file

@@ -10,3 +10,4 @@ pub mod Does
 pub mod FlashDiskMedium
 pub mod Sound
 pub mod Writes
+pub mod FlashDiskLaws

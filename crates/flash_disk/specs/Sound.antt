@@ -1,5 +1,5 @@
 -- What a disk over flash keeps in memory, and how it fits what the pages hold.
-use Rattle.std.specs.Prelude.{◌≡◌, ◌≢◌, ◌⊎◌, ℕ, ◌/◌, ◌+◌, ◌*◌, ◌<◌, ◌≤◌, List, Option, Some, None, IsFalse, slice_index}
+use Rattle.std.specs.Prelude.{◌≡◌, ◌≢◌, ◌⊎◌, ℕ, ◌/◌, ◌+◌, ◌*◌, ◌<◌, ◌≤◌, List, Option, Some, None, IsFalse, length, slice_index}
 use Rattle.std.specs.HashMap.{spare}
 use Rattle.disk_model.specs.Image.{Image}
 use Rattle.flash_model.specs.Pages.{Pages, blank_page, TornPage}
@@ -11,7 +11,7 @@ use Rattle.flash_disk.specs.declared.table.Place.{Place}
 use Rattle.flash_disk.specs.declared.table.Table.{Table}
 use Rattle.flash_disk.specs.declared.layer.LayerState.{LayerState}
 use Rattle.flash_disk.specs.Newest.{record_at, places, page_limit, IsSpare}
-use Rattle.flash_disk.specs.Known.{known, page_len, limit_of, page_of}
+use Rattle.flash_disk.specs.Known.{known, page_len, limit_of, page_of, HasLen}
 use Rattle.flash_disk.specs.Learnt.{number, Knows, Adds, HasPlace, Tops}
 use Rattle.flash_disk.specs.FlashFiles.{file_byte, file_len, flash_files}
 use Rattle.flash_disk.specs.Standing.{IsAgreed, IsStrayless, MayGrow, HasSpare}
@@ -43,6 +43,7 @@ pub record Sound (pages : Pages) (blocks : ℕ) (s : LayerState) : Type 0 where
   pub limit : limit_of s.table ≡ page_limit blocks
   -- there is memory for the length of a file more for each page more
   pub files : limit_of s.table ≤ page_len s.table + spare s.table.lens
+  pub measured : (key : FilePage) (entry : Newest) → known s.table key ≡ Some entry → HasLen s.table key.file
   -- the spare block may be erased
   pub within : s.spare < blocks
   pub is_spare : IsSpare pages (places blocks) s.spare
@@ -67,8 +68,11 @@ FitsIn m s file page len bytes = Fits m.state.pages m.blocks s file page len byt
 pub record Enters (old new : Pages) (blocks : ℕ) (s : LayerState) (place : Place) (r : PageRecord) : Type 0 where
   pub adds : Adds old new (places blocks) place r
   pub fits : Fits old blocks s r.file r.page r.len r.bytes
+  pub full : length r.bytes ≡ 256
   pub numbered : r.sequence ≤ s.sequence
   pub elsewhere : TornPage place.block place.page old new
+  pub apart : place.block ≢ s.spare
+  pub behind : place.block ≡ s.current → place.page < s.fill
 
 -- what a page may hold in which a call that failed may have left anything
 pub record Pends (sure pages : Pages) (blocks : ℕ) (s : LayerState) (place : Place) : Type 0 where

@@ -31,7 +31,7 @@ impl<F: Flash> Layer<F> {
         ensures sequence { self.new.state.sequence ≡ self.old.state.sequence }
         ensures unchanged { IsTrue F.told → (F.medium self.new.flash).state ≡ (F.medium self.old.flash).state }
         ensures during { EachFlashCase (IsStill (F.medium self.old.flash).state) (F.medium self.old.flash) (F.medium self.new.flash) }
-        ensures time { FlashElapses (F.medium self.old.flash) (F.medium self.new.flash) }
+        ensures time { IsTrue F.told → FlashElapses (F.medium self.old.flash) (F.medium self.new.flash) }
         ensures own { self.new.own ≡ self.old.own }
         ensures cause { HasCause ((F.medium self.old.flash).faults + self.old.own) ((F.medium self.new.flash).faults + self.new.own) result }
     {
@@ -83,7 +83,7 @@ impl<F: Flash> Layer<F> {
             (F.medium self.old.flash) (F.medium self.new.flash) }
         ensures rises { OnOk result (self.old.state.sequence < self.new.state.sequence) }
         ensures later { self.old.state.sequence ≤ self.new.state.sequence }
-        ensures time { FlashElapses (F.medium self.old.flash) (F.medium self.new.flash) }
+        ensures time { IsTrue F.told → FlashElapses (F.medium self.old.flash) (F.medium self.new.flash) }
         ensures cause { HasCause ((F.medium self.old.flash).faults + self.old.own) ((F.medium self.new.flash).faults + self.new.own) result }
     {
         self.make_room()?;
@@ -106,7 +106,7 @@ impl<F: Flash> Layer<F> {
             (F.medium self.old.flash) (F.medium self.new.flash) }
         ensures rises { OnOk result (self.old.state.sequence < self.new.state.sequence) }
         ensures later { self.old.state.sequence ≤ self.new.state.sequence }
-        ensures time { FlashElapses (F.medium self.old.flash) (F.medium self.new.flash) }
+        ensures time { IsTrue F.told → FlashElapses (F.medium self.old.flash) (F.medium self.new.flash) }
         ensures cause { HasCause ((F.medium self.old.flash).faults + self.old.own) ((F.medium self.new.flash).faults + self.new.own) result }
     {
         let sequence = self.next_sequence()?;
@@ -164,7 +164,7 @@ impl<F: Flash> Layer<F> {
         ensures does { IsTrue F.told → Does (StandsFor (files_of (F.medium self.old.flash)) (F.medium self.old.flash).blocks)
             (F.medium self.old.flash) (F.medium self.new.flash) }
         ensures sequence { self.new.state.sequence ≡ self.old.state.sequence }
-        ensures time { FlashElapses (F.medium self.old.flash) (F.medium self.new.flash) }
+        ensures time { IsTrue F.told → FlashElapses (F.medium self.old.flash) (F.medium self.new.flash) }
         ensures cause { HasCause ((F.medium self.old.flash).faults + self.old.own) ((F.medium self.new.flash).faults + self.new.own) result }
     {
         if self.state.fill < BLOCK_PAGES {
@@ -189,7 +189,7 @@ impl<F: Flash> Layer<F> {
         ensures does { IsTrue F.told → Does (StandsFor (files_of (F.medium self.old.flash)) (F.medium self.old.flash).blocks)
             (F.medium self.old.flash) (F.medium self.new.flash) }
         ensures sequence { self.new.state.sequence ≡ self.old.state.sequence }
-        ensures time { FlashElapses (F.medium self.old.flash) (F.medium self.new.flash) }
+        ensures time { IsTrue F.told → FlashElapses (F.medium self.old.flash) (F.medium self.new.flash) }
         ensures cause { HasCause ((F.medium self.old.flash).faults + self.old.own) ((F.medium self.new.flash).faults + self.new.own) result }
     {
         let target = self.state.spare;

@@ -93,7 +93,7 @@ impl<F: Flash> Layer<F> {
             (FailsToProgram place.block place.page bytes.now (F.medium self.old.flash).state (F.medium self.new.flash).state) }
         ensures during { IsTrue F.told → EachFlashCase (λ c. IsStill (F.medium self.old.flash).state c ⊎ (IsStill (F.medium self.new.flash).state c
             ⊎ ProgramCase place.block place.page bytes.now (F.medium self.old.flash).state c)) (F.medium self.old.flash) (F.medium self.new.flash) }
-        ensures time { FlashElapses (F.medium self.old.flash) (F.medium self.new.flash) }
+        ensures time { IsTrue F.told → FlashElapses (F.medium self.old.flash) (F.medium self.new.flash) }
         ensures state { self.new.state ≡ self.old.state }
         ensures own { IsTrue F.told → self.new.own ≡ self.old.own }
         ensures cause { HasCause ((F.medium self.old.flash).faults + self.old.own) ((F.medium self.new.flash).faults + self.new.own) result }
@@ -115,7 +115,7 @@ impl<F: Flash> Layer<F> {
             (FailsToErase block (F.medium self.old.flash).state (F.medium self.new.flash).state) }
         ensures during { IsTrue F.told → EachFlashCase (λ c. IsStill (F.medium self.old.flash).state c ⊎ (IsStill (F.medium self.new.flash).state c
             ⊎ EraseCase block (F.medium self.old.flash).state c)) (F.medium self.old.flash) (F.medium self.new.flash) }
-        ensures time { FlashElapses (F.medium self.old.flash) (F.medium self.new.flash) }
+        ensures time { IsTrue F.told → FlashElapses (F.medium self.old.flash) (F.medium self.new.flash) }
         ensures state { self.new.state ≡ self.old.state }
         ensures own { IsTrue F.told → self.new.own ≡ self.old.own }
         ensures cause { HasCause ((F.medium self.old.flash).faults + self.old.own) ((F.medium self.new.flash).faults + self.new.own) result }

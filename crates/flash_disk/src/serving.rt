@@ -71,7 +71,7 @@ impl<F: Flash> Layer<F> {
             (F.medium self.old.flash) (F.medium self.new.flash) }
         ensures rises { OnOk result (self.old.state.sequence < self.new.state.sequence) }
         ensures later { self.old.state.sequence ≤ self.new.state.sequence }
-        ensures time { FlashElapses (F.medium self.old.flash) (F.medium self.new.flash) }
+        ensures time { IsTrue F.told → FlashElapses (F.medium self.old.flash) (F.medium self.new.flash) }
         ensures cause { HasCause ((F.medium self.old.flash).faults + self.old.own) ((F.medium self.new.flash).faults + self.new.own) result }
     {
         let key = FilePage {
@@ -106,7 +106,7 @@ impl<F: Flash> Layer<F> {
         ensures does { IsTrue F.told → Does (StandsFor (files_of (F.medium self.old.flash)) (F.medium self.old.flash).blocks)
             (F.medium self.old.flash) (F.medium self.new.flash) }
         ensures later { self.old.state.sequence ≤ self.new.state.sequence }
-        ensures time { FlashElapses (F.medium self.old.flash) (F.medium self.new.flash) }
+        ensures time { IsTrue F.told → FlashElapses (F.medium self.old.flash) (F.medium self.new.flash) }
         ensures cause { HasCause ((F.medium self.old.flash).faults + self.old.own) ((F.medium self.new.flash).faults + self.new.own) result }
     {
         let len = self.state.table.len_of(file);
@@ -133,7 +133,7 @@ impl<F: Flash> Layer<F> {
             (F.medium self.old.flash) (F.medium self.new.flash) }
         ensures stray_end { self.new.state.stray_end ≡ self.old.state.stray_end }
         ensures later { self.old.state.sequence ≤ self.new.state.sequence }
-        ensures time { FlashElapses (F.medium self.old.flash) (F.medium self.new.flash) }
+        ensures time { IsTrue F.told → FlashElapses (F.medium self.old.flash) (F.medium self.new.flash) }
         ensures cause { HasCause ((F.medium self.old.flash).faults + self.old.own) ((F.medium self.new.flash).faults + self.new.own) result }
     {
         let key = FilePage {
@@ -181,7 +181,7 @@ impl<F: Flash> Layer<F> {
             (F.medium self.old.flash) (F.medium self.new.flash) }
         ensures rises { OnOk result (length bytes.now + 256 * self.old.state.sequence ≤ 256 * self.new.state.sequence) }
         ensures later { self.old.state.sequence ≤ self.new.state.sequence }
-        ensures time { FlashElapses (F.medium self.old.flash) (F.medium self.new.flash) }
+        ensures time { IsTrue F.told → FlashElapses (F.medium self.old.flash) (F.medium self.new.flash) }
         ensures cause { HasCause ((F.medium self.old.flash).faults + self.old.own) ((F.medium self.new.flash).faults + self.new.own) result }
     {
         let mut done = 0;
@@ -211,7 +211,7 @@ impl<F: Flash> Layer<F> {
         ensures rises { OnOk result (length bytes.now + 256 * self.old.state.sequence ≤ 256 * self.new.state.sequence) }
         ensures later { self.old.state.sequence ≤ self.new.state.sequence }
         ensures writes { IsTrue F.told → WritesInto file at bytes.now (F.medium self.old.flash) (F.medium self.new.flash) }
-        ensures time { FlashElapses (F.medium self.old.flash) (F.medium self.new.flash) }
+        ensures time { IsTrue F.told → FlashElapses (F.medium self.old.flash) (F.medium self.new.flash) }
         ensures cause { HasCause ((F.medium self.old.flash).faults + self.old.own) ((F.medium self.new.flash).faults + self.new.own) result }
     {
         let end = match at.checked_add(bytes.len() as u64) {

@@ -2,7 +2,7 @@
 
 ghost use Rattle.std.specs.Prelude.{◌≡◌, ◌≢◌, ◌⊎◌, ◌↔◌, ◌≤◌, ◌<◌, ◌+◌, ◌-◌, ◌*◌, ◌==◌, ℕ, IfOk, IsSome, IsTrue, IsFalse, Some, None, All, max, if◌then◌else◌};
 ghost use Rattle.std.specs.HashMap.{hash_map_len, spare};
-ghost use Rattle.flash_disk.specs.Known.{len_in, IsLongest, EndsBy};
+ghost use Rattle.flash_disk.specs.Known.{len_in, HasLenIn, IsLongest, EndsBy};
 
 use std::alloc::{AllocError, Global};
 use std::collections::HashMap;
@@ -49,7 +49,7 @@ pub struct Table {
 }
 
 impl Table {
-    ghost use Rattle.flash_disk.specs.Known.{known, page_len, limit_of, len_known, load_known, Puts, PutsAll, SameRecords, Lengthens, SameLens, IsEmptyTable, HasRoom};
+    ghost use Rattle.flash_disk.specs.Known.{known, page_len, limit_of, len_known, HasLen, load_known, Puts, PutsAll, SameRecords, Lengthens, SameLens, IsEmptyTable, HasRoom};
 
     /// An empty table for a flash of so many blocks.
     pub fn new(alloc: Global, blocks: u32) -> Result<Table, AllocError>
@@ -143,6 +143,8 @@ impl Table {
     /// Sets the newest records of pages that have one.
     pub fn put_all(&mut self, news: &[(FilePage, Newest)])
         ensures put { All (λ new. IsSome (known self.old new.0)) news.now → HasRoom self.old → PutsAll self.old self.new news.now }
+        ensures len { All (λ new. IsSome (known self.old new.0)) news.now → HasRoom self.old → page_len self.new ≡ page_len self.old }
+        ensures room { All (λ new. IsSome (known self.old new.0)) news.now → HasRoom self.old → HasRoom self.new }
         ensures limit { limit_of self.new ≡ limit_of self.old }
         ensures lens { self.new.lens ≡ self.old.lens }
     {
@@ -151,16 +153,17 @@ impl Table {
         }
     }
 
-    /// Makes a file at least so long; `false`, and no change, where there is no room for it.
+    /// Makes a file at least so long; `false`, and no change, where there is no room for it. Only a file that has no length yet takes room.
     pub fn lengthen(&mut self, file: u32, len: u64) -> bool
         ensures lengthened { IsTrue result → Lengthens self.old self.new file len }
+        ensures has { IsTrue result → (f : ℕ) → HasLen self.old f ⊎ (f ≡ file) → HasLen self.new f }
         ensures same { IsFalse result → SameLens self.old self.new }
+        ensures succeeds { (0 < spare self.old.lens) ⊎ HasLen self.old file → IsTrue result }
+        ensures spare { spare self.old.lens ≤ spare self.new.lens + 1 }
+        ensures in_place { HasLen self.old file → spare self.old.lens ≤ spare self.new.lens }
         ensures records { self.new.newest ≡ self.old.newest }
         ensures limit { limit_of self.new ≡ limit_of self.old }
     {
-        if len <= self.len_of(file) {
-            return true;
-        }
         raise(&mut self.lens, file, len)
     }
 
@@ -254,11 +257,29 @@ fn raise_all(lens: &mut HashMap<u32, u64>, newest: &HashMap<FilePage, Newest>)
 fn raise(lens: &mut HashMap<u32, u64>, file: u32, len: u64) -> bool
     ensures raised { IsTrue result → (f : ℕ) → len_in lens.new f ≡ (if f == file then max (len_in lens.old f) len else len_in lens.old f) }
     ensures same { IsFalse result → (f : ℕ) → len_in lens.new f ≡ len_in lens.old f }
+    ensures has { IsTrue result → (f : ℕ) → HasLenIn lens.old f ⊎ (f ≡ file) → HasLenIn lens.new f }
     ensures succeeds { 0 < spare lens.old → IsTrue result }
+    ensures known { HasLenIn lens.old file → IsTrue result }
     ensures spare { spare lens.old ≤ spare lens.new + 1 }
+    ensures in_place { HasLenIn lens.old file → spare lens.old ≤ spare lens.new }
 {
-    let old = lens.get(&file).copied().unwrap_or(0);
-    lens.insert(file, old.max(len)).is_ok()
+    if lens.contains_key(&file) {
+        raise_known(lens, file, len);
+        return true;
+    }
+    lens.insert(file, len).is_ok()
+}
+
+// Makes a file that has a length at least so long.
+fn raise_known(lens: &mut HashMap<u32, u64>, file: u32, len: u64)
+    requires { HasLenIn lens.old file }
+    ensures raised { (f : ℕ) → len_in lens.new f ≡ (if f == file then max (len_in lens.old f) len else len_in lens.old f) }
+    ensures has { (f : ℕ) → HasLenIn lens.old f → HasLenIn lens.new f }
+    ensures spare { spare lens.new ≡ spare lens.old }
+{
+    if let Some(known) = lens.get_mut(&file) {
+        *known = len.max(*known);
+    }
 }
 
 /// Where the last byte other than zero of a record ends in its file.

@@ -1,0 +1,181 @@
+-- A record is added to the block that is being filled, or what the call that failed may have left pends.
+use Rattle.std.proofs.Common.{◌≡◌, ◌≢◌, ◌⊎◌, ℕ, ◌+◌, ◌*◌, ◌/◌, ◌<◌, ◌≤◌, Bool, List, length, Result, OnOk, OnErr, refl, sym, ap, subst, ◌∙◌, inl, inr, ⊎_elim, arith}
+use Rattle.std.specs.Prelude.{Option, Some, None, IsFalse}
+use Rattle.flash_model.specs.Pages.{Pages, TornPage, IsPlain, program_page, blank_page}
+use Rattle.flash_model.specs.State.{FlashState, IsStill, ProgramCase, FailsToProgram, programmed}
+use Rattle.flash_model.specs.FlashMedium.{FlashMedium, IsLawfulFlash, EachFlashCase}
+use Rattle.flash_record.specs.PageRecord.{PageRecord, record_in}
+use Rattle.flash_disk.specs.declared.table.Place.{Place}
+use Rattle.flash_disk.specs.declared.layer.LayerState.{LayerState}
+use Rattle.flash_disk.specs.Newest.{record_at, places}
+use Rattle.flash_disk.specs.Learnt.{number, Adds}
+use Rattle.flash_disk.specs.FlashFiles.{flash_files}
+use Rattle.flash_disk.specs.Does.{Does}
+use Rattle.flash_disk.specs.PutPart.{PutPart}
+use Rattle.flash_disk.specs.Sound.{files_of, Sound, IsSound, IsFresh, FitsIn, Enters, Pends, Holds, LeavesPut}
+use Rattle.flash_disk.proofs.Standing.{HasSameRecords, records_spare}
+use Rattle.flash_disk.proofs.Sparing.{number_block}
+use Rattle.flash_disk.proofs.Growing.{adds_put, adds_is_spare, grown_put}
+use Rattle.flash_disk.proofs.Tearing.{IsTorn, nothing_there, torn_program, torn_is, torn_adds_there, torn_add, whole_add, whole_torn}
+use Rattle.flash_disk.proofs.Stretches.{does_nothing, program_does}
+
+-- nothing was put yet
+pub nothing_put : (m : FlashMedium) (s : LayerState) → IsSound m s → (file at len : ℕ) (bytes : List ℕ) → LeavesPut file at bytes len (files_of m) m.blocks m.state.pages
+nothing_put m s sound file at len bytes = record { put = inl refl; spare = (s.spare, sound.within, sound.is_spare) }
+
+-- no call was made
+pub puts_nothing : (told : Bool) (m : FlashMedium) → IsLawfulFlash told m → (s : LayerState) → IsSound m s → (file at len : ℕ) (bytes : List ℕ)
+    → Does (LeavesPut file at bytes len (files_of m) m.blocks) m m
+puts_nothing told m lawful s sound file at len bytes = does_nothing m m (LeavesPut file at bytes len (files_of m) m.blocks) refl
+    (λ x past. lawful.only_now x past) (nothing_put m s sound file at len bytes)
+
+module _ (m now : FlashMedium) (s u : LayerState) (place : Place) (r : PageRecord) (whole : List ℕ)
+    (sound : IsSound m s) (room : s.fill < 64) (fits : FitsIn m s r.file r.page r.len r.bytes) (full : length r.bytes ≡ 256)
+    (at : place ≡ (let p : Place = record { block = s.current; page = s.fill } in p)) (sequence : r.sequence ≡ s.sequence + 1)
+    (on : u ≡ record s { sequence = r.sequence; fill = s.fill + 1 }) (is : record_in whole ≡ Some r) where
+  abbrev pages : Pages
+  pages = m.state.pages
+
+  abbrev n : ℕ
+  n = places m.blocks
+
+  abbrev fresh : IsFresh pages m.blocks s
+  fresh = sound.fresh room
+
+  abbrev block_is : place.block ≡ s.current
+  block_is = ap (λ p. p.block) at
+
+  abbrev page_is : place.page ≡ s.fill
+  page_is = ap (λ p. p.page) at
+
+  small : place.page < 64
+  small = omega (arith, page_is, room)
+
+  block_in : place.block < m.blocks
+  block_in = let within = fresh.within in omega (arith, block_is, within)
+
+  within : number place < n
+  within = omega (arith, small, block_in)
+
+  blank : pages place.block place.page ≡ blank_page
+  blank = subst (λ (p : Place). pages p.block p.page ≡ blank_page) (sym at) (fresh.blank s.fill (omega arith) room)
+
+  apart : place.block ≢ s.spare
+  apart = λ same. fresh.apart (sym block_is ∙ same)
+
+  number_apart : number place / 64 ≢ s.spare
+  number_apart = λ same. apart (sym (number_block place small) ∙ same)
+
+  newer : (j : ℕ) (q : PageRecord) → j < n → record_at pages j ≡ Some q → q.sequence < r.sequence
+  newer j q inside there = let le = sound.tops j q inside there in omega (arith, le, sequence)
+
+  nothing : record_at pages (number place) ≡ None
+  nothing = nothing_there pages place.block place.page small blank
+
+  abbrev written : Pages
+  written = program_page pages place.block place.page whole
+
+  adds : Adds pages written n place r
+  adds = whole_add pages n place whole r small within blank is newer
+
+  -- the state while the record is added
+  abbrev pub adding : Option Place → LayerState
+  adding w = record s { sequence = r.sequence; fill = s.fill + 1; unsure = w }
+
+  still_sound : (w : Option Place) → Sound pages m.blocks (adding w)
+  still_sound w = record {
+    knows = sound.knows;
+    tops = λ j q inside there. (let less = newer j q inside there in omega (arith, less));
+    strays = sound.strays;
+    limit = sound.limit;
+    files = sound.files;
+    measured = sound.measured;
+    within = sound.within;
+    is_spare = sound.is_spare;
+    agreed = sound.agreed;
+    apart = sound.apart;
+    fresh = λ more. record {
+      agreed = fresh.agreed;
+      within = fresh.within;
+      apart = fresh.apart;
+      blank = λ p past less. fresh.blank p (omega (arith, past)) less;
+    };
+  }
+
+  entering : (w : Option Place) (left : Pages) → TornPage place.block place.page pages left → Adds pages left n place r
+      → Enters pages left m.blocks (adding w) place r
+  entering w left torn added = record {
+    adds = added;
+    fits = record { place = fits.place; no_shorter = fits.no_shorter; zeros = fits.zeros; grows = fits.grows };
+    full = full;
+    numbered = omega arith;
+    elsewhere = torn;
+    apart = apart;
+    behind = λ _. omega (arith, page_is);
+  }
+
+  -- the record was added
+  pub added_sound : now.state ≡ programmed m.state place.block place.page whole → now.blocks ≡ m.blocks → (after : LayerState)
+      → ((old new : Pages) (b : ℕ) → Sound old b u → IsFalse u.disputed → Enters old new b u place r → Sound new b after) → IsSound now after
+  added_sound done blocks after enters =
+      let state : adding s.unsure ≡ u = sym on in
+      subst (λ b. Sound now.state.pages b after) (sym blocks) (subst (λ (z : FlashState). Sound z.pages m.blocks after) (sym done)
+      (enters pages written m.blocks
+      (subst (Sound pages m.blocks) state (still_sound s.unsure))
+      (subst (λ (q : LayerState). IsFalse q.disputed) state fresh.agreed)
+      (subst (λ q. Enters pages written m.blocks q place r) state (entering s.unsure written (whole_torn pages place.block place.page whole) adds))))
+
+  pub added_put : now.state ≡ programmed m.state place.block place.page whole → now.blocks ≡ m.blocks
+      → PutPart r.file (256 * r.page) r.bytes r.len (files_of m) (files_of now)
+  added_put done blocks = subst (λ b. PutPart r.file (256 * r.page) r.bytes r.len (files_of m) (flash_files now.state.pages b)) (sym blocks)
+      (subst (λ (z : FlashState). PutPart r.file (256 * r.page) r.bytes r.len (files_of m) (flash_files z.pages m.blocks)) (sym done)
+      (adds_put pages written m.blocks place r adds fits.no_shorter fits.grows full))
+
+  -- what a call that failed left pends
+  pub failed_holds : FailsToProgram place.block place.page whole m.state now.state → now.blocks ≡ m.blocks → Holds now (record u { unsure = Some place })
+  failed_holds failed blocks =
+      let left = now.state.pages in
+      let torn = subst (IsTorn pages left (number place)) is (torn_program pages place.block place.page small blank left whole failed.torn failed.plain) in
+      let state : adding (Some place) ≡ record u { unsure = Some place } = ap (λ (q : LayerState). let t : LayerState = record q { unsure = Some place } in t) (sym on) in
+      subst (Holds now) state (record {
+        sure = pages;
+        sound = subst (λ b. Sound pages b (adding (Some place))) (sym blocks) (still_sound (Some place));
+        pends = subst (λ b. Pends pages left b (adding (Some place)) place) (sym blocks) (record {
+          agreed = fresh.agreed;
+          small = small;
+          within = block_in;
+          apart = apart;
+          behind = λ _. omega (arith, page_is);
+          nothing = nothing;
+          elsewhere = failed.torn;
+          may_enter = λ q there. (let same : q ≡ r = torn_is pages left (number place) r q torn there in
+              subst (Enters pages left m.blocks (adding (Some place)) place) (sym same) (entering (Some place) left failed.torn
+              (subst (Adds pages left n place) same (torn_adds_there pages left n place r small within nothing newer torn q there))));
+        });
+      })
+
+  abbrev pub Puts : Pages → Type 0
+  Puts = LeavesPut r.file (256 * r.page) r.bytes r.len (files_of m) m.blocks
+
+  leaves : (left : Pages) → HasSameRecords pages left ⊎ Adds pages left n place r → Puts left
+  leaves left grows = record {
+    put = grown_put pages left m.blocks place r grows fits.no_shorter fits.grows full;
+    spare = (
+      s.spare,
+      sound.within,
+      ⊎_elim
+          (λ same. records_spare pages left same n s.spare sound.is_spare)
+          (λ added. adds_is_spare pages left n place r added s.spare sound.is_spare number_apart)
+          grows,
+    );
+  }
+
+  -- it was added, or nothing was
+  pub add_does : {T E : Type 0} → (result : Result T E)
+      → OnOk result (now.state ≡ programmed m.state place.block place.page whole)
+      → OnErr result (FailsToProgram place.block place.page whole m.state now.state)
+      → EachFlashCase (λ c. IsStill m.state c ⊎ (IsStill now.state c ⊎ ProgramCase place.block place.page whole m.state c)) m now → Does Puts m now
+  add_does result done failed cases = program_does m now Puts place.block place.page whole result done failed cases
+      (nothing_put m s sound r.file (256 * r.page) r.len r.bytes)
+      (leaves written (inr adds))
+      (λ left torn plain. leaves left (torn_add pages n place whole r small within blank is newer left torn plain))

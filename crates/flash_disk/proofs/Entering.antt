@@ -1,0 +1,281 @@
+-- What is kept stays fit when a record comes to lie in the block that is being filled.
+use Rattle.std.proofs.Common.{◌≡◌, ◌≢◌, ◌⊎◌, ℕ, ◌+◌, ◌*◌, ◌/◌, ◌<◌, ◌≤◌, List, Bool, true, false, cond, length, drop, refl, sym, ap, subst, ◌∙◌, inl, inr, ⊎_elim, arith, true≢false, eq-eqb, length-drop}
+use Rattle.std.specs.Prelude.{Option, Some, None, IsTrue, IsFalse, IsSome, nat_eq, max, is_some, slice_index, ◌↔◌}
+use Rattle.std.specs.HashMap.{get, hash_map_len, spare}
+use Rattle.std.proofs.lemmas.Bool.{cases_eq, cases_Bool, eqb-true, ne_eqb}
+use Rattle.std.proofs.lemmas.Option.{same_Some, none-some}
+use Rattle.flash_model.specs.Pages.{Pages, TornPage, blank_page}
+use Rattle.flash_model.specs.FlashMedium.{FlashMedium}
+use Rattle.flash_record.specs.PageRecord.{PageRecord, record_in}
+use Rattle.flash_disk.specs.declared.table.FilePage.{FilePage}
+use Rattle.flash_disk.specs.declared.table.Place.{Place}
+use Rattle.flash_disk.specs.declared.table.Newest.{Newest}
+use Rattle.flash_disk.specs.declared.table.Table.{Table}
+use Rattle.flash_disk.specs.declared.layer.LayerState.{LayerState}
+use Rattle.flash_disk.specs.Newest.{Placed, record_at, newest, places}
+use Rattle.flash_disk.specs.Known.{same_page, page_of, known, page_len, limit_of, len_in, len_known, HasLenIn, HasLen, Puts, Lengthens, HasRoom}
+use Rattle.flash_disk.specs.Learnt.{number, Led, LedOf, IsLed, Knows, Adds, HasPlace, Tops}
+use Rattle.flash_disk.specs.FlashFiles.{file_len, IsFileLen}
+use Rattle.flash_disk.specs.FlashFilesLaws.{file_len_is, one_len}
+use Rattle.flash_disk.specs.Sound.{Sound, IsSound, IsFresh, Enters, Fits, Pends, PendsAt, Holds}
+use Rattle.flash_disk.proofs.Standing.{HasSameRecords, records_known, records_tops, records_alike, records_spare, records_agreed, same_said_strayless}
+use Rattle.flash_disk.proofs.Tearing.{torn_same, torn_page}
+use Rattle.flash_disk.proofs.Sparing.{LiesElsewhere}
+use Rattle.flash_disk.proofs.Growing.{adds_agreed, adds_len, adds_other_len, adds_strayless, adds_spare}
+use Rattle.flash_disk.proofs.Programming.{IsItsEntry, added, same_led, either}
+use Rattle.flash_disk.proofs.Learning.{same_page_is, record_at_place}
+
+-- an entry that leads to the newest record of a page
+by_entry : (pages : Pages) (n : ℕ) (o : Option Newest) (best : Option Placed) (x : Placed) → best ≡ Some x → LedOf pages n o best
+    → (e : Newest) × (o ≡ Some e) × Led pages n e x
+by_entry pages n None None x is led = absurd (none-some x is)
+by_entry pages n None (Some y) x is led = absurd led
+by_entry pages n (Some e) None x is led = absurd led
+by_entry pages n (Some e) (Some y) x is led = (e, refl, subst (Led pages n e) (same_Some y x is) led)
+
+pub entry_of : (pages : Pages) (n : ℕ) (table : Table) → IsLed pages n table → (key : FilePage) (x : Placed) → newest pages key.file key.page n ≡ Some x
+    → (e : Newest) × (known table key ≡ Some e) × Led pages n e x
+entry_of pages n table led key x is = by_entry pages n (known table key) (newest pages key.file key.page n) x is (led.says key)
+
+-- a page that has a place is put in
+pub has_place : (table : Table) (key : FilePage) → HasPlace table key → (known table key ≡ None) × (limit_of table ≤ page_len table) → ⊥
+has_place table key place full = ⊎_elim
+    (λ some. true≢false (sym (subst IsSome full.0 some)))
+    (λ room. (let none = full.1 in omega (arith, room, none)))
+    place
+
+-- each newest record lies outside the spare block, or an equal one does
+pub lies_elsewhere : (pages : Pages) (blocks : ℕ) (s : LayerState) → Sound pages blocks s → IsFalse s.disputed → LiesElsewhere pages (places blocks) s.spare
+lies_elsewhere pages blocks s sound agreed = λ file page x is.
+    let key : FilePage = record { file = file; page = page } in
+    let led = entry_of pages (places blocks) s.table sound.knows.led key x is in
+    let apart = sound.apart agreed key led.0 led.1 in
+    let small = led.2.leads.small in
+    (
+      number led.0.place,
+      led.2.within,
+      (λ same. apart (let e : led.0.place.block ≡ s.spare = omega (arith, same, small) in e)),
+      led.2.leads.there,
+    )
+
+-- what is kept does not speak of the page in doubt, nor of what was moved
+pub as_said : (pages : Pages) (blocks : ℕ) (s t : LayerState) → Sound pages blocks s → Sound pages blocks (record s { unsure = t.unsure; moved = t.moved })
+as_said pages blocks s t sound = record {
+  knows = sound.knows;
+  tops = sound.tops;
+  strays = sound.strays;
+  limit = sound.limit;
+  files = sound.files;
+  measured = sound.measured;
+  within = sound.within;
+  is_spare = sound.is_spare;
+  agreed = sound.agreed;
+  apart = sound.apart;
+  fresh = λ room. let fresh = sound.fresh room in record { agreed = fresh.agreed; within = fresh.within; apart = fresh.apart; blank = fresh.blank };
+}
+
+-- pages with the same records, and blank where blank ones are to be filled
+pub same_sound : (old new : Pages) (blocks : ℕ) (s : LayerState) → Sound old blocks s → HasSameRecords old new
+    → ((p : ℕ) → s.fill ≤ p → p < 64 → new s.current p ≡ old s.current p) → Sound new blocks s
+same_sound old new blocks s sound same blank = record {
+  knows = records_known old new same (places blocks) s.table sound.knows;
+  tops = records_tops old new same (places blocks) s.sequence sound.tops;
+  strays = same_said_strayless old new (places blocks) (records_alike old new same (places blocks)) s.stray_end sound.strays;
+  limit = sound.limit;
+  files = sound.files;
+  measured = sound.measured;
+  within = sound.within;
+  is_spare = records_spare old new same (places blocks) s.spare sound.is_spare;
+  agreed = λ agreed. records_agreed old new same (places blocks) (sound.agreed agreed);
+  apart = sound.apart;
+  fresh = λ room. let fresh = sound.fresh room in record {
+    agreed = fresh.agreed;
+    within = fresh.within;
+    apart = fresh.apart;
+    blank = λ p past small. blank p past small ∙ fresh.blank p past small;
+  };
+}
+
+-- a torn page in front of the blank ones leaves them so
+pub still_blank : (old new : Pages) (block page current fill : ℕ) → TornPage block page old new → (block ≡ current → page < fill)
+    → (p : ℕ) → fill ≤ p → p < 64 → new current p ≡ old current p
+still_blank old new block page current fill torn behind p past small = torn current p (⊎_elim
+    (λ here. inr (λ same. let before = behind (sym here) in omega (arith, before, same, past)))
+    (λ other. inl other)
+    (cases_eq current block))
+
+-- what fits the pages is what was kept
+pub sound_holds : (m : FlashMedium) (s : LayerState) → IsSound m s → s.unsure ≡ None → Holds m s
+sound_holds m s sound sure = record {
+  sure = m.state.pages;
+  sound = sound;
+  pends = subst (PendsAt m.state.pages m.state.pages m.blocks s) (sym sure) refl;
+}
+
+-- nothing that is kept is in doubt
+pub holds_sound : (m : FlashMedium) (s : LayerState) → Holds m s → s.unsure ≡ None → IsSound m s
+holds_sound m s holds sure =
+    let same : m.state.pages ≡ holds.sure = subst (PendsAt holds.sure m.state.pages m.blocks s) sure holds.pends in
+    subst (λ p. Sound p m.blocks s) (sym same) holds.sound
+
+-- a page in doubt was read
+module _ (m now : FlashMedium) (s t : LayerState) (place : Place) (holds : Holds m s) (is : s.unsure ≡ Some place)
+    (pages : now.state.pages ≡ m.state.pages) (blocks : now.blocks ≡ m.blocks) (state : t ≡ s) (page : List ℕ)
+    (read : place.block < m.blocks → place.page < 64 → page ≡ m.state.pages place.block place.page) where
+  abbrev pub pends : Pends holds.sure m.state.pages m.blocks s place
+  pends = subst (PendsAt holds.sure m.state.pages m.blocks s) is holds.pends
+
+  abbrev sure_state : LayerState
+  sure_state = record t { unsure = None }
+
+  was_sound : Sound holds.sure m.blocks sure_state
+  was_sound = subst (λ (q : LayerState). Sound holds.sure m.blocks (record q { unsure = None })) (sym state)
+      (as_said holds.sure m.blocks s (record s { unsure = None }) holds.sound)
+
+  at_place : record_at m.state.pages (number place) ≡ record_in page
+  at_place = record_at_place m.state.pages place.block place.page pends.small ∙ ap record_in (sym (read pends.within pends.small))
+
+  over_now : (P : Pages → ℕ → Type 0) → P m.state.pages m.blocks → P now.state.pages now.blocks
+  over_now P holds_there = subst (λ b. P now.state.pages b) (sym blocks) (subst (λ p. P p m.blocks) (sym pages) holds_there)
+
+  -- no record lies in it
+  pub nothing_there : record_in page ≡ None → Sound now.state.pages now.blocks sure_state
+  nothing_there none = over_now (λ p b. Sound p b sure_state) (same_sound holds.sure m.state.pages m.blocks sure_state was_sound
+      (torn_same holds.sure m.state.pages (number place) (record_at m.state.pages (number place)) pends.nothing
+      (torn_page holds.sure place.block place.page m.state.pages pends.elsewhere) (at_place ∙ none))
+      (still_blank holds.sure m.state.pages place.block place.page t.current t.fill pends.elsewhere
+      (subst (λ (q : LayerState). place.block ≡ q.current → place.page < q.fill) (sym state) pends.behind)))
+
+  -- a record came to lie in it
+  pub one_there : (r : PageRecord) → record_in page ≡ Some r → (after : LayerState)
+      → ((old new : Pages) (b : ℕ) → Sound old b sure_state → IsFalse t.disputed → Enters old new b sure_state place r → Sound new b after)
+      → Sound now.state.pages now.blocks after
+  one_there r some after enters = over_now (λ p b. Sound p b after) (enters holds.sure m.state.pages m.blocks was_sound
+      (subst (λ (q : LayerState). IsFalse q.disputed) (sym state) pends.agreed)
+      (subst (λ (q : LayerState). Enters holds.sure m.state.pages m.blocks (record q { unsure = None }) place r) (sym state)
+      (let entering = pends.may_enter r (at_place ∙ some) in record {
+        adds = entering.adds;
+        fits = record { place = entering.fits.place; no_shorter = entering.fits.no_shorter; zeros = entering.fits.zeros; grows = entering.fits.grows };
+        full = entering.full;
+        numbered = entering.numbered;
+        elsewhere = entering.elsewhere;
+        apart = entering.apart;
+        behind = entering.behind;
+      })))
+
+module _ (old new : Pages) (blocks : ℕ) (s : LayerState) (place : Place) (r : PageRecord)
+    (sound : Sound old blocks s) (agreed : IsFalse s.disputed) (enters : Enters old new blocks s place r)
+    (e : Newest) (is : IsItsEntry old new (places blocks) place r enters.adds e)
+    (mid after : Table) (puts : Puts s.table mid (page_of r) e) (mid_lens : mid.lens ≡ s.table.lens) (mid_limit : limit_of mid ≡ limit_of s.table)
+    (done : Bool) (lengthened : IsTrue done → Lengthens mid after r.file r.len)
+    (has : IsTrue done → (f : ℕ) → HasLen mid f ⊎ (f ≡ r.file) → HasLen after f)
+    (succeeds : (0 < spare mid.lens) ⊎ HasLen mid r.file → IsTrue done)
+    (takes : spare mid.lens ≤ spare after.lens + 1) (in_place : HasLen mid r.file → spare mid.lens ≤ spare after.lens)
+    (records : after.newest ≡ mid.newest) (limit : limit_of after ≡ limit_of mid) where
+  abbrev n : ℕ
+  n = places blocks
+
+  abbrev key : FilePage
+  key = page_of r
+
+  -- the page was known, and so was its file; or there was room for one page more
+  was_known : (o : Option Newest) → known s.table key ≡ o
+      → (HasLen mid r.file × (page_len mid ≡ page_len s.table)) ⊎ ((page_len s.table < limit_of s.table) × (page_len mid ≡ page_len s.table + 1))
+  was_known None none = inr (
+    ⊎_elim (λ some. absurd (true≢false (sym (subst IsSome none some)))) (λ room. room) enters.fits.place,
+    puts.len ∙ ap (λ o. page_len s.table + cond (is_some o) 0 1) none,
+  )
+  was_known (Some e) some = inl (
+    subst (λ l. HasLenIn l r.file) (sym mid_lens) (sound.measured key e some),
+    (let len = puts.len ∙ ap (λ o. page_len s.table + cond (is_some o) 0 1) some in omega (arith, len)),
+  )
+
+  abbrev lens_spare : spare mid.lens ≡ spare s.table.lens
+  lens_spare = ap (λ l. spare l) mid_lens
+
+  room_for_len : (0 < spare mid.lens) ⊎ HasLen mid r.file
+  room_for_len = ⊎_elim
+      (λ was. inr was.0)
+      (λ new. inl (let room = new.0 in let files = sound.files in omega (arith, room, files, lens_spare)))
+      (was_known (known s.table key) refl)
+
+  did : IsTrue done
+  did = succeeds room_for_len
+
+  same_len : page_len after ≡ page_len mid
+  same_len = ap (λ m. hash_map_len m) records
+
+  same_limit : limit_of after ≡ limit_of s.table
+  same_limit = limit ∙ mid_limit
+
+  files_kept : limit_of after ≤ page_len after + spare after.lens
+  files_kept = let files = sound.files in ⊎_elim
+      (λ was. let len = was.1 in let place = in_place was.0 in omega (arith, len, place, files, lens_spare, same_len, same_limit))
+      (λ new. let len = new.1 in omega (arith, len, takes, files, lens_spare, same_len, same_limit))
+      (was_known (known s.table key) refl)
+
+  known_now : (k : FilePage) → known after k ≡ cond (same_page key k) (Some e) (known s.table k)
+  known_now k = ap (λ m. get same_page m k) records ∙ puts.known_is k
+
+  -- an entry is the new one, or was there
+  entry_by : (k : FilePage) (f : Newest) (b : Bool) → same_page key k ≡ b → cond b (Some e) (known s.table k) ≡ Some f
+      → ((key ≡ k) × (e ≡ f)) ⊎ (known s.table k ≡ Some f)
+  entry_by k f true same found = inl (same_page_is key k same, same_Some e f found)
+  entry_by k f false other found = inr found
+
+  entry_now : (k : FilePage) (f : Newest) → known after k ≡ Some f → ((key ≡ k) × (e ≡ f)) ⊎ (known s.table k ≡ Some f)
+  entry_now k f found = entry_by k f (same_page key k) refl (sym (known_now k) ∙ found)
+
+  was_len : (file : ℕ) → len_known s.table file ≡ file_len old n file
+  was_len file = one_len old n file (len_known s.table file) (sound.knows.lens file)
+
+  mid_len : (file : ℕ) → len_known mid file ≡ file_len old n file
+  mid_len file = ap (λ l. len_in l file) mid_lens ∙ was_len file
+
+  len_by : (file : ℕ) → len_known after file ≡ file_len new n file
+  len_by file = lengthened did file ∙ ⊎_elim
+      (λ own. ap (λ b. cond b (max (len_known mid file) r.len) (len_known mid file)) (eq-eqb file r.file own)
+      ∙ subst (λ f. max (len_known mid f) r.len ≡ file_len new n f) (sym own)
+      (let long = adds_len old new n place r enters.adds enters.fits.no_shorter in let was = mid_len r.file in let less = enters.fits.no_shorter in
+      omega (arith, long, was, less)))
+      (λ other. ap (λ b. cond b (max (len_known mid file) r.len) (len_known mid file)) (ne_eqb file r.file other)
+      ∙ (mid_len file ∙ sym (adds_other_len old new n place r enters.adds file other)))
+      (cases_eq file r.file)
+
+  abbrev block_is : number place / 64 ≡ place.block
+  block_is = let small = enters.adds.small in omega (arith, small)
+
+  tops_now : Tops new n s.sequence
+  tops_now = λ j q inside there. ⊎_elim
+      (λ own. (let numbered = enters.numbered in let same : q.sequence ≡ r.sequence = ap (λ z. z.sequence) own.1 in omega (arith, numbered, same)))
+      (λ was. sound.tops j q inside was)
+      (either old new n place r enters.adds j q there)
+
+  pub entered : Sound new blocks (record s { table = after })
+  entered = record {
+    knows = record {
+      led = same_led old new n place r enters.adds mid after records limit (added old new n place r enters.adds s.table mid e is sound.knows.led puts);
+      lens = λ file. subst (IsFileLen new n file) (sym (len_by file)) (file_len_is new n file);
+    };
+    tops = tops_now;
+    strays = adds_strayless old new n place r enters.adds enters.fits.no_shorter s.stray_end sound.strays enters.fits.zeros;
+    limit = same_limit ∙ sound.limit;
+    files = files_kept;
+    measured = λ k f found. ⊎_elim
+        (λ own. has did k.file (inr (ap (λ (q : FilePage). q.file) (sym own.0))))
+        (λ was. has did k.file (inl (subst (λ l. HasLenIn l k.file) (sym mid_lens) (sound.measured k f was))))
+        (entry_now k f found);
+    within = sound.within;
+    is_spare = adds_spare old new n place r enters.adds s.spare (lies_elsewhere old blocks s sound agreed) (λ same. enters.apart (sym block_is ∙ same));
+    agreed = λ _. adds_agreed old new n place r enters.adds (sound.agreed agreed);
+    apart = λ _ k f found. ⊎_elim
+        (λ own. (λ same. enters.apart (ap (λ p. p.block) (sym is.0) ∙ (ap (λ (q : Newest). q.place.block) own.1 ∙ same))))
+        (λ was. sound.apart agreed k f was)
+        (entry_now k f found);
+    fresh = λ room. let fresh = sound.fresh room in record {
+      agreed = fresh.agreed;
+      within = fresh.within;
+      apart = fresh.apart;
+      blank = λ p past small. still_blank old new place.block place.page s.current s.fill enters.elsewhere enters.behind p past small ∙ fresh.blank p past small;
+    };
+  }

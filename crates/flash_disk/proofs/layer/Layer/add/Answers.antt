@@ -1,0 +1,122 @@
+use Rattle.std.proofs.Common.{◌≡◌, ◌+◌, ◌*◌, Some, sym, ap, subst, ◌∙◌}
+use Rattle.flash_record.specs.PageRecord.{PageRecord, record_in}
+use Rattle.flash_disk.specs.declared.table.Place.{Place}
+use Rattle.flash_disk.specs.declared.layer.LayerState.{LayerState}
+use Rattle.flash_disk.specs.Does.{Does}
+use Rattle.flash_disk.specs.PutPart.{PutPart}
+use Rattle.flash_disk.specs.Sound.{files_of, IsSound, FitsIn, Holds, LeavesPut}
+use Rattle.flash_disk.proofs.Adding.{puts_nothing, added_sound, added_put, failed_holds, add_does}
+use Rattle.flash_disk.proofs.layer.Layer.add.Goals as goal
+
+pub returns-in_err-sequence-clause-does : goal.returns-in_err-sequence-clause-does
+returns-in_err-sequence-clause-does g c told =
+    let f = c.args.self.now.flash in
+    subst (λ now. Does (LeavesPut c.args.file (256 * c.args.page) c.args.bytes.now c.args.len (files_of (g.F.Flash.medium f)) (g.F.Flash.medium f).blocks) (g.F.Flash.medium f) (g.F.Flash.medium now)) (sym c.next_sequence.ensures.flash)
+    (puts_nothing g.F.Flash.told (g.F.Flash.medium f) (g.met.F.Flash.lawful f) c.args.self.now.state (c.requires.sound told) c.args.file (256 * c.args.page) c.args.len c.args.bytes.now)
+
+pub returns-in-Ok-clause-sound : goal.returns-in-Ok-clause-sound
+returns-in-Ok-clause-sound g c told =
+    let r : PageRecord = record { sequence = c.in_ok-sequence.sequence; file = c.args.file; page = c.args.page; len = c.args.len; bytes = c.args.bytes.now } in
+    let s = c.args.self.now.state in
+    let t = c.next_sequence.new.self.state in
+    let m = g.F.Flash.medium c.next_sequence.new.self.flash in
+    let now = g.F.Flash.medium c.program_page.new.self.flash in
+    let u = c.program_page.new.self.state in
+    let place : Place = record { block = t.current; page = t.fill } in
+    let sound : IsSound m s = subst (λ f. IsSound (g.F.Flash.medium f) s) (sym c.next_sequence.ensures.flash) (c.requires.sound told) in
+    let fits : FitsIn m s c.args.file c.args.page c.args.len c.args.bytes.now = subst (λ f. FitsIn (g.F.Flash.medium f) s c.args.file c.args.page c.args.len c.args.bytes.now)
+    (sym c.next_sequence.ensures.flash) (c.requires.fits told) in
+    let next = c.in_ok-sequence.ensures.next in
+    let state : t ≡ record s { sequence = c.in_ok-sequence.sequence } = ap (λ l. l.state) next.1 in
+    let on : u ≡ record s { sequence = c.in_ok-sequence.sequence; fill = s.fill + 1 } =
+    c.program_page.ensures.state ∙ ap (λ (q : LayerState). let z : LayerState = record q { fill = q.fill + 1 } in z) state in
+    let at = ap (λ (q : LayerState). let p : Place = record { block = q.current; page = q.fill } in p) state in
+    subst (λ f. IsSound (g.F.Flash.medium f) c.enter.new.self.state) (sym c.enter.ensures.flash)
+    (added_sound m now s u place r c.page_with.result sound c.requires.room fits c.requires.bytes at next.0 on c.page_with.ensures
+    (c.in-Ok.ensures.done told) (c.program_page.ensures.time told).blocks c.enter.new.self.state c.enter.ensures.sound)
+
+pub returns-in-Ok-clause-put : goal.returns-in-Ok-clause-put
+returns-in-Ok-clause-put g c told =
+    let r : PageRecord = record { sequence = c.in_ok-sequence.sequence; file = c.args.file; page = c.args.page; len = c.args.len; bytes = c.args.bytes.now } in
+    let s = c.args.self.now.state in
+    let t = c.next_sequence.new.self.state in
+    let m = g.F.Flash.medium c.next_sequence.new.self.flash in
+    let now = g.F.Flash.medium c.program_page.new.self.flash in
+    let u = c.program_page.new.self.state in
+    let place : Place = record { block = t.current; page = t.fill } in
+    let sound : IsSound m s = subst (λ f. IsSound (g.F.Flash.medium f) s) (sym c.next_sequence.ensures.flash) (c.requires.sound told) in
+    let fits : FitsIn m s c.args.file c.args.page c.args.len c.args.bytes.now = subst (λ f. FitsIn (g.F.Flash.medium f) s c.args.file c.args.page c.args.len c.args.bytes.now)
+    (sym c.next_sequence.ensures.flash) (c.requires.fits told) in
+    let next = c.in_ok-sequence.ensures.next in
+    let state : t ≡ record s { sequence = c.in_ok-sequence.sequence } = ap (λ l. l.state) next.1 in
+    let on : u ≡ record s { sequence = c.in_ok-sequence.sequence; fill = s.fill + 1 } =
+    c.program_page.ensures.state ∙ ap (λ (q : LayerState). let z : LayerState = record q { fill = q.fill + 1 } in z) state in
+    let at = ap (λ (q : LayerState). let p : Place = record { block = q.current; page = q.fill } in p) state in
+    subst (λ f. PutPart c.args.file (256 * c.args.page) c.args.bytes.now c.args.len (files_of (g.F.Flash.medium f)) (files_of (g.F.Flash.medium c.enter.new.self.flash)))
+    c.next_sequence.ensures.flash
+    (subst (λ f. PutPart c.args.file (256 * c.args.page) c.args.bytes.now c.args.len (files_of m) (files_of (g.F.Flash.medium f))) (sym c.enter.ensures.flash)
+    (added_put m now s u place r c.page_with.result sound c.requires.room fits c.requires.bytes at next.0 on c.page_with.ensures
+    (c.in-Ok.ensures.done told) (c.program_page.ensures.time told).blocks))
+
+pub returns-in-Ok-clause-does : goal.returns-in-Ok-clause-does
+returns-in-Ok-clause-does g c told =
+    let r : PageRecord = record { sequence = c.in_ok-sequence.sequence; file = c.args.file; page = c.args.page; len = c.args.len; bytes = c.args.bytes.now } in
+    let s = c.args.self.now.state in
+    let t = c.next_sequence.new.self.state in
+    let m = g.F.Flash.medium c.next_sequence.new.self.flash in
+    let now = g.F.Flash.medium c.program_page.new.self.flash in
+    let u = c.program_page.new.self.state in
+    let place : Place = record { block = t.current; page = t.fill } in
+    let sound : IsSound m s = subst (λ f. IsSound (g.F.Flash.medium f) s) (sym c.next_sequence.ensures.flash) (c.requires.sound told) in
+    let fits : FitsIn m s c.args.file c.args.page c.args.len c.args.bytes.now = subst (λ f. FitsIn (g.F.Flash.medium f) s c.args.file c.args.page c.args.len c.args.bytes.now)
+    (sym c.next_sequence.ensures.flash) (c.requires.fits told) in
+    let next = c.in_ok-sequence.ensures.next in
+    let state : t ≡ record s { sequence = c.in_ok-sequence.sequence } = ap (λ l. l.state) next.1 in
+    let on : u ≡ record s { sequence = c.in_ok-sequence.sequence; fill = s.fill + 1 } =
+    c.program_page.ensures.state ∙ ap (λ (q : LayerState). let z : LayerState = record q { fill = q.fill + 1 } in z) state in
+    let at = ap (λ (q : LayerState). let p : Place = record { block = q.current; page = q.fill } in p) state in
+    subst (λ f. Does (LeavesPut c.args.file (256 * c.args.page) c.args.bytes.now c.args.len (files_of (g.F.Flash.medium f)) (g.F.Flash.medium f).blocks) (g.F.Flash.medium f) (g.F.Flash.medium c.enter.new.self.flash)) c.next_sequence.ensures.flash
+    (subst (λ f. Does (LeavesPut c.args.file (256 * c.args.page) c.args.bytes.now c.args.len (files_of m) m.blocks) m (g.F.Flash.medium f)) (sym c.enter.ensures.flash)
+    (add_does m now s u place r c.page_with.result sound c.requires.room fits c.requires.bytes at next.0 on c.page_with.ensures
+    c.program_page.result (c.program_page.ensures.done told) (c.program_page.ensures.failed told) (c.program_page.ensures.during told)))
+
+pub returns-in-Err-clause-failed : goal.returns-in-Err-clause-failed
+returns-in-Err-clause-failed g c told =
+    let r : PageRecord = record { sequence = c.in_ok-sequence.sequence; file = c.args.file; page = c.args.page; len = c.args.len; bytes = c.args.bytes.now } in
+    let s = c.args.self.now.state in
+    let t = c.next_sequence.new.self.state in
+    let m = g.F.Flash.medium c.next_sequence.new.self.flash in
+    let now = g.F.Flash.medium c.program_page.new.self.flash in
+    let u = c.program_page.new.self.state in
+    let place : Place = record { block = t.current; page = t.fill } in
+    let sound : IsSound m s = subst (λ f. IsSound (g.F.Flash.medium f) s) (sym c.next_sequence.ensures.flash) (c.requires.sound told) in
+    let fits : FitsIn m s c.args.file c.args.page c.args.len c.args.bytes.now = subst (λ f. FitsIn (g.F.Flash.medium f) s c.args.file c.args.page c.args.len c.args.bytes.now)
+    (sym c.next_sequence.ensures.flash) (c.requires.fits told) in
+    let next = c.in_ok-sequence.ensures.next in
+    let state : t ≡ record s { sequence = c.in_ok-sequence.sequence } = ap (λ l. l.state) next.1 in
+    let on : u ≡ record s { sequence = c.in_ok-sequence.sequence; fill = s.fill + 1 } =
+    c.program_page.ensures.state ∙ ap (λ (q : LayerState). let z : LayerState = record q { fill = q.fill + 1 } in z) state in
+    let at = ap (λ (q : LayerState). let p : Place = record { block = q.current; page = q.fill } in p) state in
+    failed_holds m now s u place r c.page_with.result sound c.requires.room fits c.requires.bytes at next.0 on c.page_with.ensures
+    (c.in-Err.ensures.failed told) (c.program_page.ensures.time told).blocks
+
+pub returns-in-Err-clause-does : goal.returns-in-Err-clause-does
+returns-in-Err-clause-does g c told =
+    let r : PageRecord = record { sequence = c.in_ok-sequence.sequence; file = c.args.file; page = c.args.page; len = c.args.len; bytes = c.args.bytes.now } in
+    let s = c.args.self.now.state in
+    let t = c.next_sequence.new.self.state in
+    let m = g.F.Flash.medium c.next_sequence.new.self.flash in
+    let now = g.F.Flash.medium c.program_page.new.self.flash in
+    let u = c.program_page.new.self.state in
+    let place : Place = record { block = t.current; page = t.fill } in
+    let sound : IsSound m s = subst (λ f. IsSound (g.F.Flash.medium f) s) (sym c.next_sequence.ensures.flash) (c.requires.sound told) in
+    let fits : FitsIn m s c.args.file c.args.page c.args.len c.args.bytes.now = subst (λ f. FitsIn (g.F.Flash.medium f) s c.args.file c.args.page c.args.len c.args.bytes.now)
+    (sym c.next_sequence.ensures.flash) (c.requires.fits told) in
+    let next = c.in_ok-sequence.ensures.next in
+    let state : t ≡ record s { sequence = c.in_ok-sequence.sequence } = ap (λ l. l.state) next.1 in
+    let on : u ≡ record s { sequence = c.in_ok-sequence.sequence; fill = s.fill + 1 } =
+    c.program_page.ensures.state ∙ ap (λ (q : LayerState). let z : LayerState = record q { fill = q.fill + 1 } in z) state in
+    let at = ap (λ (q : LayerState). let p : Place = record { block = q.current; page = q.fill } in p) state in
+    subst (λ f. Does (LeavesPut c.args.file (256 * c.args.page) c.args.bytes.now c.args.len (files_of (g.F.Flash.medium f)) (g.F.Flash.medium f).blocks) (g.F.Flash.medium f) now) c.next_sequence.ensures.flash
+    (add_does m now s u place r c.page_with.result sound c.requires.room fits c.requires.bytes at next.0 on c.page_with.ensures
+    c.program_page.result (c.program_page.ensures.done told) (c.program_page.ensures.failed told) (c.program_page.ensures.during told))

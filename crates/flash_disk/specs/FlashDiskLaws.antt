@@ -1,0 +1,55 @@
+-- That a disk over a lawful flash meets the laws of a disk.
+use Rattle.std.specs.Prelude.{◌≡◌, ℕ, ◌≤◌, Bool, true, false, cond, IsTrue}
+use Rattle.std.proofs.Common.{sym, refl, ◌∙◌, subst, inl, true≢false}
+use Rattle.disk_model.specs.Medium.{Medium, IsLawful}
+use Rattle.flash_model.specs.State.{FlashState, FlashCase, IsStill}
+use Rattle.flash_model.specs.FlashMedium.{FlashMedium, IsLawfulFlash}
+use Rattle.flash_disk.specs.FlashFiles.{flash_files}
+use Rattle.flash_disk.specs.FlashDiskMedium.{put_announced, disk_case, still_case, files_told, flash_disk_medium}
+
+untold : {X : Type 0} → IsTrue false → X
+untold t = absurd (true≢false (sym t))
+
+-- a told disk has the clock of its flash
+pub told_moment : (told : Bool) (n : ℕ) → IsTrue told → cond told n 0 ≡ n
+told_moment true n t = refl
+told_moment false n t = untold t
+
+-- and the files of its flash
+pub told_files : (told : Bool) (m : FlashMedium) → IsTrue told → files_told told m ≡ flash_files m.state.pages m.blocks
+told_files true m t = refl
+told_files false m t = untold t
+
+-- between two calls a crash leaves what there is
+pub still_is : (s : FlashState) → IsStill s (still_case s)
+still_is s = record { before = refl; whole = refl; left = refl; settled = refl; announced = refl }
+
+-- and all such cases are one case of the disk
+pub same_case : (s : FlashState) (blocks blocks' : ℕ) (f : FlashCase) → blocks' ≡ blocks → IsStill s f → disk_case blocks' f ≡ disk_case blocks (still_case s)
+same_case s blocks blocks' f same is = λ i. record {
+  base = flash_files (is.settled i) (same i);
+  full = put_announced (flash_files (is.settled i) (same i)) (is.announced i);
+  left = flash_files (is.left i) (same i);
+}
+
+module _ (told : Bool) (m : FlashMedium) (own written : ℕ) where
+  abbrev disk : Medium
+  disk = flash_disk_medium told m own written
+
+  -- the disk meets the laws where its flash does
+  pub disk_is_lawful : IsLawfulFlash told m → IsLawful told disk
+  disk_is_lawful lawful = record {
+    counts_now = λ t c le now. (
+      now.0,
+      (
+        still_case m.state,
+        lawful.counts_now now.0 t (still_case m.state) (subst (λ k. t ≤ k) (told_moment told m.moment now.0) le) (still_is m.state),
+        (λ b p generation body verifies. inl refl, now.1),
+      ),
+    );
+    only_now = λ c past.
+        let f = past.1.0 in
+        let since : m.since m.moment f = subst (λ k. m.since k f) (told_moment told m.moment past.0) past.1.1 in
+        (past.0, past.1.2.1 ∙ same_case m.state m.blocks m.blocks f refl (lawful.only_now f since));
+    reads_one = λ t. (disk_case m.blocks (still_case m.state), (t, refl), sym (told_files told m t));
+  }
