@@ -8,7 +8,7 @@ use Rattle.flash_disk.specs.declared.table.Newest.{Newest}
 use Rattle.flash_disk.specs.declared.table.Table.{Table}
 use Rattle.flash_disk.specs.declared.layer.LayerState.{LayerState}
 use Rattle.flash_disk.specs.Newest.{places, page_limit, IsSpare}
-use Rattle.flash_disk.specs.Known.{same_page, known, page_len, limit_of, len_known, EndsBy, IsLongest}
+use Rattle.flash_disk.specs.Known.{same_page, known, page_len, limit_of, len_known, HasLen, EndsBy, IsLongest}
 use Rattle.flash_disk.specs.Learnt.{IsLed, IsLeaving, Knows, Tops}
 use Rattle.flash_disk.specs.Sound.{Sound, PendsAt, Holds}
 use Rattle.flash_disk.specs.FlashFilesLaws.{one_len}
@@ -26,6 +26,7 @@ pub record Measures (left : Table) (s : LayerState) : Type 0 where
   pub records : s.table.newest ≡ left.newest
   pub limit : limit_of s.table ≡ limit_of left
   pub lens : page_len left ≤ spare left.lens → ((file : ℕ) → len_known left file ≡ 0) → (file : ℕ) → IsLongest left.newest file (len_known s.table file)
+  pub measured : page_len left ≤ spare left.lens → (key : FilePage) (e : Newest) → known left key ≡ Some e → HasLen s.table key.file
   pub spare : spare left.lens ≤ spare s.table.lens + page_len left
   pub ends : (key : FilePage) (e : Newest) → known s.table key ≡ Some e → EndsBy s.table.lens key e s.stray_end
   pub calm : IsFalse s.disputed → (key : FilePage) (e : Newest) → known s.table key ≡ Some e → IsFalse e.rivalled
@@ -54,6 +55,8 @@ module _ (pages : Pages) (blocks : ℕ) (s : LayerState) (left : Table) (leaving
     files =
         (let same : page_len s.table ≡ page_len left = ap (λ m. hash_map_len m) measures.records in
         let more = measures.spare in let is = measures.limit in omega (arith, same, more, is, room));
+    measured = λ key e is. measures.measured (let fits = led.fits in omega (arith, fits, room)) key e
+        (ap (λ m. get same_page m key) (sym measures.records) ∙ is);
     within = within;
     is_spare = is_spare;
     agreed = λ calm. agreed_at_last pages (places blocks) s.spare left leaving (λ key e is. measures.calm calm key e (there key e is));

@@ -52,6 +52,7 @@ returns-in-Ok-clause-sound g c told usable_now =
       records = c.measure.ensures.records;
       limit = c.measure.ensures.limit;
       lens = c.measure.ensures.lens;
+      measured = c.measure.ensures.measured;
       spare = c.measure.ensures.spare;
       ends = c.stray_end-self.ensures;
       calm = c.is_disputed-self.ensures;
