@@ -5,31 +5,13 @@ use Rattle.flash_model.specs.Pages.{Pages}
 use Rattle.flash_disk.specs.declared.table.FilePage.{FilePage}
 use Rattle.flash_disk.specs.declared.table.Newest.{Newest}
 use Rattle.flash_disk.specs.declared.table.Table.{Table}
-use Rattle.flash_disk.specs.Newest.{Placed, newest, IsNewestOf}
-use Rattle.flash_disk.specs.NewestLaws.{newest_is}
+use Rattle.flash_disk.specs.Newest.{Placed, newest}
 use Rattle.flash_disk.specs.FlashFiles.{IsFileLen}
 use Rattle.std.specs.HashMap.{get, hash_map_len, spare}
 use Rattle.flash_disk.specs.Known.{same_page, known, limit_of, len_known, IsLongest}
-use Rattle.flash_disk.specs.Learnt.{LearnsOf, HasLearnt, LedOf, IsLed, Knows}
+use Rattle.flash_disk.specs.Learnt.{LedOf, IsLed, Knows}
 
 module _ (pages : Pages) (n : ℕ) where
-  led_of : (file page : ℕ) (k : Option Newest) (b : Option Placed) → IsNewestOf pages file page n b → LearnsOf pages n k b → LedOf pages n k b
-  led_of file page None None is says = says
-  led_of file page None (Some x) is says = says
-  led_of file page (Some e) None is says = says
-  led_of file page (Some e) (Some x) is says = record {
-    within = (let lt = is.within in let same = says.place in omega (arith, lt, same));
-    leads = says.leads;
-  }
-
-  -- what was learnt leads to the newest records
-  pub leads_at_first : (table : Table) → HasLearnt pages n table → IsLed pages n table
-  leads_at_first table learnt = record {
-    says = λ key. led_of key.file key.page (known table key) (newest pages key.file key.page n) (newest_is pages key.file key.page n) (learnt.says key);
-    room = learnt.room;
-    fits = learnt.fits;
-  }
-
   module _ (file : ℕ) where
     abbrev key_of : ℕ → FilePage
     key_of page = record { file = file; page = page }

@@ -15,7 +15,7 @@ use Rattle.flash_disk.specs.declared.table.Table.{Table}
 use Rattle.flash_disk.specs.Newest.{Placed, record_at, is_of, newer, with_record, newest, opens_page, page_count, IsNewest, IsNewestOf}
 use Rattle.flash_disk.specs.NewestLaws.{newest_is}
 use Rattle.flash_disk.specs.Known.{same_page, page_of, known, page_len, limit_of, Puts, HasRoom}
-use Rattle.flash_disk.specs.Learnt.{number, TwinSays, Unrivalled, Learns, LearnsOf, HasLearnt, LearnsNext, SaysTheSame, TwinAt, RivalledAt, Tops}
+use Rattle.flash_disk.specs.Learnt.{number, TwinSays, Unrivalled, Learns, LearnsOf, HasLearnt, LearnsNext, SaysTheSame, TwinAt, RivalledAt}
 
 below_suc : (j n : ℕ) → j < suc n → (j < n) ⊎ (j ≡ n)
 below_suc j n within = ⊎_elim inl (λ past. inr (let e : j ≡ n = omega arith in e)) (cases_lt j n)
@@ -355,11 +355,3 @@ module _ (pages : Pages) (n : ℕ) where
         agreed = agreed_says seen (is ∙ before_is.leads.there) rivalled calm;
         page = before_is.page;
       })
-
--- no record in the next place has a greater number either
-pub tops_next : (pages : Pages) (n top next : ℕ) → top ≤ next → ((r : PageRecord) → record_at pages n ≡ Some r → r.sequence ≤ next) → Tops pages n top
-    → Tops pages (n + 1) next
-tops_next pages n top next le here tops = λ j q within is. ⊎_elim
-    (λ below. (let less = tops j q below is in omega arith))
-    (λ last. here q (subst (λ k. record_at pages k ≡ Some q) last is))
-    (below_suc j n (omega arith))

@@ -1,13 +1,14 @@
 -- The greatest length that the entries of a table say for a file.
-use Rattle.std.proofs.Common.{◌≡◌, ◌⊎◌, ℕ, ◌≤◌, List, [], ◌∷◌, Bool, true, false, cond, refl, sym, ap, subst, ◌∙◌, inl, inr, ⊎_elim, arith, eq-eqb}
-use Rattle.std.specs.Prelude.{Some, None, nat_eq, max}
-use Rattle.std.specs.List.{IsDistinct, AllByRecursion}
-use Rattle.std.specs.Map.{keys_of, lookup}
+use Rattle.std.proofs.Common.{◌≡◌, ◌⊎◌, ℕ, ◌+◌, ◌*◌, ◌<◌, ◌≤◌, List, [], ◌∷◌, Bool, true, false, cond, refl, sym, ap, subst, ◌∙◌, inl, inr, ⊎_elim, arith, eq-eqb, true≢false}
+use Rattle.std.specs.Prelude.{Some, None, nat_eq, max, ◌||◌}
+use Rattle.std.specs.List.{IsDistinct, AllByRecursion, list_any}
+use Rattle.std.specs.Map.{keys_of, values_of, lookup}
 use Rattle.std.proofs.lemmas.Bool.{cases_lt, eqb-true}
 use Rattle.std.proofs.lemmas.Option.{same_Some, none-some}
 use Rattle.flash_disk.specs.declared.table.FilePage.{FilePage}
 use Rattle.flash_disk.specs.declared.table.Newest.{Newest}
-use Rattle.flash_disk.specs.Known.{same_page}
+use Rattle.std.specs.HashMap.{HashMap}
+use Rattle.flash_disk.specs.Known.{same_page, len_in, EndsBy}
 use Rattle.flash_disk.proofs.Learning.{same_page_is, same_page_refl}
 
 abbrev pub Entry : Type 0
@@ -81,3 +82,38 @@ taken_by was now len rest false is = omega (arith, is)
 pub taken : (f was now : ℕ) (e : Entry) (es : List Entry) → now ≡ cond (nat_eq f e.0.file) (max was e.1.len) was
     → max now (longest f es) ≡ max was (longest f (e ∷ es))
 taken f was now e es is = taken_by was now e.1.len (longest f es) (nat_eq f e.0.file) is
+
+-- an entry that is not among those that are left was among those before
+pub passed : (key k : FilePage) (entry e : Newest) (es all : List Entry) → all ≡ (k, e) ∷ es → lookup (same_page key) all ≡ Some entry
+    → ((key ≡ k) × (e ≡ entry)) ⊎ (lookup (same_page key) es ≡ Some entry)
+passed key k entry e es all is found = by_test (same_page key k) refl (subst (λ l. lookup (same_page key) l ≡ Some entry) is found)
+  where
+    by_test : (b : Bool) → same_page key k ≡ b → cond b (Some e) (lookup (same_page key) es) ≡ Some entry → ((key ≡ k) × (e ≡ entry)) ⊎ (lookup (same_page key) es ≡ Some entry)
+    by_test true same there = inl (same_page_is key k same, same_Some e entry there)
+    by_test false other there = inr there
+
+-- no value passes the test where none of the list does
+pub none_passes : (test : Newest → Bool) (key : FilePage) (entry : Newest) (es : List Entry) → list_any test (values_of es) ≡ false
+    → lookup (same_page key) es ≡ Some entry → test entry ≡ false
+none_passes test key entry [] none found = absurd (none-some entry found)
+none_passes test key entry (e ∷ es) none found = ⊎_elim
+    (λ here. subst (λ w. test w ≡ false) here.1 (neither (test e.1) (list_any test (values_of es)) none).0)
+    (λ there. none_passes test key entry es (neither (test e.1) (list_any test (values_of es)) none).1 there)
+    (passed key e.0 entry e.1 es (e ∷ es) refl found)
+  where
+    neither : (a b : Bool) → (a || b) ≡ false → (a ≡ false) × (b ≡ false)
+    neither true b is = absurd (true≢false is)
+    neither false b is = (refl, is)
+
+-- one entry more is taken into where the last byte of all ends
+pub ends_more : {S : Type 0} (lens : HashMap ℕ ℕ S) (key k : FilePage) (entry e : Newest) (es all : List Entry) (stray next end : ℕ) → all ≡ (k, e) ∷ es
+    → (k.page < 4294967296 → 0 < e.filled → end ≡ 256 * k.page + e.filled) → stray ≤ next → (end ≤ len_in lens k.file) ⊎ (end ≤ next)
+    → (lookup (same_page key) all ≡ Some entry) ⊎ EndsBy lens key entry stray → (lookup (same_page key) es ≡ Some entry) ⊎ EndsBy lens key entry next
+ends_more lens key k entry e es all stray next end is end_is more within before = ⊎_elim
+    (λ left. ⊎_elim
+    (λ here. inr (subst (λ q. EndsBy lens q entry next) (sym here.0) (subst (λ w. EndsBy lens k w next) here.1
+    (λ page filled. (let same = end_is page filled in ⊎_elim (λ a. inl (omega (arith, a, same))) (λ b. inr (omega (arith, b, same))) within)))))
+    (λ there. inl there)
+    (passed key k entry e es all is left))
+    (λ ends. inr (λ page filled. ⊎_elim (λ a. inl a) (λ b. inr (omega (arith, b, more))) (ends page filled)))
+    before

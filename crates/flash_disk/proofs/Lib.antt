@@ -3,6 +3,8 @@ mod Usable
 mod Lengths
 mod Lightest
 mod Leading
+mod Leaving
+mod Opened
 mod Reading
 mod Programming
 pub mod Standing

@@ -6,7 +6,7 @@ ghost use Rattle.flash_record.specs.Stated.{stated};
 ghost use Rattle.flash_disk.specs.Newest.{record_at, places, page_limit, IsSpare, NeedsPlace, FindsSpare, IsUsable, IsUnusable, SaysUsable};
 ghost use Rattle.flash_disk.specs.Known.{known, limit_of, page_of, IsEmptyTable};
 ghost use Rattle.flash_disk.specs.Learnt.{number, HasLearnt, LearnsNext, LearnsAll, SaysTheSame, TwinAt, RivalledAt, Tops, LeavesBlock};
-ghost use Rattle.flash_model.specs.Pages.{Pages};
+ghost use Rattle.flash_model.specs.State.{settle_pages};
 ghost use Rattle.per_base.specs.Causes.{HasCause, Rose};
 
 use crate::disk::{FlashDisk, FlashOpenError, FlashRefused};
@@ -19,6 +19,7 @@ use std::alloc::{AllocError, Global};
 
 impl<F: Flash> FlashDisk<F> {
     ghost use Rattle.flash_disk.specs.FlashDiskMedium.{flash_disk_medium};
+    ghost use Rattle.disk_model.specs.Medium.{Quiet};
 
     /// Opens a flash as a disk. It reads every page, and takes all the memory that the disk ever needs.
     pub fn open(alloc: Global, flash: F) -> Result<FlashDisk<F>, FlashRefused<F>>
@@ -37,6 +38,8 @@ impl<F: Flash> FlashDisk<F> {
         ensures pages { IsTrue F.told → IfOk result (λ disk. (F.medium disk.layer.flash).state.pages ≡ (F.medium flash).state.pages) }
         ensures blocks { IfOk result (λ disk. (F.medium disk.layer.flash).blocks ≡ (F.medium flash).blocks) }
         ensures own { IfOk result (λ disk. (disk.layer.own ≡ 0) × (disk.written ≡ 0)) }
+        ensures settled { IsTrue F.told → IfOk result (λ disk. (F.medium disk.layer.flash).state ≡ settle_pages (F.medium flash).state) }
+        ensures quiet { IfOk result (λ disk. Quiet (flash_disk_medium F.told (F.medium disk.layer.flash) disk.layer.own disk.written)) }
         ensures returned { IsTrue F.told → IfErr result (λ refused. (F.medium refused.flash).state.pages ≡ (F.medium flash).state.pages) }
     {
         let blocks = flash.blocks();
@@ -107,6 +110,8 @@ impl<F: Flash> Layer<F> {
         ensures sound { IsTrue F.told → IfOk result (λ usable. IsTrue usable
             → Sound (F.medium self.old.flash).state.pages blocks self.new.state) }
         ensures sure { IfOk result (λ usable. IsTrue usable → self.new.state.unsure ≡ None) }
+        ensures settled { IsTrue F.told → IfOk result (λ usable. IsTrue usable
+            → (F.medium self.new.flash).state ≡ settle_pages (F.medium self.old.flash).state) }
         ensures own { self.new.own ≡ self.old.own }
     {
         if !self.learn_blocks(blocks)? {

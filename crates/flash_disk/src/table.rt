@@ -1,8 +1,8 @@
 //! Where the newest record of each page of a file lies, and how long each file is.
 
 ghost use Rattle.std.specs.Prelude.{◌≡◌, ◌≢◌, ◌⊎◌, ◌↔◌, ◌≤◌, ◌<◌, ◌+◌, ◌-◌, ◌*◌, ◌==◌, ℕ, IfOk, IsSome, IsTrue, IsFalse, Some, None, All, max, if◌then◌else◌};
-ghost use Rattle.std.specs.HashMap.{hash_map_len, spare};
-ghost use Rattle.flash_disk.specs.Known.{len_in, HasLenIn, IsLongest, EndsBy};
+ghost use Rattle.std.specs.HashMap.{get, hash_map_len, spare};
+ghost use Rattle.flash_disk.specs.Known.{same_page, len_in, HasLenIn, IsLongest, EndsBy};
 
 use std::alloc::{AllocError, Global};
 use std::collections::HashMap;
@@ -193,6 +193,8 @@ impl Table {
     pub fn measure(&mut self)
         ensures lens { page_len self.old ≤ spare self.old.lens → ((file : ℕ) → len_known self.old file ≡ 0)
             → (file : ℕ) → IsLongest self.old.newest file (len_known self.new file) }
+        ensures measured { page_len self.old ≤ spare self.old.lens
+            → (key : FilePage) (entry : Newest) → known self.old key ≡ Some entry → HasLen self.new key.file }
         ensures spare { spare self.old.lens ≤ spare self.new.lens + page_len self.old }
         ensures records { self.new.newest ≡ self.old.newest }
         ensures limit { limit_of self.new ≡ limit_of self.old }
@@ -246,6 +248,8 @@ impl Table {
 fn raise_all(lens: &mut HashMap<u32, u64>, newest: &HashMap<FilePage, Newest>)
     ensures longest { hash_map_len newest.now ≤ spare lens.old → ((file : ℕ) → len_in lens.old file ≡ 0)
         → (file : ℕ) → IsLongest newest.now file (len_in lens.new file) }
+    ensures has { hash_map_len newest.now ≤ spare lens.old
+        → (key : FilePage) (entry : Newest) → get same_page newest.now key ≡ Some entry → HasLenIn lens.new key.file }
     ensures spare { spare lens.old ≤ spare lens.new + hash_map_len newest.now }
 {
     for (key, entry) in newest.iter() {

@@ -1,8 +1,24 @@
-use Rattle.std.proofs.Common.{subst}
+use Rattle.std.proofs.Common.{sym, ◌∙◌, subst, arith}
 use Rattle.flash_disk.specs.Newest.{IsUnusable, SaysUsable}
+use Rattle.flash_disk.specs.Sound.{Sound}
+use Rattle.flash_disk.proofs.Opened.{holds_all, settled_is_quiet}
 use Rattle.flash_disk.proofs.disk.FlashDisk.open.Goals as goal
 
 pub returns-in-Ok-false-clause-unusable : goal.returns-in-Ok-false-clause-unusable
 returns-in-Ok-false-clause-unusable g c told same =
     subst (IsUnusable (g.F.Flash.medium c.args.flash).state.pages) c.blocks-blocks.ensures
     (subst (SaysUsable (g.F.Flash.medium c.args.flash).state.pages c.blocks-blocks.result) c.in-Ok-false.field-0-test (c.in-Ok-false.ensures.usable told))
+
+pub invariant_of-result : goal.invariant_of-result
+invariant_of-result g c = record {
+  holds = ∣ (λ told. holds_all (g.F.Flash.medium c.learn.new.self.flash) c.learn.new.self.state (g.F.Flash.medium c.args.flash).state.pages
+      (subst (λ b. Sound (g.F.Flash.medium c.args.flash).state.pages b c.learn.new.self.state) (c.blocks-blocks.ensures ∙ sym c.in-Ok-true.ensures.blocks)
+      (c.in-Ok-true.ensures.sound told c.in-Ok-true.field-0-test))
+      (c.in-Ok-true.ensures.pages told) (c.in-Ok-true.ensures.sure c.in-Ok-true.field-0-test)) ∣₁;
+  counted = ∣ (λ told. omega arith) ∣₁;
+}
+
+pub returns-in-Ok-true-clause-quiet : goal.returns-in-Ok-true-clause-quiet
+returns-in-Ok-true-clause-quiet g c =
+    settled_is_quiet g.F.Flash.told (g.F.Flash.medium c.learn.new.self.flash) c.learn.new.self.own 0 (g.F.Flash.medium c.args.flash).state
+    (λ told. c.in-Ok-true.ensures.settled told c.in-Ok-true.field-0-test)

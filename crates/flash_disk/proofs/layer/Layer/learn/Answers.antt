@@ -1,36 +1,64 @@
-use Rattle.std.proofs.Common.{◌≡◌, ◌≤◌, true, sym, ap, ◌∙◌, subst, arith}
+use Rattle.std.proofs.Common.{◌≡◌, ◌<◌, ◌≤◌, true, sym, ap, ◌∙◌, subst, arith}
 use Rattle.std.specs.HashMap.{spare}
-use Rattle.flash_disk.specs.Newest.{FindsSpare, places}
-use Rattle.flash_disk.specs.Known.{limit_of, page_len, len_in}
-use Rattle.flash_disk.specs.Learnt.{HasLearnt, LearnsAll, IsLed}
+use Rattle.flash_disk.specs.Newest.{FindsSpare, IsSpare, places}
+use Rattle.flash_disk.specs.Known.{limit_of, len_in}
+use Rattle.flash_disk.specs.Learnt.{HasLearnt, LearnsAll, IsLeaving, Tops}
 use Rattle.flash_disk.proofs.Usable.{usable}
-use Rattle.flash_disk.proofs.Leading.{leads_at_first, measured}
+use Rattle.flash_disk.proofs.Leaving.{starts_leaving, leaves_there}
+use Rattle.flash_disk.proofs.Opened.{opened}
 use Rattle.flash_disk.proofs.layer.Layer.learn.Goals as goal
 
 pub returns-in-Ok-clause-usable : goal.returns-in-Ok-clause-usable
 returns-in-Ok-clause-usable g c told =
-    let e = c.in_ok-learn_blocks.ensures in
-    let learnt : HasLearnt (g.F.Flash.medium c.args.self.now.flash).state.pages (places c.args.blocks) c.learn_blocks.new.self.state.table =
-    subst (LearnsAll (g.F.Flash.medium c.args.self.now.flash).state.pages (places c.args.blocks) (limit_of c.args.self.now.state.table) c.learn_blocks.new.self.state.table) c.if-not-branch.false (e.learns told) in
-    let finds = c.in_ok-find_spare.ensures.spare told (subst (λ q. HasLearnt q (places c.args.blocks) c.learn_blocks.new.self.state.table) (sym (e.pages told)) learnt) in
-    usable (g.F.Flash.medium c.args.self.now.flash).state.pages c.args.blocks c.learn_blocks.new.self.state.table c.find_spare.new.self.state.spare (e.limit ∙ c.requires.limit) learnt
-    (subst (λ q. FindsSpare q c.args.blocks c.find_spare.new.self.state.spare true) (e.pages told)
-    (subst (FindsSpare (g.F.Flash.medium c.learn_blocks.new.self.flash).state.pages c.args.blocks c.find_spare.new.self.state.spare) c.if-not-branch-2.false finds))
-
-pub returns-in-Ok-clause-knows : goal.returns-in-Ok-clause-knows
-returns-in-Ok-clause-knows g c told usable_now =
     let pages = (g.F.Flash.medium c.args.self.now.flash).state.pages in
+    let e = c.in_ok-learn_blocks.ensures in
+    let first = c.learn_blocks.new.self.state.table in
+    let found = c.find_spare.new.self.state.spare in
+    let learnt : HasLearnt pages (places c.args.blocks) first =
+    subst (LearnsAll pages (places c.args.blocks) (limit_of c.args.self.now.state.table) first) c.if-not-branch.false (e.learns told) in
+    let finds = c.in_ok-find_spare.ensures.spare told (subst (λ q. HasLearnt q (places c.args.blocks) first) (sym (e.pages told)) learnt) in
+    usable pages c.args.blocks first found (e.limit ∙ c.requires.limit) learnt
+    (subst (λ q. FindsSpare q c.args.blocks found true) (e.pages told)
+    (subst (FindsSpare (g.F.Flash.medium c.learn_blocks.new.self.flash).state.pages c.args.blocks found) c.if-not-branch-2.false finds))
+
+pub returns-in-Ok-clause-sound : goal.returns-in-Ok-clause-sound
+returns-in-Ok-clause-sound g c told usable_now =
+    let pages = (g.F.Flash.medium c.args.self.now.flash).state.pages in
+    let blocks = c.args.blocks in
     let n = places c.args.blocks in
     let e = c.in_ok-learn_blocks.ensures in
-    let learnt : HasLearnt pages n c.learn_blocks.new.self.state.table =
-    subst (LearnsAll pages n (limit_of c.args.self.now.state.table) c.learn_blocks.new.self.state.table) c.if-not-branch.false (e.learns told) in
-    let found = c.in_ok-find_spare.ensures.table in
-    let left = c.in_ok-leave_spare.ensures in
-    let led : IsLed pages n c.leave_spare.new.self.state.table = left.leads pages n (subst (IsLed pages n) (sym found) (leads_at_first pages n c.learn_blocks.new.self.state.table learnt)) in
-    let lens : c.leave_spare.new.self.state.table.lens ≡ c.args.self.now.state.table.lens = left.lens ∙ (ap (λ t. t.lens) found ∙ e.lens) in
-    let limit : limit_of c.leave_spare.new.self.state.table ≡ limit_of c.args.self.now.state.table = left.limit ∙ (ap limit_of found ∙ e.limit) in
-    let fits = led.fits in
-    let room : page_len c.leave_spare.new.self.state.table ≤ spare c.leave_spare.new.self.state.table.lens =
-    subst (λ l. page_len c.leave_spare.new.self.state.table ≤ spare l) (sym lens) (let enough = c.requires.empty.len_room in omega (arith, fits, limit, enough)) in
-    measured pages n c.leave_spare.new.self.state.table c.measure.new.self led c.measure.ensures.records c.measure.ensures.limit
-    (c.measure.ensures.lens room (λ file. ap (λ l. len_in l file) lens ∙ c.requires.empty.lens file))
+    let f = c.in_ok-find_spare.ensures in
+    let l = c.in_ok-leave_spare.ensures in
+    let first = c.learn_blocks.new.self.state.table in
+    let second = c.find_spare.new.self.state.table in
+    let left = c.leave_spare.new.self.state.table in
+    let found = c.find_spare.new.self.state.spare in
+    let learnt : HasLearnt pages n first = subst (LearnsAll pages n (limit_of c.args.self.now.state.table) first) c.if-not-branch.false (e.learns told) in
+    let finds : (found < blocks) × IsSpare pages n found = subst (λ q. FindsSpare q blocks found true) (e.pages told)
+    (subst (FindsSpare (g.F.Flash.medium c.learn_blocks.new.self.flash).state.pages blocks found) c.if-not-branch-2.false
+    (f.spare told (subst (λ q. HasLearnt q n first) (sym (e.pages told)) learnt))) in
+    let seen = (g.F.Flash.medium c.find_spare.new.self.flash).state.pages in
+    let all = (g.F.Flash.medium c.find_spare.new.self.flash).blocks in
+    let all_is : all ≡ blocks = f.blocks ∙ (e.blocks ∙ sym c.requires.blocks) in
+    let start : IsLeaving pages n found 0 second = subst (IsLeaving pages n found 0) (sym f.table) (starts_leaving pages n found first learnt) in
+    let leaving : IsLeaving pages n found 64 left = leaves_there pages seen (f.pages told ∙ e.pages told) blocks all all_is found 0 64 second left
+    (l.left told (subst (λ b. found < b) (sym all_is) finds.0)) finds.1 start in
+    let lens : left.lens ≡ c.args.self.now.state.table.lens = l.lens ∙ (ap (λ t. t.lens) f.table ∙ e.lens) in
+    let limit : limit_of left ≡ limit_of c.args.self.now.state.table = l.limit ∙ (ap limit_of f.table ∙ e.limit) in
+    let room : limit_of left ≤ spare left.lens = subst (λ m. limit_of left ≤ spare m) (sym lens) (let enough = c.requires.empty.len_room in omega (arith, limit, enough)) in
+    let tops : Tops pages n c.learn_blocks.new.self.state.sequence = e.tops told (λ j q within is. absurd (omega (arith, within))) c.if-not-branch.false in
+    opened pages blocks _ left (subst (λ b. IsLeaving pages n b 64 left) (sym l.spare) leaving)
+    (record {
+      records = c.measure.ensures.records;
+      limit = c.measure.ensures.limit;
+      lens = c.measure.ensures.lens;
+      measured = c.measure.ensures.measured;
+      spare = c.measure.ensures.spare;
+      ends = c.stray_end-self.ensures;
+      calm = c.is_disputed-self.ensures;
+      full = l.fill.0 ∙ (f.fill.0 ∙ (e.fill.0 ∙ c.requires.full));
+    })
+    (limit ∙ c.requires.limit) room (λ file. ap (λ m. len_in m file) lens ∙ c.requires.empty.lens file)
+    (subst (λ b. b < blocks) (sym l.spare) finds.0)
+    (subst (IsSpare pages n) (sym l.spare) finds.1)
+    (subst (Tops pages n) (sym (l.sequence ∙ f.sequence)) tops)

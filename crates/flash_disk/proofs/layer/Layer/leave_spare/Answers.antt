@@ -1,8 +1,8 @@
-use Rattle.std.proofs.Common.{◌∙◌, arith}
+use Rattle.std.proofs.Common.{◌≡◌, ◌+◌, ◌<◌, sym, subst, ◌∙◌, arith}
+use Rattle.flash_disk.specs.Newest.{places}
+use Rattle.flash_disk.specs.Learnt.{IsLeaving}
+use Rattle.flash_disk.proofs.Leaving.{leaves_there}
 use Rattle.flash_disk.proofs.layer.Layer.leave_spare.Goals as goal
-
-pub returns-in_err-leave_page-clause-leads : goal.returns-in_err-leave_page-clause-leads
-returns-in_err-leave_page-clause-leads g c = λ pages n led. c.in_err-leave_page.ensures.leads pages n (c.loop-page.invariant.5 pages n led)
 
 pub loop-page-preserved : goal.loop-page-preserved
 loop-page-preserved g c = let i = c.loop-page.invariant in let e = c.in_ok-leave_page.ensures in (
@@ -11,5 +11,12 @@ loop-page-preserved g c = let i = c.loop-page.invariant in let e = c.in_ok-leave
   e.blocks ∙ i.2,
   e.limit ∙ i.3,
   e.lens ∙ i.4,
-  (λ pages n led. e.leads pages n (i.5 pages n led)),
+  e.own ∙ i.5,
+  (e.fill.0 ∙ i.6.0, e.fill.1 ∙ i.6.1),
+  e.sequence ∙ i.7,
+  e.spare ∙ i.8,
+  (λ told within spare start. leaves_there (g.F.Flash.medium c.args.self.now.flash).state.pages (g.F.Flash.medium c.loop-page.self.flash).state.pages (i.1 told)
+      (g.F.Flash.medium c.args.self.now.flash).blocks (g.F.Flash.medium c.loop-page.self.flash).blocks i.2 c.args.self.now.state.spare c.loop-page.page (c.loop-page.page + 1)
+      c.loop-page.self.state.table c.leave_page.new.self.state.table
+      (e.left told (let same = i.2 in omega (arith, within, same)) c.loop-page-test.true) spare (i.9 told within spare start)),
 )

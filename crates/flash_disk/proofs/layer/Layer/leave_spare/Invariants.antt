@@ -1,7 +1,8 @@
-use Rattle.std.proofs.Common.{◌≡◌, ℕ, ◌≤◌, true}
-use Rattle.flash_model.specs.Pages.{Pages}
+use Rattle.std.proofs.Common.{◌≡◌, ℕ, ◌<◌, ◌≤◌, true}
+use Rattle.flash_disk.specs.Newest.{places}
 use Rattle.flash_disk.specs.Known.{limit_of}
-use Rattle.flash_disk.specs.Learnt.{IsLed}
+use Rattle.flash_disk.specs.Learnt.{LeavesBlock}
+use Rattle.flash_disk.specs.Sound.{SameFill}
 use Rattle.flash_disk.proofs.layer.Layer.leave_spare.Given as goal
 
 abbrev pub invariant-loop-page : goal.invariant-loop-page
@@ -10,4 +11,9 @@ invariant-loop-page g l = ((g.F.Flash.medium l.initial.self.flash).faults ≤ (g
     × ((g.F.Flash.medium l.self.flash).blocks ≡ (g.F.Flash.medium l.initial.self.flash).blocks)
     × (limit_of l.self.state.table ≡ limit_of l.initial.self.state.table)
     × (l.self.state.table.lens ≡ l.initial.self.state.table.lens)
-    × ((pages : Pages) (n : ℕ) → IsLed pages n l.initial.self.state.table → IsLed pages n l.self.state.table)
+    × (l.self.own ≡ l.initial.self.own)
+    × SameFill l.initial.self.state l.self.state
+    × (l.self.state.sequence ≡ l.initial.self.state.sequence)
+    × (l.self.state.spare ≡ l.initial.self.state.spare)
+    × (g.F.Flash.told ≡ true → l.spare < (g.F.Flash.medium l.initial.self.flash).blocks
+    → LeavesBlock (g.F.Flash.medium l.initial.self.flash).state.pages (places (g.F.Flash.medium l.initial.self.flash).blocks) l.spare 0 l.page l.initial.self.state.table l.self.state.table)

@@ -1,0 +1,87 @@
+-- What is kept fits the pages once the flash was opened.
+use Rattle.std.proofs.Common.{◌≡◌, ℕ, ◌+◌, ◌<◌, ◌≤◌, sym, ap, subst, ◌∙◌, arith}
+use Rattle.std.specs.Prelude.{Bool, Some, None, IsTrue, IsFalse}
+use Rattle.std.specs.HashMap.{get, hash_map_len, spare}
+use Rattle.flash_model.specs.Pages.{Pages}
+use Rattle.flash_disk.specs.declared.table.FilePage.{FilePage}
+use Rattle.flash_disk.specs.declared.table.Newest.{Newest}
+use Rattle.flash_disk.specs.declared.table.Table.{Table}
+use Rattle.flash_disk.specs.declared.layer.LayerState.{LayerState}
+use Rattle.flash_disk.specs.Newest.{places, page_limit, IsSpare}
+use Rattle.flash_disk.specs.Known.{same_page, known, page_len, limit_of, len_known, HasLen, EndsBy, IsLongest}
+use Rattle.flash_disk.specs.Learnt.{IsLed, IsLeaving, Knows, Tops}
+use Rattle.flash_disk.specs.Sound.{Sound, PendsAt, Holds}
+use Rattle.flash_disk.specs.FlashFilesLaws.{one_len}
+use Rattle.disk_model.specs.Medium.{Quiet}
+use Rattle.flash_model.specs.State.{FlashState, settle_pages}
+use Rattle.flash_model.specs.FlashMedium.{FlashMedium}
+use Rattle.flash_disk.specs.FlashFiles.{flash_files}
+use Rattle.flash_disk.specs.FlashDiskMedium.{put_announced, files_told, flash_disk_medium}
+use Rattle.flash_disk.proofs.DiskCases.{told_files}
+use Rattle.flash_disk.proofs.Leading.{measured}
+use Rattle.flash_disk.proofs.Leaving.{leads_at_last, left_out, agreed_at_last, strayless_at_last}
+
+-- what came of a table when the lengths were taken from it, and what it then said
+pub record Measures (left : Table) (s : LayerState) : Type 0 where
+  pub records : s.table.newest ≡ left.newest
+  pub limit : limit_of s.table ≡ limit_of left
+  pub lens : page_len left ≤ spare left.lens → ((file : ℕ) → len_known left file ≡ 0) → (file : ℕ) → IsLongest left.newest file (len_known s.table file)
+  pub measured : page_len left ≤ spare left.lens → (key : FilePage) (e : Newest) → known left key ≡ Some e → HasLen s.table key.file
+  pub spare : spare left.lens ≤ spare s.table.lens + page_len left
+  pub ends : (key : FilePage) (e : Newest) → known s.table key ≡ Some e → EndsBy s.table.lens key e s.stray_end
+  pub calm : IsFalse s.disputed → (key : FilePage) (e : Newest) → known s.table key ≡ Some e → IsFalse e.rivalled
+  pub full : s.fill ≡ 64
+
+module _ (pages : Pages) (blocks : ℕ) (s : LayerState) (left : Table) (leaving : IsLeaving pages (places blocks) s.spare 64 left) (measures : Measures left s)
+    (limit : limit_of left ≡ page_limit blocks) (room : limit_of left ≤ spare left.lens) (empty : (file : ℕ) → len_known left file ≡ 0) where
+  led : IsLed pages (places blocks) left
+  led = leads_at_last pages (places blocks) s.spare left leaving
+
+  knows : Knows pages (places blocks) s.table
+  knows = measured pages (places blocks) left s.table led measures.records measures.limit
+      (measures.lens (let fits = led.fits in omega (arith, fits, room)) empty)
+
+  -- what the table has for a page now, it had before
+  there : (key : FilePage) (e : Newest) → known left key ≡ Some e → known s.table key ≡ Some e
+  there key e is = ap (λ m. get same_page m key) measures.records ∙ is
+
+  pub opened : s.spare < blocks → IsSpare pages (places blocks) s.spare → Tops pages (places blocks) s.sequence → Sound pages blocks s
+  opened within is_spare tops = record {
+    knows = knows;
+    tops = tops;
+    strays = strayless_at_last pages (places blocks) s.spare left leaving (len_known s.table)
+        (λ file. one_len pages (places blocks) file (len_known s.table file) (knows.lens file)) s.stray_end (λ key e is. measures.ends key e (there key e is));
+    limit = measures.limit ∙ limit;
+    files =
+        (let same : page_len s.table ≡ page_len left = ap (λ m. hash_map_len m) measures.records in
+        let more = measures.spare in let is = measures.limit in omega (arith, same, more, is, room));
+    measured = λ key e is. measures.measured (let fits = led.fits in omega (arith, fits, room)) key e
+        (ap (λ m. get same_page m key) (sym measures.records) ∙ is);
+    within = within;
+    is_spare = is_spare;
+    agreed = λ calm. agreed_at_last pages (places blocks) s.spare left leaving (λ key e is. measures.calm calm key e (there key e is));
+    apart = λ calm key e is. left_out pages (places blocks) s.spare left leaving key e (ap (λ m. get same_page m key) (sym measures.records) ∙ is);
+    fresh = λ less. (let full = measures.full in absurd (omega (arith, less, full)));
+  }
+
+-- what is kept fits all pages
+pub holds_all : (m : FlashMedium) (s : LayerState) (pages : Pages) → Sound pages m.blocks s → m.state.pages ≡ pages → s.unsure ≡ None → Holds m s
+holds_all m s pages sound same sure = record {
+  sure = pages;
+  sound = sound;
+  pends = subst (PendsAt pages m.state.pages m.blocks s) (sym sure) same;
+}
+
+-- a flash that was settled makes a disk on which nothing is pending
+pub settled_is_quiet : (told : Bool) (m : FlashMedium) (own written : ℕ) (s : FlashState) → (IsTrue told → m.state ≡ settle_pages s)
+    → Quiet (flash_disk_medium told m own written)
+settled_is_quiet told m own written s state c now =
+    let t = now.0 in
+    let image = told_files told m t in
+    let base : flash_files m.state.settled m.blocks ≡ files_told told m =
+    ap (λ q. flash_files q m.blocks) (ap (λ q. q.settled) (state t) ∙ sym (ap (λ q. q.pages) (state t))) ∙ sym image in
+    record {
+      base = ap (λ d. d.base) now.1 ∙ base;
+      full = ap (λ d. d.full) now.1 ∙ (ap (put_announced (flash_files m.state.settled m.blocks)) (ap (λ q. q.announced) (state t)) ∙ base);
+      left = ap (λ d. d.left) now.1 ∙ sym image;
+    }

@@ -1,0 +1,10 @@
+use Rattle.std.proofs.Common.{sym, ◌∙◌, rules, tests}
+use Rattle.std.proofs.lemmas.Iterator.Search.{any_from_yields_List}
+use Rattle.std.proofs.lemmas.Iterator.Consumers.{YieldsList-from_rest}
+use Rattle.flash_disk.proofs.Lengths.{none_passes}
+use Rattle.flash_disk.proofs.table.Table.is_disputed.Goals as goal
+
+pub returns : goal.returns
+returns c calm key entry is =
+    let all = any_from_yields_List (λ e. e.rivalled) _ _ c.any.result c.any.ensures.ran (YieldsList-from_rest _ c.values.ensures.rest) (λ x b q k. search (rules, tests)) in
+    none_passes (λ e. e.rivalled) key entry c.args.self.now.newest.entries (sym all ∙ calm) is
