@@ -20,7 +20,7 @@ use flash_model::{BLANK_PAGE, BLOCK_PAGES, Flash, PAGE_BYTES};
 use flash_record::{RECORD_BYTES, Record, read_record, record_page};
 
 impl<F: Flash> Layer<F> {
-    ghost use Rattle.flash_disk.specs.Sound.{files_of, Sound, IsSound, Holds, FitsIn, Enters, LeavesPut};
+    ghost use Rattle.flash_disk.specs.Sound.{files_of, Sound, IsSound, Holds, FitsIn, Enters, LeavesPut, ShowsPage};
 
     // Reads again what a failed call may have left anything in.
     pub(crate) fn make_sure(&mut self) -> Result<(), DiskFailed>
@@ -78,6 +78,7 @@ impl<F: Flash> Layer<F> {
         ensures sure { OnOk result (self.new.state.unsure ≡ None) }
         ensures put { IsTrue F.told → OnOk result (PutPart file (256 * page) bytes.now len
             (files_of (F.medium self.old.flash)) (files_of (F.medium self.new.flash))) }
+        ensures shown { IsTrue F.told → OnOk result (ShowsPage (F.medium self.old.flash) (F.medium self.new.flash) file page bytes.now) }
         ensures failed { IsTrue F.told → OnErr result (Holds (F.medium self.new.flash) self.new.state) }
         ensures does { IsTrue F.told → Does (LeavesPut file (256 * page) bytes.now len (files_of (F.medium self.old.flash)) (F.medium self.old.flash).blocks)
             (F.medium self.old.flash) (F.medium self.new.flash) }

@@ -3,7 +3,8 @@
 ghost use Rattle.std.specs.Prelude.{◌≡◌, ◌+◌, ◌-◌, ◌*◌, ◌/◌, ◌≤◌, ◌<◌, ◌^◌, ℕ, IsTrue, IfOk, OnOk, OnErr, None, length, min, max, take, drop, nat_lt, slice_index, if◌then◌else◌};
 ghost use Rattle.per_base.specs.Causes.{HasCause};
 ghost use Rattle.disk_model.specs.Image.{put_image};
-ghost use Rattle.flash_model.specs.FlashMedium.{FlashElapses};
+ghost use Rattle.flash_model.specs.State.{IsStill};
+ghost use Rattle.flash_model.specs.FlashMedium.{FlashElapses, EachFlashCase};
 ghost use Rattle.flash_record.specs.PageRecord.{record_in};
 ghost use Rattle.flash_disk.specs.Newest.{places};
 ghost use Rattle.flash_disk.specs.FlashFiles.{record_byte, file_byte, file_len, flash_files};
@@ -33,9 +34,12 @@ impl<F: Flash> Layer<F> {
     fn content(&mut self, key: FilePage) -> Result<[u8; RECORD_BYTES], DiskFailed>
         ensures bytes { IsTrue F.told → Knows (F.medium self.old.flash).state.pages (places (F.medium self.old.flash).blocks) self.old.state.table
             → IfOk result (IsContent (F.medium self.old.flash).state.pages (places (F.medium self.old.flash).blocks) key) }
-        ensures pages { IsTrue F.told → (F.medium self.new.flash).state.pages ≡ (F.medium self.old.flash).state.pages }
+        ensures unchanged { IsTrue F.told → (F.medium self.new.flash).state ≡ (F.medium self.old.flash).state }
+        ensures during { IsTrue F.told → EachFlashCase (IsStill (F.medium self.old.flash).state) (F.medium self.old.flash) (F.medium self.new.flash) }
+        ensures time { IsTrue F.told → FlashElapses (F.medium self.old.flash) (F.medium self.new.flash) }
         ensures blocks { (F.medium self.new.flash).blocks ≡ (F.medium self.old.flash).blocks }
-        ensures table { self.new.state.table ≡ self.old.state.table }
+        ensures state { self.new.state ≡ self.old.state }
+        ensures own { self.new.own ≡ self.old.own }
         ensures cause { HasCause ((F.medium self.old.flash).faults + self.old.own) ((F.medium self.new.flash).faults + self.new.own) result }
     {
         let Some(newest) = self.state.table.find(key) else {
@@ -61,6 +65,7 @@ impl<F: Flash> Layer<F> {
         requires end { 256 * page + from + length bytes.now ≤ len }
         requires sure { self.old.state.unsure ≡ None }
         requires sound { IsTrue F.told → IsSound (F.medium self.old.flash) self.old.state }
+        requires no_shorter { IsTrue F.told → length (files_of (F.medium self.old.flash) file) ≤ len }
         requires grows { IsTrue F.told → ShowsZeros (F.medium self.old.flash) file len }
         ensures sound { IsTrue F.told → OnOk result (IsSound (F.medium self.new.flash) self.new.state) }
         ensures sure { OnOk result (self.new.state.unsure ≡ None) }
@@ -122,7 +127,7 @@ impl<F: Flash> Layer<F> {
 
     // Rewrites a record that has bytes past the end of its file without them.
     fn wipe_stray(&mut self, file: u32, page: u32, len: u64) -> Result<(), DiskFailed>
-        requires len { len ≡ len_known self.old.state.table file }
+        requires len { IsTrue F.told → len ≡ len_known self.old.state.table file }
         requires sure { self.old.state.unsure ≡ None }
         requires sound { IsTrue F.told → IsSound (F.medium self.old.flash) self.old.state }
         ensures sound { IsTrue F.told → OnOk result (IsSound (F.medium self.new.flash) self.new.state) }
@@ -131,7 +136,6 @@ impl<F: Flash> Layer<F> {
         ensures failed { IsTrue F.told → OnErr result (Holds (F.medium self.new.flash) self.new.state) }
         ensures does { IsTrue F.told → Does (StandsFor (files_of (F.medium self.old.flash)) (F.medium self.old.flash).blocks)
             (F.medium self.old.flash) (F.medium self.new.flash) }
-        ensures stray_end { self.new.state.stray_end ≡ self.old.state.stray_end }
         ensures later { self.old.state.sequence ≤ self.new.state.sequence }
         ensures time { IsTrue F.told → FlashElapses (F.medium self.old.flash) (F.medium self.new.flash) }
         ensures cause { HasCause ((F.medium self.old.flash).faults + self.old.own) ((F.medium self.new.flash).faults + self.new.own) result }
@@ -240,9 +244,12 @@ impl<F: Flash> Layer<F> {
         ensures bytes { IsTrue F.told → Knows (F.medium self.old.flash).state.pages (places (F.medium self.old.flash).blocks) self.old.state.table
             → IfOk result (λ n. (n ≡ min (length out.old) (length (flash_files (F.medium self.old.flash).state.pages (F.medium self.old.flash).blocks file) - at))
             × (take n out.new ≡ take n (drop at (flash_files (F.medium self.old.flash).state.pages (F.medium self.old.flash).blocks file)))) }
-        ensures pages { IsTrue F.told → (F.medium self.new.flash).state.pages ≡ (F.medium self.old.flash).state.pages }
+        ensures unchanged { IsTrue F.told → (F.medium self.new.flash).state ≡ (F.medium self.old.flash).state }
+        ensures during { IsTrue F.told → EachFlashCase (IsStill (F.medium self.old.flash).state) (F.medium self.old.flash) (F.medium self.new.flash) }
+        ensures time { IsTrue F.told → FlashElapses (F.medium self.old.flash) (F.medium self.new.flash) }
         ensures blocks { (F.medium self.new.flash).blocks ≡ (F.medium self.old.flash).blocks }
-        ensures table { self.new.state.table ≡ self.old.state.table }
+        ensures state { self.new.state ≡ self.old.state }
+        ensures own { self.new.own ≡ self.old.own }
         ensures cause { HasCause ((F.medium self.old.flash).faults + self.old.own) ((F.medium self.new.flash).faults + self.new.own) result }
     {
         let len = self.file_size(file);
@@ -266,9 +273,12 @@ impl<F: Flash> Layer<F> {
             → OnOk result (at + length out.old ≤ file_len (F.medium self.old.flash).state.pages (places (F.medium self.old.flash).blocks) file
             → (k : ℕ) → k < length out.old
             → slice_index out.new k ≡ file_byte (F.medium self.old.flash).state.pages (places (F.medium self.old.flash).blocks) file (at + k)) }
-        ensures pages { IsTrue F.told → (F.medium self.new.flash).state.pages ≡ (F.medium self.old.flash).state.pages }
+        ensures unchanged { IsTrue F.told → (F.medium self.new.flash).state ≡ (F.medium self.old.flash).state }
+        ensures during { IsTrue F.told → EachFlashCase (IsStill (F.medium self.old.flash).state) (F.medium self.old.flash) (F.medium self.new.flash) }
+        ensures time { IsTrue F.told → FlashElapses (F.medium self.old.flash) (F.medium self.new.flash) }
         ensures blocks { (F.medium self.new.flash).blocks ≡ (F.medium self.old.flash).blocks }
-        ensures table { self.new.state.table ≡ self.old.state.table }
+        ensures state { self.new.state ≡ self.old.state }
+        ensures own { self.new.own ≡ self.old.own }
         ensures cause { HasCause ((F.medium self.old.flash).faults + self.old.own) ((F.medium self.new.flash).faults + self.new.own) result }
     {
         let mut done = 0;

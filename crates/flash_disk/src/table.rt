@@ -258,7 +258,9 @@ fn raise(lens: &mut HashMap<u32, u64>, file: u32, len: u64) -> bool
 }
 
 /// Where the last byte other than zero of a record ends in its file.
-pub fn end_of_bytes(key: FilePage, newest: Newest) -> u64 {
+pub fn end_of_bytes(key: FilePage, newest: Newest) -> u64
+    ensures { key.page < 4294967296 → result ≡ (if newest.filled == 0 then 0 else 256 * key.page + newest.filled) }
+{
     if newest.filled == 0 {
         return 0;
     }

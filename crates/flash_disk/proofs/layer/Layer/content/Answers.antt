@@ -2,6 +2,7 @@ use Rattle.std.proofs.Common.{◌≡◌, ◌<◌, ◌-◌, ◌*◌, cond, sym, a
 use Rattle.std.specs.Prelude.{Some, nat_lt}
 use Rattle.flash_record.specs.PageRecord.{record_in}
 use Rattle.flash_disk.specs.Newest.{places}
+use Rattle.flash_disk.specs.declared.layer.LayerState.{LayerState}
 use Rattle.flash_disk.specs.Known.{known, len_known}
 use Rattle.flash_disk.specs.FlashFiles.{record_byte}
 use Rattle.flash_disk.proofs.Reading.{no_content, is_there, content}
@@ -22,7 +23,7 @@ returns-clause-bytes g c told knows =
     let is : known table key ≡ Some e = sym c.find.ensures ∙ c.in-Some.is in
     let there = is_there pages (places blocks) table knows key e is in
     let block : e.place.block < blocks = (let small = there.0 in let within = there.1 in omega (arith, small, within)) in
-    let len : c.len_of-len.result ≡ len_known table key.file = c.len_of-len.ensures ∙ ap (λ t. len_known t key.file) c.in_ok-read_page.ensures.table in
+    let len : c.len_of-len.result ≡ len_known table key.file = c.len_of-len.ensures ∙ ap (λ (s : LayerState). len_known s.table key.file) c.in_ok-read_page.ensures.state in
     content pages (places blocks) table knows key e is c.read_page.new.out c.cut.result (c.in_ok-read_page.ensures.bytes told block there.0)
     (λ j small. c.cut.ensures j small ∙ ap (λ w. cond (nat_lt j w) (record_byte (record_in c.read_page.new.out) j) 0)
     (let w : c.saturating_sub.result ≡ len_known table key.file - 256 * key.page = omega (arith, len) in w))

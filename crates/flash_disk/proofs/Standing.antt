@@ -1,0 +1,184 @@
+-- What stays where no record came and of each newest one an equal one is left: what the newest records say, and so the files.
+use Rattle.std.proofs.Common.{◌≡◌, ◌⊎◌, ℕ, ◌/◌, ◌%◌, ◌<◌, ◌≤◌, map, true, refl, sym, ap, subst, ◌∙◌, inl, inr, ⊎_elim, arith}
+use Rattle.std.specs.Prelude.{Option, Some, None}
+use Rattle.std.specs.List.{range_with_len}
+use Rattle.std.proofs.Math.Path.{fun_ext}
+use Rattle.std.proofs.lemmas.Option.{same_Some, none-some}
+use Rattle.flash_model.specs.Pages.{Pages}
+use Rattle.flash_record.specs.PageRecord.{PageRecord}
+use Rattle.flash_disk.specs.Newest.{Placed, record_at, is_of, newest, places, IsNewest, IsNewestOf}
+use Rattle.flash_disk.specs.NewestLaws.{newest_is}
+use Rattle.flash_disk.specs.FlashFiles.{record_byte, byte_in, file_byte, file_len, flash_files, IsFileLen}
+use Rattle.flash_disk.specs.FlashFilesLaws.{file_len_is, one_len}
+use Rattle.flash_disk.specs.Learnt.{Tops}
+use Rattle.flash_disk.specs.Standing.{said, IsAgreed, Keeps, IsStrayless, MayGrow}
+
+-- a page of which something is said has a newest record, which says it
+pub said_some : (best : Option Placed) (r : PageRecord) → said best ≡ Some r → (x : Placed) × (best ≡ Some x) × (x.says ≡ r)
+said_some None r is = absurd (none-some r is)
+said_some (Some x) r is = (x, refl, same_Some x.says r is)
+
+-- a byte of a page is that of what is said of it
+pub said_byte : (best : Option Placed) (i : ℕ) → byte_in best i ≡ record_byte (said best) i
+said_byte None i = refl
+said_byte (Some x) i = refl
+
+-- what makes a record that of which the newest one of a page says the same: none has a greater number, and one with its number is equal
+pub record IsSaid (pages : Pages) (file page n : ℕ) (r : PageRecord) : Type 0 where
+  pub of_page : is_of file page r ≡ true
+  pub place : ℕ
+  pub within : place < n
+  pub there : record_at pages place ≡ Some r
+  pub most : (j : ℕ) (q : PageRecord) → j < n → record_at pages j ≡ Some q → is_of file page q ≡ true → q.sequence ≤ r.sequence
+  pub one : (j : ℕ) (q : PageRecord) → j < n → record_at pages j ≡ Some q → is_of file page q ≡ true → q.sequence ≡ r.sequence → q ≡ r
+
+module _ (pages : Pages) (file page n : ℕ) where
+  said_by : (r : PageRecord) → IsSaid pages file page n r → (best : Option Placed) → IsNewestOf pages file page n best → said best ≡ Some r
+  said_by r is None none = absurd (none is.place r is.within is.there is.of_page)
+  said_by r is (Some x) is_newest =
+      let less = is_newest.most is.place r is.within is.there is.of_page in
+      let more = is.most x.place x.says is_newest.within is_newest.there is_newest.of_page in
+      let same : x.says.sequence ≡ r.sequence = omega (arith, less, more) in
+      ap Some (is.one x.place x.says is_newest.within is_newest.there is_newest.of_page same)
+
+  -- such a record is what the newest one says
+  pub newest_said : (r : PageRecord) → IsSaid pages file page n r → said (newest pages file page n) ≡ Some r
+  newest_said r is = said_by r is (newest pages file page n) (newest_is pages file page n)
+
+  -- the newest record of a page, as such
+  pub is_newest_of : (x : Placed) → newest pages file page n ≡ Some x → IsNewest pages file page n x
+  is_newest_of x is = subst (IsNewestOf pages file page n) is (newest_is pages file page n)
+
+-- the newest records of each page say the same
+abbrev pub SaysAlike : (old new : Pages) → ℕ → Type 0
+SaysAlike old new n = (file page : ℕ) → said (newest new file page n) ≡ said (newest old file page n)
+
+module _ (old new : Pages) (n : ℕ) (alike : SaysAlike old new n) where
+  -- each byte is the same
+  pub same_said_byte : (file i : ℕ) → file_byte new n file i ≡ file_byte old n file i
+  same_said_byte file i = said_byte (newest new file (i / 256) n) (i % 256)
+      ∙ (ap (λ o. record_byte o (i % 256)) (alike file (i / 256)) ∙ sym (said_byte (newest old file (i / 256) n) (i % 256)))
+
+  -- a newest record says what one did before
+  pub said_before : (file page : ℕ) (x : Placed) → newest new file page n ≡ Some x → (y : Placed) × (newest old file page n ≡ Some y) × (y.says ≡ x.says)
+  said_before file page x is = said_some (newest old file page n) x.says (sym (alike file page) ∙ ap said is)
+
+  -- what a newest record said one says now
+  pub said_after : (file page : ℕ) (x : Placed) → newest old file page n ≡ Some x → (y : Placed) × (newest new file page n ≡ Some y) × (y.says ≡ x.says)
+  said_after file page x is = said_some (newest new file page n) x.says (alike file page ∙ ap said is)
+
+  same_file_len : (file len : ℕ) → IsFileLen old n file len → IsFileLen new n file len
+  same_file_len file len is = record {
+    most = λ page x found. let before = said_before file page x found in
+        subst (λ (q : PageRecord). q.len ≤ len) before.2 (is.most page before.0 before.1);
+    one = ⊎_elim
+        (λ none. inl none)
+        (λ some. let after = said_after file some.0 some.1 some.2 in inr (some.0, after.0, after.1, some.3 ∙ ap (λ q. q.len) (sym after.2)))
+        is.one;
+  }
+
+  -- each file is as long
+  pub same_said_len : (file : ℕ) → file_len new n file ≡ file_len old n file
+  same_said_len file = sym (one_len new n file (file_len old n file) (same_file_len file (file_len old n file) (file_len_is old n file)))
+
+  -- no byte past the end of a file came to show
+  pub same_said_strayless : (from : ℕ) → IsStrayless old n from → IsStrayless new n from
+  same_said_strayless from strayless = λ file i past from_there. let same = same_said_len file in
+      same_said_byte file i ∙ strayless file i (omega (arith, past, same)) from_there
+
+  -- a file that might grow still may
+  pub same_said_may_grow : (file page len : ℕ) → MayGrow old n file page len → MayGrow new n file page len
+  same_said_may_grow file page len may = λ i past inside apart. let same = same_said_len file in
+      same_said_byte file i ∙ may i (omega (arith, past, same)) inside apart
+
+-- the files are the same
+pub same_said_files : (old new : Pages) (blocks : ℕ) → SaysAlike old new (places blocks) → flash_files new blocks ≡ flash_files old blocks
+unfolding flash_files
+same_said_files old new blocks alike = fun_ext (λ file.
+    ap (λ b. map b (range_with_len 0 (file_len new (places blocks) file))) (fun_ext (λ i. same_said_byte old new (places blocks) alike file i))
+    ∙ ap (λ l. map (file_byte old (places blocks) file) (range_with_len 0 l)) (same_said_len old new (places blocks) alike file))
+
+module _ (old new : Pages) (n : ℕ) where
+  module _ (agreed : IsAgreed old n) (keeps : Keeps old new n) where
+    nothing_came : (file page : ℕ) → IsNewestOf old file page n None → (best : Option Placed) → IsNewestOf new file page n best → said best ≡ None
+    nothing_came file page none None is = refl
+    nothing_came file page none (Some x) is =
+        let was = keeps.only x.place x.says is.within is.there in absurd (none was.0 x.says was.1 was.2 is.of_page)
+
+    still_said : (file page : ℕ) (x : Placed) → newest old file page n ≡ Some x → IsNewest old file page n x → IsSaid new file page n x.says
+    still_said file page x found is = let left = keeps.stays file page x found in record {
+      of_page = is.of_page;
+      place = left.0;
+      within = left.1;
+      there = left.2;
+      most = λ j q inside there of_page. (let was = keeps.only j q inside there in is.most was.0 q was.1 was.2 of_page);
+      one = λ j q inside there of_page same. (let was = keeps.only j q inside there in agreed file page x found was.0 q was.1 was.2 of_page same);
+    }
+
+    kept_by : (file page : ℕ) (best : Option Placed) → newest old file page n ≡ best → IsNewestOf old file page n best → said (newest new file page n) ≡ said best
+    kept_by file page None found is = nothing_came file page is (newest new file page n) (newest_is new file page n)
+    kept_by file page (Some x) found is = newest_said new file page n x.says (still_said file page x found is)
+
+    -- the newest records say what they said
+    pub keeps_said : (file page : ℕ) → said (newest new file page n) ≡ said (newest old file page n)
+    keeps_said file page = kept_by file page (newest old file page n) refl (newest_is old file page n)
+
+    -- the records are still agreed
+    pub keeps_agreed : IsAgreed new n
+    keeps_agreed = λ file page x found j q inside there of_page same.
+        let before = said_before old new n keeps_said file page x found in
+        let was = keeps.only j q inside there in
+        agreed file page before.0 before.1 was.0 q was.1 was.2 of_page (same ∙ ap (λ z. z.sequence) (sym before.2)) ∙ before.2
+
+    -- each byte is the same
+    pub keeps_byte : (file i : ℕ) → file_byte new n file i ≡ file_byte old n file i
+    keeps_byte = same_said_byte old new n keeps_said
+
+    -- each file is as long
+    pub keeps_len : (file : ℕ) → file_len new n file ≡ file_len old n file
+    keeps_len = same_said_len old new n keeps_said
+
+    -- no byte past the end of a file came to show
+    pub keeps_strayless : (from : ℕ) → IsStrayless old n from → IsStrayless new n from
+    keeps_strayless = same_said_strayless old new n keeps_said
+
+    -- a file that might grow still may
+    pub keeps_may_grow : (file page len : ℕ) → MayGrow old n file page len → MayGrow new n file page len
+    keeps_may_grow = same_said_may_grow old new n keeps_said
+
+    -- what is kept after this is kept
+    pub keeps_then : (after : Pages) → Keeps new after n → Keeps old after n
+    keeps_then after then = record {
+      only = λ j q inside there. (let was = then.only j q inside there in keeps.only was.0 q was.1 was.2);
+      stays = λ file page x found.
+          (let now = said_after old new n keeps_said file page x found in
+          let left = then.stays file page now.0 now.1 in (left.0, left.1, left.2 ∙ ap Some now.2));
+    }
+
+  -- no record has a greater number
+  pub keeps_tops : Keeps old new n → (top : ℕ) → Tops old n top → Tops new n top
+  keeps_tops keeps top tops = λ j q inside there. (let was = keeps.only j q inside there in tops was.0 q was.1 was.2)
+
+  -- the records of new pages are all old ones, and of each newest one an equal one stands where it stood
+  pub led_keeps : ((j : ℕ) (q : PageRecord) → j < n → record_at new j ≡ Some q → (k : ℕ) × (k < n) × (record_at old k ≡ Some q))
+      → ((file page : ℕ) (x : Placed) → newest old file page n ≡ Some x
+      → (k : ℕ) × (k < n) × (record_at old k ≡ Some x.says) × (record_at new k ≡ record_at old k)) → Keeps old new n
+  led_keeps only led = record {
+    only = only;
+    stays = λ file page x found. (let place = led file page x found in (place.0, place.1, place.3 ∙ place.2));
+  }
+
+  -- the same records in the same places
+  pub same_records_keep : ((j : ℕ) → j < n → record_at new j ≡ record_at old j) → Keeps old new n
+  same_records_keep same = record {
+    only = λ j q inside there. (j, inside, sym (same j inside) ∙ there);
+    stays = λ file page x found. (let is = is_newest_of old file page n x found in (x.place, is.within, same x.place is.within ∙ is.there));
+  }
+
+-- nothing changed
+pub keeps_refl : (pages : Pages) (n : ℕ) → Keeps pages pages n
+keeps_refl pages n = same_records_keep pages pages n (λ j inside. refl)
+
+-- the files are the same
+pub keeps_files : (old new : Pages) (blocks : ℕ) → IsAgreed old (places blocks) → Keeps old new (places blocks) → flash_files new blocks ≡ flash_files old blocks
+keeps_files old new blocks agreed keeps = same_said_files old new blocks (keeps_said old new (places blocks) agreed keeps)
