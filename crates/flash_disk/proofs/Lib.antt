@@ -8,6 +8,7 @@ mod Programming
 pub mod Parts
 pub mod Stretches
 pub mod DiskCases
+pub mod DiskWrites
 pub mod Standing
 pub mod Sparing
 pub mod Growing
