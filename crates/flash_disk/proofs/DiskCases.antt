@@ -144,7 +144,7 @@ disk_write_nothing old new file at bytes none reads = (
   (disk_write_refused old new file at bytes reads).1,
 )
 
-put_after : (image : Image) (ws : List Announced) (w : Announced) → put_announced image (ws ++ w ∷ []) ≡ put_image (put_announced image ws) w.file w.at w.bytes
+pub put_after : (image : Image) (ws : List Announced) (w : Announced) → put_announced image (ws ++ w ∷ []) ≡ put_image (put_announced image ws) w.file w.at w.bytes
 put_after image [] w = refl
 put_after image (v ∷ ws) w = put_after (put_image image v.file v.at v.bytes) ws w
 

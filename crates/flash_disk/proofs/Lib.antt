@@ -7,6 +7,10 @@ mod Leaving
 mod Opened
 mod Reading
 mod Programming
+pub mod Parts
+pub mod Stretches
+pub mod DiskCases
+pub mod DiskWrites
 pub mod Standing
 pub mod Sparing
 pub mod Growing

@@ -7,6 +7,7 @@ pub mod Learnt
 pub mod Standing
 pub mod PutPart
 pub mod Does
+pub mod FlashView
 pub mod FlashDiskMedium
 pub mod Sound
 pub mod Writes

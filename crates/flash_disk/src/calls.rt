@@ -1,20 +1,20 @@
 //! The calls of a disk.
 
-ghost use Rattle.std.specs.Prelude.{◌+◌, false};
+ghost use Rattle.std.specs.Prelude.{◌≡◌, ◌+◌, ◌*◌, ◌≤◌};
 
 use crate::disk::FlashDisk;
-use crate::serving::MAX_END;
 use disk_model::{Disk, DiskFailed};
 use flash_model::Flash;
 
 impl<F: Flash> Disk for FlashDisk<F> {
-    ghost use Rattle.disk_model.specs.Silence.{silent_medium, silent_is_lawful};
+    ghost use Rattle.flash_disk.specs.FlashDiskMedium.{flash_disk_medium};
+    ghost use Rattle.flash_disk.specs.FlashDiskLaws.{disk_is_lawful};
 
-    ghost told = { false };
+    ghost told = { F.told };
 
-    ghost medium = { λ disk. silent_medium ((F.medium disk.layer.flash).faults + disk.layer.own) };
+    ghost medium = { λ disk. flash_disk_medium F.told (F.medium disk.flash) disk.own disk.written };
 
-    ghost lawful = { λ disk. silent_is_lawful ((F.medium disk.layer.flash).faults + disk.layer.own) };
+    ghost lawful = { λ disk. disk_is_lawful F.told (F.medium disk.flash) disk.own disk.written (F.lawful disk.flash) };
 
     fn read(&mut self, file: u32, at: u64, out: &mut [u8]) -> Result<usize, DiskFailed> {
         self.layer.make_sure()?;
@@ -27,7 +27,7 @@ impl<F: Flash> Disk for FlashDisk<F> {
         }
         self.layer.make_sure()?;
         self.layer.write_file(file, at, bytes)?;
-        self.written = self.written.saturating_add(bytes.len() as u128);
+        self.written = with_more(self.written, bytes.len(), self.layer.state.sequence);
         Ok(())
     }
 
@@ -43,4 +43,12 @@ impl<F: Flash> Disk for FlashDisk<F> {
             Err(_) => Err(DiskFailed),
         }
     }
+}
+
+// So many bytes more. They can be counted, since each sequence number was used for at most 256.
+fn with_more(written: u128, more: usize, _sequence: u64) -> u128
+    requires { written + more ≤ 256 * _sequence }
+    ensures { result ≡ written + more }
+{
+    written + more as u128
 }

@@ -1,10 +1,10 @@
 //! A disk over a flash.
 
-ghost use Rattle.std.specs.Prelude.{◌≡◌, ◌≤◌, ◌*◌, IsTrue};
-ghost use Rattle.flash_disk.specs.Sound.{Holds};
+ghost use Rattle.std.specs.Prelude.{◌≡◌};
 
 use crate::layer::Layer;
 use flash_model::Flash;
+use std::marker::Model;
 
 /// Why a flash cannot be opened as a disk.
 #[derive(Clone, Copy, Debug, PartialEq, Eq)]
@@ -27,27 +27,37 @@ pub struct FlashRefused<F> {
     pub error: FlashOpenError,
 }
 
-/// A disk over a flash.
+/// A disk over a flash. Contracts see the flash, and what the disk counts.
 #[derive(Drop)]
 pub struct FlashDisk<F: Flash> {
     pub(crate) layer: Layer<F>,
     /// How many bytes were written into files.
     pub(crate) written: u128,
-    ghost holds: { ∥ (IsTrue F.told → Holds (F.medium layer.flash) layer.state) ∥₁ },
-    ghost counted: { ∥ (IsTrue F.told → written ≤ 256 * layer.state.sequence) ∥₁ },
+}
+
+impl<F: Flash> Model for FlashDisk<F> {
+    ghost use Rattle.flash_disk.specs.FlashView.{FlashView, view_code, IsKept};
+
+    ghost Value = { FlashView F };
+
+    ghost coded = { view_code F.code };
+
+    ghost view = { λ disk. record { flash = disk.layer.flash; own = disk.layer.own; written = disk.written } };
+
+    ghost invariant = { λ disk. IsKept F.told (F.medium disk.layer.flash) disk.layer.state disk.written };
 }
 
 impl<F: Flash> FlashDisk<F> {
     /// The flash, as it is. It takes no memory.
     pub fn into_flash(self) -> F
-        ensures { result ≡ self.layer.flash }
+        ensures { result ≡ self.flash }
     {
         self.layer.flash
     }
 
     /// How many calls failed though the flash did not, up to the greatest u64.
     pub fn own_faults(&self) -> u64
-        ensures { result ≡ self.now.layer.own }
+        ensures { result ≡ self.now.own }
     {
         self.layer.own
     }

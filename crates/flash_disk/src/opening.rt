@@ -35,11 +35,11 @@ impl<F: Flash> FlashDisk<F> {
             → IsUnusable (F.medium flash).state.pages (F.medium flash).blocks) }
 
         // No page changes, nothing counts as a fault of the disk yet, and a crash leaves what the flash held.
-        ensures pages { IsTrue F.told → IfOk result (λ disk. (F.medium disk.layer.flash).state.pages ≡ (F.medium flash).state.pages) }
-        ensures blocks { IfOk result (λ disk. (F.medium disk.layer.flash).blocks ≡ (F.medium flash).blocks) }
-        ensures own { IfOk result (λ disk. (disk.layer.own ≡ 0) × (disk.written ≡ 0)) }
-        ensures settled { IsTrue F.told → IfOk result (λ disk. (F.medium disk.layer.flash).state ≡ settle_pages (F.medium flash).state) }
-        ensures quiet { IfOk result (λ disk. Quiet (flash_disk_medium F.told (F.medium disk.layer.flash) disk.layer.own disk.written)) }
+        ensures pages { IsTrue F.told → IfOk result (λ disk. (F.medium disk.flash).state.pages ≡ (F.medium flash).state.pages) }
+        ensures blocks { IfOk result (λ disk. (F.medium disk.flash).blocks ≡ (F.medium flash).blocks) }
+        ensures own { IfOk result (λ disk. (disk.own ≡ 0) × (disk.written ≡ 0)) }
+        ensures settled { IsTrue F.told → IfOk result (λ disk. (F.medium disk.flash).state ≡ settle_pages (F.medium flash).state) }
+        ensures quiet { IfOk result (λ disk. Quiet (flash_disk_medium F.told (F.medium disk.flash) disk.own disk.written)) }
         ensures returned { IsTrue F.told → IfErr result (λ refused. (F.medium refused.flash).state.pages ≡ (F.medium flash).state.pages) }
     {
         let blocks = flash.blocks();

@@ -13,7 +13,7 @@ ghost use Rattle.flash_disk.specs.Learnt.{IsContent, HasPlace, Knows};
 ghost use Rattle.flash_disk.specs.Does.{Does};
 ghost use Rattle.flash_disk.specs.PutPart.{PutPart};
 ghost use Rattle.flash_disk.specs.Standing.{StandsFor};
-ghost use Rattle.flash_disk.specs.Writes.{LeavesTorn, WritesInto};
+ghost use Rattle.flash_disk.specs.Writes.{LeavesTorn, WritesInto, with_write};
 
 use crate::layer::Layer;
 use crate::table::{FilePage, end_of_bytes};
@@ -215,6 +215,7 @@ impl<F: Flash> Layer<F> {
         ensures rises { OnOk result (length bytes.now + 256 * self.old.state.sequence ≤ 256 * self.new.state.sequence) }
         ensures later { self.old.state.sequence ≤ self.new.state.sequence }
         ensures writes { IsTrue F.told → WritesInto file at bytes.now (F.medium self.old.flash) (F.medium self.new.flash) }
+        ensures announced { IsTrue F.told → OnOk result ((F.medium self.new.flash).state.announced ≡ with_write (F.medium self.old.flash).state file at bytes.now) }
         ensures time { IsTrue F.told → FlashElapses (F.medium self.old.flash) (F.medium self.new.flash) }
         ensures cause { HasCause ((F.medium self.old.flash).faults + self.old.own) ((F.medium self.new.flash).faults + self.new.own) result }
     {

@@ -1,0 +1,59 @@
+use Rattle.std.proofs.Common.{◌≡◌, ℕ, ◌+◌, ◌*◌, ◌≤◌, Bool, List, length, subst, ap, sym, arith}
+use Rattle.disk_model.specs.Case.{Follows, WriteCase, WriteOrNot}
+use Rattle.disk_model.specs.Medium.{Medium}
+use Rattle.flash_model.specs.FlashMedium.{FlashMedium}
+use Rattle.flash_disk.specs.FlashView.{FlashView}
+use Rattle.flash_disk.specs.FlashDiskMedium.{flash_disk_medium}
+use Rattle.flash_disk.proofs.DiskCases.{disk_rests, disk_write_nothing}
+use Rattle.flash_disk.proofs.DiskWrites.{write_during, write_now}
+use Rattle.flash_disk.proofs.calls.FlashDiskDisk.write_at.Goals as goal
+
+abbrev medium_of : {F : Type 0} → Bool → (F → FlashMedium) → FlashView F → Medium
+medium_of told medium v = flash_disk_medium told (medium v.flash) v.own v.written
+
+pub returns-then-is_empty-clause-image : goal.returns-then-is_empty-clause-image
+returns-then-is_empty-clause-image g c =
+    let disk = medium_of g.F.Flash.told g.F.Flash.medium c.args.self.now in
+    let none : length c.args.bytes.now ≡ 0 = grind arith in
+    let rests = disk_rests g.F.Flash.told (g.F.Flash.medium c.args.self.now.flash) c.args.self.now.own c.args.self.now.own c.args.self.now.written (g.met.F.Flash.lawful c.args.self.now.flash) in
+    λ t. (disk_write_nothing disk disk c.args.file c.args.at c.args.bytes.now none rests).0
+
+pub returns-then-is_empty-clause-now : goal.returns-then-is_empty-clause-now
+returns-then-is_empty-clause-now g c =
+    let disk = medium_of g.F.Flash.told g.F.Flash.medium c.args.self.now in
+    let none : length c.args.bytes.now ≡ 0 = grind arith in
+    let rests = disk_rests g.F.Flash.told (g.F.Flash.medium c.args.self.now.flash) c.args.self.now.own c.args.self.now.own c.args.self.now.written (g.met.F.Flash.lawful c.args.self.now.flash) in
+    (disk_write_nothing disk disk c.args.file c.args.at c.args.bytes.now none rests).1
+
+pub returns-in_err-write_file-clause-during : goal.returns-in_err-write_file-clause-during
+returns-in_err-write_file-clause-during g c =
+    let m0 = g.F.Flash.medium c.self.inside.layer.flash in
+    let m1 = g.F.Flash.medium c.make_sure.new.self.flash in
+    let m2 = g.F.Flash.medium c.write_file.new.self.flash in
+    let after = flash_disk_medium g.F.Flash.told m2 c.write_file.new.self.own c.self.inside.written in
+    let seen = medium_of g.F.Flash.told g.F.Flash.medium in
+    subst (λ v. Follows (WriteOrNot c.args.file c.args.at c.args.bytes.now) (seen v).now (after.since (seen v).moment)) c.self.view_is
+    (write_during g.F.Flash.told m0 m1 m2 c.self.inside.layer.own c.write_file.new.self.own c.self.inside.written c.self.inside.written c.args.file c.args.at c.args.bytes.now
+    c.make_sure.ensures.unchanged c.make_sure.ensures.time c.write_file.ensures.time c.write_file.ensures.writes c.make_sure.ensures.during)
+
+pub returns-clause-now : goal.returns-clause-now
+returns-clause-now g c =
+    let m0 = g.F.Flash.medium c.self.inside.layer.flash in
+    let m1 = g.F.Flash.medium c.make_sure.new.self.flash in
+    let m2 = g.F.Flash.medium c.write_file.new.self.flash in
+    let after = flash_disk_medium g.F.Flash.told m2 c.write_file.new.self.own c.with_more-self-inside.result in
+    let seen = medium_of g.F.Flash.told g.F.Flash.medium in
+    subst (λ v. Follows (WriteCase c.args.file c.args.at c.args.bytes.now) (seen v).now after.now) c.self.view_is
+    (write_now g.F.Flash.told m0 m1 m2 c.self.inside.layer.own c.write_file.new.self.own c.self.inside.written c.with_more-self-inside.result c.args.file c.args.at c.args.bytes.now
+    c.make_sure.ensures.unchanged c.make_sure.ensures.time c.write_file.ensures.time c.write_file.ensures.writes c.in_ok-write_file.ensures.announced)
+
+pub returns-clause-during : goal.returns-clause-during
+returns-clause-during g c =
+    let m0 = g.F.Flash.medium c.self.inside.layer.flash in
+    let m1 = g.F.Flash.medium c.make_sure.new.self.flash in
+    let m2 = g.F.Flash.medium c.write_file.new.self.flash in
+    let after = flash_disk_medium g.F.Flash.told m2 c.write_file.new.self.own c.with_more-self-inside.result in
+    let seen = medium_of g.F.Flash.told g.F.Flash.medium in
+    subst (λ v. Follows (WriteOrNot c.args.file c.args.at c.args.bytes.now) (seen v).now (after.since (seen v).moment)) c.self.view_is
+    (write_during g.F.Flash.told m0 m1 m2 c.self.inside.layer.own c.write_file.new.self.own c.self.inside.written c.with_more-self-inside.result c.args.file c.args.at c.args.bytes.now
+    c.make_sure.ensures.unchanged c.make_sure.ensures.time c.write_file.ensures.time c.write_file.ensures.writes c.make_sure.ensures.during)
