@@ -50,8 +50,7 @@ lies_elsewhere pages blocks s sound agreed = λ file page x is.
     let key : FilePage = record { file = file; page = page } in
     let led = entry_of pages (places blocks) s.table sound.knows.led key x is in
     let apart = sound.apart agreed key led.0 led.1 in
-    let small = led.2.leads.small in
-    (
+    let small = led.2.leads.small in (
       number led.0.place,
       led.2.within,
       (λ same. apart (let e : led.0.place.block ≡ s.spare = omega (arith, same, small) in e)),

@@ -11,11 +11,11 @@ returns-in-Ok-false-clause-unusable g c told same =
 
 pub invariant_of-result : goal.invariant_of-result
 invariant_of-result g c = record {
-  holds = ∣ (λ told. holds_all (g.F.Flash.medium c.learn.new.self.flash) c.learn.new.self.state (g.F.Flash.medium c.args.flash).state.pages
+  holds = λ told. holds_all (g.F.Flash.medium c.learn.new.self.flash) c.learn.new.self.state (g.F.Flash.medium c.args.flash).state.pages
       (subst (λ b. Sound (g.F.Flash.medium c.args.flash).state.pages b c.learn.new.self.state) (c.blocks-blocks.ensures ∙ sym c.in-Ok-true.ensures.blocks)
       (c.in-Ok-true.ensures.sound told c.in-Ok-true.field-0-test))
-      (c.in-Ok-true.ensures.pages told) (c.in-Ok-true.ensures.sure c.in-Ok-true.field-0-test)) ∣₁;
-  counted = ∣ (λ told. omega arith) ∣₁;
+      (c.in-Ok-true.ensures.pages told) (c.in-Ok-true.ensures.sure c.in-Ok-true.field-0-test);
+  counted = omega arith;
 }
 
 pub returns-in-Ok-true-clause-quiet : goal.returns-in-Ok-true-clause-quiet
