@@ -20,7 +20,7 @@ invariant-loop-done g l = record {
   known : l.self.state ≡ l.initial.self.state;
   owned : l.self.own ≡ l.initial.self.own;
   read : g.F.Flash.told ≡ true → Knows (g.F.Flash.medium l.initial.self.flash).state.pages (places (g.F.Flash.medium l.initial.self.flash).blocks) l.initial.self.state.table
-    → l.at + length l.out ≤ file_len (g.F.Flash.medium l.initial.self.flash).state.pages (places (g.F.Flash.medium l.initial.self.flash).blocks) l.file
-    → (k : ℕ) → k < l.done
-    → get_or l.out k 0 ≡ file_byte (g.F.Flash.medium l.initial.self.flash).state.pages (places (g.F.Flash.medium l.initial.self.flash).blocks) l.file (l.at + k);
+      → l.at + length l.out ≤ file_len (g.F.Flash.medium l.initial.self.flash).state.pages (places (g.F.Flash.medium l.initial.self.flash).blocks) l.file
+      → (k : ℕ) → k < l.done
+      → get_or l.out k 0 ≡ file_byte (g.F.Flash.medium l.initial.self.flash).state.pages (places (g.F.Flash.medium l.initial.self.flash).blocks) l.file (l.at + k);
 }

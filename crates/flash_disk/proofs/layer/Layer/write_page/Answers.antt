@@ -1,4 +1,4 @@
-use Rattle.std.proofs.Common.{◌≡◌, ◌*◌, ◌+◌, length, sym, ap, ◌∙◌, subst, arith, rules}
+use Rattle.std.proofs.Common.{◌≡◌, ◌*◌, ◌+◌, length, sym, subst, arith}
 use Rattle.std.proofs.lemmas.Result.{on_ok_weaker}
 use Rattle.flash_disk.specs.Does.{Does}
 use Rattle.flash_disk.specs.PutPart.{PutPart}
@@ -34,7 +34,7 @@ append-requires-clause-fits g c told =
     let sound = r.sound told in
     let copied = c.copy_part.ensures in
     let fits = page_fits a c.args.file c.args.page c.in_ok-content.content (e.bytes told sound.knows)
-      c.args.from c.args.len c.args.bytes.now c.copy_part.new.out copied.inside copied.before copied.after s (c.has_place.ensures c.if-not-has_place.false) r.end (r.no_shorter told) (r.grows told) in
+    c.args.from c.args.len c.args.bytes.now c.copy_part.new.out copied.inside copied.before copied.after s (c.has_place.ensures c.if-not-has_place.false) r.end (r.no_shorter told) (r.grows told) in
     fits_seen a b (e.unchanged told) e.blocks s c.content.new.self.state e.state c.args.file c.args.page c.args.len c.copy_part.new.out fits
 
 pub returns-clause-put : goal.returns-clause-put
