@@ -1,6 +1,6 @@
 -- A record is added to the block that is being filled, or what the call that failed may have left pends.
-use Rattle.std.proofs.Common.{◌≡◌, ◌≢◌, ◌⊎◌, ℕ, ◌+◌, ◌*◌, ◌/◌, ◌<◌, ◌≤◌, Bool, List, length, Result, OnOk, OnErr, refl, sym, ap, subst, ◌∙◌, inl, inr, ⊎_elim, arith}
-use Rattle.std.specs.Prelude.{Option, Some, None, IsFalse}
+use Rattle.std.proofs.Common.{◌≡◌, ◌≢◌, ◌⊎◌, ℕ, ◌+◌, ◌*◌, ◌/◌, ◌%◌, ◌<◌, ◌≤◌, Bool, List, cond, get_or, length, Result, OnOk, OnErr, refl, sym, ap, subst, ◌∙◌, inl, inr, ⊎_elim, arith}
+use Rattle.std.specs.Prelude.{Option, Some, None, IsFalse, nat_eq, ◌&&◌}
 use Rattle.flash_model.specs.Pages.{Pages, TornPage, IsPlain, program_page, blank_page}
 use Rattle.flash_model.specs.State.{FlashState, IsStill, ProgramCase, FailsToProgram, programmed}
 use Rattle.flash_model.specs.FlashMedium.{FlashMedium, IsLawfulFlash, EachFlashCase}
@@ -12,10 +12,10 @@ use Rattle.flash_disk.specs.Learnt.{number, Adds}
 use Rattle.flash_disk.specs.FlashFiles.{flash_files}
 use Rattle.flash_disk.specs.Does.{Does}
 use Rattle.flash_disk.specs.PutPart.{PutPart}
-use Rattle.flash_disk.specs.Sound.{files_of, Sound, IsSound, IsFresh, FitsIn, Enters, Pends, Holds, LeavesPut}
+use Rattle.flash_disk.specs.Sound.{files_of, Sound, IsSound, IsFresh, FitsIn, Enters, Pends, Holds, LeavesPut, ShowsSame, ShowsPage}
 use Rattle.flash_disk.proofs.Standing.{HasSameRecords, records_spare}
 use Rattle.flash_disk.proofs.Sparing.{number_block}
-use Rattle.flash_disk.proofs.Growing.{adds_put, adds_is_spare, grown_put}
+use Rattle.flash_disk.proofs.Growing.{adds_byte, adds_put, adds_is_spare, grown_put}
 use Rattle.flash_disk.proofs.Tearing.{IsTorn, nothing_there, torn_program, torn_is, torn_adds_there, torn_add, whole_add, whole_torn}
 use Rattle.flash_disk.proofs.Stretches.{does_nothing, program_does}
 
@@ -28,6 +28,11 @@ pub puts_nothing : (told : Bool) (m : FlashMedium) → IsLawfulFlash told m → 
     → Does (LeavesPut file at bytes len (files_of m) m.blocks) m m
 puts_nothing told m lawful s sound file at len bytes = does_nothing m m (LeavesPut file at bytes len (files_of m) m.blocks) refl
     (λ x past. lawful.only_now x past) (nothing_put m s sound file at len bytes)
+
+-- a record was added after a call that changed no byte
+pub shown_after : (a b d : FlashMedium) (file page : ℕ) (bytes : List ℕ) → ShowsSame a b → ShowsPage b d file page bytes → ShowsPage a d file page bytes
+shown_after a b d file page bytes same shown = λ f i. shown f i
+    ∙ ap (λ z. cond (nat_eq f file && nat_eq (i / 256) page) (get_or bytes (i % 256) 0) z) (same f i)
 
 module _ (m now : FlashMedium) (s u : LayerState) (place : Place) (r : PageRecord) (whole : List ℕ)
     (sound : IsSound m s) (room : s.fill < 64) (fits : FitsIn m s r.file r.page r.len r.bytes) (full : length r.bytes ≡ 256)
@@ -130,6 +135,11 @@ module _ (m now : FlashMedium) (s u : LayerState) (place : Place) (r : PageRecor
   added_put done blocks = subst (λ b. PutPart r.file (256 * r.page) r.bytes r.len (files_of m) (flash_files now.state.pages b)) (sym blocks)
       (subst (λ (z : FlashState). PutPart r.file (256 * r.page) r.bytes r.len (files_of m) (flash_files z.pages m.blocks)) (sym done)
       (adds_put pages written m.blocks place r adds fits.no_shorter fits.grows full))
+
+  pub added_shown : now.state ≡ programmed m.state place.block place.page whole → now.blocks ≡ m.blocks → ShowsPage m now r.file r.page r.bytes
+  added_shown done blocks = subst (λ b. ShowsPage m (record now { blocks = b }) r.file r.page r.bytes) (sym blocks)
+      (subst (λ (z : FlashState). ShowsPage m (record now { state = z; blocks = m.blocks }) r.file r.page r.bytes) (sym done)
+      (adds_byte pages written n place r adds))
 
   -- what a call that failed left pends
   pub failed_holds : FailsToProgram place.block place.page whole m.state now.state → now.blocks ≡ m.blocks → Holds now (record u { unsure = Some place })

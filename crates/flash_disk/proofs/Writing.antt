@@ -1,7 +1,7 @@
 -- Writes into files, page by page: what each step finds, and what the steps make of the files together.
-use Rattle.std.proofs.Common.{◌≡◌, ◌⊎◌, ℕ, ◌+◌, ◌-◌, ◌*◌, ◌/◌, ◌%◌, ◌<◌, ◌≤◌, Bool, true, false, List, Result, Ok, Err, OnOk, OnErr, length, take, drop, max, get_or, cond, sym, refl, ap, ◌∙◌, subst, inl, inr, ⊎_elim, arith, eq-eqb, true≢false}
-use Rattle.std.specs.Prelude.{min, is_err, IsTrue, IsSome, Option, Some, None, nat_eq, nat_lt, ◌&&◌}
-use Rattle.std.proofs.lemmas.Bool.{cases_lt, cases_eq, eqb-true, ne_eqb, and_from, and_left, and_right, lt-ltb, le-ltb}
+use Rattle.std.proofs.Common.{◌≡◌, ◌⊎◌, ℕ, ◌+◌, ◌-◌, ◌*◌, ◌/◌, ◌%◌, ◌<◌, ◌≤◌, Bool, false, List, Result, Ok, Err, OnOk, length, take, drop, max, get_or, cond, sym, refl, ap, ◌∙◌, subst, inl, inr, ⊎_elim, arith, eq-eqb, true≢false}
+use Rattle.std.specs.Prelude.{min, is_err, IsSome, Option, Some, None, nat_eq, ◌&&◌}
+use Rattle.std.proofs.lemmas.Bool.{cases_lt, cases_eq, ne_eqb, and_from, and_left, and_right, lt-ltb, le-ltb}
 use Rattle.std.proofs.lemmas.List.{get_or_past}
 use Rattle.disk_model.specs.Image.{Image, TornImage, put_image}
 use Rattle.flash_model.specs.Pages.{Pages}
@@ -338,19 +338,7 @@ torn_nothing m s sound file at n = record { torn = torn_refl file at n (files_of
 
 -- ---- a write as a whole
 
--- what is known of the flash holds, whether the last call succeeded or failed
-pub holds_either : {T E : Type 0} (m : FlashMedium) (s : LayerState) (r : Result T E) → OnOk r (IsSound m s) → OnOk r (s.unsure ≡ None) → OnErr r (Holds m s) → Holds m s
-holds_either m s (Ok x) sound sure failed = holds_sound m s sound sure
-holds_either m s (Err e) sound sure failed = failed
-
 module _ (file at : ℕ) (bytes : List ℕ) where
-  -- refused, or the announcement failed
-  pub writes_nothing : (a b : FlashMedium) → b.state ≡ a.state → EachFlashCase (λ x. IsStill a.state x ⊎ IsStill b.state x) a b → WritesInto file at bytes a b
-  writes_nothing a b same cases = record {
-    now = inl same;
-    during = λ x past. inl (⊎_elim (λ is. is) (λ is. subst (λ t. IsStill t x) same is) (cases x past));
-  }
-
   module _ (b c : FlashMedium) (time : FlashElapses b c) (wipes : Does (StandsFor (files_of b) b.blocks) b c) where
     stands_torn : (pages : Pages) → StandsFor (files_of b) b.blocks pages → LeavesTorn file at (length bytes) (files_of b) b.blocks pages
     stands_torn pages stands = record {

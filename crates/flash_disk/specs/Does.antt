@@ -1,8 +1,8 @@
 -- What a stretch of calls does to a flash: what a crash leaves at any moment of it, and what the pages are at its end.
-use Rattle.std.specs.Prelude.{◌≡◌, ℕ}
+use Rattle.std.specs.Prelude.{◌≡◌}
 use Rattle.flash_model.specs.Pages.{Pages, IsPlain}
 use Rattle.flash_model.specs.State.{FlashState, FlashCase}
-use Rattle.flash_model.specs.FlashMedium.{FlashMedium, FlashElapses}
+use Rattle.flash_model.specs.FlashMedium.{FlashMedium}
 
 -- a crash that leaves what was settled and announced as it was, and, if no page passes its hash by chance, such pages
 pub record LeavesPages (P : Pages → Type 0) (s : FlashState) (c : FlashCase) : Type 0 where

@@ -1,6 +1,6 @@
 -- What a write makes of the files of a disk part by part: a range has these bytes, the file is so long, and what lies between is zeros.
 use Rattle.std.specs.Prelude.{◌≡◌, ◌≢◌, ◌⊎◌, ℕ, ◌+◌, ◌-◌, ◌<◌, ◌≤◌, ◌&&◌, Bool, List, length, slice_index, nat_le, nat_lt, if◌then◌else◌}
-use Rattle.disk_model.specs.Image.{Image, TornImage}
+use Rattle.disk_model.specs.Image.{Image}
 
 -- whether byte i lies in a range of n bytes
 abbrev pub in_range : (at n i : ℕ) → Bool

@@ -11,7 +11,7 @@ use Rattle.flash_disk.specs.declared.table.Place.{Place}
 use Rattle.flash_disk.specs.declared.table.Table.{Table}
 use Rattle.flash_disk.specs.declared.layer.LayerState.{LayerState}
 use Rattle.flash_disk.specs.Newest.{record_at, places, page_limit, IsSpare}
-use Rattle.flash_disk.specs.Known.{known, page_len, limit_of, page_of, HasLen}
+use Rattle.flash_disk.specs.Known.{known, page_len, limit_of, HasLen}
 use Rattle.flash_disk.specs.Learnt.{number, Knows, Adds, HasPlace, Tops}
 use Rattle.flash_disk.specs.FlashFiles.{file_byte, file_len, flash_files}
 use Rattle.flash_disk.specs.Standing.{IsAgreed, IsStrayless, MayGrow, HasSpare}
@@ -103,6 +103,10 @@ pub record LeavesPut (file at : ℕ) (bytes : List ℕ) (len : ℕ) (files : Ima
 -- no byte of a file shows between its end and this byte
 abbrev pub ShowsZeros : FlashMedium → (file until : ℕ) → Type 0
 ShowsZeros m file until = (i : ℕ) → file_len m.state.pages (places m.blocks) file ≤ i → i < until → file_byte m.state.pages (places m.blocks) file i ≡ 0
+
+-- no byte of any file changed, nor any past the end of it
+abbrev pub ShowsSame : FlashMedium → FlashMedium → Type 0
+ShowsSame old new = (f i : ℕ) → file_byte new.state.pages (places new.blocks) f i ≡ file_byte old.state.pages (places old.blocks) f i
 
 -- a page of a file has these bytes, those past the end of the file too, and all other bytes are what they were
 abbrev pub ShowsPage : FlashMedium → FlashMedium → (file page : ℕ) → List ℕ → Type 0

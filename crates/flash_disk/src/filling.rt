@@ -102,6 +102,7 @@ impl<F: Flash> Layer<F> {
         ensures sure { OnOk result (self.new.state.unsure ≡ None) }
         ensures put { IsTrue F.told → OnOk result (PutPart file (256 * page) bytes.now len
             (files_of (F.medium self.old.flash)) (files_of (F.medium self.new.flash))) }
+        ensures shown { IsTrue F.told → OnOk result (ShowsPage (F.medium self.old.flash) (F.medium self.new.flash) file page bytes.now) }
         ensures failed { IsTrue F.told → OnErr result (Holds (F.medium self.new.flash) self.new.state) }
         ensures does { IsTrue F.told → Does (LeavesPut file (256 * page) bytes.now len (files_of (F.medium self.old.flash)) (F.medium self.old.flash).blocks)
             (F.medium self.old.flash) (F.medium self.new.flash) }

@@ -4,8 +4,8 @@ use Rattle.flash_disk.specs.declared.table.Place.{Place}
 use Rattle.flash_disk.specs.declared.layer.LayerState.{LayerState}
 use Rattle.flash_disk.specs.Does.{Does}
 use Rattle.flash_disk.specs.PutPart.{PutPart}
-use Rattle.flash_disk.specs.Sound.{files_of, IsSound, FitsIn, Holds, LeavesPut}
-use Rattle.flash_disk.proofs.Adding.{puts_nothing, added_sound, added_put, failed_holds, add_does}
+use Rattle.flash_disk.specs.Sound.{files_of, IsSound, FitsIn, Holds, LeavesPut, ShowsPage}
+use Rattle.flash_disk.proofs.Adding.{puts_nothing, added_sound, added_put, added_shown, failed_holds, add_does}
 use Rattle.flash_disk.proofs.layer.Layer.add.Goals as goal
 
 pub returns-in_err-sequence-clause-does : goal.returns-in_err-sequence-clause-does
@@ -56,6 +56,28 @@ returns-in-Ok-clause-put g c told =
     c.next_sequence.ensures.flash
     (subst (λ f. PutPart c.args.file (256 * c.args.page) c.args.bytes.now c.args.len (files_of m) (files_of (g.F.Flash.medium f))) (sym c.enter.ensures.flash)
     (added_put m now s u place r c.page_with.result sound c.requires.room fits c.requires.bytes at next.0 on c.page_with.ensures
+    (c.in-Ok.ensures.done told) (c.program_page.ensures.time told).blocks))
+
+pub returns-in-Ok-clause-shown : goal.returns-in-Ok-clause-shown
+returns-in-Ok-clause-shown g c told =
+    let r : PageRecord = record { sequence = c.in_ok-sequence.sequence; file = c.args.file; page = c.args.page; len = c.args.len; bytes = c.args.bytes.now } in
+    let s = c.args.self.now.state in
+    let t = c.next_sequence.new.self.state in
+    let m = g.F.Flash.medium c.next_sequence.new.self.flash in
+    let now = g.F.Flash.medium c.program_page.new.self.flash in
+    let u = c.program_page.new.self.state in
+    let place : Place = record { block = t.current; page = t.fill } in
+    let sound : IsSound m s = subst (λ f. IsSound (g.F.Flash.medium f) s) (sym c.next_sequence.ensures.flash) (c.requires.sound told) in
+    let fits : FitsIn m s c.args.file c.args.page c.args.len c.args.bytes.now = subst (λ f. FitsIn (g.F.Flash.medium f) s c.args.file c.args.page c.args.len c.args.bytes.now)
+    (sym c.next_sequence.ensures.flash) (c.requires.fits told) in
+    let next = c.in_ok-sequence.ensures.next in
+    let state : t ≡ record s { sequence = c.in_ok-sequence.sequence } = ap (λ l. l.state) next.1 in
+    let on : u ≡ record s { sequence = c.in_ok-sequence.sequence; fill = s.fill + 1 } =
+    c.program_page.ensures.state ∙ ap (λ (q : LayerState). let z : LayerState = record q { fill = q.fill + 1 } in z) state in
+    let at = ap (λ (q : LayerState). let p : Place = record { block = q.current; page = q.fill } in p) state in
+    subst (λ f. ShowsPage (g.F.Flash.medium f) (g.F.Flash.medium c.enter.new.self.flash) c.args.file c.args.page c.args.bytes.now) c.next_sequence.ensures.flash
+    (subst (λ f. ShowsPage m (g.F.Flash.medium f) c.args.file c.args.page c.args.bytes.now) (sym c.enter.ensures.flash)
+    (added_shown m now s u place r c.page_with.result sound c.requires.room fits c.requires.bytes at next.0 on c.page_with.ensures
     (c.in-Ok.ensures.done told) (c.program_page.ensures.time told).blocks))
 
 pub returns-in-Ok-clause-does : goal.returns-in-Ok-clause-does

@@ -1,6 +1,4 @@
-use Rattle.std.proofs.Common.{◌≡◌, ◌+◌, length, sym, ap, ◌∙◌, arith}
-use Rattle.std.specs.Prelude.{max}
-use Rattle.flash_disk.specs.Known.{len_known}
+use Rattle.std.proofs.Common.{sym, ◌∙◌, arith}
 use Rattle.flash_disk.proofs.Writing.{no_error, wipes_torn, wipes_then, len_wiped, grows_wiped, sound_announced, writes_into}
 use Rattle.flash_disk.proofs.Stretches.{elapses_then}
 use Rattle.flash_disk.proofs.layer.Layer.write_file.Goals as goal
