@@ -16,3 +16,4 @@ pub mod Stretches
 pub mod Entering
 pub mod Adding
 pub mod DiskCases
+mod Looking

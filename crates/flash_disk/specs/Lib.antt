@@ -11,3 +11,4 @@ pub mod FlashDiskMedium
 pub mod Sound
 pub mod Writes
 pub mod FlashDiskLaws
+pub mod Looks
