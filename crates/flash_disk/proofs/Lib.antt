@@ -13,4 +13,5 @@ pub mod Parts
 pub mod Stretches
 pub mod Entering
 pub mod Adding
+pub mod Moving
 pub mod DiskCases

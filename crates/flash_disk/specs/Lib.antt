@@ -10,4 +10,5 @@ pub mod Does
 pub mod FlashDiskMedium
 pub mod Sound
 pub mod Writes
+pub mod Moving
 pub mod FlashDiskLaws
