@@ -1,7 +1,7 @@
 -- Records are copied to the front of the spare block one by one, and nothing that counts changes.
-use Rattle.std.proofs.Common.{◌≡◌, ◌≢◌, ◌⊎◌, ℕ, ◌+◌, ◌*◌, ◌/◌, ◌<◌, ◌≤◌, Bool, true, cond, List, [], ◌∷◌, ◌++◌, length, Result, OnOk, OnErr, refl, sym, ap, subst, ◌∙◌, inl, inr, ⊎_elim, arith, eq-eqb, length-append}
-use Rattle.std.specs.Prelude.{Option, Some, None, IsFalse, All, nat_eq}
-use Rattle.std.proofs.lemmas.Bool.{cases_eq, cases_lt, eqb-true, and_parts}
+use Rattle.std.proofs.Common.{◌≡◌, ◌≢◌, ◌⊎◌, ℕ, ◌+◌, ◌*◌, ◌/◌, ◌<◌, ◌≤◌, Bool, true, false, cond, slice_index_or, List, [], ◌∷◌, ◌++◌, length, Result, Ok, Err, OnOk, OnErr, refl, sym, ap, subst, ◌∙◌, inl, inr, ⊎_elim, arith, eq-eqb, length-append}
+use Rattle.std.specs.Prelude.{Option, Some, None, IsFalse, All, nat_eq, ◌&&◌, not}
+use Rattle.std.proofs.lemmas.Bool.{cases_eq, cases_lt, cases_Bool, eqb-true, and_parts, and_from, true≢false}
 use Rattle.std.proofs.lemmas.Option.{same_Some, none-some}
 use Rattle.std.proofs.lemmas.List.Elements.{All-push}
 use Rattle.flash_model.specs.Pages.{Pages, TornPage, TornBlock, IsPlain, program_page, erase_block, blank_page}
@@ -145,6 +145,29 @@ module _ (m now : FlashMedium) (s : LayerState) (sound : IsSound m s) (agreed : 
 
 -- ---- a record is copied
 
+both_same : (a b x y : ℕ) → a ≡ b → x ≡ y → (nat_eq a b && nat_eq x y) ≡ true
+both_same a b x y left right = and_from (nat_eq a b) (nat_eq x y) (eq-eqb a b left) (eq-eqb x y right)
+
+-- what was found twice is the same
+pub found_same : (result : Option (FilePage × Newest)) (key k : FilePage) (old e : Newest) → result ≡ Some (key, old) → result ≡ Some (k, e) → (key ≡ k) × (old ≡ e)
+found_same result key k old e one other = let same : (key, old) ≡ (k, e) = same_Some (key, old) (k, e) (sym one ∙ other) in
+    (ap (λ (q : FilePage × Newest). q.0) same, ap (λ (q : FilePage × Newest). q.1) same)
+
+-- what holds anyway holds of an error
+pub on_err : {T E P : Type 0} → (result : Result T E) → P → OnErr result P
+on_err (Ok x) p = tt
+on_err (Err e) p = p
+
+-- two places that differ, or do not
+pub differ : (a b x y : ℕ) (ne : Bool) → ne ≡ not (nat_eq a b && nat_eq x y) → ne ≡ true → a ≡ b → x ≡ y → ⊥
+differ a b x y ne is differs left right = true≢false (sym differs ∙ (is ∙ ap not (both_same a b x y left right)))
+
+pub same_places : (a b x y : ℕ) (ne : Bool) → ne ≡ not (nat_eq a b && nat_eq x y) → ne ≡ false → (a ≡ b) × (x ≡ y)
+same_places a b x y ne is same = ⊎_elim
+    (λ both. (let parts = and_parts (nat_eq a b) (nat_eq x y) both in (eqb-true a b parts.0, eqb-true x y parts.1)))
+    (λ other. absurd (true≢false (sym (is ∙ ap not other) ∙ same)))
+    (cases_Bool (nat_eq a b && nat_eq x y))
+
 module _ (m : FlashMedium) (s : LayerState) (from to done : ℕ) (moving : IsMoving m.state.pages m.blocks s from to done) (inside : done < 64)
     (bytes : List ℕ) (read : bytes ≡ m.state.pages from done) where
   -- what the page says, where an entry leads to it
@@ -187,10 +210,8 @@ module _ (m : FlashMedium) (s : LayerState) (from to done : ℕ) (moving : IsMov
         (cases_lt e.place.page done);
   }
 
-  module _ (key : FilePage) (old : Newest) (is : known s.table key ≡ Some old) (block : old.place.block ≡ from) (page : old.place.page ≡ done) where
-    abbrev count : ℕ
-    count = length s.moved.items
-
+  module _ (key : FilePage) (old : Newest) (is : known s.table key ≡ Some old) (block : old.place.block ≡ from) (page : old.place.page ≡ done)
+      (count : ℕ) (count_is : count ≡ length s.moved.items) where
     abbrev place : Place
     place = record { block = to; page = count }
 
@@ -201,10 +222,10 @@ module _ (m : FlashMedium) (s : LayerState) (from to done : ℕ) (moving : IsMov
     led = (page_says key old is block page).1
 
     small : count < 64
-    small = let le = moving.count in omega (arith, le, inside)
+    small = let le = moving.count in omega (arith, le, inside, count_is)
 
     blank : m.state.pages to count ≡ blank_page
-    blank = moving.blank count (omega arith) small
+    blank = moving.blank count (omega (arith, count_is)) small
 
     apart_of : (k : FilePage) (e : Newest) → known s.table k ≡ Some e → number e.place ≢ 64 * to + count
     apart_of k e found = λ same.
@@ -294,7 +315,8 @@ module _ (m : FlashMedium) (s : LayerState) (from to done : ℕ) (moving : IsMov
         → (t : LayerState) → t ≡ record s { moved = t.moved } → t.moved.items ≡ s.moved.items ++ moved_entry ∷ []
         → IsMoving now.state.pages now.blocks t from to (done + 1)
     copied now done_now blocks one t state items =
-        let long : length t.moved.items ≡ count + 1 = ap (λ l. length l) items ∙ length-append s.moved.items (moved_entry ∷ []) in
+        let added = length-append s.moved.items (moved_entry ∷ []) in let all_items = ap (λ l. length l) items in
+        let long : length t.moved.items ≡ count + 1 = omega (arith, added, all_items, count_is) in
         subst (λ b. IsMoving now.state.pages b t from to (done + 1)) (sym blocks) (subst (λ (z : FlashState). IsMoving z.pages m.blocks t from to (done + 1)) (sym done_now) (record {
           sound = subst (Sound written m.blocks) (sym state) (as_said written m.blocks s (record s { moved = t.moved }) (left_sound written written_torn written_keeps));
           agreed = subst (λ (q : LayerState). IsFalse q.disputed) (sym state) moving.agreed;
@@ -302,13 +324,14 @@ module _ (m : FlashMedium) (s : LayerState) (from to done : ℕ) (moving : IsMov
           spare = subst (λ (q : LayerState). q.spare ≡ to) (sym state) moving.spare;
           within = moving.within;
           apart = moving.apart;
-          count = (let le = moving.count in omega (arith, long, le));
-          blank = λ p past below. written_torn to p (inr (λ same. omega (arith, past, long, same))) ∙ moving.blank p (omega (arith, past, long)) below;
+          count = (let le = moving.count in omega (arith, long, le, count_is));
+          blank = λ p past below. written_torn to p (inr (λ same. omega (arith, past, long, same))) ∙ moving.blank p (omega (arith, past, long, count_is)) below;
           moved = subst (λ (table : Table). All (IsMoved written table from to (length t.moved.items)) t.moved.items) (ap (λ (q : LayerState). q.table) (sym state))
               (subst (λ l. All (IsMoved written s.table from to l) t.moved.items) (sym long)
               (subst (All (IsMoved written s.table from to (count + 1))) (sym items)
               (All-push (IsMoved written s.table from to (count + 1)) s.moved.items moved_entry
-              (λ k d within. still_moved _ (moving.moved k d within)) one_moved)));
+              (λ k d within. still_moved (slice_index_or s.moved.items k d)
+              (subst (λ l. IsMoved m.state.pages s.table from to l (slice_index_or s.moved.items k d)) (sym count_is) (moving.moved k d within))) one_moved)));
           all = λ k e found at below.
               (let found_was : known s.table k ≡ Some e = subst (λ (q : LayerState). known q.table k ≡ Some e) state found in
               subst (HasKey k) (sym items) (keys_push k s.moved.items moved_entry (⊎_elim
@@ -316,3 +339,21 @@ module _ (m : FlashMedium) (s : LayerState) (from to done : ℕ) (moving : IsMov
               (λ past. inr (subst (λ q. same_page key q ≡ true) (one k e found_was at (let same : e.place.page ≡ done = omega (arith, past, below) in same)) (same_page_refl key)))
               (cases_lt e.place.page done))));
         }))
+
+-- ---- a page was read before
+
+module _ (m look : FlashMedium) (same : look.state ≡ m.state) (blocks : look.blocks ≡ m.blocks) where
+  -- what was being moved still is
+  pub looked : (s t : LayerState) → t ≡ s → (from to done : ℕ) → IsMoving m.state.pages m.blocks s from to done → IsMoving look.state.pages look.blocks t from to done
+  looked s t state from to done moving = subst (λ (q : LayerState). IsMoving look.state.pages look.blocks q from to done) (sym state)
+      (subst (λ b. IsMoving look.state.pages b s from to done) (sym blocks) (subst (λ (z : FlashState). IsMoving z.pages m.blocks s from to done) (sym same) moving))
+
+  pub look_keeps : Keeps m.state.pages look.state.pages (places m.blocks)
+  look_keeps = subst (λ (z : FlashState). Keeps m.state.pages z.pages (places m.blocks)) (sym same) (keeps_refl m.state.pages (places m.blocks))
+
+  -- what was kept since is kept
+  pub keeps_since : (after : Pages) → Keeps look.state.pages after (places look.blocks) → Keeps m.state.pages after (places m.blocks)
+  keeps_since after keeps = subst (λ (z : FlashState). Keeps z.pages after (places m.blocks)) same (subst (λ b. Keeps look.state.pages after (places b)) blocks keeps)
+
+  pub look_stands : EachFlashCase (IsStill m.state) m look → (s : LayerState) → IsSound m s → Does (StandsFor (files_of m) m.blocks) m look
+  look_stands still s sound = does_nothing m look (StandsFor (files_of m) m.blocks) same still (stands_now m s sound)
