@@ -14,4 +14,5 @@ pub mod Stretches
 pub mod Entering
 pub mod Adding
 pub mod Moving
+pub mod Moved
 pub mod DiskCases

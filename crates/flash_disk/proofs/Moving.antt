@@ -16,13 +16,13 @@ use Rattle.flash_disk.specs.declared.layer.LayerState.{LayerState}
 use Rattle.flash_disk.specs.Newest.{Placed, record_at, newest, places}
 use Rattle.flash_disk.specs.FlashFiles.{flash_files}
 use Rattle.flash_disk.specs.Known.{same_page, page_of, known}
-use Rattle.flash_disk.specs.Learnt.{number, Led, LedOf, IsLed}
+use Rattle.flash_disk.specs.Learnt.{number, Led, LedOf, IsLed, HasPlace}
 use Rattle.flash_disk.specs.Does.{Does}
 use Rattle.flash_disk.specs.Standing.{Keeps, StandsFor}
-use Rattle.flash_disk.specs.Sound.{files_of, Sound, IsSound}
+use Rattle.flash_disk.specs.Sound.{files_of, Sound, IsSound, FitsIn, Fits}
 use Rattle.flash_disk.specs.Moving.{IsMoved, HasKey, IsMoving}
 use Rattle.flash_disk.proofs.Learning.{record_at_place, same_page_refl}
-use Rattle.flash_disk.proofs.Standing.{is_newest_of, keeps_agreed, keeps_strayless, keeps_tops, keeps_known, keeps_files, keeps_refl}
+use Rattle.flash_disk.proofs.Standing.{is_newest_of, keeps_agreed, keeps_strayless, keeps_tops, keeps_known, keeps_files, keeps_refl, keeps_then, keeps_len, keeps_may_grow}
 use Rattle.flash_disk.proofs.Sparing.{LiesElsewhere, led_elsewhere, spare_of}
 use Rattle.flash_disk.proofs.Tearing.{torn_elsewhere, torn_copy, whole_copy, whole_torn, whole_here, LosesIn, torn_erase, whole_erase, erase_keeps}
 use Rattle.flash_disk.proofs.Stretches.{does_then, does_weaken, does_nothing, program_does, erase_does}
@@ -120,6 +120,13 @@ module _ (m now : FlashMedium) (s : LayerState) (sound : IsSound m s) (agreed : 
   pub erase_failed : FailsToErase s.spare m.state now.state → now.blocks ≡ m.blocks → IsSound now s
   erase_failed failed blocks = subst (λ b. Sound now.state.pages b s) (sym blocks)
       (loses_sound now.state.pages (torn_erase pages s.spare now.state.pages failed.torn failed.plain))
+
+  pub erase_failed_keeps : FailsToErase s.spare m.state now.state → Keeps pages now.state.pages n
+  erase_failed_keeps failed = loses_keeps now.state.pages (torn_erase pages s.spare now.state.pages failed.torn failed.plain)
+
+  pub erase_sound : now.state ≡ erased m.state s.spare → now.blocks ≡ m.blocks → IsSound now s
+  erase_sound done blocks = subst (λ b. Sound now.state.pages b s) (sym blocks)
+      (subst (λ (z : FlashState). Sound z.pages m.blocks s) (sym done) (loses_sound (erase_block pages s.spare) (whole_erase pages s.spare)))
 
   pub erase_keeps_all : now.state ≡ erased m.state s.spare → Keeps pages now.state.pages n
   erase_keeps_all done = subst (λ (z : FlashState). Keeps pages z.pages n) (sym done) (loses_keeps (erase_block pages s.spare) (whole_erase pages s.spare))
@@ -357,3 +364,23 @@ module _ (m look : FlashMedium) (same : look.state ≡ m.state) (blocks : look.b
 
   pub look_stands : EachFlashCase (IsStill m.state) m look → (s : LayerState) → IsSound m s → Does (StandsFor (files_of m) m.blocks) m look
   look_stands still s sound = does_nothing m look (StandsFor (files_of m) m.blocks) same still (stands_now m s sound)
+
+-- what was kept in one stretch after the other
+pub keeps_on : (m mid : FlashMedium) (s : LayerState) → IsSound m s → IsFalse s.disputed → mid.blocks ≡ m.blocks → Keeps m.state.pages mid.state.pages (places m.blocks)
+    → (after : Pages) → Keeps mid.state.pages after (places mid.blocks) → Keeps m.state.pages after (places m.blocks)
+keeps_on m mid s sound agreed blocks keeps after then = keeps_then m.state.pages mid.state.pages (places m.blocks) (sound.agreed agreed) keeps after
+    (subst (λ b. Keeps mid.state.pages after (places b)) blocks then)
+
+-- a record that might be added still may
+pub fits_kept : (m now : FlashMedium) (s t : LayerState) → IsSound m s → IsFalse s.disputed → Keeps m.state.pages now.state.pages (places m.blocks) → now.blocks ≡ m.blocks
+    → ((key : FilePage) → HasPlace s.table key → HasPlace t.table key) → (file page len : ℕ) (bytes : List ℕ) → FitsIn m s file page len bytes → FitsIn now t file page len bytes
+fits_kept m now s t sound agreed keeps blocks has file page len bytes fits =
+    let all_agree = sound.agreed agreed in
+    let same = keeps_len m.state.pages now.state.pages (places m.blocks) all_agree keeps file in
+    let less = fits.no_shorter in
+    subst (λ b. Fits now.state.pages b t file page len bytes) (sym blocks) (record {
+      place = has (record { file = file; page = page }) fits.place;
+      no_shorter = omega (arith, same, less);
+      zeros = fits.zeros;
+      grows = keeps_may_grow m.state.pages now.state.pages (places m.blocks) all_agree keeps file page len fits.grows;
+    })
