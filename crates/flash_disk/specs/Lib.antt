@@ -10,5 +10,6 @@ pub mod Does
 pub mod FlashDiskMedium
 pub mod Sound
 pub mod Writes
+pub mod Moving
 pub mod FlashDiskLaws
 pub mod Looks
