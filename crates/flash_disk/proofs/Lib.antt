@@ -20,4 +20,7 @@ pub mod Parts
 pub mod Stretches
 pub mod Entering
 pub mod Adding
+pub mod Moving
+pub mod Moved
 pub mod DiskCases
+mod Looking

@@ -11,4 +11,6 @@ pub mod FlashView
 pub mod FlashDiskMedium
 pub mod Sound
 pub mod Writes
+pub mod Moving
 pub mod FlashDiskLaws
+pub mod Looks

@@ -1,6 +1,6 @@
 //! Records that are added to the block that is being filled, and blocks that are made free for it.
 
-ghost use Rattle.std.specs.Prelude.{◌≡◌, ◌+◌, ◌*◌, ◌≤◌, ◌<◌, ℕ, IsTrue, IsFalse, IfOk, IfSome, OnOk, OnErr, Some, None, length};
+ghost use Rattle.std.specs.Prelude.{◌≡◌, ◌+◌, ◌*◌, ◌≤◌, ◌<◌, ℕ, IsTrue, IsFalse, IfOk, IfSome, OnOk, OnErr, Some, None, length, vec_len};
 ghost use Rattle.flash_model.specs.State.{IsStill};
 ghost use Rattle.flash_model.specs.FlashMedium.{FlashElapses, EachFlashCase};
 ghost use Rattle.flash_model.specs.Pages.{Pages};
@@ -9,7 +9,8 @@ ghost use Rattle.flash_record.specs.Stated.{stated};
 ghost use Rattle.flash_disk.specs.Known.{known, page_of};
 ghost use Rattle.flash_disk.specs.Does.{Does};
 ghost use Rattle.flash_disk.specs.PutPart.{PutPart};
-ghost use Rattle.flash_disk.specs.Standing.{StandsFor};
+ghost use Rattle.flash_disk.specs.Newest.{places};
+ghost use Rattle.flash_disk.specs.Standing.{Keeps, StandsFor};
 ghost use Rattle.per_base.specs.Causes.{HasCause};
 
 use crate::layer::Layer;
@@ -20,7 +21,8 @@ use flash_model::{BLANK_PAGE, BLOCK_PAGES, Flash, PAGE_BYTES};
 use flash_record::{RECORD_BYTES, Record, read_record, record_page};
 
 impl<F: Flash> Layer<F> {
-    ghost use Rattle.flash_disk.specs.Sound.{files_of, Sound, IsSound, Holds, FitsIn, Enters, LeavesPut, ShowsPage};
+ghost use Rattle.flash_disk.specs.Sound.{files_of, Sound, IsSound, Holds, FitsIn, Enters, LeavesPut, ShowsPage};
+    ghost use Rattle.flash_disk.specs.Moving.{IsMoving};
 
     // Reads again what a failed call may have left anything in.
     pub(crate) fn make_sure(&mut self) -> Result<(), DiskFailed>
@@ -196,7 +198,7 @@ impl<F: Flash> Layer<F> {
     {
         let target = self.state.spare;
         let victim = self.state.table.lightest_but(target);
-        if self.state.disputed || victim == target {
+        if self.state.disputed || victim == target || victim >= self.flash.blocks() {
             return Err(self.fault());
         }
         self.erase_block(target)?;
@@ -211,6 +213,16 @@ impl<F: Flash> Layer<F> {
 
     // Copies the newest records of a block to the front of another; the table still leads to where they were.
     fn copy_needed(&mut self, from: u32, to: u32) -> Result<(), DiskFailed>
+        requires none { vec_len self.old.state.moved ≡ 0 }
+        requires moving { IsTrue F.told → IsMoving (F.medium self.old.flash).state.pages (F.medium self.old.flash).blocks self.old.state from to 0 }
+        ensures moving { IsTrue F.told → OnOk result
+            (IsMoving (F.medium self.new.flash).state.pages (F.medium self.new.flash).blocks self.new.state from to 64) }
+        ensures failed { IsTrue F.told → OnErr result (IsSound (F.medium self.new.flash) self.new.state) }
+        ensures state { self.new.state ≡ record self.old.state { moved = self.new.state.moved } }
+        ensures keeps { IsTrue F.told → Keeps (F.medium self.old.flash).state.pages (F.medium self.new.flash).state.pages (places (F.medium self.old.flash).blocks) }
+        ensures does { IsTrue F.told → Does (StandsFor (files_of (F.medium self.old.flash)) (F.medium self.old.flash).blocks)
+            (F.medium self.old.flash) (F.medium self.new.flash) }
+        ensures time { IsTrue F.told → FlashElapses (F.medium self.old.flash) (F.medium self.new.flash) }
         ensures cause { HasCause ((F.medium self.old.flash).faults + self.old.own) ((F.medium self.new.flash).faults + self.new.own) result }
     {
         for page in 0..BLOCK_PAGES {
@@ -221,6 +233,19 @@ impl<F: Flash> Layer<F> {
 
     // Copies a record to the next page of another block, if it is the newest of its page.
     fn copy_one(&mut self, from: Place, to: u32) -> Result<(), DiskFailed>
+        requires page { from.page < 64 }
+        requires count { vec_len self.old.state.moved ≤ from.page }
+        requires moving { IsTrue F.told
+            → IsMoving (F.medium self.old.flash).state.pages (F.medium self.old.flash).blocks self.old.state from.block to from.page }
+        ensures moving { IsTrue F.told → OnOk result
+            (IsMoving (F.medium self.new.flash).state.pages (F.medium self.new.flash).blocks self.new.state from.block to (from.page + 1)) }
+        ensures count { vec_len self.new.state.moved ≤ vec_len self.old.state.moved + 1 }
+        ensures failed { IsTrue F.told → OnErr result (IsSound (F.medium self.new.flash) self.new.state) }
+        ensures state { self.new.state ≡ record self.old.state { moved = self.new.state.moved } }
+        ensures keeps { IsTrue F.told → Keeps (F.medium self.old.flash).state.pages (F.medium self.new.flash).state.pages (places (F.medium self.old.flash).blocks) }
+        ensures does { IsTrue F.told → Does (StandsFor (files_of (F.medium self.old.flash)) (F.medium self.old.flash).blocks)
+            (F.medium self.old.flash) (F.medium self.new.flash) }
+        ensures time { IsTrue F.told → FlashElapses (F.medium self.old.flash) (F.medium self.new.flash) }
         ensures cause { HasCause ((F.medium self.old.flash).faults + self.old.own) ((F.medium self.new.flash).faults + self.new.own) result }
     {
         let mut page = BLANK_PAGE;

@@ -1,6 +1,6 @@
 //! Opening a flash as a disk.
 
-ghost use Rattle.std.specs.Prelude.{◌≡◌, ◌⊎◌, ◌↔◌, ◌≤◌, ◌<◌, ◌+◌, ◌*◌, ℕ, IsTrue, IsFalse, IfOk, IfErr, IfSome, OnOk, Some, None, length, slice_index};
+ghost use Rattle.std.specs.Prelude.{◌≡◌, ◌⊎◌, ◌↔◌, ◌≤◌, ◌<◌, ◌+◌, ◌*◌, ℕ, IsTrue, IsFalse, IfOk, IfErr, IfSome, MatchResult, OnOk, Some, None, length, slice_index};
 ghost use Rattle.flash_record.specs.PageRecord.{record_in};
 ghost use Rattle.flash_record.specs.Stated.{stated};
 ghost use Rattle.flash_disk.specs.Newest.{record_at, places, page_limit, IsSpare, NeedsPlace, FindsSpare, IsUsable, IsUnusable, SaysUsable};
@@ -19,6 +19,7 @@ use std::alloc::{AllocError, Global};
 
 impl<F: Flash> FlashDisk<F> {
     ghost use Rattle.flash_disk.specs.FlashDiskMedium.{flash_disk_medium};
+    ghost use Rattle.flash_disk.specs.Looks.{Opens};
     ghost use Rattle.disk_model.specs.Medium.{Quiet};
 
     /// Opens a flash as a disk. It reads every page, and takes all the memory that the disk ever needs.
@@ -34,12 +35,14 @@ impl<F: Flash> FlashDisk<F> {
         ensures unusable { IsTrue F.told → IfErr result (λ refused. refused.error ≡ FlashOpenError.Unusable
             → IsUnusable (F.medium flash).state.pages (F.medium flash).blocks) }
 
-        // No page changes, nothing counts as a fault of the disk yet, and a crash leaves what the flash held.
+        // No page changes, nothing counts as a fault of the disk yet, and a crash leaves what the flash held, meanwhile and afterwards.
         ensures pages { IsTrue F.told → IfOk result (λ disk. (F.medium disk.flash).state.pages ≡ (F.medium flash).state.pages) }
         ensures blocks { IfOk result (λ disk. (F.medium disk.flash).blocks ≡ (F.medium flash).blocks) }
         ensures own { IfOk result (λ disk. (disk.own ≡ 0) × (disk.written ≡ 0)) }
         ensures settled { IsTrue F.told → IfOk result (λ disk. (F.medium disk.flash).state ≡ settle_pages (F.medium flash).state) }
         ensures quiet { IfOk result (λ disk. Quiet (flash_disk_medium F.told (F.medium disk.flash) disk.own disk.written)) }
+        ensures opens { MatchResult result (λ disk. Opens F.told (F.medium flash) (F.medium disk.flash))
+            (λ refused. Opens F.told (F.medium flash) (F.medium refused.flash)) }
         ensures returned { IsTrue F.told → IfErr result (λ refused. (F.medium refused.flash).state.pages ≡ (F.medium flash).state.pages) }
     {
         let blocks = flash.blocks();
@@ -95,6 +98,7 @@ fn empty_state(alloc: Global, blocks: u32) -> Result<LayerState, AllocError>
 
 impl<F: Flash> Layer<F> {
     ghost use Rattle.flash_disk.specs.Sound.{Sound, SameFill};
+    ghost use Rattle.flash_disk.specs.Looks.{Looks, Opens};
 
     // Learns what the flash holds, and says whether it is usable.
     fn learn(&mut self, blocks: u32) -> Result<bool, DiskFailed>
@@ -106,6 +110,7 @@ impl<F: Flash> Layer<F> {
         ensures flash { HasCause (F.medium self.old.flash).faults (F.medium self.new.flash).faults result }
         ensures pages { IsTrue F.told → (F.medium self.new.flash).state.pages ≡ (F.medium self.old.flash).state.pages }
         ensures blocks { (F.medium self.new.flash).blocks ≡ (F.medium self.old.flash).blocks }
+        ensures opens { Opens F.told (F.medium self.old.flash) (F.medium self.new.flash) }
         ensures usable { IsTrue F.told → IfOk result (SaysUsable (F.medium self.old.flash).state.pages blocks) }
         ensures sound { IsTrue F.told → IfOk result (λ usable. IsTrue usable
             → Sound (F.medium self.old.flash).state.pages blocks self.new.state) }
@@ -137,6 +142,7 @@ impl<F: Flash> Layer<F> {
         ensures flash { HasCause (F.medium self.old.flash).faults (F.medium self.new.flash).faults result }
         ensures pages { IsTrue F.told → (F.medium self.new.flash).state.pages ≡ (F.medium self.old.flash).state.pages }
         ensures blocks { (F.medium self.new.flash).blocks ≡ (F.medium self.old.flash).blocks }
+        ensures looks { Looks F.told (F.medium self.old.flash) (F.medium self.new.flash) }
         ensures own { self.new.own ≡ self.old.own }
         ensures fill { SameFill self.old.state self.new.state }
         ensures limit { limit_of self.new.state.table ≡ limit_of self.old.state.table }
@@ -160,6 +166,7 @@ impl<F: Flash> Layer<F> {
         ensures flash { HasCause (F.medium self.old.flash).faults (F.medium self.new.flash).faults result }
         ensures pages { IsTrue F.told → (F.medium self.new.flash).state.pages ≡ (F.medium self.old.flash).state.pages }
         ensures blocks { (F.medium self.new.flash).blocks ≡ (F.medium self.old.flash).blocks }
+        ensures looks { Looks F.told (F.medium self.old.flash) (F.medium self.new.flash) }
         ensures own { self.new.own ≡ self.old.own }
         ensures fill { SameFill self.old.state self.new.state }
         ensures limit { limit_of self.new.state.table ≡ limit_of self.old.state.table }
@@ -183,6 +190,7 @@ impl<F: Flash> Layer<F> {
         ensures flash { HasCause (F.medium self.old.flash).faults (F.medium self.new.flash).faults result }
         ensures pages { IsTrue F.told → (F.medium self.new.flash).state.pages ≡ (F.medium self.old.flash).state.pages }
         ensures blocks { (F.medium self.new.flash).blocks ≡ (F.medium self.old.flash).blocks }
+        ensures looks { Looks F.told (F.medium self.old.flash) (F.medium self.new.flash) }
         ensures own { self.new.own ≡ self.old.own }
         ensures fill { SameFill self.old.state self.new.state }
         ensures sequence { self.new.state.sequence ≡ self.old.state.sequence }
@@ -204,6 +212,7 @@ impl<F: Flash> Layer<F> {
         ensures flash { HasCause (F.medium self.old.flash).faults (F.medium self.new.flash).faults result }
         ensures pages { IsTrue F.told → (F.medium self.new.flash).state.pages ≡ (F.medium self.old.flash).state.pages }
         ensures blocks { (F.medium self.new.flash).blocks ≡ (F.medium self.old.flash).blocks }
+        ensures looks { Looks F.told (F.medium self.old.flash) (F.medium self.new.flash) }
         ensures own { self.new.own ≡ self.old.own }
         ensures fill { SameFill self.old.state self.new.state }
         ensures sequence { self.new.state.sequence ≡ self.old.state.sequence }
@@ -226,6 +235,7 @@ impl<F: Flash> Layer<F> {
         ensures flash { HasCause (F.medium self.old.flash).faults (F.medium self.new.flash).faults result }
         ensures pages { IsTrue F.told → (F.medium self.new.flash).state.pages ≡ (F.medium self.old.flash).state.pages }
         ensures blocks { (F.medium self.new.flash).blocks ≡ (F.medium self.old.flash).blocks }
+        ensures looks { Looks F.told (F.medium self.old.flash) (F.medium self.new.flash) }
         ensures own { self.new.own ≡ self.old.own }
         ensures fill { SameFill self.old.state self.new.state }
         ensures sequence { self.new.state.sequence ≡ self.old.state.sequence }
@@ -258,6 +268,7 @@ impl<F: Flash> Layer<F> {
         ensures flash { HasCause (F.medium self.old.flash).faults (F.medium self.new.flash).faults result }
         ensures pages { IsTrue F.told → (F.medium self.new.flash).state.pages ≡ (F.medium self.old.flash).state.pages }
         ensures blocks { (F.medium self.new.flash).blocks ≡ (F.medium self.old.flash).blocks }
+        ensures looks { Looks F.told (F.medium self.old.flash) (F.medium self.new.flash) }
         ensures own { self.new.own ≡ self.old.own }
         ensures state { self.new.state ≡ self.old.state }
         ensures spare { IsTrue F.told
@@ -280,6 +291,7 @@ impl<F: Flash> Layer<F> {
         ensures flash { HasCause (F.medium self.old.flash).faults (F.medium self.new.flash).faults result }
         ensures pages { IsTrue F.told → (F.medium self.new.flash).state.pages ≡ (F.medium self.old.flash).state.pages }
         ensures blocks { (F.medium self.new.flash).blocks ≡ (F.medium self.old.flash).blocks }
+        ensures looks { Looks F.told (F.medium self.old.flash) (F.medium self.new.flash) }
         ensures own { self.new.own ≡ self.old.own }
         ensures state { self.new.state ≡ self.old.state }
         ensures needed { IsTrue F.told
@@ -312,6 +324,7 @@ impl<F: Flash> Layer<F> {
         ensures flash { HasCause (F.medium self.old.flash).faults (F.medium self.new.flash).faults result }
         ensures pages { IsTrue F.told → (F.medium self.new.flash).state.pages ≡ (F.medium self.old.flash).state.pages }
         ensures blocks { (F.medium self.new.flash).blocks ≡ (F.medium self.old.flash).blocks }
+        ensures looks { Looks F.told (F.medium self.old.flash) (F.medium self.new.flash) }
         ensures own { self.new.own ≡ self.old.own }
         ensures fill { SameFill self.old.state self.new.state }
         ensures limit { limit_of self.new.state.table ≡ limit_of self.old.state.table }
@@ -359,6 +372,7 @@ impl<F: Flash> Layer<F> {
         ensures flash { HasCause (F.medium self.old.flash).faults (F.medium self.new.flash).faults result }
         ensures pages { IsTrue F.told → (F.medium self.new.flash).state.pages ≡ (F.medium self.old.flash).state.pages }
         ensures blocks { (F.medium self.new.flash).blocks ≡ (F.medium self.old.flash).blocks }
+        ensures looks { Looks F.told (F.medium self.old.flash) (F.medium self.new.flash) }
         ensures own { self.new.own ≡ self.old.own }
         ensures fill { SameFill self.old.state self.new.state }
         ensures sequence { self.new.state.sequence ≡ self.old.state.sequence }

@@ -145,6 +145,8 @@ impl Table {
         ensures put { All (λ new. IsSome (known self.old new.0)) news.now → HasRoom self.old → PutsAll self.old self.new news.now }
         ensures len { All (λ new. IsSome (known self.old new.0)) news.now → HasRoom self.old → page_len self.new ≡ page_len self.old }
         ensures room { All (λ new. IsSome (known self.old new.0)) news.now → HasRoom self.old → HasRoom self.new }
+        ensures stays { All (λ new. IsSome (known self.old new.0)) news.now → HasRoom self.old
+            → (key : FilePage) → IsSome (known self.old key) → IsSome (known self.new key) }
         ensures limit { limit_of self.new ≡ limit_of self.old }
         ensures lens { self.new.lens ≡ self.old.lens }
     {

@@ -1,6 +1,7 @@
 use Rattle.std.proofs.Common.{◌+◌, ◌*◌, refl, ap, ◌∙◌, arith}
 use Rattle.flash_disk.specs.Newest.{NeedsPlace, places}
 use Rattle.flash_disk.proofs.Usable.{known_there, not_needed, one_more, spare_block}
+use Rattle.flash_disk.proofs.Looking.{looks_then}
 use Rattle.flash_disk.proofs.layer.Layer.is_spare.Goals as goal
 
 pub loop-page-preserved : goal.loop-page-preserved
@@ -13,6 +14,7 @@ loop-page-preserved g c = let i = c.loop-page.invariant in let e = c.in_ok-is_ne
       (not_needed (g.F.Flash.medium c.args.self.now.flash).state.pages (g.F.Flash.medium c.loop-page.self.flash).state.pages (i.1 told) (g.F.Flash.medium c.args.self.now.flash).blocks (g.F.Flash.medium c.loop-page.self.flash).blocks i.2 c.args.self.now.state.table c.loop-page.self.state.table (ap (λ s. s.table) i.3) (64 * c.args.block + c.loop-page.page) c.in_ok-is_needed.field-0 c.if-branch.false
       (e.needed told (known_there (g.F.Flash.medium c.args.self.now.flash).state.pages (g.F.Flash.medium c.loop-page.self.flash).state.pages (i.1 told) (g.F.Flash.medium c.args.self.now.flash).blocks (g.F.Flash.medium c.loop-page.self.flash).blocks i.2 c.args.self.now.state.table c.loop-page.self.state.table (ap (λ s. s.table) i.3) learnt)))),
   e.own ∙ i.5,
+  looks_then g.F.Flash.told (g.F.Flash.medium c.args.self.now.flash) (g.F.Flash.medium c.loop-page.self.flash) (g.F.Flash.medium c.is_needed.new.self.flash) i.6 e.looks,
 )
 
 pub returns-clause-spare : goal.returns-clause-spare

@@ -2,6 +2,7 @@ use Rattle.std.proofs.Common.{◌≡◌, ◌≤◌, ◌+◌, ◌*◌, true}
 use Rattle.flash_disk.specs.Known.{limit_of}
 use Rattle.flash_disk.specs.Learnt.{HasLearnt, Tops}
 use Rattle.flash_disk.specs.Sound.{SameFill}
+use Rattle.flash_disk.specs.Looks.{Looks}
 use Rattle.flash_disk.proofs.layer.Layer.learn_block.Given as goal
 
 abbrev pub invariant-loop-page : goal.invariant-loop-page
@@ -16,3 +17,4 @@ invariant-loop-page g l = ((g.F.Flash.medium l.initial.self.flash).faults ≤ (g
     × SameFill l.initial.self.state l.self.state
     × (g.F.Flash.told ≡ true → Tops (g.F.Flash.medium l.initial.self.flash).state.pages (64 * l.block) l.initial.self.state.sequence
     → Tops (g.F.Flash.medium l.initial.self.flash).state.pages (64 * l.block + l.page) l.self.state.sequence)
+    × Looks g.F.Flash.told (g.F.Flash.medium l.initial.self.flash) (g.F.Flash.medium l.self.flash)

@@ -2,6 +2,7 @@ use Rattle.std.proofs.Common.{◌≡◌, ◌≤◌, ◌*◌, true}
 use Rattle.flash_disk.specs.Known.{limit_of}
 use Rattle.flash_disk.specs.Learnt.{HasLearnt, Tops}
 use Rattle.flash_disk.specs.Sound.{SameFill}
+use Rattle.flash_disk.specs.Looks.{Looks}
 use Rattle.flash_disk.proofs.layer.Layer.learn_blocks.Given as goal
 
 abbrev pub invariant-loop-block : goal.invariant-loop-block
@@ -15,3 +16,4 @@ invariant-loop-block g l = ((g.F.Flash.medium l.initial.self.flash).faults ≤ (
     × SameFill l.initial.self.state l.self.state
     × (g.F.Flash.told ≡ true → Tops (g.F.Flash.medium l.initial.self.flash).state.pages 0 l.initial.self.state.sequence
     → Tops (g.F.Flash.medium l.initial.self.flash).state.pages (64 * l.block) l.self.state.sequence)
+    × Looks g.F.Flash.told (g.F.Flash.medium l.initial.self.flash) (g.F.Flash.medium l.self.flash)

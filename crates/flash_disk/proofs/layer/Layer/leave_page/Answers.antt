@@ -1,8 +1,7 @@
-use Rattle.std.proofs.Common.{◌≡◌, ◌+◌, ◌*◌, Some, sym, ap, ◌∙◌, subst}
+use Rattle.std.proofs.Common.{◌≡◌, ◌+◌, ◌*◌, sym, ap, ◌∙◌, subst}
 use Rattle.flash_record.specs.PageRecord.{record_in}
 use Rattle.flash_disk.specs.Newest.{record_at, places}
-use Rattle.flash_disk.specs.Known.{known}
-use Rattle.flash_disk.specs.Learnt.{number, IsLeaving}
+use Rattle.flash_disk.specs.Learnt.{IsLeaving}
 use Rattle.flash_disk.proofs.Learning.{record_at_place}
 use Rattle.flash_disk.proofs.Leaving.{nothing_found, elsewhere_found, no_twin_found, twin_found, places_differ, places_same}
 use Rattle.flash_disk.proofs.layer.Layer.leave_page.Goals as goal

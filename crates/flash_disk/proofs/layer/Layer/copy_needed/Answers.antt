@@ -1,0 +1,56 @@
+use Rattle.std.proofs.Common.{◌≡◌, ◌+◌, ◌≤◌, refl, sym, ap, ◌∙◌, arith}
+use Rattle.flash_disk.specs.declared.layer.LayerState.{LayerState}
+use Rattle.flash_disk.specs.Newest.{places}
+use Rattle.flash_disk.specs.Sound.{files_of}
+use Rattle.flash_disk.specs.Standing.{StandsFor}
+use Rattle.flash_disk.proofs.Standing.{keeps_refl}
+use Rattle.flash_disk.proofs.Stretches.{does_nothing, elapses_refl, elapses_then}
+use Rattle.flash_disk.proofs.Moving.{stands_now, stands_then, keeps_on}
+use Rattle.flash_disk.proofs.layer.Layer.copy_needed.Goals as goal
+
+pub loop-page-init : goal.loop-page-init
+loop-page-init g c =
+    let m = g.F.Flash.medium c.args.self.now.flash in
+    let lawful = g.met.F.Flash.lawful c.args.self.now.flash in record {
+      later = omega arith;
+      count = (let none = c.requires.none in omega (arith, none));
+      state = refl;
+      moving = c.requires.moving;
+      keeps = λ told. keeps_refl m.state.pages (places m.blocks);
+      does = λ told. does_nothing m m (StandsFor (files_of m) m.blocks) refl (λ x past. lawful.only_now x past) (stands_now m c.args.self.now.state (c.requires.moving told).sound);
+      time = λ told. elapses_refl g.F.Flash.told m lawful told;
+    }
+
+pub returns-in_err-copy_one-clause-keeps : goal.returns-in_err-copy_one-clause-keeps
+returns-in_err-copy_one-clause-keeps g c told =
+    let m = g.F.Flash.medium c.args.self.now.flash in
+    let mid = g.F.Flash.medium c.loop-page.self.flash in
+    let now = g.F.Flash.medium c.copy_one.new.self.flash in
+    let i = c.loop-page.invariant in
+    let start = c.requires.moving told in
+    keeps_on m mid c.args.self.now.state start.sound start.agreed (i.time told).blocks (i.keeps told) now.state.pages (c.copy_one.ensures.keeps told)
+
+pub returns-in_err-copy_one-clause-does : goal.returns-in_err-copy_one-clause-does
+returns-in_err-copy_one-clause-does g c told =
+    let m = g.F.Flash.medium c.args.self.now.flash in
+    let mid = g.F.Flash.medium c.loop-page.self.flash in
+    let now = g.F.Flash.medium c.copy_one.new.self.flash in
+    let i = c.loop-page.invariant in
+    stands_then m mid now (i.time told) (c.copy_one.ensures.time told) (i.does told) (c.copy_one.ensures.does told)
+
+pub loop-page-preserved : goal.loop-page-preserved
+loop-page-preserved g c =
+    let m = g.F.Flash.medium c.args.self.now.flash in
+    let mid = g.F.Flash.medium c.loop-page.self.flash in
+    let now = g.F.Flash.medium c.copy_one.new.self.flash in
+    let i = c.loop-page.invariant in
+    let e = c.copy_one.ensures in record {
+      later = (let was = i.later in let on = e.cause.later in omega (arith, was, on));
+      count = (let was = i.count in let one = e.count in omega (arith, was, one));
+      state = e.state ∙ ap (λ (q : LayerState). let z : LayerState = record q { moved = c.copy_one.new.self.state.moved } in z) i.state;
+      moving = λ told. c.in_ok-copy_one.ensures.moving told;
+      keeps = λ told. let start = c.requires.moving told in
+          keeps_on m mid c.args.self.now.state start.sound start.agreed (i.time told).blocks (i.keeps told) now.state.pages (e.keeps told);
+      does = λ told. stands_then m mid now (i.time told) (e.time told) (i.does told) (e.does told);
+      time = λ told. elapses_then m mid now (i.time told) (e.time told);
+    }

@@ -1,0 +1,22 @@
+use Rattle.std.proofs.Common.{◌≡◌, ◌+◌, ◌≤◌, length, vec_len, true}
+use Rattle.flash_model.specs.FlashMedium.{FlashElapses}
+use Rattle.flash_disk.specs.Newest.{places}
+use Rattle.flash_disk.specs.Does.{Does}
+use Rattle.flash_disk.specs.Standing.{Keeps, StandsFor}
+use Rattle.flash_disk.specs.Sound.{files_of}
+use Rattle.flash_disk.specs.Moving.{IsMoving}
+use Rattle.flash_disk.proofs.layer.Layer.copy_needed.Given as goal
+
+abbrev pub invariant-loop-page : goal.invariant-loop-page
+invariant-loop-page g l =
+    let m = g.F.Flash.medium l.initial.self.flash in
+    let now = g.F.Flash.medium l.self.flash in
+    record {
+      later : m.faults + l.initial.self.own ≤ now.faults + l.self.own;
+      count : vec_len l.self.state.moved ≤ l.page;
+      state : l.self.state ≡ record l.initial.self.state { moved = l.self.state.moved };
+      moving : g.F.Flash.told ≡ true → IsMoving now.state.pages now.blocks l.self.state l.from l.to l.page;
+      keeps : g.F.Flash.told ≡ true → Keeps m.state.pages now.state.pages (places m.blocks);
+      does : g.F.Flash.told ≡ true → Does (StandsFor (files_of m) m.blocks) m now;
+      time : g.F.Flash.told ≡ true → FlashElapses m now;
+    }

@@ -1,0 +1,272 @@
+use Rattle.std.proofs.Common.{◌≡◌, ◌+◌, ◌++◌, ◌∷◌, [], length, cond, true, Some, sym, ap, subst, refl, ◌∙◌}
+use Rattle.std.specs.Prelude.{is_ok, not}
+use Rattle.flash_disk.specs.declared.table.Place.{Place}
+use Rattle.flash_disk.specs.declared.table.FilePage.{FilePage}
+use Rattle.flash_disk.specs.declared.table.Newest.{Newest}
+use Rattle.flash_disk.specs.declared.layer.LayerState.{LayerState}
+use Rattle.flash_disk.specs.Known.{known}
+use Rattle.flash_disk.specs.Newest.{places}
+use Rattle.flash_disk.specs.Does.{Does}
+use Rattle.flash_disk.specs.Standing.{Keeps, StandsFor}
+use Rattle.flash_disk.specs.Sound.{files_of, IsSound}
+use Rattle.flash_disk.proofs.Entering.{as_said}
+use Rattle.flash_disk.specs.Moving.{IsMoving}
+use Rattle.flash_disk.proofs.Moving.{differ, same_places, found_same, on_err, stands_then, looked_up, passed_over, copy_failed_keeps, copy_failed_sound, copy_keeps_all, copy_sound, copy_does, copied, looked, look_keeps, keeps_since, look_stands}
+use Rattle.flash_disk.proofs.layer.Layer.copy_one.Goals as goal
+
+pub returns-in_err-read_page-clause-keeps : goal.returns-in_err-read_page-clause-keeps
+returns-in_err-read_page-clause-keeps g c told =
+    let m = g.F.Flash.medium c.args.self.now.flash in
+    let look = g.F.Flash.medium c.read_page.new.self.flash in
+    let e = c.read_page.ensures in
+    look_keeps m look (e.unchanged told) e.blocks
+
+pub returns-in_err-read_page-clause-does : goal.returns-in_err-read_page-clause-does
+returns-in_err-read_page-clause-does g c told =
+    let m = g.F.Flash.medium c.args.self.now.flash in
+    let look = g.F.Flash.medium c.read_page.new.self.flash in
+    let e = c.read_page.ensures in
+    look_stands m look (e.unchanged told) e.blocks e.during c.args.self.now.state (c.requires.moving told).sound
+
+pub returns-in_default-clause-keeps : goal.returns-in_default-clause-keeps
+returns-in_default-clause-keeps g c told =
+    let m = g.F.Flash.medium c.args.self.now.flash in
+    let look = g.F.Flash.medium c.read_page.new.self.flash in
+    let e = c.read_page.ensures in
+    look_keeps m look (e.unchanged told) e.blocks
+
+pub returns-in_default-clause-does : goal.returns-in_default-clause-does
+returns-in_default-clause-does g c told =
+    let m = g.F.Flash.medium c.args.self.now.flash in
+    let look = g.F.Flash.medium c.read_page.new.self.flash in
+    let e = c.read_page.ensures in
+    look_stands m look (e.unchanged told) e.blocks e.during c.args.self.now.state (c.requires.moving told).sound
+
+pub returns-then-ne-clause-keeps : goal.returns-then-ne-clause-keeps
+returns-then-ne-clause-keeps g c told =
+    let m = g.F.Flash.medium c.args.self.now.flash in
+    let look = g.F.Flash.medium c.read_page.new.self.flash in
+    let e = c.read_page.ensures in
+    look_keeps m look (e.unchanged told) e.blocks
+
+pub returns-then-ne-clause-does : goal.returns-then-ne-clause-does
+returns-then-ne-clause-does g c told =
+    let m = g.F.Flash.medium c.args.self.now.flash in
+    let look = g.F.Flash.medium c.read_page.new.self.flash in
+    let e = c.read_page.ensures in
+    look_stands m look (e.unchanged told) e.blocks e.during c.args.self.now.state (c.requires.moving told).sound
+
+pub returns-in_default-clause-moving : goal.returns-in_default-clause-moving
+returns-in_default-clause-moving g c told =
+    let m = g.F.Flash.medium c.args.self.now.flash in
+    let look = g.F.Flash.medium c.read_page.new.self.flash in
+    let e = c.read_page.ensures in
+    let s = c.read_page.new.self.state in
+    let moving : IsMoving look.state.pages look.blocks s c.args.from.block c.args.to c.args.from.page =
+    looked m look (e.unchanged told) e.blocks c.args.self.now.state s e.state c.args.from.block c.args.to c.args.from.page (c.requires.moving told) in
+    let read = c.in_ok-read_page.ensures.bytes told (c.requires.moving told).within c.requires.page ∙ ap (λ z. z.pages c.args.from.block c.args.from.page) (sym (e.unchanged told)) in
+    passed_over look s c.args.from.block c.args.to c.args.from.page moving c.requires.page c.read_page.new.out read
+    (λ key entry is block page. c.in_default.not-Some (key, entry) (looked_up look s c.args.from.block c.args.to c.args.from.page moving c.requires.page c.read_page.new.out read
+    c.newest_in.result c.newest_in.ensures.found key entry is block page))
+
+pub returns-then-ne-clause-moving : goal.returns-then-ne-clause-moving
+returns-then-ne-clause-moving g c told =
+    let m = g.F.Flash.medium c.args.self.now.flash in
+    let look = g.F.Flash.medium c.read_page.new.self.flash in
+    let e = c.read_page.ensures in
+    let s = c.read_page.new.self.state in
+    let moving : IsMoving look.state.pages look.blocks s c.args.from.block c.args.to c.args.from.page =
+    looked m look (e.unchanged told) e.blocks c.args.self.now.state s e.state c.args.from.block c.args.to c.args.from.page (c.requires.moving told) in
+    let read = c.in_ok-read_page.ensures.bytes told (c.requires.moving told).within c.requires.page ∙ ap (λ z. z.pages c.args.from.block c.args.from.page) (sym (e.unchanged told)) in
+    passed_over look s c.args.from.block c.args.to c.args.from.page moving c.requires.page c.read_page.new.out read
+    (λ key entry is block page. let found = looked_up look s c.args.from.block c.args.to c.args.from.page moving c.requires.page c.read_page.new.out read
+    c.newest_in.result c.newest_in.ensures.found key entry is block page in
+    let same : c.in-Some.old ≡ entry = (found_same c.newest_in.result c.in-Some.key key c.in-Some.old entry c.in-Some.is found).1 in
+    differ c.in-Some.old.place.block c.args.from.block c.in-Some.old.place.page c.args.from.page c.ne.result c.ne.ensures c.if-ne.true
+    (ap (λ (q : Newest). q.place.block) same ∙ block) (ap (λ (q : Newest). q.place.page) same ∙ page))
+
+pub returns-in_err-program_page-clause-keeps : goal.returns-in_err-program_page-clause-keeps
+returns-in_err-program_page-clause-keeps g c told =
+    let m = g.F.Flash.medium c.args.self.now.flash in
+    let look = g.F.Flash.medium c.read_page.new.self.flash in
+    let e = c.read_page.ensures in
+    let s = c.read_page.new.self.state in
+    let moving : IsMoving look.state.pages look.blocks s c.args.from.block c.args.to c.args.from.page =
+    looked m look (e.unchanged told) e.blocks c.args.self.now.state s e.state c.args.from.block c.args.to c.args.from.page (c.requires.moving told) in
+    let read = c.in_ok-read_page.ensures.bytes told (c.requires.moving told).within c.requires.page ∙ ap (λ z. z.pages c.args.from.block c.args.from.page) (sym (e.unchanged told)) in
+    let key = c.in-Some.key in
+    let old = c.in-Some.old in
+    let is : known s.table key ≡ Some old = c.in-Some.ensures.known in
+    let at = same_places old.place.block c.args.from.block old.place.page c.args.from.page c.ne.result c.ne.ensures c.if-ne.false in
+    let now = g.F.Flash.medium c.program_page.new.self.flash in
+    let long : c.len.result ≡ length s.moved.items = c.len.ensures ∙ s.moved.ok.0 in
+    let p = c.program_page.ensures in
+    keeps_since m look (e.unchanged told) e.blocks now.state.pages (copy_failed_keeps look s c.args.from.block c.args.to c.args.from.page moving c.requires.page c.read_page.new.out read key old is at.0 at.1 c.len.result long now (c.in_err-program_page.ensures.failed told))
+
+pub returns-in_err-program_page-clause-failed : goal.returns-in_err-program_page-clause-failed
+returns-in_err-program_page-clause-failed g c told =
+    let m = g.F.Flash.medium c.args.self.now.flash in
+    let look = g.F.Flash.medium c.read_page.new.self.flash in
+    let e = c.read_page.ensures in
+    let s = c.read_page.new.self.state in
+    let moving : IsMoving look.state.pages look.blocks s c.args.from.block c.args.to c.args.from.page =
+    looked m look (e.unchanged told) e.blocks c.args.self.now.state s e.state c.args.from.block c.args.to c.args.from.page (c.requires.moving told) in
+    let read = c.in_ok-read_page.ensures.bytes told (c.requires.moving told).within c.requires.page ∙ ap (λ z. z.pages c.args.from.block c.args.from.page) (sym (e.unchanged told)) in
+    let key = c.in-Some.key in
+    let old = c.in-Some.old in
+    let is : known s.table key ≡ Some old = c.in-Some.ensures.known in
+    let at = same_places old.place.block c.args.from.block old.place.page c.args.from.page c.ne.result c.ne.ensures c.if-ne.false in
+    let now = g.F.Flash.medium c.program_page.new.self.flash in
+    let long : c.len.result ≡ length s.moved.items = c.len.ensures ∙ s.moved.ok.0 in
+    let p = c.program_page.ensures in
+    on_err c.from_residual-in_err-program_page.result (subst (IsSound now) (sym p.state) (copy_failed_sound look s c.args.from.block c.args.to c.args.from.page moving c.requires.page c.read_page.new.out read key old is at.0 at.1 c.len.result long now (c.in_err-program_page.ensures.failed told) (p.time told).blocks))
+
+pub returns-in_err-program_page-clause-does : goal.returns-in_err-program_page-clause-does
+returns-in_err-program_page-clause-does g c told =
+    let m = g.F.Flash.medium c.args.self.now.flash in
+    let look = g.F.Flash.medium c.read_page.new.self.flash in
+    let e = c.read_page.ensures in
+    let s = c.read_page.new.self.state in
+    let moving : IsMoving look.state.pages look.blocks s c.args.from.block c.args.to c.args.from.page =
+    looked m look (e.unchanged told) e.blocks c.args.self.now.state s e.state c.args.from.block c.args.to c.args.from.page (c.requires.moving told) in
+    let read = c.in_ok-read_page.ensures.bytes told (c.requires.moving told).within c.requires.page ∙ ap (λ z. z.pages c.args.from.block c.args.from.page) (sym (e.unchanged told)) in
+    let key = c.in-Some.key in
+    let old = c.in-Some.old in
+    let is : known s.table key ≡ Some old = c.in-Some.ensures.known in
+    let at = same_places old.place.block c.args.from.block old.place.page c.args.from.page c.ne.result c.ne.ensures c.if-ne.false in
+    let now = g.F.Flash.medium c.program_page.new.self.flash in
+    let long : c.len.result ≡ length s.moved.items = c.len.ensures ∙ s.moved.ok.0 in
+    let p = c.program_page.ensures in
+    stands_then m look now (e.time told) (p.time told)
+    (look_stands m look (e.unchanged told) e.blocks e.during c.args.self.now.state (c.requires.moving told).sound)
+    (copy_does look s c.args.from.block c.args.to c.args.from.page moving c.requires.page c.read_page.new.out read key old is at.0 at.1 c.len.result long now c.program_page.result (p.done told) (p.failed told) (p.during told))
+
+pub returns-then-is_err-clause-does : goal.returns-then-is_err-clause-does
+returns-then-is_err-clause-does g c told =
+    let m = g.F.Flash.medium c.args.self.now.flash in
+    let look = g.F.Flash.medium c.read_page.new.self.flash in
+    let e = c.read_page.ensures in
+    let s = c.read_page.new.self.state in
+    let moving : IsMoving look.state.pages look.blocks s c.args.from.block c.args.to c.args.from.page =
+    looked m look (e.unchanged told) e.blocks c.args.self.now.state s e.state c.args.from.block c.args.to c.args.from.page (c.requires.moving told) in
+    let read = c.in_ok-read_page.ensures.bytes told (c.requires.moving told).within c.requires.page ∙ ap (λ z. z.pages c.args.from.block c.args.from.page) (sym (e.unchanged told)) in
+    let key = c.in-Some.key in
+    let old = c.in-Some.old in
+    let is : known s.table key ≡ Some old = c.in-Some.ensures.known in
+    let at = same_places old.place.block c.args.from.block old.place.page c.args.from.page c.ne.result c.ne.ensures c.if-ne.false in
+    let now = g.F.Flash.medium c.program_page.new.self.flash in
+    let long : c.len.result ≡ length s.moved.items = c.len.ensures ∙ s.moved.ok.0 in
+    let p = c.program_page.ensures in
+    subst (λ f. Does (StandsFor (files_of m) m.blocks) m (g.F.Flash.medium f)) (sym c.fault.ensures.flash) (
+    stands_then m look now (e.time told) (p.time told)
+    (look_stands m look (e.unchanged told) e.blocks e.during c.args.self.now.state (c.requires.moving told).sound)
+    (copy_does look s c.args.from.block c.args.to c.args.from.page moving c.requires.page c.read_page.new.out read key old is at.0 at.1 c.len.result long now c.program_page.result (p.done told) (p.failed told) (p.during told)))
+
+pub returns-clause-does : goal.returns-clause-does
+returns-clause-does g c told =
+    let m = g.F.Flash.medium c.args.self.now.flash in
+    let look = g.F.Flash.medium c.read_page.new.self.flash in
+    let e = c.read_page.ensures in
+    let s = c.read_page.new.self.state in
+    let moving : IsMoving look.state.pages look.blocks s c.args.from.block c.args.to c.args.from.page =
+    looked m look (e.unchanged told) e.blocks c.args.self.now.state s e.state c.args.from.block c.args.to c.args.from.page (c.requires.moving told) in
+    let read = c.in_ok-read_page.ensures.bytes told (c.requires.moving told).within c.requires.page ∙ ap (λ z. z.pages c.args.from.block c.args.from.page) (sym (e.unchanged told)) in
+    let key = c.in-Some.key in
+    let old = c.in-Some.old in
+    let is : known s.table key ≡ Some old = c.in-Some.ensures.known in
+    let at = same_places old.place.block c.args.from.block old.place.page c.args.from.page c.ne.result c.ne.ensures c.if-ne.false in
+    let now = g.F.Flash.medium c.program_page.new.self.flash in
+    let long : c.len.result ≡ length s.moved.items = c.len.ensures ∙ s.moved.ok.0 in
+    let p = c.program_page.ensures in
+    stands_then m look now (e.time told) (p.time told)
+    (look_stands m look (e.unchanged told) e.blocks e.during c.args.self.now.state (c.requires.moving told).sound)
+    (copy_does look s c.args.from.block c.args.to c.args.from.page moving c.requires.page c.read_page.new.out read key old is at.0 at.1 c.len.result long now c.program_page.result (p.done told) (p.failed told) (p.during told))
+
+pub returns-clause-keeps : goal.returns-clause-keeps
+returns-clause-keeps g c told =
+    let m = g.F.Flash.medium c.args.self.now.flash in
+    let look = g.F.Flash.medium c.read_page.new.self.flash in
+    let e = c.read_page.ensures in
+    let s = c.read_page.new.self.state in
+    let moving : IsMoving look.state.pages look.blocks s c.args.from.block c.args.to c.args.from.page =
+    looked m look (e.unchanged told) e.blocks c.args.self.now.state s e.state c.args.from.block c.args.to c.args.from.page (c.requires.moving told) in
+    let read = c.in_ok-read_page.ensures.bytes told (c.requires.moving told).within c.requires.page ∙ ap (λ z. z.pages c.args.from.block c.args.from.page) (sym (e.unchanged told)) in
+    let key = c.in-Some.key in
+    let old = c.in-Some.old in
+    let is : known s.table key ≡ Some old = c.in-Some.ensures.known in
+    let at = same_places old.place.block c.args.from.block old.place.page c.args.from.page c.ne.result c.ne.ensures c.if-ne.false in
+    let now = g.F.Flash.medium c.program_page.new.self.flash in
+    let long : c.len.result ≡ length s.moved.items = c.len.ensures ∙ s.moved.ok.0 in
+    let p = c.program_page.ensures in
+    keeps_since m look (e.unchanged told) e.blocks now.state.pages (copy_keeps_all look s c.args.from.block c.args.to c.args.from.page moving c.requires.page c.read_page.new.out read key old is at.0 at.1 c.len.result long now (c.in_ok-program_page.ensures.done told))
+
+pub returns-then-is_err-clause-keeps : goal.returns-then-is_err-clause-keeps
+returns-then-is_err-clause-keeps g c told =
+    let m = g.F.Flash.medium c.args.self.now.flash in
+    let look = g.F.Flash.medium c.read_page.new.self.flash in
+    let e = c.read_page.ensures in
+    let s = c.read_page.new.self.state in
+    let moving : IsMoving look.state.pages look.blocks s c.args.from.block c.args.to c.args.from.page =
+    looked m look (e.unchanged told) e.blocks c.args.self.now.state s e.state c.args.from.block c.args.to c.args.from.page (c.requires.moving told) in
+    let read = c.in_ok-read_page.ensures.bytes told (c.requires.moving told).within c.requires.page ∙ ap (λ z. z.pages c.args.from.block c.args.from.page) (sym (e.unchanged told)) in
+    let key = c.in-Some.key in
+    let old = c.in-Some.old in
+    let is : known s.table key ≡ Some old = c.in-Some.ensures.known in
+    let at = same_places old.place.block c.args.from.block old.place.page c.args.from.page c.ne.result c.ne.ensures c.if-ne.false in
+    let now = g.F.Flash.medium c.program_page.new.self.flash in
+    let long : c.len.result ≡ length s.moved.items = c.len.ensures ∙ s.moved.ok.0 in
+    let p = c.program_page.ensures in
+    subst (λ f. Keeps m.state.pages (g.F.Flash.medium f).state.pages (places m.blocks)) (sym c.fault.ensures.flash)
+    (keeps_since m look (e.unchanged told) e.blocks now.state.pages (copy_keeps_all look s c.args.from.block c.args.to c.args.from.page moving c.requires.page c.read_page.new.out read key old is at.0 at.1 c.len.result long now (c.in_ok-program_page.ensures.done told)))
+
+pub returns-then-is_err-clause-failed : goal.returns-then-is_err-clause-failed
+returns-then-is_err-clause-failed g c told =
+    let m = g.F.Flash.medium c.args.self.now.flash in
+    let look = g.F.Flash.medium c.read_page.new.self.flash in
+    let e = c.read_page.ensures in
+    let s = c.read_page.new.self.state in
+    let moving : IsMoving look.state.pages look.blocks s c.args.from.block c.args.to c.args.from.page =
+    looked m look (e.unchanged told) e.blocks c.args.self.now.state s e.state c.args.from.block c.args.to c.args.from.page (c.requires.moving told) in
+    let read = c.in_ok-read_page.ensures.bytes told (c.requires.moving told).within c.requires.page ∙ ap (λ z. z.pages c.args.from.block c.args.from.page) (sym (e.unchanged told)) in
+    let key = c.in-Some.key in
+    let old = c.in-Some.old in
+    let is : known s.table key ≡ Some old = c.in-Some.ensures.known in
+    let at = same_places old.place.block c.args.from.block old.place.page c.args.from.page c.ne.result c.ne.ensures c.if-ne.false in
+    let now = g.F.Flash.medium c.program_page.new.self.flash in
+    let long : c.len.result ≡ length s.moved.items = c.len.ensures ∙ s.moved.ok.0 in
+    let p = c.program_page.ensures in
+    let sound = copy_sound look s c.args.from.block c.args.to c.args.from.page moving c.requires.page c.read_page.new.out read key old is at.0 at.1 c.len.result long now (c.in_ok-program_page.ensures.done told) (p.time told).blocks in
+    let state : c.fault.new.self.state ≡ record s { moved = c.push.new.self } =
+    c.fault.ensures.state ∙ ap (λ (q : LayerState). let z : LayerState = record q { moved = c.push.new.self } in z) p.state in
+    subst (IsSound (g.F.Flash.medium c.fault.new.self.flash)) (sym state)
+    (subst (λ f. IsSound (g.F.Flash.medium f) (record s { moved = c.push.new.self })) (sym c.fault.ensures.flash)
+    (as_said now.state.pages now.blocks s (record s { moved = c.push.new.self }) sound))
+
+pub returns-clause-moving : goal.returns-clause-moving
+returns-clause-moving g c told =
+    let m = g.F.Flash.medium c.args.self.now.flash in
+    let look = g.F.Flash.medium c.read_page.new.self.flash in
+    let e = c.read_page.ensures in
+    let s = c.read_page.new.self.state in
+    let moving : IsMoving look.state.pages look.blocks s c.args.from.block c.args.to c.args.from.page =
+    looked m look (e.unchanged told) e.blocks c.args.self.now.state s e.state c.args.from.block c.args.to c.args.from.page (c.requires.moving told) in
+    let read = c.in_ok-read_page.ensures.bytes told (c.requires.moving told).within c.requires.page ∙ ap (λ z. z.pages c.args.from.block c.args.from.page) (sym (e.unchanged told)) in
+    let key = c.in-Some.key in
+    let old = c.in-Some.old in
+    let is : known s.table key ≡ Some old = c.in-Some.ensures.known in
+    let at = same_places old.place.block c.args.from.block old.place.page c.args.from.page c.ne.result c.ne.ensures c.if-ne.false in
+    let now = g.F.Flash.medium c.program_page.new.self.flash in
+    let long : c.len.result ≡ length s.moved.items = c.len.ensures ∙ s.moved.ok.0 in
+    let p = c.program_page.ensures in
+    let t : LayerState = record c.program_page.new.self.state { moved = c.push.new.self } in
+    let state : t ≡ record s { moved = t.moved } = ap (λ (q : LayerState). let z : LayerState = record q { moved = c.push.new.self } in z) p.state in
+    copied look s c.args.from.block c.args.to c.args.from.page moving c.requires.page c.read_page.new.out read key old is at.0 at.1 c.len.result long now (c.in_ok-program_page.ensures.done told) (p.time told).blocks
+    (λ k entry found block page. let up = looked_up look s c.args.from.block c.args.to c.args.from.page moving c.requires.page c.read_page.new.out read
+    c.newest_in.result c.newest_in.ensures.found k entry found block page in (found_same c.newest_in.result key k old entry c.in-Some.is up).0)
+    t state (
+    let u = c.program_page.new.self.state in
+    let place : Place = record { block = c.args.to; page = c.len.result } in
+    let new : Newest = record old { place = place } in
+    let v : FilePage × Newest = (key, new) in
+    let ok : is_ok c.push.result ≡ true = c.is_err.ensures.negation ∙ ap not c.if-is_err.false in
+    c.push.ensures.items ∙ (ap (λ b. cond b (u.moved.items ++ v ∷ []) u.moved.items) ok ∙ ap (λ (q : LayerState). q.moved.items ++ v ∷ []) p.state))

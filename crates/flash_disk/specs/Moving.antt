@@ -1,0 +1,39 @@
+-- Records that are moved from one block into the spare one.
+use Rattle.std.specs.Prelude.{◌≡◌, ◌≢◌, ◌⊎◌, ℕ, ◌+◌, ◌<◌, ◌≤◌, true, List, [], ◌∷◌, Some, All, IsFalse, length}
+use Rattle.flash_model.specs.Pages.{Pages, blank_page}
+use Rattle.flash_disk.specs.declared.table.FilePage.{FilePage}
+use Rattle.flash_disk.specs.declared.table.Newest.{Newest}
+use Rattle.flash_disk.specs.declared.table.Table.{Table}
+use Rattle.flash_disk.specs.declared.layer.LayerState.{LayerState}
+use Rattle.flash_disk.specs.Newest.{record_at}
+use Rattle.flash_disk.specs.Known.{same_page, known}
+use Rattle.flash_disk.specs.Learnt.{number}
+use Rattle.flash_disk.specs.Sound.{Sound}
+
+-- an entry that leads to the copy in place of the record that was copied, among the first few pages of a block
+pub record IsMoved (pages : Pages) (table : Table) (from to count : ℕ) (e : FilePage × Newest) : Type 0 where
+  pub old : Newest
+  pub known_is : known table e.0 ≡ Some old
+  pub came : old.place.block ≡ from
+  pub entry : e.1 ≡ record old { place = e.1.place }
+  pub block : e.1.place.block ≡ to
+  pub front : e.1.place.page < count
+  pub copy : record_at pages (number e.1.place) ≡ record_at pages (number old.place)
+
+-- one of the entries is of this page
+abbrev pub HasKey : FilePage → List (FilePage × Newest) → Type 0
+HasKey key [] = ⊥
+HasKey key (e ∷ es) = (same_page e.0 key ≡ true) ⊎ HasKey key es
+
+-- of the first few pages of a block the newest records are copied to the front of the spare one
+pub record IsMoving (pages : Pages) (blocks : ℕ) (s : LayerState) (from to done : ℕ) : Type 0 where
+  pub sound : Sound pages blocks s
+  pub agreed : IsFalse s.disputed
+  pub full : 64 ≤ s.fill
+  pub spare : s.spare ≡ to
+  pub within : from < blocks
+  pub apart : from ≢ to
+  pub count : length s.moved.items ≤ done
+  pub blank : (p : ℕ) → length s.moved.items ≤ p → p < 64 → pages to p ≡ blank_page
+  pub moved : All (IsMoved pages s.table from to (length s.moved.items)) s.moved.items
+  pub all : (key : FilePage) (entry : Newest) → known s.table key ≡ Some entry → entry.place.block ≡ from → entry.place.page < done → HasKey key s.moved.items
