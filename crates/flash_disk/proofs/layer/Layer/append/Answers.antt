@@ -16,3 +16,7 @@ returns-clause-does g c told =
     let now = g.F.Flash.medium c.add.new.self.flash in
     puts_then m mid now (c.make_room.ensures.time told) (c.make_room.ensures.does told) c.args.file (256 * c.args.page) c.args.len c.args.bytes.now
     (c.add.ensures.time told) (c.add.ensures.does told)
+
+pub add-requires-clause-fits : goal.add-requires-clause-fits
+add-requires-clause-fits g c told =
+    c.make_room.ensures.fits told c.args.file c.args.page c.args.len c.args.bytes.now (c.requires.fits told)
