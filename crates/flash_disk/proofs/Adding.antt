@@ -3,7 +3,7 @@ use Rattle.std.proofs.Common.{◌≡◌, ◌≢◌, ◌⊎◌, ℕ, ◌+◌, ◌
 use Rattle.std.specs.Prelude.{Option, Some, None, IsFalse, nat_eq, ◌&&◌}
 use Rattle.flash_model.specs.Pages.{Pages, TornPage, IsPlain, program_page, blank_page}
 use Rattle.flash_model.specs.State.{FlashState, IsStill, ProgramCase, FailsToProgram, programmed}
-use Rattle.flash_model.specs.FlashMedium.{FlashMedium, IsLawfulFlash, EachFlashCase}
+use Rattle.flash_model.specs.FlashMedium.{FlashMedium, IsLawfulFlash, FlashElapses, EachFlashCase}
 use Rattle.flash_record.specs.PageRecord.{PageRecord, record_in}
 use Rattle.flash_disk.specs.declared.table.Place.{Place}
 use Rattle.flash_disk.specs.declared.layer.LayerState.{LayerState}
@@ -12,12 +12,13 @@ use Rattle.flash_disk.specs.Learnt.{number, Adds}
 use Rattle.flash_disk.specs.FlashFiles.{flash_files}
 use Rattle.flash_disk.specs.Does.{Does}
 use Rattle.flash_disk.specs.PutPart.{PutPart}
+use Rattle.flash_disk.specs.Standing.{StandsFor}
 use Rattle.flash_disk.specs.Sound.{files_of, Sound, IsSound, IsFresh, FitsIn, Enters, Pends, Holds, LeavesPut, ShowsSame, ShowsPage}
 use Rattle.flash_disk.proofs.Standing.{HasSameRecords, records_spare}
 use Rattle.flash_disk.proofs.Sparing.{number_block}
 use Rattle.flash_disk.proofs.Growing.{adds_byte, adds_put, adds_is_spare, grown_put}
 use Rattle.flash_disk.proofs.Tearing.{IsTorn, nothing_there, torn_program, torn_is, torn_adds_there, torn_add, whole_add, whole_torn}
-use Rattle.flash_disk.proofs.Stretches.{does_nothing, program_does}
+use Rattle.flash_disk.proofs.Stretches.{does_nothing, does_then, does_weaken, program_does}
 
 -- nothing was put yet
 pub nothing_put : (m : FlashMedium) (s : LayerState) → IsSound m s → (file at len : ℕ) (bytes : List ℕ) → LeavesPut file at bytes len (files_of m) m.blocks m.state.pages
@@ -189,3 +190,20 @@ module _ (m now : FlashMedium) (s u : LayerState) (place : Place) (r : PageRecor
       (nothing_put m s sound r.file (256 * r.page) r.len r.bytes)
       (leaves written (inr adds))
       (λ left torn plain. leaves left (torn_add pages n place whole r small within blank is newer left torn plain))
+
+module _ (a b c : FlashMedium) (first : FlashElapses a b) (early : Does (StandsFor (files_of a) a.blocks) a b) (file at len : ℕ) (bytes : List ℕ) where
+  same_files : files_of b ≡ files_of a
+  same_files = ap (λ k. flash_files b.state.pages k) first.blocks ∙ early.now.files_are
+
+  -- a part is put after a stretch that changes no file
+  pub puts_then : FlashElapses b c → Does (LeavesPut file at bytes len (files_of b) b.blocks) b c → Does (LeavesPut file at bytes len (files_of a) a.blocks) a c
+  puts_then second late = does_then a b c (LeavesPut file at bytes len (files_of a) a.blocks) first second
+      (does_weaken a b (StandsFor (files_of a) a.blocks) (LeavesPut file at bytes len (files_of a) a.blocks) (λ pages stands. record { put = inl stands.files_are; spare = stands.spare }) early)
+      (subst (λ k. Does (LeavesPut file at bytes len (files_of a) k) b c) first.blocks (subst (λ f. Does (LeavesPut file at bytes len f b.blocks) b c) same_files late))
+
+  -- such a stretch alone
+  pub puts_not : Does (LeavesPut file at bytes len (files_of a) a.blocks) a b
+  puts_not = does_weaken a b (StandsFor (files_of a) a.blocks) (LeavesPut file at bytes len (files_of a) a.blocks) (λ pages stands. record { put = inl stands.files_are; spare = stands.spare }) early
+
+  pub put_since : PutPart file at bytes len (files_of b) (files_of c) → PutPart file at bytes len (files_of a) (files_of c)
+  put_since put = subst (λ f. PutPart file at bytes len f (files_of c)) same_files put

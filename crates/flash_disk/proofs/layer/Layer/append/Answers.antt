@@ -1,0 +1,22 @@
+use Rattle.std.proofs.Common.{◌*◌}
+use Rattle.flash_disk.proofs.Entering.{sound_holds}
+use Rattle.flash_disk.proofs.Adding.{puts_then, puts_not, put_since}
+use Rattle.flash_disk.proofs.layer.Layer.append.Goals as goal
+
+pub returns-in_err-make_room-clause-does : goal.returns-in_err-make_room-clause-does
+returns-in_err-make_room-clause-does g c told =
+    let m = g.F.Flash.medium c.args.self.now.flash in
+    let mid = g.F.Flash.medium c.make_room.new.self.flash in
+    puts_not m mid mid (c.make_room.ensures.time told) (c.make_room.ensures.does told) c.args.file (256 * c.args.page) c.args.len c.args.bytes.now
+
+pub returns-clause-does : goal.returns-clause-does
+returns-clause-does g c told =
+    let m = g.F.Flash.medium c.args.self.now.flash in
+    let mid = g.F.Flash.medium c.make_room.new.self.flash in
+    let now = g.F.Flash.medium c.add.new.self.flash in
+    puts_then m mid now (c.make_room.ensures.time told) (c.make_room.ensures.does told) c.args.file (256 * c.args.page) c.args.len c.args.bytes.now
+    (c.add.ensures.time told) (c.add.ensures.does told)
+
+pub add-requires-clause-fits : goal.add-requires-clause-fits
+add-requires-clause-fits g c told =
+    c.make_room.ensures.fits told c.args.file c.args.page c.args.len c.args.bytes.now (c.requires.fits told)

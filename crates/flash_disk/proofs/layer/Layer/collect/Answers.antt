@@ -1,0 +1,171 @@
+use Rattle.std.proofs.Common.{◌≡◌, ◌≢◌, ◌<◌, min, length, refl, sym, ap, subst, ◌∙◌, arith}
+use Rattle.std.specs.Prelude.{All, IsSome, IsFalse}
+use Rattle.flash_disk.specs.declared.table.FilePage.{FilePage}
+use Rattle.flash_disk.specs.declared.table.Newest.{Newest}
+use Rattle.flash_disk.specs.declared.layer.LayerState.{LayerState}
+use Rattle.flash_disk.specs.Known.{known, PutsAll}
+use Rattle.flash_disk.specs.Learnt.{HasPlace}
+use Rattle.flash_disk.specs.Does.{Does}
+use Rattle.flash_disk.specs.Standing.{StandsFor}
+use Rattle.flash_disk.specs.Sound.{files_of, IsSound}
+use Rattle.flash_disk.specs.Moving.{IsMoving}
+use Rattle.flash_disk.proofs.Stretches.{does_nothing}
+use Rattle.flash_disk.proofs.Moved.{all_known, finished, places_stay}
+use Rattle.flash_disk.proofs.Moving.{erase_stands, erase_failed, erase_failed_keeps, erase_keeps_all, moving_none, stands_then, keeps_on, fits_kept, stands_now}
+use Rattle.flash_disk.proofs.layer.Layer.collect.Goals as goal
+
+pub returns-then-self-clause-does : goal.returns-then-self-clause-does
+returns-then-self-clause-does g c told =
+    let m = g.F.Flash.medium c.args.self.now.flash in
+    let lawful = g.met.F.Flash.lawful c.args.self.now.flash in
+    subst (λ f. Does (StandsFor (files_of m) m.blocks) m (g.F.Flash.medium f)) (sym c.fault.ensures.flash)
+    (does_nothing m m (StandsFor (files_of m) m.blocks) refl (λ x past. lawful.only_now x past) (stands_now m c.args.self.now.state (c.requires.sound told)))
+
+pub returns-in_err-erase_block-clause-sound : goal.returns-in_err-erase_block-clause-sound
+returns-in_err-erase_block-clause-sound g c told =
+    let s = c.args.self.now.state in
+    let m = g.F.Flash.medium c.args.self.now.flash in
+    let look = g.F.Flash.medium c.erase_block.new.self.flash in
+    let e = c.erase_block.ensures in
+    let sound : IsSound m s = c.requires.sound told in
+    let agreed : IsFalse s.disputed = c.if-self.false in
+    subst (IsSound look) (sym e.state) (erase_failed m look s sound agreed c.requires.full (c.in_err-erase_block.ensures.failed told) (e.time told).blocks)
+
+pub returns-in_err-erase_block-clause-fits : goal.returns-in_err-erase_block-clause-fits
+returns-in_err-erase_block-clause-fits g c told =
+    let s = c.args.self.now.state in
+    let m = g.F.Flash.medium c.args.self.now.flash in
+    let look = g.F.Flash.medium c.erase_block.new.self.flash in
+    let e = c.erase_block.ensures in
+    let sound : IsSound m s = c.requires.sound told in
+    let agreed : IsFalse s.disputed = c.if-self.false in
+    fits_kept m look s c.erase_block.new.self.state sound agreed (erase_failed_keeps m look s sound agreed c.requires.full (c.in_err-erase_block.ensures.failed told)) (e.time told).blocks
+    (λ key has. subst (λ (q : LayerState). HasPlace q.table key) (sym e.state) has)
+
+pub returns-in_err-erase_block-clause-does : goal.returns-in_err-erase_block-clause-does
+returns-in_err-erase_block-clause-does g c told =
+    let s = c.args.self.now.state in
+    let m = g.F.Flash.medium c.args.self.now.flash in
+    let look = g.F.Flash.medium c.erase_block.new.self.flash in
+    let e = c.erase_block.ensures in
+    let sound : IsSound m s = c.requires.sound told in
+    let agreed : IsFalse s.disputed = c.if-self.false in
+    erase_stands m look s sound agreed c.requires.full c.erase_block.result (e.done told) (e.failed told) (e.during told)
+
+pub copy_needed-requires-clause-moving : goal.copy_needed-requires-clause-moving
+copy_needed-requires-clause-moving g c told =
+    let s = c.args.self.now.state in
+    let m = g.F.Flash.medium c.args.self.now.flash in
+    let look = g.F.Flash.medium c.erase_block.new.self.flash in
+    let e = c.erase_block.ensures in
+    let sound : IsSound m s = c.requires.sound told in
+    let agreed : IsFalse s.disputed = c.if-self.false in
+    let t : LayerState = record c.erase_block.new.self.state { moved = c.clear.new.self } in
+    let state : t ≡ record s { moved = c.clear.new.self } = ap (λ (q : LayerState). let z : LayerState = record q { moved = c.clear.new.self } in z) e.state in
+    let from = c.lightest_but-victim.result in
+    let within : from < m.blocks = (let less = c.if-victim-blocks.false in let all = c.blocks-else-victim-target.ensures in omega (arith, less, all)) in
+    moving_none m look s sound agreed c.requires.full (c.in_ok-erase_block.ensures.done told) (e.time told).blocks t state c.clear.ensures.items
+    from s.spare refl within (λ same. c.if-victim-target.false same)
+
+pub returns-in_err-copy_needed-clause-fits : goal.returns-in_err-copy_needed-clause-fits
+returns-in_err-copy_needed-clause-fits g c told =
+    let s = c.args.self.now.state in
+    let m = g.F.Flash.medium c.args.self.now.flash in
+    let look = g.F.Flash.medium c.erase_block.new.self.flash in
+    let e = c.erase_block.ensures in
+    let sound : IsSound m s = c.requires.sound told in
+    let agreed : IsFalse s.disputed = c.if-self.false in
+    let now = g.F.Flash.medium c.copy_needed.new.self.flash in
+    let t = c.copy_needed.new.self.state in
+    let n = c.copy_needed.ensures in
+    let blank = c.in_ok-erase_block.ensures.done told in
+    let same_blocks : now.blocks ≡ m.blocks = (n.time told).blocks ∙ (e.time told).blocks in
+    let keeps = keeps_on m look s sound agreed (e.time told).blocks (erase_keeps_all m look s sound agreed c.requires.full blank) now.state.pages (n.keeps told) in
+    let same_table : t.table ≡ s.table = ap (λ (q : LayerState). q.table) n.state ∙ ap (λ (q : LayerState). q.table) e.state in
+    fits_kept m now s t sound agreed keeps same_blocks (λ key has. subst (λ q. HasPlace q key) (sym same_table) has)
+
+pub returns-in_err-copy_needed-clause-does : goal.returns-in_err-copy_needed-clause-does
+returns-in_err-copy_needed-clause-does g c told =
+    let s = c.args.self.now.state in
+    let m = g.F.Flash.medium c.args.self.now.flash in
+    let look = g.F.Flash.medium c.erase_block.new.self.flash in
+    let e = c.erase_block.ensures in
+    let sound : IsSound m s = c.requires.sound told in
+    let agreed : IsFalse s.disputed = c.if-self.false in
+    let now = g.F.Flash.medium c.copy_needed.new.self.flash in
+    let t = c.copy_needed.new.self.state in
+    let n = c.copy_needed.ensures in
+    let blank = c.in_ok-erase_block.ensures.done told in
+    let same_blocks : now.blocks ≡ m.blocks = (n.time told).blocks ∙ (e.time told).blocks in
+    let keeps = keeps_on m look s sound agreed (e.time told).blocks (erase_keeps_all m look s sound agreed c.requires.full blank) now.state.pages (n.keeps told) in
+    let same_table : t.table ≡ s.table = ap (λ (q : LayerState). q.table) n.state ∙ ap (λ (q : LayerState). q.table) e.state in
+    stands_then m look now (e.time told) (n.time told) (erase_stands m look s sound agreed c.requires.full c.erase_block.result (e.done told) (e.failed told) (e.during told)) (n.does told)
+
+pub returns-clause-sound : goal.returns-clause-sound
+returns-clause-sound g c told =
+    let s = c.args.self.now.state in
+    let m = g.F.Flash.medium c.args.self.now.flash in
+    let look = g.F.Flash.medium c.erase_block.new.self.flash in
+    let e = c.erase_block.ensures in
+    let sound : IsSound m s = c.requires.sound told in
+    let agreed : IsFalse s.disputed = c.if-self.false in
+    let now = g.F.Flash.medium c.copy_needed.new.self.flash in
+    let t = c.copy_needed.new.self.state in
+    let n = c.copy_needed.ensures in
+    let blank = c.in_ok-erase_block.ensures.done told in
+    let same_blocks : now.blocks ≡ m.blocks = (n.time told).blocks ∙ (e.time told).blocks in
+    let keeps = keeps_on m look s sound agreed (e.time told).blocks (erase_keeps_all m look s sound agreed c.requires.full blank) now.state.pages (n.keeps told) in
+    let same_table : t.table ≡ s.table = ap (λ (q : LayerState). q.table) n.state ∙ ap (λ (q : LayerState). q.table) e.state in
+    let from = c.lightest_but-victim.result in
+    let to = s.spare in
+    let moving : IsMoving now.state.pages now.blocks t from to 64 = c.in_ok-copy_needed.ensures.moving told in
+    let p = c.put_all.ensures in
+    let items : c.deref.result.now ≡ t.moved.items = c.deref.ensures.value in
+    let known_all = subst (All (λ (q : FilePage × Newest). IsSome (known t.table q.0))) (sym items) (all_known now t from to moving) in
+    let room = moving.sound.knows.led.room in
+    let puts = subst (PutsAll t.table c.put_all.new.self) items (p.put known_all room) in
+    let long = t.moved.ok.0 in let count = c.len.ensures in let least = c.min.ensures in
+    finished now t from to moving c.put_all.new.self puts (p.len known_all room) (p.room known_all room) p.limit p.lens (p.stays known_all room) c.min.result (omega (arith, long, count, least))
+
+pub returns-clause-fits : goal.returns-clause-fits
+returns-clause-fits g c told =
+    let s = c.args.self.now.state in
+    let m = g.F.Flash.medium c.args.self.now.flash in
+    let look = g.F.Flash.medium c.erase_block.new.self.flash in
+    let e = c.erase_block.ensures in
+    let sound : IsSound m s = c.requires.sound told in
+    let agreed : IsFalse s.disputed = c.if-self.false in
+    let now = g.F.Flash.medium c.copy_needed.new.self.flash in
+    let t = c.copy_needed.new.self.state in
+    let n = c.copy_needed.ensures in
+    let blank = c.in_ok-erase_block.ensures.done told in
+    let same_blocks : now.blocks ≡ m.blocks = (n.time told).blocks ∙ (e.time told).blocks in
+    let keeps = keeps_on m look s sound agreed (e.time told).blocks (erase_keeps_all m look s sound agreed c.requires.full blank) now.state.pages (n.keeps told) in
+    let same_table : t.table ≡ s.table = ap (λ (q : LayerState). q.table) n.state ∙ ap (λ (q : LayerState). q.table) e.state in
+    let from = c.lightest_but-victim.result in
+    let to = s.spare in
+    let moving : IsMoving now.state.pages now.blocks t from to 64 = c.in_ok-copy_needed.ensures.moving told in
+    let p = c.put_all.ensures in
+    let items : c.deref.result.now ≡ t.moved.items = c.deref.ensures.value in
+    let known_all = subst (All (λ (q : FilePage × Newest). IsSome (known t.table q.0))) (sym items) (all_known now t from to moving) in
+    let room = moving.sound.knows.led.room in
+    let puts = subst (PutsAll t.table c.put_all.new.self) items (p.put known_all room) in
+    fits_kept m now s (record t { table = c.put_all.new.self; fill = c.min.result; current = to; spare = from }) sound agreed keeps same_blocks
+    (λ key has. places_stay now t from to moving c.put_all.new.self puts (p.len known_all room) (p.room known_all room) p.limit p.lens (p.stays known_all room) key (subst (λ q. HasPlace q key) (sym same_table) has))
+
+pub returns-clause-does : goal.returns-clause-does
+returns-clause-does g c told =
+    let s = c.args.self.now.state in
+    let m = g.F.Flash.medium c.args.self.now.flash in
+    let look = g.F.Flash.medium c.erase_block.new.self.flash in
+    let e = c.erase_block.ensures in
+    let sound : IsSound m s = c.requires.sound told in
+    let agreed : IsFalse s.disputed = c.if-self.false in
+    let now = g.F.Flash.medium c.copy_needed.new.self.flash in
+    let t = c.copy_needed.new.self.state in
+    let n = c.copy_needed.ensures in
+    let blank = c.in_ok-erase_block.ensures.done told in
+    let same_blocks : now.blocks ≡ m.blocks = (n.time told).blocks ∙ (e.time told).blocks in
+    let keeps = keeps_on m look s sound agreed (e.time told).blocks (erase_keeps_all m look s sound agreed c.requires.full blank) now.state.pages (n.keeps told) in
+    let same_table : t.table ≡ s.table = ap (λ (q : LayerState). q.table) n.state ∙ ap (λ (q : LayerState). q.table) e.state in
+    stands_then m look now (e.time told) (n.time told) (erase_stands m look s sound agreed c.requires.full c.erase_block.result (e.done told) (e.failed told) (e.during told)) (n.does told)
