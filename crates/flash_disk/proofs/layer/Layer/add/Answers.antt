@@ -1,10 +1,10 @@
-use Rattle.std.proofs.Common.{◌≡◌, ◌+◌, ◌*◌, Some, sym, ap, subst, ◌∙◌}
-use Rattle.flash_record.specs.PageRecord.{PageRecord, record_in}
+use Rattle.std.proofs.Common.{◌≡◌, ◌+◌, ◌*◌, sym, ap, subst, ◌∙◌}
+use Rattle.flash_record.specs.PageRecord.{PageRecord}
 use Rattle.flash_disk.specs.declared.table.Place.{Place}
 use Rattle.flash_disk.specs.declared.layer.LayerState.{LayerState}
 use Rattle.flash_disk.specs.Does.{Does}
 use Rattle.flash_disk.specs.PutPart.{PutPart}
-use Rattle.flash_disk.specs.Sound.{files_of, IsSound, FitsIn, Holds, LeavesPut}
+use Rattle.flash_disk.specs.Sound.{files_of, IsSound, FitsIn, LeavesPut}
 use Rattle.flash_disk.proofs.Adding.{puts_nothing, added_sound, added_put, failed_holds, add_does}
 use Rattle.flash_disk.proofs.layer.Layer.add.Goals as goal
 
