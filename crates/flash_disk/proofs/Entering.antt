@@ -1,10 +1,10 @@
 -- What is kept stays fit when a record comes to lie in the block that is being filled.
-use Rattle.std.proofs.Common.{◌≡◌, ◌≢◌, ◌⊎◌, ℕ, ◌+◌, ◌*◌, ◌/◌, ◌<◌, ◌≤◌, List, Bool, true, false, cond, length, drop, refl, sym, ap, subst, ◌∙◌, inl, inr, ⊎_elim, arith, true≢false, eq-eqb, length-drop}
-use Rattle.std.specs.Prelude.{Option, Some, None, IsTrue, IsFalse, IsSome, nat_eq, max, is_some, slice_index, ◌↔◌}
+use Rattle.std.proofs.Common.{◌≡◌, ◌⊎◌, ℕ, ◌+◌, ◌/◌, ◌<◌, ◌≤◌, List, Bool, true, false, cond, refl, sym, ap, subst, ◌∙◌, inl, inr, ⊎_elim, arith, true≢false, eq-eqb}
+use Rattle.std.specs.Prelude.{Option, Some, None, IsTrue, IsFalse, IsSome, max, is_some}
 use Rattle.std.specs.HashMap.{get, hash_map_len, spare}
-use Rattle.std.proofs.lemmas.Bool.{cases_eq, cases_Bool, eqb-true, ne_eqb}
+use Rattle.std.proofs.lemmas.Bool.{cases_eq, ne_eqb}
 use Rattle.std.proofs.lemmas.Option.{same_Some, none-some}
-use Rattle.flash_model.specs.Pages.{Pages, TornPage, blank_page}
+use Rattle.flash_model.specs.Pages.{Pages, TornPage}
 use Rattle.flash_model.specs.FlashMedium.{FlashMedium}
 use Rattle.flash_record.specs.PageRecord.{PageRecord, record_in}
 use Rattle.flash_disk.specs.declared.table.FilePage.{FilePage}
@@ -13,11 +13,11 @@ use Rattle.flash_disk.specs.declared.table.Newest.{Newest}
 use Rattle.flash_disk.specs.declared.table.Table.{Table}
 use Rattle.flash_disk.specs.declared.layer.LayerState.{LayerState}
 use Rattle.flash_disk.specs.Newest.{Placed, record_at, newest, places}
-use Rattle.flash_disk.specs.Known.{same_page, page_of, known, page_len, limit_of, len_in, len_known, HasLenIn, HasLen, Puts, Lengthens, HasRoom}
-use Rattle.flash_disk.specs.Learnt.{number, Led, LedOf, IsLed, Knows, Adds, HasPlace, Tops}
+use Rattle.flash_disk.specs.Known.{same_page, page_of, known, page_len, limit_of, len_in, len_known, HasLenIn, HasLen, Puts, Lengthens}
+use Rattle.flash_disk.specs.Learnt.{number, Led, LedOf, IsLed, HasPlace, Tops}
 use Rattle.flash_disk.specs.FlashFiles.{file_len, IsFileLen}
 use Rattle.flash_disk.specs.FlashFilesLaws.{file_len_is, one_len}
-use Rattle.flash_disk.specs.Sound.{Sound, IsSound, IsFresh, Enters, Fits, Pends, PendsAt, Holds}
+use Rattle.flash_disk.specs.Sound.{Sound, IsSound, Enters, Pends, PendsAt, Holds}
 use Rattle.flash_disk.proofs.Standing.{HasSameRecords, records_known, records_tops, records_alike, records_spare, records_agreed, same_said_strayless}
 use Rattle.flash_disk.proofs.Tearing.{torn_same, torn_page}
 use Rattle.flash_disk.proofs.Sparing.{LiesElsewhere}

@@ -1,6 +1,6 @@
 -- The table leads to the copies, and the block that they came from is the spare one.
-use Rattle.std.proofs.Common.{◌≡◌, ◌≢◌, ◌⊎◌, ℕ, suc, ◌+◌, ◌*◌, ◌/◌, ◌<◌, ◌≤◌, min, Bool, true, false, cond, List, [], ◌∷◌, length, refl, sym, ap, subst, ◌∙◌, inl, inr, ⊎_elim, arith, true≢false}
-use Rattle.std.specs.Prelude.{Option, Some, None, IsFalse, IsSome, IfSome, All, nat_eq}
+use Rattle.std.proofs.Common.{◌≡◌, ◌≢◌, ℕ, suc, ◌<◌, min, true, cond, List, [], ◌∷◌, length, refl, sym, ap, subst, ◌∙◌, inl, inr, ⊎_elim, arith, true≢false}
+use Rattle.std.specs.Prelude.{Option, Some, None, IsSome, IfSome, All}
 use Rattle.std.specs.HashMap.{spare}
 use Rattle.std.specs.Map.{update, update_all}
 use Rattle.std.proofs.lemmas.Map.Made.{IfSome-update_all}
@@ -15,7 +15,7 @@ use Rattle.flash_disk.specs.declared.layer.LayerState.{LayerState}
 use Rattle.flash_disk.specs.Newest.{Placed, record_at, newest, places}
 use Rattle.flash_disk.specs.FlashFiles.{IsFileLen}
 use Rattle.flash_disk.specs.Known.{same_page, known, page_len, limit_of, len_in, HasLenIn, HasRoom, PutsAll}
-use Rattle.flash_disk.specs.Learnt.{number, Led, LedOf, IsLed, HasPlace}
+use Rattle.flash_disk.specs.Learnt.{number, LedOf, IsLed, HasPlace}
 use Rattle.flash_disk.specs.Sound.{Sound, LeavesOut}
 use Rattle.flash_disk.specs.Moving.{IsMoved, HasKey, IsMoving}
 use Rattle.flash_disk.proofs.Learning.{same_page_is}

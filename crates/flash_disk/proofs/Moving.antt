@@ -1,10 +1,10 @@
 -- Records are copied to the front of the spare block one by one, and nothing that counts changes.
-use Rattle.std.proofs.Common.{◌≡◌, ◌≢◌, ◌⊎◌, ℕ, ◌+◌, ◌*◌, ◌/◌, ◌<◌, ◌≤◌, Bool, true, false, cond, slice_index_or, List, [], ◌∷◌, ◌++◌, length, Result, Ok, Err, OnOk, OnErr, refl, sym, ap, subst, ◌∙◌, inl, inr, ⊎_elim, arith, eq-eqb, length-append}
+use Rattle.std.proofs.Common.{◌≡◌, ◌≢◌, ◌⊎◌, ℕ, ◌+◌, ◌*◌, ◌<◌, ◌≤◌, Bool, true, false, cond, slice_index_or, List, [], ◌∷◌, ◌++◌, length, Result, Ok, Err, OnOk, OnErr, refl, sym, ap, subst, ◌∙◌, inl, inr, ⊎_elim, arith, eq-eqb, length-append}
 use Rattle.std.specs.Prelude.{Option, Some, None, IsFalse, All, nat_eq, ◌&&◌, not}
-use Rattle.std.proofs.lemmas.Bool.{cases_eq, cases_lt, cases_Bool, eqb-true, and_parts, and_from, true≢false}
-use Rattle.std.proofs.lemmas.Option.{same_Some, none-some}
+use Rattle.std.proofs.lemmas.Bool.{cases_lt, cases_Bool, eqb-true, and_parts, and_from, true≢false}
+use Rattle.std.proofs.lemmas.Option.{same_Some}
 use Rattle.std.proofs.lemmas.List.Elements.{All-push}
-use Rattle.flash_model.specs.Pages.{Pages, TornPage, TornBlock, IsPlain, program_page, erase_block, blank_page}
+use Rattle.flash_model.specs.Pages.{Pages, TornPage, IsPlain, program_page, erase_block, blank_page}
 use Rattle.flash_model.specs.State.{FlashState, IsStill, ProgramCase, EraseCase, FailsToProgram, FailsToErase, programmed, erased}
 use Rattle.flash_model.specs.FlashMedium.{FlashMedium, FlashElapses, EachFlashCase}
 use Rattle.flash_record.specs.PageRecord.{PageRecord, record_in}
@@ -23,9 +23,9 @@ use Rattle.flash_disk.specs.Sound.{files_of, Sound, IsSound, FitsIn, Fits}
 use Rattle.flash_disk.specs.Moving.{IsMoved, HasKey, IsMoving}
 use Rattle.flash_disk.proofs.Learning.{record_at_place, same_page_refl}
 use Rattle.flash_disk.proofs.Standing.{is_newest_of, keeps_agreed, keeps_strayless, keeps_tops, keeps_known, keeps_files, keeps_refl, keeps_then, keeps_len, keeps_may_grow}
-use Rattle.flash_disk.proofs.Sparing.{LiesElsewhere, led_elsewhere, spare_of}
+use Rattle.flash_disk.proofs.Sparing.{led_elsewhere, spare_of}
 use Rattle.flash_disk.proofs.Tearing.{torn_elsewhere, torn_copy, whole_copy, whole_torn, whole_here, LosesIn, torn_erase, whole_erase, erase_keeps}
-use Rattle.flash_disk.proofs.Stretches.{does_then, does_weaken, does_nothing, program_does, erase_does}
+use Rattle.flash_disk.proofs.Stretches.{does_then, does_nothing, program_does, erase_does}
 use Rattle.flash_disk.proofs.Entering.{as_said, lies_elsewhere}
 
 -- the newest record of a page to which an entry leads
@@ -41,8 +41,7 @@ record_of pages n table led key e is =
     let newest_is = is_newest_of pages key.file key.page n found.0 found.1 in
     let parts = and_parts (nat_eq found.0.says.file key.file) (nat_eq found.0.says.page key.page) newest_is.of_page in
     let file : found.0.says.file ≡ key.file = eqb-true found.0.says.file key.file parts.0 in
-    let page : found.0.says.page ≡ key.page = eqb-true found.0.says.page key.page parts.1 in
-    (
+    let page : found.0.says.page ≡ key.page = eqb-true found.0.says.page key.page parts.1 in (
       found.0,
       found.2,
       ap (λ f. let k : FilePage = record { file = f; page = found.0.says.page } in k) file ∙ ap (λ p. let k : FilePage = record { file = key.file; page = p } in k) page,
@@ -182,8 +181,7 @@ module _ (m : FlashMedium) (s : LayerState) (from to done : ℕ) (moving : IsMov
       → (x : Placed) × Led m.state.pages (places m.blocks) e x × (page_of x.says ≡ key) × (record_in bytes ≡ Some x.says)
   page_says key e is block page =
       let found = record_of m.state.pages (places m.blocks) s.table moving.sound.knows.led key e is in
-      let at : 64 * from + done ≡ number e.place = omega (arith, block, page) in
-      (
+      let at : 64 * from + done ≡ number e.place = omega (arith, block, page) in (
         found.0,
         found.1,
         found.2,

@@ -1,6 +1,5 @@
 use Rattle.std.proofs.Common.{◌*◌}
-use Rattle.flash_disk.proofs.Entering.{sound_holds}
-use Rattle.flash_disk.proofs.Adding.{puts_then, puts_not, put_since}
+use Rattle.flash_disk.proofs.Adding.{puts_then, puts_not}
 use Rattle.flash_disk.proofs.layer.Layer.append.Goals as goal
 
 pub returns-in_err-make_room-clause-does : goal.returns-in_err-make_room-clause-does

@@ -1,4 +1,4 @@
-use Rattle.std.proofs.Common.{◌≡◌, ◌+◌, ◌≤◌, refl, sym, ap, ◌∙◌, arith}
+use Rattle.std.proofs.Common.{refl, ap, ◌∙◌, arith}
 use Rattle.flash_disk.specs.declared.layer.LayerState.{LayerState}
 use Rattle.flash_disk.specs.Newest.{places}
 use Rattle.flash_disk.specs.Sound.{files_of}

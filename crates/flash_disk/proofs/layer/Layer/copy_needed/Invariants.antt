@@ -1,4 +1,4 @@
-use Rattle.std.proofs.Common.{◌≡◌, ◌+◌, ◌≤◌, length, vec_len, true}
+use Rattle.std.proofs.Common.{◌≡◌, ◌+◌, ◌≤◌, vec_len, true}
 use Rattle.flash_model.specs.FlashMedium.{FlashElapses}
 use Rattle.flash_disk.specs.Newest.{places}
 use Rattle.flash_disk.specs.Does.{Does}

@@ -1,7 +1,5 @@
-use Rattle.std.proofs.Common.{sym, ◌∙◌, refl}
 use Rattle.flash_record.specs.Stated.{stated}
-use Rattle.flash_disk.specs.Learnt.{number}
-use Rattle.flash_disk.proofs.Entering.{entered, has_place}
+use Rattle.flash_disk.proofs.Entering.{entered}
 use Rattle.flash_disk.proofs.layer.Layer.enter.Goals as goal
 
 pub returns-then-put-clause-sound : goal.returns-then-put-clause-sound
