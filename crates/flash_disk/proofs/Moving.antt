@@ -14,15 +14,15 @@ use Rattle.flash_disk.specs.declared.table.Newest.{Newest}
 use Rattle.flash_disk.specs.declared.table.Table.{Table}
 use Rattle.flash_disk.specs.declared.layer.LayerState.{LayerState}
 use Rattle.flash_disk.specs.Newest.{Placed, record_at, newest, places}
-use Rattle.flash_disk.specs.FlashFiles.{flash_files}
+use Rattle.flash_disk.specs.FlashFiles.{file_byte, flash_files}
 use Rattle.flash_disk.specs.Known.{same_page, page_of, known}
 use Rattle.flash_disk.specs.Learnt.{number, Led, LedOf, IsLed, HasPlace}
 use Rattle.flash_disk.specs.Does.{Does}
 use Rattle.flash_disk.specs.Standing.{Keeps, StandsFor}
-use Rattle.flash_disk.specs.Sound.{files_of, Sound, IsSound, FitsIn, Fits}
+use Rattle.flash_disk.specs.Sound.{files_of, Sound, IsSound, FitsIn, Fits, ShowsSame}
 use Rattle.flash_disk.specs.Moving.{IsMoved, HasKey, IsMoving}
 use Rattle.flash_disk.proofs.Learning.{record_at_place, same_page_refl}
-use Rattle.flash_disk.proofs.Standing.{is_newest_of, keeps_agreed, keeps_strayless, keeps_tops, keeps_known, keeps_files, keeps_refl, keeps_then, keeps_len, keeps_may_grow}
+use Rattle.flash_disk.proofs.Standing.{is_newest_of, keeps_agreed, keeps_strayless, keeps_tops, keeps_known, keeps_files, keeps_refl, keeps_then, keeps_byte, keeps_len, keeps_may_grow}
 use Rattle.flash_disk.proofs.Sparing.{led_elsewhere, spare_of}
 use Rattle.flash_disk.proofs.Tearing.{torn_elsewhere, torn_copy, whole_copy, whole_torn, whole_here, LosesIn, torn_erase, whole_erase, erase_keeps}
 use Rattle.flash_disk.proofs.Stretches.{does_then, does_nothing, program_does, erase_does}
@@ -368,6 +368,13 @@ pub keeps_on : (m mid : FlashMedium) (s : LayerState) → IsSound m s → IsFals
     → (after : Pages) → Keeps mid.state.pages after (places mid.blocks) → Keeps m.state.pages after (places m.blocks)
 keeps_on m mid s sound agreed blocks keeps after then = keeps_then m.state.pages mid.state.pages (places m.blocks) (sound.agreed agreed) keeps after
     (subst (λ b. Keeps mid.state.pages after (places b)) blocks then)
+
+-- no byte changed
+pub shows_same : (m now : FlashMedium) (s : LayerState) → IsSound m s → IsFalse s.disputed → Keeps m.state.pages now.state.pages (places m.blocks) → now.blocks ≡ m.blocks
+    → ShowsSame m now
+shows_same m now s sound agreed keeps blocks f i =
+    subst (λ b. file_byte now.state.pages (places b) f i ≡ file_byte m.state.pages (places m.blocks) f i) (sym blocks)
+    (keeps_byte m.state.pages now.state.pages (places m.blocks) (sound.agreed agreed) keeps f i)
 
 -- a record that might be added still may
 pub fits_kept : (m now : FlashMedium) (s t : LayerState) → IsSound m s → IsFalse s.disputed → Keeps m.state.pages now.state.pages (places m.blocks) → now.blocks ≡ m.blocks

@@ -1,5 +1,6 @@
 use Rattle.std.proofs.Common.{◌*◌}
-use Rattle.flash_disk.proofs.Adding.{puts_then, puts_not}
+use Rattle.std.proofs.lemmas.Result.{on_ok_weaker}
+use Rattle.flash_disk.proofs.Adding.{puts_then, puts_not, shown_after}
 use Rattle.flash_disk.proofs.layer.Layer.append.Goals as goal
 
 pub returns-in_err-make_room-clause-does : goal.returns-in_err-make_room-clause-does
@@ -15,6 +16,13 @@ returns-clause-does g c told =
     let now = g.F.Flash.medium c.add.new.self.flash in
     puts_then m mid now (c.make_room.ensures.time told) (c.make_room.ensures.does told) c.args.file (256 * c.args.page) c.args.len c.args.bytes.now
     (c.add.ensures.time told) (c.add.ensures.does told)
+
+pub returns-clause-shown : goal.returns-clause-shown
+returns-clause-shown g c told =
+    let m = g.F.Flash.medium c.args.self.now.flash in
+    let mid = g.F.Flash.medium c.make_room.new.self.flash in
+    let now = g.F.Flash.medium c.add.new.self.flash in
+    on_ok_weaker c.add.result (shown_after m mid now c.args.file c.args.page c.args.bytes.now (c.in_ok-make_room.ensures.shown told)) (c.add.ensures.shown told)
 
 pub add-requires-clause-fits : goal.add-requires-clause-fits
 add-requires-clause-fits g c told =

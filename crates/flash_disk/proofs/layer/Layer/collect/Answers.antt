@@ -11,7 +11,7 @@ use Rattle.flash_disk.specs.Sound.{files_of, IsSound}
 use Rattle.flash_disk.specs.Moving.{IsMoving}
 use Rattle.flash_disk.proofs.Stretches.{does_nothing}
 use Rattle.flash_disk.proofs.Moved.{all_known, finished, places_stay}
-use Rattle.flash_disk.proofs.Moving.{erase_stands, erase_failed, erase_failed_keeps, erase_keeps_all, moving_none, stands_then, keeps_on, fits_kept, stands_now}
+use Rattle.flash_disk.proofs.Moving.{erase_stands, erase_failed, erase_failed_keeps, erase_keeps_all, moving_none, stands_then, keeps_on, fits_kept, shows_same, stands_now}
 use Rattle.flash_disk.proofs.layer.Layer.collect.Goals as goal
 
 pub returns-then-self-clause-does : goal.returns-then-self-clause-does
@@ -152,6 +152,22 @@ returns-clause-fits g c told =
     let puts = subst (PutsAll t.table c.put_all.new.self) items (p.put known_all room) in
     fits_kept m now s (record t { table = c.put_all.new.self; fill = c.min.result; current = to; spare = from }) sound agreed keeps same_blocks
     (λ key has. places_stay now t from to moving c.put_all.new.self puts (p.len known_all room) (p.room known_all room) p.limit p.lens (p.stays known_all room) key (subst (λ q. HasPlace q key) (sym same_table) has))
+
+pub returns-clause-shown : goal.returns-clause-shown
+returns-clause-shown g c told =
+    let s = c.args.self.now.state in
+    let m = g.F.Flash.medium c.args.self.now.flash in
+    let look = g.F.Flash.medium c.erase_block.new.self.flash in
+    let e = c.erase_block.ensures in
+    let sound : IsSound m s = c.requires.sound told in
+    let agreed : IsFalse s.disputed = c.if-self.false in
+    let now = g.F.Flash.medium c.copy_needed.new.self.flash in
+    let t = c.copy_needed.new.self.state in
+    let n = c.copy_needed.ensures in
+    let blank = c.in_ok-erase_block.ensures.done told in
+    let same_blocks : now.blocks ≡ m.blocks = (n.time told).blocks ∙ (e.time told).blocks in
+    let keeps = keeps_on m look s sound agreed (e.time told).blocks (erase_keeps_all m look s sound agreed c.requires.full blank) now.state.pages (n.keeps told) in
+    shows_same m now s sound agreed keeps same_blocks
 
 pub returns-clause-does : goal.returns-clause-does
 returns-clause-does g c told =
