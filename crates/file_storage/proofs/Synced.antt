@@ -89,6 +89,7 @@ none_durable told s m used is = record {
   shape = refl;
   used = used;
   clean = λ tells clean. clean;
+  durable = λ differ. absurd (cc);
   quiet = λ quiet. quiet;
   written = λ differ. absurd (cc);
 }
@@ -177,6 +178,7 @@ commit_durable made held untested cost told s later changes old new sync differ 
   shape = shape;
   used = used;
   clean = clean;
+  durable = λ differs. quiet;
   quiet = λ before. quiet;
   written = λ differs.
       let most : commit_cost (shape_of s.store).kind (entries_of s.store) changes ≤ map_cost (shape_of s.store).kind (stored_in s.store) s.session.files =

@@ -22,6 +22,7 @@ pub record IsDurable (told : Bool) (s later : FileSession) (old new : Medium) : 
   pub shape : shape_of later.store ≡ shape_of s.store
   pub used : IsUsed told new.image later.store
   pub clean : IsTrue told → IsClean (shape_of s.store) old.image → IsClean (shape_of s.store) new.image
+  pub durable : is_synced s ≡ false → Quiet new
   pub quiet : Quiet old → Quiet new
   pub written : is_synced s ≡ false → IsWithin (shape_of s.store).place.copies (map_cost kinds.Files (stored_in s.store) s.session.files) (length (index_text (index_in later.store))) old.written new.written
 

@@ -87,6 +87,8 @@ impl Files {
         ensures used { IfOk result (λ o. IsUsed D.told (D.medium disk.new).image o.files.store) }
         ensures clean { IsTrue D.told → IsClean (shape_of self.store) (D.medium disk.old).image
             → OnOk result (IsClean (shape_of self.store) (D.medium disk.new).image) }
+        // What differed is durable, also on a disk that was not quiet before.
+        ensures durable { is_synced self ≡ false → IfOk result (λ o. o.refused ≡ None → Quiet (D.medium disk.new)) }
         ensures quiet { Quiet (D.medium disk.old) → OnOk result (Quiet (D.medium disk.new)) }
 
         // Where nothing differs, the disk is not called. Else in each copy the contents that differ, and the index.
@@ -146,6 +148,8 @@ impl Files {
         ensures stored { IfOk result (λ closed. OnDone closed (map_of (synced_view self) ≡ self.session.files)) }
         ensures clean { IsTrue D.told → IsClean (shape_of self.store) (D.medium disk.old).image
             → OnOk result (IsClean (shape_of self.store) (D.medium disk.new).image) }
+        // What differed is durable, also on a disk that was not quiet before.
+        ensures durable { is_synced self ≡ false → IfOk result (λ closed. OnDone closed (Quiet (D.medium disk.new))) }
         ensures quiet { Quiet (D.medium disk.old) → OnOk result (Quiet (D.medium disk.new)) }
 
         // Where nothing differs, the disk is not called. Else in each copy the contents that differ, and the index that stands.

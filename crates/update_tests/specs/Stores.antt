@@ -1,0 +1,12 @@
+-- Elements as they are stored.
+use Rattle.std.specs.Prelude.{◌≡◌}
+use Rattle.per_base.specs.declared.elements.Entry.{Entry}
+use Rattle.per_base.specs.declared.elements.Fresh.{Fresh}
+use Rattle.per_base.specs.declared.elements.StoreKind.{StoreKind}
+use Rattle.update_plan.specs.Limits.{IsFresh}
+use Rattle.update_plan.specs.Plans.{IsStored}
+
+-- the entry has the name of the element, and may be stored in each storage that may have the element
+pub record Stores (x : Fresh) (e : Entry) : Type 0 where
+  pub named : e.name ≡ x.name
+  pub stored : (kind : StoreKind) → IsFresh kind x → IsStored kind e
