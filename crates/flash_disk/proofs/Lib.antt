@@ -16,11 +16,8 @@ pub mod Sparing
 pub mod Growing
 pub mod Tearing
 pub mod Writing
-pub mod Parts
-pub mod Stretches
 pub mod Entering
 pub mod Adding
 pub mod Moving
 pub mod Moved
-pub mod DiskCases
 mod Looking
