@@ -1,5 +1,5 @@
 -- What a disk over a flash says of a write, from what the write did to the flash.
-use Rattle.std.proofs.Common.{◌≡◌, ◌⊎◌, ℕ, Bool, List, length, sym, refl, ap, ◌∙◌, subst, inl, inr, ⊎_elim}
+use Rattle.std.proofs.Common.{◌≡◌, ℕ, Bool, List, length, sym, refl, ap, ◌∙◌, subst, inl, inr, ⊎_elim}
 use Rattle.std.specs.Prelude.{IsTrue}
 use Rattle.disk_model.specs.Image.{TornImage}
 use Rattle.disk_model.specs.Case.{Case, WriteCase, WriteOrNot, Follows}

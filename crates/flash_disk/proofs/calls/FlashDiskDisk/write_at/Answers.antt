@@ -1,4 +1,4 @@
-use Rattle.std.proofs.Common.{◌≡◌, ℕ, ◌+◌, ◌*◌, ◌≤◌, Bool, List, length, subst, ap, sym, arith}
+use Rattle.std.proofs.Common.{◌≡◌, Bool, length, subst, arith}
 use Rattle.disk_model.specs.Case.{Follows, WriteCase, WriteOrNot}
 use Rattle.disk_model.specs.Medium.{Medium}
 use Rattle.flash_model.specs.FlashMedium.{FlashMedium}

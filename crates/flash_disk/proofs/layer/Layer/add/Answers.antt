@@ -4,7 +4,7 @@ use Rattle.flash_disk.specs.declared.table.Place.{Place}
 use Rattle.flash_disk.specs.declared.layer.LayerState.{LayerState}
 use Rattle.flash_disk.specs.Does.{Does}
 use Rattle.flash_disk.specs.PutPart.{PutPart}
-use Rattle.flash_disk.specs.Sound.{files_of, IsSound, FitsIn, Holds, LeavesPut, ShowsPage}
+use Rattle.flash_disk.specs.Sound.{files_of, IsSound, FitsIn, LeavesPut, ShowsPage}
 use Rattle.flash_disk.proofs.Adding.{puts_nothing, added_sound, added_put, added_shown, failed_holds, add_does}
 use Rattle.flash_disk.proofs.layer.Layer.add.Goals as goal
 
