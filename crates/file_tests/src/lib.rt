@@ -7,6 +7,8 @@ mod damage;
 #[cfg(test)]
 mod rows;
 #[cfg(test)]
+mod runs;
+#[cfg(test)]
 mod usage;
 #[cfg(test)]
 mod working;
