@@ -5,6 +5,8 @@
 #[cfg(test)]
 mod damage;
 #[cfg(test)]
+mod limits;
+#[cfg(test)]
 mod rows;
 #[cfg(test)]
 mod runs;

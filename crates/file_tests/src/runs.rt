@@ -119,6 +119,26 @@ impl Run {
         }
     }
 
+    fn delete(self, name: &Name) -> Result<Run, Fail>
+        requires { IsUsed true (mem_medium self.disk).image self.files.store }
+        ensures { IfOk result (λ run. IsUsed true (mem_medium run.disk).image run.files.store) }
+    {
+        let Run { disk, mut files } = self;
+        files.delete_file(name)?;
+        Ok(Run { disk, files })
+    }
+
+    /// Closes the storage.
+    fn close(self) -> Result<MemDisk, Fail>
+        requires { IsUsed true (mem_medium self.disk).image self.files.store }
+    {
+        let Run { mut disk, files } = self;
+        match files.close_storage(&mut disk) {
+            Ok(Closed::Done) => Ok(disk.crash(false)?),
+            _ => Err(Fail::new("not closed")),
+        }
+    }
+
     /// Cuts the power: what no sync made durable is gone.
     fn stop(self) -> Result<MemDisk, Fail> {
         Ok(self.disk.crash(false)?)
@@ -176,6 +196,26 @@ fn what_is_not_synchronised_is_gone(rt: HostRuntime) -> Result<(), Fail> {
     again(&rt, rt.alloc(), disk, &rows)
 }
 
+/// A run where `map` was deleted.
+fn without_map(alloc: Global) -> Result<Run, Fail>
+    ensures { IfOk result (λ run. IsUsed true (mem_medium run.disk).image run.files.store) }
+{
+    let name = map(alloc)?;
+    first(alloc)?.delete(&name)
+}
+
+#[test]
+fn what_is_closed_stays(rt: HostRuntime) -> Result<(), Fail> {
+    let disk = without_map(rt.alloc())?.close()?;
+    again(&rt, rt.alloc(), disk, &[(Call::Exists, "Ok(false)")])
+}
+
+#[test]
+fn what_is_not_closed_is_gone(rt: HostRuntime) -> Result<(), Fail> {
+    let disk = without_map(rt.alloc())?.stop()?;
+    again(&rt, rt.alloc(), disk, &[(Call::Exists, "Ok(true)")])
+}
+
 /// Why a sync by this handle is refused, where handle 1 reads.
 fn sync_of_a_reader(alloc: Global, handle: u32) -> Result<String, Fail> {
     let name = map(alloc)?;
@@ -220,5 +260,15 @@ fn large(alloc: Global) -> Result<Run, Fail>
 fn a_large_file_shares_its_blocks(rt: HostRuntime) -> Result<(), Fail> {
     let changed = large(rt.alloc())?.write(8)?.sync_within(16_804)?;
     changed.cut(300)?.sync_within(428)?;
+    Ok(())
+}
+
+// No block differs; the index has 82 bytes.
+#[test]
+fn an_access_writes_the_index_alone(rt: HostRuntime) -> Result<(), Fail> {
+    let name = map(rt.alloc())?;
+    first(rt.alloc())?
+        .writing(&name, OpenMode::empty())?
+        .sync_within(170)?;
     Ok(())
 }
