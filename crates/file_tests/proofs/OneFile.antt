@@ -1,5 +1,5 @@
 -- A storage with one configured file.
-use Rattle.std.proofs.Common.{◌≡◌, ℕ, ◌+◌, ◌≤◌, List, [], ◌∷◌, refl, arith}
+use Rattle.std.proofs.Common.{◌≡◌, ◌≤◌, [], ◌∷◌, refl, arith}
 use Rattle.std.proofs.lemmas.List.Sums.{sum_by-cons}
 use Rattle.per_base.specs.declared.elements.StoreKind.TheVariants.{Files}
 use Rattle.per_base.specs.Names.{IsName}
