@@ -96,6 +96,7 @@ module _ (m now : FlashMedium) (s u : LayerState) (place : Place) (r : PageRecor
     limit = sound.limit;
     files = sound.files;
     measured = sound.measured;
+    counted = sound.counted;
     within = sound.within;
     is_spare = sound.is_spare;
     agreed = sound.agreed;

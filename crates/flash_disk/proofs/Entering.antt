@@ -13,8 +13,9 @@ use Rattle.flash_disk.specs.declared.table.Newest.{Newest}
 use Rattle.flash_disk.specs.declared.table.Table.{Table}
 use Rattle.flash_disk.specs.declared.layer.LayerState.{LayerState}
 use Rattle.flash_disk.specs.Newest.{Placed, record_at, newest, places}
-use Rattle.flash_disk.specs.Known.{same_page, page_of, known, page_len, limit_of, len_in, len_known, HasLenIn, HasLen, Puts, Lengthens}
-use Rattle.flash_disk.specs.Learnt.{number, Led, LedOf, IsLed, HasPlace, Tops}
+use Rattle.flash_disk.specs.Known.{same_page, page_of, known, page_len, limit_of, len_in, len_known, HasLenIn, HasLen, Puts, Lengthens, HasRoom}
+use Rattle.flash_disk.specs.Counted.{IsCounted}
+use Rattle.flash_disk.specs.Learnt.{number, Led, LedOf, IsLed, Knows, Adds, HasPlace, Tops}
 use Rattle.flash_disk.specs.FlashFiles.{file_len, IsFileLen}
 use Rattle.flash_disk.specs.FlashFilesLaws.{file_len_is, one_len}
 use Rattle.flash_disk.specs.Sound.{Sound, IsSound, Enters, Pends, PendsAt, Holds}
@@ -66,6 +67,7 @@ as_said pages blocks s t sound = record {
   limit = sound.limit;
   files = sound.files;
   measured = sound.measured;
+  counted = sound.counted;
   within = sound.within;
   is_spare = sound.is_spare;
   agreed = sound.agreed;
@@ -83,6 +85,7 @@ same_sound old new blocks s sound same blank = record {
   limit = sound.limit;
   files = sound.files;
   measured = sound.measured;
+  counted = sound.counted;
   within = sound.within;
   is_spare = records_spare old new same (places blocks) s.spare sound.is_spare;
   agreed = λ agreed. records_agreed old new same (places blocks) (sound.agreed agreed);
@@ -170,7 +173,8 @@ module _ (old new : Pages) (blocks : ℕ) (s : LayerState) (place : Place) (r : 
     (has : IsTrue done → (f : ℕ) → HasLen mid f ⊎ (f ≡ r.file) → HasLen after f)
     (succeeds : (0 < spare mid.lens) ⊎ HasLen mid r.file → IsTrue done)
     (takes : spare mid.lens ≤ spare after.lens + 1) (in_place : HasLen mid r.file → spare mid.lens ≤ spare after.lens)
-    (records : after.newest ≡ mid.newest) (limit : limit_of after ≡ limit_of mid) where
+    (records : after.newest ≡ mid.newest) (limit : limit_of after ≡ limit_of mid)
+    (counted : IsCounted blocks s.table → e.place.block < blocks → IsCounted blocks after) where
   abbrev n : ℕ
   n = places blocks
 
@@ -264,6 +268,8 @@ module _ (old new : Pages) (blocks : ℕ) (s : LayerState) (place : Place) (r : 
         (λ own. has did k.file (inr (ap (λ (q : FilePage). q.file) (sym own.0))))
         (λ was. has did k.file (inl (subst (λ l. HasLenIn l k.file) (sym mid_lens) (sound.measured k f was))))
         (entry_now k f found);
+    counted = counted sound.counted
+        (let within = enters.adds.within in let small = enters.adds.small in let same : e.place.block ≡ place.block = ap (λ p. p.block) is.0 in omega (arith, within, small, same));
     within = sound.within;
     is_spare = adds_spare old new n place r enters.adds s.spare (lies_elsewhere old blocks s sound agreed) (λ same. enters.apart (sym block_is ∙ same));
     agreed = λ _. adds_agreed old new n place r enters.adds (sound.agreed agreed);

@@ -17,6 +17,9 @@ pub mod Growing
 pub mod Tearing
 pub mod Writing
 pub mod Entering
+pub mod Counting
+pub mod Spreading
+pub mod Missing
 pub mod Adding
 pub mod Moving
 pub mod Moved

@@ -15,7 +15,8 @@ use Rattle.flash_disk.specs.declared.layer.LayerState.{LayerState}
 use Rattle.flash_disk.specs.Newest.{Placed, record_at, newest, places}
 use Rattle.flash_disk.specs.FlashFiles.{IsFileLen}
 use Rattle.flash_disk.specs.Known.{same_page, known, page_len, limit_of, len_in, HasLenIn, HasRoom, PutsAll}
-use Rattle.flash_disk.specs.Learnt.{number, LedOf, IsLed, HasPlace}
+use Rattle.flash_disk.specs.Counted.{IsInside, IsCounted}
+use Rattle.flash_disk.specs.Learnt.{number, Led, LedOf, IsLed, HasPlace}
 use Rattle.flash_disk.specs.Sound.{Sound, LeavesOut}
 use Rattle.flash_disk.specs.Moving.{IsMoved, HasKey, IsMoving}
 use Rattle.flash_disk.proofs.Learning.{same_page_is}
@@ -158,8 +159,18 @@ module _ (m : FlashMedium) (s : LayerState) (from to : ℕ) (moving : IsMoving m
       fits = (let fits = moving.sound.knows.led.fits in omega (arith, fits, len, limit));
     }
 
-    pub finished : (fill : ℕ) → fill ≡ min (length s.moved.items) 64 → Sound pages m.blocks (record s { table = table; fill = fill; current = to; spare = from })
-    finished fill fill_is = record {
+    inside : IsCounted m.blocks s.table → All (λ (new : Entry). IsInside m.blocks new.1) s.moved.items
+    inside counted = λ k d within.
+        let moved = moving.moved k d within in
+        let was = counted.inside _ moved.old moved.known_is in record {
+          place = (let spare = moving.sound.within in let same = moving.spare in let block = moved.block in omega (arith, spare, same, block));
+          twin = subst (λ t. IfSome t (λ q. q.block < m.blocks)) (sym (ap (λ (q : Newest). q.twin) moved.entry)) was.twin;
+        }
+
+    pub finished : (fill : ℕ) → fill ≡ min (length s.moved.items) 64
+        → (IsCounted m.blocks s.table → All (λ (new : Entry). IsInside m.blocks new.1) s.moved.items → IsCounted m.blocks table)
+        → Sound pages m.blocks (record s { table = table; fill = fill; current = to; spare = from })
+    finished fill fill_is counted = record {
       knows = record {
         led = led_now;
         lens = λ file. subst (λ l. IsFileLen pages n file (len_in l file)) (sym lens) (moving.sound.knows.lens file);
@@ -169,6 +180,7 @@ module _ (m : FlashMedium) (s : LayerState) (from to : ℕ) (moving : IsMoving m
       limit = limit ∙ moving.sound.limit;
       files = (let files = moving.sound.files in let same = ap (λ l. spare l) lens in omega (arith, files, same, len, limit));
       measured = λ k v now. let was = was_known k v now (known s.table k) refl in subst (λ l. HasLenIn l k.file) (sym lens) (moving.sound.measured k was.0 was.1);
+      counted = counted moving.sound.counted (inside moving.sound.counted);
       within = moving.within;
       is_spare = spare_of pages n from (led_elsewhere pages n table led_now from leaves);
       agreed = moving.sound.agreed;

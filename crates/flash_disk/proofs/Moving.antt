@@ -60,6 +60,7 @@ kept_sound old new blocks s sound agreed full keeps there =
       limit = sound.limit;
       files = sound.files;
       measured = sound.measured;
+      counted = sound.counted;
       within = sound.within;
       is_spare = spare_of new n s.spare (led_elsewhere new n s.table knows.led s.spare (sound.apart agreed));
       agreed = λ _. keeps_agreed old new n all_agree keeps;

@@ -9,6 +9,7 @@ use Rattle.flash_disk.specs.declared.table.Table.{Table}
 use Rattle.flash_disk.specs.declared.layer.LayerState.{LayerState}
 use Rattle.flash_disk.specs.Newest.{places, page_limit, IsSpare}
 use Rattle.flash_disk.specs.Known.{same_page, known, page_len, limit_of, len_known, HasLen, EndsBy, IsLongest}
+use Rattle.flash_disk.specs.Counted.{IsCounted}
 use Rattle.flash_disk.specs.Learnt.{IsLed, IsLeaving, Knows, Tops}
 use Rattle.flash_disk.specs.Sound.{Sound, PendsAt, Holds}
 use Rattle.flash_disk.specs.FlashFilesLaws.{one_len}
@@ -45,8 +46,8 @@ module _ (pages : Pages) (blocks : ℕ) (s : LayerState) (left : Table) (leaving
   there : (key : FilePage) (e : Newest) → known left key ≡ Some e → known s.table key ≡ Some e
   there key e is = ap (λ m. get same_page m key) measures.records ∙ is
 
-  pub opened : s.spare < blocks → IsSpare pages (places blocks) s.spare → Tops pages (places blocks) s.sequence → Sound pages blocks s
-  opened within is_spare tops = record {
+  pub opened : s.spare < blocks → IsSpare pages (places blocks) s.spare → Tops pages (places blocks) s.sequence → IsCounted blocks s.table → Sound pages blocks s
+  opened within is_spare tops counted = record {
     knows = knows;
     tops = tops;
     strays = strayless_at_last pages (places blocks) s.spare left leaving (len_known s.table)
@@ -57,6 +58,7 @@ module _ (pages : Pages) (blocks : ℕ) (s : LayerState) (left : Table) (leaving
         let more = measures.spare in let is = measures.limit in omega (arith, same, more, is, room));
     measured = λ key e is. measures.measured (let fits = led.fits in omega (arith, fits, room)) key e
         (ap (λ m. get same_page m key) (sym measures.records) ∙ is);
+    counted = counted;
     within = within;
     is_spare = is_spare;
     agreed = λ calm. agreed_at_last pages (places blocks) s.spare left leaving (λ key e is. measures.calm calm key e (there key e is));

@@ -3,6 +3,7 @@ pub mod NewestLaws
 pub mod FlashFiles
 pub mod FlashFilesLaws
 pub mod Known
+pub mod Counted
 pub mod Learnt
 pub mod Standing
 pub mod PutPart
@@ -10,6 +11,7 @@ pub mod Does
 pub mod FlashView
 pub mod FlashDiskMedium
 pub mod Sound
+pub mod OwnFaults
 pub mod Writes
 pub mod Moving
 pub mod FlashDiskLaws

@@ -11,7 +11,8 @@ use Rattle.flash_disk.specs.declared.table.Place.{Place}
 use Rattle.flash_disk.specs.declared.table.Table.{Table}
 use Rattle.flash_disk.specs.declared.layer.LayerState.{LayerState}
 use Rattle.flash_disk.specs.Newest.{record_at, places, page_limit, IsSpare}
-use Rattle.flash_disk.specs.Known.{known, page_len, limit_of, HasLen}
+use Rattle.flash_disk.specs.Known.{known, page_len, limit_of, page_of, HasLen}
+use Rattle.flash_disk.specs.Counted.{IsCounted}
 use Rattle.flash_disk.specs.Learnt.{number, Knows, Adds, HasPlace, Tops}
 use Rattle.flash_disk.specs.FlashFiles.{file_byte, file_len, flash_files}
 use Rattle.flash_disk.specs.Standing.{IsAgreed, IsStrayless, MayGrow, HasSpare}
@@ -44,6 +45,7 @@ pub record Sound (pages : Pages) (blocks : ℕ) (s : LayerState) : Type 0 where
   -- there is memory for the length of a file more for each page more
   pub files : limit_of s.table ≤ page_len s.table + spare s.table.lens
   pub measured : (key : FilePage) (entry : Newest) → known s.table key ≡ Some entry → HasLen s.table key.file
+  pub counted : IsCounted blocks s.table
   -- the spare block may be erased
   pub within : s.spare < blocks
   pub is_spare : IsSpare pages (places blocks) s.spare

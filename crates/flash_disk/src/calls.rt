@@ -1,6 +1,8 @@
 //! The calls of a disk.
 
-ghost use Rattle.std.specs.Prelude.{◌≡◌, ◌+◌, ◌*◌, ◌≤◌};
+ghost use Rattle.std.specs.Prelude.{◌≡◌, ◌+◌, ◌-◌, ◌*◌, ◌≤◌, IsTrue, IfOk, OnOk, OnErr, length, take, drop, min};
+ghost use Rattle.per_base.specs.Causes.{Rose};
+ghost use Rattle.disk_model.specs.Medium.{Quiet, Elapses, OnlyReads, WritesNothing};
 
 use crate::disk::FlashDisk;
 use disk_model::{Disk, DiskFailed};
@@ -16,7 +18,18 @@ impl<F: Flash> Disk for FlashDisk<F> {
 
     ghost lawful = { λ disk. disk_is_lawful F.told (F.medium disk.flash) disk.own disk.written (F.lawful disk.flash) };
 
-    fn read(&mut self, file: u32, at: u64, out: &mut [u8]) -> Result<usize, DiskFailed> {
+    fn read(&mut self, file: u32, at: u64, out: &mut [u8]) -> Result<usize, DiskFailed>
+        ensures count { IfOk result (λ n. n ≤ length out.old) }
+        ensures bytes { IsTrue F.told → IfOk result (λ n.
+            (n ≡ min (length out.old) (length ((flash_disk_medium F.told (F.medium self.old.flash) self.old.own self.old.written).image file) - at))
+            × (take n out.new ≡ take n (drop at ((flash_disk_medium F.told (F.medium self.old.flash) self.old.own self.old.written).image file)))) }
+        ensures reads { OnlyReads (flash_disk_medium F.told (F.medium self.old.flash) self.old.own self.old.written) (flash_disk_medium F.told (F.medium self.new.flash) self.new.own self.new.written) }
+        ensures time { Elapses (flash_disk_medium F.told (F.medium self.old.flash) self.old.own self.old.written) (flash_disk_medium F.told (F.medium self.new.flash) self.new.own self.new.written) }
+        ensures cause { OnErr result (Rose (flash_disk_medium F.told (F.medium self.old.flash) self.old.own self.old.written).faults (flash_disk_medium F.told (F.medium self.new.flash) self.new.own self.new.written).faults) }
+
+        // No fault is its own.
+        ensures own { self.new.own ≡ self.old.own }
+    {
         self.layer.make_sure()?;
         self.layer.read_file(file, at, out)
     }
@@ -31,12 +44,29 @@ impl<F: Flash> Disk for FlashDisk<F> {
         Ok(())
     }
 
-    fn size(&mut self, file: u32) -> Result<u64, DiskFailed> {
+    fn size(&mut self, file: u32) -> Result<u64, DiskFailed>
+        ensures size { IsTrue F.told → IfOk result (λ n. n ≡ length ((flash_disk_medium F.told (F.medium self.old.flash) self.old.own self.old.written).image file)) }
+        ensures reads { OnlyReads (flash_disk_medium F.told (F.medium self.old.flash) self.old.own self.old.written) (flash_disk_medium F.told (F.medium self.new.flash) self.new.own self.new.written) }
+        ensures time { Elapses (flash_disk_medium F.told (F.medium self.old.flash) self.old.own self.old.written) (flash_disk_medium F.told (F.medium self.new.flash) self.new.own self.new.written) }
+        ensures cause { OnErr result (Rose (flash_disk_medium F.told (F.medium self.old.flash) self.old.own self.old.written).faults (flash_disk_medium F.told (F.medium self.new.flash) self.new.own self.new.written).faults) }
+
+        // No fault is its own.
+        ensures own { self.new.own ≡ self.old.own }
+    {
         self.layer.make_sure()?;
         Ok(self.layer.file_size(file))
     }
 
-    fn sync(&mut self) -> Result<(), DiskFailed> {
+    fn sync(&mut self) -> Result<(), DiskFailed>
+        ensures quiet { OnOk result (Quiet (flash_disk_medium F.told (F.medium self.new.flash) self.new.own self.new.written)) }
+        ensures failed { OnErr result (OnlyReads (flash_disk_medium F.told (F.medium self.old.flash) self.old.own self.old.written) (flash_disk_medium F.told (F.medium self.new.flash) self.new.own self.new.written)) }
+        ensures writes_nothing { WritesNothing (flash_disk_medium F.told (F.medium self.old.flash) self.old.own self.old.written) (flash_disk_medium F.told (F.medium self.new.flash) self.new.own self.new.written) }
+        ensures time { Elapses (flash_disk_medium F.told (F.medium self.old.flash) self.old.own self.old.written) (flash_disk_medium F.told (F.medium self.new.flash) self.new.own self.new.written) }
+        ensures cause { OnErr result (Rose (flash_disk_medium F.told (F.medium self.old.flash) self.old.own self.old.written).faults (flash_disk_medium F.told (F.medium self.new.flash) self.new.own self.new.written).faults) }
+
+        // No fault is its own.
+        ensures own { self.new.own ≡ self.old.own }
+    {
         self.layer.make_sure()?;
         match self.layer.flash.settle() {
             Ok(()) => Ok(()),

@@ -1,12 +1,13 @@
 //! Records that are added to the block that is being filled, and blocks that are made free for it.
 
-ghost use Rattle.std.specs.Prelude.{◌≡◌, ◌+◌, ◌*◌, ◌≤◌, ◌<◌, ℕ, IsTrue, IsFalse, IfOk, IfSome, OnOk, OnErr, Some, None, length, vec_len};
+ghost use Rattle.std.specs.Prelude.{◌≡◌, ◌⊎◌, ◌+◌, ◌*◌, ◌≤◌, ◌<◌, ℕ, IsTrue, IsFalse, IfOk, IfSome, OnOk, OnErr, Some, None, length, vec_len, vec_capacity};
 ghost use Rattle.flash_model.specs.State.{IsStill};
 ghost use Rattle.flash_model.specs.FlashMedium.{FlashElapses, EachFlashCase};
 ghost use Rattle.flash_model.specs.Pages.{Pages};
 ghost use Rattle.flash_record.specs.PageRecord.{PageRecord, record_in};
 ghost use Rattle.flash_record.specs.Stated.{stated};
 ghost use Rattle.flash_disk.specs.Known.{known, page_of};
+ghost use Rattle.flash_disk.specs.Counted.{entries_in, copied_below};
 ghost use Rattle.flash_disk.specs.Does.{Does};
 ghost use Rattle.flash_disk.specs.PutPart.{PutPart};
 ghost use Rattle.flash_disk.specs.Newest.{places};
@@ -23,6 +24,7 @@ use flash_record::{RECORD_BYTES, Record, read_record, record_page};
 impl<F: Flash> Layer<F> {
     ghost use Rattle.flash_disk.specs.Sound.{files_of, Sound, IsSound, Holds, FitsIn, Enters, LeavesPut, ShowsPage, ShowsSame};
     ghost use Rattle.flash_disk.specs.Moving.{IsMoving};
+    ghost use Rattle.flash_disk.specs.OwnFaults.{StopsAdding};
 
     // Reads again what a failed call may have left anything in.
     pub(crate) fn make_sure(&mut self) -> Result<(), DiskFailed>
@@ -57,6 +59,7 @@ impl<F: Flash> Layer<F> {
             × (self.new ≡ record self.old { state = record self.old.state { sequence = sequence } })) }
         ensures none { OnErr result (self.new.state ≡ self.old.state) }
         ensures cause { HasCause ((F.medium self.old.flash).faults + self.old.own) ((F.medium self.new.flash).faults + self.new.own) result }
+        ensures last { OnErr result (self.old.state.sequence ≡ 18446744073709551615) }
     {
         if self.state.sequence == u64::MAX {
             return Err(self.fault());
@@ -88,6 +91,7 @@ impl<F: Flash> Layer<F> {
         ensures later { self.old.state.sequence ≤ self.new.state.sequence }
         ensures time { IsTrue F.told → FlashElapses (F.medium self.old.flash) (F.medium self.new.flash) }
         ensures cause { HasCause ((F.medium self.old.flash).faults + self.old.own) ((F.medium self.new.flash).faults + self.new.own) result }
+        ensures own { IsTrue F.told → 64 ≤ vec_capacity self.old.state.moved → (self.new.own ≡ self.old.own) ⊎ StopsAdding self.old.state }
     {
         self.make_room()?;
         self.add(file, page, len, bytes)
@@ -112,6 +116,7 @@ impl<F: Flash> Layer<F> {
         ensures later { self.old.state.sequence ≤ self.new.state.sequence }
         ensures time { IsTrue F.told → FlashElapses (F.medium self.old.flash) (F.medium self.new.flash) }
         ensures cause { HasCause ((F.medium self.old.flash).faults + self.old.own) ((F.medium self.new.flash).faults + self.new.own) result }
+        ensures own { IsTrue F.told → (self.new.own ≡ self.old.own) ⊎ (self.old.state.sequence ≡ 18446744073709551615) }
     {
         let sequence = self.next_sequence()?;
         let place = Place {
@@ -171,6 +176,8 @@ impl<F: Flash> Layer<F> {
         ensures sequence { self.new.state.sequence ≡ self.old.state.sequence }
         ensures time { IsTrue F.told → FlashElapses (F.medium self.old.flash) (F.medium self.new.flash) }
         ensures cause { HasCause ((F.medium self.old.flash).faults + self.old.own) ((F.medium self.new.flash).faults + self.new.own) result }
+        ensures memory { vec_capacity self.old.state.moved ≤ vec_capacity self.new.state.moved }
+        ensures own { IsTrue F.told → 64 ≤ vec_capacity self.old.state.moved → IsFalse self.old.state.disputed → self.new.own ≡ self.old.own }
     {
         if self.state.fill < BLOCK_PAGES {
             return Ok(());
@@ -197,10 +204,13 @@ impl<F: Flash> Layer<F> {
         ensures sequence { self.new.state.sequence ≡ self.old.state.sequence }
         ensures time { IsTrue F.told → FlashElapses (F.medium self.old.flash) (F.medium self.new.flash) }
         ensures cause { HasCause ((F.medium self.old.flash).faults + self.old.own) ((F.medium self.new.flash).faults + self.new.own) result }
+        ensures light { IsTrue F.told → OnOk result (self.new.state.fill < 64) }
+        ensures memory { vec_capacity self.old.state.moved ≤ vec_capacity self.new.state.moved }
+        ensures own { IsTrue F.told → 64 ≤ vec_capacity self.old.state.moved → IsFalse self.old.state.disputed → self.new.own ≡ self.old.own }
     {
         let target = self.state.spare;
         let victim = self.state.table.lightest_but(target);
-        if self.state.disputed || victim == target || victim >= self.flash.blocks() {
+        if self.state.disputed || victim == target {
             return Err(self.fault());
         }
         self.erase_block(target)?;
@@ -226,6 +236,9 @@ impl<F: Flash> Layer<F> {
             (F.medium self.old.flash) (F.medium self.new.flash) }
         ensures time { IsTrue F.told → FlashElapses (F.medium self.old.flash) (F.medium self.new.flash) }
         ensures cause { HasCause ((F.medium self.old.flash).faults + self.old.own) ((F.medium self.new.flash).faults + self.new.own) result }
+        ensures few { vec_len self.new.state.moved ≤ entries_in self.old.state.table from }
+        ensures memory { vec_capacity self.old.state.moved ≤ vec_capacity self.new.state.moved }
+        ensures own { IsTrue F.told → 64 ≤ vec_capacity self.old.state.moved → self.new.own ≡ self.old.own }
     {
         for page in 0..BLOCK_PAGES {
             self.copy_one(Place { block: from, page }, to)?;
@@ -249,6 +262,10 @@ impl<F: Flash> Layer<F> {
             (F.medium self.old.flash) (F.medium self.new.flash) }
         ensures time { IsTrue F.told → FlashElapses (F.medium self.old.flash) (F.medium self.new.flash) }
         ensures cause { HasCause ((F.medium self.old.flash).faults + self.old.own) ((F.medium self.new.flash).faults + self.new.own) result }
+        ensures few { vec_len self.old.state.moved ≤ copied_below self.old.state.table from.block from.page
+            → vec_len self.new.state.moved ≤ copied_below self.old.state.table from.block (from.page + 1) }
+        ensures memory { vec_capacity self.old.state.moved ≤ vec_capacity self.new.state.moved }
+        ensures own { IsTrue F.told → 64 ≤ vec_capacity self.old.state.moved → self.new.own ≡ self.old.own }
     {
         let mut page = BLANK_PAGE;
         self.read_page(from, &mut page)?;

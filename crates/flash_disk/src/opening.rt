@@ -1,10 +1,11 @@
 //! Opening a flash as a disk.
 
-ghost use Rattle.std.specs.Prelude.{◌≡◌, ◌⊎◌, ◌↔◌, ◌≤◌, ◌<◌, ◌+◌, ◌*◌, ℕ, IsTrue, IsFalse, IfOk, IfErr, IfSome, MatchResult, OnOk, Some, None, length, slice_index};
+ghost use Rattle.std.specs.Prelude.{◌≡◌, ◌⊎◌, ◌↔◌, ◌≤◌, ◌<◌, ◌+◌, ◌*◌, ℕ, IsTrue, IsFalse, IfOk, IfErr, IfSome, MatchResult, OnOk, Some, None, length, slice_index, vec_capacity};
 ghost use Rattle.flash_record.specs.PageRecord.{record_in};
 ghost use Rattle.flash_record.specs.Stated.{stated};
 ghost use Rattle.flash_disk.specs.Newest.{record_at, places, page_limit, IsSpare, NeedsPlace, FindsSpare, IsUsable, IsUnusable, SaysUsable};
 ghost use Rattle.flash_disk.specs.Known.{known, limit_of, page_of, IsEmptyTable};
+ghost use Rattle.flash_disk.specs.Counted.{IsCounted};
 ghost use Rattle.flash_disk.specs.Learnt.{number, HasLearnt, LearnsNext, LearnsAll, SaysTheSame, TwinAt, RivalledAt, Tops, LeavesBlock};
 ghost use Rattle.flash_model.specs.State.{settle_pages};
 ghost use Rattle.per_base.specs.Causes.{HasCause, Rose};
@@ -82,6 +83,8 @@ fn empty_state(alloc: Global, blocks: u32) -> Result<LayerState, AllocError>
     ensures table { IfOk result (λ state. IsEmptyTable state.table × (limit_of state.table ≡ page_limit blocks)) }
     ensures full { IfOk result (λ state. state.fill ≡ 64) }
     ensures sure { IfOk result (λ state. state.unsure ≡ None) }
+    ensures counted { 4 ≤ blocks → blocks ≤ 4096 → IfOk result (λ state. IsCounted blocks state.table) }
+    ensures moved { IfOk result (λ state. 64 ≤ vec_capacity state.moved) }
 {
     Ok(LayerState {
         table: Table::new(alloc, blocks)?,
@@ -107,6 +110,7 @@ impl<F: Flash> Layer<F> {
         requires limit { limit_of self.old.state.table ≡ page_limit blocks }
         requires full { self.old.state.fill ≡ 64 }
         requires sure { self.old.state.unsure ≡ None }
+        requires counted { IsCounted blocks self.old.state.table }
         ensures flash { HasCause (F.medium self.old.flash).faults (F.medium self.new.flash).faults result }
         ensures pages { IsTrue F.told → (F.medium self.new.flash).state.pages ≡ (F.medium self.old.flash).state.pages }
         ensures blocks { (F.medium self.new.flash).blocks ≡ (F.medium self.old.flash).blocks }
@@ -151,6 +155,8 @@ impl<F: Flash> Layer<F> {
             → IfOk result (LearnsAll (F.medium self.old.flash).state.pages (places blocks) (limit_of self.old.state.table) self.new.state.table) }
         ensures tops { IsTrue F.told → Tops (F.medium self.old.flash).state.pages 0 self.old.state.sequence
             → IfOk result (λ fits. IsTrue fits → Tops (F.medium self.old.flash).state.pages (places blocks) self.new.state.sequence) }
+        ensures counted { IsCounted (F.medium self.old.flash).blocks self.old.state.table
+            → IsCounted (F.medium self.old.flash).blocks self.new.state.table }
     {
         for block in 0..blocks {
             if !self.learn_block(block)? {
@@ -175,6 +181,8 @@ impl<F: Flash> Layer<F> {
             → IfOk result (LearnsAll (F.medium self.old.flash).state.pages (64 * block + 64) (limit_of self.old.state.table) self.new.state.table) }
         ensures tops { IsTrue F.told → Tops (F.medium self.old.flash).state.pages (64 * block) self.old.state.sequence
             → IfOk result (λ fits. IsTrue fits → Tops (F.medium self.old.flash).state.pages (64 * block + 64) self.new.state.sequence) }
+        ensures counted { IsCounted (F.medium self.old.flash).blocks self.old.state.table
+            → IsCounted (F.medium self.old.flash).blocks self.new.state.table }
     {
         for page in 0..BLOCK_PAGES {
             if !self.learn_page(Place { block, page })? {
@@ -222,6 +230,8 @@ impl<F: Flash> Layer<F> {
         ensures left { IsTrue F.told → self.old.state.spare < (F.medium self.old.flash).blocks
             → OnOk result (LeavesBlock (F.medium self.old.flash).state.pages (places (F.medium self.old.flash).blocks) self.old.state.spare
             0 64 self.old.state.table self.new.state.table) }
+        ensures counted { IsCounted (F.medium self.old.flash).blocks self.old.state.table
+            → IsCounted (F.medium self.old.flash).blocks self.new.state.table }
     {
         let spare = self.state.spare;
         for page in 0..BLOCK_PAGES {
@@ -245,6 +255,8 @@ impl<F: Flash> Layer<F> {
         ensures left { IsTrue F.told → place.block < (F.medium self.old.flash).blocks → place.page < 64
             → OnOk result (LeavesBlock (F.medium self.old.flash).state.pages (places (F.medium self.old.flash).blocks) place.block
             place.page (place.page + 1) self.old.state.table self.new.state.table) }
+        ensures counted { IsCounted (F.medium self.old.flash).blocks self.old.state.table
+            → IsCounted (F.medium self.old.flash).blocks self.new.state.table }
     {
         let mut page = BLANK_PAGE;
         self.read_page(place, &mut page)?;
@@ -333,6 +345,8 @@ impl<F: Flash> Layer<F> {
             → IfOk result (LearnsNext (F.medium self.old.flash).state.pages (number place + 1) self.old.state.table self.new.state.table) }
         ensures tops { IsTrue F.told → Tops (F.medium self.old.flash).state.pages (number place) self.old.state.sequence
             → OnOk result (Tops (F.medium self.old.flash).state.pages (number place + 1) self.new.state.sequence) }
+        ensures counted { IsCounted (F.medium self.old.flash).blocks self.old.state.table
+            → IsCounted (F.medium self.old.flash).blocks self.new.state.table }
     {
         let mut page = BLANK_PAGE;
         self.read_page(place, &mut page)?;
@@ -381,6 +395,8 @@ impl<F: Flash> Layer<F> {
         ensures learns { IsTrue F.told → HasLearnt (F.medium self.old.flash).state.pages (number place) self.old.state.table
             → record_at (F.medium self.old.flash).state.pages (number place) ≡ Some (stated found.entry)
             → IfOk result (LearnsNext (F.medium self.old.flash).state.pages (number place + 1) self.old.state.table self.new.state.table) }
+        ensures counted { IsCounted (F.medium self.old.flash).blocks self.old.state.table
+            → IsCounted (F.medium self.old.flash).blocks self.new.state.table }
     {
         let mut page = BLANK_PAGE;
         self.read_page(old.place, &mut page)?;
@@ -427,7 +443,8 @@ fn filled_of(bytes: &[u8]) -> u32
 
 // Where the twin of a newest record lies, after another with its number was found in this place.
 fn twin_at(page: &[u8], found: Record<'_>, old: Newest, place: Place) -> Option<Place>
-    ensures { TwinAt (record_in page.now) (stated found.entry) old place result }
+    ensures at { TwinAt (record_in page.now) (stated found.entry) old place result }
+    ensures one { (result ≡ old.twin) ⊎ (result ≡ Some place) }
 {
     if place.block == old.place.block || !says_the_same(page, found) {
         return old.twin;

@@ -1,6 +1,6 @@
 //! Reads and writes of the bytes of files, page by page.
 
-ghost use Rattle.std.specs.Prelude.{◌≡◌, ◌+◌, ◌-◌, ◌*◌, ◌/◌, ◌≤◌, ◌<◌, ◌^◌, ℕ, IsTrue, IfOk, OnOk, OnErr, None, length, min, max, take, drop, nat_lt, slice_index, if◌then◌else◌};
+ghost use Rattle.std.specs.Prelude.{◌≡◌, ◌↔◌, ◌+◌, ◌-◌, ◌*◌, ◌/◌, ◌≤◌, ◌<◌, ◌^◌, ℕ, IsTrue, IfOk, OnOk, OnErr, None, length, min, max, take, drop, nat_lt, slice_index, if◌then◌else◌};
 ghost use Rattle.per_base.specs.Causes.{HasCause};
 ghost use Rattle.disk_model.specs.Image.{put_image};
 ghost use Rattle.flash_model.specs.State.{IsStill};
@@ -8,7 +8,9 @@ ghost use Rattle.flash_model.specs.FlashMedium.{FlashElapses, EachFlashCase};
 ghost use Rattle.flash_record.specs.PageRecord.{record_in};
 ghost use Rattle.flash_disk.specs.Newest.{places};
 ghost use Rattle.flash_disk.specs.FlashFiles.{record_byte, file_byte, file_len, flash_files};
-ghost use Rattle.flash_disk.specs.Known.{len_known};
+ghost use Rattle.std.specs.Int.{div_ceil};
+ghost use Rattle.flash_disk.specs.Known.{len_known, limit_of, page_len};
+ghost use Rattle.flash_disk.specs.Counted.{missing};
 ghost use Rattle.flash_disk.specs.Learnt.{IsContent, HasPlace, Knows};
 ghost use Rattle.flash_disk.specs.Does.{Does};
 ghost use Rattle.flash_disk.specs.PutPart.{PutPart};
@@ -156,7 +158,10 @@ impl<F: Flash> Layer<F> {
 
     // Whether there is room for a write that ends here.
     fn has_room(&self, file: u32, at: u64, end: u64) -> bool
-        requires { end ≤ 1099511627776 }
+        requires end { end ≤ 1099511627776 }
+        requires ordered { at ≤ end }
+        ensures { IsTrue result ↔ (missing self.now.state.table file (at / 256) (div_ceil end 256 - at / 256)
+            ≤ limit_of self.now.state.table - page_len self.now.state.table) }
     {
         let mut new: usize = 0;
         for page in at / PAGE..end.div_ceil(PAGE) {

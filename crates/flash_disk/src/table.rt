@@ -1,8 +1,9 @@
 //! Where the newest record of each page of a file lies, and how long each file is.
 
-ghost use Rattle.std.specs.Prelude.{◌≡◌, ◌≢◌, ◌⊎◌, ◌↔◌, ◌≤◌, ◌<◌, ◌+◌, ◌-◌, ◌*◌, ◌==◌, ℕ, IfOk, IsSome, IsTrue, IsFalse, Some, None, All, max, if◌then◌else◌};
+ghost use Rattle.std.specs.Prelude.{◌≡◌, ◌≢◌, ◌⊎◌, ◌↔◌, ◌≤◌, ◌<◌, ◌+◌, ◌-◌, ◌*◌, ◌==◌, ℕ, IfOk, IsSome, IsTrue, IsFalse, Some, None, All, length, max, if◌then◌else◌};
 ghost use Rattle.std.specs.HashMap.{get, hash_map_len, spare};
 ghost use Rattle.flash_disk.specs.Known.{same_page, len_in, HasLenIn, IsLongest, EndsBy};
+ghost use Rattle.flash_disk.specs.Counted.{leads_into, had_in, entries_in, IsInside, IsCounted};
 
 use std::alloc::{AllocError, Global};
 use std::collections::HashMap;
@@ -55,6 +56,7 @@ impl Table {
     pub fn new(alloc: Global, blocks: u32) -> Result<Table, AllocError>
         ensures empty { IfOk result IsEmptyTable }
         ensures limit { IfOk result (λ table. limit_of table ≡ 64 * (blocks - 2)) }
+        ensures counted { 4 ≤ blocks → blocks ≤ 4096 → IfOk result (IsCounted blocks) }
     {
         let limit = 64 * (blocks.saturating_sub(2) as usize);
         Ok(Table {
@@ -101,6 +103,7 @@ impl Table {
         ensures same { IsFalse result → SameRecords self.old self.new }
         ensures limit { limit_of self.new ≡ limit_of self.old }
         ensures lens { self.new.lens ≡ self.old.lens }
+        ensures counted { (blocks : ℕ) → IsCounted blocks self.old → IsInside blocks new → IsCounted blocks self.new }
     {
         let old = self.find(key);
         if !self.store(key, new) {
@@ -120,6 +123,11 @@ impl Table {
         ensures same { IsFalse result → SameRecords self.old self.new }
         ensures limit { limit_of self.new ≡ limit_of self.old }
         ensures lens { self.new.lens ≡ self.old.lens }
+        ensures counts { IsTrue result → (block : ℕ)
+            → entries_in self.new block + had_in block (known self.old key) ≡ entries_in self.old block + leads_into block new }
+        ensures entries { IsFalse result → (block : ℕ) → entries_in self.new block ≡ entries_in self.old block }
+        ensures load { self.new.load ≡ self.old.load }
+        ensures blocks { self.new.blocks ≡ self.old.blocks }
     {
         if self.newest.contains_key(&key) {
             self.replace(key, new);
@@ -134,6 +142,10 @@ impl Table {
         ensures put { Puts self.old self.new key new }
         ensures limit { limit_of self.new ≡ limit_of self.old }
         ensures lens { self.new.lens ≡ self.old.lens }
+        ensures counts { (block : ℕ)
+            → entries_in self.new block + had_in block (known self.old key) ≡ entries_in self.old block + leads_into block new }
+        ensures load { self.new.load ≡ self.old.load }
+        ensures blocks { self.new.blocks ≡ self.old.blocks }
     {
         if let Some(slot) = self.newest.get_mut(&key) {
             *slot = new;
@@ -149,6 +161,7 @@ impl Table {
             → (key : FilePage) → IsSome (known self.old key) → IsSome (known self.new key) }
         ensures limit { limit_of self.new ≡ limit_of self.old }
         ensures lens { self.new.lens ≡ self.old.lens }
+        ensures counted { (blocks : ℕ) → All (λ new. IsInside blocks new.1) news.now → IsCounted blocks self.old → IsCounted blocks self.new }
     {
         for new in news {
             self.put(new.0, new.1);
@@ -165,6 +178,7 @@ impl Table {
         ensures in_place { HasLen self.old file → spare self.old.lens ≤ spare self.new.lens }
         ensures records { self.new.newest ≡ self.old.newest }
         ensures limit { limit_of self.new ≡ limit_of self.old }
+        ensures counted { (blocks : ℕ) → IsCounted blocks self.old → IsCounted blocks self.new }
     {
         raise(&mut self.lens, file, len)
     }
@@ -200,6 +214,7 @@ impl Table {
         ensures spare { spare self.old.lens ≤ spare self.new.lens + page_len self.old }
         ensures records { self.new.newest ≡ self.old.newest }
         ensures limit { limit_of self.new ≡ limit_of self.old }
+        ensures counted { (blocks : ℕ) → IsCounted blocks self.old → IsCounted blocks self.new }
     {
         raise_all(&mut self.lens, &self.newest);
     }
@@ -229,6 +244,11 @@ impl Table {
         ensures records { SameRecords self.old self.new }
         ensures limit { limit_of self.new ≡ limit_of self.old }
         ensures lens { self.new.lens ≡ self.old.lens }
+        ensures newest { self.new.newest ≡ self.old.newest }
+        ensures blocks { self.new.blocks ≡ self.old.blocks }
+        ensures loads { length self.new.load.items ≡ length self.old.load.items }
+        ensures counts { load_known self.old newest.place.block < 4294967295 → newest.place.block < length self.old.load.items
+            → (block : ℕ) → load_known self.new block ≡ load_known self.old block + leads_into block newest }
     {
         if let Some(load) = self.load.get_mut(newest.place.block as usize) {
             *load = load.saturating_add(1);
@@ -239,6 +259,11 @@ impl Table {
         ensures records { SameRecords self.old self.new }
         ensures limit { limit_of self.new ≡ limit_of self.old }
         ensures lens { self.new.lens ≡ self.old.lens }
+        ensures newest { self.new.newest ≡ self.old.newest }
+        ensures blocks { self.new.blocks ≡ self.old.blocks }
+        ensures loads { length self.new.load.items ≡ length self.old.load.items }
+        ensures counts { newest.place.block < length self.old.load.items
+            → (block : ℕ) → load_known self.new block ≡ load_known self.old block - leads_into block newest }
     {
         if let Some(load) = self.load.get_mut(newest.place.block as usize) {
             *load = load.saturating_sub(1);

@@ -1,4 +1,4 @@
-use Rattle.std.proofs.Common.{◌≡◌, ◌+◌, ◌*◌, sym, ap, subst, ◌∙◌}
+use Rattle.std.proofs.Common.{◌≡◌, ◌+◌, ◌*◌, sym, ap, inl, inr, subst, ◌∙◌}
 use Rattle.flash_record.specs.PageRecord.{PageRecord}
 use Rattle.flash_disk.specs.declared.table.Place.{Place}
 use Rattle.flash_disk.specs.declared.layer.LayerState.{LayerState}
@@ -142,3 +142,12 @@ returns-in-Err-clause-does g c told =
     subst (λ f. Does (LeavesPut c.args.file (256 * c.args.page) c.args.bytes.now c.args.len (files_of (g.F.Flash.medium f)) (g.F.Flash.medium f).blocks) (g.F.Flash.medium f) now) c.next_sequence.ensures.flash
     (add_does m now s u place r c.page_with.result sound c.requires.room fits c.requires.bytes at next.0 on c.page_with.ensures
     c.program_page.result (c.program_page.ensures.done told) (c.program_page.ensures.failed told) (c.program_page.ensures.during told))
+
+pub returns-in_err-sequence-clause-own : goal.returns-in_err-sequence-clause-own
+returns-in_err-sequence-clause-own g c told = inr c.in_err-sequence.ensures.last
+
+pub returns-in-Ok-clause-own : goal.returns-in-Ok-clause-own
+returns-in-Ok-clause-own g c told = inl (c.enter.ensures.own ∙ (c.program_page.ensures.own told ∙ ap (λ q. q.own) c.in_ok-sequence.ensures.next.1))
+
+pub returns-in-Err-clause-own : goal.returns-in-Err-clause-own
+returns-in-Err-clause-own g c told = inl (c.program_page.ensures.own told ∙ ap (λ q. q.own) c.in_ok-sequence.ensures.next.1)

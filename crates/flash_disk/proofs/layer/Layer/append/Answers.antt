@@ -1,4 +1,5 @@
-use Rattle.std.proofs.Common.{◌*◌}
+use Rattle.std.proofs.Common.{◌*◌, inl, inr, ⊎_elim, sym, ◌∙◌}
+use Rattle.std.proofs.lemmas.Bool.{cases_Bool}
 use Rattle.std.proofs.lemmas.Result.{on_ok_weaker}
 use Rattle.flash_disk.proofs.Adding.{puts_then, puts_not, shown_after}
 use Rattle.flash_disk.proofs.layer.Layer.append.Goals as goal
@@ -27,3 +28,18 @@ returns-clause-shown g c told =
 pub add-requires-clause-fits : goal.add-requires-clause-fits
 add-requires-clause-fits g c told =
     c.make_room.ensures.fits told c.args.file c.args.page c.args.len c.args.bytes.now (c.requires.fits told)
+
+pub returns-in_err-make_room-clause-own : goal.returns-in_err-make_room-clause-own
+returns-in_err-make_room-clause-own g c told enough = ⊎_elim
+    (λ disputed. inr (inr disputed))
+    (λ calm. inl (c.make_room.ensures.own told enough calm))
+    (cases_Bool c.args.self.now.state.disputed)
+
+pub returns-clause-own : goal.returns-clause-own
+returns-clause-own g c told enough = ⊎_elim
+    (λ disputed. inr (inr disputed))
+    (λ calm. ⊎_elim
+    (λ same. inl (same ∙ c.make_room.ensures.own told enough calm))
+    (λ last. inr (inl (sym c.make_room.ensures.sequence ∙ last)))
+    (c.add.ensures.own told))
+    (cases_Bool c.args.self.now.state.disputed)

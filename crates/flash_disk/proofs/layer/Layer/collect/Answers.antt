@@ -1,5 +1,5 @@
-use Rattle.std.proofs.Common.{◌≡◌, ◌<◌, refl, sym, ap, subst, ◌∙◌, arith}
-use Rattle.std.specs.Prelude.{All, IsSome, IsFalse}
+use Rattle.std.proofs.Common.{◌≡◌, ◌≢◌, ◌<◌, min, length, ⊎_elim, true≢false, refl, sym, ap, subst, ◌∙◌, arith}
+use Rattle.std.specs.Prelude.{vec_capacity, All, IsSome, IsFalse}
 use Rattle.flash_disk.specs.declared.table.FilePage.{FilePage}
 use Rattle.flash_disk.specs.declared.table.Newest.{Newest}
 use Rattle.flash_disk.specs.declared.layer.LayerState.{LayerState}
@@ -9,6 +9,8 @@ use Rattle.flash_disk.specs.Does.{Does}
 use Rattle.flash_disk.specs.Standing.{StandsFor}
 use Rattle.flash_disk.specs.Sound.{files_of, IsSound}
 use Rattle.flash_disk.specs.Moving.{IsMoving}
+use Rattle.flash_disk.specs.Counted.{IsInside, entries_in}
+use Rattle.flash_disk.proofs.Spreading.{light_enough}
 use Rattle.flash_disk.proofs.Stretches.{does_nothing}
 use Rattle.flash_disk.proofs.Moved.{all_known, finished, places_stay}
 use Rattle.flash_disk.proofs.Moving.{erase_stands, erase_failed, erase_failed_keeps, erase_keeps_all, moving_none, stands_then, keeps_on, fits_kept, shows_same, stands_now}
@@ -63,7 +65,8 @@ copy_needed-requires-clause-moving g c told =
     let t : LayerState = record c.erase_block.new.self.state { moved = c.clear.new.self } in
     let state : t ≡ record s { moved = c.clear.new.self } = ap (λ (q : LayerState). let z : LayerState = record q { moved = c.clear.new.self } in z) e.state in
     let from = c.lightest_but-victim.result in
-    let within : from < m.blocks = (let less = c.if-victim-blocks.false in let all = c.blocks-else-victim-target.ensures in omega (arith, less, all)) in
+    let light = light_enough m.blocks s.table s.spare from sound.counted c.lightest_but-victim.ensures.within c.lightest_but-victim.ensures.lightest in
+    let within : from < m.blocks = light.1 in
     moving_none m look s sound agreed c.requires.full (c.in_ok-erase_block.ensures.done told) (e.time told).blocks t state c.clear.ensures.items
     from s.spare refl within (λ same. c.if-victim-target.false same)
 
@@ -126,6 +129,7 @@ returns-clause-sound g c told =
     let puts = subst (PutsAll t.table c.put_all.new.self) items (p.put known_all room) in
     let long = t.moved.ok.0 in let count = c.len.ensures in let least = c.min.ensures in
     finished now t from to moving c.put_all.new.self puts (p.len known_all room) (p.room known_all room) p.limit p.lens (p.stays known_all room) c.min.result (omega (arith, long, count, least))
+    (λ counted inside. p.counted now.blocks (subst (All (λ (q : FilePage × Newest). IsInside now.blocks q.1)) (sym items) inside) counted)
 
 pub returns-clause-fits : goal.returns-clause-fits
 returns-clause-fits g c told =
@@ -185,3 +189,50 @@ returns-clause-does g c told =
     let keeps = keeps_on m look s sound agreed (e.time told).blocks (erase_keeps_all m look s sound agreed c.requires.full blank) now.state.pages (n.keeps told) in
     let same_table : t.table ≡ s.table = ap (λ (q : LayerState). q.table) n.state ∙ ap (λ (q : LayerState). q.table) e.state in
     stands_then m look now (e.time told) (n.time told) (erase_stands m look s sound agreed c.requires.full c.erase_block.result (e.done told) (e.failed told) (e.during told)) (n.does told)
+
+pub returns-then-self-clause-own : goal.returns-then-self-clause-own
+returns-then-self-clause-own g c told enough calm =
+    let s = c.args.self.now.state in
+    let sound : IsSound (g.F.Flash.medium c.args.self.now.flash) s = c.requires.sound told in
+    let light = light_enough (g.F.Flash.medium c.args.self.now.flash).blocks s.table s.spare c.lightest_but-victim.result sound.counted
+    c.lightest_but-victim.ensures.within c.lightest_but-victim.ensures.lightest in
+    ⊎_elim
+    (λ disputed. absurd (true≢false (sym disputed ∙ calm)))
+    (λ none. absurd (light.0 none.1))
+    c.then-self.either
+
+pub returns-in_err-erase_block-clause-own : goal.returns-in_err-erase_block-clause-own
+returns-in_err-erase_block-clause-own g c told enough calm = c.erase_block.ensures.own told
+
+pub returns-in_err-copy_needed-clause-own : goal.returns-in_err-copy_needed-clause-own
+returns-in_err-copy_needed-clause-own g c told enough calm =
+    let memory = ap (λ (q : LayerState). vec_capacity q.moved) c.erase_block.ensures.state in let kept = c.clear.ensures.capacity in
+    c.copy_needed.ensures.own told (omega (arith, memory, kept, enough)) ∙ c.erase_block.ensures.own told
+
+pub returns-clause-own : goal.returns-clause-own
+returns-clause-own g c told enough calm =
+    let memory = ap (λ (q : LayerState). vec_capacity q.moved) c.erase_block.ensures.state in let kept = c.clear.ensures.capacity in
+    c.copy_needed.ensures.own told (omega (arith, memory, kept, enough)) ∙ c.erase_block.ensures.own told
+
+pub returns-in_err-copy_needed-clause-memory : goal.returns-in_err-copy_needed-clause-memory
+returns-in_err-copy_needed-clause-memory g c =
+    let memory = ap (λ (q : LayerState). vec_capacity q.moved) c.erase_block.ensures.state in let kept = c.clear.ensures.capacity in let more = c.copy_needed.ensures.memory in
+    omega (arith, memory, kept, more)
+
+pub returns-clause-memory : goal.returns-clause-memory
+returns-clause-memory g c =
+    let memory = ap (λ (q : LayerState). vec_capacity q.moved) c.erase_block.ensures.state in let kept = c.clear.ensures.capacity in let more = c.copy_needed.ensures.memory in
+    omega (arith, memory, kept, more)
+
+pub returns-clause-light : goal.returns-clause-light
+returns-clause-light g c told =
+    let s = c.args.self.now.state in
+    let m = g.F.Flash.medium c.args.self.now.flash in
+    let sound : IsSound m s = c.requires.sound told in
+    let from = c.lightest_but-victim.result in
+    let light = light_enough m.blocks s.table s.spare from sound.counted c.lightest_but-victim.ensures.within c.lightest_but-victim.ensures.lightest in
+    let fewest = light.2 in
+    let few = c.copy_needed.ensures.few in
+    let same : entries_in c.erase_block.new.self.state.table from ≡ entries_in s.table from = ap (λ (q : LayerState). entries_in q.table from) c.erase_block.ensures.state in
+    let count = c.len.ensures in let least = c.min.ensures in
+    omega (arith, fewest, few, same, count, least)

@@ -1,10 +1,11 @@
-use Rattle.std.proofs.Common.{refl, ap, ◌∙◌, arith}
+use Rattle.std.proofs.Common.{◌+◌, refl, ap, ◌∙◌, arith}
 use Rattle.flash_disk.specs.declared.layer.LayerState.{LayerState}
 use Rattle.flash_disk.specs.Newest.{places}
 use Rattle.flash_disk.specs.Sound.{files_of}
 use Rattle.flash_disk.specs.Standing.{StandsFor}
 use Rattle.flash_disk.proofs.Standing.{keeps_refl}
 use Rattle.flash_disk.proofs.Stretches.{does_nothing, elapses_refl, elapses_then}
+use Rattle.flash_disk.proofs.Spreading.{copied_in, fewer_copied}
 use Rattle.flash_disk.proofs.Moving.{stands_now, stands_then, keeps_on}
 use Rattle.flash_disk.proofs.layer.Layer.copy_needed.Goals as goal
 
@@ -13,6 +14,9 @@ loop-page-init g c =
     let m = g.F.Flash.medium c.args.self.now.flash in
     let lawful = g.met.F.Flash.lawful c.args.self.now.flash in record {
       later = omega arith;
+      few = (let none = c.requires.none in omega (arith, none));
+      memory = omega arith;
+      own = λ told enough. refl;
       count = (let none = c.requires.none in omega (arith, none));
       state = refl;
       moving = c.requires.moving;
@@ -46,6 +50,9 @@ loop-page-preserved g c =
     let i = c.loop-page.invariant in
     let e = c.copy_one.ensures in record {
       later = (let was = i.later in let on = e.cause.later in omega (arith, was, on));
+      few = fewer_copied c.args.self.now.state c.loop-page.self.state c.copy_one.new.self.state c.args.from c.loop-page.page (ap (λ (q : LayerState). q.table) i.state) i.few e.few;
+      memory = (let was = i.memory in let more = e.memory in omega (arith, was, more));
+      own = λ told enough. e.own told (let more = i.memory in omega (arith, enough, more)) ∙ i.own told enough;
       count = (let was = i.count in let one = e.count in omega (arith, was, one));
       state = e.state ∙ ap (λ (q : LayerState). let z : LayerState = record q { moved = c.copy_one.new.self.state.moved } in z) i.state;
       moving = λ told. c.in_ok-copy_one.ensures.moving told;
@@ -54,3 +61,27 @@ loop-page-preserved g c =
       does = λ told. stands_then m mid now (i.time told) (e.time told) (i.does told) (e.does told);
       time = λ told. elapses_then m mid now (i.time told) (e.time told);
     }
+
+pub returns-clause-few : goal.returns-clause-few
+returns-clause-few g c =
+    let few = c.loop-page.invariant.few in let all = copied_in c.args.self.now.state.table c.args.from c.loop-page.page in omega (arith, few, all)
+
+pub returns-in_err-copy_one-clause-few : goal.returns-in_err-copy_one-clause-few
+returns-in_err-copy_one-clause-few g c =
+    let i = c.loop-page.invariant in
+    let few = fewer_copied c.args.self.now.state c.loop-page.self.state c.copy_one.new.self.state c.args.from c.loop-page.page (ap (λ (q : LayerState). q.table) i.state) i.few c.copy_one.ensures.few in
+    let all = copied_in c.args.self.now.state.table c.args.from (c.loop-page.page + 1) in omega (arith, few, all)
+
+pub returns-in_err-copy_one-clause-own : goal.returns-in_err-copy_one-clause-own
+returns-in_err-copy_one-clause-own g c told enough =
+    let i = c.loop-page.invariant in
+    c.copy_one.ensures.own told (let more = i.memory in omega (arith, enough, more)) ∙ i.own told enough
+
+pub returns-clause-own : goal.returns-clause-own
+returns-clause-own g c told enough = c.loop-page.invariant.own told enough
+
+pub returns-in_err-copy_one-clause-memory : goal.returns-in_err-copy_one-clause-memory
+returns-in_err-copy_one-clause-memory g c = let was = c.loop-page.invariant.memory in let more = c.copy_one.ensures.memory in omega (arith, was, more)
+
+pub returns-clause-memory : goal.returns-clause-memory
+returns-clause-memory g c = c.loop-page.invariant.memory

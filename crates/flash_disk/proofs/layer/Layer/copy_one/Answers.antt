@@ -1,5 +1,6 @@
-use Rattle.std.proofs.Common.{◌≡◌, ◌++◌, ◌∷◌, [], length, cond, true, Some, sym, ap, subst, ◌∙◌}
-use Rattle.std.specs.Prelude.{is_ok, not}
+use Rattle.std.proofs.Common.{arith, ◌≤◌, ◌≡◌, ◌+◌, ◌++◌, ◌∷◌, [], length, cond, true, Some, sym, ap, subst, refl, ◌∙◌}
+use Rattle.std.specs.Prelude.{is_ok, not, vec_len, vec_capacity}
+use Rattle.flash_disk.proofs.Spreading.{few_same, few_more, same_memory, of_err}
 use Rattle.flash_disk.specs.declared.table.Place.{Place}
 use Rattle.flash_disk.specs.declared.table.FilePage.{FilePage}
 use Rattle.flash_disk.specs.declared.table.Newest.{Newest}
@@ -270,3 +271,91 @@ returns-clause-moving g c told =
     let v : FilePage × Newest = (key, new) in
     let ok : is_ok c.push.result ≡ true = c.is_err.ensures.negation ∙ ap not c.if-is_err.false in
     c.push.ensures.items ∙ (ap (λ b. cond b (u.moved.items ++ v ∷ []) u.moved.items) ok ∙ ap (λ (q : LayerState). q.moved.items ++ v ∷ []) p.state))
+
+pub returns-in_err-read_page-clause-few : goal.returns-in_err-read_page-clause-few
+returns-in_err-read_page-clause-few g c few = few_same c.args.self.now.state c.read_page.new.self.state c.args.from.block c.args.from.page c.read_page.ensures.state few
+
+pub returns-in_err-read_page-clause-memory : goal.returns-in_err-read_page-clause-memory
+returns-in_err-read_page-clause-memory g c = same_memory c.args.self.now.state c.read_page.new.self.state c.read_page.ensures.state
+
+pub returns-in_err-read_page-clause-own : goal.returns-in_err-read_page-clause-own
+returns-in_err-read_page-clause-own g c told enough = c.read_page.ensures.own
+
+pub returns-in_default-clause-few : goal.returns-in_default-clause-few
+returns-in_default-clause-few g c few = few_same c.args.self.now.state c.read_page.new.self.state c.args.from.block c.args.from.page c.read_page.ensures.state few
+
+pub returns-in_default-clause-memory : goal.returns-in_default-clause-memory
+returns-in_default-clause-memory g c = same_memory c.args.self.now.state c.read_page.new.self.state c.read_page.ensures.state
+
+pub returns-in_default-clause-own : goal.returns-in_default-clause-own
+returns-in_default-clause-own g c told enough = c.read_page.ensures.own
+
+pub returns-then-ne-clause-few : goal.returns-then-ne-clause-few
+returns-then-ne-clause-few g c few = few_same c.args.self.now.state c.read_page.new.self.state c.args.from.block c.args.from.page c.read_page.ensures.state few
+
+pub returns-then-ne-clause-memory : goal.returns-then-ne-clause-memory
+returns-then-ne-clause-memory g c = same_memory c.args.self.now.state c.read_page.new.self.state c.read_page.ensures.state
+
+pub returns-then-ne-clause-own : goal.returns-then-ne-clause-own
+returns-then-ne-clause-own g c told enough = c.read_page.ensures.own
+
+pub returns-in_err-program_page-clause-few : goal.returns-in_err-program_page-clause-few
+returns-in_err-program_page-clause-few g c few = few_same c.args.self.now.state c.program_page.new.self.state c.args.from.block c.args.from.page (c.program_page.ensures.state ∙ c.read_page.ensures.state) few
+
+pub returns-in_err-program_page-clause-memory : goal.returns-in_err-program_page-clause-memory
+returns-in_err-program_page-clause-memory g c = same_memory c.args.self.now.state c.program_page.new.self.state (c.program_page.ensures.state ∙ c.read_page.ensures.state)
+
+pub returns-in_err-program_page-clause-own : goal.returns-in_err-program_page-clause-own
+returns-in_err-program_page-clause-own g c told enough = c.program_page.ensures.own told ∙ c.read_page.ensures.own
+
+pub returns-then-is_err-clause-few : goal.returns-then-is_err-clause-few
+returns-then-is_err-clause-few g c few =
+    let start = c.args.self.now.state in
+    let key = c.in-Some.key in
+    let old = c.in-Some.old in
+    let is : known start.table key ≡ Some old = ap (λ (q : LayerState). known q.table key) (sym c.read_page.ensures.state) ∙ c.in-Some.ensures.known in
+    let at = same_places old.place.block c.args.from.block old.place.page c.args.from.page c.ne.result c.ne.ensures c.if-ne.false in
+    let moved : vec_len c.program_page.new.self.state.moved ≡ vec_len start.moved = ap (λ (q : LayerState). vec_len q.moved) (c.program_page.ensures.state ∙ c.read_page.ensures.state) in
+    let now : vec_len c.fault.new.self.state.moved ≡ vec_len c.push.new.self = ap (λ (q : LayerState). vec_len q.moved) c.fault.ensures.state in
+    few_more start.table c.args.from.block c.args.from.page key old is at.0 at.1 (vec_len start.moved) (vec_len c.fault.new.self.state.moved) few
+    (let up = c.push.ensures.upper_bound in omega (arith, moved, now, up))
+
+pub returns-then-is_err-clause-memory : goal.returns-then-is_err-clause-memory
+returns-then-is_err-clause-memory g c =
+    let start = c.args.self.now.state in
+    let moved : vec_capacity c.program_page.new.self.state.moved ≡ vec_capacity start.moved = ap (λ (q : LayerState). vec_capacity q.moved) (c.program_page.ensures.state ∙ c.read_page.ensures.state) in
+    let now : vec_capacity c.fault.new.self.state.moved ≡ vec_capacity c.push.new.self = ap (λ (q : LayerState). vec_capacity q.moved) c.fault.ensures.state in
+    let more = c.push.ensures.capacity in omega (arith, moved, now, more)
+
+pub returns-then-is_err-clause-own : goal.returns-then-is_err-clause-own
+returns-then-is_err-clause-own g c told enough =
+    let start = c.args.self.now.state in
+    let state = c.program_page.ensures.state ∙ c.read_page.ensures.state in
+    let len : vec_len c.program_page.new.self.state.moved ≡ vec_len start.moved = ap (λ (q : LayerState). vec_len q.moved) state in
+    let memory : vec_capacity c.program_page.new.self.state.moved ≡ vec_capacity start.moved = ap (λ (q : LayerState). vec_capacity q.moved) state in
+    let full = of_err c.push.result (c.is_err.ensures.negation ∙ ap not c.if-is_err.true) c.push.ensures.full in
+    let count = c.requires.count in
+    let page = c.requires.page in
+    absurd (omega (arith, len, memory, full, count, page, enough))
+
+pub returns-clause-own : goal.returns-clause-own
+returns-clause-own g c told enough = c.program_page.ensures.own told ∙ c.read_page.ensures.own
+
+pub returns-clause-few : goal.returns-clause-few
+returns-clause-few g c few =
+    let start = c.args.self.now.state in
+    let key = c.in-Some.key in
+    let old = c.in-Some.old in
+    let is : known start.table key ≡ Some old = ap (λ (q : LayerState). known q.table key) (sym c.read_page.ensures.state) ∙ c.in-Some.ensures.known in
+    let at = same_places old.place.block c.args.from.block old.place.page c.args.from.page c.ne.result c.ne.ensures c.if-ne.false in
+    let moved : vec_len c.program_page.new.self.state.moved ≡ vec_len start.moved = ap (λ (q : LayerState). vec_len q.moved) (c.program_page.ensures.state ∙ c.read_page.ensures.state) in
+    let now : vec_len (let u : LayerState = record c.program_page.new.self.state { moved = c.push.new.self } in u).moved ≡ vec_len c.push.new.self = refl in
+    few_more start.table c.args.from.block c.args.from.page key old is at.0 at.1 (vec_len start.moved) (vec_len (let u : LayerState = record c.program_page.new.self.state { moved = c.push.new.self } in u).moved) few
+    (let up = c.push.ensures.upper_bound in omega (arith, moved, now, up))
+
+pub returns-clause-memory : goal.returns-clause-memory
+returns-clause-memory g c =
+    let start = c.args.self.now.state in
+    let moved : vec_capacity c.program_page.new.self.state.moved ≡ vec_capacity start.moved = ap (λ (q : LayerState). vec_capacity q.moved) (c.program_page.ensures.state ∙ c.read_page.ensures.state) in
+    let now : vec_capacity (let u : LayerState = record c.program_page.new.self.state { moved = c.push.new.self } in u).moved ≡ vec_capacity c.push.new.self = refl in
+    let more = c.push.ensures.capacity in omega (arith, moved, now, more)

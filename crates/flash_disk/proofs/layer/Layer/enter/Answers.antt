@@ -1,3 +1,5 @@
+use Rattle.std.proofs.Common.{◌<◌, sym, subst, ◌∙◌, refl}
+use Rattle.std.specs.Prelude.{IfSome}
 use Rattle.flash_record.specs.Stated.{stated}
 use Rattle.flash_disk.proofs.Entering.{entered}
 use Rattle.flash_disk.proofs.layer.Layer.enter.Goals as goal
@@ -11,3 +13,7 @@ returns-then-put-clause-sound g c old new blocks sound agreed enters =
     (e.place, e.sequence, e.len, e.filled enters.full)
     c.put.new.self c.lengthen.new.self (c.put.ensures.put c.if-put.true) c.put.ensures.lens c.put.ensures.limit
     c.lengthen.result l.lengthened l.has l.succeeds l.spare l.in_place l.records l.limit
+    (λ counted below. l.counted blocks (c.put.ensures.counted blocks counted (record {
+      place = below;
+      twin = subst (λ t. IfSome t (λ q. q.block < blocks)) (sym e.twin) tt;
+    })))

@@ -1,4 +1,5 @@
-use Rattle.std.proofs.Common.{◌≡◌, ◌<◌, ◌≤◌, true, sym, ap, ◌∙◌, subst, arith}
+use Rattle.flash_disk.specs.Counted.{IsCounted}
+use Rattle.std.proofs.Common.{◌≡◌, ◌<◌, ◌≤◌, true, false, sym, ap, inr, ◌∙◌, subst, arith}
 use Rattle.std.specs.HashMap.{spare}
 use Rattle.flash_disk.specs.Newest.{FindsSpare, IsSpare, places}
 use Rattle.flash_disk.specs.Known.{limit_of, len_in}
@@ -20,6 +21,18 @@ returns-in-Ok-clause-usable g c told =
     usable pages c.args.blocks first found (e.limit ∙ c.requires.limit) learnt
     (subst (λ q. FindsSpare q c.args.blocks found true) (e.pages told)
     (subst (FindsSpare (g.F.Flash.medium c.learn_blocks.new.self.flash).state.pages c.args.blocks found) c.if-not-branch-2.false finds))
+
+pub returns-then-not-branch-2-clause-usable : goal.returns-then-not-branch-2-clause-usable
+returns-then-not-branch-2-clause-usable g c told =
+    let pages = (g.F.Flash.medium c.args.self.now.flash).state.pages in
+    let e = c.in_ok-learn_blocks.ensures in
+    let first = c.learn_blocks.new.self.state.table in
+    let found = c.find_spare.new.self.state.spare in
+    let learnt : HasLearnt pages (places c.args.blocks) first =
+    subst (LearnsAll pages (places c.args.blocks) (limit_of c.args.self.now.state.table) first) c.if-not-branch.false (e.learns told) in
+    let finds = c.in_ok-find_spare.ensures.spare told (subst (λ q. HasLearnt q (places c.args.blocks) first) (sym (e.pages told)) learnt) in
+    inr (subst (λ q. FindsSpare q c.args.blocks found false) (e.pages told)
+    (subst (FindsSpare (g.F.Flash.medium c.learn_blocks.new.self.flash).state.pages c.args.blocks found) c.if-not-branch-2.true finds))
 
 pub returns-in-Ok-clause-sound : goal.returns-in-Ok-clause-sound
 returns-in-Ok-clause-sound g c told usable_now =
@@ -62,3 +75,6 @@ returns-in-Ok-clause-sound g c told usable_now =
     (subst (λ b. b < blocks) (sym l.spare) finds.0)
     (subst (IsSpare pages n) (sym l.spare) finds.1)
     (subst (Tops pages n) (sym (l.sequence ∙ f.sequence)) tops)
+    (c.measure.ensures.counted blocks
+    (let first_counted : IsCounted blocks first = subst (λ b. IsCounted b first) (sym c.requires.blocks) (e.counted (subst (λ b. IsCounted b c.args.self.now.state.table) c.requires.blocks c.requires.counted)) in
+    subst (λ b. IsCounted b left) all_is (l.counted (subst (λ b. IsCounted b second) (sym all_is) (subst (IsCounted blocks) (sym f.table) first_counted)))))

@@ -1,6 +1,9 @@
-use Rattle.std.proofs.Common.{◌+◌, ◌*◌, arith}
+use Rattle.std.proofs.Common.{◌≡◌, ◌+◌, ◌*◌, sym, subst, ◌∙◌, arith}
 use Rattle.flash_disk.specs.Newest.{places}
 use Rattle.flash_disk.specs.Known.{limit_of}
+use Rattle.flash_disk.specs.Counted.{IsCounted}
+use Rattle.flash_disk.specs.Learnt.{HasLearnt, LearnsAll, Tops}
+use Rattle.flash_disk.proofs.Looking.{looks_then}
 use Rattle.flash_disk.proofs.Usable.{all_full, learnt_there}
 use Rattle.flash_disk.proofs.layer.Layer.learn_blocks.Goals as goal
 
@@ -12,3 +15,32 @@ returns-then-not-branch-clause-learns g c told = let i = c.loop-block.invariant 
     (c.in_ok-learn_block.ensures.learns told (learnt_there (g.F.Flash.medium c.args.self.now.flash).state.pages (g.F.Flash.medium c.loop-block.self.flash).state.pages (i.1 told)
     (64 * c.loop-block.block) c.loop-block.self.state.table (i.4 told)))
     (omega (arith, within))
+
+pub loop-block-preserved : goal.loop-block-preserved
+loop-block-preserved g c =
+    let i = c.loop-block.invariant in
+    let e = c.in_ok-learn_block.ensures in
+    let pages = (g.F.Flash.medium c.args.self.now.flash).state.pages in
+    let seen = (g.F.Flash.medium c.loop-block.self.flash).state.pages in
+    let block = c.loop-block.block in
+    let was = c.loop-block.self.state.table in
+    let table = c.learn_block.new.self.state.table in
+    let top = c.learn_block.new.self.state.sequence in
+    let next : 64 * block + 64 ≡ 64 * (block + 1) = omega arith in (
+      (let later = i.0 in let on = e.flash in omega (arith, later, on)),
+      (λ told. e.pages told ∙ i.1 told),
+      e.blocks ∙ i.2,
+      e.limit ∙ i.3,
+      (λ told. subst (λ k. HasLearnt pages k table) next
+          (subst (λ q. HasLearnt q (64 * block + 64) table) (i.1 told)
+          (subst (LearnsAll seen (64 * block + 64) (limit_of was) table) c.if-not-branch.false
+          (e.learns told (learnt_there pages seen (i.1 told) (64 * block) was (i.4 told)))))),
+      e.lens ∙ i.5,
+      e.own ∙ i.6,
+      (e.fill.0 ∙ i.7.0, e.fill.1 ∙ i.7.1),
+      (λ told start. subst (λ k. Tops pages k top) next
+          (subst (λ q. Tops q (64 * block + 64) top) (i.1 told)
+          (e.tops told (subst (λ q. Tops q (64 * block) c.loop-block.self.state.sequence) (sym (i.1 told)) (i.8 told start)) c.if-not-branch.false))),
+      (λ start. subst (λ b. IsCounted b table) i.2 (e.counted (subst (λ b. IsCounted b was) (sym i.2) (i.9 start)))),
+      looks_then g.F.Flash.told (g.F.Flash.medium c.args.self.now.flash) (g.F.Flash.medium c.loop-block.self.flash) (g.F.Flash.medium c.learn_block.new.self.flash) i.10 e.looks,
+    )

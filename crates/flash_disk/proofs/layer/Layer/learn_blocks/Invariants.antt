@@ -1,6 +1,7 @@
 use Rattle.std.proofs.Common.{◌≡◌, ◌≤◌, ◌*◌, true}
 use Rattle.flash_disk.specs.Known.{limit_of}
 use Rattle.flash_disk.specs.Learnt.{HasLearnt, Tops}
+use Rattle.flash_disk.specs.Counted.{IsCounted}
 use Rattle.flash_disk.specs.Sound.{SameFill}
 use Rattle.flash_disk.specs.Looks.{Looks}
 use Rattle.flash_disk.proofs.layer.Layer.learn_blocks.Given as goal
@@ -16,4 +17,5 @@ invariant-loop-block g l = ((g.F.Flash.medium l.initial.self.flash).faults ≤ (
     × SameFill l.initial.self.state l.self.state
     × (g.F.Flash.told ≡ true → Tops (g.F.Flash.medium l.initial.self.flash).state.pages 0 l.initial.self.state.sequence
     → Tops (g.F.Flash.medium l.initial.self.flash).state.pages (64 * l.block) l.self.state.sequence)
+    × (IsCounted (g.F.Flash.medium l.initial.self.flash).blocks l.initial.self.state.table → IsCounted (g.F.Flash.medium l.initial.self.flash).blocks l.self.state.table)
     × Looks g.F.Flash.told (g.F.Flash.medium l.initial.self.flash) (g.F.Flash.medium l.self.flash)

@@ -1,4 +1,6 @@
-use Rattle.std.proofs.Common.{◌≡◌, ap, refl, sym, ◌∙◌, arith, ◌<◌, Some}
+use Rattle.std.proofs.Common.{◌≡◌, ap, refl, sym, subst, ◌∙◌, ⊎_elim, arith, ◌<◌, Some}
+use Rattle.std.specs.Prelude.{IfSome}
+use Rattle.flash_disk.specs.Counted.{IsCounted}
 use Rattle.flash_record.specs.PageRecord.{record_in}
 use Rattle.flash_record.specs.Stated.{stated}
 use Rattle.flash_disk.specs.Newest.{record_at}
@@ -22,5 +24,18 @@ returns-clause-learns g c told learnt here =
     ∙ sym (record_at_place pages e.place.block e.place.page small) in
     put_learns pages n r here old c.read_page.new.self.state.table c.put.new.self c.args.key (record e { twin = c.twin_at.result; rivalled = c.is_rivalled.result }) c.put.result
     (ap (λ s. s.table) c.in_ok-read_page.ensures.state) c.requires.key learnt
-    (equal pages n r here old e learnt is c.args.place refl c.requires.page c.requires.sequence (record_in c.read_page.new.out) first c.twin_at.result c.is_rivalled.result c.twin_at.ensures c.is_rivalled.ensures)
+    (equal pages n r here old e learnt is c.args.place refl c.requires.page c.requires.sequence (record_in c.read_page.new.out) first c.twin_at.result c.is_rivalled.result c.twin_at.ensures.at c.is_rivalled.ensures)
     c.put.ensures.full c.put.ensures.put
+
+pub returns-clause-counted : goal.returns-clause-counted
+returns-clause-counted g c counted =
+    let blocks = (g.F.Flash.medium c.args.self.now.flash).blocks in
+    let table = ap (λ s. s.table) c.in_ok-read_page.ensures.state in
+    let inside = counted.inside c.args.key c.args.old c.requires.old in
+    c.put.ensures.counted blocks (subst (IsCounted blocks) (sym table) counted) (record {
+      place = inside.place;
+      twin = ⊎_elim
+          (λ was. subst (λ t. IfSome t (λ q. q.block < blocks)) (sym was) inside.twin)
+          (λ here. subst (λ t. IfSome t (λ q. q.block < blocks)) (sym here) c.requires.block)
+          c.twin_at.ensures.one;
+    })

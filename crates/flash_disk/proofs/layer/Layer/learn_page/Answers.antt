@@ -1,4 +1,6 @@
-use Rattle.std.proofs.Common.{◌≡◌, ap, refl, sym, ◌∙◌, subst, add-one, Some, None}
+use Rattle.std.specs.Prelude.{IfSome}
+use Rattle.flash_disk.specs.Counted.{IsCounted}
+use Rattle.std.proofs.Common.{◌≡◌, ◌<◌, ap, refl, sym, ◌∙◌, subst, add-one, Some, None}
 use Rattle.flash_record.specs.PageRecord.{record_in}
 use Rattle.flash_record.specs.Stated.{stated}
 use Rattle.flash_disk.specs.Newest.{record_at}
@@ -47,3 +49,23 @@ returns-then-old-record-2-clause-learns g c told learnt =
     let is : known old (page_of r) ≡ Some c.in-Some-find.old = ap (λ t. known t (page_of r)) (sym (ap (λ s. s.table) c.in_ok-read_page.ensures.state)) ∙ (sym c.find.ensures ∙ c.in-Some-find.is) in
     rw (add-one n) (subst (HasLearnt pages _) (sym (ap (λ s. s.table) c.in_ok-read_page.ensures.state))
     (older pages n r here old c.in-Some-find.old learnt is c.if-old-record-2.true))
+
+pub returns-in_default-find-clause-counted : goal.returns-in_default-find-clause-counted
+returns-in_default-find-clause-counted g c counted =
+    let blocks = (g.F.Flash.medium c.args.self.now.flash).blocks in
+    let table = ap (λ s. s.table) c.in_ok-read_page.ensures.state in
+    let e = c.newest_at.ensures in
+    c.put.ensures.counted blocks (subst (IsCounted blocks) (sym table) counted) (record {
+      place = subst (λ p. p.block < blocks) (sym e.place) c.requires.block;
+      twin = subst (λ t. IfSome t (λ q. q.block < blocks)) (sym e.twin) tt;
+    })
+
+pub returns-then-old-record-clause-counted : goal.returns-then-old-record-clause-counted
+returns-then-old-record-clause-counted g c counted =
+    let blocks = (g.F.Flash.medium c.args.self.now.flash).blocks in
+    let table = ap (λ s. s.table) c.in_ok-read_page.ensures.state in
+    let e = c.newest_at-then-old-record.ensures in
+    c.put-then-old-record.ensures.counted blocks (subst (IsCounted blocks) (sym table) counted) (record {
+      place = subst (λ p. p.block < blocks) (sym e.place) c.requires.block;
+      twin = subst (λ t. IfSome t (λ q. q.block < blocks)) (sym e.twin) tt;
+    })

@@ -1,4 +1,6 @@
-use Rattle.std.proofs.Common.{◌≡◌, ◌+◌, ◌*◌, sym, ap, ◌∙◌, subst}
+use Rattle.std.specs.Prelude.{IfSome}
+use Rattle.flash_disk.specs.Counted.{IsCounted}
+use Rattle.std.proofs.Common.{◌≡◌, ◌<◌, ◌+◌, ◌*◌, Some, sym, ap, ◌∙◌, subst}
 use Rattle.flash_record.specs.PageRecord.{record_in}
 use Rattle.flash_disk.specs.Newest.{record_at, places}
 use Rattle.flash_disk.specs.Learnt.{IsLeaving}
@@ -59,3 +61,11 @@ returns-clause-left g c told within small spare leaving =
     twin_found pages n block p table still spare small (record_in c.read_page.new.out) there c.newest_in.result c.newest_in.ensures.found
     c.in-Some.key c.in-Some.old c.in-Some.is c.in-Some.ensures.known same.0 same.1 c.in-Some-twin.twin c.in-Some-twin.is c.put.new.self c.put.result
     c.put.ensures.full c.put.ensures.put
+
+pub returns-clause-counted : goal.returns-clause-counted
+returns-clause-counted g c counted =
+    let blocks = (g.F.Flash.medium c.args.self.now.flash).blocks in
+    let start = subst (IsCounted blocks) (sym (ap (λ s. s.table) c.in_ok-read_page.ensures.state)) counted in
+    let inside = start.inside c.in-Some.key c.in-Some.old c.in-Some.ensures.known in
+    let twin = subst (λ t. IfSome t (λ q. q.block < blocks)) c.in-Some-twin.is inside.twin in
+    c.put.ensures.counted blocks start (record { place = twin; twin = inside.twin })

@@ -1,4 +1,7 @@
-use Rattle.std.proofs.Common.{◌+◌, ◌∙◌, arith}
+use Rattle.std.proofs.Common.{◌≡◌, ◌+◌, ◌<◌, sym, subst, ◌∙◌, arith}
+use Rattle.flash_disk.specs.Newest.{places}
+use Rattle.flash_disk.specs.Counted.{IsCounted}
+use Rattle.flash_disk.specs.Learnt.{IsLeaving}
 use Rattle.flash_disk.proofs.Leaving.{leaves_there}
 use Rattle.flash_disk.proofs.Looking.{looks_then}
 use Rattle.flash_disk.proofs.layer.Layer.leave_spare.Goals as goal
@@ -18,5 +21,6 @@ loop-page-preserved g c = let i = c.loop-page.invariant in let e = c.in_ok-leave
       (g.F.Flash.medium c.args.self.now.flash).blocks (g.F.Flash.medium c.loop-page.self.flash).blocks i.2 c.args.self.now.state.spare c.loop-page.page (c.loop-page.page + 1)
       c.loop-page.self.state.table c.leave_page.new.self.state.table
       (e.left told (let same = i.2 in omega (arith, within, same)) c.loop-page-test.true) spare (i.9 told within spare start)),
-  looks_then g.F.Flash.told (g.F.Flash.medium c.args.self.now.flash) (g.F.Flash.medium c.loop-page.self.flash) (g.F.Flash.medium c.leave_page.new.self.flash) i.10 e.looks,
+  (λ start. subst (λ b. IsCounted b c.leave_page.new.self.state.table) i.2 (e.counted (subst (λ b. IsCounted b c.loop-page.self.state.table) (sym i.2) (i.10 start)))),
+  looks_then g.F.Flash.told (g.F.Flash.medium c.args.self.now.flash) (g.F.Flash.medium c.loop-page.self.flash) (g.F.Flash.medium c.leave_page.new.self.flash) i.11 e.looks,
 )

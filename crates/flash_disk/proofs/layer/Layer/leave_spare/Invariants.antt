@@ -2,6 +2,7 @@ use Rattle.std.proofs.Common.{◌≡◌, ◌<◌, ◌≤◌, true}
 use Rattle.flash_disk.specs.Newest.{places}
 use Rattle.flash_disk.specs.Known.{limit_of}
 use Rattle.flash_disk.specs.Learnt.{LeavesBlock}
+use Rattle.flash_disk.specs.Counted.{IsCounted}
 use Rattle.flash_disk.specs.Sound.{SameFill}
 use Rattle.flash_disk.specs.Looks.{Looks}
 use Rattle.flash_disk.proofs.layer.Layer.leave_spare.Given as goal
@@ -18,4 +19,5 @@ invariant-loop-page g l = ((g.F.Flash.medium l.initial.self.flash).faults ≤ (g
     × (l.self.state.spare ≡ l.initial.self.state.spare)
     × (g.F.Flash.told ≡ true → l.spare < (g.F.Flash.medium l.initial.self.flash).blocks
     → LeavesBlock (g.F.Flash.medium l.initial.self.flash).state.pages (places (g.F.Flash.medium l.initial.self.flash).blocks) l.spare 0 l.page l.initial.self.state.table l.self.state.table)
+    × (IsCounted (g.F.Flash.medium l.initial.self.flash).blocks l.initial.self.state.table → IsCounted (g.F.Flash.medium l.initial.self.flash).blocks l.self.state.table)
     × Looks g.F.Flash.told (g.F.Flash.medium l.initial.self.flash) (g.F.Flash.medium l.self.flash)
