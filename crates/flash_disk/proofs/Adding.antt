@@ -97,6 +97,7 @@ module _ (m now : FlashMedium) (s u : LayerState) (place : Place) (r : PageRecor
     files = sound.files;
     measured = sound.measured;
     counted = sound.counted;
+    memory = sound.memory;
     within = sound.within;
     is_spare = sound.is_spare;
     agreed = sound.agreed;

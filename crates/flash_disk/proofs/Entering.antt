@@ -1,6 +1,6 @@
 -- What is kept stays fit when a record comes to lie in the block that is being filled.
 use Rattle.std.proofs.Common.{◌≡◌, ◌⊎◌, ℕ, ◌+◌, ◌/◌, ◌<◌, ◌≤◌, List, Bool, true, false, cond, refl, sym, ap, subst, ◌∙◌, inl, inr, ⊎_elim, arith, true≢false, eq-eqb}
-use Rattle.std.specs.Prelude.{Option, Some, None, IsTrue, IsFalse, IsSome, max, is_some}
+use Rattle.std.specs.Prelude.{Option, Some, None, IsTrue, IsFalse, IsSome, max, is_some, vec_capacity}
 use Rattle.std.specs.HashMap.{get, hash_map_len, spare}
 use Rattle.std.proofs.lemmas.Bool.{cases_eq, ne_eqb}
 use Rattle.std.proofs.lemmas.Option.{same_Some, none-some}
@@ -59,8 +59,9 @@ lies_elsewhere pages blocks s sound agreed = λ file page x is.
     )
 
 -- what is kept does not speak of the page in doubt, nor of what was moved
-pub as_said : (pages : Pages) (blocks : ℕ) (s t : LayerState) → Sound pages blocks s → Sound pages blocks (record s { unsure = t.unsure; moved = t.moved })
-as_said pages blocks s t sound = record {
+pub as_said : (pages : Pages) (blocks : ℕ) (s t : LayerState) → Sound pages blocks s → vec_capacity s.moved ≤ vec_capacity t.moved
+    → Sound pages blocks (record s { unsure = t.unsure; moved = t.moved })
+as_said pages blocks s t sound more = record {
   knows = sound.knows;
   tops = sound.tops;
   strays = sound.strays;
@@ -68,6 +69,7 @@ as_said pages blocks s t sound = record {
   files = sound.files;
   measured = sound.measured;
   counted = sound.counted;
+  memory = (let memory = sound.memory in omega (arith, memory, more));
   within = sound.within;
   is_spare = sound.is_spare;
   agreed = sound.agreed;
@@ -86,6 +88,7 @@ same_sound old new blocks s sound same blank = record {
   files = sound.files;
   measured = sound.measured;
   counted = sound.counted;
+  memory = sound.memory;
   within = sound.within;
   is_spare = records_spare old new same (places blocks) s.spare sound.is_spare;
   agreed = λ agreed. records_agreed old new same (places blocks) (sound.agreed agreed);
@@ -132,7 +135,7 @@ module _ (m now : FlashMedium) (s t : LayerState) (place : Place) (holds : Holds
 
   was_sound : Sound holds.sure m.blocks sure_state
   was_sound = subst (λ (q : LayerState). Sound holds.sure m.blocks (record q { unsure = None })) (sym state)
-      (as_said holds.sure m.blocks s (record s { unsure = None }) holds.sound)
+      (as_said holds.sure m.blocks s (record s { unsure = None }) holds.sound (omega arith))
 
   at_place : record_at m.state.pages (number place) ≡ record_in page
   at_place = record_at_place m.state.pages place.block place.page pends.small ∙ ap record_in (sym (read pends.within pends.small))
@@ -270,6 +273,7 @@ module _ (old new : Pages) (blocks : ℕ) (s : LayerState) (place : Place) (r : 
         (entry_now k f found);
     counted = counted sound.counted
         (let within = enters.adds.within in let small = enters.adds.small in let same : e.place.block ≡ place.block = ap (λ p. p.block) is.0 in omega (arith, within, small, same));
+    memory = sound.memory;
     within = sound.within;
     is_spare = adds_spare old new n place r enters.adds s.spare (lies_elsewhere old blocks s sound agreed) (λ same. enters.apart (sym block_is ∙ same));
     agreed = λ _. adds_agreed old new n place r enters.adds (sound.agreed agreed);

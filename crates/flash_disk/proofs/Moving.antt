@@ -1,6 +1,6 @@
 -- Records are copied to the front of the spare block one by one, and nothing that counts changes.
 use Rattle.std.proofs.Common.{◌≡◌, ◌≢◌, ◌⊎◌, ℕ, ◌+◌, ◌*◌, ◌<◌, ◌≤◌, Bool, true, false, cond, slice_index_or, List, [], ◌∷◌, ◌++◌, length, Result, Ok, Err, OnOk, OnErr, refl, sym, ap, subst, ◌∙◌, inl, inr, ⊎_elim, arith, eq-eqb, length-append}
-use Rattle.std.specs.Prelude.{Option, Some, None, IsFalse, All, nat_eq, ◌&&◌, not}
+use Rattle.std.specs.Prelude.{Option, Some, None, IsFalse, All, nat_eq, ◌&&◌, not, vec_capacity}
 use Rattle.std.proofs.lemmas.Bool.{cases_lt, cases_Bool, eqb-true, and_parts, and_from, true≢false}
 use Rattle.std.proofs.lemmas.Option.{same_Some}
 use Rattle.std.proofs.lemmas.List.Elements.{All-push}
@@ -61,6 +61,7 @@ kept_sound old new blocks s sound agreed full keeps there =
       files = sound.files;
       measured = sound.measured;
       counted = sound.counted;
+      memory = sound.memory;
       within = sound.within;
       is_spare = spare_of new n s.spare (led_elsewhere new n s.table knows.led s.spare (sound.apart agreed));
       agreed = λ _. keeps_agreed old new n all_agree keeps;
@@ -132,13 +133,13 @@ module _ (m now : FlashMedium) (s : LayerState) (sound : IsSound m s) (agreed : 
   erase_keeps_all done = subst (λ (z : FlashState). Keeps pages z.pages n) (sym done) (loses_keeps (erase_block pages s.spare) (whole_erase pages s.spare))
 
   -- nothing is copied yet
-  pub moving_none : now.state ≡ erased m.state s.spare → now.blocks ≡ m.blocks → (t : LayerState) → t ≡ record s { moved = t.moved } → t.moved.items ≡ []
+  pub moving_none : now.state ≡ erased m.state s.spare → now.blocks ≡ m.blocks → (t : LayerState) → t ≡ record s { moved = t.moved } → vec_capacity s.moved ≤ vec_capacity t.moved → t.moved.items ≡ []
       → (from to : ℕ) → to ≡ s.spare → from < m.blocks → from ≢ to → IsMoving now.state.pages now.blocks t from to 0
-  moving_none done blocks t state none from to spare within apart =
+  moving_none done blocks t state memory none from to spare within apart =
       let empty : length t.moved.items ≡ 0 = ap (λ l. length l) none in
       subst (λ b. IsMoving now.state.pages b t from to 0) (sym blocks) (subst (λ (z : FlashState). IsMoving z.pages m.blocks t from to 0) (sym done) (record {
         sound = subst (Sound (erase_block pages s.spare) m.blocks) (sym state)
-            (as_said (erase_block pages s.spare) m.blocks s (record s { moved = t.moved }) (loses_sound (erase_block pages s.spare) (whole_erase pages s.spare)));
+            (as_said (erase_block pages s.spare) m.blocks s (record s { moved = t.moved }) (loses_sound (erase_block pages s.spare) (whole_erase pages s.spare)) memory);
         agreed = subst (λ (q : LayerState). IsFalse q.disputed) (sym state) agreed;
         full = subst (λ (q : LayerState). 64 ≤ q.fill) (sym state) full;
         spare = subst (λ (q : LayerState). q.spare ≡ to) (sym state) (sym spare);
@@ -318,13 +319,13 @@ module _ (m : FlashMedium) (s : LayerState) (from to done : ℕ) (moving : IsMov
     -- one record more is copied
     pub copied : (now : FlashMedium) → now.state ≡ programmed m.state to count bytes → now.blocks ≡ m.blocks
         → ((k : FilePage) (e : Newest) → known s.table k ≡ Some e → e.place.block ≡ from → e.place.page ≡ done → key ≡ k)
-        → (t : LayerState) → t ≡ record s { moved = t.moved } → t.moved.items ≡ s.moved.items ++ moved_entry ∷ []
+        → (t : LayerState) → t ≡ record s { moved = t.moved } → vec_capacity s.moved ≤ vec_capacity t.moved → t.moved.items ≡ s.moved.items ++ moved_entry ∷ []
         → IsMoving now.state.pages now.blocks t from to (done + 1)
-    copied now done_now blocks one t state items =
+    copied now done_now blocks one t state memory items =
         let added = length-append s.moved.items (moved_entry ∷ []) in let all_items = ap (λ l. length l) items in
         let long : length t.moved.items ≡ count + 1 = omega (arith, added, all_items, count_is) in
         subst (λ b. IsMoving now.state.pages b t from to (done + 1)) (sym blocks) (subst (λ (z : FlashState). IsMoving z.pages m.blocks t from to (done + 1)) (sym done_now) (record {
-          sound = subst (Sound written m.blocks) (sym state) (as_said written m.blocks s (record s { moved = t.moved }) (left_sound written written_torn written_keeps));
+          sound = subst (Sound written m.blocks) (sym state) (as_said written m.blocks s (record s { moved = t.moved }) (left_sound written written_torn written_keeps) memory);
           agreed = subst (λ (q : LayerState). IsFalse q.disputed) (sym state) moving.agreed;
           full = subst (λ (q : LayerState). 64 ≤ q.fill) (sym state) moving.full;
           spare = subst (λ (q : LayerState). q.spare ≡ to) (sym state) moving.spare;

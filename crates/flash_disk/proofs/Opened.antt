@@ -1,6 +1,6 @@
 -- What is kept fits the pages once the flash was opened.
 use Rattle.std.proofs.Common.{◌≡◌, ℕ, ◌+◌, ◌<◌, ◌≤◌, sym, ap, subst, ◌∙◌, arith}
-use Rattle.std.specs.Prelude.{Bool, Some, None, IsTrue, IsFalse}
+use Rattle.std.specs.Prelude.{Bool, Some, None, IsTrue, IsFalse, vec_capacity}
 use Rattle.std.specs.HashMap.{get, hash_map_len, spare}
 use Rattle.flash_model.specs.Pages.{Pages}
 use Rattle.flash_disk.specs.declared.table.FilePage.{FilePage}
@@ -46,8 +46,9 @@ module _ (pages : Pages) (blocks : ℕ) (s : LayerState) (left : Table) (leaving
   there : (key : FilePage) (e : Newest) → known left key ≡ Some e → known s.table key ≡ Some e
   there key e is = ap (λ m. get same_page m key) measures.records ∙ is
 
-  pub opened : s.spare < blocks → IsSpare pages (places blocks) s.spare → Tops pages (places blocks) s.sequence → IsCounted blocks s.table → Sound pages blocks s
-  opened within is_spare tops counted = record {
+  pub opened : s.spare < blocks → IsSpare pages (places blocks) s.spare → Tops pages (places blocks) s.sequence → IsCounted blocks s.table → 64 ≤ vec_capacity s.moved
+      → Sound pages blocks s
+  opened within is_spare tops counted memory = record {
     knows = knows;
     tops = tops;
     strays = strayless_at_last pages (places blocks) s.spare left leaving (len_known s.table)
@@ -59,6 +60,7 @@ module _ (pages : Pages) (blocks : ℕ) (s : LayerState) (left : Table) (leaving
     measured = λ key e is. measures.measured (let fits = led.fits in omega (arith, fits, room)) key e
         (ap (λ m. get same_page m key) (sym measures.records) ∙ is);
     counted = counted;
+    memory = memory;
     within = within;
     is_spare = is_spare;
     agreed = λ calm. agreed_at_last pages (places blocks) s.spare left leaving (λ key e is. measures.calm calm key e (there key e is));

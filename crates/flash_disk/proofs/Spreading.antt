@@ -1,6 +1,6 @@
 -- Some block other than the spare one has room for a record: not all of them can have a whole block of the entries.
 use Rattle.std.proofs.Common.{◌≡◌, ◌≢◌, ℕ, zero, suc, ◌+◌, ◌-◌, ◌*◌, ◌<◌, ◌≤◌, Bool, true, false, cond, List, [], ◌∷◌, length, vec_len, Result, Ok, Err, OnErr, refl, sym, ap, subst, ◌∙◌, ⊎_elim, arith}
-use Rattle.std.specs.Prelude.{Some, is_ok, vec_capacity, unwrap_or, option_map, nat_eq, nat_lt, ◌&&◌}
+use Rattle.std.specs.Prelude.{Some, is_ok, unwrap_or, option_map, nat_eq, nat_lt, ◌&&◌}
 use Rattle.std.specs.List.{sum_by}
 use Rattle.std.specs.HashMap.{values}
 use Rattle.std.proofs.lemmas.Bool.{true≢false, cases_lt, cases_eq}
@@ -142,9 +142,6 @@ few_same s u block page same few =
 pub few_more : (table : Table) (block page : ℕ) (key : FilePage) (e : Newest) → known table key ≡ Some e → e.place.block ≡ block → e.place.page ≡ page
     → (n m : ℕ) → n ≤ copied_below table block page → m ≤ n + 1 → m ≤ copied_below table block (page + 1)
 few_more table block page key e is here at n m few more = let one = copied_more table block page key e is here at in omega (arith, one, few, more)
-
-pub same_memory : (s u : LayerState) → u ≡ s → vec_capacity s.moved ≤ vec_capacity u.moved
-same_memory s u same = let e : vec_capacity u.moved ≡ vec_capacity s.moved = ap (λ q. vec_capacity q.moved) same in omega (arith, e)
 
 -- what an error says
 pub of_err : {T E P : Type 0} → (result : Result T E) → is_ok result ≡ false → OnErr result P → P

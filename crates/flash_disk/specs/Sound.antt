@@ -1,5 +1,5 @@
 -- What a disk over flash keeps in memory, and how it fits what the pages hold.
-use Rattle.std.specs.Prelude.{◌≡◌, ◌≢◌, ◌⊎◌, ℕ, ◌/◌, ◌%◌, ◌+◌, ◌*◌, ◌<◌, ◌≤◌, ◌==◌, ◌&&◌, List, Option, Some, None, IsFalse, length, slice_index, if◌then◌else◌}
+use Rattle.std.specs.Prelude.{◌≡◌, ◌≢◌, ◌⊎◌, ℕ, ◌/◌, ◌%◌, ◌+◌, ◌*◌, ◌<◌, ◌≤◌, ◌==◌, ◌&&◌, List, Option, Some, None, IsFalse, length, vec_capacity, slice_index, if◌then◌else◌}
 use Rattle.std.specs.HashMap.{spare}
 use Rattle.disk_model.specs.Image.{Image}
 use Rattle.flash_model.specs.Pages.{Pages, blank_page, TornPage}
@@ -25,9 +25,9 @@ files_of m = flash_files m.state.pages m.blocks
 abbrev pub LeavesOut : Table → ℕ → Type 0
 LeavesOut table block = (key : FilePage) (entry : Newest) → known table key ≡ Some entry → entry.place.block ≢ block
 
--- the same block is being filled, up to the same page
+-- the same block is being filled, up to the same page, and what was moved is the same
 abbrev pub SameFill : LayerState → LayerState → Type 0
-SameFill old new = (new.fill ≡ old.fill) × (new.unsure ≡ old.unsure)
+SameFill old new = (new.fill ≡ old.fill) × (new.unsure ≡ old.unsure) × (new.moved ≡ old.moved)
 
 -- the block that is being filled is blank from the next page on, and is not the spare one
 pub record IsFresh (pages : Pages) (blocks : ℕ) (s : LayerState) : Type 0 where
@@ -46,6 +46,8 @@ pub record Sound (pages : Pages) (blocks : ℕ) (s : LayerState) : Type 0 where
   pub files : limit_of s.table ≤ page_len s.table + spare s.table.lens
   pub measured : (key : FilePage) (entry : Newest) → known s.table key ≡ Some entry → HasLen s.table key.file
   pub counted : IsCounted blocks s.table
+  -- there is memory for what is moved out of a block
+  pub memory : 64 ≤ vec_capacity s.moved
   -- the spare block may be erased
   pub within : s.spare < blocks
   pub is_spare : IsSpare pages (places blocks) s.spare

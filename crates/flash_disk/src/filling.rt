@@ -1,6 +1,6 @@
 //! Records that are added to the block that is being filled, and blocks that are made free for it.
 
-ghost use Rattle.std.specs.Prelude.{◌≡◌, ◌⊎◌, ◌+◌, ◌*◌, ◌≤◌, ◌<◌, ℕ, IsTrue, IsFalse, IfOk, IfSome, OnOk, OnErr, Some, None, length, vec_len, vec_capacity};
+ghost use Rattle.std.specs.Prelude.{◌≡◌, ◌⊎◌, ◌+◌, ◌*◌, ◌≤◌, ◌<◌, ℕ, IsTrue, IsFalse, IfOk, IfSome, OnOk, OnErr, Some, None, length, vec_len};
 ghost use Rattle.flash_model.specs.State.{IsStill};
 ghost use Rattle.flash_model.specs.FlashMedium.{FlashElapses, EachFlashCase};
 ghost use Rattle.flash_model.specs.Pages.{Pages};
@@ -91,7 +91,7 @@ impl<F: Flash> Layer<F> {
         ensures later { self.old.state.sequence ≤ self.new.state.sequence }
         ensures time { IsTrue F.told → FlashElapses (F.medium self.old.flash) (F.medium self.new.flash) }
         ensures cause { HasCause ((F.medium self.old.flash).faults + self.old.own) ((F.medium self.new.flash).faults + self.new.own) result }
-        ensures own { IsTrue F.told → 64 ≤ vec_capacity self.old.state.moved → (self.new.own ≡ self.old.own) ⊎ StopsAdding self.old.state }
+        ensures own { IsTrue F.told → (self.new.own ≡ self.old.own) ⊎ StopsAdding self.old.state }
     {
         self.make_room()?;
         self.add(file, page, len, bytes)
@@ -176,8 +176,7 @@ impl<F: Flash> Layer<F> {
         ensures sequence { self.new.state.sequence ≡ self.old.state.sequence }
         ensures time { IsTrue F.told → FlashElapses (F.medium self.old.flash) (F.medium self.new.flash) }
         ensures cause { HasCause ((F.medium self.old.flash).faults + self.old.own) ((F.medium self.new.flash).faults + self.new.own) result }
-        ensures memory { vec_capacity self.old.state.moved ≤ vec_capacity self.new.state.moved }
-        ensures own { IsTrue F.told → 64 ≤ vec_capacity self.old.state.moved → IsFalse self.old.state.disputed → self.new.own ≡ self.old.own }
+        ensures own { IsTrue F.told → IsFalse self.old.state.disputed → self.new.own ≡ self.old.own }
     {
         if self.state.fill < BLOCK_PAGES {
             return Ok(());
@@ -205,8 +204,7 @@ impl<F: Flash> Layer<F> {
         ensures time { IsTrue F.told → FlashElapses (F.medium self.old.flash) (F.medium self.new.flash) }
         ensures cause { HasCause ((F.medium self.old.flash).faults + self.old.own) ((F.medium self.new.flash).faults + self.new.own) result }
         ensures light { IsTrue F.told → OnOk result (self.new.state.fill < 64) }
-        ensures memory { vec_capacity self.old.state.moved ≤ vec_capacity self.new.state.moved }
-        ensures own { IsTrue F.told → 64 ≤ vec_capacity self.old.state.moved → IsFalse self.old.state.disputed → self.new.own ≡ self.old.own }
+        ensures own { IsTrue F.told → IsFalse self.old.state.disputed → self.new.own ≡ self.old.own }
     {
         let target = self.state.spare;
         let victim = self.state.table.lightest_but(target);
@@ -237,8 +235,7 @@ impl<F: Flash> Layer<F> {
         ensures time { IsTrue F.told → FlashElapses (F.medium self.old.flash) (F.medium self.new.flash) }
         ensures cause { HasCause ((F.medium self.old.flash).faults + self.old.own) ((F.medium self.new.flash).faults + self.new.own) result }
         ensures few { vec_len self.new.state.moved ≤ entries_in self.old.state.table from }
-        ensures memory { vec_capacity self.old.state.moved ≤ vec_capacity self.new.state.moved }
-        ensures own { IsTrue F.told → 64 ≤ vec_capacity self.old.state.moved → self.new.own ≡ self.old.own }
+        ensures own { IsTrue F.told → self.new.own ≡ self.old.own }
     {
         for page in 0..BLOCK_PAGES {
             self.copy_one(Place { block: from, page }, to)?;
@@ -264,8 +261,7 @@ impl<F: Flash> Layer<F> {
         ensures cause { HasCause ((F.medium self.old.flash).faults + self.old.own) ((F.medium self.new.flash).faults + self.new.own) result }
         ensures few { vec_len self.old.state.moved ≤ copied_below self.old.state.table from.block from.page
             → vec_len self.new.state.moved ≤ copied_below self.old.state.table from.block (from.page + 1) }
-        ensures memory { vec_capacity self.old.state.moved ≤ vec_capacity self.new.state.moved }
-        ensures own { IsTrue F.told → 64 ≤ vec_capacity self.old.state.moved → self.new.own ≡ self.old.own }
+        ensures own { IsTrue F.told → self.new.own ≡ self.old.own }
     {
         let mut page = BLANK_PAGE;
         self.read_page(from, &mut page)?;

@@ -111,6 +111,7 @@ impl<F: Flash> Layer<F> {
         requires full { self.old.state.fill ≡ 64 }
         requires sure { self.old.state.unsure ≡ None }
         requires counted { IsCounted blocks self.old.state.table }
+        requires moved { 64 ≤ vec_capacity self.old.state.moved }
         ensures flash { HasCause (F.medium self.old.flash).faults (F.medium self.new.flash).faults result }
         ensures pages { IsTrue F.told → (F.medium self.new.flash).state.pages ≡ (F.medium self.old.flash).state.pages }
         ensures blocks { (F.medium self.new.flash).blocks ≡ (F.medium self.old.flash).blocks }

@@ -1,6 +1,6 @@
 //! Reads and writes of the bytes of files, page by page.
 
-ghost use Rattle.std.specs.Prelude.{◌≡◌, ◌↔◌, ◌+◌, ◌-◌, ◌*◌, ◌/◌, ◌≤◌, ◌<◌, ◌^◌, ℕ, IsTrue, IfOk, OnOk, OnErr, None, length, min, max, take, drop, nat_lt, slice_index, if◌then◌else◌};
+ghost use Rattle.std.specs.Prelude.{◌≡◌, ◌⊎◌, ◌↔◌, ◌+◌, ◌-◌, ◌*◌, ◌/◌, ◌≤◌, ◌<◌, ◌^◌, ℕ, IsTrue, IfOk, OnOk, OnErr, None, length, min, max, take, drop, nat_lt, slice_index, if◌then◌else◌};
 ghost use Rattle.per_base.specs.Causes.{HasCause};
 ghost use Rattle.disk_model.specs.Image.{put_image};
 ghost use Rattle.flash_model.specs.State.{IsStill};
@@ -31,6 +31,7 @@ const PAGE: u64 = 256;
 
 impl<F: Flash> Layer<F> {
     ghost use Rattle.flash_disk.specs.Sound.{files_of, IsSound, Holds, LeavesPut, ShowsZeros, WipesPage};
+    ghost use Rattle.flash_disk.specs.OwnFaults.{StopsAdding};
 
     // The bytes of a page of a file, with zeros past the end of the file.
     fn content(&mut self, key: FilePage) -> Result<[u8; RECORD_BYTES], DiskFailed>
@@ -80,6 +81,7 @@ impl<F: Flash> Layer<F> {
         ensures later { self.old.state.sequence ≤ self.new.state.sequence }
         ensures time { IsTrue F.told → FlashElapses (F.medium self.old.flash) (F.medium self.new.flash) }
         ensures cause { HasCause ((F.medium self.old.flash).faults + self.old.own) ((F.medium self.new.flash).faults + self.new.own) result }
+        ensures own { IsTrue F.told → HasPlace self.old.state.table (record { file = file; page = page }) → (self.new.own ≡ self.old.own) ⊎ StopsAdding self.old.state }
     {
         let key = FilePage {
             file,
@@ -95,7 +97,7 @@ impl<F: Flash> Layer<F> {
 
     // Whether a page of a file has a record, or there is room for one more.
     fn has_place(&self, key: FilePage) -> bool
-        ensures { IsTrue result → HasPlace self.now.state.table key }
+        ensures { IsTrue result ↔ HasPlace self.now.state.table key }
     {
         self.state.table.find(key).is_some() || self.state.table.room() > 0
     }
@@ -141,6 +143,7 @@ impl<F: Flash> Layer<F> {
         ensures later { self.old.state.sequence ≤ self.new.state.sequence }
         ensures time { IsTrue F.told → FlashElapses (F.medium self.old.flash) (F.medium self.new.flash) }
         ensures cause { HasCause ((F.medium self.old.flash).faults + self.old.own) ((F.medium self.new.flash).faults + self.new.own) result }
+        ensures own { IsTrue F.told → (self.new.own ≡ self.old.own) ⊎ StopsAdding self.old.state }
     {
         let key = FilePage {
             file,

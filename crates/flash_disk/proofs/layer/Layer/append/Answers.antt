@@ -30,16 +30,16 @@ add-requires-clause-fits g c told =
     c.make_room.ensures.fits told c.args.file c.args.page c.args.len c.args.bytes.now (c.requires.fits told)
 
 pub returns-in_err-make_room-clause-own : goal.returns-in_err-make_room-clause-own
-returns-in_err-make_room-clause-own g c told enough = ⊎_elim
+returns-in_err-make_room-clause-own g c told = ⊎_elim
     (λ disputed. inr (inr disputed))
-    (λ calm. inl (c.make_room.ensures.own told enough calm))
+    (λ calm. inl (c.make_room.ensures.own told calm))
     (cases_Bool c.args.self.now.state.disputed)
 
 pub returns-clause-own : goal.returns-clause-own
-returns-clause-own g c told enough = ⊎_elim
+returns-clause-own g c told = ⊎_elim
     (λ disputed. inr (inr disputed))
     (λ calm. ⊎_elim
-    (λ same. inl (same ∙ c.make_room.ensures.own told enough calm))
+    (λ same. inl (same ∙ c.make_room.ensures.own told calm))
     (λ last. inr (inl (sym c.make_room.ensures.sequence ∙ last)))
     (c.add.ensures.own told))
     (cases_Bool c.args.self.now.state.disputed)

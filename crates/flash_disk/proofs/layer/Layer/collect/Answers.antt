@@ -67,7 +67,9 @@ copy_needed-requires-clause-moving g c told =
     let from = c.lightest_but-victim.result in
     let light = light_enough m.blocks s.table s.spare from sound.counted c.lightest_but-victim.ensures.within c.lightest_but-victim.ensures.lightest in
     let within : from < m.blocks = light.1 in
-    moving_none m look s sound agreed c.requires.full (c.in_ok-erase_block.ensures.done told) (e.time told).blocks t state c.clear.ensures.items
+    let same = ap (λ (q : LayerState). vec_capacity q.moved) e.state in
+    let kept = c.clear.ensures.capacity in
+    moving_none m look s sound agreed c.requires.full (c.in_ok-erase_block.ensures.done told) (e.time told).blocks t state (omega (arith, same, kept)) c.clear.ensures.items
     from s.spare refl within (λ same. c.if-victim-target.false same)
 
 pub returns-in_err-copy_needed-clause-fits : goal.returns-in_err-copy_needed-clause-fits
@@ -191,7 +193,7 @@ returns-clause-does g c told =
     stands_then m look now (e.time told) (n.time told) (erase_stands m look s sound agreed c.requires.full c.erase_block.result (e.done told) (e.failed told) (e.during told)) (n.does told)
 
 pub returns-then-self-clause-own : goal.returns-then-self-clause-own
-returns-then-self-clause-own g c told enough calm =
+returns-then-self-clause-own g c told calm =
     let s = c.args.self.now.state in
     let sound : IsSound (g.F.Flash.medium c.args.self.now.flash) s = c.requires.sound told in
     let light = light_enough (g.F.Flash.medium c.args.self.now.flash).blocks s.table s.spare c.lightest_but-victim.result sound.counted
@@ -202,27 +204,13 @@ returns-then-self-clause-own g c told enough calm =
     c.then-self.either
 
 pub returns-in_err-erase_block-clause-own : goal.returns-in_err-erase_block-clause-own
-returns-in_err-erase_block-clause-own g c told enough calm = c.erase_block.ensures.own told
+returns-in_err-erase_block-clause-own g c told calm = c.erase_block.ensures.own told
 
 pub returns-in_err-copy_needed-clause-own : goal.returns-in_err-copy_needed-clause-own
-returns-in_err-copy_needed-clause-own g c told enough calm =
-    let memory = ap (λ (q : LayerState). vec_capacity q.moved) c.erase_block.ensures.state in let kept = c.clear.ensures.capacity in
-    c.copy_needed.ensures.own told (omega (arith, memory, kept, enough)) ∙ c.erase_block.ensures.own told
+returns-in_err-copy_needed-clause-own g c told calm = c.copy_needed.ensures.own told ∙ c.erase_block.ensures.own told
 
 pub returns-clause-own : goal.returns-clause-own
-returns-clause-own g c told enough calm =
-    let memory = ap (λ (q : LayerState). vec_capacity q.moved) c.erase_block.ensures.state in let kept = c.clear.ensures.capacity in
-    c.copy_needed.ensures.own told (omega (arith, memory, kept, enough)) ∙ c.erase_block.ensures.own told
-
-pub returns-in_err-copy_needed-clause-memory : goal.returns-in_err-copy_needed-clause-memory
-returns-in_err-copy_needed-clause-memory g c =
-    let memory = ap (λ (q : LayerState). vec_capacity q.moved) c.erase_block.ensures.state in let kept = c.clear.ensures.capacity in let more = c.copy_needed.ensures.memory in
-    omega (arith, memory, kept, more)
-
-pub returns-clause-memory : goal.returns-clause-memory
-returns-clause-memory g c =
-    let memory = ap (λ (q : LayerState). vec_capacity q.moved) c.erase_block.ensures.state in let kept = c.clear.ensures.capacity in let more = c.copy_needed.ensures.memory in
-    omega (arith, memory, kept, more)
+returns-clause-own g c told calm = c.copy_needed.ensures.own told ∙ c.erase_block.ensures.own told
 
 pub returns-clause-light : goal.returns-clause-light
 returns-clause-light g c told =

@@ -15,8 +15,7 @@ loop-page-init g c =
     let lawful = g.met.F.Flash.lawful c.args.self.now.flash in record {
       later = omega arith;
       few = (let none = c.requires.none in omega (arith, none));
-      memory = omega arith;
-      own = λ told enough. refl;
+      own = λ told. refl;
       count = (let none = c.requires.none in omega (arith, none));
       state = refl;
       moving = c.requires.moving;
@@ -51,8 +50,7 @@ loop-page-preserved g c =
     let e = c.copy_one.ensures in record {
       later = (let was = i.later in let on = e.cause.later in omega (arith, was, on));
       few = fewer_copied c.args.self.now.state c.loop-page.self.state c.copy_one.new.self.state c.args.from c.loop-page.page (ap (λ (q : LayerState). q.table) i.state) i.few e.few;
-      memory = (let was = i.memory in let more = e.memory in omega (arith, was, more));
-      own = λ told enough. e.own told (let more = i.memory in omega (arith, enough, more)) ∙ i.own told enough;
+      own = λ told. e.own told ∙ i.own told;
       count = (let was = i.count in let one = e.count in omega (arith, was, one));
       state = e.state ∙ ap (λ (q : LayerState). let z : LayerState = record q { moved = c.copy_one.new.self.state.moved } in z) i.state;
       moving = λ told. c.in_ok-copy_one.ensures.moving told;
@@ -73,15 +71,9 @@ returns-in_err-copy_one-clause-few g c =
     let all = copied_in c.args.self.now.state.table c.args.from (c.loop-page.page + 1) in omega (arith, few, all)
 
 pub returns-in_err-copy_one-clause-own : goal.returns-in_err-copy_one-clause-own
-returns-in_err-copy_one-clause-own g c told enough =
+returns-in_err-copy_one-clause-own g c told =
     let i = c.loop-page.invariant in
-    c.copy_one.ensures.own told (let more = i.memory in omega (arith, enough, more)) ∙ i.own told enough
+    c.copy_one.ensures.own told ∙ i.own told
 
 pub returns-clause-own : goal.returns-clause-own
-returns-clause-own g c told enough = c.loop-page.invariant.own told enough
-
-pub returns-in_err-copy_one-clause-memory : goal.returns-in_err-copy_one-clause-memory
-returns-in_err-copy_one-clause-memory g c = let was = c.loop-page.invariant.memory in let more = c.copy_one.ensures.memory in omega (arith, was, more)
-
-pub returns-clause-memory : goal.returns-clause-memory
-returns-clause-memory g c = c.loop-page.invariant.memory
+returns-clause-own g c told = c.loop-page.invariant.own told

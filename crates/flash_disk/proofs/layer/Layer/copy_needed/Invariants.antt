@@ -4,7 +4,6 @@ use Rattle.flash_disk.specs.Newest.{places}
 use Rattle.flash_disk.specs.Does.{Does}
 use Rattle.flash_disk.specs.Standing.{Keeps, StandsFor}
 use Rattle.flash_disk.specs.Sound.{files_of}
-use Rattle.std.specs.Prelude.{vec_capacity}
 use Rattle.flash_disk.specs.Counted.{copied_below}
 use Rattle.flash_disk.specs.Moving.{IsMoving}
 use Rattle.flash_disk.proofs.layer.Layer.copy_needed.Given as goal
@@ -16,8 +15,7 @@ invariant-loop-page g l =
     record {
       later : m.faults + l.initial.self.own ≤ now.faults + l.self.own;
       few : vec_len l.self.state.moved ≤ copied_below l.initial.self.state.table l.from l.page;
-      memory : vec_capacity l.initial.self.state.moved ≤ vec_capacity l.self.state.moved;
-      own : g.F.Flash.told ≡ true → 64 ≤ vec_capacity l.initial.self.state.moved → l.self.own ≡ l.initial.self.own;
+      own : g.F.Flash.told ≡ true → l.self.own ≡ l.initial.self.own;
       count : vec_len l.self.state.moved ≤ l.page;
       state : l.self.state ≡ record l.initial.self.state { moved = l.self.state.moved };
       moving : g.F.Flash.told ≡ true → IsMoving now.state.pages now.blocks l.self.state l.from l.to l.page;

@@ -1,6 +1,6 @@
 use Rattle.std.proofs.Common.{arith, ◌≤◌, ◌≡◌, ◌+◌, ◌++◌, ◌∷◌, [], length, cond, true, Some, sym, ap, subst, refl, ◌∙◌}
 use Rattle.std.specs.Prelude.{is_ok, not, vec_len, vec_capacity}
-use Rattle.flash_disk.proofs.Spreading.{few_same, few_more, same_memory, of_err}
+use Rattle.flash_disk.proofs.Spreading.{few_same, few_more, of_err}
 use Rattle.flash_disk.specs.declared.table.Place.{Place}
 use Rattle.flash_disk.specs.declared.table.FilePage.{FilePage}
 use Rattle.flash_disk.specs.declared.table.Newest.{Newest}
@@ -241,7 +241,8 @@ returns-then-is_err-clause-failed g c told =
     c.fault.ensures.state ∙ ap (λ (q : LayerState). let z : LayerState = record q { moved = c.push.new.self } in z) p.state in
     subst (IsSound (g.F.Flash.medium c.fault.new.self.flash)) (sym state)
     (subst (λ f. IsSound (g.F.Flash.medium f) (record s { moved = c.push.new.self })) (sym c.fault.ensures.flash)
-    (as_said now.state.pages now.blocks s (record s { moved = c.push.new.self }) sound))
+    (as_said now.state.pages now.blocks s (record s { moved = c.push.new.self }) sound
+    (let same = ap (λ (q : LayerState). vec_capacity q.moved) p.state in let more = c.push.ensures.capacity in omega (arith, same, more))))
 
 pub returns-clause-moving : goal.returns-clause-moving
 returns-clause-moving g c told =
@@ -264,7 +265,9 @@ returns-clause-moving g c told =
     copied look s c.args.from.block c.args.to c.args.from.page moving c.requires.page c.read_page.new.out read key old is at.0 at.1 c.len.result long now (c.in_ok-program_page.ensures.done told) (p.time told).blocks
     (λ k entry found block page. let up = looked_up look s c.args.from.block c.args.to c.args.from.page moving c.requires.page c.read_page.new.out read
     c.newest_in.result c.newest_in.ensures.found k entry found block page in (found_same c.newest_in.result key k old entry c.in-Some.is up).0)
-    t state (
+    t state
+    (let same = ap (λ (q : LayerState). vec_capacity q.moved) p.state in let more = c.push.ensures.capacity in omega (arith, same, more))
+    (
     let u = c.program_page.new.self.state in
     let place : Place = record { block = c.args.to; page = c.len.result } in
     let new : Newest = record old { place = place } in
@@ -275,38 +278,26 @@ returns-clause-moving g c told =
 pub returns-in_err-read_page-clause-few : goal.returns-in_err-read_page-clause-few
 returns-in_err-read_page-clause-few g c few = few_same c.args.self.now.state c.read_page.new.self.state c.args.from.block c.args.from.page c.read_page.ensures.state few
 
-pub returns-in_err-read_page-clause-memory : goal.returns-in_err-read_page-clause-memory
-returns-in_err-read_page-clause-memory g c = same_memory c.args.self.now.state c.read_page.new.self.state c.read_page.ensures.state
-
 pub returns-in_err-read_page-clause-own : goal.returns-in_err-read_page-clause-own
-returns-in_err-read_page-clause-own g c told enough = c.read_page.ensures.own
+returns-in_err-read_page-clause-own g c told = c.read_page.ensures.own
 
 pub returns-in_default-clause-few : goal.returns-in_default-clause-few
 returns-in_default-clause-few g c few = few_same c.args.self.now.state c.read_page.new.self.state c.args.from.block c.args.from.page c.read_page.ensures.state few
 
-pub returns-in_default-clause-memory : goal.returns-in_default-clause-memory
-returns-in_default-clause-memory g c = same_memory c.args.self.now.state c.read_page.new.self.state c.read_page.ensures.state
-
 pub returns-in_default-clause-own : goal.returns-in_default-clause-own
-returns-in_default-clause-own g c told enough = c.read_page.ensures.own
+returns-in_default-clause-own g c told = c.read_page.ensures.own
 
 pub returns-then-ne-clause-few : goal.returns-then-ne-clause-few
 returns-then-ne-clause-few g c few = few_same c.args.self.now.state c.read_page.new.self.state c.args.from.block c.args.from.page c.read_page.ensures.state few
 
-pub returns-then-ne-clause-memory : goal.returns-then-ne-clause-memory
-returns-then-ne-clause-memory g c = same_memory c.args.self.now.state c.read_page.new.self.state c.read_page.ensures.state
-
 pub returns-then-ne-clause-own : goal.returns-then-ne-clause-own
-returns-then-ne-clause-own g c told enough = c.read_page.ensures.own
+returns-then-ne-clause-own g c told = c.read_page.ensures.own
 
 pub returns-in_err-program_page-clause-few : goal.returns-in_err-program_page-clause-few
 returns-in_err-program_page-clause-few g c few = few_same c.args.self.now.state c.program_page.new.self.state c.args.from.block c.args.from.page (c.program_page.ensures.state ∙ c.read_page.ensures.state) few
 
-pub returns-in_err-program_page-clause-memory : goal.returns-in_err-program_page-clause-memory
-returns-in_err-program_page-clause-memory g c = same_memory c.args.self.now.state c.program_page.new.self.state (c.program_page.ensures.state ∙ c.read_page.ensures.state)
-
 pub returns-in_err-program_page-clause-own : goal.returns-in_err-program_page-clause-own
-returns-in_err-program_page-clause-own g c told enough = c.program_page.ensures.own told ∙ c.read_page.ensures.own
+returns-in_err-program_page-clause-own g c told = c.program_page.ensures.own told ∙ c.read_page.ensures.own
 
 pub returns-then-is_err-clause-few : goal.returns-then-is_err-clause-few
 returns-then-is_err-clause-few g c few =
@@ -320,15 +311,8 @@ returns-then-is_err-clause-few g c few =
     few_more start.table c.args.from.block c.args.from.page key old is at.0 at.1 (vec_len start.moved) (vec_len c.fault.new.self.state.moved) few
     (let up = c.push.ensures.upper_bound in omega (arith, moved, now, up))
 
-pub returns-then-is_err-clause-memory : goal.returns-then-is_err-clause-memory
-returns-then-is_err-clause-memory g c =
-    let start = c.args.self.now.state in
-    let moved : vec_capacity c.program_page.new.self.state.moved ≡ vec_capacity start.moved = ap (λ (q : LayerState). vec_capacity q.moved) (c.program_page.ensures.state ∙ c.read_page.ensures.state) in
-    let now : vec_capacity c.fault.new.self.state.moved ≡ vec_capacity c.push.new.self = ap (λ (q : LayerState). vec_capacity q.moved) c.fault.ensures.state in
-    let more = c.push.ensures.capacity in omega (arith, moved, now, more)
-
 pub returns-then-is_err-clause-own : goal.returns-then-is_err-clause-own
-returns-then-is_err-clause-own g c told enough =
+returns-then-is_err-clause-own g c told =
     let start = c.args.self.now.state in
     let state = c.program_page.ensures.state ∙ c.read_page.ensures.state in
     let len : vec_len c.program_page.new.self.state.moved ≡ vec_len start.moved = ap (λ (q : LayerState). vec_len q.moved) state in
@@ -336,10 +320,11 @@ returns-then-is_err-clause-own g c told enough =
     let full = of_err c.push.result (c.is_err.ensures.negation ∙ ap not c.if-is_err.true) c.push.ensures.full in
     let count = c.requires.count in
     let page = c.requires.page in
+    let enough = (c.requires.moving told).sound.memory in
     absurd (omega (arith, len, memory, full, count, page, enough))
 
 pub returns-clause-own : goal.returns-clause-own
-returns-clause-own g c told enough = c.program_page.ensures.own told ∙ c.read_page.ensures.own
+returns-clause-own g c told = c.program_page.ensures.own told ∙ c.read_page.ensures.own
 
 pub returns-clause-few : goal.returns-clause-few
 returns-clause-few g c few =
@@ -352,10 +337,3 @@ returns-clause-few g c few =
     let now : vec_len (let u : LayerState = record c.program_page.new.self.state { moved = c.push.new.self } in u).moved ≡ vec_len c.push.new.self = refl in
     few_more start.table c.args.from.block c.args.from.page key old is at.0 at.1 (vec_len start.moved) (vec_len (let u : LayerState = record c.program_page.new.self.state { moved = c.push.new.self } in u).moved) few
     (let up = c.push.ensures.upper_bound in omega (arith, moved, now, up))
-
-pub returns-clause-memory : goal.returns-clause-memory
-returns-clause-memory g c =
-    let start = c.args.self.now.state in
-    let moved : vec_capacity c.program_page.new.self.state.moved ≡ vec_capacity start.moved = ap (λ (q : LayerState). vec_capacity q.moved) (c.program_page.ensures.state ∙ c.read_page.ensures.state) in
-    let now : vec_capacity (let u : LayerState = record c.program_page.new.self.state { moved = c.push.new.self } in u).moved ≡ vec_capacity c.push.new.self = refl in
-    let more = c.push.ensures.capacity in omega (arith, moved, now, more)

@@ -1,3 +1,4 @@
+use Rattle.std.specs.Prelude.{vec_capacity}
 use Rattle.flash_disk.specs.Counted.{IsCounted}
 use Rattle.std.proofs.Common.{◌≡◌, ◌<◌, ◌≤◌, true, false, sym, ap, inr, ◌∙◌, subst, arith}
 use Rattle.std.specs.HashMap.{spare}
@@ -78,3 +79,5 @@ returns-in-Ok-clause-sound g c told usable_now =
     (c.measure.ensures.counted blocks
     (let first_counted : IsCounted blocks first = subst (λ b. IsCounted b first) (sym c.requires.blocks) (e.counted (subst (λ b. IsCounted b c.args.self.now.state.table) c.requires.blocks c.requires.counted)) in
     subst (λ b. IsCounted b left) all_is (l.counted (subst (λ b. IsCounted b second) (sym all_is) (subst (IsCounted blocks) (sym f.table) first_counted)))))
+    (let same : vec_capacity c.leave_spare.new.self.state.moved ≡ vec_capacity c.args.self.now.state.moved = ap (λ q. vec_capacity q) (l.fill.1.1 ∙ (f.fill.1.1 ∙ e.fill.1.1)) in
+    let enough = c.requires.moved in omega (arith, same, enough))

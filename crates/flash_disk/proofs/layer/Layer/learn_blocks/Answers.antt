@@ -37,7 +37,7 @@ loop-block-preserved g c =
           (e.learns told (learnt_there pages seen (i.1 told) (64 * block) was (i.4 told)))))),
       e.lens ∙ i.5,
       e.own ∙ i.6,
-      (e.fill.0 ∙ i.7.0, e.fill.1 ∙ i.7.1),
+      (e.fill.0 ∙ i.7.0, e.fill.1.0 ∙ i.7.1.0, e.fill.1.1 ∙ i.7.1.1),
       (λ told start. subst (λ k. Tops pages k top) next
           (subst (λ q. Tops q (64 * block + 64) top) (i.1 told)
           (e.tops told (subst (λ q. Tops q (64 * block) c.loop-block.self.state.sequence) (sym (i.1 told)) (i.8 told start)) c.if-not-branch.false))),

@@ -1,6 +1,4 @@
 use Rattle.std.proofs.Common.{refl, sym, ap, subst, arith}
-use Rattle.std.specs.Prelude.{vec_capacity}
-use Rattle.flash_disk.specs.declared.layer.LayerState.{LayerState}
 use Rattle.flash_disk.specs.Sound.{files_of, FitsIn}
 use Rattle.flash_disk.specs.Standing.{StandsFor}
 use Rattle.flash_disk.proofs.Stretches.{does_nothing}
@@ -19,7 +17,4 @@ returns-clause-fits g c told file page len bytes fits =
     (subst (λ s. FitsIn (g.F.Flash.medium c.collect.new.self.flash) s file page len bytes) (sym c.fault.ensures.state) (c.collect.ensures.fits told file page len bytes fits))
 
 pub returns-clause-own : goal.returns-clause-own
-returns-clause-own g c told enough calm = absurd (let less = c.in_ok-collect.ensures.light told in omega (arith, less))
-
-pub returns-clause-memory : goal.returns-clause-memory
-returns-clause-memory g c = (let same = ap (λ (q : LayerState). vec_capacity q.moved) c.fault.ensures.state in let more = c.collect.ensures.memory in omega (arith, same, more))
+returns-clause-own g c told calm = absurd (let less = c.in_ok-collect.ensures.light told in omega (arith, less))
