@@ -8,6 +8,7 @@ use Rattle.flash_model.specs.Pages.{IsPlain}
 use Rattle.flash_model.specs.State.{Announced, FlashState, FlashCase}
 use Rattle.flash_model.specs.FlashMedium.{FlashMedium}
 use Rattle.flash_disk.specs.FlashFiles.{flash_files}
+use Rattle.flash_disk.specs.FlashView.{FlashView}
 
 -- the files after these writes
 abbrev pub put_announced : Image → List Announced → Image
@@ -45,3 +46,7 @@ flash_disk_medium told m own written = record {
   faults = m.faults + own;
   written = written;
 }
+
+-- what is said of a disk that is seen so
+abbrev pub disk_seen : {F : Type 0} → (told : Bool) → (F → FlashMedium) → FlashView F → Medium
+disk_seen told medium v = flash_disk_medium told (medium v.flash) v.own v.written

@@ -8,6 +8,8 @@ use Rattle.flash_disk.specs.Sound.{Holds}
 -- the flash, and what the disk counts
 pub record FlashView (F : Type 0) : Type 0 where
   pub flash : F
+  -- the greatest number that was used for a record
+  pub sequence : ℕ
   -- how many calls failed though the flash did not, up to the greatest u64
   pub own : ℕ
   -- how many bytes were written into files
@@ -15,7 +17,8 @@ pub record FlashView (F : Type 0) : Type 0 where
 
 abbrev pub view_code : {F : Type 0} → Coded F → Coded (FlashView F)
 view_code {F} code =
-    code_by (F × (ℕ × ℕ)) (coded× code (coded× coded_ℕ coded_ℕ)) (λ v. (v.flash, (v.own, v.written))) (λ p. record { flash = p.0; own = p.1.0; written = p.1.1 }) (λ _. refl)
+    code_by (F × (ℕ × (ℕ × ℕ))) (coded× code (coded× coded_ℕ (coded× coded_ℕ coded_ℕ))) (λ v. (v.flash, (v.sequence, (v.own, v.written))))
+    (λ p. record { flash = p.0; sequence = p.1.0; own = p.1.1.0; written = p.1.1.1 }) (λ _. refl)
 
 -- what is known of the flash fits it, and no more bytes were written than records with these numbers hold
 pub record IsKept (told : Bool) (m : FlashMedium) (s : LayerState) (written : ℕ) : Type 0 where

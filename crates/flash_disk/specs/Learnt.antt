@@ -1,5 +1,5 @@
 -- How a table is tied to the records on a flash.
-use Rattle.std.specs.Prelude.{◌≡◌, ◌≢◌, ◌⊎◌, ℕ, ◌+◌, ◌*◌, ◌<◌, ◌≤◌, Bool, true, false, List, Option, Some, None, IsFalse, IsSome, nat_lt, slice_index, if◌then◌else◌}
+use Rattle.std.specs.Prelude.{◌≡◌, ◌≢◌, ◌⊎◌, ℕ, ◌+◌, ◌*◌, ◌<◌, ◌≤◌, Bool, true, false, List, Option, Some, None, IsTrue, IsFalse, IsSome, nat_lt, slice_index, if◌then◌else◌}
 use Rattle.flash_model.specs.Pages.{Pages, blank_page, program_page}
 use Rattle.flash_disk.specs.declared.table.FilePage.{FilePage}
 use Rattle.flash_disk.specs.declared.table.Place.{Place}
@@ -8,6 +8,7 @@ use Rattle.flash_disk.specs.declared.table.Table.{Table}
 use Rattle.flash_disk.specs.Newest.{Placed, record_at, is_of, newest, page_count, IsCopyOf, IsSpare}
 use Rattle.flash_record.specs.PageRecord.{PageRecord}
 use Rattle.flash_disk.specs.Known.{same_page, known, page_len, limit_of, len_known, HasRoom}
+use Rattle.flash_disk.specs.Standing.{IsRivalled}
 use Rattle.flash_disk.specs.FlashFiles.{file_byte, file_len, IsFileLen}
 
 abbrev pub number : Place → ℕ
@@ -37,6 +38,7 @@ pub record Learns (pages : Pages) (n : ℕ) (entry : Newest) (x : Placed) : Type
   pub place : number entry.place ≡ x.place
   pub twin : TwinSays pages n x entry.twin
   pub agreed : IsFalse entry.rivalled → Unrivalled pages n x
+  pub rivals : IsTrue entry.rivalled → IsRivalled pages n x
   pub page : x.says.page < 4294967296
 
 abbrev pub LearnsOf : Pages → ℕ → Option Newest → Option Placed → Type 0
@@ -68,8 +70,9 @@ pub record TwinAt (first : Option PageRecord) (r : PageRecord) (old : Newest) (p
   pub other : (q : PageRecord) → first ≡ Some q → (SaysTheSame q r → ⊥) → twin ≡ old.twin
 
 -- whether the newest record is rivalled after a record with its number was found: where it is not, the two are equal
-abbrev pub RivalledAt : Option PageRecord → PageRecord → Newest → Bool → Type 0
-RivalledAt first r old rivalled = IsFalse rivalled → IsFalse old.rivalled × ((q : PageRecord) → first ≡ Some q → SaysTheSame q r)
+pub record RivalledAt (first : Option PageRecord) (r : PageRecord) (old : Newest) (rivalled : Bool) : Type 0 where
+  pub calm : IsFalse rivalled → IsFalse old.rivalled × ((q : PageRecord) → first ≡ Some q → SaysTheSame q r)
+  pub rivals : IsTrue rivalled → IsTrue old.rivalled ⊎ ((q : PageRecord) → first ≡ Some q → SaysTheSame q r → ⊥)
 
 -- all these places are learnt, and there are not too many pages; or there are
 abbrev pub LearnsAll : Pages → (n limit : ℕ) → Table → Bool → Type 0
@@ -92,6 +95,7 @@ pub record Leaves (pages : Pages) (n block : ℕ) (entry : Newest) (x : Placed) 
   pub led : Led pages n entry x
   pub twin : TwinSays pages n x entry.twin
   pub agreed : IsFalse entry.rivalled → Unrivalled pages n x
+  pub rivals : IsTrue entry.rivalled → IsRivalled pages n x
   pub page : x.says.page < 4294967296
   pub moved : (number entry.place ≡ x.place) ⊎ (entry.place.block ≢ block)
 
@@ -144,6 +148,11 @@ HasPlace table key = IsSome (known table key) ⊎ (page_len table < limit_of tab
 -- no record has a greater number
 abbrev pub Tops : Pages → (n top : ℕ) → Type 0
 Tops pages n top = (j : ℕ) (q : PageRecord) → j < n → record_at pages j ≡ Some q → q.sequence ≤ top
+
+-- this is the greatest number of a record; 0 where there is no record
+pub record IsTop (pages : Pages) (n top : ℕ) : Type 0 where
+  pub most : Tops pages n top
+  pub one : (top ≡ 0) ⊎ ((j : ℕ) × (q : PageRecord) × (j < n) × (record_at pages j ≡ Some q) × (q.sequence ≡ top))
 
 -- a blank page was programmed with these bytes, or nothing was
 abbrev pub ProgramsIf : Bool → Place → (blocks : ℕ) → List ℕ → Pages → Pages → Type 0

@@ -12,6 +12,8 @@ pub mod FlashView
 pub mod FlashDiskMedium
 pub mod Sound
 pub mod OwnFaults
+pub mod Entries
+pub mod Spares
 pub mod Writes
 pub mod Moving
 pub mod FlashDiskLaws

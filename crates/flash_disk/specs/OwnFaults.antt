@@ -1,7 +1,31 @@
 -- Where a call fails though its flash does not.
-use Rattle.std.specs.Prelude.{◌≡◌, ◌⊎◌, IsTrue}
+use Rattle.std.specs.Prelude.{◌≡◌, ◌⊎◌, ℕ, zero, suc, ◌+◌, ◌-◌, ◌/◌, ◌<◌, is_none, IsTrue, if◌then◌else◌}
+use Rattle.std.specs.Int.{div_ceil}
+use Rattle.flash_model.specs.Pages.{Pages}
+use Rattle.flash_model.specs.FlashMedium.{FlashMedium}
 use Rattle.flash_disk.specs.declared.layer.LayerState.{LayerState}
+use Rattle.flash_disk.specs.Newest.{newest, places, page_count, page_limit}
+use Rattle.flash_disk.specs.Standing.{HasRivals}
 
--- no record can be added, whatever room there is: the greatest number was used, or two records of a page that have its greatest number differ
+-- how many of k pages of a file from one on have no record in the first n places
+abbrev pub lacking : Pages → (n file from k : ℕ) → ℕ
+lacking pages n file from zero = 0
+lacking pages n file from (suc k) = lacking pages n file from k + (if is_none (newest pages file (from + k) n) then 1 else 0)
+
+-- a write of n bytes would end past the end of the greatest file
+abbrev pub EndsTooLate : (at n : ℕ) → Type 0
+EndsTooLate at n = 1099511627776 < at + n
+
+-- after it there would be more pages than all blocks but two have room for
+abbrev pub WantsTooMany : FlashMedium → (file at n : ℕ) → Type 0
+WantsTooMany m file at n = page_limit m.blocks < page_count m.state.pages (places m.blocks)
+    + lacking m.state.pages (places m.blocks) file (at / 256) (div_ceil (at + n) 256 - at / 256)
+
+-- no record can be added: the greatest number was used, or two records of a page that have its greatest number differ
 abbrev pub StopsAdding : LayerState → Type 0
 StopsAdding s = (s.sequence ≡ 18446744073709551615) ⊎ IsTrue s.disputed
+
+-- a write of n bytes into a file fails though the flash does not, where the greatest number that was used is then this one
+abbrev pub FailsAlone : FlashMedium → (sequence file at n : ℕ) → Type 0
+FailsAlone m sequence file at n = EndsTooLate at n ⊎ (WantsTooMany m file at n
+    ⊎ ((sequence ≡ 18446744073709551615) ⊎ HasRivals m.state.pages (places m.blocks)))

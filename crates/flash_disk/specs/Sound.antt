@@ -1,5 +1,5 @@
 -- What a disk over flash keeps in memory, and how it fits what the pages hold.
-use Rattle.std.specs.Prelude.{◌≡◌, ◌≢◌, ◌⊎◌, ℕ, ◌/◌, ◌%◌, ◌+◌, ◌*◌, ◌<◌, ◌≤◌, ◌==◌, ◌&&◌, List, Option, Some, None, IsFalse, length, vec_capacity, slice_index, if◌then◌else◌}
+use Rattle.std.specs.Prelude.{◌≡◌, ◌≢◌, ◌⊎◌, ℕ, ◌/◌, ◌%◌, ◌+◌, ◌*◌, ◌<◌, ◌≤◌, ◌==◌, ◌&&◌, List, Option, Some, None, IsTrue, IsFalse, length, vec_capacity, slice_index, if◌then◌else◌}
 use Rattle.std.specs.HashMap.{spare}
 use Rattle.disk_model.specs.Image.{Image}
 use Rattle.flash_model.specs.Pages.{Pages, blank_page, TornPage}
@@ -15,7 +15,7 @@ use Rattle.flash_disk.specs.Known.{known, page_len, limit_of, page_of, HasLen}
 use Rattle.flash_disk.specs.Counted.{IsCounted}
 use Rattle.flash_disk.specs.Learnt.{number, Knows, Adds, HasPlace, Tops}
 use Rattle.flash_disk.specs.FlashFiles.{file_byte, file_len, flash_files}
-use Rattle.flash_disk.specs.Standing.{IsAgreed, IsStrayless, MayGrow, HasSpare}
+use Rattle.flash_disk.specs.Standing.{IsAgreed, HasRivals, IsStrayless, MayGrow, HasSpare}
 use Rattle.flash_disk.specs.PutPart.{PutOrNot}
 
 abbrev pub files_of : FlashMedium → Image
@@ -52,6 +52,7 @@ pub record Sound (pages : Pages) (blocks : ℕ) (s : LayerState) : Type 0 where
   pub within : s.spare < blocks
   pub is_spare : IsSpare pages (places blocks) s.spare
   pub agreed : IsFalse s.disputed → IsAgreed pages (places blocks)
+  pub rivals : IsTrue s.disputed → HasRivals pages (places blocks)
   pub apart : IsFalse s.disputed → LeavesOut s.table s.spare
   pub fresh : s.fill < 64 → IsFresh pages blocks s
 

@@ -16,6 +16,20 @@ abbrev pub IsAgreed : Pages → ℕ → Type 0
 IsAgreed pages n = (file page : ℕ) (x : Placed) → newest pages file page n ≡ Some x
     → (j : ℕ) (q : PageRecord) → j < n → record_at pages j ≡ Some q → is_of file page q ≡ true → q.sequence ≡ x.says.sequence → q ≡ x.says
 
+-- another record of the page has the number of this one and says something else
+pub record IsRivalled (pages : Pages) (n : ℕ) (x : Placed) : Type 0 where
+  pub place : ℕ
+  pub says : PageRecord
+  pub within : place < n
+  pub there : record_at pages place ≡ Some says
+  pub of_page : is_of x.says.file x.says.page says ≡ true
+  pub number : says.sequence ≡ x.says.sequence
+  pub differs : says ≢ x.says
+
+-- two records of one page that have its greatest number differ
+abbrev pub HasRivals : Pages → ℕ → Type 0
+HasRivals pages n = (file page : ℕ) × (x : Placed) × (newest pages file page n ≡ Some x) × IsRivalled pages n x
+
 -- no record came that was not there, and of each newest record one is left
 pub record Keeps (old new : Pages) (n : ℕ) : Type 0 where
   pub only : (j : ℕ) (q : PageRecord) → j < n → record_at new j ≡ Some q → (k : ℕ) × (k < n) × (record_at old k ≡ Some q)

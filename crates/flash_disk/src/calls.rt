@@ -1,7 +1,10 @@
 //! The calls of a disk.
 
-ghost use Rattle.std.specs.Prelude.{◌≡◌, ◌+◌, ◌-◌, ◌*◌, ◌≤◌, IsTrue, IfOk, OnOk, OnErr, length, take, drop, min};
+ghost use Rattle.std.specs.Prelude.{◌≡◌, ◌⊎◌, ◌+◌, ◌-◌, ◌*◌, ◌≤◌, IsTrue, IfOk, OnOk, OnErr, length, take, drop, min};
 ghost use Rattle.per_base.specs.Causes.{Rose};
+ghost use Rattle.std.specs.Int.{div_ceil};
+ghost use Rattle.disk_model.specs.Image.{put_image, TornImage};
+ghost use Rattle.disk_model.specs.Case.{Follows, WriteCase, WriteOrNot};
 ghost use Rattle.disk_model.specs.Medium.{Quiet, Elapses, OnlyReads, WritesNothing};
 
 use crate::disk::FlashDisk;
@@ -9,7 +12,9 @@ use disk_model::{Disk, DiskFailed};
 use flash_model::Flash;
 
 impl<F: Flash> Disk for FlashDisk<F> {
-    ghost use Rattle.flash_disk.specs.FlashDiskMedium.{flash_disk_medium};
+    ghost use Rattle.flash_disk.specs.FlashDiskMedium.{flash_disk_medium, disk_seen};
+    ghost use Rattle.flash_disk.specs.OwnFaults.{FailsAlone};
+    ghost use Rattle.flash_disk.specs.Spares.{KeepsSpare};
     ghost use Rattle.flash_disk.specs.FlashDiskLaws.{disk_is_lawful};
 
     ghost told = { F.told };
@@ -21,20 +26,48 @@ impl<F: Flash> Disk for FlashDisk<F> {
     fn read(&mut self, file: u32, at: u64, out: &mut [u8]) -> Result<usize, DiskFailed>
         ensures count { IfOk result (λ n. n ≤ length out.old) }
         ensures bytes { IsTrue F.told → IfOk result (λ n.
-            (n ≡ min (length out.old) (length ((flash_disk_medium F.told (F.medium self.old.flash) self.old.own self.old.written).image file) - at))
-            × (take n out.new ≡ take n (drop at ((flash_disk_medium F.told (F.medium self.old.flash) self.old.own self.old.written).image file)))) }
-        ensures reads { OnlyReads (flash_disk_medium F.told (F.medium self.old.flash) self.old.own self.old.written) (flash_disk_medium F.told (F.medium self.new.flash) self.new.own self.new.written) }
-        ensures time { Elapses (flash_disk_medium F.told (F.medium self.old.flash) self.old.own self.old.written) (flash_disk_medium F.told (F.medium self.new.flash) self.new.own self.new.written) }
-        ensures cause { OnErr result (Rose (flash_disk_medium F.told (F.medium self.old.flash) self.old.own self.old.written).faults (flash_disk_medium F.told (F.medium self.new.flash) self.new.own self.new.written).faults) }
+            (n ≡ min (length out.old) (length ((disk_seen F.told F.medium self.old).image file) - at))
+            × (take n out.new ≡ take n (drop at ((disk_seen F.told F.medium self.old).image file)))) }
+        ensures reads { OnlyReads (disk_seen F.told F.medium self.old) (disk_seen F.told F.medium self.new) }
+        ensures time { Elapses (disk_seen F.told F.medium self.old) (disk_seen F.told F.medium self.new) }
+        ensures cause { OnErr result (Rose (disk_seen F.told F.medium self.old).faults (disk_seen F.told F.medium self.new).faults) }
 
-        // No fault is its own.
+        // No fault is its own, no number is used, and some block is spare at every moment.
         ensures own { self.new.own ≡ self.old.own }
+        ensures numbers { self.new.sequence ≡ self.old.sequence }
+        ensures spare { IsTrue F.told → KeepsSpare (F.medium self.old.flash) (F.medium self.new.flash) }
     {
         self.layer.make_sure()?;
         self.layer.read_file(file, at, out)
     }
 
-    fn write_at(&mut self, file: u32, at: u64, bytes: &[u8]) -> Result<(), DiskFailed> {
+    fn write_at(&mut self, file: u32, at: u64, bytes: &[u8]) -> Result<(), DiskFailed>
+        ensures image { IsTrue F.told → OnOk result
+            ((disk_seen F.told F.medium self.new).image ≡ put_image (disk_seen F.told F.medium self.old).image file at bytes.now) }
+        ensures torn { IsTrue F.told → OnErr result
+            (TornImage file at (length bytes.now) (disk_seen F.told F.medium self.old).image (disk_seen F.told F.medium self.new).image) }
+        ensures now { OnOk result (Follows (WriteCase file at bytes.now) (disk_seen F.told F.medium self.old).now (disk_seen F.told F.medium self.new).now) }
+        ensures during { Follows (WriteOrNot file at bytes.now) (disk_seen F.told F.medium self.old).now
+            ((disk_seen F.told F.medium self.new).since (disk_seen F.told F.medium self.old).moment) }
+        ensures written { IsTrue F.told → OnOk result
+            ((disk_seen F.told F.medium self.new).written ≡ (disk_seen F.told F.medium self.old).written + length bytes.now) }
+        ensures at_most { (disk_seen F.told F.medium self.new).written ≤ (disk_seen F.told F.medium self.old).written + length bytes.now }
+        ensures time { Elapses (disk_seen F.told F.medium self.old) (disk_seen F.told F.medium self.new) }
+        ensures cause { OnErr result (Rose (disk_seen F.told F.medium self.old).faults (disk_seen F.told F.medium self.new).faults) }
+
+        // When a fault is its own: one at most, and only of a call that fails.
+        ensures own { IsTrue F.told → (self.new.own ≡ self.old.own)
+            ⊎ FailsAlone (F.medium self.old.flash) self.new.sequence file at (length bytes.now) }
+        ensures kept { OnOk result (self.new.own ≡ self.old.own) }
+        ensures one { self.new.own ≤ self.old.own + 1 }
+
+        // How many numbers it uses: at most one for each byte, and one for each page below its end.
+        ensures later { self.old.sequence ≤ self.new.sequence }
+        ensures steps { self.new.sequence ≤ self.old.sequence + length bytes.now + div_ceil (at + length bytes.now) 256 }
+
+        // Some block is spare at every moment.
+        ensures spare { IsTrue F.told → KeepsSpare (F.medium self.old.flash) (F.medium self.new.flash) }
+    {
         if bytes.is_empty() {
             return Ok(());
         }
@@ -45,27 +78,31 @@ impl<F: Flash> Disk for FlashDisk<F> {
     }
 
     fn size(&mut self, file: u32) -> Result<u64, DiskFailed>
-        ensures size { IsTrue F.told → IfOk result (λ n. n ≡ length ((flash_disk_medium F.told (F.medium self.old.flash) self.old.own self.old.written).image file)) }
-        ensures reads { OnlyReads (flash_disk_medium F.told (F.medium self.old.flash) self.old.own self.old.written) (flash_disk_medium F.told (F.medium self.new.flash) self.new.own self.new.written) }
-        ensures time { Elapses (flash_disk_medium F.told (F.medium self.old.flash) self.old.own self.old.written) (flash_disk_medium F.told (F.medium self.new.flash) self.new.own self.new.written) }
-        ensures cause { OnErr result (Rose (flash_disk_medium F.told (F.medium self.old.flash) self.old.own self.old.written).faults (flash_disk_medium F.told (F.medium self.new.flash) self.new.own self.new.written).faults) }
+        ensures size { IsTrue F.told → IfOk result (λ n. n ≡ length ((disk_seen F.told F.medium self.old).image file)) }
+        ensures reads { OnlyReads (disk_seen F.told F.medium self.old) (disk_seen F.told F.medium self.new) }
+        ensures time { Elapses (disk_seen F.told F.medium self.old) (disk_seen F.told F.medium self.new) }
+        ensures cause { OnErr result (Rose (disk_seen F.told F.medium self.old).faults (disk_seen F.told F.medium self.new).faults) }
 
-        // No fault is its own.
+        // No fault is its own, no number is used, and some block is spare at every moment.
         ensures own { self.new.own ≡ self.old.own }
+        ensures numbers { self.new.sequence ≡ self.old.sequence }
+        ensures spare { IsTrue F.told → KeepsSpare (F.medium self.old.flash) (F.medium self.new.flash) }
     {
         self.layer.make_sure()?;
         Ok(self.layer.file_size(file))
     }
 
     fn sync(&mut self) -> Result<(), DiskFailed>
-        ensures quiet { OnOk result (Quiet (flash_disk_medium F.told (F.medium self.new.flash) self.new.own self.new.written)) }
-        ensures failed { OnErr result (OnlyReads (flash_disk_medium F.told (F.medium self.old.flash) self.old.own self.old.written) (flash_disk_medium F.told (F.medium self.new.flash) self.new.own self.new.written)) }
-        ensures writes_nothing { WritesNothing (flash_disk_medium F.told (F.medium self.old.flash) self.old.own self.old.written) (flash_disk_medium F.told (F.medium self.new.flash) self.new.own self.new.written) }
-        ensures time { Elapses (flash_disk_medium F.told (F.medium self.old.flash) self.old.own self.old.written) (flash_disk_medium F.told (F.medium self.new.flash) self.new.own self.new.written) }
-        ensures cause { OnErr result (Rose (flash_disk_medium F.told (F.medium self.old.flash) self.old.own self.old.written).faults (flash_disk_medium F.told (F.medium self.new.flash) self.new.own self.new.written).faults) }
+        ensures quiet { OnOk result (Quiet (disk_seen F.told F.medium self.new)) }
+        ensures failed { OnErr result (OnlyReads (disk_seen F.told F.medium self.old) (disk_seen F.told F.medium self.new)) }
+        ensures writes_nothing { WritesNothing (disk_seen F.told F.medium self.old) (disk_seen F.told F.medium self.new) }
+        ensures time { Elapses (disk_seen F.told F.medium self.old) (disk_seen F.told F.medium self.new) }
+        ensures cause { OnErr result (Rose (disk_seen F.told F.medium self.old).faults (disk_seen F.told F.medium self.new).faults) }
 
-        // No fault is its own.
+        // No fault is its own, no number is used, and some block is spare at every moment.
         ensures own { self.new.own ≡ self.old.own }
+        ensures numbers { self.new.sequence ≡ self.old.sequence }
+        ensures spare { IsTrue F.told → KeepsSpare (F.medium self.old.flash) (F.medium self.new.flash) }
     {
         self.layer.make_sure()?;
         match self.layer.flash.settle() {

@@ -27,7 +27,7 @@ pub struct FlashRefused<F> {
     pub error: FlashOpenError,
 }
 
-/// A disk over a flash. Contracts see the flash, and what the disk counts.
+/// A disk over a flash. Contracts see the flash, the greatest number that was used, and what the disk counts.
 #[derive(Drop)]
 pub struct FlashDisk<F: Flash> {
     pub(crate) layer: Layer<F>,
@@ -42,7 +42,12 @@ impl<F: Flash> Model for FlashDisk<F> {
 
     ghost coded = { view_code F.code };
 
-    ghost view = { λ disk. record { flash = disk.layer.flash; own = disk.layer.own; written = disk.written } };
+    ghost view = { λ disk. record {
+      flash = disk.layer.flash;
+      sequence = disk.layer.state.sequence;
+      own = disk.layer.own;
+      written = disk.written;
+    } };
 
     ghost invariant = { λ disk. IsKept F.told (F.medium disk.layer.flash) disk.layer.state disk.written };
 }

@@ -8,6 +8,7 @@ ghost use Rattle.flash_record.specs.PageRecord.{PageRecord, record_in};
 ghost use Rattle.flash_record.specs.Stated.{stated};
 ghost use Rattle.flash_disk.specs.Known.{known, page_of};
 ghost use Rattle.flash_disk.specs.Counted.{entries_in, copied_below};
+ghost use Rattle.flash_disk.specs.Entries.{SameEntries, Occupies};
 ghost use Rattle.flash_disk.specs.Does.{Does};
 ghost use Rattle.flash_disk.specs.PutPart.{PutPart};
 ghost use Rattle.flash_disk.specs.Newest.{places};
@@ -38,6 +39,7 @@ impl<F: Flash> Layer<F> {
         ensures time { IsTrue F.told → FlashElapses (F.medium self.old.flash) (F.medium self.new.flash) }
         ensures own { self.new.own ≡ self.old.own }
         ensures cause { HasCause ((F.medium self.old.flash).faults + self.old.own) ((F.medium self.new.flash).faults + self.new.own) result }
+        ensures disputed { self.new.state.disputed ≡ self.old.state.disputed }
     {
         let Some(place) = self.state.unsure else {
             return Ok(());
@@ -60,6 +62,8 @@ impl<F: Flash> Layer<F> {
         ensures none { OnErr result (self.new.state ≡ self.old.state) }
         ensures cause { HasCause ((F.medium self.old.flash).faults + self.old.own) ((F.medium self.new.flash).faults + self.new.own) result }
         ensures last { OnErr result (self.old.state.sequence ≡ 18446744073709551615) }
+        ensures kept { OnOk result (self.new.own ≡ self.old.own) }
+        ensures one { self.new.own ≤ self.old.own + 1 }
     {
         if self.state.sequence == u64::MAX {
             return Err(self.fault());
@@ -91,7 +95,12 @@ impl<F: Flash> Layer<F> {
         ensures later { self.old.state.sequence ≤ self.new.state.sequence }
         ensures time { IsTrue F.told → FlashElapses (F.medium self.old.flash) (F.medium self.new.flash) }
         ensures cause { HasCause ((F.medium self.old.flash).faults + self.old.own) ((F.medium self.new.flash).faults + self.new.own) result }
-        ensures own { IsTrue F.told → (self.new.own ≡ self.old.own) ⊎ StopsAdding self.old.state }
+        ensures own { IsTrue F.told → (self.new.own ≡ self.old.own) ⊎ StopsAdding self.new.state }
+        ensures kept { OnOk result (self.new.own ≡ self.old.own) }
+        ensures one { self.new.own ≤ self.old.own + 1 }
+        ensures disputed { self.new.state.disputed ≡ self.old.state.disputed }
+        ensures steps { self.new.state.sequence ≤ self.old.state.sequence + 1 }
+        ensures entries { IsTrue F.told → OnOk result (Occupies self.old.state.table self.new.state.table (record { file = file; page = page })) }
     {
         self.make_room()?;
         self.add(file, page, len, bytes)
@@ -116,7 +125,12 @@ impl<F: Flash> Layer<F> {
         ensures later { self.old.state.sequence ≤ self.new.state.sequence }
         ensures time { IsTrue F.told → FlashElapses (F.medium self.old.flash) (F.medium self.new.flash) }
         ensures cause { HasCause ((F.medium self.old.flash).faults + self.old.own) ((F.medium self.new.flash).faults + self.new.own) result }
-        ensures own { IsTrue F.told → (self.new.own ≡ self.old.own) ⊎ (self.old.state.sequence ≡ 18446744073709551615) }
+        ensures own { IsTrue F.told → (self.new.own ≡ self.old.own) ⊎ (self.new.state.sequence ≡ 18446744073709551615) }
+        ensures kept { OnOk result (self.new.own ≡ self.old.own) }
+        ensures one { self.new.own ≤ self.old.own + 1 }
+        ensures disputed { self.new.state.disputed ≡ self.old.state.disputed }
+        ensures steps { self.new.state.sequence ≤ self.old.state.sequence + 1 }
+        ensures entries { IsTrue F.told → OnOk result (Occupies self.old.state.table self.new.state.table (record { file = file; page = page })) }
     {
         let sequence = self.next_sequence()?;
         let place = Place {
@@ -151,6 +165,10 @@ impl<F: Flash> Layer<F> {
         ensures sequence { self.new.state.sequence ≡ self.old.state.sequence }
         ensures sound { (old new : Pages) (blocks : ℕ) → Sound old blocks self.old.state → IsFalse self.old.state.disputed
             → Enters old new blocks self.old.state place (stated found.entry) → Sound new blocks self.new.state }
+        ensures disputed { self.new.state.disputed ≡ self.old.state.disputed }
+        ensures entries { (old new : Pages) (blocks : ℕ) → Sound old blocks self.old.state → IsFalse self.old.state.disputed
+            → Enters old new blocks self.old.state place (stated found.entry)
+            → Occupies self.old.state.table self.new.state.table (page_of (stated found.entry)) }
     {
         let key = FilePage {
             file: found.file,
@@ -177,6 +195,10 @@ impl<F: Flash> Layer<F> {
         ensures time { IsTrue F.told → FlashElapses (F.medium self.old.flash) (F.medium self.new.flash) }
         ensures cause { HasCause ((F.medium self.old.flash).faults + self.old.own) ((F.medium self.new.flash).faults + self.new.own) result }
         ensures own { IsTrue F.told → IsFalse self.old.state.disputed → self.new.own ≡ self.old.own }
+        ensures kept { OnOk result (self.new.own ≡ self.old.own) }
+        ensures one { self.new.own ≤ self.old.own + 1 }
+        ensures disputed { self.new.state.disputed ≡ self.old.state.disputed }
+        ensures entries { IsTrue F.told → OnOk result (SameEntries self.old.state.table self.new.state.table) }
     {
         if self.state.fill < BLOCK_PAGES {
             return Ok(());
@@ -205,6 +227,10 @@ impl<F: Flash> Layer<F> {
         ensures cause { HasCause ((F.medium self.old.flash).faults + self.old.own) ((F.medium self.new.flash).faults + self.new.own) result }
         ensures light { IsTrue F.told → OnOk result (self.new.state.fill < 64) }
         ensures own { IsTrue F.told → IsFalse self.old.state.disputed → self.new.own ≡ self.old.own }
+        ensures kept { OnOk result (self.new.own ≡ self.old.own) }
+        ensures one { self.new.own ≤ self.old.own + 1 }
+        ensures disputed { self.new.state.disputed ≡ self.old.state.disputed }
+        ensures entries { IsTrue F.told → OnOk result (SameEntries self.old.state.table self.new.state.table) }
     {
         let target = self.state.spare;
         let victim = self.state.table.lightest_but(target);
@@ -236,6 +262,8 @@ impl<F: Flash> Layer<F> {
         ensures cause { HasCause ((F.medium self.old.flash).faults + self.old.own) ((F.medium self.new.flash).faults + self.new.own) result }
         ensures few { vec_len self.new.state.moved ≤ entries_in self.old.state.table from }
         ensures own { IsTrue F.told → self.new.own ≡ self.old.own }
+        ensures kept { OnOk result (self.new.own ≡ self.old.own) }
+        ensures one { self.new.own ≤ self.old.own + 1 }
     {
         for page in 0..BLOCK_PAGES {
             self.copy_one(Place { block: from, page }, to)?;
@@ -262,6 +290,8 @@ impl<F: Flash> Layer<F> {
         ensures few { vec_len self.old.state.moved ≤ copied_below self.old.state.table from.block from.page
             → vec_len self.new.state.moved ≤ copied_below self.old.state.table from.block (from.page + 1) }
         ensures own { IsTrue F.told → self.new.own ≡ self.old.own }
+        ensures kept { OnOk result (self.new.own ≡ self.old.own) }
+        ensures one { self.new.own ≤ self.old.own + 1 }
     {
         let mut page = BLANK_PAGE;
         self.read_page(from, &mut page)?;

@@ -46,6 +46,7 @@ impl<F: Flash> Layer<F> {
         ensures state { self.new.state ≡ self.old.state }
         ensures later { (F.medium self.old.flash).faults + self.old.own ≤ (F.medium self.new.flash).faults + self.new.own }
         ensures rose { Rose ((F.medium self.old.flash).faults + self.old.own) ((F.medium self.new.flash).faults + self.new.own) }
+        ensures one { self.new.own ≤ self.old.own + 1 }
     {
         self.own = self.own.saturating_add(1);
         DiskFailed
@@ -96,6 +97,8 @@ impl<F: Flash> Layer<F> {
         ensures time { IsTrue F.told → FlashElapses (F.medium self.old.flash) (F.medium self.new.flash) }
         ensures state { self.new.state ≡ self.old.state }
         ensures own { IsTrue F.told → self.new.own ≡ self.old.own }
+        ensures kept { OnOk result (self.new.own ≡ self.old.own) }
+        ensures one { self.new.own ≤ self.old.own + 1 }
         ensures cause { HasCause ((F.medium self.old.flash).faults + self.old.own) ((F.medium self.new.flash).faults + self.new.own) result }
     {
         if !self.has(place) {
@@ -118,6 +121,8 @@ impl<F: Flash> Layer<F> {
         ensures time { IsTrue F.told → FlashElapses (F.medium self.old.flash) (F.medium self.new.flash) }
         ensures state { self.new.state ≡ self.old.state }
         ensures own { IsTrue F.told → self.new.own ≡ self.old.own }
+        ensures kept { OnOk result (self.new.own ≡ self.old.own) }
+        ensures one { self.new.own ≤ self.old.own + 1 }
         ensures cause { HasCause ((F.medium self.old.flash).faults + self.old.own) ((F.medium self.new.flash).faults + self.new.own) result }
     {
         if block >= self.flash.blocks() {

@@ -6,7 +6,7 @@ ghost use Rattle.flash_record.specs.Stated.{stated};
 ghost use Rattle.flash_disk.specs.Newest.{record_at, places, page_limit, IsSpare, NeedsPlace, FindsSpare, IsUsable, IsUnusable, SaysUsable};
 ghost use Rattle.flash_disk.specs.Known.{known, limit_of, page_of, IsEmptyTable};
 ghost use Rattle.flash_disk.specs.Counted.{IsCounted};
-ghost use Rattle.flash_disk.specs.Learnt.{number, HasLearnt, LearnsNext, LearnsAll, SaysTheSame, TwinAt, RivalledAt, Tops, LeavesBlock};
+ghost use Rattle.flash_disk.specs.Learnt.{number, HasLearnt, LearnsNext, LearnsAll, SaysTheSame, TwinAt, RivalledAt, IsTop, LeavesBlock};
 ghost use Rattle.flash_model.specs.State.{settle_pages};
 ghost use Rattle.per_base.specs.Causes.{HasCause, Rose};
 
@@ -21,6 +21,7 @@ use std::alloc::{AllocError, Global};
 impl<F: Flash> FlashDisk<F> {
     ghost use Rattle.flash_disk.specs.FlashDiskMedium.{flash_disk_medium};
     ghost use Rattle.flash_disk.specs.Looks.{Opens};
+    ghost use Rattle.flash_disk.specs.Spares.{KeepsSpare};
     ghost use Rattle.disk_model.specs.Medium.{Quiet};
 
     /// Opens a flash as a disk. It reads every page, and takes all the memory that the disk ever needs.
@@ -33,6 +34,7 @@ impl<F: Flash> FlashDisk<F> {
 
         // It is usable exactly where the disk opens.
         ensures usable { IsTrue F.told → OnOk result (IsUsable (F.medium flash).state.pages (F.medium flash).blocks) }
+        ensures spare { IsTrue F.told → IfOk result (λ disk. KeepsSpare (F.medium flash) (F.medium disk.flash)) }
         ensures unusable { IsTrue F.told → IfErr result (λ refused. refused.error ≡ FlashOpenError.Unusable
             → IsUnusable (F.medium flash).state.pages (F.medium flash).blocks) }
 
@@ -40,6 +42,7 @@ impl<F: Flash> FlashDisk<F> {
         ensures pages { IsTrue F.told → IfOk result (λ disk. (F.medium disk.flash).state.pages ≡ (F.medium flash).state.pages) }
         ensures blocks { IfOk result (λ disk. (F.medium disk.flash).blocks ≡ (F.medium flash).blocks) }
         ensures own { IfOk result (λ disk. (disk.own ≡ 0) × (disk.written ≡ 0)) }
+        ensures sequence { IsTrue F.told → IfOk result (λ disk. IsTop (F.medium flash).state.pages (places (F.medium flash).blocks) disk.sequence) }
         ensures settled { IsTrue F.told → IfOk result (λ disk. (F.medium disk.flash).state ≡ settle_pages (F.medium flash).state) }
         ensures quiet { IfOk result (λ disk. Quiet (flash_disk_medium F.told (F.medium disk.flash) disk.own disk.written)) }
         ensures opens { MatchResult result (λ disk. Opens F.told (F.medium flash) (F.medium disk.flash))
@@ -83,6 +86,7 @@ fn empty_state(alloc: Global, blocks: u32) -> Result<LayerState, AllocError>
     ensures table { IfOk result (λ state. IsEmptyTable state.table × (limit_of state.table ≡ page_limit blocks)) }
     ensures full { IfOk result (λ state. state.fill ≡ 64) }
     ensures sure { IfOk result (λ state. state.unsure ≡ None) }
+    ensures sequence { IfOk result (λ state. state.sequence ≡ 0) }
     ensures counted { 4 ≤ blocks → blocks ≤ 4096 → IfOk result (λ state. IsCounted blocks state.table) }
     ensures moved { IfOk result (λ state. 64 ≤ vec_capacity state.moved) }
 {
@@ -112,6 +116,7 @@ impl<F: Flash> Layer<F> {
         requires sure { self.old.state.unsure ≡ None }
         requires counted { IsCounted blocks self.old.state.table }
         requires moved { 64 ≤ vec_capacity self.old.state.moved }
+        requires sequence { self.old.state.sequence ≡ 0 }
         ensures flash { HasCause (F.medium self.old.flash).faults (F.medium self.new.flash).faults result }
         ensures pages { IsTrue F.told → (F.medium self.new.flash).state.pages ≡ (F.medium self.old.flash).state.pages }
         ensures blocks { (F.medium self.new.flash).blocks ≡ (F.medium self.old.flash).blocks }
@@ -119,6 +124,8 @@ impl<F: Flash> Layer<F> {
         ensures usable { IsTrue F.told → IfOk result (SaysUsable (F.medium self.old.flash).state.pages blocks) }
         ensures sound { IsTrue F.told → IfOk result (λ usable. IsTrue usable
             → Sound (F.medium self.old.flash).state.pages blocks self.new.state) }
+        ensures top { IsTrue F.told → IfOk result (λ usable. IsTrue usable
+            → IsTop (F.medium self.old.flash).state.pages (places blocks) self.new.state.sequence) }
         ensures sure { IfOk result (λ usable. IsTrue usable → self.new.state.unsure ≡ None) }
         ensures settled { IsTrue F.told → IfOk result (λ usable. IsTrue usable
             → (F.medium self.new.flash).state ≡ settle_pages (F.medium self.old.flash).state) }
@@ -154,8 +161,8 @@ impl<F: Flash> Layer<F> {
         ensures lens { self.new.state.table.lens ≡ self.old.state.table.lens }
         ensures learns { IsTrue F.told
             → IfOk result (LearnsAll (F.medium self.old.flash).state.pages (places blocks) (limit_of self.old.state.table) self.new.state.table) }
-        ensures tops { IsTrue F.told → Tops (F.medium self.old.flash).state.pages 0 self.old.state.sequence
-            → IfOk result (λ fits. IsTrue fits → Tops (F.medium self.old.flash).state.pages (places blocks) self.new.state.sequence) }
+        ensures tops { IsTrue F.told → IsTop (F.medium self.old.flash).state.pages 0 self.old.state.sequence
+            → IfOk result (λ fits. IsTrue fits → IsTop (F.medium self.old.flash).state.pages (places blocks) self.new.state.sequence) }
         ensures counted { IsCounted (F.medium self.old.flash).blocks self.old.state.table
             → IsCounted (F.medium self.old.flash).blocks self.new.state.table }
     {
@@ -180,8 +187,8 @@ impl<F: Flash> Layer<F> {
         ensures lens { self.new.state.table.lens ≡ self.old.state.table.lens }
         ensures learns { IsTrue F.told → HasLearnt (F.medium self.old.flash).state.pages (64 * block) self.old.state.table
             → IfOk result (LearnsAll (F.medium self.old.flash).state.pages (64 * block + 64) (limit_of self.old.state.table) self.new.state.table) }
-        ensures tops { IsTrue F.told → Tops (F.medium self.old.flash).state.pages (64 * block) self.old.state.sequence
-            → IfOk result (λ fits. IsTrue fits → Tops (F.medium self.old.flash).state.pages (64 * block + 64) self.new.state.sequence) }
+        ensures tops { IsTrue F.told → IsTop (F.medium self.old.flash).state.pages (64 * block) self.old.state.sequence
+            → IfOk result (λ fits. IsTrue fits → IsTop (F.medium self.old.flash).state.pages (64 * block + 64) self.new.state.sequence) }
         ensures counted { IsCounted (F.medium self.old.flash).blocks self.old.state.table
             → IsCounted (F.medium self.old.flash).blocks self.new.state.table }
     {
@@ -344,8 +351,8 @@ impl<F: Flash> Layer<F> {
         ensures lens { self.new.state.table.lens ≡ self.old.state.table.lens }
         ensures learns { IsTrue F.told → HasLearnt (F.medium self.old.flash).state.pages (number place) self.old.state.table
             → IfOk result (LearnsNext (F.medium self.old.flash).state.pages (number place + 1) self.old.state.table self.new.state.table) }
-        ensures tops { IsTrue F.told → Tops (F.medium self.old.flash).state.pages (number place) self.old.state.sequence
-            → OnOk result (Tops (F.medium self.old.flash).state.pages (number place + 1) self.new.state.sequence) }
+        ensures tops { IsTrue F.told → IsTop (F.medium self.old.flash).state.pages (number place) self.old.state.sequence
+            → OnOk result (IsTop (F.medium self.old.flash).state.pages (number place + 1) self.new.state.sequence) }
         ensures counted { IsCounted (F.medium self.old.flash).blocks self.old.state.table
             → IsCounted (F.medium self.old.flash).blocks self.new.state.table }
     {
@@ -416,6 +423,7 @@ pub(crate) fn newest_at(place: Place, found: Record<'_>) -> Newest
     ensures sequence { result.sequence ≡ found.entry.sequence }
     ensures len { result.len ≡ found.entry.len }
     ensures twin { result.twin ≡ None }
+    ensures calm { IsFalse result.rivalled }
     ensures page { found.entry.page < 4294967296 }
     ensures filled { length found.entry.bytes.now ≡ 256 → (j : ℕ) → result.filled ≤ j → slice_index found.entry.bytes.now j ≡ 0 }
 {

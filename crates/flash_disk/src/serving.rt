@@ -11,6 +11,7 @@ ghost use Rattle.flash_disk.specs.FlashFiles.{record_byte, file_byte, file_len, 
 ghost use Rattle.std.specs.Int.{div_ceil};
 ghost use Rattle.flash_disk.specs.Known.{len_known, limit_of, page_len};
 ghost use Rattle.flash_disk.specs.Counted.{missing};
+ghost use Rattle.flash_disk.specs.Entries.{SameEntries, Occupies, Affords};
 ghost use Rattle.flash_disk.specs.Learnt.{IsContent, HasPlace, Knows};
 ghost use Rattle.flash_disk.specs.Does.{Does};
 ghost use Rattle.flash_disk.specs.PutPart.{PutPart};
@@ -31,7 +32,7 @@ const PAGE: u64 = 256;
 
 impl<F: Flash> Layer<F> {
     ghost use Rattle.flash_disk.specs.Sound.{files_of, IsSound, Holds, LeavesPut, ShowsZeros, WipesPage};
-    ghost use Rattle.flash_disk.specs.OwnFaults.{StopsAdding};
+    ghost use Rattle.flash_disk.specs.OwnFaults.{StopsAdding, EndsTooLate, WantsTooMany};
 
     // The bytes of a page of a file, with zeros past the end of the file.
     fn content(&mut self, key: FilePage) -> Result<[u8; RECORD_BYTES], DiskFailed>
@@ -68,6 +69,7 @@ impl<F: Flash> Layer<F> {
         requires end { 256 * page + from + length bytes.now ≤ len }
         requires sure { self.old.state.unsure ≡ None }
         requires sound { IsTrue F.told → IsSound (F.medium self.old.flash) self.old.state }
+        requires place { IsTrue F.told → HasPlace self.old.state.table (record { file = file; page = page }) }
         requires no_shorter { IsTrue F.told → length (files_of (F.medium self.old.flash) file) ≤ len }
         requires grows { IsTrue F.told → ShowsZeros (F.medium self.old.flash) file len }
         ensures sound { IsTrue F.told → OnOk result (IsSound (F.medium self.new.flash) self.new.state) }
@@ -81,25 +83,20 @@ impl<F: Flash> Layer<F> {
         ensures later { self.old.state.sequence ≤ self.new.state.sequence }
         ensures time { IsTrue F.told → FlashElapses (F.medium self.old.flash) (F.medium self.new.flash) }
         ensures cause { HasCause ((F.medium self.old.flash).faults + self.old.own) ((F.medium self.new.flash).faults + self.new.own) result }
-        ensures own { IsTrue F.told → HasPlace self.old.state.table (record { file = file; page = page }) → (self.new.own ≡ self.old.own) ⊎ StopsAdding self.old.state }
+        ensures own { IsTrue F.told → (self.new.own ≡ self.old.own) ⊎ StopsAdding self.new.state }
+        ensures kept { OnOk result (self.new.own ≡ self.old.own) }
+        ensures one { self.new.own ≤ self.old.own + 1 }
+        ensures disputed { self.new.state.disputed ≡ self.old.state.disputed }
+        ensures steps { self.new.state.sequence ≤ self.old.state.sequence + 1 }
+        ensures entries { IsTrue F.told → OnOk result (Occupies self.old.state.table self.new.state.table (record { file = file; page = page })) }
     {
         let key = FilePage {
             file,
             page: page as u64,
         };
-        if !self.has_place(key) {
-            return Err(self.fault());
-        }
         let mut content = self.content(key)?;
         copy_part(&mut content, from, bytes, 0, bytes.len());
         self.append(file, page, len, &content)
-    }
-
-    // Whether a page of a file has a record, or there is room for one more.
-    fn has_place(&self, key: FilePage) -> bool
-        ensures { IsTrue result ↔ HasPlace self.now.state.table key }
-    {
-        self.state.table.find(key).is_some() || self.state.table.room() > 0
     }
 
     // Rewrites the records of a file that have bytes past its end and before this byte, without those bytes, so that they do not show
@@ -117,6 +114,12 @@ impl<F: Flash> Layer<F> {
         ensures later { self.old.state.sequence ≤ self.new.state.sequence }
         ensures time { IsTrue F.told → FlashElapses (F.medium self.old.flash) (F.medium self.new.flash) }
         ensures cause { HasCause ((F.medium self.old.flash).faults + self.old.own) ((F.medium self.new.flash).faults + self.new.own) result }
+        ensures own { IsTrue F.told → (self.new.own ≡ self.old.own) ⊎ StopsAdding self.new.state }
+        ensures kept { OnOk result (self.new.own ≡ self.old.own) }
+        ensures one { self.new.own ≤ self.old.own + 1 }
+        ensures disputed { self.new.state.disputed ≡ self.old.state.disputed }
+        ensures steps { self.new.state.sequence ≤ self.old.state.sequence + div_ceil until 256 }
+        ensures entries { IsTrue F.told → OnOk result (SameEntries self.old.state.table self.new.state.table) }
     {
         let len = self.state.table.len_of(file);
         let end = self.state.stray_end.min(until);
@@ -143,7 +146,12 @@ impl<F: Flash> Layer<F> {
         ensures later { self.old.state.sequence ≤ self.new.state.sequence }
         ensures time { IsTrue F.told → FlashElapses (F.medium self.old.flash) (F.medium self.new.flash) }
         ensures cause { HasCause ((F.medium self.old.flash).faults + self.old.own) ((F.medium self.new.flash).faults + self.new.own) result }
-        ensures own { IsTrue F.told → (self.new.own ≡ self.old.own) ⊎ StopsAdding self.old.state }
+        ensures own { IsTrue F.told → (self.new.own ≡ self.old.own) ⊎ StopsAdding self.new.state }
+        ensures kept { OnOk result (self.new.own ≡ self.old.own) }
+        ensures one { self.new.own ≤ self.old.own + 1 }
+        ensures disputed { self.new.state.disputed ≡ self.old.state.disputed }
+        ensures steps { self.new.state.sequence ≤ self.old.state.sequence + 1 }
+        ensures entries { IsTrue F.told → OnOk result (SameEntries self.old.state.table self.new.state.table) }
     {
         let key = FilePage {
             file,
@@ -184,6 +192,7 @@ impl<F: Flash> Layer<F> {
         requires sound { IsTrue F.told → IsSound (F.medium self.old.flash) self.old.state }
         requires grows { IsTrue F.told → ShowsZeros (F.medium self.old.flash) file len }
         requires len { IsTrue F.told → len ≡ max (length (files_of (F.medium self.old.flash) file)) (at + length bytes.now) }
+        requires affords { IsTrue F.told → Affords self.old.state.table file (at / 256) (div_ceil (at + length bytes.now) 256 - at / 256) }
         ensures sound { IsTrue F.told → OnOk result (IsSound (F.medium self.new.flash) self.new.state) }
         ensures put { IsTrue F.told → OnOk result (0 < length bytes.now
             → files_of (F.medium self.new.flash) ≡ put_image (files_of (F.medium self.old.flash)) file at bytes.now) }
@@ -195,6 +204,11 @@ impl<F: Flash> Layer<F> {
         ensures later { self.old.state.sequence ≤ self.new.state.sequence }
         ensures time { IsTrue F.told → FlashElapses (F.medium self.old.flash) (F.medium self.new.flash) }
         ensures cause { HasCause ((F.medium self.old.flash).faults + self.old.own) ((F.medium self.new.flash).faults + self.new.own) result }
+        ensures own { IsTrue F.told → (self.new.own ≡ self.old.own) ⊎ StopsAdding self.new.state }
+        ensures kept { OnOk result (self.new.own ≡ self.old.own) }
+        ensures one { self.new.own ≤ self.old.own + 1 }
+        ensures disputed { self.new.state.disputed ≡ self.old.state.disputed }
+        ensures steps { self.new.state.sequence ≤ self.old.state.sequence + length bytes.now }
     {
         let mut done = 0;
         while done < bytes.len() {
@@ -226,6 +240,12 @@ impl<F: Flash> Layer<F> {
         ensures announced { IsTrue F.told → OnOk result ((F.medium self.new.flash).state.announced ≡ with_write (F.medium self.old.flash).state file at bytes.now) }
         ensures time { IsTrue F.told → FlashElapses (F.medium self.old.flash) (F.medium self.new.flash) }
         ensures cause { HasCause ((F.medium self.old.flash).faults + self.old.own) ((F.medium self.new.flash).faults + self.new.own) result }
+        ensures own { IsTrue F.told → (self.new.own ≡ self.old.own) ⊎ (EndsTooLate at (length bytes.now)
+            ⊎ (WantsTooMany (F.medium self.old.flash) file at (length bytes.now) ⊎ StopsAdding self.new.state)) }
+        ensures kept { OnOk result (self.new.own ≡ self.old.own) }
+        ensures one { self.new.own ≤ self.old.own + 1 }
+        ensures disputed { self.new.state.disputed ≡ self.old.state.disputed }
+        ensures steps { self.new.state.sequence ≤ self.old.state.sequence + length bytes.now + div_ceil (at + length bytes.now) 256 }
     {
         let end = match at.checked_add(bytes.len() as u64) {
             Some(end) if end <= MAX_END => end,

@@ -221,7 +221,8 @@ impl Table {
 
     /// Whether two records of a page may have its greatest number and other bytes.
     pub fn is_disputed(&self) -> bool
-        ensures { IsFalse result → (key : FilePage) (entry : Newest) → known self.now key ≡ Some entry → IsFalse entry.rivalled }
+        ensures calm { IsFalse result → (key : FilePage) (entry : Newest) → known self.now key ≡ Some entry → IsFalse entry.rivalled }
+        ensures rivals { IsTrue result → (key : FilePage) × (entry : Newest) × (known self.now key ≡ Some entry) × IsTrue entry.rivalled }
     {
         self.newest.values().any(|newest| newest.rivalled)
     }
