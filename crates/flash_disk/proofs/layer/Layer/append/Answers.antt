@@ -1,6 +1,8 @@
 use Rattle.std.proofs.Common.{◌*◌, inl, inr, ⊎_elim, sym, ◌∙◌}
 use Rattle.std.proofs.lemmas.Bool.{cases_Bool}
 use Rattle.std.proofs.lemmas.Result.{on_ok_weaker}
+use Rattle.flash_disk.specs.declared.table.FilePage.{FilePage}
+use Rattle.flash_disk.proofs.Entries.{occupies_after}
 use Rattle.flash_disk.proofs.Adding.{puts_then, puts_not, shown_after}
 use Rattle.flash_disk.proofs.layer.Layer.append.Goals as goal
 
@@ -43,3 +45,10 @@ returns-clause-own g c told = ⊎_elim
     (λ last. inr (inl (sym c.make_room.ensures.sequence ∙ last)))
     (c.add.ensures.own told))
     (cases_Bool c.args.self.now.state.disputed)
+
+pub returns-clause-entries : goal.returns-clause-entries
+returns-clause-entries g c told =
+    let key : FilePage = record { file = c.args.file; page = c.args.page } in
+    on_ok_weaker c.add.result
+    (occupies_after c.args.self.now.state.table c.make_room.new.self.state.table c.add.new.self.state.table key (c.in_ok-make_room.ensures.entries told))
+    (c.add.ensures.entries told)
