@@ -10,7 +10,7 @@ pub record FlashView (F : Type 0) : Type 0 where
   pub flash : F
   -- the greatest number that was used for a record
   pub sequence : ℕ
-  -- how many calls failed though the flash did not, up to the greatest u64
+  -- how many writes failed though the flash did not, up to the greatest u64
   pub own : ℕ
   -- how many bytes were written into files
   pub written : ℕ

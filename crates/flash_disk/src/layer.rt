@@ -15,7 +15,7 @@ use flash_model::{BLANK_PAGE, BLOCK_PAGES, Flash, PAGE_BYTES};
 pub struct Layer<F> {
     pub flash: F,
     pub state: LayerState,
-    /// How many calls failed though the flash did not, up to the greatest u64.
+    /// How many writes failed though the flash did not, up to the greatest u64.
     pub own: u64,
 }
 

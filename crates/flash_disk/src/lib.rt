@@ -15,7 +15,8 @@
 //!
 //! Where the flash tells its pages, the disk tells its bytes: they are the files that the newest records stand for, and every clause of the
 //! trait is proved, what a crash or a failed call leaves at any moment included, if no page passes its hash by chance.
-//! Limits: files of at most 1,099,511,627,776 bytes, and as many pages as all blocks but two hold; wear is not even.
+//! Limits: files of at most 1,099,511,627,776 bytes, as many pages as all blocks but two hold, and 2^64 - 1 records; wear is not even. A
+//! write that would break one of them fails and counts as the disk's own fault, and so does one that finds rivals; no other call does.
 #![tactic(auto)]
 
 mod calls;

@@ -100,6 +100,17 @@ fn the_limit_of_pages(rt: HostRuntime) {
 }
 
 #[test]
+fn the_end_of_the_greatest_file(rt: HostRuntime) {
+    let made = fresh(rt.alloc(), 4);
+    assert!(rt; made.is_some());
+    let Some(mut disk) = made else { return };
+    assert!(rt; disk.write_at(1, 1_099_511_627_775, b"z").is_ok() && disk.own_faults() == 0);
+    assert!(rt; disk.write_at(1, 1_099_511_627_775, b"zz").is_err() && disk.own_faults() == 1);
+    assert!(rt; disk.write_at(1, u64::MAX, b"z").is_err() && disk.own_faults() == 2);
+    assert!(rt; disk.size(1) == Ok(1_099_511_627_776));
+}
+
+#[test]
 fn too_few_blocks(rt: HostRuntime) {
     assert!(rt; refusal(rt.alloc(), 3) == Some(FlashOpenError::WrongSize));
     assert!(rt; refusal(rt.alloc(), 4).is_none());
@@ -369,4 +380,25 @@ fn rivals_under_a_newer_record_do_not_matter(rt: HostRuntime) {
     assert!(rt; again.is_some());
     let Some(mut disk) = again else { return };
     assert!(rt; reads(&mut disk, 1, 0, 9, 3) && disk.own_faults() == 0);
+}
+
+// A record with the greatest number that there is.
+const LAST: Foreign = Foreign {
+    block: 0,
+    at: 0,
+    sequence: u64::MAX,
+    file: 1,
+    page: 0,
+    len: 256,
+    byte: 4,
+};
+
+#[test]
+fn no_number_is_left(rt: HostRuntime) {
+    let made = over(rt.alloc(), &[LAST]);
+    assert!(rt; made.is_some());
+    let Some(mut disk) = made else { return };
+    assert!(rt; disk.write_at(2, 0, b"z").is_err() && disk.own_faults() == 1);
+    assert!(rt; reads(&mut disk, 1, 0, 256, 4) && disk.size(2) == Ok(0));
+    assert!(rt; disk.sync().is_ok() && disk.own_faults() == 1);
 }
