@@ -8,6 +8,8 @@ use Rattle.flash_record.specs.PageRecord.{PageRecord, record_in}
 use Rattle.flash_disk.specs.declared.table.Place.{Place}
 use Rattle.flash_disk.specs.declared.layer.LayerState.{LayerState}
 use Rattle.flash_disk.specs.Newest.{record_at, places}
+use Rattle.flash_disk.specs.Known.{page_of}
+use Rattle.flash_disk.specs.Entries.{Occupies}
 use Rattle.flash_disk.specs.Learnt.{number, Adds}
 use Rattle.flash_disk.specs.FlashFiles.{flash_files}
 use Rattle.flash_disk.specs.Does.{Does}
@@ -101,6 +103,7 @@ module _ (m now : FlashMedium) (s u : LayerState) (place : Place) (r : PageRecor
     within = sound.within;
     is_spare = sound.is_spare;
     agreed = sound.agreed;
+    rivals = sound.rivals;
     apart = sound.apart;
     fresh = λ more. record {
       agreed = fresh.agreed;
@@ -132,6 +135,18 @@ module _ (m now : FlashMedium) (s u : LayerState) (place : Place) (r : PageRecor
       (subst (Sound pages m.blocks) state (still_sound s.unsure))
       (subst (λ (q : LayerState). IsFalse q.disputed) state fresh.agreed)
       (subst (λ q. Enters pages written m.blocks q place r) state (entering s.unsure written (whole_torn pages place.block place.page whole) adds))))
+
+  -- its page has an entry from then on
+  pub added_entries : (after : LayerState)
+      → ((old new : Pages) (b : ℕ) → Sound old b u → IsFalse u.disputed → Enters old new b u place r → Occupies u.table after.table (page_of r))
+      → Occupies s.table after.table (page_of r)
+  added_entries after enters =
+      let state : adding s.unsure ≡ u = sym on in
+      subst (λ table. Occupies table after.table (page_of r)) (ap (λ (q : LayerState). q.table) on)
+      (enters pages written m.blocks
+      (subst (Sound pages m.blocks) state (still_sound s.unsure))
+      (subst (λ (q : LayerState). IsFalse q.disputed) state fresh.agreed)
+      (subst (λ q. Enters pages written m.blocks q place r) state (entering s.unsure written (whole_torn pages place.block place.page whole) adds)))
 
   pub added_put : now.state ≡ programmed m.state place.block place.page whole → now.blocks ≡ m.blocks
       → PutPart r.file (256 * r.page) r.bytes r.len (files_of m) (files_of now)

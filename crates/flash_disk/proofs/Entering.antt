@@ -73,14 +73,15 @@ as_said pages blocks s t sound more = record {
   within = sound.within;
   is_spare = sound.is_spare;
   agreed = sound.agreed;
+  rivals = sound.rivals;
   apart = sound.apart;
   fresh = λ room. let fresh = sound.fresh room in record { agreed = fresh.agreed; within = fresh.within; apart = fresh.apart; blank = fresh.blank };
 }
 
 -- pages with the same records, and blank where blank ones are to be filled
-pub same_sound : (old new : Pages) (blocks : ℕ) (s : LayerState) → Sound old blocks s → HasSameRecords old new
+pub same_sound : (old new : Pages) (blocks : ℕ) (s : LayerState) → Sound old blocks s → IsFalse s.disputed → HasSameRecords old new
     → ((p : ℕ) → s.fill ≤ p → p < 64 → new s.current p ≡ old s.current p) → Sound new blocks s
-same_sound old new blocks s sound same blank = record {
+same_sound old new blocks s sound calm same blank = record {
   knows = records_known old new same (places blocks) s.table sound.knows;
   tops = records_tops old new same (places blocks) s.sequence sound.tops;
   strays = same_said_strayless old new (places blocks) (records_alike old new same (places blocks)) s.stray_end sound.strays;
@@ -92,6 +93,7 @@ same_sound old new blocks s sound same blank = record {
   within = sound.within;
   is_spare = records_spare old new same (places blocks) s.spare sound.is_spare;
   agreed = λ agreed. records_agreed old new same (places blocks) (sound.agreed agreed);
+  rivals = λ disputed. absurd (true≢false (sym disputed ∙ calm));
   apart = sound.apart;
   fresh = λ room. let fresh = sound.fresh room in record {
     agreed = fresh.agreed;
@@ -146,6 +148,7 @@ module _ (m now : FlashMedium) (s t : LayerState) (place : Place) (holds : Holds
   -- no record lies in it
   pub nothing_there : record_in page ≡ None → Sound now.state.pages now.blocks sure_state
   nothing_there none = over_now (λ p b. Sound p b sure_state) (same_sound holds.sure m.state.pages m.blocks sure_state was_sound
+      (subst (λ (q : LayerState). IsFalse q.disputed) (sym state) pends.agreed)
       (torn_same holds.sure m.state.pages (number place) (record_at m.state.pages (number place)) pends.nothing
       (torn_page holds.sure place.block place.page m.state.pages pends.elsewhere) (at_place ∙ none))
       (still_blank holds.sure m.state.pages place.block place.page t.current t.fill pends.elsewhere
@@ -277,6 +280,7 @@ module _ (old new : Pages) (blocks : ℕ) (s : LayerState) (place : Place) (r : 
     within = sound.within;
     is_spare = adds_spare old new n place r enters.adds s.spare (lies_elsewhere old blocks s sound agreed) (λ same. enters.apart (sym block_is ∙ same));
     agreed = λ _. adds_agreed old new n place r enters.adds (sound.agreed agreed);
+    rivals = λ disputed. absurd (true≢false (sym disputed ∙ agreed));
     apart = λ _ k f found. ⊎_elim
         (λ own. (λ same. enters.apart (ap (λ p. p.block) (sym is.0) ∙ (ap (λ (q : Newest). q.place.block) own.1 ∙ same))))
         (λ was. sound.apart agreed k f was)

@@ -1,6 +1,6 @@
 -- The table leads to the copies, and the block that they came from is the spare one.
 use Rattle.std.proofs.Common.{◌≡◌, ◌≢◌, ℕ, suc, ◌<◌, min, true, cond, List, [], ◌∷◌, length, refl, sym, ap, subst, ◌∙◌, inl, inr, ⊎_elim, arith, true≢false}
-use Rattle.std.specs.Prelude.{Option, Some, None, IsSome, IfSome, All}
+use Rattle.std.specs.Prelude.{Option, Some, None, is_some, IsSome, IfSome, All}
 use Rattle.std.specs.HashMap.{spare}
 use Rattle.std.specs.Map.{update, update_all}
 use Rattle.std.proofs.lemmas.Map.Made.{IfSome-update_all}
@@ -16,6 +16,7 @@ use Rattle.flash_disk.specs.Newest.{Placed, record_at, newest, places}
 use Rattle.flash_disk.specs.FlashFiles.{IsFileLen}
 use Rattle.flash_disk.specs.Known.{same_page, known, page_len, limit_of, len_in, HasLenIn, HasRoom, PutsAll}
 use Rattle.flash_disk.specs.Counted.{IsInside, IsCounted}
+use Rattle.flash_disk.specs.Entries.{SameEntries}
 use Rattle.flash_disk.specs.Learnt.{number, Led, LedOf, IsLed, HasPlace}
 use Rattle.flash_disk.specs.Sound.{Sound, LeavesOut}
 use Rattle.flash_disk.specs.Moving.{IsMoved, HasKey, IsMoving}
@@ -185,6 +186,7 @@ module _ (m : FlashMedium) (s : LayerState) (from to : ℕ) (moving : IsMoving m
       within = moving.within;
       is_spare = spare_of pages n from (led_elsewhere pages n table led_now from leaves);
       agreed = moving.sound.agreed;
+      rivals = moving.sound.rivals;
       apart = λ _. leaves;
       fresh = λ more. record {
         agreed = moving.agreed;
@@ -197,3 +199,13 @@ module _ (m : FlashMedium) (s : LayerState) (from to : ℕ) (moving : IsMoving m
     -- a page that had a place has one
     pub places_stay : (k : FilePage) → HasPlace s.table k → HasPlace table k
     places_stay k has = ⊎_elim (λ some. inl (stays k some)) (λ more. inr (omega (arith, more, len, limit))) has
+
+    some_by : (k : FilePage) (o : Option Newest) → known s.table k ≡ o → (v : Option Newest) → known table k ≡ v → is_some v ≡ is_some o
+    some_by k None was None now = refl
+    some_by k None was (Some v) now = let had = was_known k v now (known s.table k) refl in absurd (none-some had.0 (sym was ∙ had.1))
+    some_by k (Some old) was None now = absurd (true≢false (sym (subst IsSome now (stays k (subst IsSome (sym was) refl)))))
+    some_by k (Some old) was (Some v) now = refl
+
+    -- the same pages have entries
+    pub entries_stay : SameEntries s.table table
+    entries_stay = record { has = λ k. some_by k (known s.table k) refl (known table k) refl; len = len; limit = limit }

@@ -65,6 +65,7 @@ kept_sound old new blocks s sound agreed full keeps there =
       within = sound.within;
       is_spare = spare_of new n s.spare (led_elsewhere new n s.table knows.led s.spare (sound.apart agreed));
       agreed = λ _. keeps_agreed old new n all_agree keeps;
+      rivals = λ disputed. absurd (true≢false (sym disputed ∙ agreed));
       apart = sound.apart;
       fresh = λ room. absurd (omega (arith, room, full));
     }

@@ -5,7 +5,7 @@ use Rattle.flash_disk.specs.declared.layer.LayerState.{LayerState}
 use Rattle.flash_disk.specs.Does.{Does}
 use Rattle.flash_disk.specs.PutPart.{PutPart}
 use Rattle.flash_disk.specs.Sound.{files_of, IsSound, FitsIn, LeavesPut, ShowsPage}
-use Rattle.flash_disk.proofs.Adding.{puts_nothing, added_sound, added_put, added_shown, failed_holds, add_does}
+use Rattle.flash_disk.proofs.Adding.{puts_nothing, added_sound, added_entries, added_put, added_shown, failed_holds, add_does}
 use Rattle.flash_disk.proofs.layer.Layer.add.Goals as goal
 
 pub returns-in_err-sequence-clause-does : goal.returns-in_err-sequence-clause-does
@@ -144,10 +144,30 @@ returns-in-Err-clause-does g c told =
     c.program_page.result (c.program_page.ensures.done told) (c.program_page.ensures.failed told) (c.program_page.ensures.during told))
 
 pub returns-in_err-sequence-clause-own : goal.returns-in_err-sequence-clause-own
-returns-in_err-sequence-clause-own g c told = inr c.in_err-sequence.ensures.last
+returns-in_err-sequence-clause-own g c told = inr (ap (λ (q : LayerState). q.sequence) c.in_err-sequence.ensures.none ∙ c.in_err-sequence.ensures.last)
 
 pub returns-in-Ok-clause-own : goal.returns-in-Ok-clause-own
 returns-in-Ok-clause-own g c told = inl (c.enter.ensures.own ∙ (c.program_page.ensures.own told ∙ ap (λ q. q.own) c.in_ok-sequence.ensures.next.1))
 
 pub returns-in-Err-clause-own : goal.returns-in-Err-clause-own
 returns-in-Err-clause-own g c told = inl (c.program_page.ensures.own told ∙ ap (λ q. q.own) c.in_ok-sequence.ensures.next.1)
+
+pub returns-in-Ok-clause-entries : goal.returns-in-Ok-clause-entries
+returns-in-Ok-clause-entries g c told =
+    let r : PageRecord = record { sequence = c.in_ok-sequence.sequence; file = c.args.file; page = c.args.page; len = c.args.len; bytes = c.args.bytes.now } in
+    let s = c.args.self.now.state in
+    let t = c.next_sequence.new.self.state in
+    let m = g.F.Flash.medium c.next_sequence.new.self.flash in
+    let now = g.F.Flash.medium c.program_page.new.self.flash in
+    let u = c.program_page.new.self.state in
+    let place : Place = record { block = t.current; page = t.fill } in
+    let sound : IsSound m s = subst (λ f. IsSound (g.F.Flash.medium f) s) (sym c.next_sequence.ensures.flash) (c.requires.sound told) in
+    let fits : FitsIn m s c.args.file c.args.page c.args.len c.args.bytes.now = subst (λ f. FitsIn (g.F.Flash.medium f) s c.args.file c.args.page c.args.len c.args.bytes.now)
+    (sym c.next_sequence.ensures.flash) (c.requires.fits told) in
+    let next = c.in_ok-sequence.ensures.next in
+    let state : t ≡ record s { sequence = c.in_ok-sequence.sequence } = ap (λ l. l.state) next.1 in
+    let on : u ≡ record s { sequence = c.in_ok-sequence.sequence; fill = s.fill + 1 } =
+    c.program_page.ensures.state ∙ ap (λ (q : LayerState). let z : LayerState = record q { fill = q.fill + 1 } in z) state in
+    let at = ap (λ (q : LayerState). let p : Place = record { block = q.current; page = q.fill } in p) state in
+    added_entries m now s u place r c.page_with.result sound c.requires.room fits c.requires.bytes at next.0 on c.page_with.ensures
+    c.enter.new.self.state c.enter.ensures.entries

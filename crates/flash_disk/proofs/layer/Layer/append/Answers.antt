@@ -1,4 +1,4 @@
-use Rattle.std.proofs.Common.{◌*◌, inl, inr, ⊎_elim, sym, ◌∙◌}
+use Rattle.std.proofs.Common.{◌*◌, inl, inr, ⊎_elim, ◌∙◌}
 use Rattle.std.proofs.lemmas.Bool.{cases_Bool}
 use Rattle.std.proofs.lemmas.Result.{on_ok_weaker}
 use Rattle.flash_disk.specs.declared.table.FilePage.{FilePage}
@@ -33,16 +33,16 @@ add-requires-clause-fits g c told =
 
 pub returns-in_err-make_room-clause-own : goal.returns-in_err-make_room-clause-own
 returns-in_err-make_room-clause-own g c told = ⊎_elim
-    (λ disputed. inr (inr disputed))
+    (λ disputed. inr (inr (c.make_room.ensures.disputed ∙ disputed)))
     (λ calm. inl (c.make_room.ensures.own told calm))
     (cases_Bool c.args.self.now.state.disputed)
 
 pub returns-clause-own : goal.returns-clause-own
 returns-clause-own g c told = ⊎_elim
-    (λ disputed. inr (inr disputed))
+    (λ disputed. inr (inr (c.add.ensures.disputed ∙ (c.make_room.ensures.disputed ∙ disputed))))
     (λ calm. ⊎_elim
     (λ same. inl (same ∙ c.make_room.ensures.own told calm))
-    (λ last. inr (inl (sym c.make_room.ensures.sequence ∙ last)))
+    (λ last. inr (inl last))
     (c.add.ensures.own told))
     (cases_Bool c.args.self.now.state.disputed)
 

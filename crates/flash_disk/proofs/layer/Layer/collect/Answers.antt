@@ -1,4 +1,4 @@
-use Rattle.std.proofs.Common.{◌≡◌, ◌≢◌, ◌<◌, min, length, ⊎_elim, true≢false, refl, sym, ap, subst, ◌∙◌, arith}
+use Rattle.std.proofs.Common.{◌≡◌, ◌<◌, ⊎_elim, true≢false, refl, sym, ap, subst, ◌∙◌, arith}
 use Rattle.std.specs.Prelude.{vec_capacity, All, IsSome, IsFalse}
 use Rattle.flash_disk.specs.declared.table.FilePage.{FilePage}
 use Rattle.flash_disk.specs.declared.table.Newest.{Newest}
@@ -12,7 +12,8 @@ use Rattle.flash_disk.specs.Moving.{IsMoving}
 use Rattle.flash_disk.specs.Counted.{IsInside, entries_in}
 use Rattle.flash_disk.proofs.Spreading.{light_enough}
 use Rattle.flash_disk.proofs.Stretches.{does_nothing}
-use Rattle.flash_disk.proofs.Moved.{all_known, finished, places_stay}
+use Rattle.flash_disk.specs.Entries.{SameEntries}
+use Rattle.flash_disk.proofs.Moved.{all_known, finished, places_stay, entries_stay}
 use Rattle.flash_disk.proofs.Moving.{erase_stands, erase_failed, erase_failed_keeps, erase_keeps_all, moving_none, stands_then, keeps_on, fits_kept, shows_same, stands_now}
 use Rattle.flash_disk.proofs.layer.Layer.collect.Goals as goal
 
@@ -224,3 +225,20 @@ returns-clause-light g c told =
     let same : entries_in c.erase_block.new.self.state.table from ≡ entries_in s.table from = ap (λ (q : LayerState). entries_in q.table from) c.erase_block.ensures.state in
     let count = c.len.ensures in let least = c.min.ensures in
     omega (arith, fewest, few, same, count, least)
+
+pub returns-clause-entries : goal.returns-clause-entries
+returns-clause-entries g c told =
+    let s = c.args.self.now.state in
+    let now = g.F.Flash.medium c.copy_needed.new.self.flash in
+    let t = c.copy_needed.new.self.state in
+    let same_table : t.table ≡ s.table = ap (λ (q : LayerState). q.table) c.copy_needed.ensures.state ∙ ap (λ (q : LayerState). q.table) c.erase_block.ensures.state in
+    let from = c.lightest_but-victim.result in
+    let to = s.spare in
+    let moving : IsMoving now.state.pages now.blocks t from to 64 = c.in_ok-copy_needed.ensures.moving told in
+    let p = c.put_all.ensures in
+    let items : c.deref.result.now ≡ t.moved.items = c.deref.ensures.value in
+    let known_all = subst (All (λ (q : FilePage × Newest). IsSome (known t.table q.0))) (sym items) (all_known now t from to moving) in
+    let room = moving.sound.knows.led.room in
+    let puts = subst (PutsAll t.table c.put_all.new.self) items (p.put known_all room) in
+    subst (λ was. SameEntries was c.put_all.new.self) same_table
+    (entries_stay now t from to moving c.put_all.new.self puts (p.len known_all room) (p.room known_all room) p.limit p.lens (p.stays known_all room))

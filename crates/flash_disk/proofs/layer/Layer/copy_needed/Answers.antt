@@ -15,7 +15,7 @@ loop-page-init g c =
     let lawful = g.met.F.Flash.lawful c.args.self.now.flash in record {
       later = omega arith;
       few = (let none = c.requires.none in omega (arith, none));
-      own = λ told. refl;
+      kept = refl;
       count = (let none = c.requires.none in omega (arith, none));
       state = refl;
       moving = c.requires.moving;
@@ -50,7 +50,7 @@ loop-page-preserved g c =
     let e = c.copy_one.ensures in record {
       later = (let was = i.later in let on = e.cause.later in omega (arith, was, on));
       few = fewer_copied c.args.self.now.state c.loop-page.self.state c.copy_one.new.self.state c.args.from c.loop-page.page (ap (λ (q : LayerState). q.table) i.state) i.few e.few;
-      own = λ told. e.own told ∙ i.own told;
+      kept = c.in_ok-copy_one.ensures.kept ∙ i.kept;
       count = (let was = i.count in let one = e.count in omega (arith, was, one));
       state = e.state ∙ ap (λ (q : LayerState). let z : LayerState = record q { moved = c.copy_one.new.self.state.moved } in z) i.state;
       moving = λ told. c.in_ok-copy_one.ensures.moving told;
@@ -73,7 +73,16 @@ returns-in_err-copy_one-clause-few g c =
 pub returns-in_err-copy_one-clause-own : goal.returns-in_err-copy_one-clause-own
 returns-in_err-copy_one-clause-own g c told =
     let i = c.loop-page.invariant in
-    c.copy_one.ensures.own told ∙ i.own told
+    c.copy_one.ensures.own told ∙ i.kept
 
 pub returns-clause-own : goal.returns-clause-own
-returns-clause-own g c told = c.loop-page.invariant.own told
+returns-clause-own g c told = c.loop-page.invariant.kept
+
+pub returns-clause-kept : goal.returns-clause-kept
+returns-clause-kept g c = c.loop-page.invariant.kept
+
+pub returns-clause-one : goal.returns-clause-one
+returns-clause-one g c = let kept = c.loop-page.invariant.kept in omega (arith, kept)
+
+pub returns-in_err-copy_one-clause-one : goal.returns-in_err-copy_one-clause-one
+returns-in_err-copy_one-clause-one g c = let kept = c.loop-page.invariant.kept in let one = c.copy_one.ensures.one in omega (arith, kept, one)

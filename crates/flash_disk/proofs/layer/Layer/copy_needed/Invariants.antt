@@ -15,7 +15,7 @@ invariant-loop-page g l =
     record {
       later : m.faults + l.initial.self.own ≤ now.faults + l.self.own;
       few : vec_len l.self.state.moved ≤ copied_below l.initial.self.state.table l.from l.page;
-      own : g.F.Flash.told ≡ true → l.self.own ≡ l.initial.self.own;
+      kept : l.self.own ≡ l.initial.self.own;
       count : vec_len l.self.state.moved ≤ l.page;
       state : l.self.state ≡ record l.initial.self.state { moved = l.self.state.moved };
       moving : g.F.Flash.told ≡ true → IsMoving now.state.pages now.blocks l.self.state l.from l.to l.page;

@@ -1,4 +1,4 @@
-use Rattle.std.proofs.Common.{arith, ◌≤◌, ◌≡◌, ◌+◌, ◌++◌, ◌∷◌, [], length, cond, true, Some, sym, ap, subst, refl, ◌∙◌}
+use Rattle.std.proofs.Common.{arith, ◌≡◌, ◌++◌, ◌∷◌, [], length, cond, true, Some, sym, ap, subst, refl, ◌∙◌}
 use Rattle.std.specs.Prelude.{is_ok, not, vec_len, vec_capacity}
 use Rattle.flash_disk.proofs.Spreading.{few_same, few_more, of_err}
 use Rattle.flash_disk.specs.declared.table.Place.{Place}

@@ -1,4 +1,4 @@
-use Rattle.std.proofs.Common.{◌<◌, sym, subst, ◌∙◌, refl}
+use Rattle.std.proofs.Common.{◌<◌, sym, subst}
 use Rattle.std.specs.Prelude.{IfSome}
 use Rattle.flash_record.specs.Stated.{stated}
 use Rattle.flash_disk.proofs.Entering.{entered}

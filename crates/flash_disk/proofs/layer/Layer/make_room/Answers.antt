@@ -1,4 +1,4 @@
-use Rattle.std.proofs.Common.{refl, sym, ap, subst, arith}
+use Rattle.std.proofs.Common.{refl, sym, subst, arith}
 use Rattle.flash_disk.specs.Sound.{files_of, FitsIn}
 use Rattle.flash_disk.specs.Standing.{StandsFor}
 use Rattle.flash_disk.proofs.Stretches.{does_nothing}
