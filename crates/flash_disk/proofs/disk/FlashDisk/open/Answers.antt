@@ -1,6 +1,5 @@
 use Rattle.std.proofs.Common.{sym, ◌∙◌, subst, arith}
-use Rattle.flash_disk.specs.Newest.{places, IsUsable, IsUnusable, SaysUsable}
-use Rattle.flash_disk.specs.Learnt.{IsTop}
+use Rattle.flash_disk.specs.Newest.{IsUsable, IsUnusable, SaysUsable}
 use Rattle.flash_disk.specs.Sound.{Sound}
 use Rattle.flash_disk.proofs.Opened.{holds_all, opens_spare, settled_is_quiet}
 use Rattle.flash_disk.proofs.disk.FlashDisk.open.Goals as goal
@@ -32,8 +31,3 @@ returns-in-Ok-true-clause-spare g c told =
     (subst (IsUsable old.state.pages) c.blocks-blocks.ensures
     (subst (SaysUsable old.state.pages c.blocks-blocks.result) c.in-Ok-true.field-0-test (e.usable told)))
     (e.pages told) e.blocks e.opens
-
-pub returns-in-Ok-true-clause-sequence : goal.returns-in-Ok-true-clause-sequence
-returns-in-Ok-true-clause-sequence g c told =
-    subst (λ b. IsTop (g.F.Flash.medium c.args.flash).state.pages (places b) c.learn.new.self.state.sequence) c.blocks-blocks.ensures
-    (c.in-Ok-true.ensures.top told c.in-Ok-true.field-0-test)

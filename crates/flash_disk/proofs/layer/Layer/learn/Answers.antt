@@ -83,9 +83,3 @@ returns-in-Ok-clause-sound g c told usable_now =
     subst (λ b. IsCounted b left) all_is (l.counted (subst (λ b. IsCounted b second) (sym all_is) (subst (IsCounted blocks) (sym f.table) first_counted)))))
     (let same : vec_capacity c.leave_spare.new.self.state.moved ≡ vec_capacity c.args.self.now.state.moved = ap (λ q. vec_capacity q) (l.fill.2 ∙ (f.fill.2 ∙ e.fill.2)) in
     let enough = c.requires.moved in omega (arith, same, enough))
-
-pub returns-in-Ok-clause-top : goal.returns-in-Ok-clause-top
-returns-in-Ok-clause-top g c told usable_now =
-    let pages = (g.F.Flash.medium c.args.self.now.flash).state.pages in
-    let top = c.in_ok-learn_blocks.ensures.tops told (top_of_none pages c.args.self.now.state.sequence c.requires.sequence) c.if-not-branch.false in
-    subst (IsTop pages (places c.args.blocks)) (sym (c.in_ok-leave_spare.ensures.sequence ∙ c.in_ok-find_spare.ensures.sequence)) top

@@ -44,10 +44,3 @@ loop-block-preserved g c =
       (λ start. subst (λ b. IsCounted b table) i.2 (e.counted (subst (λ b. IsCounted b was) (sym i.2) (i.9 start)))),
       looks_then g.F.Flash.told (g.F.Flash.medium c.args.self.now.flash) (g.F.Flash.medium c.loop-block.self.flash) (g.F.Flash.medium c.learn_block.new.self.flash) i.10 e.looks,
     )
-
-pub returns-clause-tops : goal.returns-clause-tops
-returns-clause-tops g c told start all_fit =
-    let past = c.loop-block-test.false in
-    let within = c.loop-block.auto.block-end in
-    let all : 64 * c.loop-block.block ≡ places c.args.blocks = omega (arith, past, within) in
-    subst (λ k. IsTop (g.F.Flash.medium c.args.self.now.flash).state.pages k c.loop-block.self.state.sequence) all (c.loop-block.invariant.8 told start)

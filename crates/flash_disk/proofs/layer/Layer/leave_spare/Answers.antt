@@ -1,7 +1,5 @@
-use Rattle.std.proofs.Common.{◌≡◌, ◌+◌, ◌<◌, sym, subst, ◌∙◌, arith}
-use Rattle.flash_disk.specs.Newest.{places}
+use Rattle.std.proofs.Common.{◌+◌, sym, subst, ◌∙◌, arith}
 use Rattle.flash_disk.specs.Counted.{IsCounted}
-use Rattle.flash_disk.specs.Learnt.{IsLeaving}
 use Rattle.flash_disk.proofs.Leaving.{leaves_there}
 use Rattle.flash_disk.proofs.Looking.{looks_then}
 use Rattle.flash_disk.proofs.layer.Layer.leave_spare.Goals as goal
