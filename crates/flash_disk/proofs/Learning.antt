@@ -16,8 +16,9 @@ use Rattle.flash_disk.specs.Newest.{Placed, record_at, is_of, newer, with_record
 use Rattle.flash_disk.specs.NewestLaws.{newest_is}
 use Rattle.flash_disk.specs.Known.{same_page, page_of, known, page_len, limit_of, Puts, HasRoom}
 use Rattle.flash_disk.specs.Learnt.{number, TwinSays, Unrivalled, Learns, LearnsOf, HasLearnt, LearnsNext, SaysTheSame, TwinAt, RivalledAt}
+use Rattle.flash_disk.specs.Standing.{IsRivalled}
 
-below_suc : (j n : ℕ) → j < suc n → (j < n) ⊎ (j ≡ n)
+pub below_suc : (j n : ℕ) → j < suc n → (j < n) ⊎ (j ≡ n)
 below_suc j n within = ⊎_elim inl (λ past. inr (let e : j ≡ n = omega arith in e)) (cases_lt j n)
 
 decided : (b : Bool) (P : Type 0) → Decides b P → ((b ≡ true) × P) ⊎ ((b ≡ false) × (P → ⊥))
@@ -70,6 +71,17 @@ module _ (pages : Pages) (n : ℕ) where
       (λ last. none q (subst (λ k. record_at pages k ≡ Some q) last is) of_page same)
       (below_suc j n within)
 
+  rivalled_stays : (x : Placed) → IsRivalled pages n x → IsRivalled pages (suc n) x
+  rivalled_stays x rival = record {
+    place = rival.place;
+    says = rival.says;
+    within = (let lt = rival.within in omega (arith, lt));
+    there = rival.there;
+    of_page = rival.of_page;
+    number = rival.number;
+    differs = rival.differs;
+  }
+
   -- place n holds no record of the page of x
   abbrev OfAnother : Placed → Type 0
   OfAnother x = (q : PageRecord) → record_at pages n ≡ Some q → is_of x.says.file x.says.page q ≡ true → ⊥
@@ -86,6 +98,7 @@ module _ (pages : Pages) (n : ℕ) where
     place = says.place;
     twin = twin_stays x e.twin (λ same apart. none x refl x.says same (own_page_of x.says)) says.twin;
     agreed = λ calm. unrivalled_stays x (λ q here of_page same. absurd (none x refl q here of_page)) (says.agreed calm);
+    rivals = λ so. rivalled_stays x (says.rivals so);
     page = says.page;
   }
 
@@ -175,12 +188,12 @@ module _ (pages : Pages) (n : ℕ) where
     -- the entry of the record itself
     abbrev pub IsEntryHere : Newest → Type 0
     IsEntryHere entry = (number entry.place ≡ n) × (entry.place.page < 64) × (entry.sequence ≡ r.sequence) × (entry.len ≡ r.len) × (entry.twin ≡ None)
-        × ((j : ℕ) → entry.filled ≤ j → slice_index r.bytes j ≡ 0) × (r.page < 4294967296)
+        × ((j : ℕ) → entry.filled ≤ j → slice_index r.bytes j ≡ 0) × (r.page < 4294967296) × IsFalse entry.rivalled
 
     here_learns : (entry : Newest) → IsEntryHere entry
         → ((j : ℕ) (q : PageRecord) → j < n → record_at pages j ≡ Some q → is_of r.file r.page q ≡ true → q.sequence < r.sequence)
         → Learns pages (suc n) entry placed
-    here_learns entry (place, small, sequence, len, twin, filled, page) less = record {
+    here_learns entry (place, small, sequence, len, twin, filled, page, unrivalled) less = record {
       leads = record { small = small; there = ap (record_at pages) place ∙ here; sequence = sequence; len = len; filled = filled };
       place = place;
       twin = subst (λ w. TwinSays pages (suc n) placed w) (sym twin)
@@ -192,6 +205,7 @@ module _ (pages : Pages) (n : ℕ) where
           (λ below. let lt = less j q below is of_page in absurd (omega (arith, lt, same)))
           (λ last. same_Some q r (sym (subst (λ k. record_at pages k ≡ Some q) last is) ∙ here))
           (below_suc j n within);
+      rivals = λ so. absurd (true≢false (sym so ∙ unrivalled));
       page = page;
     }
 
@@ -257,6 +271,7 @@ module _ (pages : Pages) (n : ℕ) where
                 let s = best.2.leads.sequence in omega arith) best.2.twin;
             agreed = λ calm. unrivalled_stays best.0 (λ q same of_page number. let z : q.sequence ≡ r.sequence = ap (λ z. z.sequence) (same_Some q r (sym same ∙ here)) in
                 let s = best.2.leads.sequence in absurd (omega (arith, z, s, number, less))) (best.2.agreed calm);
+            rivals = λ so. rivalled_stays best.0 (best.2.rivals so);
             page = best.2.page;
           }))
 
@@ -339,10 +354,29 @@ module _ (pages : Pages) (n : ℕ) where
 
       -- whether it is rivalled after the record was seen
       agreed_says : (first : Option PageRecord) → first ≡ Some x.says → (rivalled : Bool) → RivalledAt first r e rivalled → IsFalse rivalled → Unrivalled pages (suc n) x
-      agreed_says first is rivalled at calm = let says = at calm in unrivalled_stays x
+      agreed_says first is rivalled at calm = let says = at.calm calm in unrivalled_stays x
           (λ q there of_page number. same_Some q r (sym there ∙ here)
           ∙ sym (same_record x.says is_newest.of_page (sym before_is.leads.sequence ∙ sequence) (says.1 x.says is)))
           (before_is.agreed says.0)
+
+      -- the record is another one, which rivals the newest one
+      rival_here : (SaysTheSame x.says r → ⊥) → IsRivalled pages (suc n) x
+      rival_here other =
+          let parts = both_parts (nat_eq x.says.file r.file) (nat_eq x.says.page r.page) is_newest.of_page in
+          let file : r.file ≡ x.says.file = sym (eqb-true x.says.file r.file parts.0) in
+          let page : r.page ≡ x.says.page = sym (eqb-true x.says.page r.page parts.1) in
+          record {
+            place = n;
+            says = r;
+            within = omega arith;
+            there = here;
+            of_page = rw (eq-eqb r.file x.says.file file, eq-eqb r.page x.says.page page) refl;
+            number = sym sequence ∙ before_is.leads.sequence;
+            differs = λ same. other (ap (λ q. q.len) (sym same), ap (λ q. q.bytes) (sym same));
+          }
+
+      rivals_say : (first : Option PageRecord) → first ≡ Some x.says → (rivalled : Bool) → RivalledAt first r e rivalled → IsTrue rivalled → IsRivalled pages (suc n) x
+      rivals_say first is rivalled at so = ⊎_elim (λ was. rivalled_stays x (before_is.rivals was)) (λ other. rival_here (other x.says is)) (at.rivals so)
 
       -- what is put in for a record with the newest one's number
       pub equal : (seen : Option PageRecord) → seen ≡ record_at pages (number e.place) → (twin : Option Place) (rivalled : Bool) → TwinAt seen r e place twin
@@ -353,5 +387,6 @@ module _ (pages : Pages) (n : ℕ) where
         place = before_is.place;
         twin = twin_says seen (is ∙ before_is.leads.there) twin at;
         agreed = agreed_says seen (is ∙ before_is.leads.there) rivalled calm;
+        rivals = rivals_say seen (is ∙ before_is.leads.there) rivalled calm;
         page = before_is.page;
       })

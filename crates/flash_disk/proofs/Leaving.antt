@@ -14,7 +14,7 @@ use Rattle.flash_disk.specs.NewestLaws.{newest_is}
 use Rattle.flash_disk.specs.Known.{same_page, page_of, known, page_len, limit_of, HasRoom, Puts}
 use Rattle.flash_disk.specs.Learnt.{number, TwinSays, Unrivalled, LearnsOf, HasLearnt, LedOf, IsLed, Leaves, LeavesOf, IsLeaving, LeavesBlock}
 use Rattle.flash_disk.specs.Sound.{LeavesOut}
-use Rattle.flash_disk.specs.Standing.{IsAgreed, IsStrayless}
+use Rattle.flash_disk.specs.Standing.{IsAgreed, HasRivals, IsStrayless}
 use Rattle.flash_disk.specs.FlashFiles.{byte_in, file_len}
 use Rattle.flash_disk.proofs.Learning.{same_page_is, same_page_refl}
 
@@ -39,6 +39,7 @@ module _ (pages : Pages) (n block : ℕ) where
     led = record { within = (let lt = is.within in let same = says.place in omega (arith, lt, same)); leads = says.leads };
     twin = says.twin;
     agreed = says.agreed;
+    rivals = says.rivals;
     page = says.page;
     moved = inl says.place;
   }
@@ -127,6 +128,7 @@ module _ (pages : Pages) (n block : ℕ) where
           };
           twin = was.twin;
           agreed = was.agreed;
+          rivals = was.rivals;
           page = was.page;
           moved = inr apart;
         }
@@ -218,6 +220,10 @@ module _ (pages : Pages) (n block : ℕ) where
         let key : FilePage = record { file = file; page = page } in
         unrivalled_by x (known table key) (calm key) (subst (LeavesOf pages n block (known table key)) is (leaving.says key)) j q within there
         (subst (λ (k : FilePage). is_of k.file k.page q ≡ true) (sym (of_key file page x is)) of_page) same
+
+    -- and where one is, two differ
+    pub rivals_at_last : (key : FilePage) (e : Newest) → known table key ≡ Some e → IsTrue e.rivalled → HasRivals pages n
+    rivals_at_last key e is so = let x = found 64 table leaving key e is in (key.file, key.page, x.0, x.1, x.2.rivals so)
 
     module _ (lens : ℕ → ℕ) (len_is : (file : ℕ) → lens file ≡ file_len pages n file) (stray : ℕ)
         (ends : (key : FilePage) (e : Newest) → known table key ≡ Some e → key.page < 4294967296 → 0 < e.filled

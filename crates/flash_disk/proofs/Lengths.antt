@@ -24,6 +24,13 @@ not_found : (k : FilePage) (es : List Entry) → AllByRecursion (λ y. same_page
 not_found k [] none = refl
 not_found k (e ∷ es) none = rw none.0 (not_found k es none.1)
 
+-- what is found among the later entries is found among all, since their keys differ
+lift_by : (e : Entry) (es : List Entry) → AllByRecursion (λ y. same_page e.0 y ≡ false) (keys_of es) → (key : FilePage) (entry : Newest)
+    → lookup (same_page key) es ≡ Some entry → (b : Bool) → same_page key e.0 ≡ b → cond b (Some e.1) (lookup (same_page key) es) ≡ Some entry
+lift_by e es apart key entry found true same = absurd (none-some entry
+    (sym (not_found e.0 es apart) ∙ subst (λ k. lookup (same_page k) es ≡ Some entry) (same_page_is key e.0 same) found))
+lift_by e es apart key entry found false other = found
+
 module _ (file : ℕ) where
   rest_by : (len rest : ℕ) (b : Bool) → rest ≤ cond b (max len rest) rest
   rest_by len rest true = omega arith
@@ -47,12 +54,6 @@ module _ (file : ℕ) where
 
   abbrev pub Says : List Entry → ℕ → Type 0
   Says es len = (len ≡ 0) ⊎ ((key : FilePage) × (entry : Newest) × (lookup (same_page key) es ≡ Some entry) × (key.file ≡ file) × (len ≡ entry.len))
-
-  lift_by : (e : Entry) (es : List Entry) → AllByRecursion (λ y. same_page e.0 y ≡ false) (keys_of es) → (key : FilePage) (entry : Newest)
-      → lookup (same_page key) es ≡ Some entry → (b : Bool) → same_page key e.0 ≡ b → cond b (Some e.1) (lookup (same_page key) es) ≡ Some entry
-  lift_by e es apart key entry found true same = absurd (none-some entry
-      (sym (not_found e.0 es apart) ∙ subst (λ k. lookup (same_page k) es ≡ Some entry) (same_page_is key e.0 same) found))
-  lift_by e es apart key entry found false other = found
 
   lift : (e : Entry) (es : List Entry) → AllByRecursion (λ y. same_page e.0 y ≡ false) (keys_of es) → (len : ℕ) → Says es len → Says (e ∷ es) len
   lift e es apart len says = ⊎_elim
@@ -104,6 +105,22 @@ none_passes test key entry (e ∷ es) none found = ⊎_elim
     neither : (a b : Bool) → (a || b) ≡ false → (a ≡ false) × (b ≡ false)
     neither true b is = absurd (true≢false is)
     neither false b is = (refl, is)
+
+-- an entry is found that passes the test
+abbrev pub Passes : (Newest → Bool) → List Entry → Type 0
+Passes test es = (key : FilePage) × (entry : Newest) × (lookup (same_page key) es ≡ Some entry) × (test entry ≡ true)
+
+passes_by : (test : Newest → Bool) (e : Entry) (es : List Entry) → AllByRecursion (λ y. same_page e.0 y ≡ false) (keys_of es)
+    → (list_any test (values_of es) ≡ true → Passes test es) → (b : Bool) → test e.1 ≡ b → (b || list_any test (values_of es)) ≡ true → Passes test (e ∷ es)
+passes_by test e es apart later true here some = (e.0, e.1, rw (same_page_refl e.0) refl, here)
+passes_by test e es apart later false here some = let there = later some in
+    (there.0, there.1, lift_by e es apart there.0 there.1 there.2 (same_page there.0 e.0) refl, there.3)
+
+-- where one of the list does, one is found
+pub one_passes : (test : Newest → Bool) (es : List Entry) → IsDistinct same_page (keys_of es) → list_any test (values_of es) ≡ true → Passes test es
+unfolding IsDistinct
+one_passes test [] distinct some = absurd (true≢false (sym some))
+one_passes test (e ∷ es) distinct some = passes_by test e es distinct.0 (one_passes test es distinct.1) (test e.1) refl some
 
 -- one entry more is taken into where the last byte of all ends
 pub ends_more : {S : Type 0} (lens : HashMap ℕ ℕ S) (key k : FilePage) (entry e : Newest) (es all : List Entry) (stray next end : ℕ) → all ≡ (k, e) ∷ es

@@ -1,4 +1,5 @@
 mod Learning
+mod Topmost
 mod Usable
 mod Lengths
 mod Lightest

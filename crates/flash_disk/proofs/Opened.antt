@@ -1,5 +1,5 @@
 -- What is kept fits the pages once the flash was opened.
-use Rattle.std.proofs.Common.{◌≡◌, ℕ, ◌+◌, ◌<◌, ◌≤◌, sym, ap, subst, ◌∙◌, arith}
+use Rattle.std.proofs.Common.{◌≡◌, ℕ, ◌+◌, ◌<◌, ◌≤◌, sym, ap, subst, ◌∙◌, ⊎_elim, arith}
 use Rattle.std.specs.Prelude.{Bool, Some, None, IsTrue, IsFalse, vec_capacity}
 use Rattle.std.specs.HashMap.{get, hash_map_len, spare}
 use Rattle.flash_model.specs.Pages.{Pages}
@@ -7,11 +7,14 @@ use Rattle.flash_disk.specs.declared.table.FilePage.{FilePage}
 use Rattle.flash_disk.specs.declared.table.Newest.{Newest}
 use Rattle.flash_disk.specs.declared.table.Table.{Table}
 use Rattle.flash_disk.specs.declared.layer.LayerState.{LayerState}
-use Rattle.flash_disk.specs.Newest.{places, page_limit, IsSpare}
+use Rattle.flash_disk.specs.Newest.{places, page_limit, IsSpare, IsUsable}
 use Rattle.flash_disk.specs.Known.{same_page, known, page_len, limit_of, len_known, HasLen, EndsBy, IsLongest}
 use Rattle.flash_disk.specs.Counted.{IsCounted}
 use Rattle.flash_disk.specs.Learnt.{IsLed, IsLeaving, Knows, Tops}
 use Rattle.flash_disk.specs.Sound.{Sound, PendsAt, Holds}
+use Rattle.flash_disk.specs.Standing.{HasSpare}
+use Rattle.flash_disk.specs.Spares.{KeepsSpare}
+use Rattle.flash_disk.specs.Looks.{Opens}
 use Rattle.flash_disk.specs.FlashFilesLaws.{one_len}
 use Rattle.disk_model.specs.Medium.{Quiet}
 use Rattle.flash_model.specs.State.{FlashState, settle_pages}
@@ -20,7 +23,7 @@ use Rattle.flash_disk.specs.FlashFiles.{flash_files}
 use Rattle.flash_disk.specs.FlashDiskMedium.{put_announced, files_told, flash_disk_medium}
 use Rattle.flash_disk.proofs.DiskCases.{told_files}
 use Rattle.flash_disk.proofs.Leading.{measured}
-use Rattle.flash_disk.proofs.Leaving.{leads_at_last, left_out, agreed_at_last, strayless_at_last}
+use Rattle.flash_disk.proofs.Leaving.{leads_at_last, left_out, agreed_at_last, rivals_at_last, strayless_at_last}
 
 -- what came of a table when the lengths were taken from it, and what it then said
 pub record Measures (left : Table) (s : LayerState) : Type 0 where
@@ -31,6 +34,7 @@ pub record Measures (left : Table) (s : LayerState) : Type 0 where
   pub spare : spare left.lens ≤ spare s.table.lens + page_len left
   pub ends : (key : FilePage) (e : Newest) → known s.table key ≡ Some e → EndsBy s.table.lens key e s.stray_end
   pub calm : IsFalse s.disputed → (key : FilePage) (e : Newest) → known s.table key ≡ Some e → IsFalse e.rivalled
+  pub rivals : IsTrue s.disputed → (key : FilePage) × (e : Newest) × (known s.table key ≡ Some e) × IsTrue e.rivalled
   pub full : s.fill ≡ 64
 
 module _ (pages : Pages) (blocks : ℕ) (s : LayerState) (left : Table) (leaving : IsLeaving pages (places blocks) s.spare 64 left) (measures : Measures left s)
@@ -46,6 +50,10 @@ module _ (pages : Pages) (blocks : ℕ) (s : LayerState) (left : Table) (leaving
   there : (key : FilePage) (e : Newest) → known left key ≡ Some e → known s.table key ≡ Some e
   there key e is = ap (λ m. get same_page m key) measures.records ∙ is
 
+  -- and what it had, it has
+  before : (key : FilePage) (e : Newest) → known s.table key ≡ Some e → known left key ≡ Some e
+  before key e is = ap (λ m. get same_page m key) (sym measures.records) ∙ is
+
   pub opened : s.spare < blocks → IsSpare pages (places blocks) s.spare → Tops pages (places blocks) s.sequence → IsCounted blocks s.table → 64 ≤ vec_capacity s.moved
       → Sound pages blocks s
   opened within is_spare tops counted memory = record {
@@ -57,14 +65,14 @@ module _ (pages : Pages) (blocks : ℕ) (s : LayerState) (left : Table) (leaving
     files =
         (let same : page_len s.table ≡ page_len left = ap (λ m. hash_map_len m) measures.records in
         let more = measures.spare in let is = measures.limit in omega (arith, same, more, is, room));
-    measured = λ key e is. measures.measured (let fits = led.fits in omega (arith, fits, room)) key e
-        (ap (λ m. get same_page m key) (sym measures.records) ∙ is);
+    measured = λ key e is. measures.measured (let fits = led.fits in omega (arith, fits, room)) key e (before key e is);
     counted = counted;
     memory = memory;
     within = within;
     is_spare = is_spare;
     agreed = λ calm. agreed_at_last pages (places blocks) s.spare left leaving (λ key e is. measures.calm calm key e (there key e is));
-    apart = λ calm key e is. left_out pages (places blocks) s.spare left leaving key e (ap (λ m. get same_page m key) (sym measures.records) ∙ is);
+    rivals = λ so. let some = measures.rivals so in rivals_at_last pages (places blocks) s.spare left leaving some.0 some.1 (before some.0 some.1 some.2) some.3;
+    apart = λ calm key e is. left_out pages (places blocks) s.spare left leaving key e (before key e is);
     fresh = λ less. (let full = measures.full in absurd (omega (arith, less, full)));
   }
 
@@ -75,6 +83,17 @@ holds_all m s pages sound same sure = record {
   sound = sound;
   pends = subst (PendsAt pages m.state.pages m.blocks s) (sym sure) same;
 }
+
+-- a usable flash has a spare block when it was opened and at every moment of the opening
+pub opens_spare : (told : Bool) (old new : FlashMedium) → IsTrue told → IsUsable old.state.pages old.blocks → new.state.pages ≡ old.state.pages
+    → new.blocks ≡ old.blocks → Opens told old new → KeepsSpare old new
+opens_spare told old new t usable pages blocks opens =
+    let spare : HasSpare old.state.pages new.blocks = subst (HasSpare old.state.pages) (sym blocks) (usable.block, usable.within, usable.spare) in
+    record {
+      now = subst (λ p. HasSpare p new.blocks) (sym pages) spare;
+      during = λ c past plain. subst (λ p. HasSpare p new.blocks)
+          (sym (⊎_elim (λ still. still.left) (λ settled. settled.left) (opens.during t c past))) spare;
+    }
 
 -- a flash that was settled makes a disk on which nothing is pending
 pub settled_is_quiet : (told : Bool) (m : FlashMedium) (own written : ℕ) (s : FlashState) → (IsTrue told → m.state ≡ settle_pages s)

@@ -4,10 +4,11 @@ use Rattle.std.proofs.Common.{◌≡◌, ◌<◌, ◌≤◌, true, false, sym, a
 use Rattle.std.specs.HashMap.{spare}
 use Rattle.flash_disk.specs.Newest.{FindsSpare, IsSpare, places}
 use Rattle.flash_disk.specs.Known.{limit_of, len_in}
-use Rattle.flash_disk.specs.Learnt.{HasLearnt, LearnsAll, IsLeaving, Tops}
+use Rattle.flash_disk.specs.Learnt.{HasLearnt, LearnsAll, IsLeaving, IsTop}
 use Rattle.flash_disk.proofs.Usable.{usable}
 use Rattle.flash_disk.proofs.Leaving.{starts_leaving, leaves_there}
 use Rattle.flash_disk.proofs.Opened.{opened}
+use Rattle.flash_disk.proofs.Topmost.{top_of_none}
 use Rattle.flash_disk.proofs.layer.Layer.learn.Goals as goal
 
 pub returns-in-Ok-clause-usable : goal.returns-in-Ok-clause-usable
@@ -60,7 +61,7 @@ returns-in-Ok-clause-sound g c told usable_now =
     let lens : left.lens ≡ c.args.self.now.state.table.lens = l.lens ∙ (ap (λ t. t.lens) f.table ∙ e.lens) in
     let limit : limit_of left ≡ limit_of c.args.self.now.state.table = l.limit ∙ (ap limit_of f.table ∙ e.limit) in
     let room : limit_of left ≤ spare left.lens = subst (λ m. limit_of left ≤ spare m) (sym lens) (let enough = c.requires.empty.len_room in omega (arith, limit, enough)) in
-    let tops : Tops pages n c.learn_blocks.new.self.state.sequence = e.tops told (λ j q within is. absurd (omega (arith, within))) c.if-not-branch.false in
+    let top : IsTop pages n c.learn_blocks.new.self.state.sequence = e.tops told (top_of_none pages c.args.self.now.state.sequence c.requires.sequence) c.if-not-branch.false in
     opened pages blocks _ left (subst (λ b. IsLeaving pages n b 64 left) (sym l.spare) leaving)
     (record {
       records = c.measure.ensures.records;
@@ -69,15 +70,16 @@ returns-in-Ok-clause-sound g c told usable_now =
       measured = c.measure.ensures.measured;
       spare = c.measure.ensures.spare;
       ends = c.stray_end-self.ensures;
-      calm = c.is_disputed-self.ensures;
+      calm = c.is_disputed-self.ensures.calm;
+      rivals = c.is_disputed-self.ensures.rivals;
       full = l.fill.0 ∙ (f.fill.0 ∙ (e.fill.0 ∙ c.requires.full));
     })
     (limit ∙ c.requires.limit) room (λ file. ap (λ m. len_in m file) lens ∙ c.requires.empty.lens file)
     (subst (λ b. b < blocks) (sym l.spare) finds.0)
     (subst (IsSpare pages n) (sym l.spare) finds.1)
-    (subst (Tops pages n) (sym (l.sequence ∙ f.sequence)) tops)
+    (subst (IsTop pages n) (sym (l.sequence ∙ f.sequence)) top).most
     (c.measure.ensures.counted blocks
     (let first_counted : IsCounted blocks first = subst (λ b. IsCounted b first) (sym c.requires.blocks) (e.counted (subst (λ b. IsCounted b c.args.self.now.state.table) c.requires.blocks c.requires.counted)) in
     subst (λ b. IsCounted b left) all_is (l.counted (subst (λ b. IsCounted b second) (sym all_is) (subst (IsCounted blocks) (sym f.table) first_counted)))))
-    (let same : vec_capacity c.leave_spare.new.self.state.moved ≡ vec_capacity c.args.self.now.state.moved = ap (λ q. vec_capacity q) (l.fill.1.1 ∙ (f.fill.1.1 ∙ e.fill.1.1)) in
+    (let same : vec_capacity c.leave_spare.new.self.state.moved ≡ vec_capacity c.args.self.now.state.moved = ap (λ q. vec_capacity q) (l.fill.2 ∙ (f.fill.2 ∙ e.fill.2)) in
     let enough = c.requires.moved in omega (arith, same, enough))

@@ -1,6 +1,6 @@
 use Rattle.std.proofs.Common.{◌≡◌, ◌≤◌, ◌+◌, ◌*◌, true}
 use Rattle.flash_disk.specs.Known.{limit_of}
-use Rattle.flash_disk.specs.Learnt.{HasLearnt, Tops}
+use Rattle.flash_disk.specs.Learnt.{HasLearnt, IsTop}
 use Rattle.flash_disk.specs.Counted.{IsCounted}
 use Rattle.flash_disk.specs.Sound.{SameFill}
 use Rattle.flash_disk.specs.Looks.{Looks}
@@ -16,7 +16,7 @@ invariant-loop-page g l = ((g.F.Flash.medium l.initial.self.flash).faults ≤ (g
     × (l.self.state.table.lens ≡ l.initial.self.state.table.lens)
     × (l.self.own ≡ l.initial.self.own)
     × SameFill l.initial.self.state l.self.state
-    × (g.F.Flash.told ≡ true → Tops (g.F.Flash.medium l.initial.self.flash).state.pages (64 * l.block) l.initial.self.state.sequence
-    → Tops (g.F.Flash.medium l.initial.self.flash).state.pages (64 * l.block + l.page) l.self.state.sequence)
+    × (g.F.Flash.told ≡ true → IsTop (g.F.Flash.medium l.initial.self.flash).state.pages (64 * l.block) l.initial.self.state.sequence
+    → IsTop (g.F.Flash.medium l.initial.self.flash).state.pages (64 * l.block + l.page) l.self.state.sequence)
     × (IsCounted (g.F.Flash.medium l.initial.self.flash).blocks l.initial.self.state.table → IsCounted (g.F.Flash.medium l.initial.self.flash).blocks l.self.state.table)
     × Looks g.F.Flash.told (g.F.Flash.medium l.initial.self.flash) (g.F.Flash.medium l.self.flash)

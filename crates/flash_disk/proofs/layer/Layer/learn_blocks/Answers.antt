@@ -2,7 +2,7 @@ use Rattle.std.proofs.Common.{◌≡◌, ◌+◌, ◌*◌, sym, subst, ◌∙◌
 use Rattle.flash_disk.specs.Newest.{places}
 use Rattle.flash_disk.specs.Known.{limit_of}
 use Rattle.flash_disk.specs.Counted.{IsCounted}
-use Rattle.flash_disk.specs.Learnt.{HasLearnt, LearnsAll, Tops}
+use Rattle.flash_disk.specs.Learnt.{HasLearnt, LearnsAll, IsTop}
 use Rattle.flash_disk.proofs.Looking.{looks_then}
 use Rattle.flash_disk.proofs.Usable.{all_full, learnt_there}
 use Rattle.flash_disk.proofs.layer.Layer.learn_blocks.Goals as goal
@@ -37,10 +37,10 @@ loop-block-preserved g c =
           (e.learns told (learnt_there pages seen (i.1 told) (64 * block) was (i.4 told)))))),
       e.lens ∙ i.5,
       e.own ∙ i.6,
-      (e.fill.0 ∙ i.7.0, e.fill.1.0 ∙ i.7.1.0, e.fill.1.1 ∙ i.7.1.1),
-      (λ told start. subst (λ k. Tops pages k top) next
-          (subst (λ q. Tops q (64 * block + 64) top) (i.1 told)
-          (e.tops told (subst (λ q. Tops q (64 * block) c.loop-block.self.state.sequence) (sym (i.1 told)) (i.8 told start)) c.if-not-branch.false))),
+      (e.fill.0 ∙ i.7.0, e.fill.1 ∙ i.7.1, e.fill.2 ∙ i.7.2),
+      (λ told start. subst (λ k. IsTop pages k top) next
+          (subst (λ q. IsTop q (64 * block + 64) top) (i.1 told)
+          (e.tops told (subst (λ q. IsTop q (64 * block) c.loop-block.self.state.sequence) (sym (i.1 told)) (i.8 told start)) c.if-not-branch.false))),
       (λ start. subst (λ b. IsCounted b table) i.2 (e.counted (subst (λ b. IsCounted b was) (sym i.2) (i.9 start)))),
       looks_then g.F.Flash.told (g.F.Flash.medium c.args.self.now.flash) (g.F.Flash.medium c.loop-block.self.flash) (g.F.Flash.medium c.learn_block.new.self.flash) i.10 e.looks,
     )

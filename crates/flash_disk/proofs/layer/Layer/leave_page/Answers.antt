@@ -1,6 +1,6 @@
 use Rattle.std.specs.Prelude.{IfSome}
 use Rattle.flash_disk.specs.Counted.{IsCounted}
-use Rattle.std.proofs.Common.{◌≡◌, ◌<◌, ◌+◌, ◌*◌, Some, sym, ap, ◌∙◌, subst}
+use Rattle.std.proofs.Common.{◌≡◌, ◌<◌, ◌+◌, ◌*◌, sym, ap, ◌∙◌, subst}
 use Rattle.flash_record.specs.PageRecord.{record_in}
 use Rattle.flash_disk.specs.Newest.{record_at, places}
 use Rattle.flash_disk.specs.Learnt.{IsLeaving}

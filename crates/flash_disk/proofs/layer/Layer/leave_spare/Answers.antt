@@ -1,7 +1,5 @@
-use Rattle.std.proofs.Common.{◌≡◌, ◌+◌, ◌<◌, sym, subst, ◌∙◌, arith}
-use Rattle.flash_disk.specs.Newest.{places}
+use Rattle.std.proofs.Common.{◌+◌, sym, subst, ◌∙◌, arith}
 use Rattle.flash_disk.specs.Counted.{IsCounted}
-use Rattle.flash_disk.specs.Learnt.{IsLeaving}
 use Rattle.flash_disk.proofs.Leaving.{leaves_there}
 use Rattle.flash_disk.proofs.Looking.{looks_then}
 use Rattle.flash_disk.proofs.layer.Layer.leave_spare.Goals as goal
@@ -14,7 +12,7 @@ loop-page-preserved g c = let i = c.loop-page.invariant in let e = c.in_ok-leave
   e.limit ∙ i.3,
   e.lens ∙ i.4,
   e.own ∙ i.5,
-  (e.fill.0 ∙ i.6.0, e.fill.1.0 ∙ i.6.1.0, e.fill.1.1 ∙ i.6.1.1),
+  (e.fill.0 ∙ i.6.0, e.fill.1 ∙ i.6.1, e.fill.2 ∙ i.6.2),
   e.sequence ∙ i.7,
   e.spare ∙ i.8,
   (λ told within spare start. leaves_there (g.F.Flash.medium c.args.self.now.flash).state.pages (g.F.Flash.medium c.loop-page.self.flash).state.pages (i.1 told)
