@@ -24,3 +24,4 @@ pub mod Adding
 pub mod Moving
 pub mod Moved
 mod Looking
+pub mod PageCount
