@@ -25,3 +25,4 @@ pub mod Moving
 pub mod Moved
 mod Looking
 pub mod PageCount
+pub mod Spares
