@@ -1,8 +1,8 @@
 -- That some block stays spare: what is kept says which one, and calls that look or write leave one.
-use Rattle.std.proofs.Common.{◌≡◌, ◌⊎◌, ℕ, Bool, List, sym, refl, ap, subst, ◌∙◌, ⊎_elim}
+use Rattle.std.proofs.Common.{◌≡◌, ◌⊎◌, ℕ, Bool, List, Result, Ok, Err, OnOk, OnErr, sym, refl, ap, subst, ◌∙◌, ⊎_elim}
 use Rattle.std.specs.Prelude.{Option, Some, None, IsTrue}
 use Rattle.flash_model.specs.Pages.{Pages}
-use Rattle.flash_model.specs.State.{FlashCase, IsStill}
+use Rattle.flash_model.specs.State.{FlashCase, IsStill, settle_pages}
 use Rattle.flash_model.specs.FlashMedium.{FlashMedium, IsLawfulFlash, FlashElapses, EachFlashCase}
 use Rattle.flash_record.specs.PageRecord.{PageRecord}
 use Rattle.flash_disk.specs.declared.table.Place.{Place}
@@ -37,6 +37,12 @@ pub holds_spare : (m : FlashMedium) (s : LayerState) → Holds m s → HasSpare 
 holds_spare m s holds = (s.spare, holds.sound.within, kept_spare holds.sure m.state.pages m.blocks s holds.sound s.unsure holds.pends)
 
 -- ---- calls
+
+-- a settle changes no page
+pub settle_stays : {T E : Type 0} (a b : FlashMedium) (result : Result T E) → OnOk result (b.state ≡ settle_pages a.state) → OnErr result (b.state ≡ a.state)
+    → b.state.pages ≡ a.state.pages
+settle_stays a b (Ok x) settled failed = ap (λ s. s.pages) settled
+settle_stays a b (Err e) settled failed = ap (λ s. s.pages) failed
 
 module _ (a b : FlashMedium) (elapses : FlashElapses a b) (spare : HasSpare a.state.pages a.blocks) where
   still_spare : (pages : Pages) → pages ≡ a.state.pages → HasSpare pages b.blocks
