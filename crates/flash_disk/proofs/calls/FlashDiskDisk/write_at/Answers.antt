@@ -7,7 +7,7 @@ use Rattle.flash_disk.specs.FlashDiskMedium.{flash_disk_medium}
 use Rattle.flash_disk.specs.Spares.{KeepsSpare}
 use Rattle.flash_disk.proofs.DiskCases.{disk_rests, disk_write_nothing}
 use Rattle.flash_disk.proofs.DiskWrites.{write_during, write_now}
-use Rattle.flash_disk.proofs.Spares.{holds_spare, look_spares, write_spares, spares_then}
+use Rattle.flash_disk.proofs.Spares.{holds_spare, look_spares, rest_spares, write_spares, spares_then}
 use Rattle.flash_disk.proofs.calls.FlashDiskDisk.write_at.Goals as goal
 
 abbrev medium_of : {F : Type 0} → Bool → (F → FlashMedium) → FlashView F → Medium
@@ -91,3 +91,9 @@ returns-clause-spare g c told =
     (spares_then m0 m1 m2 (e.time told) (w.time told)
     (look_spares m0 m1 (e.time told) (holds_spare m0 c.self.inside.layer.state (c.self.invariant.holds told)) (e.unchanged told) e.during)
     (write_spares m1 m2 (w.time told) (holds_spare m1 c.make_sure.new.self.state (e.holds told)) c.args.file c.args.at c.args.bytes.now (w.writes told)))
+
+pub returns-then-is_empty-clause-spare : goal.returns-then-is_empty-clause-spare
+returns-then-is_empty-clause-spare g c told =
+    let m = g.F.Flash.medium c.self.inside.layer.flash in
+    subst (λ v. KeepsSpare (g.F.Flash.medium v.flash) (g.F.Flash.medium v.flash)) c.self.view_is
+    (rest_spares g.F.Flash.told m (g.met.F.Flash.lawful c.self.inside.layer.flash) (holds_spare m c.self.inside.layer.state (c.self.invariant.holds told)))
