@@ -26,3 +26,5 @@ pub mod Moving
 pub mod Moved
 mod Looking
 pub mod Entries
+pub mod PageCount
+pub mod Spares

@@ -69,6 +69,8 @@ impl<F: Flash> Disk for FlashDisk<F> {
         ensures spare { IsTrue F.told → KeepsSpare (F.medium self.old.flash) (F.medium self.new.flash) }
     {
         if bytes.is_empty() {
+            // So that what is kept of the flash is known here.
+            let _ = &self.layer;
             return Ok(());
         }
         self.layer.make_sure()?;
