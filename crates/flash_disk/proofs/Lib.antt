@@ -25,3 +25,4 @@ pub mod Moving
 pub mod Moved
 mod Looking
 pub mod Entries
+pub mod Affording

@@ -2,7 +2,6 @@ use Rattle.std.proofs.Common.{◌≡◌, ◌*◌, length, inl, inr, ⊎_elim, re
 use Rattle.flash_disk.specs.PutPart.{PutPart}
 use Rattle.flash_disk.specs.Standing.{StandsFor}
 use Rattle.flash_disk.specs.Sound.{files_of, LeavesPut}
-use Rattle.flash_disk.specs.OwnFaults.{StopsAdding}
 use Rattle.flash_disk.proofs.Writing.{on_ok_both, stands, does_none, files_seen, fits_seen, shown_seen, does_after_look, wiped_none, wiped_within, stray_fits, stands_still, wiped_by}
 use Rattle.flash_disk.proofs.Stretches.{does_nothing}
 use Rattle.flash_disk.proofs.layer.Layer.wipe_stray.Goals as goal
@@ -88,7 +87,4 @@ pub returns-in_err-content-clause-own : goal.returns-in_err-content-clause-own
 returns-in_err-content-clause-own g c told = inl c.content.ensures.own
 
 pub returns-clause-own : goal.returns-clause-own
-returns-clause-own g c told = ⊎_elim
-    (λ same. inl (same ∙ c.content.ensures.own))
-    (λ stops. inr (subst StopsAdding c.content.ensures.state stops))
-    (c.append.ensures.own told)
+returns-clause-own g c told = ⊎_elim (λ same. inl (same ∙ c.content.ensures.own)) (λ stops. inr stops) (c.append.ensures.own told)

@@ -1,10 +1,12 @@
-use Rattle.std.proofs.Common.{◌+◌, length, take, drop, arith}
+use Rattle.std.proofs.Common.{◌≡◌, ◌≤◌, ◌+◌, ◌-◌, ◌/◌, ◌∙◌, length, take, drop, refl, inl, inr, ⊎_elim, arith}
+use Rattle.std.specs.Int.{div_ceil}
 use Rattle.flash_disk.specs.Does.{Does}
 use Rattle.flash_disk.specs.PutPart.{PutPart}
 use Rattle.flash_disk.specs.Sound.{files_of, LeavesPut}
 use Rattle.flash_disk.specs.Writes.{LeavesTorn}
 use Rattle.flash_disk.proofs.Writing.{does_none, torn_nothing, wrote_nothing, wrote_more, torn_then, moved_there, wrote_all}
 use Rattle.flash_disk.proofs.Stretches.{elapses_refl, elapses_then}
+use Rattle.flash_disk.proofs.Affording.{affords_place, affords_more}
 use Rattle.flash_disk.proofs.layer.Layer.write_pages.Goals as goal
 
 pub loop-done-init : goal.loop-done-init
@@ -22,6 +24,10 @@ loop-done-init g c =
       time = λ told. elapses_refl g.F.Flash.told a lawful told;
       numbered = omega arith;
       counted = omega arith;
+      own = refl;
+      disputed = refl;
+      steps = omega arith;
+      affords = r.affords;
     }
 
 pub returns-in_err-write_page-clause-does : goal.returns-in_err-write_page-clause-does
@@ -59,6 +65,12 @@ loop-done-preserved g c =
       time = λ told. elapses_then a b d (i.time told) (e.time told);
       numbered = (let before = i.numbered in let on = e.rises in let few = c.min-count.ensures in omega (arith, before, on, few));
       counted = (let before = i.counted in let on = e.cause.later in omega (arith, before, on));
+      own = e.kept ∙ i.own;
+      disputed = e.disputed ∙ i.disputed;
+      steps = (let before = i.steps in let on = e.steps in let few = c.min-count.ensures in omega (arith, before, on, few));
+      affords = λ told. affords_more c.args.file (c.args.at / 256) c.loop-done.self.state.table c.write_page.new.self.state.table
+          (div_ceil (c.args.at + length c.args.bytes.now) 256 - c.args.at / 256) (start / 256 - c.args.at / 256) (start / 256) (omega arith) (omega arith)
+          (e.entries told) (i.affords told);
     }
 
 pub returns-clause-put : goal.returns-clause-put
@@ -69,3 +81,40 @@ returns-clause-put g c told some =
     let within = i.within in
     let past = c.loop-done-test.false in
     wrote_all a b c.args.file c.args.at c.args.bytes.now c.args.len c.loop-done.done (i.wrote told) (omega (arith, within, past)) some (c.requires.len told)
+
+pub write_page-requires-clause-place : goal.write_page-requires-clause-place
+write_page-requires-clause-place g c told =
+    let start = c.args.at + c.loop-done.done in
+    affords_place c.args.file (c.args.at / 256) c.loop-done.self.state.table (div_ceil (c.args.at + length c.args.bytes.now) 256 - c.args.at / 256)
+    (start / 256 - c.args.at / 256) (start / 256) (c.loop-done.invariant.affords told) (omega arith) (omega arith)
+
+pub returns-in_err-write_page-clause-own : goal.returns-in_err-write_page-clause-own
+returns-in_err-write_page-clause-own g c told = ⊎_elim (λ same. inl (same ∙ c.loop-done.invariant.own)) (λ stops. inr stops) (c.write_page.ensures.own told)
+
+pub returns-in_err-write_page-clause-one : goal.returns-in_err-write_page-clause-one
+returns-in_err-write_page-clause-one g c = let before = c.loop-done.invariant.own in let on = c.write_page.ensures.one in omega (arith, before, on)
+
+pub returns-in_err-write_page-clause-disputed : goal.returns-in_err-write_page-clause-disputed
+returns-in_err-write_page-clause-disputed g c = c.write_page.ensures.disputed ∙ c.loop-done.invariant.disputed
+
+pub returns-in_err-write_page-clause-steps : goal.returns-in_err-write_page-clause-steps
+returns-in_err-write_page-clause-steps g c =
+    let before = c.loop-done.invariant.steps in
+    let on = c.write_page.ensures.steps in
+    let test = c.loop-done-test.true in
+    omega (arith, before, on, test)
+
+pub returns-clause-own : goal.returns-clause-own
+returns-clause-own g c told = inl c.loop-done.invariant.own
+
+pub returns-clause-kept : goal.returns-clause-kept
+returns-clause-kept g c = c.loop-done.invariant.own
+
+pub returns-clause-one : goal.returns-clause-one
+returns-clause-one g c = let same = c.loop-done.invariant.own in omega (arith, same)
+
+pub returns-clause-disputed : goal.returns-clause-disputed
+returns-clause-disputed g c = c.loop-done.invariant.disputed
+
+pub returns-clause-steps : goal.returns-clause-steps
+returns-clause-steps g c = let steps = c.loop-done.invariant.steps in let within = c.loop-done.invariant.within in omega (arith, steps, within)
