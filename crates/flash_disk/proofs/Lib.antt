@@ -26,3 +26,5 @@ pub mod Moved
 mod Looking
 pub mod Entries
 pub mod Affording
+pub mod PageCount
+pub mod Spares

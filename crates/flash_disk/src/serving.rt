@@ -9,7 +9,8 @@ ghost use Rattle.flash_record.specs.PageRecord.{record_in};
 ghost use Rattle.flash_disk.specs.Newest.{places};
 ghost use Rattle.flash_disk.specs.FlashFiles.{record_byte, file_byte, file_len, flash_files};
 ghost use Rattle.std.specs.Int.{div_ceil};
-ghost use Rattle.flash_disk.specs.Known.{len_known, limit_of, page_len};
+ghost use Rattle.std.specs.HashMap.{IsUnique};
+ghost use Rattle.flash_disk.specs.Known.{same_page, len_known, limit_of, page_len};
 ghost use Rattle.flash_disk.specs.Counted.{missing};
 ghost use Rattle.flash_disk.specs.Entries.{SameEntries, Occupies, Affords};
 ghost use Rattle.flash_disk.specs.Learnt.{IsContent, HasPlace, Knows};
@@ -171,8 +172,9 @@ impl<F: Flash> Layer<F> {
     fn has_room(&self, file: u32, at: u64, end: u64) -> bool
         requires end { end ≤ 1099511627776 }
         requires ordered { at ≤ end }
-        ensures { IsTrue result ↔ (missing self.now.state.table file (at / 256) (div_ceil end 256 - at / 256)
+        ensures fits { IsTrue result ↔ (missing self.now.state.table file (at / 256) (div_ceil end 256 - at / 256)
             ≤ limit_of self.now.state.table - page_len self.now.state.table) }
+        ensures unique { IsUnique same_page self.now.state.table.newest }
     {
         let mut new: usize = 0;
         for page in at / PAGE..end.div_ceil(PAGE) {

@@ -1,7 +1,7 @@
 //! Where the newest record of each page of a file lies, and how long each file is.
 
 ghost use Rattle.std.specs.Prelude.{◌≡◌, ◌≢◌, ◌⊎◌, ◌↔◌, ◌≤◌, ◌<◌, ◌+◌, ◌-◌, ◌*◌, ◌==◌, ℕ, IfOk, IsSome, IsTrue, IsFalse, Some, None, All, length, max, if◌then◌else◌};
-ghost use Rattle.std.specs.HashMap.{get, hash_map_len, spare};
+ghost use Rattle.std.specs.HashMap.{IsUnique, get, hash_map_len, spare};
 ghost use Rattle.flash_disk.specs.Known.{same_page, len_in, HasLenIn, IsLongest, EndsBy};
 ghost use Rattle.flash_disk.specs.Counted.{leads_into, had_in, entries_in, IsInside, IsCounted};
 
@@ -84,7 +84,8 @@ impl Table {
 
     /// How many pages more may have a record.
     pub fn room(&self) -> usize
-        ensures { result ≡ limit_of self.now - page_len self.now }
+        ensures room { result ≡ limit_of self.now - page_len self.now }
+        ensures unique { IsUnique same_page self.now.newest }
     {
         self.limit.saturating_sub(self.newest.len())
     }

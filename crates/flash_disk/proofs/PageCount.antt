@@ -1,0 +1,145 @@
+-- A table has as many entries as there are pages with a record.
+use Rattle.std.proofs.Common.{◌≡◌, ℕ, zero, suc, ◌+◌, Bool, true, false, cond, List, [], ◌∷◌, length, refl, sym, ap, subst, ◌∙◌, arith}
+use Rattle.std.specs.Prelude.{Option, Some, None, is_some, is_none, nat_lt, ◌||◌}
+use Rattle.std.specs.Bool.{Decides}
+use Rattle.std.specs.Cmp.{IsEquivalence, decided}
+use Rattle.std.specs.List.{AllByRecursion, IsDistinct, list_any}
+use Rattle.std.specs.HashMap.{IsUnique, keys}
+use Rattle.std.specs.Set.{is_member}
+use Rattle.std.proofs.lemmas.Bool.{true≢false}
+use Rattle.std.proofs.lemmas.Map.Entries.{length-keys_of}
+use Rattle.std.proofs.lemmas.Map.Keys.{IsDistinct-cons}
+use Rattle.std.proofs.lemmas.Map.Made.{length-from_same_keys, is_some-lookup}
+use Rattle.flash_model.specs.Pages.{Pages}
+use Rattle.flash_record.specs.PageRecord.{PageRecord}
+use Rattle.flash_disk.specs.declared.table.FilePage.{FilePage}
+use Rattle.flash_disk.specs.declared.table.Newest.{Newest}
+use Rattle.flash_disk.specs.declared.table.Table.{Table}
+use Rattle.flash_disk.specs.Newest.{Placed, record_at, is_of, newer, with_record, newest, opens_page, page_count}
+use Rattle.flash_disk.specs.Known.{same_page, page_of, known, page_len}
+use Rattle.flash_disk.specs.Learnt.{LedOf, IsLed}
+use Rattle.flash_disk.specs.Counted.{missing}
+use Rattle.flash_disk.specs.OwnFaults.{lacking}
+use Rattle.flash_disk.proofs.Learning.{same_page_is, same_page_refl}
+
+page_decides : (a b : FilePage) → Decides (same_page a b) (a ≡ b)
+page_decides a b = (same_page_is a b, λ is. subst (λ k. same_page a k ≡ true) is (same_page_refl a))
+
+page_laws : IsEquivalence same_page
+page_laws = decided same_page page_decides
+
+-- ---- the pages that have a record
+
+abbrev with_opened : Pages → ℕ → Option PageRecord → List FilePage → List FilePage
+with_opened pages n None opened = opened
+with_opened pages n (Some r) opened = cond (is_none (newest pages r.file r.page n)) (page_of r ∷ opened) opened
+
+-- in the first n places
+abbrev opened_pages : Pages → ℕ → List FilePage
+opened_pages pages zero = []
+opened_pages pages (suc n) = with_opened pages n (record_at pages n) (opened_pages pages n)
+
+abbrev HasPages : (count : ℕ) (best : FilePage → Option Placed) → List FilePage → Type 0
+HasPages count best opened = (length opened ≡ count) × IsDistinct same_page opened × ((key : FilePage) → is_member same_page opened key ≡ is_some (best key))
+
+some_either : (b : Bool) (x y : Placed) → is_some (cond b (Some x) (Some y)) ≡ true
+some_either true x y = refl
+some_either false x y = refl
+
+newer_some : (best : Option Placed) (x : Placed) → is_some (newer best x) ≡ true
+newer_some None x = refl
+newer_some (Some y) x = some_either (nat_lt y.says.sequence x.says.sequence) x y
+
+some_not : (best : Option Placed) (b : Bool) → is_none best ≡ b → is_some best ≡ cond b false true
+some_not None true is = refl
+some_not None false is = absurd (true≢false is)
+some_not (Some x) true is = absurd (true≢false (sym is))
+some_not (Some x) false is = refl
+
+first_apart : (key k : FilePage) (ks : List FilePage) (b : Bool) → same_page key k ≡ b
+    → (list_any (same_page key) ks ≡ false → AllByRecursion (λ k. same_page key k ≡ false) ks)
+    → (b || list_any (same_page key) ks) ≡ false → (same_page key k ≡ false) × AllByRecursion (λ k. same_page key k ≡ false) ks
+first_apart key k ks true is rest none = absurd (true≢false none)
+first_apart key k ks false is rest none = (is, rest none)
+
+all_apart : (key : FilePage) (opened : List FilePage) → list_any (same_page key) opened ≡ false → AllByRecursion (λ k. same_page key k ≡ false) opened
+all_apart key [] none = tt
+all_apart key (k ∷ ks) none = first_apart key k ks (same_page key k) refl (all_apart key ks) none
+
+module _ (pages : Pages) (n count : ℕ) (opened : List FilePage) (has : HasPages count (λ key. newest pages key.file key.page n) opened) where
+  module _ (r : PageRecord) where
+    abbrev here : Placed
+    here = record { place = n; says = r }
+
+    abbrev own : FilePage
+    own = page_of r
+
+    abbrev old : FilePage → Option Placed
+    old key = newest pages key.file key.page n
+
+    new_page : (key : FilePage) (b : Bool) → same_page own key ≡ b
+        → (b || list_any (same_page key) opened) ≡ is_some (cond b (newer (old key) here) (old key))
+    new_page key true is = sym (newer_some (old key) here)
+    new_page key false is = has.2 key
+
+    known_page : is_some (old own) ≡ true → (key : FilePage) (b : Bool) → same_page own key ≡ b
+        → list_any (same_page key) opened ≡ is_some (cond b (newer (old key) here) (old key))
+    known_page some key true is = has.2 key ∙ (subst (λ k. is_some (old k) ≡ true) (same_page_is own key is) some ∙ sym (newer_some (old key) here))
+    known_page some key false is = has.2 key
+
+    one_record : (b : Bool) → is_none (old own) ≡ b
+        → HasPages (count + cond b 1 0) (λ key. cond (is_of key.file key.page r) (newer (old key) here) (old key)) (cond b (own ∷ opened) opened)
+    one_record true is = (
+      (let long = has.0 in omega (arith, long)),
+      IsDistinct-cons same_page own opened (all_apart own opened (has.2 own ∙ some_not (old own) true is)) has.1,
+      λ key. ap (λ b. b || list_any (same_page key) opened) (page_laws.symm key own) ∙ new_page key (same_page own key) refl,
+    )
+    one_record false is = (
+      (let long = has.0 in omega (arith, long)),
+      has.1,
+      λ key. known_page (some_not (old own) false is) key (same_page own key) refl,
+    )
+
+  -- one place more
+  opened_next : (o : Option PageRecord) → HasPages (count + opens_page pages n o) (λ key. with_record key.file key.page n o (newest pages key.file key.page n)) (with_opened pages n o opened)
+  opened_next None = ((let long = has.0 in omega (arith, long)), has.1, has.2)
+  opened_next (Some r) = one_record r (is_none (newest pages r.file r.page n)) refl
+
+none_distinct : IsDistinct same_page []
+unfolding IsDistinct
+none_distinct = tt
+
+opened_is : (pages : Pages) (n : ℕ) → HasPages (page_count pages n) (λ key. newest pages key.file key.page n) (opened_pages pages n)
+opened_is pages zero = (refl, none_distinct, λ key. refl)
+opened_is pages (suc n) = opened_next pages n (page_count pages n) (opened_pages pages n) (opened_is pages n) (record_at pages n)
+
+-- ---- the entries of a table
+
+led_some : (pages : Pages) (n : ℕ) (entry : Option Newest) (best : Option Placed) → LedOf pages n entry best → is_some entry ≡ is_some best
+led_some pages n None None led = refl
+led_some pages n None (Some x) led = absurd led
+led_some pages n (Some e) None led = absurd led
+led_some pages n (Some e) (Some x) led = refl
+
+led_none : (pages : Pages) (n : ℕ) (entry : Option Newest) (best : Option Placed) → LedOf pages n entry best → is_none entry ≡ is_none best
+led_none pages n None None led = refl
+led_none pages n None (Some x) led = absurd led
+led_none pages n (Some e) None led = absurd led
+led_none pages n (Some e) (Some x) led = refl
+
+-- no page has two entries, as the length of the map says: there is one for each page with a record
+pub page_len_is : (pages : Pages) (n : ℕ) (table : Table) → IsLed pages n table → IsUnique same_page table.newest → page_len table ≡ page_count pages n
+page_len_is pages n table led unique =
+    let opened = opened_is pages n in
+    sym (length-keys_of table.newest.entries)
+    ∙ (length-from_same_keys page_laws (keys table.newest) (opened_pages pages n) unique opened.1
+    (λ key. sym (is_some-lookup (same_page key) table.newest.entries) ∙ (led_some pages n (known table key) (newest pages key.file key.page n) (led.says key) ∙ sym (opened.2 key)))
+    ∙ opened.0)
+
+-- as many pages of a file have no entry as have no record
+pub missing_is : (pages : Pages) (n : ℕ) (table : Table) → IsLed pages n table → (file from k : ℕ) → missing table file from k ≡ lacking pages n file from k
+missing_is pages n table led file from zero = refl
+missing_is pages n table led file from (suc k) =
+    let key : FilePage = record { file = file; page = from + k } in
+    ap (λ m. m + cond (is_none (known table key)) 1 0) (missing_is pages n table led file from k)
+    ∙ ap (λ b. lacking pages n file from k + cond b 1 0) (led_none pages n (known table key) (newest pages file (from + k) n) (led.says key))
