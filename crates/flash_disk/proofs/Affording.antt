@@ -1,6 +1,7 @@
 -- Room for the pages of a write, while its pages are written.
-use Rattle.std.proofs.Common.{◌≡◌, ℕ, zero, suc, ◌+◌, ◌<◌, ◌≤◌, ◌⊎◌, Bool, true, false, cond, refl, sym, ap, subst, ◌∙◌, inl, inr, ⊎_elim, arith, true≢false}
+use Rattle.std.proofs.Common.{◌≡◌, ℕ, zero, suc, ◌+◌, ◌-◌, ◌/◌, ◌<◌, ◌≤◌, ◌⊎◌, Bool, true, false, cond, refl, sym, ap, subst, ◌∙◌, inl, inr, ⊎_elim, arith, true≢false}
 use Rattle.std.specs.Prelude.{Option, Some, None, is_none, is_some}
+use Rattle.std.specs.Int.{div_ceil}
 use Rattle.std.proofs.lemmas.Bool.{cases_lt}
 use Rattle.flash_disk.specs.declared.table.FilePage.{FilePage}
 use Rattle.flash_disk.specs.declared.table.Newest.{Newest}
@@ -112,3 +113,9 @@ module _ (file from : ℕ) where
       → Affords old file from n → Affords new file from n
   affords_more old new n k page within is more = occupies_here old new k
       (subst (λ p. Occupies old new (record { file = file; page = p })) (sym is) more) n within
+
+-- where there is room for the pages of a write they have it
+pub room_affords : (table : Table) (file at end n : ℕ) → end ≡ n → page_len table ≤ limit_of table
+    → missing table file (at / 256) (div_ceil end 256 - at / 256) ≤ limit_of table - page_len table
+    → Affords table file (at / 256) (div_ceil n 256 - at / 256)
+room_affords table file at end n is fits room = subst (λ e. Affords table file (at / 256) (div_ceil e 256 - at / 256)) is (omega (arith, fits, room))

@@ -28,3 +28,4 @@ pub mod Entries
 pub mod Affording
 pub mod PageCount
 pub mod Spares
+pub mod Failing

@@ -1,11 +1,13 @@
-use Rattle.std.proofs.Common.{◌≡◌, Bool, length, subst, arith}
+use Rattle.std.proofs.Common.{◌≡◌, Bool, ◌⊎◌, length, inl, inr, ⊎_elim, subst, ◌∙◌, arith}
 use Rattle.disk_model.specs.Case.{Follows, WriteCase, WriteOrNot}
 use Rattle.disk_model.specs.Medium.{Medium}
 use Rattle.flash_model.specs.FlashMedium.{FlashMedium}
 use Rattle.flash_disk.specs.FlashView.{FlashView}
 use Rattle.flash_disk.specs.FlashDiskMedium.{flash_disk_medium}
+use Rattle.flash_disk.specs.OwnFaults.{FailsAlone}
 use Rattle.flash_disk.proofs.DiskCases.{disk_rests, disk_write_nothing}
 use Rattle.flash_disk.proofs.DiskWrites.{write_during, write_now}
+use Rattle.flash_disk.proofs.Failing.{fails_alone}
 use Rattle.flash_disk.proofs.calls.FlashDiskDisk.write_at.Goals as goal
 
 abbrev medium_of : {F : Type 0} → Bool → (F → FlashMedium) → FlashView F → Medium
@@ -57,3 +59,18 @@ returns-clause-during g c =
     subst (λ v. Follows (WriteOrNot c.args.file c.args.at c.args.bytes.now) (seen v).now (after.since (seen v).moment)) c.self.view_is
     (write_during g.F.Flash.told m0 m1 m2 c.self.inside.layer.own c.write_file.new.self.own c.self.inside.written c.with_more-self-inside.result c.args.file c.args.at c.args.bytes.now
     c.make_sure.ensures.unchanged c.make_sure.ensures.time c.write_file.ensures.time c.write_file.ensures.writes c.make_sure.ensures.during)
+
+pub returns-in_err-write_file-clause-own : goal.returns-in_err-write_file-clause-own
+returns-in_err-write_file-clause-own g c told =
+    let m0 = g.F.Flash.medium c.self.inside.layer.flash in
+    let m1 = g.F.Flash.medium c.make_sure.new.self.flash in
+    let state = c.write_file.new.self.state in
+    let own = c.write_file.new.self.own in
+    let n = length c.args.bytes.now in
+    let time = c.make_sure.ensures.time told in
+    subst (λ v. (own ≡ v.own) ⊎ FailsAlone (g.F.Flash.medium v.flash) state.sequence c.args.file c.args.at n) c.self.view_is
+    (⊎_elim
+    (λ same. inl (same ∙ c.make_sure.ensures.own))
+    (λ why. inr (fails_alone m0 m1 c.make_sure.new.self.state state c.args.file c.args.at n (c.make_sure.ensures.unchanged told) time.blocks
+    (c.in_ok-make_sure.ensures.sound told) c.write_file.ensures.disputed why))
+    (c.write_file.ensures.own told))
