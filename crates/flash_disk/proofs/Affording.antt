@@ -1,7 +1,6 @@
 -- Room for the pages of a write, while its pages are written.
-use Rattle.std.proofs.Common.{◌≡◌, ℕ, zero, suc, ◌+◌, ◌-◌, ◌/◌, ◌<◌, ◌≤◌, ◌⊎◌, Bool, true, false, cond, refl, sym, ap, subst, ◌∙◌, inl, inr, ⊎_elim, arith, true≢false}
+use Rattle.std.proofs.Common.{rules, ◌≡◌, ℕ, zero, suc, ◌+◌, ◌<◌, ◌≤◌, ◌⊎◌, Bool, true, false, cond, refl, sym, ap, subst, ◌∙◌, inl, inr, ⊎_elim, arith, true≢false}
 use Rattle.std.specs.Prelude.{Option, Some, None, is_none, is_some}
-use Rattle.std.specs.Int.{div_ceil}
 use Rattle.std.proofs.lemmas.Bool.{cases_lt}
 use Rattle.flash_disk.specs.declared.table.FilePage.{FilePage}
 use Rattle.flash_disk.specs.declared.table.Newest.{Newest}
@@ -70,10 +69,8 @@ module _ (file from : ℕ) where
       (λ none. (let one = one_lacks table n k within (none_of (known table (at k)) none) in inr (omega (arith, one, affords))))
       (some_or_none (known table (at k))))
 
-  pub affords_same : (old new : Table) (n : ℕ) → SameEntries old new → Affords old file from n → Affords new file from n
-  affords_same old new n same affords =
-      let rest = same_missing old new n (λ i below. same.has (at i)) in let len = same.len in let limit = same.limit in
-      omega (arith, rest, len, limit, affords)
+  affords_same : (old new : Table) (n : ℕ) → SameEntries old new → Affords old file from n → Affords new file from n
+  affords_same old new n same affords = search rules
 
   module _ (old new : Table) (k : ℕ) (more : Occupies old new (at k)) where
     -- the others have entries where they had
@@ -113,9 +110,3 @@ module _ (file from : ℕ) where
       → Affords old file from n → Affords new file from n
   affords_more old new n k page within is more = occupies_here old new k
       (subst (λ p. Occupies old new (record { file = file; page = p })) (sym is) more) n within
-
--- where there is room for the pages of a write they have it
-pub room_affords : (table : Table) (file at end n : ℕ) → end ≡ n → page_len table ≤ limit_of table
-    → missing table file (at / 256) (div_ceil end 256 - at / 256) ≤ limit_of table - page_len table
-    → Affords table file (at / 256) (div_ceil n 256 - at / 256)
-room_affords table file at end n is fits room = subst (λ e. Affords table file (at / 256) (div_ceil e 256 - at / 256)) is (omega (arith, fits, room))

@@ -1,8 +1,6 @@
-use Rattle.std.proofs.Common.{◌+◌, ◌-◌, ◌/◌, length, sym, inr, inl, ◌∙◌, arith, true≢false}
-use Rattle.std.specs.Int.{div_ceil}
+use Rattle.std.proofs.Common.{length, sym, inl, inr, ◌∙◌, arith, true≢false}
 use Rattle.flash_disk.proofs.Writing.{no_error, wipes_torn, wipes_then, len_wiped, grows_wiped, sound_announced, writes_into}
 use Rattle.flash_disk.proofs.Stretches.{elapses_then}
-use Rattle.flash_disk.proofs.Affording.{room_affords, affords_same}
 use Rattle.flash_disk.proofs.Failing.{wants_too_many}
 use Rattle.flash_disk.proofs.layer.Layer.write_file.Goals as goal
 
@@ -65,11 +63,3 @@ returns-then-not-has_room-clause-own g c told =
     inr (inr (inl (wants_too_many (g.F.Flash.medium c.args.self.now.flash) s c.args.file c.args.at (length c.args.bytes.now) c.in-Some.end (c.requires.sound told)
     c.has_room.ensures.unique c.in-Some.ensures.1
     (λ fits. true≢false (sym (c.has_room.ensures.fits.1 fits) ∙ c.if-not-has_room.true)))))
-
-pub write_pages-requires-clause-affords : goal.write_pages-requires-clause-affords
-write_pages-requires-clause-affords g c told =
-    let s = c.args.self.now.state in
-    let end = c.args.at + length c.args.bytes.now in
-    let sound = c.requires.sound told in
-    affords_same c.args.file (c.args.at / 256) s.table c.wipe_strays.new.self.state.table (div_ceil end 256 - c.args.at / 256) (c.in_ok-wipe_strays.ensures.entries told)
-    (room_affords s.table c.args.file c.args.at c.in-Some.end end c.in-Some.ensures.1 sound.counted.fits (c.has_room.ensures.fits.0 c.if-not-has_room.false))
