@@ -5,7 +5,7 @@ use Rattle.std.proofs.lemmas.Bool.{cases_lt}
 use Rattle.flash_disk.specs.declared.table.FilePage.{FilePage}
 use Rattle.flash_disk.specs.declared.table.Newest.{Newest}
 use Rattle.flash_disk.specs.declared.table.Table.{Table}
-use Rattle.flash_disk.specs.Known.{same_page, known, page_len, limit_of}
+use Rattle.flash_disk.specs.Known.{same_page, known, page_len}
 use Rattle.flash_disk.specs.Counted.{missing}
 use Rattle.flash_disk.specs.Learnt.{HasPlace}
 use Rattle.flash_disk.specs.Entries.{SameEntries, Occupies, Affords}

@@ -1,5 +1,4 @@
-use Rattle.std.proofs.Common.{◌≡◌, ◌≤◌, ◌/◌, ◌∙◌, refl, inl, inr, ⊎_elim, arith}
-use Rattle.std.specs.Int.{div_ceil}
+use Rattle.std.proofs.Common.{◌/◌, ◌∙◌, refl, arith}
 use Rattle.flash_disk.specs.Standing.{StandsFor}
 use Rattle.flash_disk.specs.Sound.{files_of}
 use Rattle.flash_disk.proofs.Writing.{stands, does_none, stands_then, wiped_start, wiped_more, wiped_nowhere, len_still}
@@ -74,45 +73,3 @@ loop-page-preserved g c =
       steps = (let before = i.steps in let on = e.steps in omega (arith, before, on));
       entries = λ told. same_entries_then c.args.self.now.state.table c.loop-page.self.state.table c.wipe_stray.new.self.state.table (i.entries told) (e.entries told);
     }
-
-pub returns-in_err-wipe_stray-clause-own : goal.returns-in_err-wipe_stray-clause-own
-returns-in_err-wipe_stray-clause-own g c told = ⊎_elim (λ same. inl (same ∙ c.loop-page.invariant.own)) (λ stops. inr stops) (c.wipe_stray.ensures.own told)
-
-pub returns-in_err-wipe_stray-clause-one : goal.returns-in_err-wipe_stray-clause-one
-returns-in_err-wipe_stray-clause-one g c = let before = c.loop-page.invariant.own in let on = c.wipe_stray.ensures.one in omega (arith, before, on)
-
-pub returns-in_err-wipe_stray-clause-disputed : goal.returns-in_err-wipe_stray-clause-disputed
-returns-in_err-wipe_stray-clause-disputed g c = c.wipe_stray.ensures.disputed ∙ c.loop-page.invariant.disputed
-
-pub returns-in_err-wipe_stray-clause-steps : goal.returns-in_err-wipe_stray-clause-steps
-returns-in_err-wipe_stray-clause-steps g c =
-    let before = c.loop-page.invariant.steps in
-    let on = c.wipe_stray.ensures.steps in
-    let test = c.loop-page-test.true in
-    let last = c.div_ceil-page-end.ensures in
-    let end = c.min-end.ensures in
-    omega (arith, before, on, test, last, end)
-
-pub returns-clause-own : goal.returns-clause-own
-returns-clause-own g c told = inl c.loop-page.invariant.own
-
-pub returns-clause-kept : goal.returns-clause-kept
-returns-clause-kept g c = c.loop-page.invariant.own
-
-pub returns-clause-one : goal.returns-clause-one
-returns-clause-one g c = let same = c.loop-page.invariant.own in omega (arith, same)
-
-pub returns-clause-disputed : goal.returns-clause-disputed
-returns-clause-disputed g c = c.loop-page.invariant.disputed
-
-pub returns-clause-steps : goal.returns-clause-steps
-returns-clause-steps g c =
-    let steps = c.loop-page.invariant.steps in
-    let within = c.loop-page.auto.page-end in
-    let last = c.div_ceil-page-end.ensures in
-    let end = c.min-end.ensures in
-    let past = c.if-end-len.false in
-    omega (arith, steps, within, last, end, past)
-
-pub returns-clause-entries : goal.returns-clause-entries
-returns-clause-entries g c told = c.loop-page.invariant.entries told

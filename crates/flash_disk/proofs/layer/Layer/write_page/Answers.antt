@@ -1,6 +1,5 @@
-use Rattle.std.proofs.Common.{◌≡◌, ◌*◌, ◌+◌, length, inl, inr, ⊎_elim, subst, ◌∙◌, arith}
+use Rattle.std.proofs.Common.{◌≡◌, ◌*◌, ◌+◌, length, subst, arith}
 use Rattle.std.proofs.lemmas.Result.{on_ok_weaker}
-use Rattle.flash_disk.specs.Does.{Does}
 use Rattle.flash_disk.specs.PutPart.{PutPart}
 use Rattle.flash_disk.specs.Sound.{files_of, LeavesPut}
 use Rattle.flash_disk.proofs.Writing.{leaves_nothing, files_seen, fits_seen, does_after_look, page_fits, page_narrower, leaves_narrower}
@@ -59,9 +58,3 @@ returns-clause-does g c told =
     c.args.from c.args.len c.args.bytes.now c.copy_part.new.out copied.inside copied.before copied.after full c.requires.within)
     (leaves_nothing a c.args.self.now.state sound c.args.file at c.args.bytes.now c.args.len)
     (e.time told) (c.append.ensures.time told) (e.during told) (c.append.ensures.does told)
-
-pub returns-in_err-content-clause-own : goal.returns-in_err-content-clause-own
-returns-in_err-content-clause-own g c told = inl c.content.ensures.own
-
-pub returns-clause-own : goal.returns-clause-own
-returns-clause-own g c told = ⊎_elim (λ same. inl (same ∙ c.content.ensures.own)) (λ stops. inr stops) (c.append.ensures.own told)

@@ -1,4 +1,4 @@
-use Rattle.std.proofs.Common.{◌≡◌, ◌≤◌, ◌+◌, ◌-◌, ◌/◌, ◌∙◌, length, take, drop, refl, inl, inr, ⊎_elim, arith}
+use Rattle.std.proofs.Common.{◌+◌, ◌-◌, ◌/◌, ◌∙◌, length, take, drop, refl, arith}
 use Rattle.std.specs.Int.{div_ceil}
 use Rattle.flash_disk.specs.Does.{Does}
 use Rattle.flash_disk.specs.PutPart.{PutPart}
@@ -87,34 +87,3 @@ write_page-requires-clause-place g c told =
     let start = c.args.at + c.loop-done.done in
     affords_place c.args.file (c.args.at / 256) c.loop-done.self.state.table (div_ceil (c.args.at + length c.args.bytes.now) 256 - c.args.at / 256)
     (start / 256 - c.args.at / 256) (start / 256) (c.loop-done.invariant.affords told) (omega arith) (omega arith)
-
-pub returns-in_err-write_page-clause-own : goal.returns-in_err-write_page-clause-own
-returns-in_err-write_page-clause-own g c told = ⊎_elim (λ same. inl (same ∙ c.loop-done.invariant.own)) (λ stops. inr stops) (c.write_page.ensures.own told)
-
-pub returns-in_err-write_page-clause-one : goal.returns-in_err-write_page-clause-one
-returns-in_err-write_page-clause-one g c = let before = c.loop-done.invariant.own in let on = c.write_page.ensures.one in omega (arith, before, on)
-
-pub returns-in_err-write_page-clause-disputed : goal.returns-in_err-write_page-clause-disputed
-returns-in_err-write_page-clause-disputed g c = c.write_page.ensures.disputed ∙ c.loop-done.invariant.disputed
-
-pub returns-in_err-write_page-clause-steps : goal.returns-in_err-write_page-clause-steps
-returns-in_err-write_page-clause-steps g c =
-    let before = c.loop-done.invariant.steps in
-    let on = c.write_page.ensures.steps in
-    let test = c.loop-done-test.true in
-    omega (arith, before, on, test)
-
-pub returns-clause-own : goal.returns-clause-own
-returns-clause-own g c told = inl c.loop-done.invariant.own
-
-pub returns-clause-kept : goal.returns-clause-kept
-returns-clause-kept g c = c.loop-done.invariant.own
-
-pub returns-clause-one : goal.returns-clause-one
-returns-clause-one g c = let same = c.loop-done.invariant.own in omega (arith, same)
-
-pub returns-clause-disputed : goal.returns-clause-disputed
-returns-clause-disputed g c = c.loop-done.invariant.disputed
-
-pub returns-clause-steps : goal.returns-clause-steps
-returns-clause-steps g c = let steps = c.loop-done.invariant.steps in let within = c.loop-done.invariant.within in omega (arith, steps, within)
