@@ -26,5 +26,7 @@ pub mod Moving
 pub mod Moved
 mod Looking
 pub mod Entries
+pub mod Affording
 pub mod PageCount
 pub mod Spares
+pub mod Failing

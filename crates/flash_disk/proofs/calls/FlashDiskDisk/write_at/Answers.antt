@@ -1,4 +1,4 @@
-use Rattle.std.proofs.Common.{◌≡◌, Bool, length, subst, arith}
+use Rattle.std.proofs.Common.{◌≡◌, Bool, ◌⊎◌, length, inl, inr, ⊎_elim, subst, ◌∙◌, arith}
 use Rattle.disk_model.specs.Case.{Follows, WriteCase, WriteOrNot}
 use Rattle.disk_model.specs.Medium.{Medium}
 use Rattle.flash_model.specs.FlashMedium.{FlashMedium}
@@ -8,6 +8,8 @@ use Rattle.flash_disk.specs.Spares.{KeepsSpare}
 use Rattle.flash_disk.proofs.DiskCases.{disk_rests, disk_write_nothing}
 use Rattle.flash_disk.proofs.DiskWrites.{write_during, write_now}
 use Rattle.flash_disk.proofs.Spares.{holds_spare, look_spares, rest_spares, write_spares, spares_then}
+use Rattle.flash_disk.specs.OwnFaults.{FailsAlone}
+use Rattle.flash_disk.proofs.Failing.{fails_alone}
 use Rattle.flash_disk.proofs.calls.FlashDiskDisk.write_at.Goals as goal
 
 abbrev medium_of : {F : Type 0} → Bool → (F → FlashMedium) → FlashView F → Medium
@@ -97,3 +99,18 @@ returns-then-is_empty-clause-spare g c told =
     let m = g.F.Flash.medium c.self.inside.layer.flash in
     subst (λ v. KeepsSpare (g.F.Flash.medium v.flash) (g.F.Flash.medium v.flash)) c.self.view_is
     (rest_spares g.F.Flash.told m (g.met.F.Flash.lawful c.self.inside.layer.flash) (holds_spare m c.self.inside.layer.state (c.self.invariant.holds told)))
+
+pub returns-in_err-write_file-clause-own : goal.returns-in_err-write_file-clause-own
+returns-in_err-write_file-clause-own g c told =
+    let m0 = g.F.Flash.medium c.self.inside.layer.flash in
+    let m1 = g.F.Flash.medium c.make_sure.new.self.flash in
+    let state = c.write_file.new.self.state in
+    let own = c.write_file.new.self.own in
+    let n = length c.args.bytes.now in
+    let time = c.make_sure.ensures.time told in
+    subst (λ v. (own ≡ v.own) ⊎ FailsAlone (g.F.Flash.medium v.flash) state.sequence c.args.file c.args.at n) c.self.view_is
+    (⊎_elim
+    (λ same. inl (same ∙ c.make_sure.ensures.own))
+    (λ why. inr (fails_alone m0 m1 c.make_sure.new.self.state state c.args.file c.args.at n (c.make_sure.ensures.unchanged told) time.blocks
+    (c.in_ok-make_sure.ensures.sound told) c.write_file.ensures.disputed why))
+    (c.write_file.ensures.own told))

@@ -1,8 +1,7 @@
-use Rattle.std.proofs.Common.{◌≡◌, ◌*◌, length, inl, inr, ⊎_elim, refl, sym, ◌∙◌, subst, arith}
+use Rattle.std.proofs.Common.{◌≡◌, ◌*◌, length, sym, ◌∙◌, subst, arith}
 use Rattle.flash_disk.specs.PutPart.{PutPart}
 use Rattle.flash_disk.specs.Standing.{StandsFor}
 use Rattle.flash_disk.specs.Sound.{files_of, LeavesPut}
-use Rattle.flash_disk.specs.OwnFaults.{StopsAdding}
 use Rattle.flash_disk.proofs.Writing.{on_ok_both, stands, does_none, files_seen, fits_seen, shown_seen, does_after_look, wiped_none, wiped_within, stray_fits, stands_still, wiped_by}
 use Rattle.flash_disk.proofs.Stretches.{does_nothing}
 use Rattle.flash_disk.proofs.layer.Layer.wipe_stray.Goals as goal
@@ -77,18 +76,3 @@ returns-clause-does g c told =
     does_after_look a b (e.unchanged told) e.blocks (LeavesPut c.args.file (256 * c.args.page) was c.args.len) StandsFor d
     (stands_still a s sound c.args.file c.args.page c.args.len (c.requires.len told) was (e.bytes told sound.knows) full)
     (stands a s sound) (e.time told) (c.append.ensures.time told) (e.during told) (c.append.ensures.does told)
-
-pub returns-in_default-clause-own : goal.returns-in_default-clause-own
-returns-in_default-clause-own g c told = inl refl
-
-pub returns-then-end_of_bytes-len-clause-own : goal.returns-then-end_of_bytes-len-clause-own
-returns-then-end_of_bytes-len-clause-own g c told = inl refl
-
-pub returns-in_err-content-clause-own : goal.returns-in_err-content-clause-own
-returns-in_err-content-clause-own g c told = inl c.content.ensures.own
-
-pub returns-clause-own : goal.returns-clause-own
-returns-clause-own g c told = ⊎_elim
-    (λ same. inl (same ∙ c.content.ensures.own))
-    (λ stops. inr (subst StopsAdding c.content.ensures.state stops))
-    (c.append.ensures.own told)

@@ -1,8 +1,9 @@
-use Rattle.std.proofs.Common.{◌/◌, ◌∙◌, arith}
+use Rattle.std.proofs.Common.{◌/◌, ◌∙◌, refl, arith}
 use Rattle.flash_disk.specs.Standing.{StandsFor}
 use Rattle.flash_disk.specs.Sound.{files_of}
 use Rattle.flash_disk.proofs.Writing.{stands, does_none, stands_then, wiped_start, wiped_more, wiped_nowhere, len_still}
 use Rattle.flash_disk.proofs.Stretches.{elapses_refl, elapses_then}
+use Rattle.flash_disk.proofs.Entries.{same_entries, same_entries_then}
 use Rattle.flash_disk.proofs.layer.Layer.wipe_strays.Goals as goal
 
 pub returns-then-end-len-clause-wiped : goal.returns-then-end-len-clause-wiped
@@ -30,6 +31,10 @@ loop-page-init g c =
       time = λ told. elapses_refl g.F.Flash.told a lawful told;
       numbered = omega arith;
       counted = omega arith;
+      own = refl;
+      disputed = refl;
+      steps = omega arith;
+      entries = λ told. same_entries s.table;
     }
 
 pub wipe_stray-requires-clause-len : goal.wipe_stray-requires-clause-len
@@ -63,4 +68,8 @@ loop-page-preserved g c =
       time = λ told. elapses_then a b d (i.time told) (e.time told);
       numbered = (let before = i.numbered in let on = e.later in omega (arith, before, on));
       counted = (let before = i.counted in let on = e.cause.later in omega (arith, before, on));
+      own = e.kept ∙ i.own;
+      disputed = e.disputed ∙ i.disputed;
+      steps = (let before = i.steps in let on = e.steps in omega (arith, before, on));
+      entries = λ told. same_entries_then c.args.self.now.state.table c.loop-page.self.state.table c.wipe_stray.new.self.state.table (i.entries told) (e.entries told);
     }

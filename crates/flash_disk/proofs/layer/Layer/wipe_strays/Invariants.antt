@@ -4,6 +4,7 @@ use Rattle.flash_model.specs.FlashMedium.{FlashElapses}
 use Rattle.flash_disk.specs.Does.{Does}
 use Rattle.flash_disk.specs.Standing.{StandsFor}
 use Rattle.flash_disk.specs.Sound.{files_of, IsSound}
+use Rattle.flash_disk.specs.Entries.{SameEntries}
 use Rattle.flash_disk.proofs.Writing.{Wiped}
 use Rattle.flash_disk.proofs.layer.Layer.wipe_strays.Given as goal
 
@@ -17,4 +18,8 @@ invariant-loop-page g l = record {
   time : g.F.Flash.told ≡ true → FlashElapses (g.F.Flash.medium l.initial.self.flash) (g.F.Flash.medium l.self.flash);
   numbered : l.initial.self.state.sequence ≤ l.self.state.sequence;
   counted : (g.F.Flash.medium l.initial.self.flash).faults + l.initial.self.own ≤ (g.F.Flash.medium l.self.flash).faults + l.self.own;
+  own : l.self.own ≡ l.initial.self.own;
+  disputed : l.self.state.disputed ≡ l.initial.self.state.disputed;
+  steps : l.self.state.sequence ≤ l.initial.self.state.sequence + l.page;
+  entries : g.F.Flash.told ≡ true → SameEntries l.initial.self.state.table l.self.state.table;
 }

@@ -1,6 +1,7 @@
-use Rattle.std.proofs.Common.{sym, ◌∙◌, arith}
+use Rattle.std.proofs.Common.{length, sym, inl, inr, ◌∙◌, arith, true≢false}
 use Rattle.flash_disk.proofs.Writing.{no_error, wipes_torn, wipes_then, len_wiped, grows_wiped, sound_announced, writes_into}
 use Rattle.flash_disk.proofs.Stretches.{elapses_then}
+use Rattle.flash_disk.proofs.Failing.{wants_too_many}
 use Rattle.flash_disk.proofs.layer.Layer.write_file.Goals as goal
 
 pub returns-in_err-wipe_strays-clause-writes : goal.returns-in_err-wipe_strays-clause-writes
@@ -55,3 +56,10 @@ returns-clause-writes g c told =
     writes_into c.args.file c.args.at c.args.bytes.now a b announced c.announce.ensures.time s (c.requires.sound told) c.announce.ensures.during d
     (elapses_then b w d (e.time told) (f.time told))
     (wipes_then c.args.file c.args.at c.args.bytes.now b w (e.time told) (e.does told) d (f.time told) (f.does told))
+
+pub returns-then-not-has_room-clause-own : goal.returns-then-not-has_room-clause-own
+returns-then-not-has_room-clause-own g c told =
+    let s = c.args.self.now.state in
+    inr (inr (inl (wants_too_many (g.F.Flash.medium c.args.self.now.flash) s c.args.file c.args.at (length c.args.bytes.now) c.in-Some.end (c.requires.sound told)
+    c.has_room.ensures.unique c.in-Some.ensures.1
+    (λ fits. true≢false (sym (c.has_room.ensures.fits.1 fits) ∙ c.if-not-has_room.true)))))

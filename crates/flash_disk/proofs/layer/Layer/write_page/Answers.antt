@@ -1,20 +1,10 @@
-use Rattle.std.proofs.Common.{◌≡◌, ◌*◌, ◌+◌, length, true≢false, inl, inr, ⊎_elim, sym, subst, ◌∙◌, arith}
+use Rattle.std.proofs.Common.{◌≡◌, ◌*◌, ◌+◌, length, subst, arith}
 use Rattle.std.proofs.lemmas.Result.{on_ok_weaker}
-use Rattle.flash_disk.specs.Does.{Does}
 use Rattle.flash_disk.specs.PutPart.{PutPart}
 use Rattle.flash_disk.specs.Sound.{files_of, LeavesPut}
-use Rattle.flash_disk.specs.OwnFaults.{StopsAdding}
-use Rattle.flash_disk.proofs.Writing.{leaves_nothing, does_none, files_seen, fits_seen, does_after_look, page_fits, page_narrower, leaves_narrower}
+use Rattle.flash_disk.proofs.Writing.{leaves_nothing, files_seen, fits_seen, does_after_look, page_fits, page_narrower, leaves_narrower}
 use Rattle.flash_disk.proofs.Stretches.{does_nothing}
 use Rattle.flash_disk.proofs.layer.Layer.write_page.Goals as goal
-
-pub returns-then-not-has_place-clause-does : goal.returns-then-not-has_place-clause-does
-returns-then-not-has_place-clause-does g c told =
-    let a = g.F.Flash.medium c.args.self.now.flash in
-    let at = 256 * c.args.page + c.args.from in
-    let nothing = leaves_nothing a c.args.self.now.state (c.requires.sound told) c.args.file at c.args.bytes.now c.args.len in
-    subst (λ f. Does (LeavesPut c.args.file at c.args.bytes.now c.args.len (files_of a) a.blocks) a (g.F.Flash.medium f)) (sym c.fault.ensures.flash)
-    (does_none g.F.Flash.told a (g.met.F.Flash.lawful c.args.self.now.flash) (LeavesPut c.args.file at c.args.bytes.now c.args.len (files_of a) a.blocks) nothing)
 
 pub returns-in_err-content-clause-does : goal.returns-in_err-content-clause-does
 returns-in_err-content-clause-does g c told =
@@ -35,7 +25,7 @@ append-requires-clause-fits g c told =
     let sound = r.sound told in
     let copied = c.copy_part.ensures in
     let fits = page_fits a c.args.file c.args.page c.in_ok-content.content (e.bytes told sound.knows)
-    c.args.from c.args.len c.args.bytes.now c.copy_part.new.out copied.inside copied.before copied.after s (c.has_place.ensures.0 c.if-not-has_place.false) r.end (r.no_shorter told) (r.grows told) in
+    c.args.from c.args.len c.args.bytes.now c.copy_part.new.out copied.inside copied.before copied.after s (r.place told) r.end (r.no_shorter told) (r.grows told) in
     fits_seen a b (e.unchanged told) e.blocks s c.content.new.self.state e.state c.args.file c.args.page c.args.len c.copy_part.new.out fits
 
 pub returns-clause-put : goal.returns-clause-put
@@ -68,15 +58,3 @@ returns-clause-does g c told =
     c.args.from c.args.len c.args.bytes.now c.copy_part.new.out copied.inside copied.before copied.after full c.requires.within)
     (leaves_nothing a c.args.self.now.state sound c.args.file at c.args.bytes.now c.args.len)
     (e.time told) (c.append.ensures.time told) (e.during told) (c.append.ensures.does told)
-
-pub returns-then-not-has_place-clause-own : goal.returns-then-not-has_place-clause-own
-returns-then-not-has_place-clause-own g c told place = absurd (true≢false (sym (c.has_place.ensures.1 place) ∙ c.if-not-has_place.true))
-
-pub returns-in_err-content-clause-own : goal.returns-in_err-content-clause-own
-returns-in_err-content-clause-own g c told place = inl c.content.ensures.own
-
-pub returns-clause-own : goal.returns-clause-own
-returns-clause-own g c told place = ⊎_elim
-    (λ same. inl (same ∙ c.content.ensures.own))
-    (λ stops. inr (subst StopsAdding c.content.ensures.state stops))
-    (c.append.ensures.own told)

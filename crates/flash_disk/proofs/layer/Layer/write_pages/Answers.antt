@@ -1,10 +1,12 @@
-use Rattle.std.proofs.Common.{◌+◌, length, take, drop, arith}
+use Rattle.std.proofs.Common.{◌+◌, ◌-◌, ◌/◌, ◌∙◌, length, take, drop, refl, arith}
+use Rattle.std.specs.Int.{div_ceil}
 use Rattle.flash_disk.specs.Does.{Does}
 use Rattle.flash_disk.specs.PutPart.{PutPart}
 use Rattle.flash_disk.specs.Sound.{files_of, LeavesPut}
 use Rattle.flash_disk.specs.Writes.{LeavesTorn}
 use Rattle.flash_disk.proofs.Writing.{does_none, torn_nothing, wrote_nothing, wrote_more, torn_then, moved_there, wrote_all}
 use Rattle.flash_disk.proofs.Stretches.{elapses_refl, elapses_then}
+use Rattle.flash_disk.proofs.Affording.{affords_place, affords_more}
 use Rattle.flash_disk.proofs.layer.Layer.write_pages.Goals as goal
 
 pub loop-done-init : goal.loop-done-init
@@ -22,6 +24,10 @@ loop-done-init g c =
       time = λ told. elapses_refl g.F.Flash.told a lawful told;
       numbered = omega arith;
       counted = omega arith;
+      own = refl;
+      disputed = refl;
+      steps = omega arith;
+      affords = r.affords;
     }
 
 pub returns-in_err-write_page-clause-does : goal.returns-in_err-write_page-clause-does
@@ -59,6 +65,12 @@ loop-done-preserved g c =
       time = λ told. elapses_then a b d (i.time told) (e.time told);
       numbered = (let before = i.numbered in let on = e.rises in let few = c.min-count.ensures in omega (arith, before, on, few));
       counted = (let before = i.counted in let on = e.cause.later in omega (arith, before, on));
+      own = e.kept ∙ i.own;
+      disputed = e.disputed ∙ i.disputed;
+      steps = (let before = i.steps in let on = e.steps in let few = c.min-count.ensures in omega (arith, before, on, few));
+      affords = λ told. affords_more c.args.file (c.args.at / 256) c.loop-done.self.state.table c.write_page.new.self.state.table
+          (div_ceil (c.args.at + length c.args.bytes.now) 256 - c.args.at / 256) (start / 256 - c.args.at / 256) (start / 256) (omega arith) (omega arith)
+          (e.entries told) (i.affords told);
     }
 
 pub returns-clause-put : goal.returns-clause-put
@@ -69,3 +81,9 @@ returns-clause-put g c told some =
     let within = i.within in
     let past = c.loop-done-test.false in
     wrote_all a b c.args.file c.args.at c.args.bytes.now c.args.len c.loop-done.done (i.wrote told) (omega (arith, within, past)) some (c.requires.len told)
+
+pub write_page-requires-clause-place : goal.write_page-requires-clause-place
+write_page-requires-clause-place g c told =
+    let start = c.args.at + c.loop-done.done in
+    affords_place c.args.file (c.args.at / 256) c.loop-done.self.state.table (div_ceil (c.args.at + length c.args.bytes.now) 256 - c.args.at / 256)
+    (start / 256 - c.args.at / 256) (start / 256) (c.loop-done.invariant.affords told) (omega arith) (omega arith)

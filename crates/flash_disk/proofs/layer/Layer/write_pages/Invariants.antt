@@ -1,9 +1,11 @@
-use Rattle.std.proofs.Common.{◌≡◌, ◌≤◌, ◌+◌, ◌*◌, ◌-◌, length, true}
+use Rattle.std.proofs.Common.{◌≡◌, ◌≤◌, ◌+◌, ◌*◌, ◌-◌, ◌/◌, length, true}
 use Rattle.std.specs.Prelude.{None}
+use Rattle.std.specs.Int.{div_ceil}
 use Rattle.flash_model.specs.FlashMedium.{FlashElapses}
 use Rattle.flash_disk.specs.Does.{Does}
 use Rattle.flash_disk.specs.Sound.{files_of, IsSound}
 use Rattle.flash_disk.specs.Writes.{LeavesTorn}
+use Rattle.flash_disk.specs.Entries.{Affords}
 use Rattle.flash_disk.proofs.Writing.{WroteSoFar}
 use Rattle.flash_disk.proofs.layer.Layer.write_pages.Given as goal
 
@@ -21,4 +23,8 @@ invariant-loop-done g l = record {
   time : g.F.Flash.told ≡ true → FlashElapses (g.F.Flash.medium l.initial.self.flash) (g.F.Flash.medium l.self.flash);
   numbered : l.done + 256 * l.initial.self.state.sequence ≤ 256 * l.self.state.sequence;
   counted : (g.F.Flash.medium l.initial.self.flash).faults + l.initial.self.own ≤ (g.F.Flash.medium l.self.flash).faults + l.self.own;
+  own : l.self.own ≡ l.initial.self.own;
+  disputed : l.self.state.disputed ≡ l.initial.self.state.disputed;
+  steps : l.self.state.sequence ≤ l.initial.self.state.sequence + l.done;
+  affords : g.F.Flash.told ≡ true → Affords l.self.state.table l.file (l.at / 256) (div_ceil (l.at + length l.bytes) 256 - l.at / 256);
 }

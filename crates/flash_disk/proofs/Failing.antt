@@ -1,0 +1,47 @@
+-- Why a write fails though the flash does not.
+use Rattle.std.proofs.Common.{◌≡◌, ◌⊎◌, ℕ, ◌+◌, ◌-◌, ◌/◌, ◌≤◌, sym, subst, ◌∙◌, inl, inr, ⊎_elim, arith}
+use Rattle.std.specs.Prelude.{◌<◌}
+use Rattle.std.specs.HashMap.{IsUnique}
+use Rattle.std.specs.Int.{div_ceil}
+use Rattle.flash_model.specs.Pages.{Pages}
+use Rattle.flash_model.specs.State.{FlashState}
+use Rattle.flash_model.specs.FlashMedium.{FlashMedium}
+use Rattle.flash_disk.specs.declared.layer.LayerState.{LayerState}
+use Rattle.flash_disk.specs.Newest.{places, page_count, page_limit}
+use Rattle.flash_disk.specs.Standing.{HasRivals}
+use Rattle.flash_disk.specs.Sound.{IsSound}
+use Rattle.flash_disk.specs.Known.{same_page, page_len, limit_of}
+use Rattle.flash_disk.specs.Counted.{missing}
+use Rattle.flash_disk.specs.OwnFaults.{lacking, EndsTooLate, WantsTooMany, StopsAdding, FailsAlone}
+use Rattle.flash_disk.proofs.PageCount.{page_len_is, missing_is}
+
+-- the write wants more pages than there is room for
+pub wants_too_many : (m : FlashMedium) (s : LayerState) (file at n end : ℕ) → IsSound m s → IsUnique same_page s.table.newest → end ≡ at + n
+    → (missing s.table file (at / 256) (div_ceil end 256 - at / 256) ≤ limit_of s.table - page_len s.table → ⊥) → WantsTooMany m file at n
+wants_too_many m s file at n end sound unique is full =
+    let range = div_ceil end 256 - at / 256 in
+    let limit = sound.limit in
+    let known_pages = page_len_is m.state.pages (places m.blocks) s.table sound.knows.led unique in
+    let misses = missing_is m.state.pages (places m.blocks) s.table sound.knows.led file (at / 256) range in
+    let many : limit_of s.table - page_len s.table < missing s.table file (at / 256) range = omega (arith, full) in
+    subst (λ e. page_limit m.blocks < page_count m.state.pages (places m.blocks) + lacking m.state.pages (places m.blocks) file (at / 256) (div_ceil e 256 - at / 256)) is
+    (omega (arith, limit, known_pages, misses, many))
+
+-- why a write fails, said of these pages
+abbrev Fails : Pages → (blocks : ℕ) → LayerState → (file at n : ℕ) → Type 0
+Fails pages blocks t file at n = EndsTooLate at n
+    ⊎ ((page_limit blocks < page_count pages (places blocks) + lacking pages (places blocks) file (at / 256) (div_ceil (at + n) 256 - at / 256))
+    ⊎ ((t.sequence ≡ 18446744073709551615) ⊎ HasRivals pages (places blocks)))
+
+-- what a write says after calls that only look, said of the flash before them
+pub fails_alone : (a b : FlashMedium) (s t : LayerState) (file at n : ℕ) → b.state ≡ a.state → b.blocks ≡ a.blocks → IsSound b s → t.disputed ≡ s.disputed
+    → EndsTooLate at n ⊎ (WantsTooMany b file at n ⊎ StopsAdding t) → FailsAlone a t.sequence file at n
+fails_alone a b s t file at n state blocks sound disputed why =
+    let here : Fails b.state.pages b.blocks t file at n = ⊎_elim
+    (λ late. inl late)
+    (λ other. inr (⊎_elim
+    (λ many. inl many)
+    (λ stops. inr (⊎_elim (λ last. inl last) (λ rival. inr (sound.rivals (sym disputed ∙ rival))) stops))
+    other))
+    why in
+    subst (λ k. Fails a.state.pages k t file at n) blocks (subst (λ (q : FlashState). Fails q.pages b.blocks t file at n) state here)
