@@ -23,13 +23,13 @@ use Rattle.flash_disk.proofs.Tearing.{IsTorn, nothing_there, torn_program, torn_
 use Rattle.flash_disk.proofs.Stretches.{does_nothing, does_then, does_weaken, program_does}
 
 -- nothing was put yet
-pub nothing_put : (m : FlashMedium) (s : LayerState) → IsSound m s → (file at len : ℕ) (bytes : List ℕ) → LeavesPut file at bytes len (files_of m) m.blocks m.state.pages
+pub nothing_put : (m : FlashMedium) (s : LayerState) → IsSound m s → (file at len : ℕ) (bytes : List ℕ) → LeavesPut file at bytes len m m.state.pages
 nothing_put m s sound file at len bytes = record { put = inl refl; spare = (s.spare, sound.within, sound.is_spare) }
 
 -- no call was made
 pub puts_nothing : (told : Bool) (m : FlashMedium) → IsLawfulFlash told m → (s : LayerState) → IsSound m s → (file at len : ℕ) (bytes : List ℕ)
-    → Does (LeavesPut file at bytes len (files_of m) m.blocks) m m
-puts_nothing told m lawful s sound file at len bytes = does_nothing m m (LeavesPut file at bytes len (files_of m) m.blocks) refl
+    → Does (LeavesPut file at bytes len m) m m
+puts_nothing told m lawful s sound file at len bytes = does_nothing m m (LeavesPut file at bytes len m) refl
     (λ x past. lawful.only_now x past) (nothing_put m s sound file at len bytes)
 
 -- a record was added after a call that changed no byte
@@ -183,7 +183,7 @@ module _ (m now : FlashMedium) (s u : LayerState) (place : Place) (r : PageRecor
       })
 
   abbrev pub Puts : Pages → Type 0
-  Puts = LeavesPut r.file (256 * r.page) r.bytes r.len (files_of m) m.blocks
+  Puts = LeavesPut r.file (256 * r.page) r.bytes r.len m
 
   leaves : (left : Pages) → HasSameRecords pages left ⊎ Adds pages left n place r → Puts left
   leaves left grows = record {
@@ -208,19 +208,19 @@ module _ (m now : FlashMedium) (s u : LayerState) (place : Place) (r : PageRecor
       (leaves written (inr adds))
       (λ left torn plain. leaves left (torn_add pages n place whole r small within blank is newer left torn plain))
 
-module _ (a b c : FlashMedium) (first : FlashElapses a b) (early : Does (StandsFor (files_of a) a.blocks) a b) (file at len : ℕ) (bytes : List ℕ) where
+module _ (a b c : FlashMedium) (first : FlashElapses a b) (early : Does (StandsFor a) a b) (file at len : ℕ) (bytes : List ℕ) where
   same_files : files_of b ≡ files_of a
   same_files = ap (λ k. flash_files b.state.pages k) first.blocks ∙ early.now.files_are
 
   -- a part is put after a stretch that changes no file
-  pub puts_then : FlashElapses b c → Does (LeavesPut file at bytes len (files_of b) b.blocks) b c → Does (LeavesPut file at bytes len (files_of a) a.blocks) a c
-  puts_then second late = does_then a b c (LeavesPut file at bytes len (files_of a) a.blocks) first second
-      (does_weaken a b (StandsFor (files_of a) a.blocks) (LeavesPut file at bytes len (files_of a) a.blocks) (λ pages stands. record { put = inl stands.files_are; spare = stands.spare }) early)
+  pub puts_then : FlashElapses b c → Does (LeavesPut file at bytes len b) b c → Does (LeavesPut file at bytes len a) a c
+  puts_then second late = does_then a b c (LeavesPut file at bytes len a) first second
+      (does_weaken a b (StandsFor a) (LeavesPut file at bytes len a) (λ pages stands. record { put = inl stands.files_are; spare = stands.spare }) early)
       (subst (λ k. Does (LeavesPut file at bytes len (files_of a) k) b c) first.blocks (subst (λ f. Does (LeavesPut file at bytes len f b.blocks) b c) same_files late))
 
   -- such a stretch alone
-  pub puts_not : Does (LeavesPut file at bytes len (files_of a) a.blocks) a b
-  puts_not = does_weaken a b (StandsFor (files_of a) a.blocks) (LeavesPut file at bytes len (files_of a) a.blocks) (λ pages stands. record { put = inl stands.files_are; spare = stands.spare }) early
+  pub puts_not : Does (LeavesPut file at bytes len a) a b
+  puts_not = does_weaken a b (StandsFor a) (LeavesPut file at bytes len a) (λ pages stands. record { put = inl stands.files_are; spare = stands.spare }) early
 
   pub put_since : PutPart file at bytes len (files_of b) (files_of c) → PutPart file at bytes len (files_of a) (files_of c)
   put_since put = subst (λ f. PutPart file at bytes len f (files_of c)) same_files put

@@ -28,5 +28,5 @@ mod Looking
 pub mod Entries
 pub mod Affording
 pub mod PageCount
-pub mod Spares
+pub mod Throughout
 pub mod Failing

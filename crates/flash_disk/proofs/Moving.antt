@@ -72,21 +72,21 @@ kept_sound old new blocks s sound agreed full keeps there =
 
 -- the pages stand for the files that they stood for
 pub kept_stands : (m : FlashMedium) (new : Pages) (s : LayerState) → IsSound m s → IsFalse s.disputed → Keeps m.state.pages new (places m.blocks) → Sound new m.blocks s
-    → StandsFor (files_of m) m.blocks new
+    → StandsFor m new
 kept_stands m new s sound agreed keeps now = record {
   files_are = keeps_files m.state.pages new m.blocks (sound.agreed agreed) keeps;
   spare = (s.spare, now.within, now.is_spare);
 }
 
-pub stands_now : (m : FlashMedium) (s : LayerState) → IsSound m s → StandsFor (files_of m) m.blocks m.state.pages
+pub stands_now : (m : FlashMedium) (s : LayerState) → IsSound m s → StandsFor m m.state.pages
 stands_now m s sound = record { files_are = refl; spare = (s.spare, sound.within, sound.is_spare) }
 
 -- one stretch after the other
-pub stands_then : (a b c : FlashMedium) → FlashElapses a b → FlashElapses b c → Does (StandsFor (files_of a) a.blocks) a b
-    → Does (StandsFor (files_of b) b.blocks) b c → Does (StandsFor (files_of a) a.blocks) a c
+pub stands_then : (a b c : FlashMedium) → FlashElapses a b → FlashElapses b c → Does (StandsFor a) a b
+    → Does (StandsFor b) b c → Does (StandsFor a) a c
 stands_then a b c first second early late =
     let same : files_of b ≡ files_of a = ap (λ k. flash_files b.state.pages k) first.blocks ∙ early.now.files_are in
-    does_then a b c (StandsFor (files_of a) a.blocks) first second early
+    does_then a b c (StandsFor a) first second early
     (subst (λ k. Does (StandsFor (files_of a) k) b c) first.blocks (subst (λ f. Does (StandsFor f b.blocks) b c) same late))
 
 -- ---- the spare block is erased
@@ -107,14 +107,14 @@ module _ (m now : FlashMedium) (s : LayerState) (sound : IsSound m s) (agreed : 
       let small = found.1.leads.small in
       loses.apart (number e.place) (λ same. sound.apart agreed key e is (let b : e.place.block ≡ s.spare = omega (arith, same, small) in b))))
 
-  loses_stands : (left : Pages) → LosesIn s.spare pages left → StandsFor (files_of m) m.blocks left
+  loses_stands : (left : Pages) → LosesIn s.spare pages left → StandsFor m left
   loses_stands left loses = kept_stands m left s sound agreed (loses_keeps left loses) (loses_sound left loses)
 
   pub erase_stands : {T E : Type 0} → (result : Result T E)
       → OnOk result (now.state ≡ erased m.state s.spare)
       → OnErr result (FailsToErase s.spare m.state now.state)
-      → EachFlashCase (λ c. IsStill m.state c ⊎ (IsStill now.state c ⊎ EraseCase s.spare m.state c)) m now → Does (StandsFor (files_of m) m.blocks) m now
-  erase_stands result done failed cases = erase_does m now (StandsFor (files_of m) m.blocks) s.spare result done failed cases
+      → EachFlashCase (λ c. IsStill m.state c ⊎ (IsStill now.state c ⊎ EraseCase s.spare m.state c)) m now → Does (StandsFor m) m now
+  erase_stands result done failed cases = erase_does m now (StandsFor m) s.spare result done failed cases
       (stands_now m s sound)
       (loses_stands (erase_block pages s.spare) (whole_erase pages s.spare))
       (λ left torn plain. loses_stands left (torn_erase pages s.spare left torn plain))
@@ -276,8 +276,8 @@ module _ (m : FlashMedium) (s : LayerState) (from to done : ℕ) (moving : IsMov
     pub copy_does : {T E : Type 0} → (now : FlashMedium) (result : Result T E)
         → OnOk result (now.state ≡ programmed m.state to count bytes)
         → OnErr result (FailsToProgram to count bytes m.state now.state)
-        → EachFlashCase (λ c. IsStill m.state c ⊎ (IsStill now.state c ⊎ ProgramCase to count bytes m.state c)) m now → Does (StandsFor (files_of m) m.blocks) m now
-    copy_does now result ok failed cases = program_does m now (StandsFor (files_of m) m.blocks) to count bytes result ok failed cases
+        → EachFlashCase (λ c. IsStill m.state c ⊎ (IsStill now.state c ⊎ ProgramCase to count bytes m.state c)) m now → Does (StandsFor m) m now
+    copy_does now result ok failed cases = program_does m now (StandsFor m) to count bytes result ok failed cases
         (stands_now m s moving.sound)
         (kept_stands m written s moving.sound moving.agreed written_keeps (left_sound written written_torn written_keeps))
         (λ left torn plain. kept_stands m left s moving.sound moving.agreed (left_keeps left torn plain) (left_sound left torn (left_keeps left torn plain)))
@@ -363,8 +363,8 @@ module _ (m look : FlashMedium) (same : look.state ≡ m.state) (blocks : look.b
   pub keeps_since : (after : Pages) → Keeps look.state.pages after (places look.blocks) → Keeps m.state.pages after (places m.blocks)
   keeps_since after keeps = subst (λ (z : FlashState). Keeps z.pages after (places m.blocks)) same (subst (λ b. Keeps look.state.pages after (places b)) blocks keeps)
 
-  pub look_stands : EachFlashCase (IsStill m.state) m look → (s : LayerState) → IsSound m s → Does (StandsFor (files_of m) m.blocks) m look
-  look_stands still s sound = does_nothing m look (StandsFor (files_of m) m.blocks) same still (stands_now m s sound)
+  pub look_stands : EachFlashCase (IsStill m.state) m look → (s : LayerState) → IsSound m s → Does (StandsFor m) m look
+  look_stands still s sound = does_nothing m look (StandsFor m) same still (stands_now m s sound)
 
 -- what was kept in one stretch after the other
 pub keeps_on : (m mid : FlashMedium) (s : LayerState) → IsSound m s → IsFalse s.disputed → mid.blocks ≡ m.blocks → Keeps m.state.pages mid.state.pages (places m.blocks)

@@ -13,7 +13,7 @@ use Rattle.flash_disk.specs.Counted.{IsCounted}
 use Rattle.flash_disk.specs.Learnt.{IsLed, IsLeaving, Knows, Tops}
 use Rattle.flash_disk.specs.Sound.{Sound, PendsAt, Holds}
 use Rattle.flash_disk.specs.Standing.{HasSpare}
-use Rattle.flash_disk.specs.Spares.{KeepsSpare}
+use Rattle.flash_disk.specs.Throughout.{KeepsUsable}
 use Rattle.flash_disk.specs.Looks.{Opens}
 use Rattle.flash_disk.specs.FlashFilesLaws.{one_len}
 use Rattle.disk_model.specs.Medium.{Quiet}
@@ -86,7 +86,7 @@ holds_all m s pages sound same sure = record {
 
 -- a usable flash has a spare block when it was opened and at every moment of the opening
 pub opens_spare : (told : Bool) (old new : FlashMedium) → IsTrue told → IsUsable old.state.pages old.blocks → new.state.pages ≡ old.state.pages
-    → new.blocks ≡ old.blocks → Opens told old new → KeepsSpare old new
+    → new.blocks ≡ old.blocks → Opens told old new → KeepsUsable old new
 opens_spare told old new t usable pages blocks opens =
     let spare : HasSpare old.state.pages new.blocks = subst (HasSpare old.state.pages) (sym blocks) (usable.block, usable.within, usable.spare) in
     record {

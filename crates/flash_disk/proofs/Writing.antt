@@ -42,7 +42,7 @@ module _ (m : FlashMedium) (s : LayerState) (sound : IsSound m s) where
   holds_sound sure = record { sure = m.state.pages; sound = sound; pends = subst (PendsAt m.state.pages m.state.pages m.blocks s) (sym sure) refl }
 
   -- no part was put yet
-  pub leaves_nothing : (file at : ℕ) (bytes : List ℕ) (len : ℕ) → LeavesPut file at bytes len (files_of m) m.blocks m.state.pages
+  pub leaves_nothing : (file at : ℕ) (bytes : List ℕ) (len : ℕ) → LeavesPut file at bytes len m m.state.pages
   leaves_nothing file at bytes len = record { put = inl refl; spare = has_spare }
 
 -- no call at all
@@ -76,13 +76,13 @@ module _ (a b : FlashMedium) (state : b.state ≡ a.state) (blocks : b.blocks �
 
   -- and then a call whose result speaks of what there was before the look
   pub does_after_look : (P Q : Image → ℕ → Pages → Type 0) (c : FlashMedium)
-      → ((pages : Pages) → P (files_of a) a.blocks pages → Q (files_of a) a.blocks pages)
-      → Q (files_of a) a.blocks a.state.pages → FlashElapses a b → FlashElapses b c → EachFlashCase (IsStill a.state) a b
-      → Does (P (files_of b) b.blocks) b c → Does (Q (files_of a) a.blocks) a c
+      → ((pages : Pages) → P a pages → Q a pages)
+      → Q a a.state.pages → FlashElapses a b → FlashElapses b c → EachFlashCase (IsStill a.state) a b
+      → Does (P b) b c → Does (Q a) a c
   does_after_look P Q c more holds first second still does =
-      let here : Does (P (files_of a) a.blocks) b c = subst (λ k. Does (P (files_of a) k) b c) blocks (subst (λ f. Does (P f b.blocks) b c) files_seen does) in
-      does_then a b c (Q (files_of a) a.blocks) first second (does_nothing a b (Q (files_of a) a.blocks) state still holds)
-      (does_weaken b c (P (files_of a) a.blocks) (Q (files_of a) a.blocks) more here)
+      let here : Does (P a) b c = subst (λ k. Does (P (files_of a) k) b c) blocks (subst (λ f. Does (P f b.blocks) b c) files_seen does) in
+      does_then a b c (Q a) first second (does_nothing a b (Q a) state still holds)
+      (does_weaken b c (P a) (Q a) more here)
 
 -- ---- one page
 
@@ -122,7 +122,7 @@ module _ (a : FlashMedium) (file page : ℕ) (was : List ℕ) (is : IsContent a.
         (λ j small out. ⊎_elim (before j) (after j) out ∙ content_byte j small)
 
     pub leaves_narrower : length content ≡ 256 → from + length bytes ≤ 256 → (pages : Pages)
-        → LeavesPut file (256 * page) content len (files_of a) a.blocks pages → LeavesPut file (256 * page + from) bytes len (files_of a) a.blocks pages
+        → LeavesPut file (256 * page) content len a pages → LeavesPut file (256 * page + from) bytes len a pages
     leaves_narrower full within pages leaves = record {
       put = ⊎_elim (λ same. inl same) (λ done. inr (page_narrower (flash_files pages a.blocks) full within done)) leaves.put;
       spare = leaves.spare;
@@ -147,7 +147,7 @@ unfilled page filled len i end past here = ⊎_elim
     (cases_lt 0 filled)
 
 -- the files stand as they are
-pub stands : (m : FlashMedium) (s : LayerState) → IsSound m s → StandsFor (files_of m) m.blocks m.state.pages
+pub stands : (m : FlashMedium) (s : LayerState) → IsSound m s → StandsFor m m.state.pages
 stands m s sound = record { files_are = refl; spare = has_spare m s sound }
 
 module _ (a : FlashMedium) (s : LayerState) (sound : IsSound a s) (file page len : ℕ) (len_known_is : len ≡ len_known s.table file) where
@@ -198,7 +198,7 @@ module _ (a : FlashMedium) (s : LayerState) (sound : IsSound a s) (file page len
         (let long = length-flash_files a.state.pages a.blocks file in let own = long_as in omega (arith, long, own))
         (λ j inside below. content_byte a file page was is j (omega (arith, inside, full)))
 
-    pub stands_still : length was ≡ 256 → (pages : Pages) → LeavesPut file (256 * page) was len (files_of a) a.blocks pages → StandsFor (files_of a) a.blocks pages
+    pub stands_still : length was ≡ 256 → (pages : Pages) → LeavesPut file (256 * page) was len a pages → StandsFor a pages
     stands_still full pages leaves = record {
       files_are = ⊎_elim (λ same. same) (λ done. same_files (flash_files pages a.blocks) full done) leaves.put;
       spare = leaves.spare;
@@ -226,12 +226,12 @@ module _ (a : FlashMedium) (s : LayerState) (sound : IsSound a s) (file page len
 
 -- the files stand as they stood
 module _ (a b : FlashMedium) (time : FlashElapses a b) where
-  pub files_stand : StandsFor (files_of a) a.blocks b.state.pages → files_of b ≡ files_of a
+  pub files_stand : StandsFor a b.state.pages → files_of b ≡ files_of a
   files_stand stands = ap (λ k. flash_files b.state.pages k) time.blocks ∙ stands.files_are
 
-  pub stands_then : (d : FlashMedium) → FlashElapses b d → Does (StandsFor (files_of a) a.blocks) a b → Does (StandsFor (files_of b) b.blocks) b d
-      → Does (StandsFor (files_of a) a.blocks) a d
-  stands_then d second early late = does_then a b d (StandsFor (files_of a) a.blocks) time second early
+  pub stands_then : (d : FlashMedium) → FlashElapses b d → Does (StandsFor a) a b → Does (StandsFor b) b d
+      → Does (StandsFor a) a d
+  stands_then d second early late = does_then a b d (StandsFor a) time second early
       (subst (λ k. Does (StandsFor (files_of a) k) b d) time.blocks (subst (λ f. Does (StandsFor f b.blocks) b d) (files_stand early.now) late))
 
 -- up to this page no byte past the end of the file shows, and none of any file from a byte on
@@ -302,8 +302,8 @@ module _ (a b : FlashMedium) (file at : ℕ) (bytes : List ℕ) (len done : ℕ)
 
   -- in their midst the write is one that was cut short
   pub leaves_torn : (count : ℕ) → done + count ≤ length bytes → 0 < length bytes → len ≤ max (length (files_of a file)) (at + length bytes) → b.blocks ≡ a.blocks
-      → (pages : Pages) → LeavesPut file (at + done) (take count (drop done bytes)) len (files_of b) b.blocks pages
-      → LeavesTorn file at (length bytes) (files_of a) a.blocks pages
+      → (pages : Pages) → LeavesPut file (at + done) (take count (drop done bytes)) len b pages
+      → LeavesTorn file at (length bytes) a pages
   leaves_torn count within some reach blocks pages leaves =
       let here : LeavesTorn file at (length bytes) (files_of a) b.blocks pages = record {
         torn = torn_in_more file at bytes len (files_of a) done count (files_of b) (flash_files pages b.blocks) within some reach before.part leaves.put;
@@ -317,12 +317,12 @@ module _ (a b : FlashMedium) (file at : ℕ) (bytes : List ℕ) (len done : ℕ)
 
   -- until they are written
   pub torn_then : (count : ℕ) (d : FlashMedium) → done + count ≤ length bytes → 0 < length bytes → len ≡ max (length (files_of a file)) (at + length bytes)
-      → FlashElapses a b → FlashElapses b d → Does (LeavesTorn file at (length bytes) (files_of a) a.blocks) a b
-      → Does (LeavesPut file (at + done) (take count (drop done bytes)) len (files_of b) b.blocks) b d
-      → Does (LeavesTorn file at (length bytes) (files_of a) a.blocks) a d
+      → FlashElapses a b → FlashElapses b d → Does (LeavesTorn file at (length bytes) a) a b
+      → Does (LeavesPut file (at + done) (take count (drop done bytes)) len b) b d
+      → Does (LeavesTorn file at (length bytes) a) a d
   torn_then count d within some reach first second early late =
-      does_then a b d (LeavesTorn file at (length bytes) (files_of a) a.blocks) first second early
-      (does_weaken b d (LeavesPut file (at + done) (take count (drop done bytes)) len (files_of b) b.blocks) (LeavesTorn file at (length bytes) (files_of a) a.blocks)
+      does_then a b d (LeavesTorn file at (length bytes) a) first second early
+      (does_weaken b d (LeavesPut file (at + done) (take count (drop done bytes)) len b) (LeavesTorn file at (length bytes) a)
       (leaves_torn count within some (omega (arith, reach)) first.blocks) late)
 
 -- the place of a byte in its page, and how many bytes are taken from a place
@@ -333,27 +333,27 @@ moved_there P start done count holds =
     subst (λ k. P start k) many (subst (λ k. P k (done + count - done)) place holds)
 
 -- no byte was written yet
-pub torn_nothing : (m : FlashMedium) (s : LayerState) → IsSound m s → (file at n : ℕ) → LeavesTorn file at n (files_of m) m.blocks m.state.pages
+pub torn_nothing : (m : FlashMedium) (s : LayerState) → IsSound m s → (file at n : ℕ) → LeavesTorn file at n m m.state.pages
 torn_nothing m s sound file at n = record { torn = torn_refl file at n (files_of m); spare = has_spare m s sound }
 
 -- ---- a write as a whole
 
 module _ (file at : ℕ) (bytes : List ℕ) where
-  module _ (b c : FlashMedium) (time : FlashElapses b c) (wipes : Does (StandsFor (files_of b) b.blocks) b c) where
-    stands_torn : (pages : Pages) → StandsFor (files_of b) b.blocks pages → LeavesTorn file at (length bytes) (files_of b) b.blocks pages
+  module _ (b c : FlashMedium) (time : FlashElapses b c) (wipes : Does (StandsFor b) b c) where
+    stands_torn : (pages : Pages) → StandsFor b pages → LeavesTorn file at (length bytes) b pages
     stands_torn pages stands = record {
       torn = subst (TornImage file at (length bytes) (files_of b)) (sym stands.files_are) (torn_refl file at (length bytes) (files_of b));
       spare = stands.spare;
     }
 
     -- bytes past the end of the file were wiped
-    pub wipes_torn : Does (LeavesTorn file at (length bytes) (files_of b) b.blocks) b c
-    wipes_torn = does_weaken b c (StandsFor (files_of b) b.blocks) (LeavesTorn file at (length bytes) (files_of b) b.blocks) stands_torn wipes
+    pub wipes_torn : Does (LeavesTorn file at (length bytes) b) b c
+    wipes_torn = does_weaken b c (StandsFor b) (LeavesTorn file at (length bytes) b) stands_torn wipes
 
     -- and then the bytes were written
-    pub wipes_then : (d : FlashMedium) → FlashElapses c d → Does (LeavesTorn file at (length bytes) (files_of c) c.blocks) c d
-        → Does (LeavesTorn file at (length bytes) (files_of b) b.blocks) b d
-    wipes_then d second writes = does_then b c d (LeavesTorn file at (length bytes) (files_of b) b.blocks) time second wipes_torn
+    pub wipes_then : (d : FlashMedium) → FlashElapses c d → Does (LeavesTorn file at (length bytes) c) c d
+        → Does (LeavesTorn file at (length bytes) b) b d
+    wipes_then d second writes = does_then b c d (LeavesTorn file at (length bytes) b) time second wipes_torn
         (subst (λ k. Does (LeavesTorn file at (length bytes) (files_of b) k) c d) time.blocks
         (subst (λ f. Does (LeavesTorn file at (length bytes) f c.blocks) c d) (files_stand b c time wipes.now) writes))
 
@@ -378,7 +378,7 @@ module _ (file at : ℕ) (bytes : List ℕ) where
     pub files_announced : files_of b ≡ files_of a
     files_announced = ap (λ p. flash_files p b.blocks) pages_announced ∙ ap (λ k. flash_files a.state.pages k) time.blocks
 
-    torn_announced : (pages : Pages) → LeavesTorn file at (length bytes) (files_of b) b.blocks pages → LeavesTorn file at (length bytes) (files_of a) a.blocks pages
+    torn_announced : (pages : Pages) → LeavesTorn file at (length bytes) b pages → LeavesTorn file at (length bytes) a pages
     torn_announced pages leaves = subst (λ k. LeavesTorn file at (length bytes) (files_of a) k pages) time.blocks
         (subst (λ f. LeavesTorn file at (length bytes) f b.blocks pages) files_announced leaves)
 
@@ -390,7 +390,7 @@ module _ (file at : ℕ) (bytes : List ℕ) where
 
     -- and what comes after it is the write
     pub writes_into : (s : LayerState) → IsSound a s → EachFlashCase (λ x. IsStill a.state x ⊎ IsStill b.state x) a b
-        → (d : FlashMedium) → FlashElapses b d → Does (LeavesTorn file at (length bytes) (files_of b) b.blocks) b d → WritesInto file at bytes a d
+        → (d : FlashMedium) → FlashElapses b d → Does (LeavesTorn file at (length bytes) b) b d → WritesInto file at bytes a d
     writes_into s sound cases d second does = record {
       now = inr (does.settled ∙ settled_announced, does.announced ∙ with_announced, torn_announced d.state.pages does.now);
       during = λ x past. ⊎_elim
@@ -399,7 +399,7 @@ module _ (file at : ℕ) (bytes : List ℕ) where
           (λ is. inr (record {
             settled = is.settled ∙ settled_announced;
             announced = is.announced ∙ with_announced;
-            left = λ plain. subst (LeavesTorn file at (length bytes) (files_of a) a.blocks) (sym (is.left ∙ pages_announced))
+            left = λ plain. subst (LeavesTorn file at (length bytes) a) (sym (is.left ∙ pages_announced))
                 (torn_nothing a s sound file at (length bytes));
           }))
           (cases x early))

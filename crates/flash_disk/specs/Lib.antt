@@ -13,7 +13,7 @@ pub mod FlashDiskMedium
 pub mod Sound
 pub mod OwnFaults
 pub mod Entries
-pub mod Spares
+pub mod Throughout
 pub mod Writes
 pub mod Moving
 pub mod FlashDiskLaws

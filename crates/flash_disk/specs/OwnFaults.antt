@@ -1,11 +1,11 @@
 -- Where a call fails though its flash does not.
-use Rattle.std.specs.Prelude.{◌≡◌, ◌⊎◌, ℕ, zero, suc, ◌+◌, ◌-◌, ◌/◌, ◌<◌, is_none, IsTrue, if◌then◌else◌}
+use Rattle.std.specs.Prelude.{◌≡◌, ◌⊎◌, ℕ, zero, suc, ◌+◌, ◌-◌, ◌/◌, ◌<◌, ◌≤◌, is_none, IsTrue, if◌then◌else◌}
 use Rattle.std.specs.Int.{div_ceil}
 use Rattle.flash_model.specs.Pages.{Pages}
 use Rattle.flash_model.specs.FlashMedium.{FlashMedium}
 use Rattle.flash_disk.specs.declared.layer.LayerState.{LayerState}
 use Rattle.flash_disk.specs.Newest.{newest, places, page_count, page_limit}
-use Rattle.flash_disk.specs.Standing.{HasRivals}
+use Rattle.flash_disk.specs.Standing.{IsAgreed, HasRivals}
 
 -- how many of k pages of a file from one on have no record in the first n places
 abbrev pub lacking : Pages → (n file from k : ℕ) → ℕ
@@ -20,6 +20,18 @@ EndsTooLate at n = 1099511627776 < at + n
 abbrev pub WantsTooMany : FlashMedium → (file at n : ℕ) → Type 0
 WantsTooMany m file at n = page_limit m.blocks < page_count m.state.pages (places m.blocks)
     + lacking m.state.pages (places m.blocks) file (at / 256) (div_ceil (at + n) 256 - at / 256)
+
+-- a write of n bytes breaks no limit, and finds no rivals
+pub record IsAllowed (m : FlashMedium) (file at n : ℕ) : Type 0 where
+  pub ends : at + n ≤ 1099511627776
+  pub fits : page_count m.state.pages (places m.blocks)
+      + lacking m.state.pages (places m.blocks) file (at / 256) (div_ceil (at + n) 256 - at / 256) ≤ page_limit m.blocks
+  pub agreed : IsAgreed m.state.pages (places m.blocks)
+
+-- it adds no page but those that it lacks
+abbrev pub TakesPages : FlashMedium → FlashMedium → (file at n : ℕ) → Type 0
+TakesPages old new file at n = page_count new.state.pages (places new.blocks) ≤ page_count old.state.pages (places old.blocks)
+    + lacking old.state.pages (places old.blocks) file (at / 256) (div_ceil (at + n) 256 - at / 256)
 
 -- no record can be added: the greatest number was used, or two records of a page that have its greatest number differ
 abbrev pub StopsAdding : LayerState → Type 0

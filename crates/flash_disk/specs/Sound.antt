@@ -10,12 +10,12 @@ use Rattle.flash_disk.specs.declared.table.Newest.{Newest}
 use Rattle.flash_disk.specs.declared.table.Place.{Place}
 use Rattle.flash_disk.specs.declared.table.Table.{Table}
 use Rattle.flash_disk.specs.declared.layer.LayerState.{LayerState}
-use Rattle.flash_disk.specs.Newest.{record_at, places, page_limit, IsSpare}
+use Rattle.flash_disk.specs.Newest.{record_at, places, page_count, page_limit, IsSpare, IsUsable}
 use Rattle.flash_disk.specs.Known.{known, page_len, limit_of, page_of, HasLen}
 use Rattle.flash_disk.specs.Counted.{IsCounted}
 use Rattle.flash_disk.specs.Learnt.{number, Knows, Adds, HasPlace, Tops}
 use Rattle.flash_disk.specs.FlashFiles.{file_byte, file_len, flash_files}
-use Rattle.flash_disk.specs.Standing.{IsAgreed, HasRivals, IsStrayless, MayGrow, HasSpare}
+use Rattle.flash_disk.specs.Standing.{IsAgreed, HasRivals, IsStrayless, MayGrow, StaysAgreed}
 use Rattle.flash_disk.specs.PutPart.{PutOrNot}
 
 abbrev pub files_of : FlashMedium → Image
@@ -46,6 +46,7 @@ pub record Sound (pages : Pages) (blocks : ℕ) (s : LayerState) : Type 0 where
   pub files : limit_of s.table ≤ page_len s.table + spare s.table.lens
   pub measured : (key : FilePage) (entry : Newest) → known s.table key ≡ Some entry → HasLen s.table key.file
   pub counted : IsCounted blocks s.table
+  pub count : page_len s.table ≡ page_count pages (places blocks)
   -- there is memory for what is moved out of a block
   pub memory : 64 ≤ vec_capacity s.moved
   -- the spare block may be erased
@@ -100,10 +101,11 @@ pub record Holds (m : FlashMedium) (s : LayerState) : Type 0 where
   pub sound : Sound sure m.blocks s
   pub pends : PendsAt sure m.state.pages m.blocks s s.unsure
 
--- the write of a part was done, or nothing was, and some block is spare
-pub record LeavesPut (file at : ℕ) (bytes : List ℕ) (len : ℕ) (files : Image) (blocks : ℕ) (pages : Pages) : Type 0 where
-  pub put : PutOrNot file at bytes len files (flash_files pages blocks)
-  pub spare : HasSpare pages blocks
+-- the write of a part was done, or nothing was, the pages can be opened, and no rivals came
+pub record LeavesPut (file at : ℕ) (bytes : List ℕ) (len : ℕ) (old : FlashMedium) (pages : Pages) : Type 0 where
+  pub put : PutOrNot file at bytes len (files_of old) (flash_files pages old.blocks)
+  pub usable : IsUsable pages old.blocks
+  pub agreed : StaysAgreed old pages
 
 -- no byte of a file shows between its end and this byte
 abbrev pub ShowsZeros : FlashMedium → (file until : ℕ) → Type 0

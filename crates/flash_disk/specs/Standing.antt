@@ -2,8 +2,8 @@
 use Rattle.std.specs.Prelude.{◌≡◌, ◌≢◌, ℕ, ◌/◌, ◌<◌, ◌≤◌, true, Option, Some, None}
 use Rattle.flash_model.specs.Pages.{Pages}
 use Rattle.flash_record.specs.PageRecord.{PageRecord}
-use Rattle.disk_model.specs.Image.{Image}
-use Rattle.flash_disk.specs.Newest.{Placed, record_at, is_of, newest, places, IsSpare}
+use Rattle.flash_model.specs.FlashMedium.{FlashMedium}
+use Rattle.flash_disk.specs.Newest.{Placed, record_at, is_of, newest, places, IsUsable}
 use Rattle.flash_disk.specs.FlashFiles.{file_byte, file_len, flash_files}
 
 -- what the newest record of a page says
@@ -35,14 +35,15 @@ pub record Keeps (old new : Pages) (n : ℕ) : Type 0 where
   pub only : (j : ℕ) (q : PageRecord) → j < n → record_at new j ≡ Some q → (k : ℕ) × (k < n) × (record_at old k ≡ Some q)
   pub stays : (file page : ℕ) (x : Placed) → newest old file page n ≡ Some x → (k : ℕ) × (k < n) × (record_at new k ≡ Some x.says)
 
--- some block has no record that is needed
-abbrev pub HasSpare : Pages → ℕ → Type 0
-HasSpare pages blocks = (block : ℕ) × (block < blocks) × IsSpare pages (places blocks) block
+-- no rivals came: the records agree if those of the flash did
+abbrev pub StaysAgreed : FlashMedium → Pages → Type 0
+StaysAgreed old pages = IsAgreed old.state.pages (places old.blocks) → IsAgreed pages (places old.blocks)
 
--- the pages stand for these files, and some block is spare
-pub record StandsFor (files : Image) (blocks : ℕ) (pages : Pages) : Type 0 where
-  pub files_are : flash_files pages blocks ≡ files
-  pub spare : HasSpare pages blocks
+-- the pages stand for the files that a flash stood for, they can be opened, and no rivals came
+pub record StandsFor (old : FlashMedium) (pages : Pages) : Type 0 where
+  pub files_are : flash_files pages old.blocks ≡ flash_files old.state.pages old.blocks
+  pub usable : IsUsable pages old.blocks
+  pub agreed : StaysAgreed old pages
 
 -- no byte shows that lies past the end of its file, from this byte on
 abbrev pub IsStrayless : Pages → (n from : ℕ) → Type 0

@@ -1,6 +1,6 @@
 //! The calls of a disk.
 
-ghost use Rattle.std.specs.Prelude.{◌≡◌, ◌⊎◌, ◌+◌, ◌-◌, ◌*◌, ◌≤◌, IsTrue, IfOk, OnOk, OnErr, length, take, drop, min};
+ghost use Rattle.std.specs.Prelude.{◌≡◌, ◌⊎◌, ◌+◌, ◌-◌, ◌*◌, ◌<◌, ◌≤◌, IsTrue, IfOk, OnOk, OnErr, length, take, drop, min};
 ghost use Rattle.per_base.specs.Causes.{Rose};
 ghost use Rattle.std.specs.Int.{div_ceil};
 ghost use Rattle.disk_model.specs.Image.{put_image, TornImage};
@@ -13,8 +13,8 @@ use flash_model::Flash;
 
 impl<F: Flash> Disk for FlashDisk<F> {
     ghost use Rattle.flash_disk.specs.FlashDiskMedium.{flash_disk_medium, disk_seen};
-    ghost use Rattle.flash_disk.specs.OwnFaults.{FailsAlone};
-    ghost use Rattle.flash_disk.specs.Spares.{KeepsSpare};
+    ghost use Rattle.flash_disk.specs.OwnFaults.{FailsAlone, IsAllowed, TakesPages};
+    ghost use Rattle.flash_disk.specs.Throughout.{KeepsUsable, KeepsAgreed};
     ghost use Rattle.flash_disk.specs.FlashDiskLaws.{disk_is_lawful};
 
     ghost told = { F.told };
@@ -32,10 +32,12 @@ impl<F: Flash> Disk for FlashDisk<F> {
         ensures time { Elapses (disk_seen F.told F.medium self.old) (disk_seen F.told F.medium self.new) }
         ensures cause { OnErr result (Rose (disk_seen F.told F.medium self.old).faults (disk_seen F.told F.medium self.new).faults) }
 
-        // No fault is its own, no number is used, and some block is spare at every moment.
+        // No fault is its own, no number is used, no page changes, and a crash meanwhile leaves what can be opened.
         ensures own { self.new.own ≡ self.old.own }
         ensures numbers { self.new.sequence ≡ self.old.sequence }
-        ensures spare { IsTrue F.told → KeepsSpare (F.medium self.old.flash) (F.medium self.new.flash) }
+        ensures still { IsTrue F.told → (F.medium self.new.flash).state ≡ (F.medium self.old.flash).state }
+        ensures usable { IsTrue F.told → KeepsUsable (F.medium self.old.flash) (F.medium self.new.flash) }
+        ensures agreed { IsTrue F.told → KeepsAgreed (F.medium self.old.flash) (F.medium self.new.flash) }
     {
         self.layer.make_sure()?;
         self.layer.read_file(file, at, out)
@@ -57,16 +59,22 @@ impl<F: Flash> Disk for FlashDisk<F> {
 
         // When a fault is its own: one at most, and only of a call that fails.
         ensures own { IsTrue F.told → (self.new.own ≡ self.old.own)
-            ⊎ FailsAlone (F.medium self.old.flash) self.new.sequence file at (length bytes.now) }
+            ⊎ ((0 < length bytes.now) × FailsAlone (F.medium self.old.flash) self.new.sequence file at (length bytes.now)) }
         ensures kept { OnOk result (self.new.own ≡ self.old.own) }
         ensures one { self.new.own ≤ self.old.own + 1 }
+        ensures no_less { self.old.own ≤ self.new.own }
+
+        // It succeeds only within the limits and where there are no rivals, and then takes no more pages than it lacks.
+        ensures allowed { IsTrue F.told → OnOk result (0 < length bytes.now → IsAllowed (F.medium self.old.flash) file at (length bytes.now)) }
+        ensures takes { IsTrue F.told → OnOk result (TakesPages (F.medium self.old.flash) (F.medium self.new.flash) file at (length bytes.now)) }
 
         // How many numbers it uses: at most one for each byte, and one for each page below its end.
         ensures later { self.old.sequence ≤ self.new.sequence }
         ensures steps { self.new.sequence ≤ self.old.sequence + length bytes.now + div_ceil (at + length bytes.now) 256 }
 
-        // Some block is spare at every moment.
-        ensures spare { IsTrue F.told → KeepsSpare (F.medium self.old.flash) (F.medium self.new.flash) }
+        // At every moment a crash leaves what can be opened, and no rivals come.
+        ensures usable { IsTrue F.told → KeepsUsable (F.medium self.old.flash) (F.medium self.new.flash) }
+        ensures agreed { IsTrue F.told → KeepsAgreed (F.medium self.old.flash) (F.medium self.new.flash) }
     {
         if bytes.is_empty() {
             // So that what is kept of the flash is known here.
@@ -85,10 +93,12 @@ impl<F: Flash> Disk for FlashDisk<F> {
         ensures time { Elapses (disk_seen F.told F.medium self.old) (disk_seen F.told F.medium self.new) }
         ensures cause { OnErr result (Rose (disk_seen F.told F.medium self.old).faults (disk_seen F.told F.medium self.new).faults) }
 
-        // No fault is its own, no number is used, and some block is spare at every moment.
+        // No fault is its own, no number is used, no page changes, and a crash meanwhile leaves what can be opened.
         ensures own { self.new.own ≡ self.old.own }
         ensures numbers { self.new.sequence ≡ self.old.sequence }
-        ensures spare { IsTrue F.told → KeepsSpare (F.medium self.old.flash) (F.medium self.new.flash) }
+        ensures still { IsTrue F.told → (F.medium self.new.flash).state ≡ (F.medium self.old.flash).state }
+        ensures usable { IsTrue F.told → KeepsUsable (F.medium self.old.flash) (F.medium self.new.flash) }
+        ensures agreed { IsTrue F.told → KeepsAgreed (F.medium self.old.flash) (F.medium self.new.flash) }
     {
         self.layer.make_sure()?;
         Ok(self.layer.file_size(file))
@@ -101,10 +111,12 @@ impl<F: Flash> Disk for FlashDisk<F> {
         ensures time { Elapses (disk_seen F.told F.medium self.old) (disk_seen F.told F.medium self.new) }
         ensures cause { OnErr result (Rose (disk_seen F.told F.medium self.old).faults (disk_seen F.told F.medium self.new).faults) }
 
-        // No fault is its own, no number is used, and some block is spare at every moment.
+        // No fault is its own, no number is used, no page changes, and a crash meanwhile leaves what can be opened.
         ensures own { self.new.own ≡ self.old.own }
         ensures numbers { self.new.sequence ≡ self.old.sequence }
-        ensures spare { IsTrue F.told → KeepsSpare (F.medium self.old.flash) (F.medium self.new.flash) }
+        ensures pages { IsTrue F.told → (F.medium self.new.flash).state.pages ≡ (F.medium self.old.flash).state.pages }
+        ensures usable { IsTrue F.told → KeepsUsable (F.medium self.old.flash) (F.medium self.new.flash) }
+        ensures agreed { IsTrue F.told → KeepsAgreed (F.medium self.old.flash) (F.medium self.new.flash) }
     {
         self.layer.make_sure()?;
         match self.layer.flash.settle() {

@@ -64,6 +64,7 @@ impl<F: Flash> Layer<F> {
         ensures last { OnErr result (self.old.state.sequence ≡ 18446744073709551615) }
         ensures kept { OnOk result (self.new.own ≡ self.old.own) }
         ensures one { self.new.own ≤ self.old.own + 1 }
+        ensures no_less { self.old.own ≤ self.new.own }
     {
         if self.state.sequence == u64::MAX {
             return Err(self.fault());
@@ -89,7 +90,7 @@ impl<F: Flash> Layer<F> {
             (files_of (F.medium self.old.flash)) (files_of (F.medium self.new.flash))) }
         ensures shown { IsTrue F.told → OnOk result (ShowsPage (F.medium self.old.flash) (F.medium self.new.flash) file page bytes.now) }
         ensures failed { IsTrue F.told → OnErr result (Holds (F.medium self.new.flash) self.new.state) }
-        ensures does { IsTrue F.told → Does (LeavesPut file (256 * page) bytes.now len (files_of (F.medium self.old.flash)) (F.medium self.old.flash).blocks)
+        ensures does { IsTrue F.told → Does (LeavesPut file (256 * page) bytes.now len (F.medium self.old.flash))
             (F.medium self.old.flash) (F.medium self.new.flash) }
         ensures rises { OnOk result (self.old.state.sequence < self.new.state.sequence) }
         ensures later { self.old.state.sequence ≤ self.new.state.sequence }
@@ -98,9 +99,11 @@ impl<F: Flash> Layer<F> {
         ensures own { IsTrue F.told → (self.new.own ≡ self.old.own) ⊎ StopsAdding self.new.state }
         ensures kept { OnOk result (self.new.own ≡ self.old.own) }
         ensures one { self.new.own ≤ self.old.own + 1 }
+        ensures no_less { self.old.own ≤ self.new.own }
         ensures disputed { self.new.state.disputed ≡ self.old.state.disputed }
         ensures steps { self.new.state.sequence ≤ self.old.state.sequence + 1 }
         ensures entries { IsTrue F.told → OnOk result (Occupies self.old.state.table self.new.state.table (record { file = file; page = page })) }
+        ensures calm { IsTrue F.told → OnOk result (IsFalse self.old.state.disputed) }
     {
         self.make_room()?;
         self.add(file, page, len, bytes)
@@ -119,7 +122,7 @@ impl<F: Flash> Layer<F> {
             (files_of (F.medium self.old.flash)) (files_of (F.medium self.new.flash))) }
         ensures shown { IsTrue F.told → OnOk result (ShowsPage (F.medium self.old.flash) (F.medium self.new.flash) file page bytes.now) }
         ensures failed { IsTrue F.told → OnErr result (Holds (F.medium self.new.flash) self.new.state) }
-        ensures does { IsTrue F.told → Does (LeavesPut file (256 * page) bytes.now len (files_of (F.medium self.old.flash)) (F.medium self.old.flash).blocks)
+        ensures does { IsTrue F.told → Does (LeavesPut file (256 * page) bytes.now len (F.medium self.old.flash))
             (F.medium self.old.flash) (F.medium self.new.flash) }
         ensures rises { OnOk result (self.old.state.sequence < self.new.state.sequence) }
         ensures later { self.old.state.sequence ≤ self.new.state.sequence }
@@ -128,9 +131,11 @@ impl<F: Flash> Layer<F> {
         ensures own { IsTrue F.told → (self.new.own ≡ self.old.own) ⊎ (self.new.state.sequence ≡ 18446744073709551615) }
         ensures kept { OnOk result (self.new.own ≡ self.old.own) }
         ensures one { self.new.own ≤ self.old.own + 1 }
+        ensures no_less { self.old.own ≤ self.new.own }
         ensures disputed { self.new.state.disputed ≡ self.old.state.disputed }
         ensures steps { self.new.state.sequence ≤ self.old.state.sequence + 1 }
         ensures entries { IsTrue F.told → OnOk result (Occupies self.old.state.table self.new.state.table (record { file = file; page = page })) }
+        ensures calm { IsTrue F.told → OnOk result (IsFalse self.old.state.disputed) }
     {
         let sequence = self.next_sequence()?;
         let place = Place {
@@ -188,7 +193,7 @@ impl<F: Flash> Layer<F> {
         ensures room { OnOk result (self.new.state.fill < 64) }
         ensures fits { IsTrue F.told → (file page len : ℕ) (bytes : _) → FitsIn (F.medium self.old.flash) self.old.state file page len bytes
             → FitsIn (F.medium self.new.flash) self.new.state file page len bytes }
-        ensures does { IsTrue F.told → Does (StandsFor (files_of (F.medium self.old.flash)) (F.medium self.old.flash).blocks)
+        ensures does { IsTrue F.told → Does (StandsFor (F.medium self.old.flash))
             (F.medium self.old.flash) (F.medium self.new.flash) }
         ensures shown { IsTrue F.told → OnOk result (ShowsSame (F.medium self.old.flash) (F.medium self.new.flash)) }
         ensures sequence { self.new.state.sequence ≡ self.old.state.sequence }
@@ -197,6 +202,7 @@ impl<F: Flash> Layer<F> {
         ensures own { IsTrue F.told → IsFalse self.old.state.disputed → self.new.own ≡ self.old.own }
         ensures kept { OnOk result (self.new.own ≡ self.old.own) }
         ensures one { self.new.own ≤ self.old.own + 1 }
+        ensures no_less { self.old.own ≤ self.new.own }
         ensures disputed { self.new.state.disputed ≡ self.old.state.disputed }
         ensures entries { IsTrue F.told → OnOk result (SameEntries self.old.state.table self.new.state.table) }
     {
@@ -219,7 +225,7 @@ impl<F: Flash> Layer<F> {
         ensures sure { self.new.state.unsure ≡ None }
         ensures fits { IsTrue F.told → (file page len : ℕ) (bytes : _) → FitsIn (F.medium self.old.flash) self.old.state file page len bytes
             → FitsIn (F.medium self.new.flash) self.new.state file page len bytes }
-        ensures does { IsTrue F.told → Does (StandsFor (files_of (F.medium self.old.flash)) (F.medium self.old.flash).blocks)
+        ensures does { IsTrue F.told → Does (StandsFor (F.medium self.old.flash))
             (F.medium self.old.flash) (F.medium self.new.flash) }
         ensures shown { IsTrue F.told → OnOk result (ShowsSame (F.medium self.old.flash) (F.medium self.new.flash)) }
         ensures sequence { self.new.state.sequence ≡ self.old.state.sequence }
@@ -229,6 +235,7 @@ impl<F: Flash> Layer<F> {
         ensures own { IsTrue F.told → IsFalse self.old.state.disputed → self.new.own ≡ self.old.own }
         ensures kept { OnOk result (self.new.own ≡ self.old.own) }
         ensures one { self.new.own ≤ self.old.own + 1 }
+        ensures no_less { self.old.own ≤ self.new.own }
         ensures disputed { self.new.state.disputed ≡ self.old.state.disputed }
         ensures entries { IsTrue F.told → OnOk result (SameEntries self.old.state.table self.new.state.table) }
     {
@@ -256,7 +263,7 @@ impl<F: Flash> Layer<F> {
         ensures failed { IsTrue F.told → OnErr result (IsSound (F.medium self.new.flash) self.new.state) }
         ensures state { self.new.state ≡ record self.old.state { moved = self.new.state.moved } }
         ensures keeps { IsTrue F.told → Keeps (F.medium self.old.flash).state.pages (F.medium self.new.flash).state.pages (places (F.medium self.old.flash).blocks) }
-        ensures does { IsTrue F.told → Does (StandsFor (files_of (F.medium self.old.flash)) (F.medium self.old.flash).blocks)
+        ensures does { IsTrue F.told → Does (StandsFor (F.medium self.old.flash))
             (F.medium self.old.flash) (F.medium self.new.flash) }
         ensures time { IsTrue F.told → FlashElapses (F.medium self.old.flash) (F.medium self.new.flash) }
         ensures cause { HasCause ((F.medium self.old.flash).faults + self.old.own) ((F.medium self.new.flash).faults + self.new.own) result }
@@ -264,6 +271,7 @@ impl<F: Flash> Layer<F> {
         ensures own { IsTrue F.told → self.new.own ≡ self.old.own }
         ensures kept { OnOk result (self.new.own ≡ self.old.own) }
         ensures one { self.new.own ≤ self.old.own + 1 }
+        ensures no_less { self.old.own ≤ self.new.own }
     {
         for page in 0..BLOCK_PAGES {
             self.copy_one(Place { block: from, page }, to)?;
@@ -283,7 +291,7 @@ impl<F: Flash> Layer<F> {
         ensures failed { IsTrue F.told → OnErr result (IsSound (F.medium self.new.flash) self.new.state) }
         ensures state { self.new.state ≡ record self.old.state { moved = self.new.state.moved } }
         ensures keeps { IsTrue F.told → Keeps (F.medium self.old.flash).state.pages (F.medium self.new.flash).state.pages (places (F.medium self.old.flash).blocks) }
-        ensures does { IsTrue F.told → Does (StandsFor (files_of (F.medium self.old.flash)) (F.medium self.old.flash).blocks)
+        ensures does { IsTrue F.told → Does (StandsFor (F.medium self.old.flash))
             (F.medium self.old.flash) (F.medium self.new.flash) }
         ensures time { IsTrue F.told → FlashElapses (F.medium self.old.flash) (F.medium self.new.flash) }
         ensures cause { HasCause ((F.medium self.old.flash).faults + self.old.own) ((F.medium self.new.flash).faults + self.new.own) result }
@@ -292,6 +300,7 @@ impl<F: Flash> Layer<F> {
         ensures own { IsTrue F.told → self.new.own ≡ self.old.own }
         ensures kept { OnOk result (self.new.own ≡ self.old.own) }
         ensures one { self.new.own ≤ self.old.own + 1 }
+        ensures no_less { self.old.own ≤ self.new.own }
     {
         let mut page = BLANK_PAGE;
         self.read_page(from, &mut page)?;

@@ -47,6 +47,7 @@ impl<F: Flash> Layer<F> {
         ensures later { (F.medium self.old.flash).faults + self.old.own ≤ (F.medium self.new.flash).faults + self.new.own }
         ensures rose { Rose ((F.medium self.old.flash).faults + self.old.own) ((F.medium self.new.flash).faults + self.new.own) }
         ensures one { self.new.own ≤ self.old.own + 1 }
+        ensures no_less { self.old.own ≤ self.new.own }
     {
         self.own = self.own.saturating_add(1);
         DiskFailed
@@ -99,6 +100,7 @@ impl<F: Flash> Layer<F> {
         ensures own { IsTrue F.told → self.new.own ≡ self.old.own }
         ensures kept { OnOk result (self.new.own ≡ self.old.own) }
         ensures one { self.new.own ≤ self.old.own + 1 }
+        ensures no_less { self.old.own ≤ self.new.own }
         ensures cause { HasCause ((F.medium self.old.flash).faults + self.old.own) ((F.medium self.new.flash).faults + self.new.own) result }
     {
         if !self.has(place) {
@@ -123,6 +125,7 @@ impl<F: Flash> Layer<F> {
         ensures own { IsTrue F.told → self.new.own ≡ self.old.own }
         ensures kept { OnOk result (self.new.own ≡ self.old.own) }
         ensures one { self.new.own ≤ self.old.own + 1 }
+        ensures no_less { self.old.own ≤ self.new.own }
         ensures cause { HasCause ((F.medium self.old.flash).faults + self.old.own) ((F.medium self.new.flash).faults + self.new.own) result }
     {
         if block >= self.flash.blocks() {

@@ -1,10 +1,10 @@
 //! Opening a flash as a disk.
 
-ghost use Rattle.std.specs.Prelude.{◌≡◌, ◌⊎◌, ◌↔◌, ◌≤◌, ◌<◌, ◌+◌, ◌*◌, ℕ, IsTrue, IsFalse, IfOk, IfErr, IfSome, MatchResult, OnOk, Some, None, length, slice_index, vec_capacity};
+ghost use Rattle.std.specs.Prelude.{◌≡◌, ◌⊎◌, ◌↔◌, ◌≤◌, ◌<◌, ◌+◌, ◌*◌, ℕ, IsTrue, IsFalse, IfOk, IfErr, IfSome, MatchResult, OnOk, OnErr, Some, None, length, slice_index, vec_capacity};
 ghost use Rattle.flash_record.specs.PageRecord.{record_in};
 ghost use Rattle.flash_record.specs.Stated.{stated};
 ghost use Rattle.flash_disk.specs.Newest.{record_at, places, page_limit, IsSpare, NeedsPlace, FindsSpare, IsUsable, IsUnusable, SaysUsable};
-ghost use Rattle.flash_disk.specs.Known.{known, limit_of, page_of, IsEmptyTable};
+ghost use Rattle.flash_disk.specs.Known.{known, limit_of, page_len, page_of, IsEmptyTable};
 ghost use Rattle.flash_disk.specs.Counted.{IsCounted};
 ghost use Rattle.flash_disk.specs.Learnt.{number, HasLearnt, LearnsNext, LearnsAll, SaysTheSame, TwinAt, RivalledAt, IsTop, LeavesBlock};
 ghost use Rattle.flash_model.specs.State.{settle_pages};
@@ -20,8 +20,8 @@ use std::alloc::{AllocError, Global};
 
 impl<F: Flash> FlashDisk<F> {
     ghost use Rattle.flash_disk.specs.FlashDiskMedium.{flash_disk_medium};
-    ghost use Rattle.flash_disk.specs.Looks.{Opens};
-    ghost use Rattle.flash_disk.specs.Spares.{KeepsSpare};
+    ghost use Rattle.flash_disk.specs.Looks.{Looks, Opens};
+    ghost use Rattle.flash_disk.specs.Throughout.{KeepsUsable, KeepsAgreed};
     ghost use Rattle.disk_model.specs.Medium.{Quiet};
 
     /// Opens a flash as a disk. It reads every page, and takes all the memory that the disk ever needs.
@@ -34,7 +34,8 @@ impl<F: Flash> FlashDisk<F> {
 
         // It is usable exactly where the disk opens.
         ensures usable { IsTrue F.told → OnOk result (IsUsable (F.medium flash).state.pages (F.medium flash).blocks) }
-        ensures spare { IsTrue F.told → IfOk result (λ disk. KeepsSpare (F.medium flash) (F.medium disk.flash)) }
+        ensures throughout { IsTrue F.told → IfOk result (λ disk. KeepsUsable (F.medium flash) (F.medium disk.flash)) }
+        ensures agreed { IsTrue F.told → IfOk result (λ disk. KeepsAgreed (F.medium flash) (F.medium disk.flash)) }
         ensures unusable { IsTrue F.told → IfErr result (λ refused. refused.error ≡ FlashOpenError.Unusable
             → IsUnusable (F.medium flash).state.pages (F.medium flash).blocks) }
 
@@ -46,8 +47,11 @@ impl<F: Flash> FlashDisk<F> {
         ensures settled { IsTrue F.told → IfOk result (λ disk. (F.medium disk.flash).state ≡ settle_pages (F.medium flash).state) }
         ensures quiet { IfOk result (λ disk. Quiet (flash_disk_medium F.told (F.medium disk.flash) disk.own disk.written)) }
         ensures opens { MatchResult result (λ disk. Opens F.told (F.medium flash) (F.medium disk.flash))
-            (λ refused. Opens F.told (F.medium flash) (F.medium refused.flash)) }
-        ensures returned { IsTrue F.told → IfErr result (λ refused. (F.medium refused.flash).state.pages ≡ (F.medium flash).state.pages) }
+            (λ refused. Looks F.told (F.medium flash) (F.medium refused.flash)) }
+        ensures returned { IsTrue F.told → IfErr result (λ refused. (F.medium refused.flash).state ≡ (F.medium flash).state) }
+        ensures returned_blocks { IfErr result (λ refused. (F.medium refused.flash).blocks ≡ (F.medium flash).blocks) }
+        ensures untouched { IfErr result (λ refused. (refused.error ≡ FlashOpenError.WrongSize) ⊎ (refused.error ≡ FlashOpenError.OutOfMemory)
+            → refused.flash ≡ flash) }
     {
         let blocks = flash.blocks();
         if blocks < 4 || blocks > 4096 {
@@ -129,6 +133,8 @@ impl<F: Flash> Layer<F> {
         ensures sure { IfOk result (λ usable. IsTrue usable → self.new.state.unsure ≡ None) }
         ensures settled { IsTrue F.told → IfOk result (λ usable. IsTrue usable
             → (F.medium self.new.flash).state ≡ settle_pages (F.medium self.old.flash).state) }
+        ensures unusable { IfOk result (λ usable. IsFalse usable → Looks F.told (F.medium self.old.flash) (F.medium self.new.flash)) }
+        ensures failed { OnErr result (Looks F.told (F.medium self.old.flash) (F.medium self.new.flash)) }
         ensures own { self.new.own ≡ self.old.own }
     {
         if !self.learn_blocks(blocks)? {
@@ -235,6 +241,7 @@ impl<F: Flash> Layer<F> {
         ensures spare { self.new.state.spare ≡ self.old.state.spare }
         ensures limit { limit_of self.new.state.table ≡ limit_of self.old.state.table }
         ensures lens { self.new.state.table.lens ≡ self.old.state.table.lens }
+        ensures len { page_len self.new.state.table ≡ page_len self.old.state.table }
         ensures left { IsTrue F.told → self.old.state.spare < (F.medium self.old.flash).blocks
             → OnOk result (LeavesBlock (F.medium self.old.flash).state.pages (places (F.medium self.old.flash).blocks) self.old.state.spare
             0 64 self.old.state.table self.new.state.table) }
@@ -260,6 +267,7 @@ impl<F: Flash> Layer<F> {
         ensures spare { self.new.state.spare ≡ self.old.state.spare }
         ensures limit { limit_of self.new.state.table ≡ limit_of self.old.state.table }
         ensures lens { self.new.state.table.lens ≡ self.old.state.table.lens }
+        ensures len { page_len self.new.state.table ≡ page_len self.old.state.table }
         ensures left { IsTrue F.told → place.block < (F.medium self.old.flash).blocks → place.page < 64
             → OnOk result (LeavesBlock (F.medium self.old.flash).state.pages (places (F.medium self.old.flash).blocks) place.block
             place.page (place.page + 1) self.old.state.table self.new.state.table) }

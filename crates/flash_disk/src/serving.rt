@@ -1,6 +1,6 @@
 //! Reads and writes of the bytes of files, page by page.
 
-ghost use Rattle.std.specs.Prelude.{◌≡◌, ◌⊎◌, ◌↔◌, ◌+◌, ◌-◌, ◌*◌, ◌/◌, ◌≤◌, ◌<◌, ◌^◌, ℕ, IsTrue, IfOk, OnOk, OnErr, None, length, min, max, take, drop, nat_lt, slice_index, if◌then◌else◌};
+ghost use Rattle.std.specs.Prelude.{◌≡◌, ◌⊎◌, ◌↔◌, ◌+◌, ◌-◌, ◌*◌, ◌/◌, ◌≤◌, ◌<◌, ◌^◌, ℕ, IsTrue, IsFalse, IfOk, OnOk, OnErr, None, length, min, max, take, drop, nat_lt, slice_index, if◌then◌else◌};
 ghost use Rattle.per_base.specs.Causes.{HasCause};
 ghost use Rattle.disk_model.specs.Image.{put_image};
 ghost use Rattle.flash_model.specs.State.{IsStill};
@@ -9,7 +9,6 @@ ghost use Rattle.flash_record.specs.PageRecord.{record_in};
 ghost use Rattle.flash_disk.specs.Newest.{places};
 ghost use Rattle.flash_disk.specs.FlashFiles.{record_byte, file_byte, file_len, flash_files};
 ghost use Rattle.std.specs.Int.{div_ceil};
-ghost use Rattle.std.specs.HashMap.{IsUnique};
 ghost use Rattle.flash_disk.specs.Known.{same_page, len_known, limit_of, page_len};
 ghost use Rattle.flash_disk.specs.Counted.{missing};
 ghost use Rattle.flash_disk.specs.Entries.{SameEntries, Occupies, Affords};
@@ -33,7 +32,7 @@ const PAGE: u64 = 256;
 
 impl<F: Flash> Layer<F> {
     ghost use Rattle.flash_disk.specs.Sound.{files_of, IsSound, Holds, LeavesPut, ShowsZeros, WipesPage};
-    ghost use Rattle.flash_disk.specs.OwnFaults.{StopsAdding, EndsTooLate, WantsTooMany};
+    ghost use Rattle.flash_disk.specs.OwnFaults.{StopsAdding, EndsTooLate, WantsTooMany, IsAllowed, TakesPages};
 
     // The bytes of a page of a file, with zeros past the end of the file.
     fn content(&mut self, key: FilePage) -> Result<[u8; RECORD_BYTES], DiskFailed>
@@ -78,7 +77,7 @@ impl<F: Flash> Layer<F> {
         ensures put { IsTrue F.told → OnOk result (PutPart file (256 * page + from) bytes.now len
             (files_of (F.medium self.old.flash)) (files_of (F.medium self.new.flash))) }
         ensures failed { IsTrue F.told → OnErr result (Holds (F.medium self.new.flash) self.new.state) }
-        ensures does { IsTrue F.told → Does (LeavesPut file (256 * page + from) bytes.now len (files_of (F.medium self.old.flash)) (F.medium self.old.flash).blocks)
+        ensures does { IsTrue F.told → Does (LeavesPut file (256 * page + from) bytes.now len (F.medium self.old.flash))
             (F.medium self.old.flash) (F.medium self.new.flash) }
         ensures rises { OnOk result (self.old.state.sequence < self.new.state.sequence) }
         ensures later { self.old.state.sequence ≤ self.new.state.sequence }
@@ -87,9 +86,11 @@ impl<F: Flash> Layer<F> {
         ensures own { IsTrue F.told → (self.new.own ≡ self.old.own) ⊎ StopsAdding self.new.state }
         ensures kept { OnOk result (self.new.own ≡ self.old.own) }
         ensures one { self.new.own ≤ self.old.own + 1 }
+        ensures no_less { self.old.own ≤ self.new.own }
         ensures disputed { self.new.state.disputed ≡ self.old.state.disputed }
         ensures steps { self.new.state.sequence ≤ self.old.state.sequence + 1 }
         ensures entries { IsTrue F.told → OnOk result (Occupies self.old.state.table self.new.state.table (record { file = file; page = page })) }
+        ensures calm { IsTrue F.told → OnOk result (IsFalse self.old.state.disputed) }
     {
         let key = FilePage {
             file,
@@ -110,7 +111,7 @@ impl<F: Flash> Layer<F> {
         ensures sure { OnOk result (self.new.state.unsure ≡ None) }
         ensures wiped { IsTrue F.told → OnOk result (ShowsZeros (F.medium self.new.flash) file until) }
         ensures failed { IsTrue F.told → OnErr result (Holds (F.medium self.new.flash) self.new.state) }
-        ensures does { IsTrue F.told → Does (StandsFor (files_of (F.medium self.old.flash)) (F.medium self.old.flash).blocks)
+        ensures does { IsTrue F.told → Does (StandsFor (F.medium self.old.flash))
             (F.medium self.old.flash) (F.medium self.new.flash) }
         ensures later { self.old.state.sequence ≤ self.new.state.sequence }
         ensures time { IsTrue F.told → FlashElapses (F.medium self.old.flash) (F.medium self.new.flash) }
@@ -118,6 +119,7 @@ impl<F: Flash> Layer<F> {
         ensures own { IsTrue F.told → (self.new.own ≡ self.old.own) ⊎ StopsAdding self.new.state }
         ensures kept { OnOk result (self.new.own ≡ self.old.own) }
         ensures one { self.new.own ≤ self.old.own + 1 }
+        ensures no_less { self.old.own ≤ self.new.own }
         ensures disputed { self.new.state.disputed ≡ self.old.state.disputed }
         ensures steps { self.new.state.sequence ≤ self.old.state.sequence + div_ceil until 256 }
         ensures entries { IsTrue F.told → OnOk result (SameEntries self.old.state.table self.new.state.table) }
@@ -142,7 +144,7 @@ impl<F: Flash> Layer<F> {
         ensures sure { OnOk result (self.new.state.unsure ≡ None) }
         ensures wiped { IsTrue F.told → OnOk result (WipesPage (F.medium self.old.flash) (F.medium self.new.flash) file page) }
         ensures failed { IsTrue F.told → OnErr result (Holds (F.medium self.new.flash) self.new.state) }
-        ensures does { IsTrue F.told → Does (StandsFor (files_of (F.medium self.old.flash)) (F.medium self.old.flash).blocks)
+        ensures does { IsTrue F.told → Does (StandsFor (F.medium self.old.flash))
             (F.medium self.old.flash) (F.medium self.new.flash) }
         ensures later { self.old.state.sequence ≤ self.new.state.sequence }
         ensures time { IsTrue F.told → FlashElapses (F.medium self.old.flash) (F.medium self.new.flash) }
@@ -150,6 +152,7 @@ impl<F: Flash> Layer<F> {
         ensures own { IsTrue F.told → (self.new.own ≡ self.old.own) ⊎ StopsAdding self.new.state }
         ensures kept { OnOk result (self.new.own ≡ self.old.own) }
         ensures one { self.new.own ≤ self.old.own + 1 }
+        ensures no_less { self.old.own ≤ self.new.own }
         ensures disputed { self.new.state.disputed ≡ self.old.state.disputed }
         ensures steps { self.new.state.sequence ≤ self.old.state.sequence + 1 }
         ensures entries { IsTrue F.told → OnOk result (SameEntries self.old.state.table self.new.state.table) }
@@ -172,9 +175,8 @@ impl<F: Flash> Layer<F> {
     fn has_room(&self, file: u32, at: u64, end: u64) -> bool
         requires end { end ≤ 1099511627776 }
         requires ordered { at ≤ end }
-        ensures fits { IsTrue result ↔ (missing self.now.state.table file (at / 256) (div_ceil end 256 - at / 256)
+        ensures { IsTrue result ↔ (missing self.now.state.table file (at / 256) (div_ceil end 256 - at / 256)
             ≤ limit_of self.now.state.table - page_len self.now.state.table) }
-        ensures unique { IsUnique same_page self.now.state.table.newest }
     {
         let mut new: usize = 0;
         for page in at / PAGE..end.div_ceil(PAGE) {
@@ -200,7 +202,7 @@ impl<F: Flash> Layer<F> {
             → files_of (F.medium self.new.flash) ≡ put_image (files_of (F.medium self.old.flash)) file at bytes.now) }
         ensures sure { OnOk result (self.new.state.unsure ≡ None) }
         ensures failed { IsTrue F.told → OnErr result (Holds (F.medium self.new.flash) self.new.state) }
-        ensures does { IsTrue F.told → Does (LeavesTorn file at (length bytes.now) (files_of (F.medium self.old.flash)) (F.medium self.old.flash).blocks)
+        ensures does { IsTrue F.told → Does (LeavesTorn file at (length bytes.now) (F.medium self.old.flash))
             (F.medium self.old.flash) (F.medium self.new.flash) }
         ensures rises { OnOk result (length bytes.now + 256 * self.old.state.sequence ≤ 256 * self.new.state.sequence) }
         ensures later { self.old.state.sequence ≤ self.new.state.sequence }
@@ -209,8 +211,12 @@ impl<F: Flash> Layer<F> {
         ensures own { IsTrue F.told → (self.new.own ≡ self.old.own) ⊎ StopsAdding self.new.state }
         ensures kept { OnOk result (self.new.own ≡ self.old.own) }
         ensures one { self.new.own ≤ self.old.own + 1 }
+        ensures no_less { self.old.own ≤ self.new.own }
         ensures disputed { self.new.state.disputed ≡ self.old.state.disputed }
         ensures steps { self.new.state.sequence ≤ self.old.state.sequence + length bytes.now }
+        ensures calm { IsTrue F.told → OnOk result (0 < length bytes.now → IsFalse self.old.state.disputed) }
+        ensures takes { IsTrue F.told → OnOk result (page_len self.new.state.table
+            ≤ page_len self.old.state.table + missing self.old.state.table file (at / 256) (div_ceil (at + length bytes.now) 256 - at / 256)) }
     {
         let mut done = 0;
         while done < bytes.len() {
@@ -246,8 +252,11 @@ impl<F: Flash> Layer<F> {
             ⊎ (WantsTooMany (F.medium self.old.flash) file at (length bytes.now) ⊎ StopsAdding self.new.state)) }
         ensures kept { OnOk result (self.new.own ≡ self.old.own) }
         ensures one { self.new.own ≤ self.old.own + 1 }
+        ensures no_less { self.old.own ≤ self.new.own }
         ensures disputed { self.new.state.disputed ≡ self.old.state.disputed }
         ensures steps { self.new.state.sequence ≤ self.old.state.sequence + length bytes.now + div_ceil (at + length bytes.now) 256 }
+        ensures allowed { IsTrue F.told → OnOk result (IsAllowed (F.medium self.old.flash) file at (length bytes.now)) }
+        ensures takes { IsTrue F.told → OnOk result (TakesPages (F.medium self.old.flash) (F.medium self.new.flash) file at (length bytes.now)) }
     {
         let end = match at.checked_add(bytes.len() as u64) {
             Some(end) if end <= MAX_END => end,

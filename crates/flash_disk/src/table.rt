@@ -1,7 +1,7 @@
 //! Where the newest record of each page of a file lies, and how long each file is.
 
 ghost use Rattle.std.specs.Prelude.{◌≡◌, ◌≢◌, ◌⊎◌, ◌↔◌, ◌≤◌, ◌<◌, ◌+◌, ◌-◌, ◌*◌, ◌==◌, ℕ, IfOk, IsSome, IsTrue, IsFalse, Some, None, All, length, max, if◌then◌else◌};
-ghost use Rattle.std.specs.HashMap.{IsUnique, get, hash_map_len, spare};
+ghost use Rattle.std.specs.HashMap.{get, hash_map_len, spare};
 ghost use Rattle.flash_disk.specs.Known.{same_page, len_in, HasLenIn, IsLongest, EndsBy};
 ghost use Rattle.flash_disk.specs.Counted.{leads_into, had_in, entries_in, IsInside, IsCounted};
 
@@ -31,7 +31,7 @@ pub struct Newest {
     pub len: u64,
     /// Where another block has an equal record.
     pub twin: Option<Place>,
-    /// Whether another record of the page may have its number and other bytes.
+    /// Whether another record of the page has its number and says something else.
     pub rivalled: bool,
     /// How many of its bytes are left without the zeros at their end.
     pub filled: u32,
@@ -42,7 +42,7 @@ pub struct Newest {
 pub struct Table {
     newest: HashMap<FilePage, Newest>,
     lens: HashMap<u32, u64>,
-    /// How many newest records each block has.
+    /// How many entries lead into each block.
     load: Vec<u32>,
     blocks: u32,
     /// At most how many pages may have a record.
@@ -84,8 +84,7 @@ impl Table {
 
     /// How many pages more may have a record.
     pub fn room(&self) -> usize
-        ensures room { result ≡ limit_of self.now - page_len self.now }
-        ensures unique { IsUnique same_page self.now.newest }
+        ensures { result ≡ limit_of self.now - page_len self.now }
     {
         self.limit.saturating_sub(self.newest.len())
     }
@@ -220,7 +219,7 @@ impl Table {
         raise_all(&mut self.lens, &self.newest);
     }
 
-    /// Whether two records of a page may have its greatest number and other bytes.
+    /// Whether two records of a page have its greatest number and differ.
     pub fn is_disputed(&self) -> bool
         ensures calm { IsFalse result → (key : FilePage) (entry : Newest) → known self.now key ≡ Some entry → IsFalse entry.rivalled }
         ensures rivals { IsTrue result → (key : FilePage) × (entry : Newest) × (known self.now key ≡ Some entry) × IsTrue entry.rivalled }

@@ -4,10 +4,10 @@ use Rattle.disk_model.specs.Medium.{Medium}
 use Rattle.flash_model.specs.FlashMedium.{FlashMedium}
 use Rattle.flash_disk.specs.FlashView.{FlashView}
 use Rattle.flash_disk.specs.FlashDiskMedium.{flash_disk_medium}
-use Rattle.flash_disk.specs.Spares.{KeepsSpare}
+use Rattle.flash_disk.specs.Throughout.{KeepsUsable}
 use Rattle.flash_disk.proofs.DiskCases.{disk_rests, disk_write_nothing}
 use Rattle.flash_disk.proofs.DiskWrites.{write_during, write_now}
-use Rattle.flash_disk.proofs.Spares.{holds_spare, look_spares, rest_spares, write_spares, spares_then}
+use Rattle.flash_disk.proofs.Throughout.{holds_spare, look_spares, rest_spares, write_spares, spares_then}
 use Rattle.flash_disk.specs.OwnFaults.{FailsAlone}
 use Rattle.flash_disk.proofs.Failing.{fails_alone}
 use Rattle.flash_disk.proofs.calls.FlashDiskDisk.write_at.Goals as goal
@@ -67,7 +67,7 @@ returns-in_err-make_sure-clause-spare g c told =
     let m0 = g.F.Flash.medium c.self.inside.layer.flash in
     let m1 = g.F.Flash.medium c.make_sure.new.self.flash in
     let e = c.make_sure.ensures in
-    subst (λ v. KeepsSpare (g.F.Flash.medium v.flash) m1) c.self.view_is
+    subst (λ v. KeepsUsable (g.F.Flash.medium v.flash) m1) c.self.view_is
     (look_spares m0 m1 (e.time told) (holds_spare m0 c.self.inside.layer.state (c.self.invariant.holds told)) (e.unchanged told) e.during)
 
 pub returns-in_err-write_file-clause-spare : goal.returns-in_err-write_file-clause-spare
@@ -77,7 +77,7 @@ returns-in_err-write_file-clause-spare g c told =
     let m2 = g.F.Flash.medium c.write_file.new.self.flash in
     let e = c.make_sure.ensures in
     let w = c.write_file.ensures in
-    subst (λ v. KeepsSpare (g.F.Flash.medium v.flash) m2) c.self.view_is
+    subst (λ v. KeepsUsable (g.F.Flash.medium v.flash) m2) c.self.view_is
     (spares_then m0 m1 m2 (e.time told) (w.time told)
     (look_spares m0 m1 (e.time told) (holds_spare m0 c.self.inside.layer.state (c.self.invariant.holds told)) (e.unchanged told) e.during)
     (write_spares m1 m2 (w.time told) (holds_spare m1 c.make_sure.new.self.state (e.holds told)) c.args.file c.args.at c.args.bytes.now (w.writes told)))
@@ -89,7 +89,7 @@ returns-clause-spare g c told =
     let m2 = g.F.Flash.medium c.write_file.new.self.flash in
     let e = c.make_sure.ensures in
     let w = c.write_file.ensures in
-    subst (λ v. KeepsSpare (g.F.Flash.medium v.flash) m2) c.self.view_is
+    subst (λ v. KeepsUsable (g.F.Flash.medium v.flash) m2) c.self.view_is
     (spares_then m0 m1 m2 (e.time told) (w.time told)
     (look_spares m0 m1 (e.time told) (holds_spare m0 c.self.inside.layer.state (c.self.invariant.holds told)) (e.unchanged told) e.during)
     (write_spares m1 m2 (w.time told) (holds_spare m1 c.make_sure.new.self.state (e.holds told)) c.args.file c.args.at c.args.bytes.now (w.writes told)))
@@ -97,7 +97,7 @@ returns-clause-spare g c told =
 pub returns-then-is_empty-clause-spare : goal.returns-then-is_empty-clause-spare
 returns-then-is_empty-clause-spare g c told =
     let m = g.F.Flash.medium c.self.inside.layer.flash in
-    subst (λ v. KeepsSpare (g.F.Flash.medium v.flash) (g.F.Flash.medium v.flash)) c.self.view_is
+    subst (λ v. KeepsUsable (g.F.Flash.medium v.flash) (g.F.Flash.medium v.flash)) c.self.view_is
     (rest_spares g.F.Flash.told m (g.met.F.Flash.lawful c.self.inside.layer.flash) (holds_spare m c.self.inside.layer.state (c.self.invariant.holds told)))
 
 pub returns-in_err-write_file-clause-own : goal.returns-in_err-write_file-clause-own

@@ -11,7 +11,7 @@ use Rattle.flash_disk.proofs.layer.Layer.add.Goals as goal
 pub returns-in_err-sequence-clause-does : goal.returns-in_err-sequence-clause-does
 returns-in_err-sequence-clause-does g c told =
     let f = c.args.self.now.flash in
-    subst (λ now. Does (LeavesPut c.args.file (256 * c.args.page) c.args.bytes.now c.args.len (files_of (g.F.Flash.medium f)) (g.F.Flash.medium f).blocks) (g.F.Flash.medium f) (g.F.Flash.medium now)) (sym c.next_sequence.ensures.flash)
+    subst (λ now. Does (LeavesPut c.args.file (256 * c.args.page) c.args.bytes.now c.args.len (g.F.Flash.medium f)) (g.F.Flash.medium f) (g.F.Flash.medium now)) (sym c.next_sequence.ensures.flash)
     (puts_nothing g.F.Flash.told (g.F.Flash.medium f) (g.met.F.Flash.lawful f) c.args.self.now.state (c.requires.sound told) c.args.file (256 * c.args.page) c.args.len c.args.bytes.now)
 
 pub returns-in-Ok-clause-sound : goal.returns-in-Ok-clause-sound
@@ -97,8 +97,8 @@ returns-in-Ok-clause-does g c told =
     let on : u ≡ record s { sequence = c.in_ok-sequence.sequence; fill = s.fill + 1 } =
     c.program_page.ensures.state ∙ ap (λ (q : LayerState). let z : LayerState = record q { fill = q.fill + 1 } in z) state in
     let at = ap (λ (q : LayerState). let p : Place = record { block = q.current; page = q.fill } in p) state in
-    subst (λ f. Does (LeavesPut c.args.file (256 * c.args.page) c.args.bytes.now c.args.len (files_of (g.F.Flash.medium f)) (g.F.Flash.medium f).blocks) (g.F.Flash.medium f) (g.F.Flash.medium c.enter.new.self.flash)) c.next_sequence.ensures.flash
-    (subst (λ f. Does (LeavesPut c.args.file (256 * c.args.page) c.args.bytes.now c.args.len (files_of m) m.blocks) m (g.F.Flash.medium f)) (sym c.enter.ensures.flash)
+    subst (λ f. Does (LeavesPut c.args.file (256 * c.args.page) c.args.bytes.now c.args.len (g.F.Flash.medium f)) (g.F.Flash.medium f) (g.F.Flash.medium c.enter.new.self.flash)) c.next_sequence.ensures.flash
+    (subst (λ f. Does (LeavesPut c.args.file (256 * c.args.page) c.args.bytes.now c.args.len m) m (g.F.Flash.medium f)) (sym c.enter.ensures.flash)
     (add_does m now s u place r c.page_with.result sound c.requires.room fits c.requires.bytes at next.0 on c.page_with.ensures
     c.program_page.result (c.program_page.ensures.done told) (c.program_page.ensures.failed told) (c.program_page.ensures.during told)))
 
@@ -139,7 +139,7 @@ returns-in-Err-clause-does g c told =
     let on : u ≡ record s { sequence = c.in_ok-sequence.sequence; fill = s.fill + 1 } =
     c.program_page.ensures.state ∙ ap (λ (q : LayerState). let z : LayerState = record q { fill = q.fill + 1 } in z) state in
     let at = ap (λ (q : LayerState). let p : Place = record { block = q.current; page = q.fill } in p) state in
-    subst (λ f. Does (LeavesPut c.args.file (256 * c.args.page) c.args.bytes.now c.args.len (files_of (g.F.Flash.medium f)) (g.F.Flash.medium f).blocks) (g.F.Flash.medium f) now) c.next_sequence.ensures.flash
+    subst (λ f. Does (LeavesPut c.args.file (256 * c.args.page) c.args.bytes.now c.args.len (g.F.Flash.medium f)) (g.F.Flash.medium f) now) c.next_sequence.ensures.flash
     (add_does m now s u place r c.page_with.result sound c.requires.room fits c.requires.bytes at next.0 on c.page_with.ensures
     c.program_page.result (c.program_page.ensures.done told) (c.program_page.ensures.failed told) (c.program_page.ensures.during told))
 

@@ -21,8 +21,8 @@ pub returns-then-self-clause-does : goal.returns-then-self-clause-does
 returns-then-self-clause-does g c told =
     let m = g.F.Flash.medium c.args.self.now.flash in
     let lawful = g.met.F.Flash.lawful c.args.self.now.flash in
-    subst (λ f. Does (StandsFor (files_of m) m.blocks) m (g.F.Flash.medium f)) (sym c.fault.ensures.flash)
-    (does_nothing m m (StandsFor (files_of m) m.blocks) refl (λ x past. lawful.only_now x past) (stands_now m c.args.self.now.state (c.requires.sound told)))
+    subst (λ f. Does (StandsFor m) m (g.F.Flash.medium f)) (sym c.fault.ensures.flash)
+    (does_nothing m m (StandsFor m) refl (λ x past. lawful.only_now x past) (stands_now m c.args.self.now.state (c.requires.sound told)))
 
 pub returns-in_err-erase_block-clause-sound : goal.returns-in_err-erase_block-clause-sound
 returns-in_err-erase_block-clause-sound g c told =

@@ -20,7 +20,7 @@ loop-page-init g c =
       state = refl;
       moving = c.requires.moving;
       keeps = λ told. keeps_refl m.state.pages (places m.blocks);
-      does = λ told. does_nothing m m (StandsFor (files_of m) m.blocks) refl (λ x past. lawful.only_now x past) (stands_now m c.args.self.now.state (c.requires.moving told).sound);
+      does = λ told. does_nothing m m (StandsFor m) refl (λ x past. lawful.only_now x past) (stands_now m c.args.self.now.state (c.requires.moving told).sound);
       time = λ told. elapses_refl g.F.Flash.told m lawful told;
     }
 

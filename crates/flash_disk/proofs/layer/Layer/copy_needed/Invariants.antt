@@ -20,6 +20,6 @@ invariant-loop-page g l =
       state : l.self.state ≡ record l.initial.self.state { moved = l.self.state.moved };
       moving : g.F.Flash.told ≡ true → IsMoving now.state.pages now.blocks l.self.state l.from l.to l.page;
       keeps : g.F.Flash.told ≡ true → Keeps m.state.pages now.state.pages (places m.blocks);
-      does : g.F.Flash.told ≡ true → Does (StandsFor (files_of m) m.blocks) m now;
+      does : g.F.Flash.told ≡ true → Does (StandsFor m) m now;
       time : g.F.Flash.told ≡ true → FlashElapses m now;
     }

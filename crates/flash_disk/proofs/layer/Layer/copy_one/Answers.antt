@@ -158,7 +158,7 @@ returns-then-is_err-clause-does g c told =
     let now = g.F.Flash.medium c.program_page.new.self.flash in
     let long : c.len.result ≡ length s.moved.items = c.len.ensures ∙ s.moved.ok.0 in
     let p = c.program_page.ensures in
-    subst (λ f. Does (StandsFor (files_of m) m.blocks) m (g.F.Flash.medium f)) (sym c.fault.ensures.flash) (
+    subst (λ f. Does (StandsFor m) m (g.F.Flash.medium f)) (sym c.fault.ensures.flash) (
     stands_then m look now (e.time told) (p.time told)
     (look_stands m look (e.unchanged told) e.blocks e.during c.args.self.now.state (c.requires.moving told).sound)
     (copy_does look s c.args.from.block c.args.to c.args.from.page moving c.requires.page c.read_page.new.out read key old is at.0 at.1 c.len.result long now c.program_page.result (p.done told) (p.failed told) (p.during told)))

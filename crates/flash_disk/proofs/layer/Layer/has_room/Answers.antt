@@ -33,8 +33,8 @@ loop-page-preserved g c =
           (omega (arith, step, so_far, none, is), omega (arith, few, is))
     ]
 
-pub returns-clause-fits : goal.returns-clause-fits
-returns-clause-fits g c =
+pub returns : goal.returns
+returns g c =
     let i = c.loop-page.invariant in
     let table = c.args.self.now.state.table in
     let file = c.args.file in
@@ -45,4 +45,4 @@ returns-clause-fits g c =
     let ordered = c.requires.ordered in
     let last : c.loop-page.page ≡ div_ceil c.args.end 256 = omega (arith, end, past, within, ordered) in
     let same : missing table file from (div_ceil c.args.end 256 - from) ≡ c.loop-page.new = sym (i.0 ∙ ap (λ p. missing table file from (p - from)) last) in
-    fits_in c.loop-page.new c.room.result (missing table file from (div_ceil c.args.end 256 - from)) (limit_of table) (page_len table) same c.room.ensures.room
+    fits_in c.loop-page.new c.room.result (missing table file from (div_ceil c.args.end 256 - from)) (limit_of table) (page_len table) same c.room.ensures

@@ -14,7 +14,7 @@ returns-in_default-clause-wiped g c told =
 pub returns-in_default-clause-does : goal.returns-in_default-clause-does
 returns-in_default-clause-does g c told =
     let a = g.F.Flash.medium c.args.self.now.flash in
-    does_none g.F.Flash.told a (g.met.F.Flash.lawful c.args.self.now.flash) (StandsFor (files_of a) a.blocks) (stands a c.args.self.now.state (c.requires.sound told))
+    does_none g.F.Flash.told a (g.met.F.Flash.lawful c.args.self.now.flash) (StandsFor a) (stands a c.args.self.now.state (c.requires.sound told))
 
 pub returns-then-end_of_bytes-len-clause-wiped : goal.returns-then-end_of_bytes-len-clause-wiped
 returns-then-end_of_bytes-len-clause-wiped g c told =
@@ -27,14 +27,14 @@ returns-then-end_of_bytes-len-clause-wiped g c told =
 pub returns-then-end_of_bytes-len-clause-does : goal.returns-then-end_of_bytes-len-clause-does
 returns-then-end_of_bytes-len-clause-does g c told =
     let a = g.F.Flash.medium c.args.self.now.flash in
-    does_none g.F.Flash.told a (g.met.F.Flash.lawful c.args.self.now.flash) (StandsFor (files_of a) a.blocks) (stands a c.args.self.now.state (c.requires.sound told))
+    does_none g.F.Flash.told a (g.met.F.Flash.lawful c.args.self.now.flash) (StandsFor a) (stands a c.args.self.now.state (c.requires.sound told))
 
 pub returns-in_err-content-clause-does : goal.returns-in_err-content-clause-does
 returns-in_err-content-clause-does g c told =
     let a = g.F.Flash.medium c.args.self.now.flash in
     let b = g.F.Flash.medium c.content.new.self.flash in
     let e = c.in_err-content.ensures in
-    does_nothing a b (StandsFor (files_of a) a.blocks) (e.unchanged told) (e.during told) (stands a c.args.self.now.state (c.requires.sound told))
+    does_nothing a b (StandsFor a) (e.unchanged told) (e.during told) (stands a c.args.self.now.state (c.requires.sound told))
 
 pub append-requires-clause-fits : goal.append-requires-clause-fits
 append-requires-clause-fits g c told =

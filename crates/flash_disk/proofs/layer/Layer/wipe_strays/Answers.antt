@@ -17,7 +17,7 @@ returns-then-end-len-clause-wiped g c told =
 pub returns-then-end-len-clause-does : goal.returns-then-end-len-clause-does
 returns-then-end-len-clause-does g c told =
     let a = g.F.Flash.medium c.args.self.now.flash in
-    does_none g.F.Flash.told a (g.met.F.Flash.lawful c.args.self.now.flash) (StandsFor (files_of a) a.blocks) (stands a c.args.self.now.state (c.requires.sound told))
+    does_none g.F.Flash.told a (g.met.F.Flash.lawful c.args.self.now.flash) (StandsFor a) (stands a c.args.self.now.state (c.requires.sound told))
 
 pub loop-page-init : goal.loop-page-init
 loop-page-init g c =
@@ -27,7 +27,7 @@ loop-page-init g c =
       sure = c.requires.sure;
       sound = c.requires.sound;
       wiped = λ told. wiped_start a s (c.requires.sound told) c.args.file (c.len_of-len.result / 256) (let len = c.len_of-len.ensures in omega (arith, len));
-      does = λ told. does_none g.F.Flash.told a lawful (StandsFor (files_of a) a.blocks) (stands a s (c.requires.sound told));
+      does = λ told. does_none g.F.Flash.told a lawful (StandsFor a) (stands a s (c.requires.sound told));
       time = λ told. elapses_refl g.F.Flash.told a lawful told;
       numbered = omega arith;
       counted = omega arith;

@@ -13,7 +13,7 @@ returns-in_err-content-clause-does g c told =
     let at = 256 * c.args.page + c.args.from in
     let e = c.in_err-content.ensures in
     let nothing = leaves_nothing a c.args.self.now.state (c.requires.sound told) c.args.file at c.args.bytes.now c.args.len in
-    does_nothing a b (LeavesPut c.args.file at c.args.bytes.now c.args.len (files_of a) a.blocks) (e.unchanged told) (e.during told) nothing
+    does_nothing a b (LeavesPut c.args.file at c.args.bytes.now c.args.len a) (e.unchanged told) (e.during told) nothing
 
 pub append-requires-clause-fits : goal.append-requires-clause-fits
 append-requires-clause-fits g c told =

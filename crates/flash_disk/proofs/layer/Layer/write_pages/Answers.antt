@@ -19,7 +19,7 @@ loop-done-init g c =
       sure = r.sure;
       sound = r.sound;
       wrote = λ told. wrote_nothing a c.args.file c.args.at c.args.bytes.now c.args.len (let len = r.len told in omega (arith, len)) (r.grows told);
-      does = λ told. does_none g.F.Flash.told a lawful (LeavesTorn c.args.file c.args.at (length c.args.bytes.now) (files_of a) a.blocks)
+      does = λ told. does_none g.F.Flash.told a lawful (LeavesTorn c.args.file c.args.at (length c.args.bytes.now) a)
           (torn_nothing a s (r.sound told) c.args.file c.args.at (length c.args.bytes.now));
       time = λ told. elapses_refl g.F.Flash.told a lawful told;
       numbered = omega arith;
@@ -42,7 +42,7 @@ returns-in_err-write_page-clause-does g c told =
     let start = c.args.at + done in
     torn_then a b c.args.file c.args.at c.args.bytes.now c.args.len done (i.wrote told) count d (omega arith) (omega arith) (c.requires.len told)
     (i.time told) (e.time told) (i.does told)
-    (moved_there (λ p k. Does (LeavesPut c.args.file p (take k (drop done c.args.bytes.now)) c.args.len (files_of b) b.blocks) b d) start done count (e.does told))
+    (moved_there (λ p k. Does (LeavesPut c.args.file p (take k (drop done c.args.bytes.now)) c.args.len b) b d) start done count (e.does told))
 
 pub loop-done-preserved : goal.loop-done-preserved
 loop-done-preserved g c =
@@ -61,7 +61,7 @@ loop-done-preserved g c =
           (moved_there (λ p k. PutPart c.args.file p (take k (drop done c.args.bytes.now)) c.args.len (files_of b) (files_of d)) start done count (e.put told));
       does = λ told. torn_then a b c.args.file c.args.at c.args.bytes.now c.args.len done (i.wrote told) count d (omega arith) (omega arith) (c.requires.len told)
           (i.time told) (e.time told) (i.does told)
-          (moved_there (λ p k. Does (LeavesPut c.args.file p (take k (drop done c.args.bytes.now)) c.args.len (files_of b) b.blocks) b d) start done count (e.does told));
+          (moved_there (λ p k. Does (LeavesPut c.args.file p (take k (drop done c.args.bytes.now)) c.args.len b) b d) start done count (e.does told));
       time = λ told. elapses_then a b d (i.time told) (e.time told);
       numbered = (let before = i.numbered in let on = e.rises in let few = c.min-count.ensures in omega (arith, before, on, few));
       counted = (let before = i.counted in let on = e.cause.later in omega (arith, before, on));

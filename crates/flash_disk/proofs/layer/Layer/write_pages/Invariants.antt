@@ -18,7 +18,7 @@ invariant-loop-done g l = record {
   sure : l.self.state.unsure ≡ None;
   sound : g.F.Flash.told ≡ true → IsSound (g.F.Flash.medium l.self.flash) l.self.state;
   wrote : g.F.Flash.told ≡ true → WroteSoFar (g.F.Flash.medium l.initial.self.flash) (g.F.Flash.medium l.self.flash) l.file l.at l.bytes l.len l.done;
-  does : g.F.Flash.told ≡ true → Does (LeavesTorn l.file l.at (length l.bytes) (files_of (g.F.Flash.medium l.initial.self.flash)) (g.F.Flash.medium l.initial.self.flash).blocks)
+  does : g.F.Flash.told ≡ true → Does (LeavesTorn l.file l.at (length l.bytes) (g.F.Flash.medium l.initial.self.flash))
       (g.F.Flash.medium l.initial.self.flash) (g.F.Flash.medium l.self.flash);
   time : g.F.Flash.told ≡ true → FlashElapses (g.F.Flash.medium l.initial.self.flash) (g.F.Flash.medium l.self.flash);
   numbered : l.done + 256 * l.initial.self.state.sequence ≤ 256 * l.self.state.sequence;

@@ -10,7 +10,7 @@ use Rattle.flash_disk.specs.declared.layer.LayerState.{LayerState}
 use Rattle.flash_disk.specs.Newest.{record_at, places, IsSpare}
 use Rattle.flash_disk.specs.Learnt.{number}
 use Rattle.flash_disk.specs.Sound.{Sound, Pends, PendsAt, Holds}
-use Rattle.flash_disk.specs.Spares.{KeepsSpare}
+use Rattle.flash_disk.specs.Throughout.{KeepsUsable}
 use Rattle.flash_disk.specs.Standing.{HasSpare}
 use Rattle.flash_disk.specs.Writes.{WritesInto}
 use Rattle.flash_disk.proofs.Growing.{adds_is_spare}
@@ -49,21 +49,21 @@ module _ (a b : FlashMedium) (elapses : FlashElapses a b) (spare : HasSpare a.st
   still_spare pages same = subst (HasSpare pages) (sym elapses.blocks) (subst (λ p. HasSpare p a.blocks) (sym same) spare)
 
   -- calls that only look
-  pub look_spares : b.state ≡ a.state → EachFlashCase (IsStill a.state) a b → KeepsSpare a b
+  pub look_spares : b.state ≡ a.state → EachFlashCase (IsStill a.state) a b → KeepsUsable a b
   look_spares state looks = record {
     now = still_spare b.state.pages (ap (λ s. s.pages) state);
     during = λ c past plain. still_spare c.left (looks c past).left;
   }
 
   -- calls that change no page
-  pub settle_spares : b.state.pages ≡ a.state.pages → EachFlashCase (λ c. IsStill a.state c ⊎ IsStill b.state c) a b → KeepsSpare a b
+  pub settle_spares : b.state.pages ≡ a.state.pages → EachFlashCase (λ c. IsStill a.state c ⊎ IsStill b.state c) a b → KeepsUsable a b
   settle_spares pages cases = record {
     now = still_spare b.state.pages pages;
     during = λ c past plain. still_spare c.left (⊎_elim (λ still. still.left) (λ still. still.left ∙ pages) (cases c past));
   }
 
   -- a write
-  pub write_spares : (file at : ℕ) (bytes : List ℕ) → WritesInto file at bytes a b → KeepsSpare a b
+  pub write_spares : (file at : ℕ) (bytes : List ℕ) → WritesInto file at bytes a b → KeepsUsable a b
   write_spares file at bytes writes = record {
     now = ⊎_elim
         (λ same. still_spare b.state.pages (ap (λ s. s.pages) same))
@@ -76,14 +76,14 @@ module _ (a b : FlashMedium) (elapses : FlashElapses a b) (spare : HasSpare a.st
   }
 
 -- no call at all
-pub rest_spares : (told : Bool) (m : FlashMedium) → IsLawfulFlash told m → HasSpare m.state.pages m.blocks → KeepsSpare m m
+pub rest_spares : (told : Bool) (m : FlashMedium) → IsLawfulFlash told m → HasSpare m.state.pages m.blocks → KeepsUsable m m
 rest_spares told m lawful spare = record {
   now = spare;
   during = λ c past plain. subst (λ p. HasSpare p m.blocks) (sym (lawful.only_now c past).left) spare;
 }
 
 -- one stretch after the other
-pub spares_then : (a b c : FlashMedium) → FlashElapses a b → FlashElapses b c → KeepsSpare a b → KeepsSpare b c → KeepsSpare a c
+pub spares_then : (a b c : FlashMedium) → FlashElapses a b → FlashElapses b c → KeepsUsable a b → KeepsUsable b c → KeepsUsable a c
 spares_then a b c first second early late = record {
   now = late.now;
   during = λ x past plain. ⊎_elim
