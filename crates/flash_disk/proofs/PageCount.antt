@@ -204,7 +204,7 @@ led_some pages n None (Some x) led = absurd led
 led_some pages n (Some e) None led = absurd led
 led_some pages n (Some e) (Some x) led = refl
 
-led_none : (pages : Pages) (n : ℕ) (entry : Option Newest) (best : Option Placed) → LedOf pages n entry best → is_none entry ≡ is_none best
+pub led_none : (pages : Pages) (n : ℕ) (entry : Option Newest) (best : Option Placed) → LedOf pages n entry best → is_none entry ≡ is_none best
 led_none pages n None None led = refl
 led_none pages n None (Some x) led = absurd led
 led_none pages n (Some e) None led = absurd led

@@ -7,7 +7,7 @@ use Rattle.flash_disk.specs.FlashDiskMedium.{flash_disk_medium}
 use Rattle.flash_disk.specs.Throughout.{KeepsUsable}
 use Rattle.flash_disk.proofs.DiskCases.{disk_rests, disk_write_nothing}
 use Rattle.flash_disk.proofs.DiskWrites.{write_during, write_now}
-use Rattle.flash_disk.proofs.Throughout.{holds_spare, look_spares, rest_spares, write_spares, spares_then}
+use Rattle.flash_disk.proofs.Throughout.{holds_usable, look_usable, rest_usable, write_usable, usable_then}
 use Rattle.flash_disk.specs.OwnFaults.{FailsAlone}
 use Rattle.flash_disk.proofs.Failing.{fails_alone}
 use Rattle.flash_disk.proofs.calls.FlashDiskDisk.write_at.Goals as goal
@@ -62,43 +62,43 @@ returns-clause-during g c =
     (write_during g.F.Flash.told m0 m1 m2 c.self.inside.layer.own c.write_file.new.self.own c.self.inside.written c.with_more-self-inside.result c.args.file c.args.at c.args.bytes.now
     c.make_sure.ensures.unchanged c.make_sure.ensures.time c.write_file.ensures.time c.write_file.ensures.writes c.make_sure.ensures.during)
 
-pub returns-in_err-make_sure-clause-spare : goal.returns-in_err-make_sure-clause-spare
-returns-in_err-make_sure-clause-spare g c told =
+pub returns-in_err-make_sure-clause-usable : goal.returns-in_err-make_sure-clause-usable
+returns-in_err-make_sure-clause-usable g c told =
     let m0 = g.F.Flash.medium c.self.inside.layer.flash in
     let m1 = g.F.Flash.medium c.make_sure.new.self.flash in
     let e = c.make_sure.ensures in
     subst (λ v. KeepsUsable (g.F.Flash.medium v.flash) m1) c.self.view_is
-    (look_spares m0 m1 (e.time told) (holds_spare m0 c.self.inside.layer.state (c.self.invariant.holds told)) (e.unchanged told) e.during)
+    (look_usable m0 m1 (e.time told) (holds_usable m0 c.self.inside.layer.state (c.self.invariant.holds told)) (e.unchanged told) e.during)
 
-pub returns-in_err-write_file-clause-spare : goal.returns-in_err-write_file-clause-spare
-returns-in_err-write_file-clause-spare g c told =
+pub returns-in_err-write_file-clause-usable : goal.returns-in_err-write_file-clause-usable
+returns-in_err-write_file-clause-usable g c told =
     let m0 = g.F.Flash.medium c.self.inside.layer.flash in
     let m1 = g.F.Flash.medium c.make_sure.new.self.flash in
     let m2 = g.F.Flash.medium c.write_file.new.self.flash in
     let e = c.make_sure.ensures in
     let w = c.write_file.ensures in
     subst (λ v. KeepsUsable (g.F.Flash.medium v.flash) m2) c.self.view_is
-    (spares_then m0 m1 m2 (e.time told) (w.time told)
-    (look_spares m0 m1 (e.time told) (holds_spare m0 c.self.inside.layer.state (c.self.invariant.holds told)) (e.unchanged told) e.during)
-    (write_spares m1 m2 (w.time told) (holds_spare m1 c.make_sure.new.self.state (e.holds told)) c.args.file c.args.at c.args.bytes.now (w.writes told)))
+    (usable_then m0 m1 m2 (e.time told) (w.time told)
+    (look_usable m0 m1 (e.time told) (holds_usable m0 c.self.inside.layer.state (c.self.invariant.holds told)) (e.unchanged told) e.during)
+    (write_usable m1 m2 (w.time told) (holds_usable m1 c.make_sure.new.self.state (e.holds told)) c.args.file c.args.at c.args.bytes.now (w.writes told)))
 
-pub returns-clause-spare : goal.returns-clause-spare
-returns-clause-spare g c told =
+pub returns-clause-usable : goal.returns-clause-usable
+returns-clause-usable g c told =
     let m0 = g.F.Flash.medium c.self.inside.layer.flash in
     let m1 = g.F.Flash.medium c.make_sure.new.self.flash in
     let m2 = g.F.Flash.medium c.write_file.new.self.flash in
     let e = c.make_sure.ensures in
     let w = c.write_file.ensures in
     subst (λ v. KeepsUsable (g.F.Flash.medium v.flash) m2) c.self.view_is
-    (spares_then m0 m1 m2 (e.time told) (w.time told)
-    (look_spares m0 m1 (e.time told) (holds_spare m0 c.self.inside.layer.state (c.self.invariant.holds told)) (e.unchanged told) e.during)
-    (write_spares m1 m2 (w.time told) (holds_spare m1 c.make_sure.new.self.state (e.holds told)) c.args.file c.args.at c.args.bytes.now (w.writes told)))
+    (usable_then m0 m1 m2 (e.time told) (w.time told)
+    (look_usable m0 m1 (e.time told) (holds_usable m0 c.self.inside.layer.state (c.self.invariant.holds told)) (e.unchanged told) e.during)
+    (write_usable m1 m2 (w.time told) (holds_usable m1 c.make_sure.new.self.state (e.holds told)) c.args.file c.args.at c.args.bytes.now (w.writes told)))
 
-pub returns-then-is_empty-clause-spare : goal.returns-then-is_empty-clause-spare
-returns-then-is_empty-clause-spare g c told =
+pub returns-then-is_empty-clause-usable : goal.returns-then-is_empty-clause-usable
+returns-then-is_empty-clause-usable g c told =
     let m = g.F.Flash.medium c.self.inside.layer.flash in
     subst (λ v. KeepsUsable (g.F.Flash.medium v.flash) (g.F.Flash.medium v.flash)) c.self.view_is
-    (rest_spares g.F.Flash.told m (g.met.F.Flash.lawful c.self.inside.layer.flash) (holds_spare m c.self.inside.layer.state (c.self.invariant.holds told)))
+    (rest_usable g.F.Flash.told m (g.met.F.Flash.lawful c.self.inside.layer.flash) (holds_usable m c.self.inside.layer.state (c.self.invariant.holds told)))
 
 pub returns-in_err-write_file-clause-own : goal.returns-in_err-write_file-clause-own
 returns-in_err-write_file-clause-own g c told =
