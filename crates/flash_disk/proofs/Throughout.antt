@@ -136,13 +136,6 @@ stays_agreed : (a : FlashMedium) (pages : Pages) → pages ≡ a.state.pages →
 stays_agreed a pages same agreed = subst (λ p. IsAgreed p (places a.blocks)) (sym same) agreed
 
 module _ (a b : FlashMedium) where
-  -- calls that change no page
-  pub settle_agreed : b.state.pages ≡ a.state.pages → EachFlashCase (λ c. IsStill a.state c ⊎ IsStill b.state c) a b → KeepsAgreed a b
-  settle_agreed pages cases = record {
-    now = stays_agreed a b.state.pages pages;
-    during = λ c past plain. stays_agreed a c.left (⊎_elim (λ still. still.left) (λ still. still.left ∙ pages) (cases c past));
-  }
-
   -- calls that only look
   pub look_agreed : b.state ≡ a.state → EachFlashCase (IsStill a.state) a b → KeepsAgreed a b
   look_agreed state looks = record {
@@ -162,13 +155,6 @@ module _ (a b : FlashMedium) where
         (λ leaves. (leaves.left plain).agreed)
         (writes.during c past);
   }
-
--- no call at all
-pub rest_agreed : (told : Bool) (m : FlashMedium) → IsLawfulFlash told m → KeepsAgreed m m
-rest_agreed told m lawful = record {
-  now = λ agreed. agreed;
-  during = λ c past plain. stays_agreed m c.left (lawful.only_now c past).left;
-}
 
 -- one stretch after the other
 module _ (a b c : FlashMedium) (first : FlashElapses a b) (second : FlashElapses b c) (early : KeepsAgreed a b) (late : KeepsAgreed b c) where

@@ -1,13 +1,13 @@
-use Rattle.std.proofs.Common.{◌≡◌, Bool, ◌⊎◌, length, inl, inr, ⊎_elim, subst, ◌∙◌, arith}
+use Rattle.std.proofs.Common.{◌≡◌, Bool, ◌⊎◌, ◌<◌, length, inl, inr, ⊎_elim, subst, ◌∙◌, arith}
 use Rattle.disk_model.specs.Case.{Follows, WriteCase, WriteOrNot}
 use Rattle.disk_model.specs.Medium.{Medium}
 use Rattle.flash_model.specs.FlashMedium.{FlashMedium}
 use Rattle.flash_disk.specs.FlashView.{FlashView}
 use Rattle.flash_disk.specs.FlashDiskMedium.{flash_disk_medium}
-use Rattle.flash_disk.specs.Throughout.{KeepsUsable}
+use Rattle.flash_disk.specs.Throughout.{KeepsUsable, KeepsAgreed}
 use Rattle.flash_disk.proofs.DiskCases.{disk_rests, disk_write_nothing}
 use Rattle.flash_disk.proofs.DiskWrites.{write_during, write_now}
-use Rattle.flash_disk.proofs.Throughout.{holds_usable, look_usable, rest_usable, write_usable, usable_then}
+use Rattle.flash_disk.proofs.Throughout.{holds_usable, look_usable, rest_usable, write_usable, usable_then, look_agreed, write_agreed, agreed_then}
 use Rattle.flash_disk.specs.OwnFaults.{FailsAlone}
 use Rattle.flash_disk.proofs.Failing.{fails_alone}
 use Rattle.flash_disk.proofs.calls.FlashDiskDisk.write_at.Goals as goal
@@ -100,6 +100,30 @@ returns-then-is_empty-clause-usable g c told =
     subst (λ v. KeepsUsable (g.F.Flash.medium v.flash) (g.F.Flash.medium v.flash)) c.self.view_is
     (rest_usable g.F.Flash.told m (g.met.F.Flash.lawful c.self.inside.layer.flash) (holds_usable m c.self.inside.layer.state (c.self.invariant.holds told)))
 
+pub returns-in_err-write_file-clause-agreed : goal.returns-in_err-write_file-clause-agreed
+returns-in_err-write_file-clause-agreed g c told =
+    let m0 = g.F.Flash.medium c.self.inside.layer.flash in
+    let m1 = g.F.Flash.medium c.make_sure.new.self.flash in
+    let m2 = g.F.Flash.medium c.write_file.new.self.flash in
+    let e = c.make_sure.ensures in
+    let w = c.write_file.ensures in
+    subst (λ v. KeepsAgreed (g.F.Flash.medium v.flash) m2) c.self.view_is
+    (agreed_then m0 m1 m2 (e.time told) (w.time told)
+    (look_agreed m0 m1 (e.unchanged told) e.during)
+    (write_agreed m1 m2 c.args.file c.args.at c.args.bytes.now (w.writes told)))
+
+pub returns-clause-agreed : goal.returns-clause-agreed
+returns-clause-agreed g c told =
+    let m0 = g.F.Flash.medium c.self.inside.layer.flash in
+    let m1 = g.F.Flash.medium c.make_sure.new.self.flash in
+    let m2 = g.F.Flash.medium c.write_file.new.self.flash in
+    let e = c.make_sure.ensures in
+    let w = c.write_file.ensures in
+    subst (λ v. KeepsAgreed (g.F.Flash.medium v.flash) m2) c.self.view_is
+    (agreed_then m0 m1 m2 (e.time told) (w.time told)
+    (look_agreed m0 m1 (e.unchanged told) e.during)
+    (write_agreed m1 m2 c.args.file c.args.at c.args.bytes.now (w.writes told)))
+
 pub returns-in_err-write_file-clause-own : goal.returns-in_err-write_file-clause-own
 returns-in_err-write_file-clause-own g c told =
     let m0 = g.F.Flash.medium c.self.inside.layer.flash in
@@ -107,10 +131,14 @@ returns-in_err-write_file-clause-own g c told =
     let state = c.write_file.new.self.state in
     let own = c.write_file.new.self.own in
     let n = length c.args.bytes.now in
+    let some : 0 < n = grind arith in
     let time = c.make_sure.ensures.time told in
-    subst (λ v. (own ≡ v.own) ⊎ FailsAlone (g.F.Flash.medium v.flash) state.sequence c.args.file c.args.at n) c.self.view_is
+    subst (λ v. (own ≡ v.own) ⊎ ((0 < n) × FailsAlone (g.F.Flash.medium v.flash) state.sequence c.args.file c.args.at n)) c.self.view_is
     (⊎_elim
     (λ same. inl (same ∙ c.make_sure.ensures.own))
-    (λ why. inr (fails_alone m0 m1 c.make_sure.new.self.state state c.args.file c.args.at n (c.make_sure.ensures.unchanged told) time.blocks
-    (c.in_ok-make_sure.ensures.sound told) c.write_file.ensures.disputed why))
+    (λ why. inr (
+      some,
+      fails_alone m0 m1 c.make_sure.new.self.state state c.args.file c.args.at n (c.make_sure.ensures.unchanged told) time.blocks
+          (c.in_ok-make_sure.ensures.sound told) c.write_file.ensures.disputed why,
+    ))
     (c.write_file.ensures.own told))
