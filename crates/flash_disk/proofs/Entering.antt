@@ -12,14 +12,14 @@ use Rattle.flash_disk.specs.declared.table.Place.{Place}
 use Rattle.flash_disk.specs.declared.table.Newest.{Newest}
 use Rattle.flash_disk.specs.declared.table.Table.{Table}
 use Rattle.flash_disk.specs.declared.layer.LayerState.{LayerState}
-use Rattle.flash_disk.specs.Newest.{Placed, record_at, newest, places}
+use Rattle.flash_disk.specs.Newest.{Placed, record_at, newest, places, IsUsable}
 use Rattle.flash_disk.specs.Known.{same_page, page_of, known, page_len, limit_of, len_in, len_known, HasLenIn, HasLen, Puts, Lengthens, HasRoom}
 use Rattle.flash_disk.specs.Counted.{IsCounted}
 use Rattle.flash_disk.specs.Learnt.{number, Led, LedOf, IsLed, Knows, Adds, HasPlace, Tops}
 use Rattle.flash_disk.specs.FlashFiles.{file_len, IsFileLen}
 use Rattle.flash_disk.specs.FlashFilesLaws.{file_len_is, one_len}
 use Rattle.flash_disk.specs.Sound.{Sound, IsSound, Enters, Pends, PendsAt, Holds}
-use Rattle.flash_disk.proofs.Standing.{HasSameRecords, records_known, records_tops, records_alike, records_spare, records_agreed, same_said_strayless}
+use Rattle.flash_disk.proofs.Standing.{HasSameRecords, records_known, records_tops, records_alike, records_spare, records_count, records_agreed, same_said_strayless}
 use Rattle.flash_disk.proofs.Tearing.{torn_same, torn_page}
 use Rattle.flash_disk.proofs.Sparing.{LiesElsewhere}
 use Rattle.flash_disk.proofs.Growing.{adds_agreed, adds_len, adds_other_len, adds_strayless, adds_spare}
@@ -45,6 +45,15 @@ has_place table key place full = ⊎_elim
     (λ room. (let none = full.1 in omega (arith, room, none)))
     place
 
+-- what is kept fits pages that can be opened
+pub sound_usable : (pages : Pages) (blocks : ℕ) (s : LayerState) → Sound pages blocks s → IsUsable pages blocks
+sound_usable pages blocks s sound = record {
+  fits = (let count = sound.count in let fits = sound.counted.fits in let limit = sound.limit in omega (arith, count, fits, limit));
+  block = s.spare;
+  within = sound.within;
+  spare = sound.is_spare;
+}
+
 -- each newest record lies outside the spare block, or an equal one does
 pub lies_elsewhere : (pages : Pages) (blocks : ℕ) (s : LayerState) → Sound pages blocks s → IsFalse s.disputed → LiesElsewhere pages (places blocks) s.spare
 lies_elsewhere pages blocks s sound agreed = λ file page x is.
@@ -69,6 +78,7 @@ as_said pages blocks s t sound more = record {
   files = sound.files;
   measured = sound.measured;
   counted = sound.counted;
+  count = sound.count;
   memory = (let memory = sound.memory in omega (arith, memory, more));
   within = sound.within;
   is_spare = sound.is_spare;
@@ -89,6 +99,7 @@ same_sound old new blocks s sound calm same blank = record {
   files = sound.files;
   measured = sound.measured;
   counted = sound.counted;
+  count = sound.count ∙ sym (records_count old new same (places blocks));
   memory = sound.memory;
   within = sound.within;
   is_spare = records_spare old new same (places blocks) s.spare sound.is_spare;
