@@ -13,9 +13,9 @@ use Rattle.flash_disk.specs.declared.table.Newest.{Newest}
 use Rattle.flash_disk.specs.declared.table.Table.{Table}
 use Rattle.flash_disk.specs.declared.layer.LayerState.{LayerState}
 use Rattle.flash_disk.specs.Newest.{Placed, record_at, newest, places, page_count, IsUsable}
-use Rattle.flash_disk.specs.Known.{same_page, page_of, known, page_len, limit_of, len_in, len_known, HasLenIn, HasLen, Puts, Lengthens, HasRoom}
+use Rattle.flash_disk.specs.Known.{same_page, page_of, known, page_len, limit_of, len_in, len_known, HasLenIn, HasLen, Puts, Lengthens}
 use Rattle.flash_disk.specs.Counted.{IsCounted}
-use Rattle.flash_disk.specs.Learnt.{number, Led, LedOf, IsLed, Knows, Adds, HasPlace, Tops}
+use Rattle.flash_disk.specs.Learnt.{number, Led, LedOf, IsLed, Adds, HasPlace, Tops}
 use Rattle.flash_disk.specs.FlashFiles.{file_len, IsFileLen}
 use Rattle.flash_disk.specs.FlashFilesLaws.{file_len_is, one_len}
 use Rattle.flash_disk.specs.Sound.{Sound, IsSound, Enters, Pends, PendsAt, Holds}

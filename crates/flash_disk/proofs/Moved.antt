@@ -17,7 +17,7 @@ use Rattle.flash_disk.specs.FlashFiles.{IsFileLen}
 use Rattle.flash_disk.specs.Known.{same_page, known, page_len, limit_of, len_in, HasLenIn, HasRoom, PutsAll}
 use Rattle.flash_disk.specs.Counted.{IsInside, IsCounted}
 use Rattle.flash_disk.specs.Entries.{SameEntries}
-use Rattle.flash_disk.specs.Learnt.{number, Led, LedOf, IsLed, HasPlace}
+use Rattle.flash_disk.specs.Learnt.{number, LedOf, IsLed, HasPlace}
 use Rattle.flash_disk.specs.Sound.{Sound, LeavesOut}
 use Rattle.flash_disk.specs.Moving.{IsMoved, HasKey, IsMoving}
 use Rattle.flash_disk.proofs.Learning.{same_page_is}
