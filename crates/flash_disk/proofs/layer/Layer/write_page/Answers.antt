@@ -1,6 +1,5 @@
-use Rattle.std.proofs.Common.{◌≡◌, ◌*◌, ◌+◌, length, sym, ap, ◌∙◌, subst, arith}
+use Rattle.std.proofs.Common.{◌≡◌, ◌*◌, ◌+◌, length, subst, arith}
 use Rattle.std.proofs.lemmas.Result.{on_ok_weaker}
-use Rattle.flash_disk.specs.declared.layer.LayerState.{LayerState}
 use Rattle.flash_disk.specs.PutPart.{PutPart}
 use Rattle.flash_disk.specs.Sound.{files_of, LeavesPut}
 use Rattle.flash_disk.proofs.Writing.{leaves_nothing, files_seen, fits_seen, does_after_look, page_fits, page_narrower, leaves_narrower}
@@ -59,7 +58,3 @@ returns-clause-does g c told =
     c.args.from c.args.len c.args.bytes.now c.copy_part.new.out copied.inside copied.before copied.after full c.requires.within)
     (leaves_nothing a c.args.self.now.state sound c.args.file at c.args.bytes.now c.args.len)
     (e.time told) (c.append.ensures.time told) (e.during told) (c.append.ensures.does told)
-
-pub returns-clause-calm : goal.returns-clause-calm
-returns-clause-calm g c told =
-    on_ok_weaker c.append.result (λ calm. ap (λ (s : LayerState). s.disputed) (sym c.in_ok-content.ensures.state) ∙ calm) (c.append.ensures.calm told)

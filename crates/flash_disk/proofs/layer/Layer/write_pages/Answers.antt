@@ -93,13 +93,3 @@ write_page-requires-clause-place g c told =
     let start = c.args.at + c.loop-done.done in
     affords_place c.args.file (c.args.at / 256) c.loop-done.self.state.table (div_ceil (c.args.at + length c.args.bytes.now) 256 - c.args.at / 256)
     (start / 256 - c.args.at / 256) (start / 256) (c.loop-done.invariant.affords told) (omega arith) (omega arith)
-
-pub returns-clause-calm : goal.returns-clause-calm
-returns-clause-calm g c told some =
-    let past = c.loop-done-test.false in
-    c.loop-done.invariant.calm told (omega (arith, past, some))
-
-pub returns-clause-takes : goal.returns-clause-takes
-returns-clause-takes g c told =
-    let many = c.loop-done.invariant.as_many told in
-    omega (arith, many)
