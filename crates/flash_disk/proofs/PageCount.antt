@@ -1,5 +1,5 @@
 -- A table has as many entries as there are pages with a record.
-use Rattle.std.proofs.Common.{◌≡◌, ℕ, zero, suc, ◌+◌, Bool, true, false, cond, List, [], ◌∷◌, length, refl, sym, ap, subst, ◌∙◌, arith}
+use Rattle.std.proofs.Common.{◌≡◌, ◌⊎◌, ℕ, zero, suc, ◌+◌, ◌<◌, ◌≤◌, Bool, true, false, cond, List, [], ◌∷◌, length, refl, sym, ap, subst, ◌∙◌, inl, inr, ⊎_elim, arith}
 use Rattle.std.specs.Prelude.{Option, Some, None, is_some, is_none, nat_lt, ◌||◌}
 use Rattle.std.specs.Bool.{Decides}
 use Rattle.std.specs.Cmp.{IsEquivalence, decided}
@@ -9,18 +9,25 @@ use Rattle.std.specs.Set.{is_member}
 use Rattle.std.proofs.lemmas.Bool.{true≢false}
 use Rattle.std.proofs.lemmas.Map.Entries.{length-keys_of}
 use Rattle.std.proofs.lemmas.Map.Keys.{IsDistinct-cons}
-use Rattle.std.proofs.lemmas.Map.Made.{length-from_same_keys, is_some-lookup}
+use Rattle.std.proofs.lemmas.Bool.{cases_Bool}
+use Rattle.std.proofs.lemmas.Map.Made.{length-from_same_keys, length-le_from_is_member, is_some-lookup}
+use Rattle.std.proofs.lemmas.Option.{none-some}
 use Rattle.flash_model.specs.Pages.{Pages}
 use Rattle.flash_record.specs.PageRecord.{PageRecord}
 use Rattle.flash_disk.specs.declared.table.FilePage.{FilePage}
 use Rattle.flash_disk.specs.declared.table.Newest.{Newest}
+use Rattle.flash_disk.specs.declared.table.Place.{Place}
 use Rattle.flash_disk.specs.declared.table.Table.{Table}
-use Rattle.flash_disk.specs.Newest.{Placed, record_at, is_of, newer, with_record, newest, opens_page, page_count}
+use Rattle.flash_disk.specs.Newest.{Placed, record_at, is_of, newer, with_record, newest, opens_page, page_count, IsNewest, IsNewestOf}
+use Rattle.flash_disk.specs.NewestLaws.{newest_is}
 use Rattle.flash_disk.specs.Known.{same_page, page_of, known, page_len}
-use Rattle.flash_disk.specs.Learnt.{LedOf, IsLed}
+use Rattle.flash_disk.specs.Learnt.{LedOf, IsLed, Adds}
+use Rattle.flash_disk.specs.Standing.{Keeps}
 use Rattle.flash_disk.specs.Counted.{missing}
 use Rattle.flash_disk.specs.OwnFaults.{lacking}
 use Rattle.flash_disk.proofs.Learning.{same_page_is, same_page_refl}
+use Rattle.flash_disk.proofs.Programming.{placed, newest_here, newest_elsewhere}
+use Rattle.flash_disk.proofs.Standing.{HasSameRecords, records_count}
 
 page_decides : (a b : FilePage) → Decides (same_page a b) (a ≡ b)
 page_decides a b = (same_page_is a b, λ is. subst (λ k. same_page a k ≡ true) is (same_page_refl a))
@@ -112,6 +119,82 @@ none_distinct = tt
 opened_is : (pages : Pages) (n : ℕ) → HasPages (page_count pages n) (λ key. newest pages key.file key.page n) (opened_pages pages n)
 opened_is pages zero = (refl, none_distinct, λ key. refl)
 opened_is pages (suc n) = opened_next pages n (page_count pages n) (opened_pages pages n) (opened_is pages n) (record_at pages n)
+
+-- ---- pages that change
+
+-- one of two is there and the other is not
+some_none : (a b : Option Placed) → is_some a ≡ true → (b ≡ None → a ≡ None) → is_some b ≡ true
+some_none (Some x) None some none = absurd (none-some x (sym (none refl)))
+some_none (Some x) (Some y) some none = refl
+some_none None b some none = absurd (true≢false (sym some))
+
+same_some : (a b : Option Placed) → is_none a ≡ is_none b → is_some a ≡ is_some b
+same_some None None same = refl
+same_some None (Some y) same = absurd (true≢false same)
+same_some (Some x) None same = absurd (true≢false (sym same))
+same_some (Some x) (Some y) same = refl
+
+-- of two lists of pages that have a record, with the same pages, one is as long as the other
+same_pages : (count count' : ℕ) (best best' : FilePage → Option Placed) (opened opened' : List FilePage)
+    → HasPages count best opened → HasPages count' best' opened' → ((key : FilePage) → is_some (best key) ≡ is_some (best' key)) → count ≡ count'
+same_pages count count' best best' opened opened' has has' same =
+    sym has.0 ∙ (length-from_same_keys page_laws opened opened' has.1 has'.1 (λ key. has.2 key ∙ (same key ∙ sym (has'.2 key))) ∙ has'.0)
+
+-- no page came
+pub count_less : (old new : Pages) (n : ℕ) → ((file page : ℕ) → newest old file page n ≡ None → newest new file page n ≡ None) → page_count new n ≤ page_count old n
+count_less old new n none =
+    let before = opened_is old n in
+    let after = opened_is new n in
+    let less = length-le_from_is_member page_laws (opened_pages new n) (opened_pages old n) after.1
+    (λ key there. before.2 key ∙ some_none (newest new key.file key.page n) (newest old key.file key.page n) (sym (after.2 key) ∙ there) (none key.file key.page)) in
+    let was = before.0 in
+    let is = after.0 in
+    omega (arith, less, was, is)
+
+-- no page came or went
+pub count_same : (old new : Pages) (n : ℕ) → ((file page : ℕ) → is_none (newest new file page n) ≡ is_none (newest old file page n)) → page_count new n ≡ page_count old n
+count_same old new n same = same_pages (page_count new n) (page_count old n) (λ key. newest new key.file key.page n) (λ key. newest old key.file key.page n)
+    (opened_pages new n) (opened_pages old n) (opened_is new n) (opened_is old n)
+    (λ key. same_some (newest new key.file key.page n) (newest old key.file key.page n) (same key.file key.page))
+
+module _ (old new : Pages) (n : ℕ) (place : Place) (r : PageRecord) (adds : Adds old new n place r) where
+  added_page : (key : FilePage) (b : Bool) → is_of key.file key.page r ≡ b
+      → is_some (newest new key.file key.page n) ≡ is_some (cond b (newer (newest old key.file key.page n) (record { place = n; says = r })) (newest old key.file key.page n))
+  added_page key true is =
+      let key_is : page_of r ≡ key = same_page_is (page_of r) key is in
+      ap is_some (subst (λ (k : FilePage). newest new k.file k.page n ≡ Some (placed old new n place r adds)) key_is (newest_here old new n place r adds))
+      ∙ sym (newer_some (newest old key.file key.page n) (record { place = n; says = r }))
+  added_page key false is = ap is_some (newest_elsewhere old new n place r adds key.file key.page is)
+
+  -- a record was added
+  pub count_adds : page_count new n ≡ page_count old n + cond (is_none (newest old r.file r.page n)) 1 0
+  count_adds =
+      let b = is_none (newest old r.file r.page n) in
+      same_pages (page_count new n) (page_count old n + cond b 1 0) (λ key. newest new key.file key.page n)
+      (λ key. cond (is_of key.file key.page r) (newer (newest old key.file key.page n) (record { place = n; says = r })) (newest old key.file key.page n))
+      (opened_pages new n) (cond b (page_of r ∷ opened_pages old n) (opened_pages old n))
+      (opened_is new n) (one_record old n (page_count old n) (opened_pages old n) (opened_is old n) r b refl)
+      (λ key. added_page key (is_of key.file key.page r) refl)
+
+module _ (old new : Pages) (n : ℕ) (keeps : Keeps old new n) where
+  kept_page : (file page : ℕ) (was is : Option Placed) → newest old file page n ≡ was → IsNewestOf old file page n was → IsNewestOf new file page n is → is_none is ≡ is_none was
+  kept_page file page None None found before after = refl
+  kept_page file page None (Some x) found before after =
+      let there = keeps.only x.place x.says after.within after.there in
+      absurd (before there.0 x.says there.1 there.2 after.of_page)
+  kept_page file page (Some x) None found before after =
+      let left = keeps.stays file page x found in
+      absurd (after left.0 x.says left.1 left.2 before.of_page)
+  kept_page file page (Some x) (Some y) found before after = refl
+
+  -- of each newest record one is left
+  pub count_keeps : page_count new n ≡ page_count old n
+  count_keeps = count_same old new n (λ file page. kept_page file page (newest old file page n) (newest new file page n) refl
+      (newest_is old file page n) (newest_is new file page n))
+
+-- no record changed
+pub count_records : (old new : Pages) (n : ℕ) → HasSameRecords old new → page_count new n ≡ page_count old n
+count_records old new n same = records_count old new same n
 
 -- ---- the entries of a table
 
