@@ -20,6 +20,7 @@ use Rattle.flash_disk.specs.PutPart.{PutPart, PutOrNot}
 use Rattle.flash_disk.specs.Standing.{IsAgreed, IsStrayless, StaysAgreed, StandsFor}
 use Rattle.flash_disk.specs.Sound.{files_of, IsSound, Sound, Fits, Holds, PendsAt, FitsIn, LeavesPut, ShowsZeros, ShowsPage, WipesPage}
 use Rattle.flash_disk.specs.Writes.{LeavesTorn, with_write, WritesInto}
+use Rattle.flash_disk.proofs.Entering.{sound_usable}
 use Rattle.flash_disk.proofs.Reading.{len_is}
 use Rattle.flash_disk.proofs.Parts.{PartSoFar, narrower, same_part, part_from_nothing, part_more, part_all, whole_part, torn_in_more, torn_refl}
 use Rattle.flash_disk.proofs.Stretches.{does_nothing, does_weaken, does_then}
@@ -33,14 +34,6 @@ no_error (Ok x) none p = p
 no_error (Err e) none p = absurd (true≢false none)
 
 -- ---- what a sound layer has
-
-pub sound_usable : (pages : Pages) (blocks : ℕ) (s : LayerState) → Sound pages blocks s → IsUsable pages blocks
-sound_usable pages blocks s sound = record {
-  fits = (let few = sound.counted.fits in let limit = sound.limit in let count = sound.count in omega (arith, few, limit, count));
-  block = s.spare;
-  within = sound.within;
-  spare = sound.is_spare;
-}
 
 module _ (m : FlashMedium) (s : LayerState) (sound : IsSound m s) where
   pub usable_now : IsUsable m.state.pages m.blocks
