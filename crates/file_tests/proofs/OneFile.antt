@@ -8,19 +8,19 @@ use Rattle.deployment_model.specs.Data.{ElementData, StorageData}
 use Rattle.deployment_model.specs.Conditions.{IsElement, IsStorage, initial_size}
 
 pub one_file : (s : StorageData) (file : ElementData) → s.elements ≡ file ∷ [] → s.kind ≡ Files → s.minimum ≡ 0 → 1 ≤ s.m → s.m ≤ s.n → s.n ≤ 7
-    → IsName s.name → s.maximum ≡ 4194304 → IsElement Files file → initial_size file ≤ 4194304 → IsStorage s
-one_file s file one of_files least some enough copies named maximum each fits =
+    → IsName s.name → 1 ≤ s.maximum → s.maximum ≤ 4194304 → IsElement Files file → initial_size file ≤ s.maximum → IsStorage s
+one_file s file one of_files least some enough copies named some_room maximum each fits =
     let sum = sum_by-cons initial_size file [] in
     record {
       name = named;
       minimum = rw least (omega arith);
-      some_room = rw maximum (omega arith);
-      maximum = rw maximum (omega arith);
+      some_room = some_room;
+      maximum = maximum;
       some_agree = some;
       enough_copies = enough;
       copies = copies;
       few = rw one (omega arith);
       ascends = rw one (sorted_from_ascends (file.name ∷ []) refl);
       each = rw (one, of_files) (each, tt);
-      fits = rw (one, maximum) (omega (arith, sum, fits));
+      fits = rw one (omega (arith, sum, fits));
     }

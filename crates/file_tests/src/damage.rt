@@ -1,7 +1,7 @@
 //! Files of which copies are damaged. The area of copy 1 is file 1026, and each further copy lies four files on.
 
 use crate::rows::{Call, answers};
-use crate::usage::{Copies, installed, open};
+use crate::usage::{ONE, Plan, TWO_OF_THREE, installed, open};
 use bitflags::Flags;
 use disk_model::{Disk, MemDisk};
 use file_storage::OpenedFiles;
@@ -10,23 +10,33 @@ use std::alloc::Global;
 use std::process::Abort;
 use std::test::Fail;
 
-// The disk, where the first byte of each of these areas is another now.
-fn damaged(mut disk: MemDisk, areas: &[u32]) -> Result<MemDisk, Fail> {
-    for area in areas {
-        disk.write_at(*area, 0, b"x")?;
+/// The disk, where other bytes stand at the front of each of these files.
+pub(crate) fn damaged(mut disk: MemDisk, files: &[u32]) -> Result<MemDisk, Fail> {
+    for file in files {
+        disk.write_at(*file, 0, b"xxxxxxxxxxxxxxxxxxxxxxxxxxxxxxxx")?;
     }
     disk.sync()?;
     Ok(disk)
 }
 
-// Opens `cal`, where the file of this name was `abc`, after these areas were damaged.
-fn opened(alloc: Global, copies: Copies, name: &str, areas: &[u32]) -> Result<OpenedFiles, Fail> {
-    let disk = installed(alloc, copies, Name::new(alloc, name)?, b"abc")?;
-    let mut disk = damaged(disk, areas)?;
-    open(alloc, &mut disk, copies)
+/// A disk with `cal`, where the file of this name was `abc`, after these files of the disk were damaged.
+pub(crate) fn abc(alloc: Global, plan: Plan, name: &str, files: &[u32]) -> Result<MemDisk, Fail> {
+    let disk = installed(alloc, plan, Name::new(alloc, name)?, b"abc")?;
+    damaged(disk, files)
 }
 
-fn assert_report(rt: &impl Abort, reports: &[Report], kind: ReportKind, copies: &[u32]) {
+/// Opens it.
+pub(crate) fn opened(
+    alloc: Global,
+    plan: Plan,
+    name: &str,
+    files: &[u32],
+) -> Result<OpenedFiles, Fail> {
+    let mut disk = abc(alloc, plan, name, files)?;
+    open(alloc, &mut disk, plan)
+}
+
+pub(crate) fn assert_report(rt: &impl Abort, reports: &[Report], kind: ReportKind, copies: &[u32]) {
     assert_eq!(rt; reports.len(), 1);
     assert!(rt; reports[0].kind == kind);
     assert_eq!(rt; reports[0].copies.as_slice(), copies);
@@ -34,12 +44,7 @@ fn assert_report(rt: &impl Abort, reports: &[Report], kind: ReportKind, copies: 
 
 #[test]
 fn one_copy_is_mended(rt: HostRuntime) -> Result<(), Fail> {
-    let OpenedFiles { mut files, reports } = opened(
-        rt.alloc(),
-        Copies::TwoOfThree,
-        "map",
-        &[1026],
-    )?;
+    let OpenedFiles { mut files, reports } = opened(rt.alloc(), TWO_OF_THREE, "map", &[1026])?;
     assert_report(&rt, &reports, ReportKind::FileRecovered, &[1]);
     let rows = [
         (Call::Open(OpenKind::Read, OpenMode::empty()), "Ok(1)"),
@@ -54,7 +59,7 @@ fn two_copies_leave_a_salvage(rt: HostRuntime) -> Result<(), Fail> {
         "Ok(FileInfo { created: 3, modified: 8, accessed: 3, creation: Installation, modification: Recovery })";
     let OpenedFiles { mut files, reports } = opened(
         rt.alloc(),
-        Copies::TwoOfThree,
+        TWO_OF_THREE,
         "map",
         &[1026, 1030],
     )?;
@@ -70,7 +75,7 @@ fn two_copies_leave_a_salvage(rt: HostRuntime) -> Result<(), Fail> {
 
 #[test]
 fn without_a_salvage_it_gets_its_initial_content(rt: HostRuntime) -> Result<(), Fail> {
-    let OpenedFiles { mut files, reports } = opened(rt.alloc(), Copies::One, "map", &[1026])?;
+    let OpenedFiles { mut files, reports } = opened(rt.alloc(), ONE, "map", &[1026])?;
     assert_report(&rt, &reports, ReportKind::FileFailed, &[1]);
     let rows = [
         (Call::FileSize, "Ok(3)"),
@@ -83,7 +88,7 @@ fn without_a_salvage_it_gets_its_initial_content(rt: HostRuntime) -> Result<(), 
 
 #[test]
 fn without_initial_content_it_goes(rt: HostRuntime) -> Result<(), Fail> {
-    let mut files = opened(rt.alloc(), Copies::One, "no", &[1026])?.files;
+    let mut files = opened(rt.alloc(), ONE, "no", &[1026])?.files;
     let rows = [
         (Call::Exists, "Ok(true)"),
         (Call::Recover, "Ok(())"),

@@ -1,7 +1,7 @@
 //! The greatest number of handles, and the greatest file.
 
 use crate::rows::{Call, answers};
-use crate::usage::{Copies, first, installed, map, open};
+use crate::usage::{ONE, first, installed, map, open};
 use bitflags::Flags;
 use file_storage::Files;
 use per_base::{Name, OpenKind, OpenMode};
@@ -36,8 +36,8 @@ fn at_most_64_handles(rt: HostRuntime) -> Result<(), Fail> {
 // The files of `cal`, where `f` has 1,048,576 bytes.
 fn large(alloc: Global) -> Result<Files, Fail> {
     let bytes = vec![in alloc; 7; 1_048_576]?;
-    let mut disk = installed(alloc, Copies::One, Name::new(alloc, "f")?, &bytes)?;
-    Ok(open(alloc, &mut disk, Copies::One)?.files)
+    let mut disk = installed(alloc, ONE, Name::new(alloc, "f")?, &bytes)?;
+    Ok(open(alloc, &mut disk, ONE)?.files)
 }
 
 #[test]

@@ -5,27 +5,27 @@ ghost use Rattle.disk_model.specs.Memory.{mem_medium};
 ghost use Rattle.element_store.specs.Stores.{IsUsed};
 
 use crate::rows::{Call, answers};
-use crate::usage::{Copies, INITIAL, installed, map, open};
+use crate::usage::{INITIAL, ONE, Plan, installed, map, open};
 use bitflags::Flags;
 use disk_model::MemDisk;
-use file_storage::{Closed, Files};
-use per_base::{Name, OpenKind, OpenMode};
+use file_storage::{Closed, Files, FilesOutcome, OpenedFiles};
+use per_base::{Name, OpenKind, OpenMode, PerError};
 use std::alloc::Global;
 use std::process::Abort;
 use std::test::Fail;
 
-/// A run, in which `cal` is open in one copy. Its calls ask that it is in use on the disk, and hand that on. They use handle 1.
+/// A run, in which `cal` is open. Its calls ask that it is in use on the disk, and hand that on. They use handle 1.
 #[derive(Drop)]
-struct Run {
-    disk: MemDisk,
-    files: Files,
+pub(crate) struct Run {
+    pub(crate) disk: MemDisk,
+    pub(crate) files: Files,
 }
 
 impl Run {
-    fn open(alloc: Global, mut disk: MemDisk) -> Result<Run, Fail>
+    pub(crate) fn open(alloc: Global, plan: Plan, mut disk: MemDisk) -> Result<Run, Fail>
         ensures { IfOk result (λ run. IsUsed true (mem_medium run.disk).image run.files.store) }
     {
-        let opened = open(alloc, &mut disk, Copies::One)?;
+        let opened = open(alloc, &mut disk, plan)?;
         Ok(Run {
             disk,
             files: opened.files,
@@ -43,7 +43,7 @@ impl Run {
     }
 
     /// Opens a file for writing at moment 7.
-    fn writing(self, name: &Name, mode: OpenMode) -> Result<Run, Fail>
+    pub(crate) fn writing(self, name: &Name, mode: OpenMode) -> Result<Run, Fail>
         requires { IsUsed true (mem_medium self.disk).image self.files.store }
         ensures { IfOk result (λ run. IsUsed true (mem_medium run.disk).image run.files.store) }
     {
@@ -52,7 +52,7 @@ impl Run {
         Ok(Run { disk, files })
     }
 
-    fn write(self, byte: u8) -> Result<Run, Fail>
+    pub(crate) fn write(self, byte: u8) -> Result<Run, Fail>
         requires { IsUsed true (mem_medium self.disk).image self.files.store }
         ensures { IfOk result (λ run. IsUsed true (mem_medium run.disk).image run.files.store) }
     {
@@ -70,17 +70,19 @@ impl Run {
         Ok(Run { disk, files })
     }
 
-    fn sync(self) -> Result<Run, Fail>
+    pub(crate) fn sync(self) -> Result<Run, Fail>
         requires { IsUsed true (mem_medium self.disk).image self.files.store }
         ensures { IfOk result (λ run. IsUsed true (mem_medium run.disk).image run.files.store) }
     {
         let Run { mut disk, files } = self;
         match files.sync_to_file(&mut disk, 1) {
-            Ok(outcome) => Ok(Run {
-                disk,
-                files: outcome.files,
-            }),
-            Err(_) => Err(Fail::new("not synchronised")),
+            Ok(
+                FilesOutcome {
+                    files,
+                    refused: None,
+                },
+            ) => Ok(Run { disk, files }),
+            _ => Err(Fail::new("not synchronised")),
         }
     }
 
@@ -97,19 +99,23 @@ impl Run {
         Ok(run)
     }
 
-    /// Why a sync by this handle is refused.
-    fn refused_sync(self, alloc: Global, handle: u32) -> Result<String, Fail>
+    /// A sync by this handle, and why it is refused.
+    pub(crate) fn refused_sync(self, alloc: Global, handle: u32) -> Result<(Run, String), Fail>
         requires { IsUsed true (mem_medium self.disk).image self.files.store }
+        ensures { IfOk result (λ done. IsUsed true (mem_medium done.0.disk).image done.0.files.store) }
     {
         let Run { mut disk, files } = self;
         match files.sync_to_file(&mut disk, handle) {
-            Ok(outcome) => Ok(format!(in alloc; "{:?}", outcome.refused)?),
+            Ok(FilesOutcome { files, refused }) => {
+                let why = format!(in alloc; "{refused:?}")?;
+                Ok((Run { disk, files }, why))
+            }
             Err(_) => Err(Fail::new("not synchronised")),
         }
     }
 
     /// Why a close is refused.
-    fn refused_close(self, alloc: Global) -> Result<String, Fail>
+    pub(crate) fn refused_close(self, alloc: Global) -> Result<String, Fail>
         requires { IsUsed true (mem_medium self.disk).image self.files.store }
     {
         let Run { mut disk, files } = self;
@@ -119,7 +125,19 @@ impl Run {
         }
     }
 
-    fn delete(self, name: &Name) -> Result<Run, Fail>
+    /// A write of a byte for which there is no room.
+    pub(crate) fn write_in_vain(self, byte: u8) -> Result<Run, Fail>
+        requires { IsUsed true (mem_medium self.disk).image self.files.store }
+        ensures { IfOk result (λ run. IsUsed true (mem_medium run.disk).image run.files.store) }
+    {
+        let Run { disk, mut files } = self;
+        match files.write(1, &[byte]) {
+            Err(PerError::OutOfStorageSpace { .. }) => Ok(Run { disk, files }),
+            _ => Err(Fail::new("not refused")),
+        }
+    }
+
+    pub(crate) fn delete(self, name: &Name) -> Result<Run, Fail>
         requires { IsUsed true (mem_medium self.disk).image self.files.store }
         ensures { IfOk result (λ run. IsUsed true (mem_medium run.disk).image run.files.store) }
     {
@@ -129,7 +147,7 @@ impl Run {
     }
 
     /// Closes the storage.
-    fn close(self) -> Result<MemDisk, Fail>
+    pub(crate) fn close(self) -> Result<MemDisk, Fail>
         requires { IsUsed true (mem_medium self.disk).image self.files.store }
     {
         let Run { mut disk, files } = self;
@@ -140,7 +158,7 @@ impl Run {
     }
 
     /// Cuts the power: what no sync made durable is gone.
-    fn stop(self) -> Result<MemDisk, Fail> {
+    pub(crate) fn stop(self) -> Result<MemDisk, Fail> {
         Ok(self.disk.crash(false)?)
     }
 }
@@ -149,7 +167,7 @@ impl Run {
 fn first(alloc: Global) -> Result<Run, Fail>
     ensures { IfOk result (λ run. IsUsed true (mem_medium run.disk).image run.files.store) }
 {
-    Run::open(alloc, installed(alloc, Copies::One, map(alloc)?, INITIAL)?)
+    Run::open(alloc, ONE, installed(alloc, ONE, map(alloc)?, INITIAL)?)
 }
 
 /// The same, after a byte was written behind the end of `map`.
@@ -162,14 +180,16 @@ fn extended(alloc: Global) -> Result<Run, Fail>
         .write(0x65)
 }
 
-/// That a second run, at moment 9, answers so.
-fn again(
+/// That a run at moment 9 has nothing to report, and answers so.
+pub(crate) fn again(
     rt: &impl Abort,
     alloc: Global,
+    plan: Plan,
     mut disk: MemDisk,
     rows: &[(Call, &str)],
 ) -> Result<(), Fail> {
-    let mut files = open(alloc, &mut disk, Copies::One)?.files;
+    let OpenedFiles { mut files, reports } = open(alloc, &mut disk, plan)?;
+    assert!(rt; reports.is_empty());
     answers(rt, alloc, &mut files, "map", 9, rows)
 }
 
@@ -183,7 +203,7 @@ fn what_is_synchronised_stays(rt: HostRuntime) -> Result<(), Fail> {
         (Call::Open(OpenKind::Read, OpenMode::empty()), "Ok(1)"),
         (Call::ReadAll(1), "Ok([97, 98, 10, 99, 100, 101])"),
     ];
-    again(&rt, rt.alloc(), disk, &rows)
+    again(&rt, rt.alloc(), ONE, disk, &rows)
 }
 
 #[test]
@@ -193,7 +213,7 @@ fn what_is_not_synchronised_is_gone(rt: HostRuntime) -> Result<(), Fail> {
         (Call::Open(OpenKind::Read, OpenMode::empty()), "Ok(1)"),
         (Call::ReadAll(1), "Ok([97, 98, 10, 99, 100])"),
     ];
-    again(&rt, rt.alloc(), disk, &rows)
+    again(&rt, rt.alloc(), ONE, disk, &rows)
 }
 
 /// A run where `map` was deleted.
@@ -207,19 +227,20 @@ fn without_map(alloc: Global) -> Result<Run, Fail>
 #[test]
 fn what_is_closed_stays(rt: HostRuntime) -> Result<(), Fail> {
     let disk = without_map(rt.alloc())?.close()?;
-    again(&rt, rt.alloc(), disk, &[(Call::Exists, "Ok(false)")])
+    again(&rt, rt.alloc(), ONE, disk, &[(Call::Exists, "Ok(false)")])
 }
 
 #[test]
 fn what_is_not_closed_is_gone(rt: HostRuntime) -> Result<(), Fail> {
     let disk = without_map(rt.alloc())?.stop()?;
-    again(&rt, rt.alloc(), disk, &[(Call::Exists, "Ok(true)")])
+    again(&rt, rt.alloc(), ONE, disk, &[(Call::Exists, "Ok(true)")])
 }
 
 /// Why a sync by this handle is refused, where handle 1 reads.
 fn sync_of_a_reader(alloc: Global, handle: u32) -> Result<String, Fail> {
     let name = map(alloc)?;
-    first(alloc)?.reading(&name)?.refused_sync(alloc, handle)
+    let (_, why) = first(alloc)?.reading(&name)?.refused_sync(alloc, handle)?;
+    Ok(why)
 }
 
 #[test]
@@ -250,8 +271,8 @@ fn large(alloc: Global) -> Result<Run, Fail>
 {
     let name = Name::new(alloc, "f")?;
     let bytes = vec![in alloc; 7; 1_048_576]?;
-    let disk = installed(alloc, Copies::One, name.copy()?, &bytes)?;
-    Run::open(alloc, disk)?.writing(&name, OpenMode::empty())
+    let disk = installed(alloc, ONE, name.copy()?, &bytes)?;
+    Run::open(alloc, ONE, disk)?.writing(&name, OpenMode::empty())
 }
 
 // One block of 256 bytes differs, and the index has 16,460 bytes; then the second of two blocks differs, and the index has 84 bytes. An

@@ -17,20 +17,40 @@ use per_base::{Bytes, Cause, FileInfo, Fresh, Name, PerError, Scope, Sequence, S
 use std::alloc::{AllocError, Global};
 use std::test::Fail;
 
-/// The storage has no more bytes.
-const MAXIMUM: u64 = 4_194_304;
+/// What is known of a file that was installed at moment 3, and not touched since.
+pub(crate) const INFO: &str =
+    "Ok(FileInfo { created: 3, modified: 3, accessed: 3, creation: Installation, modification: Installation })";
 
 /// What the file `map` starts with.
 pub(crate) const INITIAL: &[u8] = b"ab\ncd";
 
-/// In how many copies `cal` lies.
+/// How `cal` is configured.
 #[derive(Clone, Copy)]
-pub(crate) enum Copies {
-    /// One.
-    One,
-    /// Three, of which two must agree.
-    TwoOfThree,
+pub(crate) struct Plan {
+    pub(crate) m: u32,
+    pub(crate) n: u32,
+    pub(crate) scope: Scope,
+    pub(crate) maximum: u64,
+    pub(crate) read_only: bool,
 }
+
+/// One copy, and all the bytes that a storage may have.
+pub(crate) const ONE: Plan = Plan {
+    m: 1,
+    n: 1,
+    scope: Scope::Element,
+    maximum: 4_194_304,
+    read_only: false,
+};
+
+/// Three copies, of which two must agree on each file.
+pub(crate) const TWO_OF_THREE: Plan = Plan {
+    m: 2,
+    n: 3,
+    scope: Scope::Element,
+    maximum: 4_194_304,
+    read_only: false,
+};
 
 /// The name of the file `map`.
 pub(crate) fn map(alloc: Global) -> Result<Name, PerError> {
@@ -40,11 +60,11 @@ pub(crate) fn map(alloc: Global) -> Result<Name, PerError> {
 /// The file, as it is configured.
 fn file(alloc: Global) -> Result<ElementConfig, Fail>
     ensures file { IfOk result (λ file. IsElement kinds.Files (element_data file)) }
-    ensures size { IfOk result (λ file. initial_size (element_data file) ≤ 4194304) }
+    ensures size { IfOk result (λ file. initial_size (element_data file) ≤ 8) }
 {
     let name = map(alloc)?;
     let initial = Vec::from_slice(alloc, INITIAL)?;
-    if initial.len() > 5 || name.as_str().len() > 255 {
+    if initial.len() > 5 || name.as_str().len() > 3 {
         return Err(Fail::new("too long"));
     }
     Ok(ElementConfig {
@@ -58,16 +78,17 @@ fn file(alloc: Global) -> Result<ElementConfig, Fail>
 /// The storage in which this file is configured.
 fn storage(
     alloc: Global,
+    plan: Plan,
     name: Name,
     file: ElementConfig,
-    m: u32,
-    n: u32,
 ) -> Result<StorageConfig, AllocError>
-    requires some_agree { 1 ≤ m }
-    requires enough_copies { m ≤ n }
-    requires copies { n ≤ 7 }
+    requires some_agree { 1 ≤ plan.m }
+    requires enough_copies { plan.m ≤ plan.n }
+    requires copies { plan.n ≤ 7 }
+    requires some_room { 1 ≤ plan.maximum }
+    requires maximum { plan.maximum ≤ 4194304 }
     requires file { IsElement kinds.Files (element_data file) }
-    requires fits { initial_size (element_data file) ≤ 4194304 }
+    requires fits { initial_size (element_data file) ≤ plan.maximum }
     ensures storage { IfOk result (λ config. IsStorage (storage_data config)) }
     ensures of_files { IfOk result (λ config. config.kind ≡ kinds.Files) }
 {
@@ -77,31 +98,34 @@ fn storage(
         name,
         kind: StoreKind::Files,
         minimum: 0,
-        maximum: MAXIMUM,
+        maximum: plan.maximum,
         strategy: CollectionStrategy::KeepExisting,
-        read_only: false,
-        m,
-        n,
-        scope: Scope::Element,
+        read_only: plan.read_only,
+        m: plan.m,
+        n: plan.n,
+        scope: plan.scope,
         elements,
     })
 }
 
 /// The storage `cal`.
-fn config(alloc: Global, copies: Copies) -> Result<StorageConfig, Fail>
+pub(crate) fn config(alloc: Global, plan: Plan) -> Result<StorageConfig, Fail>
     ensures storage { IfOk result (λ config. IsStorage (storage_data config)) }
     ensures of_files { IfOk result (λ config. config.kind ≡ kinds.Files) }
 {
     let name = Name::new(alloc, "cal")?;
     let file = file(alloc)?;
-    match copies {
-        Copies::One => Ok(storage(alloc, name, file, 1, 1)?),
-        Copies::TwoOfThree => Ok(storage(alloc, name, file, 2, 3)?),
+    if plan.m == 0 || plan.m > plan.n || plan.n > 7 {
+        return Err(Fail::new("no such copies"));
     }
+    if plan.maximum < 8 || plan.maximum > 4_194_304 {
+        return Err(Fail::new("no such maximum"));
+    }
+    Ok(storage(alloc, plan, name, file)?)
 }
 
 /// Where the storage lies: from file 1024 on.
-fn shape_of(config: &StorageConfig) -> Result<Shape, Fail>
+pub(crate) fn shape_of(config: &StorageConfig) -> Result<Shape, Fail>
     requires storage { IsStorage (storage_data config.now) }
     requires of_files { config.now.kind ≡ kinds.Files }
     ensures configured { IfOk result (λ shape. IsConfigured (storage_data config.now) shape) }
@@ -121,10 +145,10 @@ fn shape_of(config: &StorageConfig) -> Result<Shape, Fail>
 }
 
 /// Where `cal` lies.
-fn shape_by(alloc: Global, copies: Copies) -> Result<Shape, Fail>
+pub(crate) fn shape_by(alloc: Global, plan: Plan) -> Result<Shape, Fail>
     ensures { IfOk result IsShape }
 {
-    shape_of(&config(alloc, copies)?)
+    shape_of(&config(alloc, plan)?)
 }
 
 /// Whether a storage of this kind takes the file.
@@ -138,7 +162,7 @@ fn is_file(kind: StoreKind, fresh: &Fresh) -> bool
 }
 
 /// The file alone, where the storage takes it.
-fn alone(alloc: Global, shape: &Shape, fresh: Fresh) -> Result<Vec<Fresh>, Fail>
+pub(crate) fn alone(alloc: Global, shape: &Shape, fresh: Fresh) -> Result<Vec<Fresh>, Fail>
     ensures { IfOk result (λ contents. AreContents shape.now contents.items) }
 {
     if !is_file(shape.kind, &fresh) {
@@ -176,11 +200,11 @@ fn contents(alloc: Global, shape: &Shape, name: Name, bytes: &[u8]) -> Result<Ve
 /// A disk with `cal`, where a file of this name was installed at moment 3 with these bytes.
 pub(crate) fn installed(
     alloc: Global,
-    copies: Copies,
+    plan: Plan,
     name: Name,
     bytes: &[u8],
 ) -> Result<MemDisk, Fail> {
-    let shape = shape_by(alloc, copies)?;
+    let shape = shape_by(alloc, plan)?;
     let contents = contents(alloc, &shape, name, bytes)?;
     let mut disk = MemDisk::new(alloc);
     create(alloc, &mut disk, shape, contents)?;
@@ -188,21 +212,17 @@ pub(crate) fn installed(
 }
 
 /// Opens `cal` on a disk where it lies.
-pub(crate) fn open<D: Disk>(
-    alloc: Global,
-    disk: &mut D,
-    copies: Copies,
-) -> Result<OpenedFiles, Fail>
+pub(crate) fn open<D: Disk>(alloc: Global, disk: &mut D, plan: Plan) -> Result<OpenedFiles, Fail>
     ensures { IfOk result (λ opened. IsUsed D.told (D.medium disk.new).image opened.files.store) }
 {
-    let config = config(alloc, copies)?;
+    let config = config(alloc, plan)?;
     let shape = shape_of(&config)?;
     Ok(open_files(alloc, disk, shape, &config)?)
 }
 
 /// The files of `cal` with `map` as it was installed at moment 3.
 pub(crate) fn first(alloc: Global) -> Result<Files, Fail> {
-    let mut disk = installed(alloc, Copies::One, map(alloc)?, INITIAL)?;
-    let opened = open(alloc, &mut disk, Copies::One)?;
+    let mut disk = installed(alloc, ONE, map(alloc)?, INITIAL)?;
+    let opened = open(alloc, &mut disk, ONE)?;
     Ok(opened.files)
 }

@@ -13,18 +13,18 @@ use Rattle.flash_disk.specs.Entries.{Occupies}
 use Rattle.flash_disk.specs.Learnt.{number, Adds}
 use Rattle.flash_disk.specs.FlashFiles.{flash_files}
 use Rattle.flash_disk.specs.Does.{Does}
-use Rattle.flash_disk.specs.PutPart.{PutPart}
+use Rattle.flash_disk.specs.PutPart.{PutPart, PutOrNot}
 use Rattle.flash_disk.specs.Standing.{StandsFor}
 use Rattle.flash_disk.specs.Sound.{files_of, Sound, IsSound, IsFresh, FitsIn, Enters, Pends, Holds, LeavesPut, ShowsSame, ShowsPage}
-use Rattle.flash_disk.proofs.Standing.{HasSameRecords, records_spare}
-use Rattle.flash_disk.proofs.Sparing.{number_block}
-use Rattle.flash_disk.proofs.Growing.{adds_byte, adds_put, adds_is_spare, grown_put}
+use Rattle.flash_disk.proofs.Standing.{HasSameRecords, records_agreed}
+use Rattle.flash_disk.proofs.Growing.{adds_byte, adds_put, adds_agreed, grown_put}
 use Rattle.flash_disk.proofs.Tearing.{IsTorn, nothing_there, torn_program, torn_is, torn_adds_there, torn_add, whole_add, whole_torn}
 use Rattle.flash_disk.proofs.Stretches.{does_nothing, does_then, does_weaken, program_does}
+use Rattle.flash_disk.proofs.Entering.{sound_usable, records_usable, adds_usable}
 
 -- nothing was put yet
 pub nothing_put : (m : FlashMedium) (s : LayerState) → IsSound m s → (file at len : ℕ) (bytes : List ℕ) → LeavesPut file at bytes len m m.state.pages
-nothing_put m s sound file at len bytes = record { put = inl refl; spare = (s.spare, sound.within, sound.is_spare) }
+nothing_put m s sound file at len bytes = record { put = inl refl; usable = sound_usable m.state.pages m.blocks s sound; agreed = λ all. all }
 
 -- no call was made
 pub puts_nothing : (told : Bool) (m : FlashMedium) → IsLawfulFlash told m → (s : LayerState) → IsSound m s → (file at len : ℕ) (bytes : List ℕ)
@@ -71,9 +71,6 @@ module _ (m now : FlashMedium) (s u : LayerState) (place : Place) (r : PageRecor
   apart : place.block ≢ s.spare
   apart = λ same. fresh.apart (sym block_is ∙ same)
 
-  number_apart : number place / 64 ≢ s.spare
-  number_apart = λ same. apart (sym (number_block place small) ∙ same)
-
   newer : (j : ℕ) (q : PageRecord) → j < n → record_at pages j ≡ Some q → q.sequence < r.sequence
   newer j q inside there = let le = sound.tops j q inside there in omega (arith, le, sequence)
 
@@ -99,6 +96,7 @@ module _ (m now : FlashMedium) (s u : LayerState) (place : Place) (r : PageRecor
     files = sound.files;
     measured = sound.measured;
     counted = sound.counted;
+    count = sound.count;
     memory = sound.memory;
     within = sound.within;
     is_spare = sound.is_spare;
@@ -188,14 +186,14 @@ module _ (m now : FlashMedium) (s u : LayerState) (place : Place) (r : PageRecor
   leaves : (left : Pages) → HasSameRecords pages left ⊎ Adds pages left n place r → Puts left
   leaves left grows = record {
     put = grown_put pages left m.blocks place r grows fits.no_shorter fits.grows full;
-    spare = (
-      s.spare,
-      sound.within,
-      ⊎_elim
-          (λ same. records_spare pages left same n s.spare sound.is_spare)
-          (λ added. adds_is_spare pages left n place r added s.spare sound.is_spare number_apart)
-          grows,
-    );
+    usable = ⊎_elim
+        (λ same. records_usable pages left m.blocks same (sound_usable pages m.blocks s sound))
+        (λ added. adds_usable pages left m.blocks s place r sound added fits.place apart)
+        grows;
+    agreed = λ all. ⊎_elim
+        (λ same. records_agreed pages left same n all)
+        (λ added. adds_agreed pages left n place r added all)
+        grows;
   }
 
   -- it was added, or nothing was
@@ -212,15 +210,27 @@ module _ (a b c : FlashMedium) (first : FlashElapses a b) (early : Does (StandsF
   same_files : files_of b ≡ files_of a
   same_files = ap (λ k. flash_files b.state.pages k) first.blocks ∙ early.now.files_are
 
-  -- a part is put after a stretch that changes no file
-  pub puts_then : FlashElapses b c → Does (LeavesPut file at bytes len b) b c → Does (LeavesPut file at bytes len a) a c
-  puts_then second late = does_then a b c (LeavesPut file at bytes len a) first second
-      (does_weaken a b (StandsFor a) (LeavesPut file at bytes len a) (λ pages stands. record { put = inl stands.files_are; spare = stands.spare }) early)
-      (subst (λ k. Does (LeavesPut file at bytes len (files_of a) k) b c) first.blocks (subst (λ f. Does (LeavesPut file at bytes len f b.blocks) b c) same_files late))
+  -- what is left of the part that is put after it
+  puts_since : (left : Pages) → LeavesPut file at bytes len b left → LeavesPut file at bytes len a left
+  puts_since left put_there =
+      let over = subst (λ k. LeavesPut file at bytes len (record b { blocks = k }) left) first.blocks put_there in record {
+        put = subst (λ f. PutOrNot file at bytes len f (flash_files left a.blocks)) early.now.files_are over.put;
+        usable = over.usable;
+        agreed = λ all. over.agreed (early.now.agreed all);
+      }
+
+  -- nothing is put in it
+  not_put : (left : Pages) → StandsFor a left → LeavesPut file at bytes len a left
+  not_put left stands = record { put = inl stands.files_are; usable = stands.usable; agreed = stands.agreed }
 
   -- such a stretch alone
   pub puts_not : Does (LeavesPut file at bytes len a) a b
-  puts_not = does_weaken a b (StandsFor a) (LeavesPut file at bytes len a) (λ pages stands. record { put = inl stands.files_are; spare = stands.spare }) early
+  puts_not = does_weaken a b (StandsFor a) (LeavesPut file at bytes len a) not_put early
+
+  -- a part is put after a stretch that changes no file
+  pub puts_then : FlashElapses b c → Does (LeavesPut file at bytes len b) b c → Does (LeavesPut file at bytes len a) a c
+  puts_then second late = does_then a b c (LeavesPut file at bytes len a) first second puts_not
+      (does_weaken b c (LeavesPut file at bytes len b) (LeavesPut file at bytes len a) puts_since late)
 
   pub put_since : PutPart file at bytes len (files_of b) (files_of c) → PutPart file at bytes len (files_of a) (files_of c)
   put_since put = subst (λ f. PutPart file at bytes len f (files_of c)) same_files put

@@ -1,5 +1,5 @@
 -- Room for the pages of a write, while its pages are written.
-use Rattle.std.proofs.Common.{rules, ◌≡◌, ℕ, zero, suc, ◌+◌, ◌<◌, ◌≤◌, ◌⊎◌, Bool, true, false, cond, refl, sym, ap, subst, ◌∙◌, inl, inr, ⊎_elim, arith, true≢false}
+use Rattle.std.proofs.Common.{◌≡◌, ℕ, zero, suc, ◌+◌, ◌<◌, ◌≤◌, ◌⊎◌, Bool, true, false, cond, refl, sym, ap, subst, ◌∙◌, inl, inr, ⊎_elim, arith, true≢false}
 use Rattle.std.specs.Prelude.{Option, Some, None, is_none, is_some}
 use Rattle.std.proofs.lemmas.Bool.{cases_lt}
 use Rattle.flash_disk.specs.declared.table.FilePage.{FilePage}
@@ -8,7 +8,7 @@ use Rattle.flash_disk.specs.declared.table.Table.{Table}
 use Rattle.flash_disk.specs.Known.{same_page, known, page_len}
 use Rattle.flash_disk.specs.Counted.{missing}
 use Rattle.flash_disk.specs.Learnt.{HasPlace}
-use Rattle.flash_disk.specs.Entries.{SameEntries, Occupies, Affords}
+use Rattle.flash_disk.specs.Entries.{Occupies, Affords}
 use Rattle.flash_disk.proofs.Learning.{same_page_is, same_page_refl}
 use Rattle.flash_disk.proofs.Entries.{occupies_known}
 
@@ -45,7 +45,7 @@ module _ (file from : ℕ) where
   at i = record { file = file; page = from + i }
 
   -- pages that have entries in both tables, or in neither
-  same_missing : (old new : Table) (n : ℕ) → ((i : ℕ) → i < n → is_some (known new (at i)) ≡ is_some (known old (at i)))
+  pub same_missing : (old new : Table) (n : ℕ) → ((i : ℕ) → i < n → is_some (known new (at i)) ≡ is_some (known old (at i)))
       → missing new file from n ≡ missing old file from n
   same_missing old new zero same = refl
   same_missing old new (suc n) same =
@@ -68,9 +68,6 @@ module _ (file from : ℕ) where
       (λ some. inl some)
       (λ none. (let one = one_lacks table n k within (none_of (known table (at k)) none) in inr (omega (arith, one, affords))))
       (some_or_none (known table (at k))))
-
-  affords_same : (old new : Table) (n : ℕ) → SameEntries old new → Affords old file from n → Affords new file from n
-  affords_same old new n same affords = search rules
 
   module _ (old new : Table) (k : ℕ) (more : Occupies old new (at k)) where
     -- the others have entries where they had
@@ -95,18 +92,29 @@ module _ (file from : ℕ) where
         omega (arith, rest, has, lacked)))
         (below_suc k n within)
 
-    occupies_here : (n : ℕ) → k < n → Affords old file from n → Affords new file from n
-    occupies_here n within affords = ⊎_elim
-        (λ some. affords_same old new n (occupies_known old new (at k) some more) affords)
+    occupies_here : (n : ℕ) → k < n → missing new file from n + page_len new ≡ missing old file from n + page_len old
+    occupies_here n within = ⊎_elim
+        (λ some.
+        (let same = occupies_known old new (at k) some more in
+        let misses = same_missing old new n (λ i below. same.has (at i)) in
+        let len = same.len in
+        omega (arith, misses, len)))
         (λ none.
         (let fewer = one_fewer none n within in
         let len : page_len new ≡ page_len old + 1 = more.len ∙ ap (λ b. page_len old + cond b 0 1) none in
-        let limit = more.limit in
-        omega (arith, fewer, len, limit, affords)))
+        omega (arith, fewer, len)))
         (some_or_none (known old (at k)))
 
-  -- and when one of them is written there is still room for all
+  -- when one of them is written, an entry more is a page less that has none
+  pub as_many : (old new : Table) (n k page : ℕ) → k < n → from + k ≡ page → Occupies old new (record { file = file; page = page })
+      → missing new file from n + page_len new ≡ missing old file from n + page_len old
+  as_many old new n k page within is more = occupies_here old new k
+      (subst (λ p. Occupies old new (record { file = file; page = p })) (sym is) more) n within
+
+  -- and there is still room for all
   pub affords_more : (old new : Table) (n k page : ℕ) → k < n → from + k ≡ page → Occupies old new (record { file = file; page = page })
       → Affords old file from n → Affords new file from n
-  affords_more old new n k page within is more = occupies_here old new k
-      (subst (λ p. Occupies old new (record { file = file; page = p })) (sym is) more) n within
+  affords_more old new n k page within is more affords =
+      let many = as_many old new n k page within is more in
+      let limit = more.limit in
+      omega (arith, many, limit, affords)

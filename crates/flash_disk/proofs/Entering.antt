@@ -1,6 +1,6 @@
 -- What is kept stays fit when a record comes to lie in the block that is being filled.
-use Rattle.std.proofs.Common.{◌≡◌, ◌⊎◌, ℕ, ◌+◌, ◌/◌, ◌<◌, ◌≤◌, List, Bool, true, false, cond, refl, sym, ap, subst, ◌∙◌, inl, inr, ⊎_elim, arith, true≢false, eq-eqb}
-use Rattle.std.specs.Prelude.{Option, Some, None, IsTrue, IsFalse, IsSome, max, is_some, vec_capacity}
+use Rattle.std.proofs.Common.{◌≡◌, ◌≢◌, ◌⊎◌, ℕ, ◌+◌, ◌/◌, ◌<◌, ◌≤◌, List, Bool, true, false, cond, refl, sym, ap, subst, ◌∙◌, inl, inr, ⊎_elim, arith, true≢false, eq-eqb}
+use Rattle.std.specs.Prelude.{Option, Some, None, IsTrue, IsFalse, IsSome, max, is_some, is_none, vec_capacity}
 use Rattle.std.specs.HashMap.{get, hash_map_len, spare}
 use Rattle.std.proofs.lemmas.Bool.{cases_eq, ne_eqb}
 use Rattle.std.proofs.lemmas.Option.{same_Some, none-some}
@@ -12,19 +12,20 @@ use Rattle.flash_disk.specs.declared.table.Place.{Place}
 use Rattle.flash_disk.specs.declared.table.Newest.{Newest}
 use Rattle.flash_disk.specs.declared.table.Table.{Table}
 use Rattle.flash_disk.specs.declared.layer.LayerState.{LayerState}
-use Rattle.flash_disk.specs.Newest.{Placed, record_at, newest, places}
-use Rattle.flash_disk.specs.Known.{same_page, page_of, known, page_len, limit_of, len_in, len_known, HasLenIn, HasLen, Puts, Lengthens, HasRoom}
+use Rattle.flash_disk.specs.Newest.{Placed, record_at, newest, places, page_count, IsUsable}
+use Rattle.flash_disk.specs.Known.{same_page, page_of, known, page_len, limit_of, len_in, len_known, HasLenIn, HasLen, Puts, Lengthens}
 use Rattle.flash_disk.specs.Counted.{IsCounted}
-use Rattle.flash_disk.specs.Learnt.{number, Led, LedOf, IsLed, Knows, Adds, HasPlace, Tops}
+use Rattle.flash_disk.specs.Learnt.{number, Led, LedOf, IsLed, Adds, HasPlace, Tops}
 use Rattle.flash_disk.specs.FlashFiles.{file_len, IsFileLen}
 use Rattle.flash_disk.specs.FlashFilesLaws.{file_len_is, one_len}
 use Rattle.flash_disk.specs.Sound.{Sound, IsSound, Enters, Pends, PendsAt, Holds}
-use Rattle.flash_disk.proofs.Standing.{HasSameRecords, records_known, records_tops, records_alike, records_spare, records_agreed, same_said_strayless}
+use Rattle.flash_disk.proofs.Standing.{HasSameRecords, records_known, records_tops, records_alike, records_spare, records_count, records_agreed, same_said_strayless}
 use Rattle.flash_disk.proofs.Tearing.{torn_same, torn_page}
-use Rattle.flash_disk.proofs.Sparing.{LiesElsewhere}
-use Rattle.flash_disk.proofs.Growing.{adds_agreed, adds_len, adds_other_len, adds_strayless, adds_spare}
+use Rattle.flash_disk.proofs.Sparing.{LiesElsewhere, number_block}
+use Rattle.flash_disk.proofs.Growing.{adds_agreed, adds_len, adds_other_len, adds_strayless, adds_spare, adds_is_spare}
 use Rattle.flash_disk.proofs.Programming.{IsItsEntry, added, same_led, either}
 use Rattle.flash_disk.proofs.Learning.{same_page_is, record_at_place}
+use Rattle.flash_disk.proofs.PageCount.{count_adds}
 
 -- an entry that leads to the newest record of a page
 by_entry : (pages : Pages) (n : ℕ) (o : Option Newest) (best : Option Placed) (x : Placed) → best ≡ Some x → LedOf pages n o best
@@ -44,6 +45,51 @@ has_place table key place full = ⊎_elim
     (λ some. true≢false (sym (subst IsSome full.0 some)))
     (λ room. (let none = full.1 in omega (arith, room, none)))
     place
+
+-- what is kept fits pages that can be opened
+pub sound_usable : (pages : Pages) (blocks : ℕ) (s : LayerState) → Sound pages blocks s → IsUsable pages blocks
+sound_usable pages blocks s sound = record {
+  fits = (let count = sound.count in let fits = sound.counted.fits in let limit = sound.limit in omega (arith, count, fits, limit));
+  block = s.spare;
+  within = sound.within;
+  spare = sound.is_spare;
+}
+
+-- the pages can still be opened where no record changed
+pub records_usable : (old new : Pages) (blocks : ℕ) → HasSameRecords old new → IsUsable old blocks → IsUsable new blocks
+records_usable old new blocks same usable = record {
+  fits = (let count = records_count old new same (places blocks) in let fits = usable.fits in omega (arith, count, fits));
+  block = usable.block;
+  within = usable.within;
+  spare = records_spare old new same (places blocks) usable.block usable.spare;
+}
+
+-- a page comes with its first record, as its entry does
+one_comes : (pages : Pages) (n : ℕ) (o : Option Newest) (best : Option Placed) → LedOf pages n o best → ◌≡◌ {A = ℕ} (cond (is_none best) 1 0) (cond (is_some o) 0 1)
+one_comes pages n None None led = refl
+one_comes pages n None (Some x) led = absurd led
+one_comes pages n (Some e) None led = absurd led
+one_comes pages n (Some e) (Some x) led = refl
+
+one_more_fits : (len limit : ℕ) (o : Option Newest) → len ≤ limit → IsSome o ⊎ (len < limit) → len + cond (is_some o) 0 1 ≤ limit
+one_more_fits len limit None fits place = ⊎_elim (λ some. absurd (true≢false (sym some))) (λ room. (let e : len + 1 ≤ limit = omega (arith, room) in e)) place
+one_more_fits len limit (Some e) fits place = let e : len + 0 ≤ limit = omega (arith, fits) in e
+
+-- and where a record came for which there was a place
+pub adds_usable : (old new : Pages) (blocks : ℕ) (s : LayerState) (place : Place) (r : PageRecord) → Sound old blocks s → Adds old new (places blocks) place r
+    → HasPlace s.table (page_of r) → place.block ≢ s.spare → IsUsable new blocks
+adds_usable old new blocks s place r sound adds has apart =
+    let n = places blocks in
+    let o = known s.table (page_of r) in record {
+      fits = (let count = sound.count in let limit = sound.limit in
+          let grown = count_adds old new n place r adds in
+          let comes = one_comes old n o (newest old r.file r.page n) (sound.knows.led.says (page_of r)) in
+          let fits = one_more_fits (page_len s.table) (limit_of s.table) o sound.counted.fits has in
+          omega (arith, count, limit, grown, comes, fits));
+      block = s.spare;
+      within = sound.within;
+      spare = adds_is_spare old new n place r adds s.spare sound.is_spare (λ same. apart (sym (number_block place adds.small) ∙ same));
+    }
 
 -- each newest record lies outside the spare block, or an equal one does
 pub lies_elsewhere : (pages : Pages) (blocks : ℕ) (s : LayerState) → Sound pages blocks s → IsFalse s.disputed → LiesElsewhere pages (places blocks) s.spare
@@ -69,6 +115,7 @@ as_said pages blocks s t sound more = record {
   files = sound.files;
   measured = sound.measured;
   counted = sound.counted;
+  count = sound.count;
   memory = (let memory = sound.memory in omega (arith, memory, more));
   within = sound.within;
   is_spare = sound.is_spare;
@@ -89,6 +136,7 @@ same_sound old new blocks s sound calm same blank = record {
   files = sound.files;
   measured = sound.measured;
   counted = sound.counted;
+  count = sound.count ∙ sym (records_count old new same (places blocks));
   memory = sound.memory;
   within = sound.within;
   is_spare = records_spare old new same (places blocks) s.spare sound.is_spare;
@@ -254,6 +302,14 @@ module _ (old new : Pages) (blocks : ℕ) (s : LayerState) (place : Place) (r : 
   abbrev block_is : number place / 64 ≡ place.block
   block_is = let small = enters.adds.small in omega (arith, small)
 
+  count_now : page_len after ≡ page_count new n
+  count_now =
+      let before = sound.count in
+      let grown = count_adds old new n place r enters.adds in
+      let comes = one_comes old n (known s.table key) (newest old r.file r.page n) (sound.knows.led.says key) in
+      let len = puts.len in
+      omega (arith, before, grown, comes, len, same_len)
+
   tops_now : Tops new n s.sequence
   tops_now = λ j q inside there. ⊎_elim
       (λ own. (let numbered = enters.numbered in let same : q.sequence ≡ r.sequence = ap (λ z. z.sequence) own.1 in omega (arith, numbered, same)))
@@ -276,6 +332,7 @@ module _ (old new : Pages) (blocks : ℕ) (s : LayerState) (place : Place) (r : 
         (entry_now k f found);
     counted = counted sound.counted
         (let within = enters.adds.within in let small = enters.adds.small in let same : e.place.block ≡ place.block = ap (λ p. p.block) is.0 in omega (arith, within, small, same));
+    count = count_now;
     memory = sound.memory;
     within = sound.within;
     is_spare = adds_spare old new n place r enters.adds s.spare (lies_elsewhere old blocks s sound agreed) (λ same. enters.apart (sym block_is ∙ same));

@@ -1,7 +1,6 @@
--- Why a write fails though the flash does not.
+-- Why a write fails though the flash does not, and what holds where it does not fail.
 use Rattle.std.proofs.Common.{◌≡◌, ◌⊎◌, ℕ, ◌+◌, ◌-◌, ◌/◌, ◌≤◌, sym, subst, ◌∙◌, inl, inr, ⊎_elim, arith}
-use Rattle.std.specs.Prelude.{◌<◌}
-use Rattle.std.specs.HashMap.{IsUnique}
+use Rattle.std.specs.Prelude.{◌<◌, IsFalse}
 use Rattle.std.specs.Int.{div_ceil}
 use Rattle.flash_model.specs.Pages.{Pages}
 use Rattle.flash_model.specs.State.{FlashState}
@@ -10,22 +9,51 @@ use Rattle.flash_disk.specs.declared.layer.LayerState.{LayerState}
 use Rattle.flash_disk.specs.Newest.{places, page_count, page_limit}
 use Rattle.flash_disk.specs.Standing.{HasRivals}
 use Rattle.flash_disk.specs.Sound.{IsSound}
-use Rattle.flash_disk.specs.Known.{same_page, page_len, limit_of}
+use Rattle.flash_disk.specs.Known.{page_len, limit_of}
 use Rattle.flash_disk.specs.Counted.{missing}
-use Rattle.flash_disk.specs.OwnFaults.{lacking, EndsTooLate, WantsTooMany, StopsAdding, FailsAlone}
-use Rattle.flash_disk.proofs.PageCount.{page_len_is, missing_is}
+use Rattle.flash_disk.specs.OwnFaults.{lacking, EndsTooLate, WantsTooMany, IsAllowed, TakesPages, StopsAdding, FailsAlone}
+use Rattle.flash_disk.specs.Entries.{SameEntries}
+use Rattle.flash_disk.proofs.PageCount.{missing_is}
+use Rattle.flash_disk.proofs.Affording.{same_missing}
 
 -- the write wants more pages than there is room for
-pub wants_too_many : (m : FlashMedium) (s : LayerState) (file at n end : ℕ) → IsSound m s → IsUnique same_page s.table.newest → end ≡ at + n
+pub wants_too_many : (m : FlashMedium) (s : LayerState) (file at n end : ℕ) → IsSound m s → end ≡ at + n
     → (missing s.table file (at / 256) (div_ceil end 256 - at / 256) ≤ limit_of s.table - page_len s.table → ⊥) → WantsTooMany m file at n
-wants_too_many m s file at n end sound unique is full =
+wants_too_many m s file at n end sound is full =
     let range = div_ceil end 256 - at / 256 in
     let limit = sound.limit in
-    let known_pages = page_len_is m.state.pages (places m.blocks) s.table sound.knows.led unique in
+    let known_pages = sound.count in
     let misses = missing_is m.state.pages (places m.blocks) s.table sound.knows.led file (at / 256) range in
     let many : limit_of s.table - page_len s.table < missing s.table file (at / 256) range = omega (arith, full) in
     subst (λ e. page_limit m.blocks < page_count m.state.pages (places m.blocks) + lacking m.state.pages (places m.blocks) file (at / 256) (div_ceil e 256 - at / 256)) is
     (omega (arith, limit, known_pages, misses, many))
+
+-- a write for which there was room, into pages that agree
+pub allowed : (m : FlashMedium) (s : LayerState) (file at n end : ℕ) → IsSound m s → end ≡ at + n → end ≤ 1099511627776
+    → missing s.table file (at / 256) (div_ceil end 256 - at / 256) ≤ limit_of s.table - page_len s.table → IsFalse s.disputed → IsAllowed m file at n
+allowed m s file at n end sound is late room calm =
+    let range = div_ceil end 256 - at / 256 in
+    let limit = sound.limit in
+    let few = sound.counted.fits in
+    let known_pages = sound.count in
+    let misses = missing_is m.state.pages (places m.blocks) s.table sound.knows.led file (at / 256) range in record {
+      ends = omega (arith, late, is);
+      fits = subst (λ e. page_count m.state.pages (places m.blocks) + lacking m.state.pages (places m.blocks) file (at / 256) (div_ceil e 256 - at / 256) ≤ page_limit m.blocks) is
+          (omega (arith, limit, few, known_pages, misses, room));
+      agreed = sound.agreed calm;
+    }
+
+-- the pages that it takes are those that it lacked: a has the table s, whose entries are those of u when its pages are written
+pub takes_pages : (a d : FlashMedium) (s u t : LayerState) (file at n : ℕ) → IsSound a s → IsSound d t → SameEntries s.table u.table
+    → page_len t.table ≤ page_len u.table + missing u.table file (at / 256) (div_ceil (at + n) 256 - at / 256) → TakesPages a d file at n
+takes_pages a d s u t file at n before after same takes =
+    let range = div_ceil (at + n) 256 - at / 256 in
+    let first = before.count in
+    let last = after.count in
+    let len = same.len in
+    let seen = same_missing file (at / 256) s.table u.table range (λ i below. same.has (record { file = file; page = at / 256 + i })) in
+    let misses = missing_is a.state.pages (places a.blocks) s.table before.knows.led file (at / 256) range in
+    omega (arith, first, last, len, seen, misses, takes)
 
 -- why a write fails, said of these pages
 abbrev Fails : Pages → (blocks : ℕ) → LayerState → (file at n : ℕ) → Type 0

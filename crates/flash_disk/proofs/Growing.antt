@@ -1,5 +1,5 @@
 -- What a record that was added makes of the files: its page has its bytes, and its file the length that it says.
-use Rattle.std.proofs.Common.{◌≡◌, ◌≢◌, ◌⊎◌, ℕ, ◌+◌, ◌-◌, ◌*◌, ◌/◌, ◌%◌, ◌<◌, ◌≤◌, map, max, length, get_or, true, false, cond, refl, sym, ap, subst, ◌∙◌, inl, inr, ⊎_elim, arith, true≢false, eq-eqb}
+use Rattle.std.proofs.Common.{◌≡◌, ◌≢◌, ◌⊎◌, ℕ, ◌+◌, ◌-◌, ◌*◌, ◌/◌, ◌%◌, ◌<◌, ◌≤◌, map, length, get_or, true, false, cond, refl, sym, ap, subst, ◌∙◌, inl, inr, ⊎_elim, arith, true≢false, eq-eqb}
 use Rattle.std.specs.Prelude.{Some, nat_eq, nat_le, nat_lt, ◌&&◌}
 use Rattle.std.specs.List.{range_with_len}
 use Rattle.std.proofs.Math.Path.{fun_ext}
@@ -9,10 +9,8 @@ use Rattle.std.proofs.lemmas.List.{get_or_past}
 use Rattle.flash_model.specs.Pages.{Pages}
 use Rattle.flash_record.specs.PageRecord.{PageRecord}
 use Rattle.flash_disk.specs.declared.table.Place.{Place}
-use Rattle.flash_disk.specs.declared.table.Table.{Table}
-use Rattle.flash_disk.specs.Known.{len_known, Lengthens}
 use Rattle.flash_disk.specs.Newest.{is_of, newest, places, IsSpare}
-use Rattle.flash_disk.specs.FlashFiles.{byte_in, file_byte, file_len, flash_files, IsFileLen}
+use Rattle.flash_disk.specs.FlashFiles.{byte_in, file_byte, file_len, flash_files}
 use Rattle.flash_disk.specs.FlashFilesLaws.{file_len_is, one_len, length-flash_files, byte-flash_files}
 use Rattle.flash_disk.specs.Learnt.{number, Adds}
 use Rattle.flash_disk.specs.Standing.{IsAgreed, IsStrayless, MayGrow}
@@ -141,21 +139,6 @@ module _ (old new : Pages) (n : ℕ) (place : Place) (r : PageRecord) (adds : Ad
   -- that block is spare
   pub adds_spare : (block : ℕ) → LiesElsewhere old n block → number place / 64 ≢ block → IsSpare new n block
   adds_spare block elsewhere apart = spare_of new n block (adds_elsewhere block elsewhere apart)
-
-  -- a table that is told of its length knows how long each file is
-  pub adds_lens : file_len old n r.file ≤ r.len → (table after : Table) → ((file : ℕ) → IsFileLen old n file (len_known table file))
-      → Lengthens table after r.file r.len → (file : ℕ) → IsFileLen new n file (len_known after file)
-  adds_lens no_shorter table after lens lengthens file = let was = one_len old n file (len_known table file) (lens file) in
-      subst (IsFileLen new n file) (⊎_elim
-      (λ own. (let now : len_known after file ≡ max (len_known table file) r.len =
-      lengthens file ∙ ap (λ b. cond b (max (len_known table file) r.len) (len_known table file)) (eq-eqb file r.file own) in
-      let le : file_len old n file ≤ r.len = subst (λ f. file_len old n f ≤ r.len) (sym own) no_shorter in
-      let long : file_len new n file ≡ r.len = subst (λ f. file_len new n f ≡ r.len) (sym own) (adds_len no_shorter) in
-      let e : file_len new n file ≡ len_known after file = omega (arith, now, le, long, was) in e))
-      (λ other. (let now : len_known after file ≡ len_known table file =
-      lengthens file ∙ ap (λ b. cond b (max (len_known table file) r.len) (len_known table file)) (ne_eqb file r.file other) in
-      adds_other_len file other ∙ (sym was ∙ sym now)))
-      (cases_eq file r.file)) (file_len_is new n file)
 
   -- a spare block in which it does not lie is still spare
   pub adds_is_spare : (block : ℕ) → IsSpare old n block → number place / 64 ≢ block → IsSpare new n block

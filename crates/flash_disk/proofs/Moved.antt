@@ -17,7 +17,7 @@ use Rattle.flash_disk.specs.FlashFiles.{IsFileLen}
 use Rattle.flash_disk.specs.Known.{same_page, known, page_len, limit_of, len_in, HasLenIn, HasRoom, PutsAll}
 use Rattle.flash_disk.specs.Counted.{IsInside, IsCounted}
 use Rattle.flash_disk.specs.Entries.{SameEntries}
-use Rattle.flash_disk.specs.Learnt.{number, Led, LedOf, IsLed, HasPlace}
+use Rattle.flash_disk.specs.Learnt.{number, LedOf, IsLed, HasPlace}
 use Rattle.flash_disk.specs.Sound.{Sound, LeavesOut}
 use Rattle.flash_disk.specs.Moving.{IsMoved, HasKey, IsMoving}
 use Rattle.flash_disk.proofs.Learning.{same_page_is}
@@ -182,6 +182,7 @@ module _ (m : FlashMedium) (s : LayerState) (from to : ℕ) (moving : IsMoving m
       files = (let files = moving.sound.files in let same = ap (λ l. spare l) lens in omega (arith, files, same, len, limit));
       measured = λ k v now. let was = was_known k v now (known s.table k) refl in subst (λ l. HasLenIn l k.file) (sym lens) (moving.sound.measured k was.0 was.1);
       counted = counted moving.sound.counted (inside moving.sound.counted);
+      count = len ∙ moving.sound.count;
       memory = moving.sound.memory;
       within = moving.within;
       is_spare = spare_of pages n from (led_elsewhere pages n table led_now from leaves);

@@ -14,19 +14,20 @@ use Rattle.flash_disk.specs.declared.table.Newest.{Newest}
 use Rattle.flash_disk.specs.declared.table.Table.{Table}
 use Rattle.flash_disk.specs.declared.layer.LayerState.{LayerState}
 use Rattle.flash_disk.specs.Newest.{Placed, record_at, newest, places}
-use Rattle.flash_disk.specs.FlashFiles.{file_byte, flash_files}
+use Rattle.flash_disk.specs.FlashFiles.{file_byte}
 use Rattle.flash_disk.specs.Known.{same_page, page_of, known}
 use Rattle.flash_disk.specs.Learnt.{number, Led, LedOf, IsLed, HasPlace}
 use Rattle.flash_disk.specs.Does.{Does}
 use Rattle.flash_disk.specs.Standing.{Keeps, StandsFor}
-use Rattle.flash_disk.specs.Sound.{files_of, Sound, IsSound, FitsIn, Fits, ShowsSame}
+use Rattle.flash_disk.specs.Sound.{Sound, IsSound, FitsIn, Fits, ShowsSame}
 use Rattle.flash_disk.specs.Moving.{IsMoved, HasKey, IsMoving}
 use Rattle.flash_disk.proofs.Learning.{record_at_place, same_page_refl}
 use Rattle.flash_disk.proofs.Standing.{is_newest_of, keeps_agreed, keeps_strayless, keeps_tops, keeps_known, keeps_files, keeps_refl, keeps_then, keeps_byte, keeps_len, keeps_may_grow}
 use Rattle.flash_disk.proofs.Sparing.{led_elsewhere, spare_of}
 use Rattle.flash_disk.proofs.Tearing.{torn_elsewhere, torn_copy, whole_copy, whole_torn, whole_here, LosesIn, torn_erase, whole_erase, erase_keeps}
-use Rattle.flash_disk.proofs.Stretches.{does_then, does_nothing, program_does, erase_does}
-use Rattle.flash_disk.proofs.Entering.{as_said, lies_elsewhere}
+use Rattle.flash_disk.proofs.Stretches.{does_then, does_weaken, does_nothing, program_does, erase_does}
+use Rattle.flash_disk.proofs.Entering.{as_said, sound_usable, lies_elsewhere}
+use Rattle.flash_disk.proofs.PageCount.{count_keeps}
 
 -- the newest record of a page to which an entry leads
 by_best : (pages : Pages) (n : ℕ) (key : FilePage) (e : Newest) (best : Option Placed) → newest pages key.file key.page n ≡ best → LedOf pages n (Some e) best
@@ -61,6 +62,7 @@ kept_sound old new blocks s sound agreed full keeps there =
       files = sound.files;
       measured = sound.measured;
       counted = sound.counted;
+      count = sound.count ∙ sym (count_keeps old new n keeps);
       memory = sound.memory;
       within = sound.within;
       is_spare = spare_of new n s.spare (led_elsewhere new n s.table knows.led s.spare (sound.apart agreed));
@@ -75,19 +77,27 @@ pub kept_stands : (m : FlashMedium) (new : Pages) (s : LayerState) → IsSound m
     → StandsFor m new
 kept_stands m new s sound agreed keeps now = record {
   files_are = keeps_files m.state.pages new m.blocks (sound.agreed agreed) keeps;
-  spare = (s.spare, now.within, now.is_spare);
+  usable = sound_usable new m.blocks s now;
+  agreed = λ all. keeps_agreed m.state.pages new (places m.blocks) all keeps;
 }
 
 pub stands_now : (m : FlashMedium) (s : LayerState) → IsSound m s → StandsFor m m.state.pages
-stands_now m s sound = record { files_are = refl; spare = (s.spare, sound.within, sound.is_spare) }
+stands_now m s sound = record { files_are = refl; usable = sound_usable m.state.pages m.blocks s sound; agreed = λ all. all }
+
+-- what the pages stand for since a flash they stand for since the one before it
+stands_since : (a b : FlashMedium) → b.blocks ≡ a.blocks → StandsFor a b.state.pages → (pages : Pages) → StandsFor b pages → StandsFor a pages
+stands_since a b blocks mid pages stands =
+    let over = subst (λ k. StandsFor (record b { blocks = k }) pages) blocks stands in record {
+      files_are = over.files_are ∙ mid.files_are;
+      usable = over.usable;
+      agreed = λ all. over.agreed (mid.agreed all);
+    }
 
 -- one stretch after the other
 pub stands_then : (a b c : FlashMedium) → FlashElapses a b → FlashElapses b c → Does (StandsFor a) a b
     → Does (StandsFor b) b c → Does (StandsFor a) a c
 stands_then a b c first second early late =
-    let same : files_of b ≡ files_of a = ap (λ k. flash_files b.state.pages k) first.blocks ∙ early.now.files_are in
-    does_then a b c (StandsFor a) first second early
-    (subst (λ k. Does (StandsFor (files_of a) k) b c) first.blocks (subst (λ f. Does (StandsFor f b.blocks) b c) same late))
+    does_then a b c (StandsFor a) first second early (does_weaken b c (StandsFor b) (StandsFor a) (stands_since a b first.blocks early.now) late)
 
 -- ---- the spare block is erased
 

@@ -7,17 +7,17 @@ use Rattle.flash_disk.specs.declared.table.FilePage.{FilePage}
 use Rattle.flash_disk.specs.declared.table.Newest.{Newest}
 use Rattle.flash_disk.specs.declared.table.Table.{Table}
 use Rattle.flash_disk.specs.declared.layer.LayerState.{LayerState}
-use Rattle.flash_disk.specs.Newest.{places, page_limit, IsSpare, IsUsable}
+use Rattle.flash_disk.specs.Newest.{places, page_count, page_limit, IsSpare, IsUsable}
 use Rattle.flash_disk.specs.Known.{same_page, known, page_len, limit_of, len_known, HasLen, EndsBy, IsLongest}
 use Rattle.flash_disk.specs.Counted.{IsCounted}
 use Rattle.flash_disk.specs.Learnt.{IsLed, IsLeaving, Knows, Tops}
 use Rattle.flash_disk.specs.Sound.{Sound, PendsAt, Holds}
-use Rattle.flash_disk.specs.Standing.{HasSpare}
-use Rattle.flash_disk.specs.Throughout.{KeepsUsable}
+use Rattle.flash_disk.specs.Standing.{IsAgreed}
+use Rattle.flash_disk.specs.Throughout.{KeepsUsable, KeepsAgreed}
 use Rattle.flash_disk.specs.Looks.{Opens}
 use Rattle.flash_disk.specs.FlashFilesLaws.{one_len}
 use Rattle.disk_model.specs.Medium.{Quiet}
-use Rattle.flash_model.specs.State.{FlashState, settle_pages}
+use Rattle.flash_model.specs.State.{FlashState, FlashCase, settle_pages}
 use Rattle.flash_model.specs.FlashMedium.{FlashMedium}
 use Rattle.flash_disk.specs.FlashFiles.{flash_files}
 use Rattle.flash_disk.specs.FlashDiskMedium.{put_announced, files_told, flash_disk_medium}
@@ -55,8 +55,8 @@ module _ (pages : Pages) (blocks : ℕ) (s : LayerState) (left : Table) (leaving
   before key e is = ap (λ m. get same_page m key) (sym measures.records) ∙ is
 
   pub opened : s.spare < blocks → IsSpare pages (places blocks) s.spare → Tops pages (places blocks) s.sequence → IsCounted blocks s.table → 64 ≤ vec_capacity s.moved
-      → Sound pages blocks s
-  opened within is_spare tops counted memory = record {
+      → page_len left ≡ page_count pages (places blocks) → Sound pages blocks s
+  opened within is_spare tops counted memory count = record {
     knows = knows;
     tops = tops;
     strays = strayless_at_last pages (places blocks) s.spare left leaving (len_known s.table)
@@ -67,6 +67,7 @@ module _ (pages : Pages) (blocks : ℕ) (s : LayerState) (left : Table) (leaving
         let more = measures.spare in let is = measures.limit in omega (arith, same, more, is, room));
     measured = λ key e is. measures.measured (let fits = led.fits in omega (arith, fits, room)) key e (before key e is);
     counted = counted;
+    count = ap (λ m. hash_map_len m) measures.records ∙ count;
     memory = memory;
     within = within;
     is_spare = is_spare;
@@ -84,16 +85,25 @@ holds_all m s pages sound same sure = record {
   pends = subst (PendsAt pages m.state.pages m.blocks s) (sym sure) same;
 }
 
--- a usable flash has a spare block when it was opened and at every moment of the opening
-pub opens_spare : (told : Bool) (old new : FlashMedium) → IsTrue told → IsUsable old.state.pages old.blocks → new.state.pages ≡ old.state.pages
-    → new.blocks ≡ old.blocks → Opens told old new → KeepsUsable old new
-opens_spare told old new t usable pages blocks opens =
-    let spare : HasSpare old.state.pages new.blocks = subst (HasSpare old.state.pages) (sym blocks) (usable.block, usable.within, usable.spare) in
-    record {
-      now = subst (λ p. HasSpare p new.blocks) (sym pages) spare;
-      during = λ c past plain. subst (λ p. HasSpare p new.blocks)
-          (sym (⊎_elim (λ still. still.left) (λ settled. settled.left) (opens.during t c past))) spare;
-    }
+-- the opening changes no page, and leaves what there was at every moment of it
+module _ (told : Bool) (old new : FlashMedium) (t : IsTrue told) (pages : new.state.pages ≡ old.state.pages) (opens : Opens told old new) where
+  left_same : (c : FlashCase) → new.since old.moment c → c.left ≡ old.state.pages
+  left_same c past = ⊎_elim (λ still. still.left) (λ settled. settled.left) (opens.during t c past)
+
+  -- so a usable flash stays usable
+  pub opens_usable : IsUsable old.state.pages old.blocks → new.blocks ≡ old.blocks → KeepsUsable old new
+  opens_usable usable blocks = record {
+    blocks = blocks;
+    now = subst (λ p. IsUsable p old.blocks) (sym pages) usable;
+    during = λ c past plain. subst (λ p. IsUsable p old.blocks) (sym (left_same c past)) usable;
+  }
+
+  -- and no rivals come
+  pub opens_agreed : KeepsAgreed old new
+  opens_agreed = record {
+    now = λ agreed. subst (λ p. IsAgreed p (places old.blocks)) (sym pages) agreed;
+    during = λ c past plain agreed. subst (λ p. IsAgreed p (places old.blocks)) (sym (left_same c past)) agreed;
+  }
 
 -- a flash that was settled makes a disk on which nothing is pending
 pub settled_is_quiet : (told : Bool) (m : FlashMedium) (own written : ℕ) (s : FlashState) → (IsTrue told → m.state ≡ settle_pages s)

@@ -1,21 +1,20 @@
 -- What a newer record makes of the newest records, once it is programmed where no record was.
-use Rattle.std.proofs.Common.{◌≡◌, ◌⊎◌, ℕ, ◌+◌, ◌*◌, ◌/◌, ◌%◌, ◌<◌, ◌≤◌, List, Bool, true, false, cond, refl, sym, ap, subst, ◌∙◌, inl, inr, ⊎_elim, arith, true≢false, eq-eqb}
-use Rattle.std.specs.Prelude.{Option, Some, None, nat_eq, ◌&&◌, slice_index}
-use Rattle.std.proofs.lemmas.Bool.{cases_lt, cases_eq, eqb-true}
+use Rattle.std.proofs.Common.{◌≡◌, ◌⊎◌, ℕ, ◌<◌, ◌≤◌, Bool, true, false, cond, refl, sym, ap, subst, ◌∙◌, inl, inr, ⊎_elim, arith, true≢false, eq-eqb}
+use Rattle.std.specs.Prelude.{Option, Some, None, slice_index}
+use Rattle.std.proofs.lemmas.Bool.{cases_lt, cases_eq}
 use Rattle.std.proofs.lemmas.Option.{same_Some, none-some}
 use Rattle.flash_model.specs.Pages.{Pages}
-use Rattle.flash_record.specs.PageRecord.{PageRecord, record_in}
-use Rattle.flash_disk.specs.Newest.{Placed, record_at, is_of, newest, places, IsNewest, IsNewestOf}
+use Rattle.flash_record.specs.PageRecord.{PageRecord}
+use Rattle.flash_disk.specs.Newest.{Placed, record_at, is_of, newest, IsNewest, IsNewestOf}
 use Rattle.flash_disk.specs.NewestLaws.{newest_is}
 use Rattle.flash_disk.specs.declared.table.FilePage.{FilePage}
 use Rattle.flash_disk.specs.declared.table.Place.{Place}
 use Rattle.flash_disk.specs.declared.table.Newest.{Newest}
 use Rattle.flash_disk.specs.declared.table.Table.{Table}
 use Rattle.flash_disk.specs.Known.{same_page, page_of, known, limit_of, Puts}
-use Rattle.flash_disk.specs.Learnt.{number, Led, LedOf, IsLed, Adds, Tops, ProgramsIf, HasWritten}
+use Rattle.flash_disk.specs.Learnt.{number, Led, LedOf, IsLed, Adds}
 use Rattle.flash_disk.proofs.Learning.{same_page_is}
 use Rattle.flash_disk.proofs.Leading.{same_newest}
-use Rattle.flash_record.specs.Blank.{blank_is_none}
 
 module _ (pages : Pages) (file page n : ℕ) where
   same_place : (x y : Placed) → IsNewest pages file page n x → IsNewest pages file page n y → x.place < y.place → ⊥
@@ -38,11 +37,6 @@ module _ (pages : Pages) (file page n : ℕ) where
   one_newest None (Some y) is_a is_b = absurd (is_a y.place y.says is_b.within is_b.there is_b.of_page)
   one_newest (Some x) None is_a is_b = absurd (is_b x.place x.says is_a.within is_a.there is_a.of_page)
   one_newest (Some x) (Some y) is_a is_b = ap Some (same_placed x y is_a is_b)
-
-both_false : (a b : Bool) → (a ≡ true → b ≡ true → ⊥) → (a && b) ≡ false
-both_false true true never = absurd (never refl refl)
-both_false true false never = refl
-both_false false b never = refl
 
 module _ (old new : Pages) (n : ℕ) (place : Place) (r : PageRecord) (adds : Adds old new n place r) where
   abbrev pub placed : Placed
@@ -151,41 +145,3 @@ module _ (old new : Pages) (n : ℕ) (place : Place) (r : PageRecord) (adds : Ad
   -- the lengths of files matter to no entry
   pub same_led : (table after : Table) → after.newest ≡ table.newest → limit_of after ≡ limit_of table → IsLed new n table → IsLed new n after
   same_led table after same limit led = same_newest new n table after led same limit
-
-  -- no record has a greater number than it
-  pub tops_after : Tops new n r.sequence
-  tops_after = λ j q inside there. ⊎_elim
-      (λ own. (let e : q.sequence ≡ r.sequence = ap (λ z. z.sequence) own.1 in omega (arith, e)))
-      (λ was. (let less = adds.newer j q inside was in omega (arith, less)))
-      (either j q there)
-
--- a record that is programmed over a blank page, with a number above all, is added
-pub adds_by : (old new : Pages) (blocks : ℕ) (place : Place) (bytes : List ℕ) (r : PageRecord) (top : ℕ) → ProgramsIf true place blocks bytes old new
-    → record_in bytes ≡ Some r → Tops old (places blocks) top → r.sequence ≡ top + 1 → Adds old new (places blocks) place r
-adds_by old new blocks place bytes r top (block, small, blank, done) is tops sequence =
-    let b : number place / 64 ≡ place.block = omega (arith, small) in
-    let p : number place % 64 ≡ place.page = omega (arith, small) in
-    let was : record_at old (number place) ≡ None = rw (b, p) (ap record_in blank ∙ blank_is_none) in
-    let own : (nat_eq (number place / 64) place.block && nat_eq (number place % 64) place.page) ≡ true =
-    rw (eq-eqb (number place / 64) place.block b, eq-eqb (number place % 64) place.page p) refl in record {
-      small = small;
-      within = omega (arith, small, block);
-      nothing = was;
-      here = ap (λ f. record_at f (number place)) done
-          ∙ (ap (λ t. record_in (cond t bytes (old (number place / 64) (number place % 64)))) own ∙ is);
-      elsewhere = λ j apart. ap (λ f. record_at f j) done ∙ ap (λ t. record_in (cond t bytes (old (j / 64) (j % 64))))
-          (both_false (nat_eq (j / 64) place.block) (nat_eq (j % 64) place.page)
-          (λ x y. apart (let u : j / 64 ≡ place.block = eqb-true (j / 64) place.block x in let v : j % 64 ≡ place.page = eqb-true (j % 64) place.page y in
-          let e : j ≡ 64 * place.block + place.page = omega (arith, u, v) in e)));
-      newer = λ j q inside there. (let le = tops j q inside there in omega (arith, le, sequence));
-    }
-
--- what a call that adds a record leaves
-pub written_by : (old new : Pages) (n : ℕ) (place : Place) (r : PageRecord) → Adds old new n place r → (table : Table) (top : ℕ) → IsLed new n table → top ≡ r.sequence
-    → HasWritten old new n (page_of r) r.len r.bytes table top
-written_by old new n place r adds table top led top_is = record {
-  led = led;
-  tops = subst (Tops new n) (sym top_is) (tops_after old new n place r adds);
-  record_is = (placed old new n place r adds, newest_here old new n place r adds, refl, refl);
-  elsewhere = λ file page other. newest_elsewhere old new n place r adds file page other;
-}

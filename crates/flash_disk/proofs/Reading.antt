@@ -4,7 +4,7 @@ use Rattle.std.specs.Prelude.{Option, Some, None, nat_lt}
 use Rattle.std.proofs.lemmas.Bool.{cases_lt, lt-ltb, le-ltb}
 use Rattle.std.proofs.lemmas.List.{ext_get_or, length-append, length-drop, length-take-le, length-replicate, get_or_append_left, get_or-take, get_or-drop, get_or-replicate, get_or_past}
 use Rattle.flash_model.specs.Pages.{Pages}
-use Rattle.flash_record.specs.PageRecord.{PageRecord, record_in}
+use Rattle.flash_record.specs.PageRecord.{record_in}
 use Rattle.flash_disk.specs.declared.table.FilePage.{FilePage}
 use Rattle.flash_disk.specs.declared.table.Newest.{Newest}
 use Rattle.flash_disk.specs.declared.table.Table.{Table}
@@ -110,11 +110,6 @@ zero_bytes j = ⊎_elim
     (cases_lt j 256)
 
 -- a page was cut at a place in it
-pub cut_none : (r : Option PageRecord) → r ≡ None → (content : List ℕ) → ((j : ℕ) → get_or content j 0 ≡ 0) → (within j : ℕ)
-    → get_or content j 0 ≡ cond (nat_lt j within) (record_byte r j) 0
-cut_none r none content zero_is within j =
-    zero_is j ∙ (sym (same_zeros (nat_lt j within)) ∙ ap (λ o. cond (nat_lt j within) (record_byte o j) 0) (sym none))
-
 pub cut_is : (content old bytes : List ℕ) (within count : ℕ) → ((j : ℕ) → get_or old j 0 ≡ 0) → count ≡ min within 256
     → ((j : ℕ) → j < count → get_or content (0 + j) 0 ≡ get_or bytes (0 + j) 0)
     → ((k : ℕ) → 0 + count ≤ k → get_or content k 0 ≡ get_or old k 0)

@@ -1,8 +1,8 @@
 -- The greatest number of a record so far, when one place more is learnt.
 use Rattle.std.proofs.Common.{◌≡◌, ℕ, suc, ◌+◌, Result, Ok, Err, OnOk, sym, ap, subst, ◌∙◌, inl, inr, ⊎_elim, arith, add-one}
-use Rattle.std.specs.Prelude.{Some, None, max}
+use Rattle.std.specs.Prelude.{Some, max}
 use Rattle.std.proofs.lemmas.Bool.{cases_lt}
-use Rattle.std.proofs.lemmas.Option.{same_Some, none-some}
+use Rattle.std.proofs.lemmas.Option.{same_Some}
 use Rattle.flash_model.specs.Pages.{Pages}
 use Rattle.flash_record.specs.PageRecord.{PageRecord}
 use Rattle.flash_disk.specs.Newest.{record_at}
@@ -19,17 +19,7 @@ pub top_of_none : (pages : Pages) (top : ℕ) → top ≡ 0 → IsTop pages 0 to
 top_of_none pages top is = record { most = λ j q within here. absurd (omega (arith, within)); one = inl is }
 
 module _ (pages : Pages) (n top : ℕ) (is : IsTop pages n top) where
-  -- the place has no record
-  pub top_stays : record_at pages n ≡ None → IsTop pages (suc n) top
-  top_stays empty = record {
-    most = λ j q within here. ⊎_elim
-        (λ below. is.most j q below here)
-        (λ last. absurd (none-some q (sym empty ∙ subst (λ k. record_at pages k ≡ Some q) last here)))
-        (below_suc j n within);
-    one = ⊎_elim inl (λ some. inr (some.0, some.1, (let lt = some.2 in omega (arith, lt)), some.3, some.4)) is.one;
-  }
-
-  -- it has this one
+  -- the place has this record
   pub top_taken : (r : PageRecord) → record_at pages n ≡ Some r → IsTop pages (suc n) (max top r.sequence)
   top_taken r here = record {
     most = λ j q within there. ⊎_elim

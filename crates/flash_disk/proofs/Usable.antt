@@ -10,7 +10,7 @@ use Rattle.flash_disk.specs.declared.table.Newest.{Newest}
 use Rattle.flash_disk.specs.declared.table.Table.{Table}
 use Rattle.flash_disk.specs.Newest.{Placed, record_at, newest, page_count, IsCopyOf, IsNewest, IsNewestOf, IsNeeded, NeedsPlace, IsSpare, places, page_limit, FindsSpare, IsUsable}
 use Rattle.flash_disk.specs.NewestLaws.{newest_is}
-use Rattle.flash_disk.specs.Known.{page_of, known, limit_of, IsEmptyTable}
+use Rattle.flash_disk.specs.Known.{page_of, known, limit_of}
 use Rattle.flash_disk.specs.Learnt.{number, TwinSays, Learns, LearnsOf, HasLearnt, LearnsNext, LearnsAll}
 use Rattle.flash_disk.proofs.Learning.{best_of}
 
@@ -22,14 +22,6 @@ more_pages pages (suc k) m limit less = let e : suc k + m ≡ suc (k + m) = omeg
 
 pub up_to : (pages : Pages) (m n limit : ℕ) → m ≤ n → limit < page_count pages m → limit < page_count pages n
 up_to pages m n limit le less = let e : (n - m) + m ≡ n = omega arith in subst (λ k. limit < page_count pages k) e (more_pages pages (n - m) m limit less)
-
-pub learns_none : (pages : Pages) (table : Table) → IsEmptyTable table → HasLearnt pages 0 table
-learns_none pages table empty = record {
-  says = λ key. subst (λ k. LearnsOf pages 0 k None) (sym (empty.nothing key)) tt;
-  count = empty.len;
-  room = empty.room;
-  fits = (let none = empty.len in omega (arith, none));
-}
 
 pub some_not_none : (twin : Option Place) → is_some twin ≡ true → twin ≡ None → ⊥
 some_not_none None some none = true≢false (sym some)
@@ -90,9 +82,6 @@ module _ (pages : Pages) (n : ℕ) where
   pub spare_block : (block : ℕ) → ((p : ℕ) → p < 64 → NeedsPlace pages n (64 * block + p) → ⊥) → IsSpare pages n block
   spare_block block none x needed at = none (x.place % 64) (omega arith) (x, needed, (let e : x.place ≡ 64 * block + x.place % 64 = omega (arith, at) in e))
 
-  pub needed_block : (block p : ℕ) → p < 64 → NeedsPlace pages n (64 * block + p) → IsSpare pages n block → ⊥
-  needed_block block p small (x, needed, at) spare = spare x needed (omega (arith, at, small))
-
 -- what the opening says of a flash
 pub usable : (pages : Pages) (blocks : ℕ) (table : Table) (spare : ℕ) → limit_of table ≡ page_limit blocks → HasLearnt pages (places blocks) table
     → FindsSpare pages blocks spare true → IsUsable pages blocks
@@ -126,16 +115,6 @@ module _ (pages seen : Pages) (same : seen ≡ pages) where
     pub not_needed : (i : ℕ) (done : Bool) → done ≡ false → (IsTrue done ↔ NeedsPlace seen (places b') i) → NeedsPlace pages (places b) i → ⊥
     not_needed i done fails says needs = true≢false (sym (says.1
         (subst (λ q. NeedsPlace q (places b') i) (sym same) (subst (λ k. NeedsPlace pages (places k) i) (sym blocks_same) needs))) ∙ fails)
-
-    pub needed_there : (i : ℕ) (done : Bool) → done ≡ true → (IsTrue done ↔ NeedsPlace seen (places b') i) → NeedsPlace pages (places b) i
-    needed_there i done holds says = subst (λ k. NeedsPlace pages (places k) i) blocks_same (subst (λ q. NeedsPlace q (places b') i) same (says.0 holds))
-
-    pub not_spare : (block : ℕ) (done : Bool) → done ≡ false → (IsTrue done ↔ IsSpare seen (places b') block) → IsSpare pages (places b) block → ⊥
-    not_spare block done fails says spare = true≢false (sym (says.1
-        (subst (λ q. IsSpare q (places b') block) (sym same) (subst (λ k. IsSpare pages (places k) block) (sym blocks_same) spare))) ∙ fails)
-
-    pub spare_there : (block : ℕ) (done : Bool) → done ≡ true → (IsTrue done ↔ IsSpare seen (places b') block) → IsSpare pages (places b) block
-    spare_there block done holds says = subst (λ k. IsSpare pages (places k) block) blocks_same (subst (λ q. IsSpare q (places b') block) same (says.0 holds))
 
 -- one more of the first places, or blocks, of which none is so
 pub one_more : (P : ℕ → Type 0) (n : ℕ) → ((p : ℕ) → p < n → P p → ⊥) → (P n → ⊥) → (p : ℕ) → p < n + 1 → P p → ⊥

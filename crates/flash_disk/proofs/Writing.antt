@@ -10,16 +10,17 @@ use Rattle.flash_model.specs.FlashMedium.{FlashMedium, IsLawfulFlash, FlashElaps
 use Rattle.flash_disk.specs.declared.layer.LayerState.{LayerState}
 use Rattle.flash_disk.specs.declared.table.FilePage.{FilePage}
 use Rattle.flash_disk.specs.declared.table.Newest.{Newest}
-use Rattle.flash_disk.specs.Newest.{Placed, newest, places}
+use Rattle.flash_disk.specs.Newest.{Placed, newest, places, IsUsable}
 use Rattle.flash_disk.specs.Known.{known, len_known}
 use Rattle.flash_disk.specs.FlashFiles.{byte_in, file_byte, file_len, flash_files}
 use Rattle.flash_disk.specs.FlashFilesLaws.{length-flash_files, byte-flash_files}
 use Rattle.flash_disk.specs.Learnt.{LedOf, IsContent, HasPlace}
 use Rattle.flash_disk.specs.Does.{Does}
-use Rattle.flash_disk.specs.PutPart.{PutPart}
-use Rattle.flash_disk.specs.Standing.{HasSpare, IsStrayless, StandsFor}
+use Rattle.flash_disk.specs.PutPart.{PutPart, PutOrNot}
+use Rattle.flash_disk.specs.Standing.{IsAgreed, IsStrayless, StaysAgreed, StandsFor}
 use Rattle.flash_disk.specs.Sound.{files_of, IsSound, Sound, Fits, Holds, PendsAt, FitsIn, LeavesPut, ShowsZeros, ShowsPage, WipesPage}
 use Rattle.flash_disk.specs.Writes.{LeavesTorn, with_write, WritesInto}
+use Rattle.flash_disk.proofs.Entering.{sound_usable}
 use Rattle.flash_disk.proofs.Reading.{len_is}
 use Rattle.flash_disk.proofs.Parts.{PartSoFar, narrower, same_part, part_from_nothing, part_more, part_all, whole_part, torn_in_more, torn_refl}
 use Rattle.flash_disk.proofs.Stretches.{does_nothing, does_weaken, does_then}
@@ -35,19 +36,53 @@ no_error (Err e) none p = absurd (true≢false none)
 -- ---- what a sound layer has
 
 module _ (m : FlashMedium) (s : LayerState) (sound : IsSound m s) where
-  pub has_spare : HasSpare m.state.pages m.blocks
-  has_spare = (s.spare, sound.within, sound.is_spare)
+  pub usable_now : IsUsable m.state.pages m.blocks
+  usable_now = sound_usable m.state.pages m.blocks s sound
 
   pub holds_sound : s.unsure ≡ None → Holds m s
   holds_sound sure = record { sure = m.state.pages; sound = sound; pends = subst (PendsAt m.state.pages m.state.pages m.blocks s) (sym sure) refl }
 
   -- no part was put yet
   pub leaves_nothing : (file at : ℕ) (bytes : List ℕ) (len : ℕ) → LeavesPut file at bytes len m m.state.pages
-  leaves_nothing file at bytes len = record { put = inl refl; spare = has_spare }
+  leaves_nothing file at bytes len = record { put = inl refl; usable = usable_now; agreed = λ agreed. agreed }
 
 -- no call at all
 pub does_none : (told : Bool) (m : FlashMedium) → IsLawfulFlash told m → (P : Pages → Type 0) → P m.state.pages → Does P m m
 does_none told m lawful P holds = does_nothing m m P refl (λ x past. lawful.only_now x past) holds
+
+-- ---- what is said of a later flash, said of an earlier one
+
+module _ (a b : FlashMedium) (blocks : b.blocks ≡ a.blocks) (agreed : StaysAgreed a b.state.pages) (pages : Pages) where
+  usable_before : IsUsable pages b.blocks → IsUsable pages a.blocks
+  usable_before usable = subst (IsUsable pages) blocks usable
+
+  agreed_before : StaysAgreed b pages → StaysAgreed a pages
+  agreed_before stays here = subst (λ k. IsAgreed pages (places k)) blocks
+      (stays (subst (λ k. IsAgreed b.state.pages (places k)) (sym blocks) (agreed here)))
+
+  module _ (files : files_of b ≡ files_of a) where
+    put_before : (file at : ℕ) (bytes : List ℕ) (len : ℕ) → LeavesPut file at bytes len b pages → LeavesPut file at bytes len a pages
+    put_before file at bytes len leaves = record {
+      put = subst (λ f. PutOrNot file at bytes len f (flash_files pages a.blocks)) files
+          (subst (λ k. PutOrNot file at bytes len (files_of b) (flash_files pages k)) blocks leaves.put);
+      usable = usable_before leaves.usable;
+      agreed = agreed_before leaves.agreed;
+    }
+
+    torn_before : (file at n : ℕ) → LeavesTorn file at n b pages → LeavesTorn file at n a pages
+    torn_before file at n leaves = record {
+      torn = subst (λ f. TornImage file at n f (flash_files pages a.blocks)) files
+          (subst (λ k. TornImage file at n (files_of b) (flash_files pages k)) blocks leaves.torn);
+      usable = usable_before leaves.usable;
+      agreed = agreed_before leaves.agreed;
+    }
+
+    stands_before : StandsFor b pages → StandsFor a pages
+    stands_before stands = record {
+      files_are = subst (λ k. flash_files pages k ≡ files_of b) blocks stands.files_are ∙ files;
+      usable = usable_before stands.usable;
+      agreed = agreed_before stands.agreed;
+    }
 
 -- ---- a stretch that only looks
 
@@ -74,15 +109,18 @@ module _ (a b : FlashMedium) (state : b.state ≡ a.state) (blocks : b.blocks �
   shown_seen d file page bytes shown = λ f i. shown f i
       ∙ ap (λ z. cond (nat_eq f file && nat_eq (i / 256) page) (get_or bytes (i % 256) 0) z) (byte_seen f i)
 
-  -- and then a call whose result speaks of what there was before the look
-  pub does_after_look : (P Q : Image → ℕ → Pages → Type 0) (c : FlashMedium)
-      → ((pages : Pages) → P a pages → Q a pages)
+  agreed_seen : StaysAgreed a b.state.pages
+  agreed_seen here = subst (λ p. IsAgreed p (places a.blocks)) (sym pages_seen) here
+
+  -- and then a call that writes a part, of which less is said of the flash before the look
+  pub does_after_look : (Q : FlashMedium → Pages → Type 0) (file at : ℕ) (bytes : List ℕ) (len : ℕ) (c : FlashMedium)
+      → ((pages : Pages) → LeavesPut file at bytes len a pages → Q a pages)
       → Q a a.state.pages → FlashElapses a b → FlashElapses b c → EachFlashCase (IsStill a.state) a b
-      → Does (P b) b c → Does (Q a) a c
-  does_after_look P Q c more holds first second still does =
-      let here : Does (P a) b c = subst (λ k. Does (P (files_of a) k) b c) blocks (subst (λ f. Does (P f b.blocks) b c) files_seen does) in
+      → Does (LeavesPut file at bytes len b) b c → Does (Q a) a c
+  does_after_look Q file at bytes len c more holds first second still does =
       does_then a b c (Q a) first second (does_nothing a b (Q a) state still holds)
-      (does_weaken b c (P a) (Q a) more here)
+      (does_weaken b c (LeavesPut file at bytes len b) (Q a)
+      (λ pages leaves. more pages (put_before a b blocks agreed_seen pages files_seen file at bytes len leaves)) does)
 
 -- ---- one page
 
@@ -125,7 +163,8 @@ module _ (a : FlashMedium) (file page : ℕ) (was : List ℕ) (is : IsContent a.
         → LeavesPut file (256 * page) content len a pages → LeavesPut file (256 * page + from) bytes len a pages
     leaves_narrower full within pages leaves = record {
       put = ⊎_elim (λ same. inl same) (λ done. inr (page_narrower (flash_files pages a.blocks) full within done)) leaves.put;
-      spare = leaves.spare;
+      usable = leaves.usable;
+      agreed = leaves.agreed;
     }
 
 -- ---- bytes past the end of a file
@@ -148,7 +187,7 @@ unfilled page filled len i end past here = ⊎_elim
 
 -- the files stand as they are
 pub stands : (m : FlashMedium) (s : LayerState) → IsSound m s → StandsFor m m.state.pages
-stands m s sound = record { files_are = refl; spare = has_spare m s sound }
+stands m s sound = record { files_are = refl; usable = usable_now m s sound; agreed = λ agreed. agreed }
 
 module _ (a : FlashMedium) (s : LayerState) (sound : IsSound a s) (file page len : ℕ) (len_known_is : len ≡ len_known s.table file) where
   pub long_as : file_len a.state.pages (places a.blocks) file ≡ len
@@ -201,7 +240,8 @@ module _ (a : FlashMedium) (s : LayerState) (sound : IsSound a s) (file page len
     pub stands_still : length was ≡ 256 → (pages : Pages) → LeavesPut file (256 * page) was len a pages → StandsFor a pages
     stands_still full pages leaves = record {
       files_are = ⊎_elim (λ same. same) (λ done. same_files (flash_files pages a.blocks) full done) leaves.put;
-      spare = leaves.spare;
+      usable = leaves.usable;
+      agreed = leaves.agreed;
     }
 
     -- and wipes what lies past the end
@@ -232,7 +272,7 @@ module _ (a b : FlashMedium) (time : FlashElapses a b) where
   pub stands_then : (d : FlashMedium) → FlashElapses b d → Does (StandsFor a) a b → Does (StandsFor b) b d
       → Does (StandsFor a) a d
   stands_then d second early late = does_then a b d (StandsFor a) time second early
-      (subst (λ k. Does (StandsFor (files_of a) k) b d) time.blocks (subst (λ f. Does (StandsFor f b.blocks) b d) (files_stand early.now) late))
+      (does_weaken b d (StandsFor b) (StandsFor a) (λ pages. stands_before a b time.blocks early.now.agreed pages (files_stand early.now)) late)
 
 -- up to this page no byte past the end of the file shows, and none of any file from a byte on
 pub record Wiped (a b : FlashMedium) (file page from : ℕ) : Type 0 where
@@ -302,13 +342,14 @@ module _ (a b : FlashMedium) (file at : ℕ) (bytes : List ℕ) (len done : ℕ)
 
   -- in their midst the write is one that was cut short
   pub leaves_torn : (count : ℕ) → done + count ≤ length bytes → 0 < length bytes → len ≤ max (length (files_of a file)) (at + length bytes) → b.blocks ≡ a.blocks
-      → (pages : Pages) → LeavesPut file (at + done) (take count (drop done bytes)) len b pages
+      → StaysAgreed a b.state.pages → (pages : Pages) → LeavesPut file (at + done) (take count (drop done bytes)) len b pages
       → LeavesTorn file at (length bytes) a pages
-  leaves_torn count within some reach blocks pages leaves =
-      let here : LeavesTorn file at (length bytes) (files_of a) b.blocks pages = record {
-        torn = torn_in_more file at bytes len (files_of a) done count (files_of b) (flash_files pages b.blocks) within some reach before.part leaves.put;
-        spare = leaves.spare;
-      } in subst (λ k. LeavesTorn file at (length bytes) (files_of a) k pages) blocks here
+  leaves_torn count within some reach blocks agreed pages leaves = record {
+    torn = subst (λ k. TornImage file at (length bytes) (files_of a) (flash_files pages k)) blocks
+        (torn_in_more file at bytes len (files_of a) done count (files_of b) (flash_files pages b.blocks) within some reach before.part leaves.put);
+    usable = usable_before a b blocks agreed pages leaves.usable;
+    agreed = agreed_before a b blocks agreed pages leaves.agreed;
+  }
 
   -- all bytes were written
   pub wrote_all : length bytes ≡ done → 0 < length bytes → len ≡ max (length (files_of a file)) (at + length bytes) → files_of b ≡ put_image (files_of a) file at bytes
@@ -323,7 +364,7 @@ module _ (a b : FlashMedium) (file at : ℕ) (bytes : List ℕ) (len done : ℕ)
   torn_then count d within some reach first second early late =
       does_then a b d (LeavesTorn file at (length bytes) a) first second early
       (does_weaken b d (LeavesPut file (at + done) (take count (drop done bytes)) len b) (LeavesTorn file at (length bytes) a)
-      (leaves_torn count within some (omega (arith, reach)) first.blocks) late)
+      (leaves_torn count within some (omega (arith, reach)) first.blocks early.now.agreed) late)
 
 -- the place of a byte in its page, and how many bytes are taken from a place
 pub moved_there : (P : ℕ → ℕ → Type 0) (start done count : ℕ) → P (256 * (start / 256) + start % 256) (done + count - done) → P start count
@@ -334,7 +375,7 @@ moved_there P start done count holds =
 
 -- no byte was written yet
 pub torn_nothing : (m : FlashMedium) (s : LayerState) → IsSound m s → (file at n : ℕ) → LeavesTorn file at n m m.state.pages
-torn_nothing m s sound file at n = record { torn = torn_refl file at n (files_of m); spare = has_spare m s sound }
+torn_nothing m s sound file at n = record { torn = torn_refl file at n (files_of m); usable = usable_now m s sound; agreed = λ agreed. agreed }
 
 -- ---- a write as a whole
 
@@ -343,7 +384,8 @@ module _ (file at : ℕ) (bytes : List ℕ) where
     stands_torn : (pages : Pages) → StandsFor b pages → LeavesTorn file at (length bytes) b pages
     stands_torn pages stands = record {
       torn = subst (TornImage file at (length bytes) (files_of b)) (sym stands.files_are) (torn_refl file at (length bytes) (files_of b));
-      spare = stands.spare;
+      usable = stands.usable;
+      agreed = stands.agreed;
     }
 
     -- bytes past the end of the file were wiped
@@ -354,8 +396,8 @@ module _ (file at : ℕ) (bytes : List ℕ) where
     pub wipes_then : (d : FlashMedium) → FlashElapses c d → Does (LeavesTorn file at (length bytes) c) c d
         → Does (LeavesTorn file at (length bytes) b) b d
     wipes_then d second writes = does_then b c d (LeavesTorn file at (length bytes) b) time second wipes_torn
-        (subst (λ k. Does (LeavesTorn file at (length bytes) (files_of b) k) c d) time.blocks
-        (subst (λ f. Does (LeavesTorn file at (length bytes) f c.blocks) c d) (files_stand b c time wipes.now) writes))
+        (does_weaken c d (LeavesTorn file at (length bytes) c) (LeavesTorn file at (length bytes) b)
+        (λ pages. torn_before b c time.blocks wipes.now.agreed pages (files_stand b c time wipes.now) file at (length bytes)) writes)
 
     -- the file is as long as the table said
     pub len_wiped : (s : LayerState) → IsSound b s → length (files_of c file) ≡ len_known s.table file
@@ -379,8 +421,8 @@ module _ (file at : ℕ) (bytes : List ℕ) where
     files_announced = ap (λ p. flash_files p b.blocks) pages_announced ∙ ap (λ k. flash_files a.state.pages k) time.blocks
 
     torn_announced : (pages : Pages) → LeavesTorn file at (length bytes) b pages → LeavesTorn file at (length bytes) a pages
-    torn_announced pages leaves = subst (λ k. LeavesTorn file at (length bytes) (files_of a) k pages) time.blocks
-        (subst (λ f. LeavesTorn file at (length bytes) f b.blocks pages) files_announced leaves)
+    torn_announced pages = torn_before a b time.blocks (λ agreed. subst (λ p. IsAgreed p (places a.blocks)) (sym pages_announced) agreed) pages
+        files_announced file at (length bytes)
 
     settled_announced : b.state.settled ≡ a.state.settled
     settled_announced = ap (λ (t : FlashState). t.settled) state

@@ -7,7 +7,7 @@ use Rattle.flash_disk.specs.declared.table.Newest.{Newest}
 use Rattle.flash_disk.specs.declared.table.Table.{Table}
 use Rattle.flash_disk.specs.Newest.{Placed, record_at, is_of, newest, page_count, IsCopyOf, IsSpare}
 use Rattle.flash_record.specs.PageRecord.{PageRecord}
-use Rattle.flash_disk.specs.Known.{same_page, known, page_len, limit_of, len_known, HasRoom}
+use Rattle.flash_disk.specs.Known.{known, page_len, limit_of, len_known, HasRoom}
 use Rattle.flash_disk.specs.Standing.{IsRivalled}
 use Rattle.flash_disk.specs.FlashFiles.{file_byte, file_len, IsFileLen}
 
@@ -159,10 +159,3 @@ abbrev pub ProgramsIf : Bool → Place → (blocks : ℕ) → List ℕ → Pages
 ProgramsIf true place blocks bytes old new = (place.block < blocks) × (place.page < 64) × (old place.block place.page ≡ blank_page)
     × (new ≡ program_page old place.block place.page bytes)
 ProgramsIf false place blocks bytes old new = new ≡ old
-
--- a page of a file has a new record, to which the table leads, and all others have the records that they had
-pub record HasWritten (old new : Pages) (n : ℕ) (key : FilePage) (len : ℕ) (bytes : List ℕ) (table : Table) (top : ℕ) : Type 0 where
-  pub led : IsLed new n table
-  pub tops : Tops new n top
-  pub record_is : (x : Placed) × (newest new key.file key.page n ≡ Some x) × (x.says.len ≡ len) × (x.says.bytes ≡ bytes)
-  pub elsewhere : (file page : ℕ) → same_page key (record { file = file; page = page }) ≡ false → newest new file page n ≡ newest old file page n

@@ -9,7 +9,7 @@ ghost use Rattle.flash_record.specs.PageRecord.{record_in};
 ghost use Rattle.flash_disk.specs.Newest.{places};
 ghost use Rattle.flash_disk.specs.FlashFiles.{record_byte, file_byte, file_len, flash_files};
 ghost use Rattle.std.specs.Int.{div_ceil};
-ghost use Rattle.flash_disk.specs.Known.{same_page, len_known, limit_of, page_len};
+ghost use Rattle.flash_disk.specs.Known.{len_known, limit_of, page_len};
 ghost use Rattle.flash_disk.specs.Counted.{missing};
 ghost use Rattle.flash_disk.specs.Entries.{SameEntries, Occupies, Affords};
 ghost use Rattle.flash_disk.specs.Learnt.{IsContent, HasPlace, Knows};

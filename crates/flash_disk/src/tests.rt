@@ -211,12 +211,11 @@ fn is_before_or_after(disk: &mut FlashDisk<MemFlash>, file: u32, writes: u32) ->
     true
 }
 
-// Whether a stop after so many calls of the flash reopens so; the writes go on after the reopening.
-fn stops_well(alloc: Global, calls: u64) -> Option<bool> {
+// Whether a stop after so many calls of the flash reopens so, and how many writes were Ok; the writes go on after the reopening.
+fn stops_well(alloc: Global, calls: u64) -> Option<(bool, u32)> {
     let mut flash = MemFlash::new(alloc, 4).ok()?;
     flash.stop_after(calls);
-    let opened = FlashDisk::open(alloc, flash);
-    let (mut flash, done) = match opened {
+    let (mut flash, done) = match FlashDisk::open(alloc, flash) {
         Ok(mut disk) => {
             let done = play(&mut disk);
             (disk.into_flash(), done)
@@ -226,14 +225,23 @@ fn stops_well(alloc: Global, calls: u64) -> Option<bool> {
     flash.restart();
     let mut disk = FlashDisk::open(alloc, flash).ok()?;
     let same = is_before_or_after(&mut disk, 0, done) && is_before_or_after(&mut disk, 1, done);
-    Some(same && disk.write_at(0, 0, b"on").is_ok())
+    Some((same && disk.write_at(0, 0, b"on").is_ok(), done))
 }
 
 #[test]
 fn a_stop_at_each_call(rt: HostRuntime) {
-    for calls in 255..584 {
-        assert!(rt; stops_well(rt.alloc(), calls) == Some(true));
+    let mut most = 0;
+    for calls in 255..700 {
+        let stopped = stops_well(rt.alloc(), calls);
+        assert!(rt; stopped.is_some());
+        let Some((same, done)) = stopped else { return };
+        assert!(rt; same);
+        most = done;
+        if done == WRITES {
+            break;
+        }
     }
+    assert!(rt; most == WRITES);
 }
 
 // A record that no disk wrote: page `page` of a file of `len` bytes, each of them this byte.
@@ -401,4 +409,108 @@ fn no_number_is_left(rt: HostRuntime) {
     assert!(rt; disk.write_at(2, 0, b"z").is_err() && disk.own_faults() == 1);
     assert!(rt; reads(&mut disk, 1, 0, 256, 4) && disk.size(2) == Ok(0));
     assert!(rt; disk.sync().is_ok() && disk.own_faults() == 1);
+}
+
+// How many pages of file 2 lie in each of the first three blocks of the crowded flash.
+const COLD: u32 = 42;
+
+// The record in a place of the crowded flash: a page of file 2, which is needed, or one more of page 0 of file 1, of which only the last is.
+fn crowd(block: u32, at: u32) -> Foreign {
+    let sequence = 64 * block as u64 + at as u64 + 1;
+    if at < COLD {
+        let page = COLD * block.min(2) + at;
+        return Foreign {
+            block,
+            at,
+            sequence,
+            file: 2,
+            page,
+            len: 32_256,
+            byte: page as u8,
+        };
+    }
+    Foreign {
+        block,
+        at,
+        sequence,
+        file: 1,
+        page: 0,
+        len: 256,
+        byte: 7,
+    }
+}
+
+// A flash of four blocks of which three are full.
+fn crowded(alloc: Global) -> Option<MemFlash> {
+    let mut flash = MemFlash::new(alloc, 4).ok()?;
+    for block in 0..3 {
+        for at in 0..64 {
+            if !plant_record(&mut flash, crowd(block, at)) {
+                return None;
+            }
+        }
+    }
+    Some(flash)
+}
+
+// Whether the pages of file 2 are as they were.
+fn is_still_crowded(disk: &mut FlashDisk<MemFlash>) -> bool {
+    for page in 0..3 * COLD {
+        if !reads(disk, 2, 256 * page as u64, 256, page as u8) {
+            return false;
+        }
+    }
+    true
+}
+
+// Whether a stop after so many calls of the crowded flash reopens as before or after one of three writes, and how many were Ok. The first
+// of them moves the needed pages of a block.
+fn moves_well(alloc: Global, calls: u64) -> Option<(bool, u32)> {
+    let mut flash = crowded(alloc)?;
+    flash.stop_after(calls);
+    let (mut flash, done) = match FlashDisk::open(alloc, flash) {
+        Ok(mut disk) => {
+            let done = repeated(&mut disk, 3);
+            (disk.into_flash(), done)
+        }
+        Err(refused) => (refused.flash, 0),
+    };
+    flash.restart();
+    let mut disk = FlashDisk::open(alloc, flash).ok()?;
+    let mut byte = [9; 1];
+    let same = disk.read(1, 9, &mut byte) == Ok(1) && is_still_crowded(&mut disk);
+    let before = if done == 0 { 7 } else { done as u8 - 1 };
+    Some((same && (byte[0] == before || byte[0] == done as u8), done))
+}
+
+#[test]
+fn a_stop_at_each_call_of_a_move(rt: HostRuntime) {
+    let mut most = 0;
+    for calls in 380..700 {
+        let stopped = moves_well(rt.alloc(), calls);
+        assert!(rt; stopped.is_some());
+        let Some((same, done)) = stopped else { return };
+        assert!(rt; same);
+        most = done;
+        if done == 3 {
+            break;
+        }
+    }
+    assert!(rt; most == 3);
+}
+
+#[test]
+fn needed_pages_outlive_many_moves(rt: HostRuntime) {
+    let made = crowded(rt.alloc());
+    assert!(rt; made.is_some());
+    let Some(flash) = made else { return };
+    let opened = FlashDisk::open(rt.alloc(), flash).ok();
+    assert!(rt; opened.is_some());
+    let Some(mut disk) = opened else { return };
+    assert!(rt; repeated(&mut disk, 500) == 500 && disk.own_faults() == 0);
+    assert!(rt; is_still_crowded(&mut disk));
+    let again = reopened(rt.alloc(), disk);
+    assert!(rt; again.is_some());
+    let Some(mut disk) = again else { return };
+    assert!(rt; is_still_crowded(&mut disk));
 }

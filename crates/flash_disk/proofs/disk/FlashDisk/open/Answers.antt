@@ -1,7 +1,7 @@
 use Rattle.std.proofs.Common.{sym, ◌∙◌, subst, arith}
 use Rattle.flash_disk.specs.Newest.{IsUsable, IsUnusable, SaysUsable}
 use Rattle.flash_disk.specs.Sound.{Sound}
-use Rattle.flash_disk.proofs.Opened.{holds_all, opens_spare, settled_is_quiet}
+use Rattle.flash_disk.proofs.Opened.{holds_all, opens_usable, opens_agreed, settled_is_quiet}
 use Rattle.flash_disk.proofs.disk.FlashDisk.open.Goals as goal
 
 pub returns-in-Ok-false-clause-unusable : goal.returns-in-Ok-false-clause-unusable
@@ -23,11 +23,16 @@ returns-in-Ok-true-clause-quiet g c =
     settled_is_quiet g.F.Flash.told (g.F.Flash.medium c.learn.new.self.flash) c.learn.new.self.own 0 (g.F.Flash.medium c.args.flash).state
     (λ told. c.in-Ok-true.ensures.settled told c.in-Ok-true.field-0-test)
 
-pub returns-in-Ok-true-clause-spare : goal.returns-in-Ok-true-clause-spare
-returns-in-Ok-true-clause-spare g c told =
+pub returns-in-Ok-true-clause-throughout : goal.returns-in-Ok-true-clause-throughout
+returns-in-Ok-true-clause-throughout g c told =
     let old = g.F.Flash.medium c.args.flash in
     let e = c.in-Ok-true.ensures in
-    opens_spare g.F.Flash.told old (g.F.Flash.medium c.learn.new.self.flash) told
+    opens_usable g.F.Flash.told old (g.F.Flash.medium c.learn.new.self.flash) told (e.pages told) e.opens
     (subst (IsUsable old.state.pages) c.blocks-blocks.ensures
     (subst (SaysUsable old.state.pages c.blocks-blocks.result) c.in-Ok-true.field-0-test (e.usable told)))
-    (e.pages told) e.blocks e.opens
+    e.blocks
+
+pub returns-in-Ok-true-clause-agreed : goal.returns-in-Ok-true-clause-agreed
+returns-in-Ok-true-clause-agreed g c told =
+    let e = c.in-Ok-true.ensures in
+    opens_agreed g.F.Flash.told (g.F.Flash.medium c.args.flash) (g.F.Flash.medium c.learn.new.self.flash) told (e.pages told) e.opens

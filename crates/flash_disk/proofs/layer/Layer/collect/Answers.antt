@@ -7,7 +7,7 @@ use Rattle.flash_disk.specs.Known.{known, PutsAll}
 use Rattle.flash_disk.specs.Learnt.{HasPlace}
 use Rattle.flash_disk.specs.Does.{Does}
 use Rattle.flash_disk.specs.Standing.{StandsFor}
-use Rattle.flash_disk.specs.Sound.{files_of, IsSound}
+use Rattle.flash_disk.specs.Sound.{IsSound}
 use Rattle.flash_disk.specs.Moving.{IsMoving}
 use Rattle.flash_disk.specs.Counted.{IsInside, entries_in}
 use Rattle.flash_disk.proofs.Spreading.{light_enough}

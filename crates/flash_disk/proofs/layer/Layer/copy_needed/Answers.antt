@@ -1,7 +1,6 @@
 use Rattle.std.proofs.Common.{◌+◌, refl, ap, ◌∙◌, arith}
 use Rattle.flash_disk.specs.declared.layer.LayerState.{LayerState}
 use Rattle.flash_disk.specs.Newest.{places}
-use Rattle.flash_disk.specs.Sound.{files_of}
 use Rattle.flash_disk.specs.Standing.{StandsFor}
 use Rattle.flash_disk.proofs.Standing.{keeps_refl}
 use Rattle.flash_disk.proofs.Stretches.{does_nothing, elapses_refl, elapses_then}

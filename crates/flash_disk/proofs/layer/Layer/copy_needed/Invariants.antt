@@ -3,7 +3,6 @@ use Rattle.flash_model.specs.FlashMedium.{FlashElapses}
 use Rattle.flash_disk.specs.Newest.{places}
 use Rattle.flash_disk.specs.Does.{Does}
 use Rattle.flash_disk.specs.Standing.{Keeps, StandsFor}
-use Rattle.flash_disk.specs.Sound.{files_of}
 use Rattle.flash_disk.specs.Counted.{copied_below}
 use Rattle.flash_disk.specs.Moving.{IsMoving}
 use Rattle.flash_disk.proofs.layer.Layer.copy_needed.Given as goal

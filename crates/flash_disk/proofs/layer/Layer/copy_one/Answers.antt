@@ -9,7 +9,7 @@ use Rattle.flash_disk.specs.Known.{known}
 use Rattle.flash_disk.specs.Newest.{places}
 use Rattle.flash_disk.specs.Does.{Does}
 use Rattle.flash_disk.specs.Standing.{Keeps, StandsFor}
-use Rattle.flash_disk.specs.Sound.{files_of, IsSound}
+use Rattle.flash_disk.specs.Sound.{IsSound}
 use Rattle.flash_disk.proofs.Entering.{as_said}
 use Rattle.flash_disk.specs.Moving.{IsMoving}
 use Rattle.flash_disk.proofs.Moving.{differ, same_places, found_same, on_err, stands_then, looked_up, passed_over, copy_failed_keeps, copy_failed_sound, copy_keeps_all, copy_sound, copy_does, copied, looked, look_keeps, keeps_since, look_stands}

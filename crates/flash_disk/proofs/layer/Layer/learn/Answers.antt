@@ -3,7 +3,7 @@ use Rattle.flash_disk.specs.Counted.{IsCounted}
 use Rattle.std.proofs.Common.{◌≡◌, ◌<◌, ◌≤◌, true, false, sym, ap, inr, ◌∙◌, subst, arith}
 use Rattle.std.specs.HashMap.{spare}
 use Rattle.flash_disk.specs.Newest.{FindsSpare, IsSpare, places}
-use Rattle.flash_disk.specs.Known.{limit_of, len_in}
+use Rattle.flash_disk.specs.Known.{limit_of, page_len, len_in}
 use Rattle.flash_disk.specs.Learnt.{HasLearnt, LearnsAll, IsLeaving, IsTop}
 use Rattle.flash_disk.proofs.Usable.{usable}
 use Rattle.flash_disk.proofs.Leaving.{starts_leaving, leaves_there}
@@ -83,3 +83,4 @@ returns-in-Ok-clause-sound g c told usable_now =
     subst (λ b. IsCounted b left) all_is (l.counted (subst (λ b. IsCounted b second) (sym all_is) (subst (IsCounted blocks) (sym f.table) first_counted)))))
     (let same : vec_capacity c.leave_spare.new.self.state.moved ≡ vec_capacity c.args.self.now.state.moved = ap (λ q. vec_capacity q) (l.fill.2 ∙ (f.fill.2 ∙ e.fill.2)) in
     let enough = c.requires.moved in omega (arith, same, enough))
+    (l.len ∙ (ap page_len f.table ∙ learnt.count))

@@ -21,4 +21,5 @@ loop-page-preserved g c = let i = c.loop-page.invariant in let e = c.in_ok-leave
       (e.left told (let same = i.2 in omega (arith, within, same)) c.loop-page-test.true) spare (i.9 told within spare start)),
   (λ start. subst (λ b. IsCounted b c.leave_page.new.self.state.table) i.2 (e.counted (subst (λ b. IsCounted b c.loop-page.self.state.table) (sym i.2) (i.10 start)))),
   looks_then g.F.Flash.told (g.F.Flash.medium c.args.self.now.flash) (g.F.Flash.medium c.loop-page.self.flash) (g.F.Flash.medium c.leave_page.new.self.flash) i.11 e.looks,
+  e.len ∙ i.12,
 )

@@ -1,6 +1,6 @@
 use Rattle.std.proofs.Common.{◌≡◌, ◌<◌, ◌≤◌, true}
 use Rattle.flash_disk.specs.Newest.{places}
-use Rattle.flash_disk.specs.Known.{limit_of}
+use Rattle.flash_disk.specs.Known.{limit_of, page_len}
 use Rattle.flash_disk.specs.Learnt.{LeavesBlock}
 use Rattle.flash_disk.specs.Counted.{IsCounted}
 use Rattle.flash_disk.specs.Sound.{SameFill}
@@ -21,3 +21,4 @@ invariant-loop-page g l = ((g.F.Flash.medium l.initial.self.flash).faults ≤ (g
     → LeavesBlock (g.F.Flash.medium l.initial.self.flash).state.pages (places (g.F.Flash.medium l.initial.self.flash).blocks) l.spare 0 l.page l.initial.self.state.table l.self.state.table)
     × (IsCounted (g.F.Flash.medium l.initial.self.flash).blocks l.initial.self.state.table → IsCounted (g.F.Flash.medium l.initial.self.flash).blocks l.self.state.table)
     × Looks g.F.Flash.told (g.F.Flash.medium l.initial.self.flash) (g.F.Flash.medium l.self.flash)
+    × (page_len l.self.state.table ≡ page_len l.initial.self.state.table)

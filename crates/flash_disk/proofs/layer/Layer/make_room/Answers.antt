@@ -1,5 +1,5 @@
 use Rattle.std.proofs.Common.{refl, sym, subst, arith}
-use Rattle.flash_disk.specs.Sound.{files_of, FitsIn}
+use Rattle.flash_disk.specs.Sound.{FitsIn}
 use Rattle.flash_disk.specs.Standing.{StandsFor}
 use Rattle.flash_disk.proofs.Stretches.{does_nothing}
 use Rattle.flash_disk.proofs.Moving.{stands_now}

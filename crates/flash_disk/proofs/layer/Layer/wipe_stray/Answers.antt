@@ -1,7 +1,7 @@
 use Rattle.std.proofs.Common.{◌≡◌, ◌*◌, length, sym, ◌∙◌, subst, arith}
 use Rattle.flash_disk.specs.PutPart.{PutPart}
 use Rattle.flash_disk.specs.Standing.{StandsFor}
-use Rattle.flash_disk.specs.Sound.{files_of, LeavesPut}
+use Rattle.flash_disk.specs.Sound.{files_of}
 use Rattle.flash_disk.proofs.Writing.{on_ok_both, stands, does_none, files_seen, fits_seen, shown_seen, does_after_look, wiped_none, wiped_within, stray_fits, stands_still, wiped_by}
 use Rattle.flash_disk.proofs.Stretches.{does_nothing}
 use Rattle.flash_disk.proofs.layer.Layer.wipe_stray.Goals as goal
@@ -73,6 +73,6 @@ returns-clause-does g c told =
     let sound = c.requires.sound told in
     let was = c.in_ok-content.content in
     let full : length was ≡ 256 = omega arith in
-    does_after_look a b (e.unchanged told) e.blocks (LeavesPut c.args.file (256 * c.args.page) was c.args.len) StandsFor d
+    does_after_look a b (e.unchanged told) e.blocks StandsFor c.args.file (256 * c.args.page) was c.args.len d
     (stands_still a s sound c.args.file c.args.page c.args.len (c.requires.len told) was (e.bytes told sound.knows) full)
     (stands a s sound) (e.time told) (c.append.ensures.time told) (e.during told) (c.append.ensures.does told)

@@ -1,6 +1,5 @@
 use Rattle.std.proofs.Common.{◌/◌, ◌∙◌, refl, arith}
 use Rattle.flash_disk.specs.Standing.{StandsFor}
-use Rattle.flash_disk.specs.Sound.{files_of}
 use Rattle.flash_disk.proofs.Writing.{stands, does_none, stands_then, wiped_start, wiped_more, wiped_nowhere, len_still}
 use Rattle.flash_disk.proofs.Stretches.{elapses_refl, elapses_then}
 use Rattle.flash_disk.proofs.Entries.{same_entries, same_entries_then}

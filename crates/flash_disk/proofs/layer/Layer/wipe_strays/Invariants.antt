@@ -3,7 +3,7 @@ use Rattle.std.specs.Prelude.{None}
 use Rattle.flash_model.specs.FlashMedium.{FlashElapses}
 use Rattle.flash_disk.specs.Does.{Does}
 use Rattle.flash_disk.specs.Standing.{StandsFor}
-use Rattle.flash_disk.specs.Sound.{files_of, IsSound}
+use Rattle.flash_disk.specs.Sound.{IsSound}
 use Rattle.flash_disk.specs.Entries.{SameEntries}
 use Rattle.flash_disk.proofs.Writing.{Wiped}
 use Rattle.flash_disk.proofs.layer.Layer.wipe_strays.Given as goal

@@ -1,7 +1,8 @@
 use Rattle.std.proofs.Common.{length, sym, inl, inr, ◌∙◌, arith, true≢false}
-use Rattle.flash_disk.proofs.Writing.{no_error, wipes_torn, wipes_then, len_wiped, grows_wiped, sound_announced, writes_into}
+use Rattle.std.proofs.lemmas.Result.{on_ok_weaker}
+use Rattle.flash_disk.proofs.Writing.{on_ok_both, no_error, wipes_torn, wipes_then, len_wiped, grows_wiped, sound_announced, writes_into}
 use Rattle.flash_disk.proofs.Stretches.{elapses_then}
-use Rattle.flash_disk.proofs.Failing.{wants_too_many}
+use Rattle.flash_disk.proofs.Failing.{wants_too_many, allowed, takes_pages}
 use Rattle.flash_disk.proofs.layer.Layer.write_file.Goals as goal
 
 pub returns-in_err-wipe_strays-clause-writes : goal.returns-in_err-wipe_strays-clause-writes
@@ -61,5 +62,24 @@ pub returns-then-not-has_room-clause-own : goal.returns-then-not-has_room-clause
 returns-then-not-has_room-clause-own g c told =
     let s = c.args.self.now.state in
     inr (inr (inl (wants_too_many (g.F.Flash.medium c.args.self.now.flash) s c.args.file c.args.at (length c.args.bytes.now) c.in-Some.end (c.requires.sound told)
-    c.has_room.ensures.unique c.in-Some.ensures.1
-    (λ fits. true≢false (sym (c.has_room.ensures.fits.1 fits) ∙ c.if-not-has_room.true)))))
+    c.in-Some.ensures.1
+    (λ fits. true≢false (sym (c.has_room.ensures.1 fits) ∙ c.if-not-has_room.true)))))
+
+pub returns-clause-allowed : goal.returns-clause-allowed
+returns-clause-allowed g c told =
+    let a = g.F.Flash.medium c.args.self.now.flash in
+    let s = c.args.self.now.state in
+    on_ok_weaker c.write_pages.result
+    (λ calm. allowed a s c.args.file c.args.at (length c.args.bytes.now) c.in-Some.end (c.requires.sound told) c.in-Some.ensures.1 (omega arith)
+    (c.has_room.ensures.0 c.if-not-has_room.false) (sym c.in_ok-wipe_strays.ensures.disputed ∙ calm c.requires.some))
+    (c.write_pages.ensures.calm told)
+
+pub returns-clause-takes : goal.returns-clause-takes
+returns-clause-takes g c told =
+    let a = g.F.Flash.medium c.args.self.now.flash in
+    let d = g.F.Flash.medium c.write_pages.new.self.flash in
+    let f = c.write_pages.ensures in
+    on_ok_both c.write_pages.result
+    (λ sound takes. takes_pages a d c.args.self.now.state c.wipe_strays.new.self.state c.write_pages.new.self.state c.args.file c.args.at (length c.args.bytes.now)
+    (c.requires.sound told) sound (c.in_ok-wipe_strays.ensures.entries told) takes)
+    (f.sound told) (f.takes told)

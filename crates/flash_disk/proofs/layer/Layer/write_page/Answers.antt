@@ -53,7 +53,7 @@ returns-clause-does g c told =
     let sound = c.requires.sound told in
     let copied = c.copy_part.ensures in
     let full : length c.copy_part.new.out ≡ 256 = omega arith in
-    does_after_look a b (e.unchanged told) e.blocks (LeavesPut c.args.file (256 * c.args.page) c.copy_part.new.out c.args.len) (LeavesPut c.args.file at c.args.bytes.now c.args.len) d
+    does_after_look a b (e.unchanged told) e.blocks (LeavesPut c.args.file at c.args.bytes.now c.args.len) c.args.file (256 * c.args.page) c.copy_part.new.out c.args.len d
     (leaves_narrower a c.args.file c.args.page c.in_ok-content.content (e.bytes told sound.knows)
     c.args.from c.args.len c.args.bytes.now c.copy_part.new.out copied.inside copied.before copied.after full c.requires.within)
     (leaves_nothing a c.args.self.now.state sound c.args.file at c.args.bytes.now c.args.len)

@@ -1,4 +1,4 @@
-use Rattle.std.proofs.Common.{◌+◌, ◌-◌, ◌/◌, ◌∙◌, length, take, drop, refl, arith}
+use Rattle.std.proofs.Common.{◌+◌, ◌-◌, ◌/◌, ◌∙◌, length, take, drop, refl, sym, arith}
 use Rattle.std.specs.Int.{div_ceil}
 use Rattle.flash_disk.specs.Does.{Does}
 use Rattle.flash_disk.specs.PutPart.{PutPart}
@@ -6,7 +6,7 @@ use Rattle.flash_disk.specs.Sound.{files_of, LeavesPut}
 use Rattle.flash_disk.specs.Writes.{LeavesTorn}
 use Rattle.flash_disk.proofs.Writing.{does_none, torn_nothing, wrote_nothing, wrote_more, torn_then, moved_there, wrote_all}
 use Rattle.flash_disk.proofs.Stretches.{elapses_refl, elapses_then}
-use Rattle.flash_disk.proofs.Affording.{affords_place, affords_more}
+use Rattle.flash_disk.proofs.Affording.{affords_place, affords_more, as_many}
 use Rattle.flash_disk.proofs.layer.Layer.write_pages.Goals as goal
 
 pub loop-done-init : goal.loop-done-init
@@ -27,7 +27,9 @@ loop-done-init g c =
       own = refl;
       disputed = refl;
       steps = omega arith;
+      calm = λ told some. absurd (omega (arith, some));
       affords = r.affords;
+      as_many = λ told. refl;
     }
 
 pub returns-in_err-write_page-clause-does : goal.returns-in_err-write_page-clause-does
@@ -71,6 +73,10 @@ loop-done-preserved g c =
       affords = λ told. affords_more c.args.file (c.args.at / 256) c.loop-done.self.state.table c.write_page.new.self.state.table
           (div_ceil (c.args.at + length c.args.bytes.now) 256 - c.args.at / 256) (start / 256 - c.args.at / 256) (start / 256) (omega arith) (omega arith)
           (e.entries told) (i.affords told);
+      calm = λ told some. sym i.disputed ∙ e.calm told;
+      as_many = λ told. as_many c.args.file (c.args.at / 256) c.loop-done.self.state.table c.write_page.new.self.state.table
+          (div_ceil (c.args.at + length c.args.bytes.now) 256 - c.args.at / 256) (start / 256 - c.args.at / 256) (start / 256) (omega arith) (omega arith)
+          (e.entries told) ∙ i.as_many told;
     }
 
 pub returns-clause-put : goal.returns-clause-put

@@ -1,10 +1,12 @@
-use Rattle.std.proofs.Common.{◌≡◌, ◌≤◌, ◌+◌, ◌*◌, ◌-◌, ◌/◌, length, true}
-use Rattle.std.specs.Prelude.{None}
+use Rattle.std.proofs.Common.{◌≡◌, ◌<◌, ◌≤◌, ◌+◌, ◌*◌, ◌-◌, ◌/◌, length, true}
+use Rattle.std.specs.Prelude.{None, IsFalse}
 use Rattle.std.specs.Int.{div_ceil}
 use Rattle.flash_model.specs.FlashMedium.{FlashElapses}
 use Rattle.flash_disk.specs.Does.{Does}
-use Rattle.flash_disk.specs.Sound.{files_of, IsSound}
+use Rattle.flash_disk.specs.Sound.{IsSound}
 use Rattle.flash_disk.specs.Writes.{LeavesTorn}
+use Rattle.flash_disk.specs.Known.{page_len}
+use Rattle.flash_disk.specs.Counted.{missing}
 use Rattle.flash_disk.specs.Entries.{Affords}
 use Rattle.flash_disk.proofs.Writing.{WroteSoFar}
 use Rattle.flash_disk.proofs.layer.Layer.write_pages.Given as goal
@@ -26,5 +28,9 @@ invariant-loop-done g l = record {
   own : l.self.own ≡ l.initial.self.own;
   disputed : l.self.state.disputed ≡ l.initial.self.state.disputed;
   steps : l.self.state.sequence ≤ l.initial.self.state.sequence + l.done;
+  calm : g.F.Flash.told ≡ true → 0 < l.done → IsFalse l.initial.self.state.disputed;
   affords : g.F.Flash.told ≡ true → Affords l.self.state.table l.file (l.at / 256) (div_ceil (l.at + length l.bytes) 256 - l.at / 256);
+  as_many : g.F.Flash.told ≡ true
+      → missing l.self.state.table l.file (l.at / 256) (div_ceil (l.at + length l.bytes) 256 - l.at / 256) + page_len l.self.state.table
+      ≡ missing l.initial.self.state.table l.file (l.at / 256) (div_ceil (l.at + length l.bytes) 256 - l.at / 256) + page_len l.initial.self.state.table;
 }

@@ -1,5 +1,5 @@
 use Rattle.std.proofs.Common.{◌≡◌, ◌-◌, ℕ, sym, ap, subst, ◌∙◌}
-use Rattle.std.specs.Prelude.{Some, None}
+use Rattle.std.specs.Prelude.{Some}
 use Rattle.flash_disk.specs.Known.{known, load_known}
 use Rattle.flash_disk.specs.Counted.{had_in}
 use Rattle.flash_disk.proofs.Counting.{Recounts, recounts_refl, same_counted, put_counted, fewer_by, none_fewer}
