@@ -1,33 +1,28 @@
--- A table has as many entries as there are pages with a record.
-use Rattle.std.proofs.Common.{◌≡◌, ◌⊎◌, ℕ, zero, suc, ◌+◌, ◌<◌, ◌≤◌, Bool, true, false, cond, List, [], ◌∷◌, length, refl, sym, ap, subst, ◌∙◌, inl, inr, ⊎_elim, arith}
+-- How many pages have a record, and what records that come or go make of it.
+use Rattle.std.proofs.Common.{◌≡◌, ℕ, zero, suc, ◌+◌, Bool, true, false, cond, List, [], ◌∷◌, length, refl, sym, ap, subst, ◌∙◌, arith}
 use Rattle.std.specs.Prelude.{Option, Some, None, is_some, is_none, nat_lt, ◌||◌}
 use Rattle.std.specs.Bool.{Decides}
 use Rattle.std.specs.Cmp.{IsEquivalence, decided}
 use Rattle.std.specs.List.{AllByRecursion, IsDistinct, list_any}
-use Rattle.std.specs.HashMap.{IsUnique, keys}
 use Rattle.std.specs.Set.{is_member}
 use Rattle.std.proofs.lemmas.Bool.{true≢false}
-use Rattle.std.proofs.lemmas.Map.Entries.{length-keys_of}
 use Rattle.std.proofs.lemmas.Map.Keys.{IsDistinct-cons}
-use Rattle.std.proofs.lemmas.Bool.{cases_Bool}
-use Rattle.std.proofs.lemmas.Map.Made.{length-from_same_keys, length-le_from_is_member, is_some-lookup}
-use Rattle.std.proofs.lemmas.Option.{none-some}
+use Rattle.std.proofs.lemmas.Map.Made.{length-from_same_keys}
 use Rattle.flash_model.specs.Pages.{Pages}
 use Rattle.flash_record.specs.PageRecord.{PageRecord}
 use Rattle.flash_disk.specs.declared.table.FilePage.{FilePage}
 use Rattle.flash_disk.specs.declared.table.Newest.{Newest}
 use Rattle.flash_disk.specs.declared.table.Place.{Place}
 use Rattle.flash_disk.specs.declared.table.Table.{Table}
-use Rattle.flash_disk.specs.Newest.{Placed, record_at, is_of, newer, with_record, newest, opens_page, page_count, IsNewest, IsNewestOf}
+use Rattle.flash_disk.specs.Newest.{Placed, record_at, is_of, newer, with_record, newest, opens_page, page_count, IsNewestOf}
 use Rattle.flash_disk.specs.NewestLaws.{newest_is}
-use Rattle.flash_disk.specs.Known.{same_page, page_of, known, page_len}
+use Rattle.flash_disk.specs.Known.{same_page, page_of, known}
 use Rattle.flash_disk.specs.Learnt.{LedOf, IsLed, Adds}
 use Rattle.flash_disk.specs.Standing.{Keeps}
 use Rattle.flash_disk.specs.Counted.{missing}
 use Rattle.flash_disk.specs.OwnFaults.{lacking}
 use Rattle.flash_disk.proofs.Learning.{same_page_is, same_page_refl}
 use Rattle.flash_disk.proofs.Programming.{placed, newest_here, newest_elsewhere}
-use Rattle.flash_disk.proofs.Standing.{HasSameRecords, records_count}
 
 page_decides : (a b : FilePage) → Decides (same_page a b) (a ≡ b)
 page_decides a b = (same_page_is a b, λ is. subst (λ k. same_page a k ≡ true) is (same_page_refl a))
@@ -122,12 +117,6 @@ opened_is pages (suc n) = opened_next pages n (page_count pages n) (opened_pages
 
 -- ---- pages that change
 
--- one of two is there and the other is not
-some_none : (a b : Option Placed) → is_some a ≡ true → (b ≡ None → a ≡ None) → is_some b ≡ true
-some_none (Some x) None some none = absurd (none-some x (sym (none refl)))
-some_none (Some x) (Some y) some none = refl
-some_none None b some none = absurd (true≢false (sym some))
-
 same_some : (a b : Option Placed) → is_none a ≡ is_none b → is_some a ≡ is_some b
 same_some None None same = refl
 same_some None (Some y) same = absurd (true≢false same)
@@ -140,19 +129,8 @@ same_pages : (count count' : ℕ) (best best' : FilePage → Option Placed) (ope
 same_pages count count' best best' opened opened' has has' same =
     sym has.0 ∙ (length-from_same_keys page_laws opened opened' has.1 has'.1 (λ key. has.2 key ∙ (same key ∙ sym (has'.2 key))) ∙ has'.0)
 
--- no page came
-pub count_less : (old new : Pages) (n : ℕ) → ((file page : ℕ) → newest old file page n ≡ None → newest new file page n ≡ None) → page_count new n ≤ page_count old n
-count_less old new n none =
-    let before = opened_is old n in
-    let after = opened_is new n in
-    let less = length-le_from_is_member page_laws (opened_pages new n) (opened_pages old n) after.1
-    (λ key there. before.2 key ∙ some_none (newest new key.file key.page n) (newest old key.file key.page n) (sym (after.2 key) ∙ there) (none key.file key.page)) in
-    let was = before.0 in
-    let is = after.0 in
-    omega (arith, less, was, is)
-
 -- no page came or went
-pub count_same : (old new : Pages) (n : ℕ) → ((file page : ℕ) → is_none (newest new file page n) ≡ is_none (newest old file page n)) → page_count new n ≡ page_count old n
+count_same : (old new : Pages) (n : ℕ) → ((file page : ℕ) → is_none (newest new file page n) ≡ is_none (newest old file page n)) → page_count new n ≡ page_count old n
 count_same old new n same = same_pages (page_count new n) (page_count old n) (λ key. newest new key.file key.page n) (λ key. newest old key.file key.page n)
     (opened_pages new n) (opened_pages old n) (opened_is new n) (opened_is old n)
     (λ key. same_some (newest new key.file key.page n) (newest old key.file key.page n) (same key.file key.page))
@@ -192,32 +170,13 @@ module _ (old new : Pages) (n : ℕ) (keeps : Keeps old new n) where
   count_keeps = count_same old new n (λ file page. kept_page file page (newest old file page n) (newest new file page n) refl
       (newest_is old file page n) (newest_is new file page n))
 
--- no record changed
-pub count_records : (old new : Pages) (n : ℕ) → HasSameRecords old new → page_count new n ≡ page_count old n
-count_records old new n same = records_count old new same n
-
 -- ---- the entries of a table
-
-led_some : (pages : Pages) (n : ℕ) (entry : Option Newest) (best : Option Placed) → LedOf pages n entry best → is_some entry ≡ is_some best
-led_some pages n None None led = refl
-led_some pages n None (Some x) led = absurd led
-led_some pages n (Some e) None led = absurd led
-led_some pages n (Some e) (Some x) led = refl
 
 pub led_none : (pages : Pages) (n : ℕ) (entry : Option Newest) (best : Option Placed) → LedOf pages n entry best → is_none entry ≡ is_none best
 led_none pages n None None led = refl
 led_none pages n None (Some x) led = absurd led
 led_none pages n (Some e) None led = absurd led
 led_none pages n (Some e) (Some x) led = refl
-
--- no page has two entries, as the length of the map says: there is one for each page with a record
-pub page_len_is : (pages : Pages) (n : ℕ) (table : Table) → IsLed pages n table → IsUnique same_page table.newest → page_len table ≡ page_count pages n
-page_len_is pages n table led unique =
-    let opened = opened_is pages n in
-    sym (length-keys_of table.newest.entries)
-    ∙ (length-from_same_keys page_laws (keys table.newest) (opened_pages pages n) unique opened.1
-    (λ key. sym (is_some-lookup (same_page key) table.newest.entries) ∙ (led_some pages n (known table key) (newest pages key.file key.page n) (led.says key) ∙ sym (opened.2 key)))
-    ∙ opened.0)
 
 -- as many pages of a file have no entry as have no record
 pub missing_is : (pages : Pages) (n : ℕ) (table : Table) → IsLed pages n table → (file from k : ℕ) → missing table file from k ≡ lacking pages n file from k

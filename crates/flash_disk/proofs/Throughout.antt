@@ -16,9 +16,9 @@ use Rattle.flash_disk.specs.Throughout.{KeepsUsable, KeepsAgreed}
 use Rattle.flash_disk.specs.Standing.{IsAgreed, StaysAgreed}
 use Rattle.flash_disk.specs.Writes.{WritesInto}
 use Rattle.flash_disk.proofs.Growing.{adds_is_spare}
-use Rattle.flash_disk.proofs.PageCount.{led_none, count_adds, count_records}
+use Rattle.flash_disk.proofs.PageCount.{led_none, count_adds}
 use Rattle.flash_disk.proofs.Sparing.{number_block}
-use Rattle.flash_disk.proofs.Standing.{HasSameRecords, records_spare}
+use Rattle.flash_disk.proofs.Standing.{HasSameRecords, records_count, records_spare}
 use Rattle.flash_disk.proofs.Tearing.{torn_same, torn_page}
 
 -- ---- what is kept
@@ -37,7 +37,7 @@ module _ (sure pages : Pages) (blocks : ℕ) (s : LayerState) (sound : Sound sur
 
   same_usable : HasSameRecords sure pages → IsUsable pages blocks
   same_usable same = with_spare pages
-      (let count = count_records sure pages (places blocks) same in let fits = sure_fits in omega (arith, count, fits))
+      (let count = records_count sure pages same (places blocks) in let fits = sure_fits in omega (arith, count, fits))
       (records_spare sure pages same (places blocks) s.spare sound.is_spare)
 
   -- a record that came to lie in a page has an entry, or room for one
