@@ -231,6 +231,3 @@ module _ (a b c : FlashMedium) (first : FlashElapses a b) (early : Does (StandsF
   pub puts_then : FlashElapses b c → Does (LeavesPut file at bytes len b) b c → Does (LeavesPut file at bytes len a) a c
   puts_then second late = does_then a b c (LeavesPut file at bytes len a) first second puts_not
       (does_weaken b c (LeavesPut file at bytes len b) (LeavesPut file at bytes len a) puts_since late)
-
-  pub put_since : PutPart file at bytes len (files_of b) (files_of c) → PutPart file at bytes len (files_of a) (files_of c)
-  put_since put = subst (λ f. PutPart file at bytes len f (files_of c)) same_files put

@@ -30,10 +30,6 @@ module _ (told : Bool) (m m' : FlashMedium) (own own' written written' : ℕ) wh
   abbrev end : Medium
   end = flash_disk_medium told m' own' written'
 
-  -- the flash's cases since its moment
-  abbrev Since : (FlashCase → Type 0) → Type 0
-  Since P = IsTrue told → EachFlashCase P m m'
-
   case_since : (c : Case) → end.since start.moment c → (f : FlashCase) × m'.since m.moment f × IsCaseOf m'.blocks f c
   case_since c past = (past.1.0, subst (λ k. m'.since k past.1.0) (told_moment told m.moment past.0) past.1.1, past.1.2)
 
@@ -65,57 +61,11 @@ module _ (told : Bool) (m m' : FlashMedium) (own own' written written' : ℕ) wh
       le_of : (t : ℕ) → IsTrue told → t ≤ start.moment → t ≤ m.moment
       le_of t tells le = subst (λ k. t ≤ k) (told_moment told m.moment tells) le
 
-  -- calls that only look
-  pub disk_reads : (IsTrue told → m'.state ≡ m.state) → (IsTrue told → m'.blocks ≡ m.blocks) → Since (IsStill m.state) → written' ≡ written → OnlyReads start end
-  disk_reads state blocks still wrote = record {
-    image = same_files told m m' (λ t. ap (λ s. s.pages) (state t)) blocks;
-    now = λ c now. (now.0, now.1 ∙ λ i. disk_case (blocks now.0 i) (still_case (state now.0 i)));
-    during = λ c past.
-        let f = case_since c past in
-        (past.0, f.2.1 ∙ same_case m.state m.blocks m'.blocks f.0 (blocks past.0) (still past.0 f.0 f.1));
-    written = wrote;
-  }
-
-  -- a settle that failed
-  pub disk_sync_failed : (IsTrue told → m'.state ≡ m.state) → (IsTrue told → m'.blocks ≡ m.blocks) → Since (λ c. IsStill m.state c ⊎ IsStill m'.state c)
-      → written' ≡ written → OnlyReads start end
-  disk_sync_failed state blocks cases wrote = disk_reads state blocks (λ t. failed_looks m m' (state t) (cases t)) wrote
-
-  -- a settle: nothing is pending, and no byte changed
-  pub disk_sync : (IsTrue told → m'.state ≡ settle_pages m.state) → (IsTrue told → m'.blocks ≡ m.blocks)
-      → Since (λ c. IsStill m.state c ⊎ IsStill m'.state c) → written' ≡ written → Quiet end × WritesNothing start end
-  disk_sync state blocks cases wrote = (
-    (λ c now.
-        let t = now.0 in
-        let same : flash_files m'.state.settled m'.blocks ≡ flash_files m'.state.pages m'.blocks = λ i. flash_files ((ap (λ s. s.settled) (state t) ∙ sym (ap (λ s. s.pages) (state t))) i) m'.blocks in
-        let image = told_files told m' t in
-        let base = same ∙ sym image in
-        record {
-          base = ap (λ d. d.base) now.1 ∙ base;
-          full = ap (λ d. d.full) now.1 ∙ ((λ i. put_announced (flash_files m'.state.settled m'.blocks) ((state t i).announced)) ∙ base);
-          left = ap (λ d. d.left) now.1 ∙ sym image;
-        }),
-    record {
-      image = same_files told m m' (λ t. ap (λ s. s.pages) (state t)) blocks;
-      during = λ c past.
-          let f = case_since c past in
-          ⊎_elim
-          (λ is. inl (past.0, f.2.1 ∙ same_case m.state m.blocks m'.blocks f.0 (blocks past.0) is))
-          (λ is. inr (past.0, f.2.1 ∙ same_case m'.state m'.blocks m'.blocks f.0 refl is))
-          (cases past.0 f.0 f.1);
-      written = wrote;
-    },
-  )
-
 -- no call at all
 pub disk_rests : (told : Bool) (m : FlashMedium) (own own' written : ℕ) → IsLawfulFlash told m
     → OnlyReads (flash_disk_medium told m own written) (flash_disk_medium told m own' written)
 disk_rests told m own own' written lawful =
     disk_reads told m m own own' written written (λ t. refl) (λ t. refl) (λ t f since. lawful.only_now f since) refl
-
--- reads write nothing
-pub reads_write_nothing : (old new : Medium) → OnlyReads old new → WritesNothing old new
-reads_write_nothing old new reads = record { image = reads.image; during = λ c past. inl (reads.during c past); written = reads.written }
 
 -- ---- writes
 
@@ -170,59 +120,6 @@ module _ (told : Bool) (m0 m1 m2 : FlashMedium) (own own' written written' file 
   }
 
   module _ (state : IsTrue told → m1.state ≡ announce_write m0.state file at bytes) (serves : IsTrue told → Does (TearsFiles m0 file at (length bytes)) m1 m2) where
-    -- what a crash leaves at any moment of it
-    pub disk_write_during : (IsTrue told → EachFlashCase (λ c. IsStill m0.state c ⊎ IsStill m1.state c) m0 m1)
-        → (IsTrue told → FlashElapses m0 m1) → (IsTrue told → FlashElapses m1 m2)
-        → Follows (WriteOrNot file at bytes) before.now (after.since before.moment)
-    disk_write_during cases early late c past =
-        let t = past.0 in
-        let f = past.1.0 in
-        let since : m2.since m0.moment f = subst (λ k. m2.since k f) (told_moment told m0.moment t) past.1.1 in
-        let blocks : m2.blocks ≡ m0.blocks = (late t).blocks ∙ (early t).blocks in
-        let is : c ≡ disk_case m0.blocks f = past.1.2.1 ∙ ap (λ n. disk_case n f) blocks in
-        let written : WriteCase file at bytes (disk_case m0.blocks (still_case m0.state)) (disk_case m0.blocks f)
-        → WriteOrNot file at bytes (disk_case m0.blocks (still_case m0.state)) c = λ w. inl (subst (WriteCase file at bytes (disk_case m0.blocks (still_case m0.state))) (sym is) w) in (
-          disk_case m0.blocks (still_case m0.state),
-          (t, refl),
-          ⊎_elim
-              (λ first. ⊎_elim
-              (λ still. inr (is ∙ same_case m0.state m0.blocks m0.blocks f refl still))
-              (λ still. written (write_case f
-              (still.settled ∙ ap (λ s. s.settled) (state t))
-              (still.announced ∙ ap (λ s. s.announced) (state t))
-              (subst (TearsFiles m0 file at (length bytes)) (sym (still.left ∙ ap (λ s. s.pages) (state t))) (torn_refl file at (length bytes) (flash_files m0.state.pages m0.blocks)))))
-              (cases t f first))
-              (λ then.
-              let leaves = (serves t).during f then in
-              written (write_case f
-              (leaves.settled ∙ ap (λ s. s.settled) (state t))
-              (leaves.announced ∙ ap (λ s. s.announced) (state t))
-              (leaves.left past.1.2.0)))
-              ((late t).nothing_else m0.moment f (early t).later since),
-        )
-
-    -- what reads give after it, where it failed
-    pub disk_write_torn : (IsTrue told → m2.blocks ≡ m0.blocks) → IsTrue told → TornImage file at (length bytes) before.image after.image
-    disk_write_torn blocks t =
-        subst (λ image. TornImage file at (length bytes) image after.image) (sym (told_files told m0 t))
-        (subst (TornImage file at (length bytes) (flash_files m0.state.pages m0.blocks)) (sym (told_files told m2 t ∙ ap (flash_files m2.state.pages) (blocks t)))
-        (serves t).now)
 
     module _ (blocks : IsTrue told → m2.blocks ≡ m0.blocks)
         (whole : IsTrue told → flash_files m2.state.pages m2.blocks ≡ put_image (flash_files m0.state.pages m0.blocks) file at bytes) where
-      -- what reads give after it, where it was done
-      pub disk_write_image : IsTrue told → after.image ≡ put_image before.image file at bytes
-      disk_write_image t = told_files told m2 t ∙ (whole t ∙ ap (λ image. put_image image file at bytes) (sym (told_files told m0 t)))
-
-      -- what a crash leaves after it, where it was done
-      pub disk_write_now : Follows (WriteCase file at bytes) before.now after.now
-      disk_write_now c now =
-          let t = now.0 in
-          let is : c ≡ disk_case m0.blocks (still_case m2.state) = now.1 ∙ ap (λ n. disk_case n (still_case m2.state)) (blocks t) in (
-            disk_case m0.blocks (still_case m0.state),
-            (t, refl),
-            subst (WriteCase file at bytes (disk_case m0.blocks (still_case m0.state))) (sym is) (write_case (still_case m2.state)
-                ((serves t).settled ∙ ap (λ s. s.settled) (state t))
-                ((serves t).announced ∙ ap (λ s. s.announced) (state t))
-                (serves t).now),
-          )

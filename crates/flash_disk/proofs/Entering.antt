@@ -39,13 +39,6 @@ pub entry_of : (pages : Pages) (n : ℕ) (table : Table) → IsLed pages n table
     → (e : Newest) × (known table key ≡ Some e) × Led pages n e x
 entry_of pages n table led key x is = by_entry pages n (known table key) (newest pages key.file key.page n) x is (led.says key)
 
--- a page that has a place is put in
-pub has_place : (table : Table) (key : FilePage) → HasPlace table key → (known table key ≡ None) × (limit_of table ≤ page_len table) → ⊥
-has_place table key place full = ⊎_elim
-    (λ some. true≢false (sym (subst IsSome full.0 some)))
-    (λ room. (let none = full.1 in omega (arith, room, none)))
-    place
-
 -- what is kept fits pages that can be opened
 pub sound_usable : (pages : Pages) (blocks : ℕ) (s : LayerState) → Sound pages blocks s → IsUsable pages blocks
 sound_usable pages blocks s sound = record {

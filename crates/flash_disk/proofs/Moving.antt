@@ -136,10 +136,6 @@ module _ (m now : FlashMedium) (s : LayerState) (sound : IsSound m s) (agreed : 
   pub erase_failed_keeps : FailsToErase s.spare m.state now.state → Keeps pages now.state.pages n
   erase_failed_keeps failed = loses_keeps now.state.pages (torn_erase pages s.spare now.state.pages failed.torn failed.plain)
 
-  pub erase_sound : now.state ≡ erased m.state s.spare → now.blocks ≡ m.blocks → IsSound now s
-  erase_sound done blocks = subst (λ b. Sound now.state.pages b s) (sym blocks)
-      (subst (λ (z : FlashState). Sound z.pages m.blocks s) (sym done) (loses_sound (erase_block pages s.spare) (whole_erase pages s.spare)))
-
   pub erase_keeps_all : now.state ≡ erased m.state s.spare → Keeps pages now.state.pages n
   erase_keeps_all done = subst (λ (z : FlashState). Keeps pages z.pages n) (sym done) (loses_keeps (erase_block pages s.spare) (whole_erase pages s.spare))
 

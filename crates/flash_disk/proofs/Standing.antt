@@ -199,15 +199,6 @@ module _ (old new : Pages) (n : ℕ) where
   pub keeps_tops : Keeps old new n → (top : ℕ) → Tops old n top → Tops new n top
   keeps_tops keeps top tops = λ j q inside there. (let was = keeps.only j q inside there in tops was.0 q was.1 was.2)
 
-  -- the records of new pages are all old ones, and of each newest one an equal one stands where it stood
-  pub led_keeps : ((j : ℕ) (q : PageRecord) → j < n → record_at new j ≡ Some q → (k : ℕ) × (k < n) × (record_at old k ≡ Some q))
-      → ((file page : ℕ) (x : Placed) → newest old file page n ≡ Some x
-      → (k : ℕ) × (k < n) × (record_at old k ≡ Some x.says) × (record_at new k ≡ record_at old k)) → Keeps old new n
-  led_keeps only led = record {
-    only = only;
-    stays = λ file page x found. (let place = led file page x found in (place.0, place.1, place.3 ∙ place.2));
-  }
-
   -- the same records in the same places
   pub same_records_keep : ((j : ℕ) → j < n → record_at new j ≡ record_at old j) → Keeps old new n
   same_records_keep same = record {

@@ -17,10 +17,6 @@ elapses_refl told m lawful tells = record {
   blocks = refl;
 }
 
--- and it only looks
-pub still_refl : (told : Bool) (m : FlashMedium) → IsLawfulFlash told m → EachFlashCase (IsStill m.state) m m
-still_refl told m lawful c past = lawful.only_now c past
-
 module _ (a b c : FlashMedium) where
   -- two stretches are one
   pub elapses_then : FlashElapses a b → FlashElapses b c → FlashElapses a c
@@ -48,14 +44,6 @@ module _ (a b c : FlashMedium) where
       → EachFlashCase (IsStill a.state) a c
   still_then first second same early late =
       each_then (IsStill a.state) first second early (λ x past. subst (λ s. IsStill s x) same (late x past))
-
-  -- a look, and then a call that only changes what was settled or announced
-  pub look_then : FlashElapses a b → FlashElapses b c → b.state ≡ a.state → EachFlashCase (IsStill a.state) a b
-      → EachFlashCase (λ x. IsStill b.state x ⊎ IsStill c.state x) b c → EachFlashCase (λ x. IsStill a.state x ⊎ IsStill c.state x) a c
-  look_then first second same early late =
-      each_then (λ x. IsStill a.state x ⊎ IsStill c.state x) first second
-      (λ x past. inl (early x past))
-      (λ x past. subst (λ s. IsStill s x ⊎ IsStill c.state x) same (late x past))
 
   -- what holds all through two stretches holds all through both
   pub does_then : (P : Pages → Type 0) → FlashElapses a b → FlashElapses b c → Does P a b → Does P b c → Does P a c
@@ -101,25 +89,6 @@ module _ (old new : FlashMedium) where
     abbrev Torn : Type 0
     Torn = (left : Pages) → Tears old.state.pages left → IsPlain old.state.pages done left → P left
 
-    cut_does : new.state.settled ≡ old.state.settled → new.state.announced ≡ old.state.announced → P new.state.pages → EachFlashCase Cases old new
-        → P old.state.pages → Torn → Does P old new
-    cut_does settled announced after cases before torn = record {
-      settled = settled;
-      announced = announced;
-      during = λ x past. ⊎_elim
-          (λ is. record { settled = is.settled; announced = is.announced; left = λ plain. subst P (sym is.left) before })
-          (λ late. ⊎_elim
-          (λ is. record { settled = is.settled ∙ settled; announced = is.announced ∙ announced; left = λ plain. subst P (sym is.left) after })
-          (λ cut. record {
-            settled = cut.settled;
-            announced = cut.announced;
-            left = λ plain. torn x.left cut.left (subst (λ p. IsPlain p done x.left) cut.before (subst (λ p. IsPlain x.before p x.left) cut.whole plain));
-          })
-          late)
-          (cases x past);
-      now = after;
-    }
-
     ends : {T E : Type 0} (result : Result T E) → OnOk result (new.state ≡ record old.state { pages = done }) → OnErr result (IsLeftBy done Tears old.state new.state)
         → EachFlashCase Cases old new → P old.state.pages → P done → Torn → Does P old new
     ends (Ok x) state failed cases before after torn =
@@ -146,7 +115,3 @@ module _ (old new : FlashMedium) where
       → ((left : Pages) → TornBlock block old.state.pages left → IsPlain old.state.pages (erase_block old.state.pages block) left → P left)
       → Does P old new
   erase_does P block result = ends P (erase_block old.state.pages block) (TornBlock block) result
-
--- what holds of the pages holds where nothing is called
-pub does_rests : (told : Bool) (m : FlashMedium) (P : Pages → Type 0) → IsLawfulFlash told m → P m.state.pages → Does P m m
-does_rests told m P lawful = does_nothing m m P refl (still_refl told m lawful)

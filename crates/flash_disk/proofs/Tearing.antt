@@ -111,26 +111,6 @@ module _ (old left : Pages) (i : ℕ) (r : Option PageRecord) (nothing : record_
       (λ apart. torn.elsewhere j apart)
       (cases_eq j i)
 
-  -- where a record was it is still
-  pub torn_still : (j : ℕ) (q : PageRecord) → record_at old j ≡ Some q → record_at left j ≡ Some q
-  torn_still j q there = torn.elsewhere j (λ here. none-some q (sym nothing ∙ subst (λ k. record_at old k ≡ Some q) here there)) ∙ there
-
-  -- a spare block in which the place does not lie is still spare
-  pub torn_is_spare : (n block : ℕ) → i / 64 ≢ block → IsSpare old n block → IsSpare left n block
-  torn_is_spare n block apart spare = λ x needed at.
-      let is = is_newest_of left x.says.file x.says.page n x needed.newest_is in
-      let was : IsNewest old x.says.file x.says.page n x = record {
-        of_page = is.of_page;
-        within = is.within;
-        there = sym (torn.elsewhere x.place (λ here. apart (ap (λ k. k / 64) (sym here) ∙ at))) ∙ is.there;
-        most = λ j q within there of_page. is.most j q within (torn_still j q there) of_page;
-        first = λ j q before there of_page. is.first j q before (torn_still j q there) of_page;
-      } in
-      spare x (record {
-        newest_is = one_newest old x.says.file x.says.page n (newest old x.says.file x.says.page n) (Some x) (newest_is old x.says.file x.says.page n) was;
-        alone = λ j copy. needed.alone j (record { within = copy.within; apart = copy.apart; same = torn_still j x.says copy.same });
-      }) at
-
 module _ (old left : Pages) (n : ℕ) (place : Place) (r : PageRecord) (small : place.page < 64) (within : number place < n)
     (nothing : record_at old (number place) ≡ None)
     (newer : (j : ℕ) (q : PageRecord) → j < n → record_at old j ≡ Some q → q.sequence < r.sequence) where
@@ -186,11 +166,6 @@ module _ (old left : Pages) (n i k : ℕ) (r : PageRecord) (nothing : record_at 
     stays = λ file page x found. (let is = is_newest_of old file page n x found in
         (x.place, is.within, torn.elsewhere x.place (λ here. none-some x.says (sym nothing ∙ subst (λ m. record_at old m ≡ Some x.says) here is.there)) ∙ is.there));
   }
-
-  -- where each newest record lies outside a block it still does
-  pub copy_elsewhere : IsTorn old left i (Some r) → IsAgreed old n → (block : ℕ) → LiesElsewhere old n block → LiesElsewhere left n block
-  copy_elsewhere torn agreed block elsewhere = elsewhere_kept old left n block agreed (copy_keeps torn) elsewhere
-      (λ j q apart there. torn.elsewhere j (λ here. none-some q (sym nothing ∙ subst (λ m. record_at old m ≡ Some q) here there)) ∙ there)
 
 module _ (old : Pages) (n k : ℕ) (place : Place) (bytes : List ℕ) (r : PageRecord) (small : place.page < 64)
     (blank : old place.block place.page ≡ blank_page) (is : record_in bytes ≡ Some r) (inside : k < n) (copied : record_at old k ≡ Some r) where
@@ -260,7 +235,3 @@ module _ (old left : Pages) (n block : ℕ) (elsewhere : LiesElsewhere old n blo
     only = λ j q within there. (j, within, loses.only j q there);
     stays = λ file page x found. (let copy = elsewhere file page x found in (copy.0, copy.1, loses.apart copy.0 copy.2 ∙ copy.3));
   }
-
-  -- each newest record still lies outside the block
-  pub erase_elsewhere : IsAgreed old n → LiesElsewhere left n block
-  erase_elsewhere agreed = elsewhere_kept old left n block agreed erase_keeps elsewhere (λ j q apart there. loses.apart j apart ∙ there)

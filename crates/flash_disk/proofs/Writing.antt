@@ -93,10 +93,6 @@ module _ (a b : FlashMedium) (state : b.state ≡ a.state) (blocks : b.blocks �
   pub files_seen : files_of b ≡ files_of a
   files_seen = ap (λ (t : FlashState). flash_files t.pages b.blocks) state ∙ ap (λ k. flash_files a.state.pages k) blocks
 
-  pub sound_seen : (s t : LayerState) → t ≡ s → IsSound a s → IsSound b t
-  sound_seen s t known sound = subst (λ (q : FlashState). Sound q.pages b.blocks t) (sym state)
-      (subst (λ k. Sound a.state.pages k t) (sym blocks) (subst (Sound a.state.pages a.blocks) (sym known) sound))
-
   pub fits_seen : (s t : LayerState) → t ≡ s → (file page len : ℕ) (bytes : List ℕ) → FitsIn a s file page len bytes → FitsIn b t file page len bytes
   fits_seen s t known file page len bytes fits = subst (λ (q : FlashState). Fits q.pages b.blocks t file page len bytes) (sym state)
       (subst (λ k. Fits a.state.pages k t file page len bytes) (sym blocks)

@@ -153,9 +153,3 @@ Tops pages n top = (j : ℕ) (q : PageRecord) → j < n → record_at pages j �
 pub record IsTop (pages : Pages) (n top : ℕ) : Type 0 where
   pub most : Tops pages n top
   pub one : (top ≡ 0) ⊎ ((j : ℕ) × (q : PageRecord) × (j < n) × (record_at pages j ≡ Some q) × (q.sequence ≡ top))
-
--- a blank page was programmed with these bytes, or nothing was
-abbrev pub ProgramsIf : Bool → Place → (blocks : ℕ) → List ℕ → Pages → Pages → Type 0
-ProgramsIf true place blocks bytes old new = (place.block < blocks) × (place.page < 64) × (old place.block place.page ≡ blank_page)
-    × (new ≡ program_page old place.block place.page bytes)
-ProgramsIf false place blocks bytes old new = new ≡ old
