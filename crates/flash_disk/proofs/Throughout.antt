@@ -1,8 +1,8 @@
 -- That a flash can be opened at every moment, and that no rivals come: what is kept says so of a flash, and calls that look or write leave it so.
 use Rattle.std.proofs.Common.{◌≡◌, ◌⊎◌, ℕ, ◌+◌, ◌<◌, ◌≤◌, Bool, List, Result, Ok, Err, OnOk, OnErr, cond, sym, refl, ap, subst, ◌∙◌, ⊎_elim, arith, true≢false}
-use Rattle.std.specs.Prelude.{Option, Some, None, IsTrue, IsSome, is_none}
+use Rattle.std.specs.Prelude.{Option, Some, None, IsSome, is_none}
 use Rattle.flash_model.specs.Pages.{Pages}
-use Rattle.flash_model.specs.State.{FlashState, FlashCase, IsStill, settle_pages}
+use Rattle.flash_model.specs.State.{IsStill, settle_pages}
 use Rattle.flash_model.specs.FlashMedium.{FlashMedium, IsLawfulFlash, FlashElapses, EachFlashCase}
 use Rattle.flash_record.specs.PageRecord.{PageRecord}
 use Rattle.flash_disk.specs.declared.table.Newest.{Newest}
