@@ -30,6 +30,10 @@ module _ (told : Bool) (m m' : FlashMedium) (own own' written written' : ℕ) wh
   abbrev end : Medium
   end = flash_disk_medium told m' own' written'
 
+  -- the flash's cases since its moment
+  abbrev Since : (FlashCase → Type 0) → Type 0
+  Since P = IsTrue told → EachFlashCase P m m'
+
   case_since : (c : Case) → end.since start.moment c → (f : FlashCase) × m'.since m.moment f × IsCaseOf m'.blocks f c
   case_since c past = (past.1.0, subst (λ k. m'.since k past.1.0) (told_moment told m.moment past.0) past.1.1, past.1.2)
 
@@ -60,6 +64,17 @@ module _ (told : Bool) (m m' : FlashMedium) (own own' written written' : ℕ) wh
 
       le_of : (t : ℕ) → IsTrue told → t ≤ start.moment → t ≤ m.moment
       le_of t tells le = subst (λ k. t ≤ k) (told_moment told m.moment tells) le
+
+  -- calls that only look
+  pub disk_reads : (IsTrue told → m'.state ≡ m.state) → (IsTrue told → m'.blocks ≡ m.blocks) → Since (IsStill m.state) → written' ≡ written → OnlyReads start end
+  disk_reads state blocks still wrote = record {
+    image = same_files told m m' (λ t. ap (λ s. s.pages) (state t)) blocks;
+    now = λ c now. (now.0, now.1 ∙ λ i. disk_case (blocks now.0 i) (still_case (state now.0 i)));
+    during = λ c past.
+        let f = case_since c past in
+        (past.0, f.2.1 ∙ same_case m.state m.blocks m'.blocks f.0 (blocks past.0) (still past.0 f.0 f.1));
+    written = wrote;
+  }
 
 -- no call at all
 pub disk_rests : (told : Bool) (m : FlashMedium) (own own' written : ℕ) → IsLawfulFlash told m
@@ -97,29 +112,3 @@ disk_write_nothing old new file at bytes none reads = (
 pub put_after : (image : Image) (ws : List Announced) (w : Announced) → put_announced image (ws ++ w ∷ []) ≡ put_image (put_announced image ws) w.file w.at w.bytes
 put_after image [] w = refl
 put_after image (v ∷ ws) w = put_after (put_image image v.file v.at v.bytes) ws w
-
--- pages that stand for the files as they were at this moment, but for n bytes of a file from a byte on
-abbrev pub TearsFiles : FlashMedium → (file at n : ℕ) → Pages → Type 0
-TearsFiles m file at n pages = TornImage file at n (flash_files m.state.pages m.blocks) (flash_files pages m.blocks)
-
--- A write: m0 before it, m1 after it was announced, m2 after what serves it, or after as much of that as was done.
-module _ (told : Bool) (m0 m1 m2 : FlashMedium) (own own' written written' file at : ℕ) (bytes : List ℕ) where
-  abbrev before : Medium
-  before = flash_disk_medium told m0 own written
-
-  abbrev after : Medium
-  after = flash_disk_medium told m2 own' written'
-
-  write_case : (f : FlashCase) → f.settled ≡ m0.state.settled → f.announced ≡ m0.state.announced ++ (record { file = file; at = at; bytes = bytes }) ∷ []
-      → TearsFiles m0 file at (length bytes) f.left → WriteCase file at bytes (disk_case m0.blocks (still_case m0.state)) (disk_case m0.blocks f)
-  write_case f settled announced torn = record {
-    base = λ i. flash_files (settled i) m0.blocks;
-    full = (λ i. put_announced (flash_files (settled i) m0.blocks) (announced i))
-        ∙ put_after (flash_files m0.state.settled m0.blocks) m0.state.announced (record { file = file; at = at; bytes = bytes });
-    left = torn;
-  }
-
-  module _ (state : IsTrue told → m1.state ≡ announce_write m0.state file at bytes) (serves : IsTrue told → Does (TearsFiles m0 file at (length bytes)) m1 m2) where
-
-    module _ (blocks : IsTrue told → m2.blocks ≡ m0.blocks)
-        (whole : IsTrue told → flash_files m2.state.pages m2.blocks ≡ put_image (flash_files m0.state.pages m0.blocks) file at bytes) where

@@ -44,6 +44,21 @@ module _ (file at : ℕ) (bytes : List ℕ) (len : ℕ) (old new : Image) where
       (cases_lt i (at + length bytes)))
       (cases_lt i at)
 
+  -- a part is made by its bytes in the range and what there was outside
+  pub put_part : ((f : ℕ) → f ≢ file → new f ≡ old f) → length (new file) ≡ len → length (old file) ≤ len
+      → ((j : ℕ) → j < length bytes → at + j < len → get_or (new file) (at + j) 0 ≡ get_or bytes j 0)
+      → ((i : ℕ) → i < len → (i < at) ⊎ (at + length bytes ≤ i) → get_or (new file) i 0 ≡ get_or (old file) i 0)
+      → PutPart file at bytes len old new
+  put_part others long no_shorter inside outside = record {
+    others = others;
+    long = long;
+    no_shorter = no_shorter;
+    bytes_are = by_range
+        (λ j lt below. let e : at + j - at ≡ j = omega arith in
+        inside j lt below ∙ sym (rw (within at (length bytes) (at + j) (omega arith) (omega arith)) (ap (λ k. get_or bytes k 0) e)))
+        (λ i below out. outside i below out ∙ sym (rw (beyond at (length bytes) i out)));
+  }
+
   same_file : (next : List ℕ) → PutPart file at bytes len old new → length next ≡ len
       → ((j : ℕ) → j < length bytes → at + j < len → get_or next (at + j) 0 ≡ get_or bytes j 0)
       → ((i : ℕ) → i < len → (i < at) ⊎ (at + length bytes ≤ i) → get_or next i 0 ≡ get_or (old file) i 0)
@@ -54,6 +69,12 @@ module _ (file at : ℕ) (bytes : List ℕ) (len : ℕ) (old new : Image) where
       (λ i below out. part_outside part i below out ∙ sym (outside i below out)) in
       let new_long = part.long in
       ext_get_or 0 (new file) next (new_long ∙ sym long) (λ i lt. each i (omega arith))
+
+  same_image : (next : Image) → PutPart file at bytes len old new → ((f : ℕ) → f ≢ file → next f ≡ old f) → new file ≡ next file → new ≡ next
+  same_image next part others here = fun_ext λ f. ⊎_elim
+      (λ e. subst (λ q. new q ≡ next q) (sym e) here)
+      (λ other. part.others f other ∙ sym (others f other))
+      (cases_eq f file)
 
   -- a part that is all of a write is the write
   pub whole_part : 0 < length bytes → len ≡ max (length (old file)) (at + length bytes) → PutPart file at bytes len old new → new ≡ put_image old file at bytes
@@ -109,6 +130,23 @@ torn_then file at n a b c first second =
         kept = λ i inside out. second.torn.kept i (omega arith) out ∙ first.torn.kept i inside out;
         no_shorter = omega arith;
         no_longer = omega arith;
+      };
+    }
+
+-- a part of a write is a write cut short
+pub torn_part : (file at n a : ℕ) (part : List ℕ) (len : ℕ) (old new : Image) → PutPart file a part len old new → at ≤ a → a + length part ≤ at + n
+    → 0 < n → len ≤ max (length (old file)) (at + n) → TornImage file at n old new
+torn_part file at n a part len old new put from to some reach =
+    let long = put.long in
+    let no_shorter = put.no_shorter in
+    let ne : n ≢ 0 = λ e. absurd (omega (arith, e)) in
+    record {
+      others = put.others;
+      torn = record {
+        kept = λ i inside out. part_outside file a part len old new put i (omega arith)
+            (⊎_elim (λ before. inl (omega (arith, before))) (λ past. inr (omega (arith, past))) out);
+        no_shorter = omega arith;
+        no_longer = rw (ne_eqb n 0 ne) (omega arith);
       };
     }
 

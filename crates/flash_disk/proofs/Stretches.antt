@@ -17,6 +17,10 @@ elapses_refl told m lawful tells = record {
   blocks = refl;
 }
 
+-- and it only looks
+pub still_refl : (told : Bool) (m : FlashMedium) → IsLawfulFlash told m → EachFlashCase (IsStill m.state) m m
+still_refl told m lawful c past = lawful.only_now c past
+
 module _ (a b c : FlashMedium) where
   -- two stretches are one
   pub elapses_then : FlashElapses a b → FlashElapses b c → FlashElapses a c
@@ -88,6 +92,25 @@ module _ (old new : FlashMedium) where
 
     abbrev Torn : Type 0
     Torn = (left : Pages) → Tears old.state.pages left → IsPlain old.state.pages done left → P left
+
+    cut_does : new.state.settled ≡ old.state.settled → new.state.announced ≡ old.state.announced → P new.state.pages → EachFlashCase Cases old new
+        → P old.state.pages → Torn → Does P old new
+    cut_does settled announced after cases before torn = record {
+      settled = settled;
+      announced = announced;
+      during = λ x past. ⊎_elim
+          (λ is. record { settled = is.settled; announced = is.announced; left = λ plain. subst P (sym is.left) before })
+          (λ late. ⊎_elim
+          (λ is. record { settled = is.settled ∙ settled; announced = is.announced ∙ announced; left = λ plain. subst P (sym is.left) after })
+          (λ cut. record {
+            settled = cut.settled;
+            announced = cut.announced;
+            left = λ plain. torn x.left cut.left (subst (λ p. IsPlain p done x.left) cut.before (subst (λ p. IsPlain x.before p x.left) cut.whole plain));
+          })
+          late)
+          (cases x past);
+      now = after;
+    }
 
     ends : {T E : Type 0} (result : Result T E) → OnOk result (new.state ≡ record old.state { pages = done }) → OnErr result (IsLeftBy done Tears old.state new.state)
         → EachFlashCase Cases old new → P old.state.pages → P done → Torn → Does P old new
