@@ -1,8 +1,8 @@
 -- How many entries lead into each block when entries are put into a table.
-use Rattle.std.proofs.Common.{◌≡◌, ℕ, ◌+◌, ◌-◌, ◌*◌, ◌<◌, ◌≤◌, Bool, true, false, cond, List, [], ◌∷◌, length, slice_index_or, Result, Ok, Err, refl, sym, ap, subst, ◌∙◌, arith}
-use Rattle.std.specs.Prelude.{Option, Some, None, nat_eq, IfOk, IfSome, All, is_ok, option_map, unwrap_or}
+use Rattle.std.proofs.Common.{◌≡◌, ℕ, ◌+◌, ◌-◌, ◌<◌, ◌≤◌, Bool, true, false, cond, List, length, slice_index_or, Result, Ok, Err, refl, sym, ap, subst, ◌∙◌, arith}
+use Rattle.std.specs.Prelude.{Option, Some, None, nat_eq, IfOk, All, is_ok}
 use Rattle.std.specs.List.{sum_by}
-use Rattle.std.specs.Map.{values_of, set_value, remove_entry, lookup}
+use Rattle.std.specs.Map.{values_of, set_value}
 use Rattle.std.specs.HashMap.{HashMap, PutsEntry, get, values, hash_map_len}
 use Rattle.std.proofs.lemmas.Bool.{true≢false}
 use Rattle.std.proofs.lemmas.Option.{same_Some}

@@ -1,22 +1,19 @@
 -- What a disk over a flash says of crashes, from what the flash says of them.
-use Rattle.std.proofs.Common.{◌≡◌, ◌⊎◌, ℕ, ◌+◌, ◌≤◌, Bool, true, false, cond, List, [], ◌∷◌, ◌++◌, length, sym, refl, ap, ◌∙◌, subst, inl, inr, ⊎_elim, le_refl}
+use Rattle.std.proofs.Common.{◌≡◌, ℕ, ◌+◌, ◌≤◌, Bool, true, false, cond, List, [], ◌∷◌, ◌++◌, length, sym, refl, ap, ◌∙◌, subst, inl, inr, ⊎_elim, le_refl}
 use Rattle.std.specs.Prelude.{IsTrue}
 use Rattle.std.proofs.Math.Path.{fun_ext}
 use Rattle.std.proofs.lemmas.Bool.{cases_eq}
 use Rattle.disk_model.specs.Image.{Image, put_image, TornImage}
 use Rattle.disk_model.specs.Case.{Case, WriteCase, WriteOrNot, Follows}
-use Rattle.disk_model.specs.Medium.{Medium, Elapses, OnlyReads, WritesNothing, Quiet}
+use Rattle.disk_model.specs.Medium.{Medium, Elapses, OnlyReads}
 use Rattle.disk_model.specs.Written.{put_none, put_image_here, put_image_elsewhere}
-use Rattle.flash_model.specs.Pages.{Pages}
-use Rattle.flash_model.specs.State.{Announced, FlashCase, IsStill, announce_write, settle_pages}
+use Rattle.flash_model.specs.State.{Announced, FlashCase, IsStill}
 use Rattle.flash_model.specs.FlashMedium.{FlashMedium, IsLawfulFlash, FlashElapses, EachFlashCase}
 use Rattle.flash_disk.specs.FlashFiles.{flash_files}
-use Rattle.flash_disk.specs.Does.{Does}
 use Rattle.flash_disk.specs.FlashDiskMedium.{put_announced, disk_case, still_case, IsCaseOf, files_told, flash_disk_medium}
 use Rattle.flash_disk.specs.FlashDiskLaws.{told_moment, same_case}
 pub use Rattle.flash_disk.specs.FlashDiskLaws.{told_files, disk_is_lawful}
 use Rattle.flash_disk.proofs.Parts.{torn_refl}
-use Rattle.flash_disk.proofs.Stretches.{failed_looks}
 
 -- the same pages, the same files
 same_files : (told : Bool) (m m' : FlashMedium) → (IsTrue told → m'.state.pages ≡ m.state.pages) → (IsTrue told → m'.blocks ≡ m.blocks) → files_told told m' ≡ files_told told m

@@ -1,9 +1,9 @@
 -- Tables with entries of the same pages, and with one page more.
-use Rattle.std.proofs.Common.{◌≡◌, ℕ, ◌+◌, cond, refl, sym, ap, subst, ◌∙◌, arith}
-use Rattle.std.specs.Prelude.{Bool, true, false, Option, Some, None, is_some, IsSome}
+use Rattle.std.proofs.Common.{◌≡◌, ◌+◌, cond, refl, sym, ap, ◌∙◌, arith}
+use Rattle.std.specs.Prelude.{Bool, true, false, is_some}
 use Rattle.flash_disk.specs.declared.table.FilePage.{FilePage}
 use Rattle.flash_disk.specs.declared.table.Table.{Table}
-use Rattle.flash_disk.specs.Known.{same_page, known, page_len, limit_of}
+use Rattle.flash_disk.specs.Known.{same_page, known, page_len}
 use Rattle.flash_disk.specs.Entries.{SameEntries, Occupies}
 use Rattle.flash_disk.proofs.Learning.{same_page_is}
 

@@ -1,5 +1,5 @@
 -- Some block other than the spare one has room for a record: not all of them can have a whole block of the entries.
-use Rattle.std.proofs.Common.{◌≡◌, ◌≢◌, ℕ, zero, suc, ◌+◌, ◌-◌, ◌*◌, ◌<◌, ◌≤◌, Bool, true, false, cond, List, [], ◌∷◌, length, vec_len, Result, Ok, Err, OnErr, refl, sym, ap, subst, ◌∙◌, ⊎_elim, arith}
+use Rattle.std.proofs.Common.{◌≡◌, ◌≢◌, ℕ, zero, suc, ◌+◌, ◌*◌, ◌<◌, ◌≤◌, Bool, true, false, cond, List, [], ◌∷◌, length, vec_len, Result, Ok, Err, OnErr, refl, sym, ap, subst, ⊎_elim, arith}
 use Rattle.std.specs.Prelude.{Some, is_ok, unwrap_or, option_map, nat_eq, nat_lt, ◌&&◌}
 use Rattle.std.specs.List.{sum_by}
 use Rattle.std.specs.HashMap.{values}
@@ -11,7 +11,7 @@ use Rattle.flash_disk.specs.declared.table.FilePage.{FilePage}
 use Rattle.flash_disk.specs.declared.table.Newest.{Newest}
 use Rattle.flash_disk.specs.declared.table.Table.{Table}
 use Rattle.flash_disk.specs.declared.layer.LayerState.{LayerState}
-use Rattle.flash_disk.specs.Known.{same_page, known, page_len, load_known}
+use Rattle.flash_disk.specs.Known.{same_page, known, load_known}
 use Rattle.flash_disk.specs.Counted.{leads_into, entries_in, lies_below, copied_below, IsCounted}
 
 -- ---- sums over blocks

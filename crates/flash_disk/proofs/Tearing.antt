@@ -10,14 +10,12 @@ use Rattle.flash_record.specs.PageRecord.{PageRecord, record_in}
 use Rattle.flash_record.specs.Blank.{blank_is_none}
 use Rattle.flash_record.proofs.Bodies.{record_in-none}
 use Rattle.flash_disk.specs.declared.table.Place.{Place}
-use Rattle.flash_disk.specs.Newest.{record_at, newest, IsNewest, IsSpare}
-use Rattle.flash_disk.specs.NewestLaws.{newest_is}
+use Rattle.flash_disk.specs.Newest.{record_at}
 use Rattle.flash_disk.specs.Learnt.{number, Adds}
-use Rattle.flash_disk.specs.Standing.{IsAgreed, Keeps}
+use Rattle.flash_disk.specs.Standing.{Keeps}
 use Rattle.flash_disk.proofs.Learning.{record_at_place}
-use Rattle.flash_disk.proofs.Programming.{one_newest}
 use Rattle.flash_disk.proofs.Standing.{is_newest_of, HasSameRecords}
-use Rattle.flash_disk.proofs.Sparing.{LiesElsewhere, elsewhere_kept}
+use Rattle.flash_disk.proofs.Sparing.{LiesElsewhere}
 
 bytes_tell : (a b : List ℕ) → (a ≡ b) ⊎ (a ≡ b → ⊥)
 bytes_tell a b = let tells = bytes_eq-Decides a b in ⊎_elim

@@ -1,6 +1,6 @@
 -- How a table is tied to the records on a flash.
 use Rattle.std.specs.Prelude.{◌≡◌, ◌≢◌, ◌⊎◌, ℕ, ◌+◌, ◌*◌, ◌<◌, ◌≤◌, Bool, true, false, List, Option, Some, None, IsTrue, IsFalse, IsSome, nat_lt, slice_index, if◌then◌else◌}
-use Rattle.flash_model.specs.Pages.{Pages, blank_page, program_page}
+use Rattle.flash_model.specs.Pages.{Pages}
 use Rattle.flash_disk.specs.declared.table.FilePage.{FilePage}
 use Rattle.flash_disk.specs.declared.table.Place.{Place}
 use Rattle.flash_disk.specs.declared.table.Newest.{Newest}

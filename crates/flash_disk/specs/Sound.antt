@@ -11,7 +11,7 @@ use Rattle.flash_disk.specs.declared.table.Place.{Place}
 use Rattle.flash_disk.specs.declared.table.Table.{Table}
 use Rattle.flash_disk.specs.declared.layer.LayerState.{LayerState}
 use Rattle.flash_disk.specs.Newest.{record_at, places, page_count, page_limit, IsSpare, IsUsable}
-use Rattle.flash_disk.specs.Known.{known, page_len, limit_of, page_of, HasLen}
+use Rattle.flash_disk.specs.Known.{known, page_len, limit_of, HasLen}
 use Rattle.flash_disk.specs.Counted.{IsCounted}
 use Rattle.flash_disk.specs.Learnt.{number, Knows, Adds, HasPlace, Tops}
 use Rattle.flash_disk.specs.FlashFiles.{file_byte, file_len, flash_files}

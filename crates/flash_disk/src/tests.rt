@@ -479,8 +479,9 @@ fn moves_well(alloc: Global, calls: u64) -> Option<(bool, u32)> {
     let mut disk = FlashDisk::open(alloc, flash).ok()?;
     let mut byte = [9; 1];
     let same = disk.read(1, 9, &mut byte) == Ok(1) && is_still_crowded(&mut disk);
-    let before = if done == 0 { 7 } else { done as u8 - 1 };
-    Some((same && (byte[0] == before || byte[0] == done as u8), done))
+    let last = (done % 250) as u8;
+    let before = if done == 0 { 7 } else { last.saturating_sub(1) };
+    Some((same && (byte[0] == before || byte[0] == last), done))
 }
 
 #[test]
