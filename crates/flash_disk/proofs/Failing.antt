@@ -28,20 +28,34 @@ wants_too_many m s file at n end sound is full =
     subst (λ e. page_limit m.blocks < page_count m.state.pages (places m.blocks) + lacking m.state.pages (places m.blocks) file (at / 256) (div_ceil e 256 - at / 256)) is
     (omega (arith, limit, known_pages, misses, many))
 
--- a write for which there was room, into pages that agree
-pub allowed : (m : FlashMedium) (s : LayerState) (file at n end : ℕ) → IsSound m s → end ≡ at + n → end ≤ 1099511627776
-    → missing s.table file (at / 256) (div_ceil end 256 - at / 256) ≤ limit_of s.table - page_len s.table → IsFalse s.disputed → IsAllowed m file at n
-allowed m s file at n end sound is late room calm =
+-- there is room for the write
+pub has_room_for : (m : FlashMedium) (s : LayerState) (file at n end : ℕ) → IsSound m s → end ≡ at + n
+    → missing s.table file (at / 256) (div_ceil end 256 - at / 256) ≤ limit_of s.table - page_len s.table
+    → page_count m.state.pages (places m.blocks) + lacking m.state.pages (places m.blocks) file (at / 256) (div_ceil (at + n) 256 - at / 256) ≤ page_limit m.blocks
+has_room_for m s file at n end sound is room =
     let range = div_ceil end 256 - at / 256 in
     let limit = sound.limit in
     let few = sound.counted.fits in
     let known_pages = sound.count in
-    let misses = missing_is m.state.pages (places m.blocks) s.table sound.knows.led file (at / 256) range in record {
-      ends = omega (arith, late, is);
-      fits = subst (λ e. page_count m.state.pages (places m.blocks) + lacking m.state.pages (places m.blocks) file (at / 256) (div_ceil e 256 - at / 256) ≤ page_limit m.blocks) is
-          (omega (arith, limit, few, known_pages, misses, room));
-      agreed = sound.agreed calm;
-    }
+    let misses = missing_is m.state.pages (places m.blocks) s.table sound.knows.led file (at / 256) range in
+    subst (λ e. page_count m.state.pages (places m.blocks) + lacking m.state.pages (places m.blocks) file (at / 256) (div_ceil e 256 - at / 256) ≤ page_limit m.blocks) is
+    (omega (arith, limit, few, known_pages, misses, room))
+
+-- a write that is too long or too much was not begun
+pub not_begun : (m : FlashMedium) (s : LayerState) (file at n end : ℕ) → IsSound m s → end ≡ at + n → end ≤ 1099511627776
+    → missing s.table file (at / 256) (div_ceil end 256 - at / 256) ≤ limit_of s.table - page_len s.table → EndsTooLate at n ⊎ WantsTooMany m file at n → ⊥
+not_begun m s file at n end sound is late room why =
+    let fits = has_room_for m s file at n end sound is room in
+    ⊎_elim (λ ends. omega (arith, ends, late, is)) (λ many. omega (arith, many, fits)) why
+
+-- a write for which there was room, into pages that agree
+pub allowed : (m : FlashMedium) (s : LayerState) (file at n end : ℕ) → IsSound m s → end ≡ at + n → end ≤ 1099511627776
+    → missing s.table file (at / 256) (div_ceil end 256 - at / 256) ≤ limit_of s.table - page_len s.table → IsFalse s.disputed → IsAllowed m file at n
+allowed m s file at n end sound is late room calm = record {
+  ends = omega (arith, late, is);
+  fits = has_room_for m s file at n end sound is room;
+  agreed = sound.agreed calm;
+}
 
 -- the pages that it takes are those that it lacked: a has the table s, whose entries are those of u when its pages are written
 pub takes_pages : (a d : FlashMedium) (s u t : LayerState) (file at n : ℕ) → IsSound a s → IsSound d t → SameEntries s.table u.table

@@ -21,14 +21,14 @@ abbrev pub WantsTooMany : FlashMedium → (file at n : ℕ) → Type 0
 WantsTooMany m file at n = page_limit m.blocks < page_count m.state.pages (places m.blocks)
     + lacking m.state.pages (places m.blocks) file (at / 256) (div_ceil (at + n) 256 - at / 256)
 
--- a write of n bytes breaks no limit, and finds no rivals
+-- a write of n bytes ends within the greatest file, has room for its pages, and finds no rivals
 pub record IsAllowed (m : FlashMedium) (file at n : ℕ) : Type 0 where
   pub ends : at + n ≤ 1099511627776
   pub fits : page_count m.state.pages (places m.blocks)
       + lacking m.state.pages (places m.blocks) file (at / 256) (div_ceil (at + n) 256 - at / 256) ≤ page_limit m.blocks
   pub agreed : IsAgreed m.state.pages (places m.blocks)
 
--- it adds no page but those that it lacks
+-- it adds no more pages than it lacks
 abbrev pub TakesPages : FlashMedium → FlashMedium → (file at n : ℕ) → Type 0
 TakesPages old new file at n = page_count new.state.pages (places new.blocks) ≤ page_count old.state.pages (places old.blocks)
     + lacking old.state.pages (places old.blocks) file (at / 256) (div_ceil (at + n) 256 - at / 256)
@@ -37,7 +37,7 @@ TakesPages old new file at n = page_count new.state.pages (places new.blocks) �
 abbrev pub StopsAdding : LayerState → Type 0
 StopsAdding s = (s.sequence ≡ 18446744073709551615) ⊎ IsTrue s.disputed
 
--- a write of n bytes into a file fails though the flash does not, where the greatest number that was used is then this one
+-- a write of n bytes into a file fails though the flash does not, where this is the greatest number used by its end
 abbrev pub FailsAlone : FlashMedium → (sequence file at n : ℕ) → Type 0
 FailsAlone m sequence file at n = EndsTooLate at n ⊎ (WantsTooMany m file at n
     ⊎ ((sequence ≡ 18446744073709551615) ⊎ HasRivals m.state.pages (places m.blocks)))

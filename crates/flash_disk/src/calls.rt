@@ -13,7 +13,7 @@ use flash_model::Flash;
 
 impl<F: Flash> Disk for FlashDisk<F> {
     ghost use Rattle.flash_disk.specs.FlashDiskMedium.{flash_disk_medium, disk_seen};
-    ghost use Rattle.flash_disk.specs.OwnFaults.{FailsAlone, IsAllowed, TakesPages};
+    ghost use Rattle.flash_disk.specs.OwnFaults.{EndsTooLate, WantsTooMany, FailsAlone, IsAllowed, TakesPages};
     ghost use Rattle.flash_disk.specs.Throughout.{KeepsUsable, KeepsAgreed};
     ghost use Rattle.flash_disk.specs.FlashDiskLaws.{disk_is_lawful};
 
@@ -32,7 +32,7 @@ impl<F: Flash> Disk for FlashDisk<F> {
         ensures time { Elapses (disk_seen F.told F.medium self.old) (disk_seen F.told F.medium self.new) }
         ensures cause { OnErr result (Rose (disk_seen F.told F.medium self.old).faults (disk_seen F.told F.medium self.new).faults) }
 
-        // No fault is its own, no number is used, no page changes, and a crash meanwhile leaves what can be opened.
+        // No fault is its own, no number is used, no page changes, no rivals come, and a crash meanwhile leaves what can be opened.
         ensures own { self.new.own ≡ self.old.own }
         ensures numbers { self.new.sequence ≡ self.old.sequence }
         ensures still { IsTrue F.told → (F.medium self.new.flash).state ≡ (F.medium self.old.flash).state }
@@ -64,11 +64,17 @@ impl<F: Flash> Disk for FlashDisk<F> {
         ensures one { self.new.own ≤ self.old.own + 1 }
         ensures no_less { self.old.own ≤ self.new.own }
 
-        // It succeeds only within the limits and where there are no rivals, and then takes no more pages than it lacks.
+        // It succeeds only within the limits and where there are no rivals, and then adds no more pages than it lacks.
         ensures allowed { IsTrue F.told → OnOk result (0 < length bytes.now → IsAllowed (F.medium self.old.flash) file at (length bytes.now)) }
         ensures takes { IsTrue F.told → OnOk result (TakesPages (F.medium self.old.flash) (F.medium self.new.flash) file at (length bytes.now)) }
 
-        // How many numbers it uses: at most one for each byte, and one for each page below its end.
+        // One that is too long or too much changes no page, and one of no bytes changes nothing.
+        ensures refused { IsTrue F.told → EndsTooLate at (length bytes.now) ⊎ WantsTooMany (F.medium self.old.flash) file at (length bytes.now)
+            → (F.medium self.new.flash).state ≡ (F.medium self.old.flash).state }
+        ensures nothing { length bytes.now ≡ 0 → self.new ≡ self.old }
+
+        // How many numbers it uses: one for each 256 bytes at least, if it succeeds; at most one for each byte and each page below its end.
+        ensures rises { OnOk result (length bytes.now + 256 * self.old.sequence ≤ 256 * self.new.sequence) }
         ensures later { self.old.sequence ≤ self.new.sequence }
         ensures steps { self.new.sequence ≤ self.old.sequence + length bytes.now + div_ceil (at + length bytes.now) 256 }
 
@@ -93,7 +99,7 @@ impl<F: Flash> Disk for FlashDisk<F> {
         ensures time { Elapses (disk_seen F.told F.medium self.old) (disk_seen F.told F.medium self.new) }
         ensures cause { OnErr result (Rose (disk_seen F.told F.medium self.old).faults (disk_seen F.told F.medium self.new).faults) }
 
-        // No fault is its own, no number is used, no page changes, and a crash meanwhile leaves what can be opened.
+        // No fault is its own, no number is used, no page changes, no rivals come, and a crash meanwhile leaves what can be opened.
         ensures own { self.new.own ≡ self.old.own }
         ensures numbers { self.new.sequence ≡ self.old.sequence }
         ensures still { IsTrue F.told → (F.medium self.new.flash).state ≡ (F.medium self.old.flash).state }
@@ -111,7 +117,7 @@ impl<F: Flash> Disk for FlashDisk<F> {
         ensures time { Elapses (disk_seen F.told F.medium self.old) (disk_seen F.told F.medium self.new) }
         ensures cause { OnErr result (Rose (disk_seen F.told F.medium self.old).faults (disk_seen F.told F.medium self.new).faults) }
 
-        // No fault is its own, no number is used, no page changes, and a crash meanwhile leaves what can be opened.
+        // No fault is its own, no number is used, no page changes, no rivals come, and a crash meanwhile leaves what can be opened.
         ensures own { self.new.own ≡ self.old.own }
         ensures numbers { self.new.sequence ≡ self.old.sequence }
         ensures pages { IsTrue F.told → (F.medium self.new.flash).state.pages ≡ (F.medium self.old.flash).state.pages }

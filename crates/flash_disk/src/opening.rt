@@ -32,7 +32,7 @@ impl<F: Flash> FlashDisk<F> {
         ensures device { IfErr result (λ refused. refused.error ≡ FlashOpenError.Device
             → Rose (F.medium flash).faults (F.medium refused.flash).faults) }
 
-        // It is usable exactly where the disk opens.
+        // A flash that opens is usable; one that is refused as unusable is not.
         ensures usable { IsTrue F.told → OnOk result (IsUsable (F.medium flash).state.pages (F.medium flash).blocks) }
         ensures throughout { IsTrue F.told → IfOk result (λ disk. KeepsUsable (F.medium flash) (F.medium disk.flash)) }
         ensures agreed { IsTrue F.told → IfOk result (λ disk. KeepsAgreed (F.medium flash) (F.medium disk.flash)) }

@@ -257,6 +257,8 @@ impl<F: Flash> Layer<F> {
         ensures steps { self.new.state.sequence ≤ self.old.state.sequence + length bytes.now + div_ceil (at + length bytes.now) 256 }
         ensures allowed { IsTrue F.told → OnOk result (IsAllowed (F.medium self.old.flash) file at (length bytes.now)) }
         ensures takes { IsTrue F.told → OnOk result (TakesPages (F.medium self.old.flash) (F.medium self.new.flash) file at (length bytes.now)) }
+        ensures refused { IsTrue F.told → EndsTooLate at (length bytes.now) ⊎ WantsTooMany (F.medium self.old.flash) file at (length bytes.now)
+            → (F.medium self.new.flash).state ≡ (F.medium self.old.flash).state }
     {
         let end = match at.checked_add(bytes.len() as u64) {
             Some(end) if end <= MAX_END => end,

@@ -2,7 +2,7 @@ use Rattle.std.proofs.Common.{length, sym, inl, inr, ◌∙◌, arith, true≢fa
 use Rattle.std.proofs.lemmas.Result.{on_ok_weaker}
 use Rattle.flash_disk.proofs.Writing.{on_ok_both, no_error, wipes_torn, wipes_then, len_wiped, grows_wiped, sound_announced, writes_into}
 use Rattle.flash_disk.proofs.Stretches.{elapses_then}
-use Rattle.flash_disk.proofs.Failing.{wants_too_many, allowed, takes_pages}
+use Rattle.flash_disk.proofs.Failing.{wants_too_many, not_begun, allowed, takes_pages}
 use Rattle.flash_disk.proofs.layer.Layer.write_file.Goals as goal
 
 pub returns-in_err-wipe_strays-clause-writes : goal.returns-in_err-wipe_strays-clause-writes
@@ -83,3 +83,13 @@ returns-clause-takes g c told =
     (λ sound takes. takes_pages a d c.args.self.now.state c.wipe_strays.new.self.state c.write_pages.new.self.state c.args.file c.args.at (length c.args.bytes.now)
     (c.requires.sound told) sound (c.in_ok-wipe_strays.ensures.entries told) takes)
     (f.sound told) (f.takes told)
+
+pub returns-in_err-wipe_strays-clause-refused : goal.returns-in_err-wipe_strays-clause-refused
+returns-in_err-wipe_strays-clause-refused g c told why =
+    absurd (not_begun (g.F.Flash.medium c.args.self.now.flash) c.args.self.now.state c.args.file c.args.at (length c.args.bytes.now) c.in-Some.end (c.requires.sound told)
+    c.in-Some.ensures.1 (omega arith) (c.has_room.ensures.0 c.if-not-has_room.false) why)
+
+pub returns-clause-refused : goal.returns-clause-refused
+returns-clause-refused g c told why =
+    absurd (not_begun (g.F.Flash.medium c.args.self.now.flash) c.args.self.now.state c.args.file c.args.at (length c.args.bytes.now) c.in-Some.end (c.requires.sound told)
+    c.in-Some.ensures.1 (omega arith) (c.has_room.ensures.0 c.if-not-has_room.false) why)
