@@ -32,6 +32,3 @@ pub use mending::mend;
 pub use parts::BLOCK;
 pub use putting::{PutBlob, put_blob, put_shared, reserve_blob, reserve_shared};
 pub use writing::{write_blob, write_shared};
-
-#[cfg(test)]
-mod tests;

@@ -10,7 +10,5 @@
 
 mod configs;
 mod lookups;
-#[cfg(test)]
-mod tests;
 
 pub use configs::{CollectionStrategy, Deployment, ElementConfig, ElementStrategy, StorageConfig};

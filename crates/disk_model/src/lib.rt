@@ -16,8 +16,6 @@ mod history;
 mod memory;
 mod orders;
 mod place;
-#[cfg(test)]
-mod tests;
 
 pub use disk::{Disk, DiskFailed};
 pub use memory::MemDisk;

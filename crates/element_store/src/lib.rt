@@ -30,8 +30,6 @@ mod reporting;
 mod spelling;
 mod store;
 mod taking;
-#[cfg(test)]
-mod tests;
 mod writing;
 
 pub use committing::CommitFault;

@@ -13,8 +13,6 @@ mod cursor;
 mod file;
 mod info;
 mod room;
-#[cfg(test)]
-mod tests;
 
 pub use cursor::{Cursor, is_bad_mode, reads, writes};
 pub use file::{FILE_BYTES, File};

@@ -17,8 +17,6 @@ mod opening;
 mod restoring;
 mod storage;
 mod table;
-#[cfg(test)]
-mod tests;
 
 pub use handle::Handle;
 pub use storage::Storage;

@@ -27,7 +27,5 @@ mod layer;
 mod opening;
 mod serving;
 mod table;
-#[cfg(test)]
-mod tests;
 
 pub use disk::{FlashDisk, FlashOpenError, FlashRefused};

@@ -14,8 +14,6 @@
 mod flash;
 mod memory;
 mod record;
-#[cfg(test)]
-mod tests;
 
 pub use flash::{BLANK_PAGE, BLOCK_PAGES, Flash, FlashFailed, PAGE_BYTES};
 pub use memory::MemFlash;

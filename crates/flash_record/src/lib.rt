@@ -9,8 +9,6 @@
 #![tactic(auto)]
 
 mod reading;
-#[cfg(test)]
-mod tests;
 mod writing;
 
 pub use reading::{RECORD_BYTES, Record, read_record};

@@ -34,6 +34,3 @@ pub use keeping::keep_only;
 pub use laws::held_is_lawful;
 pub use looking::{Seen, look};
 pub use opening::{OpenedCell, open_cell};
-
-#[cfg(test)]
-mod tests;

@@ -21,6 +21,3 @@ pub use hashing::hash;
 pub use layout::{BLANK, HEADER, MAX_BODY};
 pub use sealing::{seal, seal_into};
 pub use verifying::{Sealed, verify};
-
-#[cfg(test)]
-mod tests;

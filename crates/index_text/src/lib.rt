@@ -25,6 +25,3 @@ pub use errors::IndexError;
 pub use laws::{blocks_are_few, one_index, text_is_short};
 pub use reading::read_index;
 pub use writing::write_index;
-
-#[cfg(test)]
-mod tests;

@@ -13,8 +13,6 @@ mod reading;
 mod restoring;
 mod session;
 mod syncing;
-#[cfg(test)]
-mod tests;
 mod typing;
 mod writing;
 

@@ -42,29 +42,3 @@ fn count_holders(copies: &[Option<Vec<u8>>], text: &[u8]) -> usize
     }
     count
 }
-
-#[cfg(test)]
-mod tests {
-    use super::*;
-    use std::alloc::{AllocError, Global};
-    use std::test::Fail;
-
-    fn text(alloc: Global, bytes: &[u8]) -> Result<Option<Vec<u8>>, AllocError> {
-        let copied = Vec::from_slice(alloc, bytes)?;
-        Ok(Some(copied))
-    }
-
-    // Of a, b and b two agree on b; one copy is a; of a, none and b no two agree.
-    #[test]
-    fn worked_votes(rt: HostRuntime) -> Result<(), Fail> {
-        let alloc = rt.alloc();
-        let agreed = [text(alloc, b"a")?, text(alloc, b"b")?, text(alloc, b"b")?];
-        assert_eq!(rt; vote(2, &agreed), Some(b"b".as_slice()));
-        let one = [None, text(alloc, b"a")?];
-        assert_eq!(rt; vote(1, &one), Some(b"a".as_slice()));
-        let split = [text(alloc, b"a")?, None, text(alloc, b"b")?];
-        assert_eq!(rt; vote(2, &split), None);
-        assert_eq!(rt; vote(1, &[]), None);
-        Ok(())
-    }
-}

@@ -17,8 +17,6 @@ mod names;
 mod parts;
 mod reading;
 mod storage_rules;
-#[cfg(test)]
-mod tests;
 mod values;
 mod whole_rules;
 mod words;

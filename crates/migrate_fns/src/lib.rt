@@ -12,8 +12,6 @@
 mod chains;
 mod migrations;
 mod search;
-#[cfg(test)]
-mod tests;
 
 pub use chains::Chain;
 pub use migrations::{Converter, Migration, Migrations};

@@ -16,8 +16,6 @@ mod names;
 mod opening;
 mod reports;
 mod streams;
-#[cfg(test)]
-mod tests;
 
 pub use elements::{
     Cause, Content, ENTRY_SIZE, Element, Entry, FileInfo, Fresh, Scope, StoreKind, element_size,

@@ -9,8 +9,6 @@
 
 mod folder;
 mod standard;
-#[cfg(test)]
-mod tests;
 
 use folder::DirDisk;
 use per_run::{per_run, read_words};

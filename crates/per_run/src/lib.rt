@@ -20,8 +20,6 @@ mod reader;
 mod replies;
 mod run;
 mod session;
-#[cfg(test)]
-mod tests;
 mod words;
 mod writing;
 

@@ -16,8 +16,6 @@ mod members;
 mod round_trips;
 mod scalars;
 mod signed;
-#[cfg(test)]
-mod tests;
 mod texts;
 mod unsigned;
 

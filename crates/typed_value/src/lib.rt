@@ -19,6 +19,3 @@ pub use value_text::{
     parse_type, parse_value, print_type, print_value, read_type_is_exact, read_value_is_exact,
     type_is_in_its_text, value_is_in_its_text, value_text_is_one_line,
 };
-
-#[cfg(test)]
-mod tests;

@@ -11,8 +11,6 @@ mod encoding;
 mod fields;
 mod laws;
 mod payloads;
-#[cfg(test)]
-mod tests;
 mod trees;
 mod types;
 

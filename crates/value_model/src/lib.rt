@@ -11,8 +11,6 @@ mod errors;
 mod limits;
 mod nodes;
 mod sizes;
-#[cfg(test)]
-mod tests;
 mod types;
 mod typing;
 mod values;

@@ -16,8 +16,6 @@ mod numbers;
 mod printing;
 mod readers;
 mod strings;
-#[cfg(test)]
-mod tests;
 mod types;
 mod values;
 mod whole;
