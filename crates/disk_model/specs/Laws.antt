@@ -1,8 +1,8 @@
--- How calls chain: counts, time, cases from step to step, and calls that only read.
+-- How calls chain, for every caller of a disk: counts, time, cases from step to step, and calls that only read.
 use Rattle.std.proofs.Common.{◌⊎◌, ℕ, ◌≤◌, Bool, refl, sym, ◌∙◌, subst, inl, inr, ⊎_elim, le_refl, le_trans, arith}
 use Rattle.per_base.specs.Causes.{Rose}
 use Rattle.disk_model.specs.Case.{Case, IsSettledAt, Follows, FromSettled}
-use Rattle.disk_model.specs.Medium.{Medium, Quiet, IsLawful, Elapses, OnlyReads, WritesNothing, IsIdle, EachCase}
+use Rattle.disk_model.specs.Medium.{Medium, Grows, Quiet, IsLawful, Elapses, OnlyReads, WritesNothing, IsIdle, EachCase}
 
 -- ---- counts
 
@@ -23,8 +23,24 @@ elapses_none law = record {
   nothing_else = λ t c le past. inl past;
   keeps = λ t c le past. past;
   adds = λ t c le past. law.counts_now t c le (law.only_now c past);
+  gave = record { nothing_else = λ t i le past. inl past; keeps = λ t i le past. past; adds = law.gave_counts };
+  opens = λ t le was. was;
+  agrees = λ t le was. was;
   faults = le_refl _;
   written = le_refl _;
+}
+
+grows_on : {X : Type 0} {a b : ℕ} {old mid new : ℕ → X → Type 0} → a ≤ b → Grows a old mid → Grows b mid new → Grows a old new
+grows_on {X} {a} later first next = record {
+  nothing_else = λ t x le past. ⊎_elim
+      (λ was. ⊎_elim (λ before. inl before) (λ since. inr (next.keeps a x later since)) (first.nothing_else t x le was))
+      (λ since. inr (next.adds a x later since))
+      (next.nothing_else t x (le_trans le later) past);
+  keeps = λ t x le past. next.keeps t x (le_trans le later) (first.keeps t x le past);
+  adds = λ t x le past. ⊎_elim
+      (λ was. next.keeps t x (le_trans le later) (first.adds t x le was))
+      (λ since. next.adds t x (le_trans le later) since)
+      (next.nothing_else a x later past);
 }
 
 -- time goes on from call to call
@@ -40,6 +56,9 @@ elapses_on {a} {b} {c} first next = record {
       (λ was. next.keeps t x (le_trans le first.later) (first.adds t x le was))
       (λ new. next.adds t x (le_trans le first.later) new)
       (next.nothing_else a.moment x first.later past);
+  gave = grows_on first.later first.gave next.gave;
+  opens = λ t le was. next.opens t (le_trans le first.later) (first.opens t le was);
+  agrees = λ t le was. next.agrees t (le_trans le first.later) (first.agrees t le was);
   faults = le_trans first.faults next.faults;
   written = le_trans first.written next.written;
 }
