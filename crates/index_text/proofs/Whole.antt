@@ -13,8 +13,9 @@ use Rattle.index_text.specs.declared.errors.IndexError.{IndexError}
 use Rattle.index_text.specs.declared.errors.IndexError.TheVariants as errors
 use Rattle.index_text.specs.Rules.{EntryInRange, InRange, IsEntry, IsIndex, block_count, blocks_of, is_format, names_of}
 use Rattle.index_text.specs.Spelling.{changed_text, entry_text, header_text, index_text, info_text, kind_code, name_text}
-use Rattle.index_text.specs.Reading.{Gives, are_distinct, ascends, byte_at, bytes_at, changed_at, entry_at, header_at, index_of, info_at, coded_kind, len_at, many, name_at, number_at}
-use Rattle.index_text.proofs.Readers.{IsBytes, IsReader, Takes, Takes-then, bind_some, byte_reader, bytes_reader, many_reader, moved, number_reader, only_some, only_true, some_is, wide_16, wide_32}
+use Rattle.per_base.specs.Fields.{byte_at, bytes_at, many, number_at}
+use Rattle.index_text.specs.Reading.{Gives, are_distinct, ascends, changed_at, entry_at, header_at, index_of, info_at, coded_kind, len_at, name_at}
+use Rattle.per_base.specs.FieldLaws.{IsBytes, IsReader, Takes, Takes-then, bind_some, byte_reader, bytes_reader, many_reader, moved, number_reader, only_some, only_true, some_is, wide_16, wide_32}
 use Rattle.index_text.proofs.FieldReaders.{changed_reader, info_reader, coded_kind_again, kind_back, len_reader, name_reader}
 use Rattle.index_text.proofs.Order.{apart_from_test, ascends_from_sorted, sorted_from_ascends, test_from_apart}
 
