@@ -29,4 +29,5 @@ pub mod Entries
 pub mod Affording
 pub mod PageCount
 pub mod Throughout
+pub mod Times
 pub mod Failing
