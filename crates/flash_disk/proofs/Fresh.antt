@@ -1,6 +1,6 @@
 -- That a blank flash can be opened and has no rivals, and that records that agree are no rivals.
 use Rattle.std.proofs.Common.{◌≡◌, ℕ, zero, suc, ◌+◌, ◌/◌, ◌%◌, ◌<◌, ◌≤◌, refl, sym, ap, ◌∙◌, arith, true≢false}
-use Rattle.std.specs.Prelude.{Bool, true, false, Some, None, nat_eq, ◌&&◌}
+use Rattle.std.specs.Prelude.{Bool, true, false, None, nat_eq, ◌&&◌}
 use Rattle.std.proofs.lemmas.Bool.{eqb-true}
 use Rattle.std.proofs.lemmas.Option.{none-some}
 use Rattle.flash_model.specs.Pages.{Pages}
