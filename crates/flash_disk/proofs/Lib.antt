@@ -30,3 +30,4 @@ pub mod Affording
 pub mod PageCount
 pub mod Throughout
 pub mod Failing
+mod Fresh
