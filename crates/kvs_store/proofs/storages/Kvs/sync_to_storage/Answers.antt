@@ -33,8 +33,8 @@ pub returns-in-Ok-commit-clause-view : goal.returns-in-Ok-commit-clause-view
 returns-in-Ok-commit-clause-view g c =
     c.in-Ok-commit.ensures.view
     ∙ view_then g.D.Disk.told (g.D.Disk.medium c.args.disk.now).image c.args.self c.requires c.holds.ensures c.holds-2.ensures.maps c.holds-2.ensures.room c.in-Ok.changes.items c.in-Ok.ensures
-        c.changes_make_maps.ensures.committed c.syncs_are_decided.ensures.next
-        (λ same. let no : c.has_changes.result ≡ false = c.has_changes.ensures.1 same in absurd (cc))
+    c.changes_make_maps.ensures.committed c.syncs_are_decided.ensures.next
+    (λ same. let no : c.has_changes.result ≡ false = c.has_changes.ensures.1 same in absurd (cc))
 
 pub returns-in-Ok-commit-clause-any_moment : goal.returns-in-Ok-commit-clause-any_moment
 returns-in-Ok-commit-clause-any_moment g c = λ tells.
