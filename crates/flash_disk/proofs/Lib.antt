@@ -31,3 +31,4 @@ pub mod PageCount
 pub mod Throughout
 pub mod Times
 pub mod Failing
+mod Fresh

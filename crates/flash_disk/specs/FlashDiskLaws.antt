@@ -50,7 +50,7 @@ module _ (told : Bool) (m : FlashMedium) (own written : ℕ) where
       (
         still_case m.state,
         lawful.counts_now now.0 t (still_case m.state) (subst (λ k. t ≤ k) (told_moment told m.moment now.0) le) (still_is m.state),
-        (λ b p generation body verifies. inl refl, now.1),
+        (λ b p generation body verifies. inl verifies, now.1),
       ),
     );
     only_now = λ c past.
