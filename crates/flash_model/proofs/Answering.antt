@@ -4,7 +4,7 @@ use Rattle.std.specs.Prelude.{Result, Ok, Err, OnErr}
 use Rattle.flash_model.specs.declared.memory.MemFlash.{MemFlash}
 use Rattle.flash_model.specs.declared.record.FlashCall.{FlashCall}
 use Rattle.disk_model.specs.Orders.{names, stops}
-use Rattle.disk_model.specs.Memory.{raised}
+use Rattle.per_base.specs.Causes.{raised}
 use Rattle.flash_model.specs.Pages.{Pages}
 use Rattle.flash_model.specs.State.{FlashState, FlashCase, IsStill, IsLeftBy}
 use Rattle.flash_model.specs.FlashMedium.{FlashMedium, FlashElapses, EachFlashCase}
