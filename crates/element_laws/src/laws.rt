@@ -1,8 +1,8 @@
 //! The laws, one after another, for the proofs of callers: none of these functions does anything when it runs.
 
-ghost use Rattle.element_laws.specs.Phases.{OpenedLaw, CorruptLaw, DamageLaw, UntouchedLaw, AdoptLaw, KeepLaw, ContentsLaw, ContentsDoneLaw, IndexLaw, GivenUpLaw, TakenLaw, AnewContentsLaw, AnewDoneLaw, AnewIndexLaw, CleanLaw, AdoptedLaw, SettledLaw, MendStartLaw, MendStepLaw, MendSyncLaw, MendLaw, InUseLaw, CarriedLaw, WholeLaw};
+ghost use Rattle.element_laws.specs.Phases.{OpenedLaw, CorruptLaw, DamageLaw, UntouchedLaw, AdoptLaw, KeepLaw, ContentsLaw, ContentsDoneLaw, IndexLaw, GivenUpLaw, TakenLaw, AnewContentsLaw, AnewDoneLaw, AnewIndexLaw, CleanLaw, AdoptedLaw, SoundLaw, SettledLaw, MendStartLaw, MendStepLaw, MendSyncLaw, MendLaw, InUseLaw, CarriedLaw, WholeLaw};
 ghost use Rattle.element_laws.specs.Apart.{FrameLaw, OutsideLaw, ElsewhereLaw, ElsewhereCaseLaw};
-ghost use Rattle.element_laws.specs.Refused.{IndexFirst, IndexFirstAnew, OldOverwritten, OtherValue, Planted, CopyEaten, OtherRaised, SalvageRaised};
+ghost use Rattle.element_laws.specs.Refused.{IndexFirst, IndexFirstAnew, OldOverwritten, OtherValue, Planted, CopyEaten, OtherRaised, SalvageRaised, SalvageLost};
 
 use block_files::contents_stand_aside;
 
@@ -54,15 +54,17 @@ pub fn making_anew_keeps()
     contents_stand_aside();
 }
 
-/// Places that hold one text alone are clean, and so is an image on which a phase ended.
+/// Places that hold one text alone are clean, and so is what was adopted; a case on a clean image with nothing pending is sound, so that
+/// what a phase leaves is kept at its end.
 pub fn places_are_clean()
     ensures alone { CleanLaw }
     ensures adopted { AdoptedLaw }
+    ensures sound { SoundLaw }
     ensures settled { SettledLaw }
 {}
 
-/// A stop while contents are mended in the copies that lacked them, after `adopting_keeps`, keeps a storage, where no half of a mend
-/// passes for a content by chance.
+/// A stop while contents are mended in the copies that lacked them, after `adopting_keeps`, keeps a storage. A mend goes block by block, so
+/// that a copy may be half mended: no two contents lie under one hash, and so it gives the value or nothing.
 pub fn mending_keeps()
     ensures start { MendStartLaw }
     ensures step { MendStepLaw }
@@ -83,7 +85,7 @@ pub fn use_is_adopted()
 {}
 
 /// What a stop may not leave: an index before its contents, an old block overwritten, another value, a text that was never
-/// synchronised, a copy lost on the way, or a text that stands only by what was mended or written beside it.
+/// synchronised, a copy lost on the way, a text that stands only by what was mended or written beside it, or a salvage given up.
 pub fn outcomes_are_refused()
     ensures index_first { IndexFirst }
     ensures index_first_anew { IndexFirstAnew }
@@ -93,4 +95,5 @@ pub fn outcomes_are_refused()
     ensures copy_eaten { CopyEaten }
     ensures other_raised { OtherRaised }
     ensures salvage_raised { SalvageRaised }
+    ensures salvage_lost { SalvageLost }
 {}

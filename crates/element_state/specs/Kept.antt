@@ -8,12 +8,12 @@ use Rattle.per_base.specs.declared.elements.Content.TheVariants.{Good, Bad}
 use Rattle.per_base.specs.declared.elements.Entry.{Entry}
 use Rattle.disk_model.specs.Image.{Image}
 use Rattle.disk_model.specs.Case.{Case}
-use Rattle.disk_model.specs.Damage.{IsSoundFor, DecaysFor, IsUndamaged, AtLeast}
+use Rattle.disk_model.specs.Damage.{DecaysFor, IsUndamaged, AtLeast}
 use Rattle.disk_model.specs.Medium.{Medium, Quiet, EachCase}
 use Rattle.element_state.specs.declared.shapes.Shape.{Shape}
 use Rattle.element_state.specs.declared.shapes.View.{View}
 use Rattle.element_state.specs.States.{State, Opens, Corrupt, store_at, salvage_of, others_of}
-use Rattle.element_state.specs.Clean.{IsPiece, IsClean}
+use Rattle.element_state.specs.Clean.{IsPiece, IsClean, IsSound}
 
 -- ---- views beside one another
 
@@ -95,18 +95,47 @@ CopiesStay shape damaged (Opens w rest) (Opens v others) = SameHeadings w v → 
 CopiesStay shape damaged (Opens w rest) (Corrupt salvage others) = ⊤
 CopiesStay shape damaged (Corrupt salvage others) before = ⊤
 
+-- with enough copies left of it, in either scope, an element that was good is good with the same value
+abbrev pub KeepsEach : Shape → (damaged : List ℕ) → (left there : View) → Type 0
+KeepsEach shape damaged left there = AllZip (λ e f. (value : List ℕ) → f.content ≡ Good value → HasEnough shape damaged f.lacking → e.content ≡ Good value)
+    left.entries there.entries
+
+-- what is left of a view, also where too few copies of its text are left to open at: the same headings, each good element of which enough
+-- copies are left, and no copy was lost on the way
+pub record IsLeftAs (shape : Shape) (damaged : List ℕ) (left there : View) : Type 0 where
+  pub same : SameHeadings left there
+  pub good : KeepsEach shape damaged left there
+  pub copies : CostsNoCopy shape damaged left there
+
+-- the view is left of the one of after
+abbrev pub IsLeftAfter : Shape → (damaged : List ℕ) → (left : View) → (after : State) → Type 0
+IsLeftAfter shape damaged left (Opens v others) = IsLeftAs shape damaged left v
+IsLeftAfter shape damaged left (Corrupt salvage others) = ⊥
+
+-- some copy is spared and did not lack it
+abbrev pub HasOne : Shape → (damaged lacking : List ℕ) → Type 0
+HasOne shape damaged lacking = (copy : ℕ) × (copy < shape.place.copies) × IsSpared shape damaged lacking copy
+
+-- with one copy left of the salvage of a corrupt storage, it has this salvage, or the view of after in its place
+abbrev pub SalvageStays : Shape → (damaged : List ℕ) → (left before after : State) → Type 0
+SalvageStays shape damaged left (Opens v others) after = ⊤
+SalvageStays shape damaged left (Corrupt None others) after = ⊤
+SalvageStays shape damaged left (Corrupt (Some v) others) after = HasOne shape damaged v.lacking
+    → (w : View) × (salvage_of left ≡ Some w) × (IsLeftAs shape damaged w v ⊎ IsLeftAfter shape damaged w after)
+
 -- What a stop and damage leave of a storage that was in one state and on its way to another.
 pub record Kept (shape : Shape) (damaged : List ℕ) (left before after : State) : Type 0 where
   -- every text that fits, and not only the one that it opens at, stands for something known: later damage may bring it up
   pub known : AllByRecursion (λ w. IsFromOneOf w (all_views before ++ listed (salvage_of after))) (all_views left)
   pub stays : Stays shape damaged left before after
   pub copies : CopiesStay shape damaged left before
+  pub salvage : SalvageStays shape damaged left before after
 
 -- ---- every moment of a call
 
 -- so it is of each sound case, after each damage, and the place stays clean
 abbrev pub IsKeptCase : Shape → (before after : State) → Case → Type 0
-IsKeptCase shape before after c = IsSoundFor (IsPiece shape.place) c → (damaged : List ℕ) (image : Image)
+IsKeptCase shape before after c = IsSound shape.place c → (damaged : List ℕ) (image : Image)
     → DecaysFor (IsPiece shape.place) damaged c.left image → Kept shape damaged (store_at image shape) before after × IsClean shape image
 
 -- so it is of every moment since a start at which nothing was pending and the place was clean
