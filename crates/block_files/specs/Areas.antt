@@ -25,7 +25,7 @@ pub record IsFull (file blocks bytes : List ℕ) : Type 0 where
   pub bytes_are : joined file blocks (length bytes) ≡ bytes
   pub inside : within file blocks (length bytes) ≡ true
 
--- the copy of this number, counted from 1, is one of these
+-- the area file of the copy of this number, counted from 1
 abbrev pub area_of : ℕ → ℕ → ℕ
 area_of first number = area first (number - 1)
 

@@ -3,8 +3,7 @@
 ghost use Rattle.std.specs.Prelude.{◌≡◌, ◌<◌, ◌≤◌, ◌*◌, ◌^◌, length};
 ghost use Rattle.block_files.specs.Parts.{part, blocks_for, is_changed, changed};
 
-/// The bytes of a block.
-pub const BLOCK: usize = 256;
+use per_base::BLOCK;
 
 // How many blocks a content of this length takes.
 pub(crate) fn count_blocks(len: usize) -> usize

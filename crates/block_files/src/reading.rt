@@ -11,9 +11,9 @@ ghost use Rattle.block_files.specs.Areas.{block, joined, is_within, within};
 ghost use Rattle.block_files.specs.Contents.{counting, contents, HaveSize};
 
 use crate::errors::BlobError;
-use crate::parts::BLOCK;
 use disk_model::{Disk, DiskFailed, Place};
 use hash_guard::hash as hash_of;
+use per_base::BLOCK;
 use std::alloc::{AllocError, Global};
 
 /// What each copy of a content gives, in order: its bytes where they have the hash, and whether its file has them all.

@@ -8,8 +8,9 @@ ghost use Rattle.block_files.specs.Areas.{HoldsBytes, HoldsShared, AllFull, Name
 ghost use Rattle.block_files.specs.Contents.{AreCopies};
 ghost use Rattle.block_files.specs.Writes.{Wrote, Tore, IsNoneOf, IsApartFromChanged};
 
-use crate::parts::{BLOCK, count_blocks, differs, part_at};
+use crate::parts::{count_blocks, differs, part_at};
 use disk_model::{Disk, DiskFailed, Place};
+use per_base::BLOCK;
 
 /// The numbers of the copies that a place can have.
 const NUMBERS: [u32; 8] = [1, 2, 3, 4, 5, 6, 7, 8];

@@ -18,7 +18,7 @@ use Rattle.std.proofs.lemmas.Iterator.Adapters.{position_from-zero}
 use Rattle.per_base.specs.Names.{name_cmp}
 
 -- names that differ by their order differ
-differs : (a b : List ℕ) → name_cmp a b ≢ Equal → bytes_eq a b ≡ false
+pub differs : (a b : List ℕ) → name_cmp a b ≢ Equal → bytes_eq a b ≡ false
 differs a b apart = sym (is_eq-slice_cmp a b) ∙ not_equal (name_cmp a b) apart
   where
     not_equal : (o : Ordering) → o ≢ Equal → is_eq o ≡ false
@@ -29,7 +29,7 @@ differs a b apart = sym (is_eq-slice_cmp a b) ∙ not_equal (name_cmp a b) apart
 same : (a b : List ℕ) → name_cmp a b ≡ Equal → bytes_eq a b ≡ true
 same a b e = sym (is_eq-slice_cmp a b) ∙ ap is_eq e
 
-less_is_not_equal : (o : Ordering) → o ≡ Less → o ≢ Equal
+pub less_is_not_equal : (o : Ordering) → o ≡ Less → o ≢ Equal
 less_is_not_equal o less equal = let e : Less ≡ Equal = sym less ∙ equal in cc
 
 greater_is_not_equal : (o : Ordering) → o ≡ Greater → o ≢ Equal

@@ -9,6 +9,8 @@
 #![tactic(auto)]
 
 mod configs;
+mod laws;
 mod lookups;
 
 pub use configs::{CollectionStrategy, Deployment, ElementConfig, ElementStrategy, StorageConfig};
+pub use laws::{found_is_kept, names_are_apart};

@@ -7,7 +7,8 @@ use Rattle.disk_model.specs.Image.{Image, put_image, TornImage}
 use Rattle.disk_model.specs.Case.{WriteCase, WriteOrNot, Follows, Reaches}
 use Rattle.disk_model.specs.Medium.{Medium, Quiet, Elapses, OnlyReads, WritesNothing}
 use Rattle.disk_model.specs.History.{image_of, start_of, image_after, recorded, IsNoWrite}
-use Rattle.disk_model.specs.Memory.{mem_medium, starved_count, is_planned, is_stopped, HasNoOrders, IsUnchanged, KeepsCounts, raised, Answers, FailsForWant, Fails, Shows, SameRecord, Begins, Wants}
+use Rattle.per_base.specs.Causes.{raised}
+use Rattle.disk_model.specs.Memory.{mem_medium, starved_count, is_planned, is_stopped, HasNoOrders, IsUnchanged, KeepsCounts, Answers, FailsForWant, Fails, Shows, SameRecord, Begins, Wants}
 use Rattle.std.specs.Prelude.{Vec, Result, Ok, Err, OnErr, length}
 use Rattle.std.specs.declared.alloc.Global.{Global}
 use Rattle.disk_model.specs.Orders.{names, stops}
@@ -51,7 +52,7 @@ failed old new same later rose answers for_want =
     let law = record_is_lawful image start calls old.faults old.written old.tied in
     record {
       unchanged = shown new image start calls old.written same (λ m. IsUnchanged (mem_medium old) m)
-          (record { image = refl; now = λ c. (λ x. x, λ x. x); moment = refl; since = λ t c. (λ x. x, λ x. x); written = refl });
+          (record { image = refl; now = λ c. (λ x. x, λ x. x); moment = refl; since = λ t c. (λ x. x, λ x. x); gave = λ t i. (λ x. x, λ x. x); written = refl });
       reads = shown new image start calls old.written same (λ m. OnlyReads (mem_medium old) m)
           (record { image = refl; now = λ c now. now; during = λ c past. law.only_now c past; written = refl });
       time = shown new image start calls old.written same (λ m. Elapses (mem_medium old) m)

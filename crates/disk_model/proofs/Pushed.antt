@@ -8,8 +8,8 @@ use Rattle.disk_model.specs.declared.history.Call.{Call}
 use Rattle.disk_model.specs.declared.history.Call.TheVariants.{Write, Sync, Read}
 use Rattle.disk_model.specs.Image.{Image, put_image}
 use Rattle.disk_model.specs.Case.{Case, IsSettledAt, WriteCase, WriteOrNot, Follows, Reaches}
-use Rattle.disk_model.specs.Medium.{Quiet, Elapses, OnlyReads, WritesNothing}
-use Rattle.disk_model.specs.History.{image_after, base_after, cases_after, cases_after_call, CaseSince, recorded}
+use Rattle.disk_model.specs.Medium.{Grows, Quiet, Elapses, OnlyReads, WritesNothing}
+use Rattle.disk_model.specs.History.{image_after, base_after, cases_after, cases_after_call, CaseSince, GaveSince, recorded}
 
 pub last_case : (xs : List Call) (call : Call) (cases : Case → Type 0) (c : Case)
     → cases_after (xs ++ call ∷ []) cases c → cases_after_call call (cases_after xs cases) c
@@ -54,6 +54,13 @@ module _ (image start : Image) (calls : List Call) where
     nothing_else = λ t c earlier past. inl past;
     keeps = λ t c earlier past. past;
     adds = λ t c earlier past. record { k = past.k; from = le_trans earlier past.from; to = past.to; case = past.case };
+    gave = record {
+      nothing_else = λ t i earlier past. inl past;
+      keeps = λ t i earlier past. past;
+      adds = λ t i earlier past. record { k = past.k; from = le_trans earlier past.from; to = past.to; image = past.image };
+    };
+    opens = λ t earlier was. was;
+    agrees = λ t earlier was. was;
     faults = le;
     written = le_refl _;
   }
@@ -70,6 +77,20 @@ module _ (image start : Image) (calls : List Call) where
       → cases_after (take k calls) (IsSettledAt start) c
   stood call k c le case = subst (λ xs. cases_after xs (IsSettledAt start) c) (take-append-le k calls (call ∷ []) le) case
 
+  -- so does what reads gave
+  same_then : (call : Call) (k : ℕ) → k ≤ length calls → image_after (take k (calls ++ call ∷ [])) start ≡ image_after (take k calls) start
+  same_then call k le = ap (λ xs. image_after xs start) (take-append-le k calls (call ∷ []) le)
+
+  gave_more : (call : Call) → Grows (length calls) (GaveSince start calls) (GaveSince start (calls ++ call ∷ []))
+  gave_more call = record {
+    nothing_else = λ t i earlier past. ⊎_elim
+        (λ before. let to : past.k ≤ length calls = omega arith in inl (record { k = past.k; from = past.from; to = to; image = past.image ∙ same_then call past.k to }))
+        (λ after. inr (record { k = past.k; from = omega arith; to = past.to; image = past.image }))
+        (cases_lt past.k (length calls + 1));
+    keeps = λ t i earlier past. record { k = past.k; from = past.from; to = omega (arith, longer call, past.to); image = past.image ∙ sym (same_then call past.k past.to) };
+    adds = λ t i earlier past. record { k = past.k; from = le_trans earlier past.from; to = past.to; image = past.image };
+  }
+
   -- a call was added
   pub pushed : (call : Call) (image' : Image) (faults faults' written written' : ℕ) → faults ≤ faults' → written ≤ written'
       → Elapses (recorded image start calls faults written) (recorded image' start (calls ++ call ∷ []) faults' written')
@@ -81,6 +102,9 @@ module _ (image start : Image) (calls : List Call) where
         (cases_lt past.k (length calls + 1));
     keeps = λ t c earlier past. record { k = past.k; from = past.from; to = omega (arith, longer call, past.to); case = stays call past.k c past.to past.case };
     adds = λ t c earlier past. record { k = past.k; from = le_trans earlier past.from; to = past.to; case = past.case };
+    gave = gave_more call;
+    opens = λ t earlier was. was;
+    agrees = λ t earlier was. was;
     faults = more;
     written = le;
   }

@@ -1,5 +1,5 @@
 -- What a disk in memory says of each moment, by its record of calls.
-use Rattle.std.specs.Prelude.{ℕ, suc, ◌≤◌, ◌-◌, ◌/◌, ◌%◌, ◌^◌, ◌==◌, List, [], ◌∷◌, ◌++◌, length, take, replicate, Bool, Option, Some, None, Vec, if◌then◌else◌}
+use Rattle.std.specs.Prelude.{◌≡◌, ℕ, suc, ◌≤◌, ◌-◌, ◌/◌, ◌%◌, ◌^◌, ◌==◌, List, [], ◌∷◌, ◌++◌, length, take, replicate, Bool, Option, Some, None, Vec, if◌then◌else◌}
 use Rattle.std.specs.Ordering.{nat_cmp}
 use Rattle.std.specs.BTreeMap.{BTreeMap, get}
 use Rattle.std.specs.declared.alloc.Global.{Global}
@@ -58,13 +58,23 @@ pub record CaseSince (start : Image) (calls : List Call) (t : ℕ) (c : Case) : 
   pub to : k ≤ length calls
   pub case : cases_after (take k calls) (IsSettledAt start) c
 
--- a disk with this record, which reads as this image
+-- what reads gave after at least t of the calls
+pub record GaveSince (start : Image) (calls : List Call) (t : ℕ) (i : Image) : Type 0 where
+  pub k : ℕ
+  pub from : t ≤ k
+  pub to : k ≤ length calls
+  pub image : i ≡ image_after (take k calls) start
+
+-- a disk with this record, which reads as this image; whatever a stop leaves of its files is a disk again
 abbrev pub recorded : (image start : Image) → List Call → (faults written : ℕ) → Medium
 recorded image start calls faults written = record {
   image = image;
   now = cases_after calls (IsSettledAt start);
   moment = length calls;
   since = CaseSince start calls;
+  gave = GaveSince start calls;
+  opens = λ t. Unit {0};
+  agrees = λ t. Unit {0};
   faults = faults;
   written = written;
 }

@@ -1,6 +1,6 @@
 -- That a record of calls meets the laws of a disk.
 use Rattle.std.specs.Prelude.{◌≡◌, ℕ, List, [], ◌∷◌, length, true}
-use Rattle.std.proofs.Common.{refl, sym, ap, ◌∙◌, subst, le_refl, take_all}
+use Rattle.std.proofs.Common.{refl, sym, ap, ◌∙◌, subst, le_refl, le_trans, take_all}
 use Rattle.disk_model.specs.declared.history.Call.{Call}
 use Rattle.disk_model.specs.declared.history.Call.TheVariants.{Write, Sync, Read}
 use Rattle.disk_model.specs.Image.{Image, put_image, TornImage}
@@ -66,4 +66,12 @@ record_is_lawful image start calls faults written tied = record {
   only_now = λ c past. subst (λ xs. cases_after xs (IsSettledAt start) c) (take_all past.k calls past.from) past.case;
   reads_one = λ told. let whole = all_stand calls (IsSettledAt start) start (settled start) in
       (whole.case, whole.possible, whole.left ∙ sym tied);
+  gives = λ told. record {
+    k = length calls;
+    from = le_refl _;
+    to = le_refl _;
+    image = tied ∙ ap (λ xs. image_after xs start) (sym (take_all (length calls) calls (le_refl _)));
+  };
+  gave_counts = λ t i le gave. record { k = gave.k; from = le_trans le gave.from; to = gave.to; image = gave.image };
+  gives_only = λ i gave. gave.image ∙ ap (λ xs. image_after xs start) (take_all gave.k calls gave.from) ∙ sym tied;
 }

@@ -2,6 +2,7 @@ pub mod Image
 pub mod Written
 pub mod Case
 pub mod Medium
+pub mod Laws
 pub mod Place
 pub mod Frame
 pub mod Damage

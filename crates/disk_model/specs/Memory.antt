@@ -1,7 +1,7 @@
 -- A disk in memory: what it is as a disk, which calls fail, and how it answers.
-use Rattle.std.specs.Prelude.{◌≡◌, ◌⊎◌, ◌↔◌, ℕ, suc, ◌+◌, ◌-◌, ◌^◌, ◌≤◌, min, Bool, false, ◌||◌, List, [], true, IsTrue, IsFalse}
+use Rattle.std.specs.Prelude.{◌≡◌, ◌⊎◌, ◌↔◌, ℕ, suc, ◌≤◌, Bool, false, ◌||◌, List, [], true, IsTrue, IsFalse}
 use Rattle.disk_model.specs.declared.memory.MemDisk.{MemDisk}
-use Rattle.per_base.specs.Causes.{Rose}
+use Rattle.per_base.specs.Causes.{Rose, raised}
 use Rattle.disk_model.specs.declared.history.Call.{Call}
 use Rattle.disk_model.specs.Image.{Image}
 use Rattle.disk_model.specs.Case.{Case}
@@ -56,16 +56,13 @@ pub record IsUnchanged (old new : Medium) : Type 0 where
   pub now : (c : Case) → new.now c ↔ old.now c
   pub moment : new.moment ≡ old.moment
   pub since : (t : ℕ) (c : Case) → new.since t c ↔ old.since t c
+  pub gave : (t : ℕ) (i : Image) → new.gave t i ↔ old.gave t i
   pub written : new.written ≡ old.written
 
 -- the counts of faults and of want stay
 pub record KeepsCounts (old new : MemDisk) : Type 0 where
   pub faults : (mem_medium new).faults ≡ (mem_medium old).faults
   pub starved : starved_count new ≡ starved_count old
-
--- a count goes up by one, and stops at the greatest u64
-abbrev pub raised : ℕ → ℕ
-raised count = min (count + 1) (2 ^ 64 - 1)
 
 -- How a call answers: it fails where the plan names it and where it comes after the stop, and else for want of memory alone,
 -- which is counted beside the fault.

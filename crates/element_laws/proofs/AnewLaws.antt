@@ -18,8 +18,8 @@ use Rattle.index_text.specs.declared.entries.IndexEntry.{IndexEntry}
 use Rattle.index_text.specs.Reading.{index_of}
 use Rattle.element_state.specs.declared.shapes.Shape.{Shape}
 use Rattle.element_state.specs.Fit.{fit_index}
-use Rattle.element_state.specs.Clean.{where_of, IsNamed, IsPiece, in_blocks}
-use Rattle.element_laws.specs.Phases.{IsGivenUp, GivenUpLaw, IsWritten, TakesNamed, TakenLaw, AnewContentsLaw, AnewDoneLaw, AnewIndexLaw, AreAgreed, CleanLaw, AdoptedLaw, SettledLaw}
+use Rattle.element_state.specs.Clean.{where_of, counting_at, IsNamed, IsPiece, in_blocks, IsCounted}
+use Rattle.element_laws.specs.Phases.{IsGivenUp, GivenUpLaw, IsWritten, TakesNamed, TakenLaw, AnewContentsLaw, AnewDoneLaw, AnewIndexLaw, AreAgreed, CleanLaw, AdoptedLaw, SoundLaw, SettledLaw}
 use Rattle.element_laws.proofs.Lists.{In, all_by, all_in, Contains-In, In-map, map-In, some_is, zip_with, zip_find}
 use Rattle.element_laws.proofs.Copies.{Gives, backed_alike}
 use Rattle.element_laws.proofs.Fits.{fit-spelled}
@@ -95,7 +95,7 @@ anew_fewer aside shape start now taken old c given_up takes settled keeps sound 
 pub anew_contents : AsideLaw → AnewContentsLaw
 anew_contents aside shape start now taken after old c positive given_up takes settled keeps sound damaged image d =
     fewer_kept shape start image damaged after positive given_up.clean given_up.corrupt
-    (fewer_decays shape damaged c.left image d start (anew_fewer aside shape start now taken old c given_up takes settled keeps sound))
+    (fewer_decays shape damaged c.left image d start (anew_fewer aside shape start now taken old c given_up takes settled keeps sound.pieces))
 
 -- after whole writes, with nothing pending
 anew_then : AsideLaw → (shape : Shape) (start now then : Image) (taken : ℕ → Bool) → IsGivenUp shape start now → TakesNamed taken shape.place now
@@ -209,7 +209,20 @@ clean_adopted shape start now g t i adopted =
     (subst (λ (file : List ℕ). counting file e.blocks e.len e.hash ≡ Some s) (area_was a) ga)
     (subst (λ (file : List ℕ). counting file e.blocks e.len e.hash ≡ Some u) (area_was b) gb)))
 
+pub settled_sound : SoundLaw
+settled_sound shape image c settled clean = record {
+  pieces = λ x is. inl (subst (λ (im : Image). IsPiece shape.place im x) (settled.left ∙ sym settled.base) is);
+  no_twins = λ at s t is one two.
+      clean.alike at one.copy two.copy s t (subst (λ (im : Image). IsNamed shape.place im at) settled.base is) one.inside two.inside
+      (counted_at at s one) (counted_at at t two);
+}
+  where
+    counted_at : (at : Where) (s : List ℕ) (x : IsCounted shape.place c at s) → counting_at image shape.place x.copy at ≡ Some s
+    counted_at at s x = elim x.counts [
+      | inl e ↦ subst (λ (im : Image). counting_at im shape.place x.copy at ≡ Some s) settled.base e
+      | inr e ↦ subst (λ (im : Image). counting_at im shape.place x.copy at ≡ Some s) settled.full e
+    ]
+
 pub settled_kept : SettledLaw
-settled_kept shape before after image c settled kept =
-    kept (λ x is. inl (subst (λ (im : Image). IsPiece shape.place im x) (settled.left ∙ sym settled.base) is)) [] image
-    (record { others = λ f out. ap (λ (im : Image). im f) (sym settled.left); pieces = λ x is. subst (λ (im : Image). IsPiece shape.place im x) (sym settled.left) is })
+settled_kept shape before after image c settled clean kept = (kept (settled_sound shape image c settled clean) [] image
+    (record { others = λ f out. ap (λ (im : Image). im f) (sym settled.left); pieces = λ x is. subst (λ (im : Image). IsPiece shape.place im x) (sym settled.left) is })).0

@@ -1,20 +1,23 @@
 -- Contents that are mended in place, after their text was adopted.
-use Rattle.std.proofs.Common.{◌≡◌, ◌≢◌, ℕ, zero, suc, ◌+◌, ◌-◌, ◌*◌, ◌<◌, ◌≤◌, ◌⊎◌, true, false, cond, List, [], ◌∷◌, ◌++◌, length, get_or, Option, Some, None, refl, sym, ap, subst, ◌∙◌, inl, inr, arith}
+use Rattle.std.proofs.Common.{◌≡◌, ◌≢◌, ℕ, zero, suc, ◌+◌, ◌-◌, ◌*◌, ◌<◌, ◌≤◌, ◌⊎◌, Bool, true, false, cond, List, [], ◌∷◌, ◌++◌, length, get_or, Option, Some, None, refl, sym, ap, subst, ◌∙◌, inl, inr, arith}
 use Rattle.std.proofs.Common.{eq-eqb, ne_eqb}
 use Rattle.std.specs.Prelude.{slice_index, nat_eq}
-use Rattle.std.specs.List.{Contains, IsDistinct}
+use Rattle.std.specs.List.{Contains, IsDistinct, flat_map}
 use Rattle.std.proofs.lemmas.Bool.{cases_eq, cases_Bool}
 use Rattle.std.proofs.lemmas.List.Elements.{Contains-get_or}
+use Rattle.std.proofs.lemmas.List.{length-take-le}
 use Rattle.disk_model.specs.Image.{Image}
 use Rattle.disk_model.specs.Case.{Case, IsSettledAt}
 use Rattle.disk_model.specs.Frame.{Keeps, Tears}
 use Rattle.disk_model.specs.Orders.{named_in}
 use Rattle.disk_model.specs.Place.{slot, area, IsNoArea}
 use Rattle.hash_guard.specs.SealedText.{VerifiesAs}
-use Rattle.guarded_cell.specs.Register.{own}
+use Rattle.guarded_cell.specs.Register.{Holds, own}
 use Rattle.guarded_cell.specs.StopLaws.{alone_only}
 use Rattle.block_files.specs.Aside.{Where, AsideLaw}
-use Rattle.block_files.specs.Areas.{within, area_of}
+use Rattle.block_files.specs.Areas.{block, joined, within, IsFull, area_of}
+use Rattle.block_files.proofs.AsideLaws.{counting_same}
+use Rattle.block_files.proofs.Joined.{length-blocks}
 use Rattle.block_files.specs.Contents.{counting, AreCopies}
 use Rattle.block_files.specs.BlockSets.{IsApart}
 use Rattle.block_files.specs.Writes.{IsNoneOf}
@@ -24,10 +27,10 @@ use Rattle.index_text.specs.Rules.{IsIndex, blocks_of}
 use Rattle.element_state.specs.declared.shapes.Shape.{Shape}
 use Rattle.element_state.specs.Views.{entry_view, given}
 use Rattle.m_of_n.specs.Vote.{voted}
-use Rattle.element_state.specs.Clean.{where_of, in_blocks}
-use Rattle.element_laws.specs.Phases.{KeepsBlocks, KeepsBlocksWhole, lacked, TakesMend, IsSparing, IsMending, MendStartLaw, MendStepLaw, MendSyncLaw, MendsNoOther, MendLaw}
+use Rattle.element_state.specs.Clean.{where_of, in_blocks, IsNamed, IsCounted, HasNoTwins}
+use Rattle.element_laws.specs.Phases.{KeepsBlocks, KeepsBlocksWhole, lacked, TakesMend, HasMended, IsSparing, IsMending, MendStartLaw, MendStepLaw, MendSyncLaw, MendLaw}
 use Rattle.element_laws.proofs.Lists.{Contains-In, In, all_by, all_in, append-In, flat_map-In, map-In, not_false, not_none, some_is}
-use Rattle.element_laws.proofs.Copies.{Gives, named_Contains, Contains_named}
+use Rattle.element_laws.proofs.Copies.{Gives, named_Contains, Contains_named, voted_given}
 use Rattle.element_laws.proofs.Fits.{fit-spelled}
 use Rattle.element_laws.proofs.Standing.{gift_of}
 use Rattle.element_laws.proofs.Left.{is_whole_at, value_at, never_listed}
@@ -148,6 +151,7 @@ module _ (shape : Shape) (start now : Image) (index : Index) (e : IndexEntry) (v
 
 pub mend_step : MendStepLaw
 mend_step shape start now index e value old new is_index there agreed are mending keeps = record {
+  durable = subst (λ (image : Image). (image ≡ now) ⊎ HasMended shape start image index) (sym keeps.base) mending.durable;
   base = subst (λ (image : Image). IsSparing KeepsBlocksWhole shape start now index image) (sym keeps.base) mending.base;
   full = step_whole shape start now index e value is_index there agreed are old.full new.full keeps.full mending.full;
   left = step_torn shape start now index e value is_index there agreed are old.left new.left keeps.left mending.left;
@@ -166,19 +170,20 @@ sparing_now shape start now index = record {
   kept = all_by _ index.entries (λ e h copy lt untaken. whole_all e.blocks (now (area shape.place.first copy)));
 }
 
-settled_at : (shape : Shape) (start now : Image) (index : Index) (image : Image) (c : Case) → IsSparing KeepsBlocksWhole shape start now index image → IsSettledAt image c
-    → IsMending shape start now index c
-settled_at shape start now index image c sparing settled = record {
+settled_at : (shape : Shape) (start now : Image) (index : Index) (image : Image) (c : Case) → IsSparing KeepsBlocksWhole shape start now index image
+    → (image ≡ now) ⊎ HasMended shape start image index → IsSettledAt image c → IsMending shape start now index c
+settled_at shape start now index image c sparing durable settled = record {
+  durable = subst (λ (im : Image). (im ≡ now) ⊎ HasMended shape start im index) (sym settled.base) durable;
   base = subst (λ (im : Image). IsSparing KeepsBlocksWhole shape start now index im) (sym settled.base) sparing;
   full = subst (λ (im : Image). IsSparing KeepsBlocksWhole shape start now index im) (sym settled.full) sparing;
   left = subst (λ (im : Image). IsSparing KeepsBlocks shape start now index im) (sym settled.left) (torn_of shape start now index image sparing);
 }
 
 pub mend_start : MendStartLaw
-mend_start shape start now index c settled = settled_at shape start now index now c (sparing_now shape start now index) settled
+mend_start shape start now index c settled = settled_at shape start now index now c (sparing_now shape start now index) (inl refl) settled
 
 pub mend_sync : MendSyncLaw
-mend_sync shape start now index old new mending settled = settled_at shape start now index old.full new mending.full settled
+mend_sync shape start now index old new mending mended settled = settled_at shape start now index old.full new mending.full (inr mended) settled
 
 -- ---- what a copy keeps in its blocks
 
@@ -291,13 +296,72 @@ not_lacked : (shape : Shape) (start : Image) (e : IndexEntry) (v : List ℕ) (co
 unfolding entry_view
 not_lacked shape start e v copy positive only whole gives = never_listed shape start (where_of e) v copy positive only whole gives
 
+-- ---- the value of a content is durable, also while it is mended
+
+-- what a copy counts are its bytes
+counted_is : (file blocks : List ℕ) (len : ℕ) (hash v : List ℕ) → counting file blocks len hash ≡ Some v → joined file blocks len ≡ v
+unfolding counting
+counted_is file blocks len hash v e = given_if _ (joined file blocks len) v e
+  where
+    given_if : (b : Bool) (x v : List ℕ) → cond b (Some x) None ≡ Some v → x ≡ v
+    given_if true x v e = some_is x v e
+    given_if false x v e = absurd (not_none v (sym e))
+
+-- a copy that has all of a value which another one counts counts it
+full_counts : (there file blocks : List ℕ) (len : ℕ) (hash v : List ℕ) → len ≤ 256 * length blocks → counting there blocks len hash ≡ Some v → IsFull file blocks v
+    → counting file blocks len hash ≡ Some v
+full_counts there file blocks len hash v enough gave full =
+    let was = counted_is there blocks len hash v gave in
+    let long : length v ≡ len = ap length (sym was) ∙ length-take-le len (flat_map (block there) blocks) (omega (arith, enough, length-blocks there blocks)) in
+    counting_same there file blocks len hash (ap (joined file blocks) (sym long) ∙ full.bytes_are ∙ sym was) ∙ gave
+
+module _ (shape : Shape) (start now : Image) (i : Index) (c : Case) (positive : 1 ≤ shape.m) (area_was : (copy : ℕ) → now (area shape.place.first copy) ≡ start (area shape.place.first copy))
+    (is_index : IsIndex i) (mending : IsMending shape start now i c) (e : IndexEntry) (k : In e i.entries) (copy : ℕ) (lt : copy < shape.place.copies)
+    (takes : TakesMend shape start e copy) where
+  -- a copy that gave the value at the start
+  abbrev giver : (b : ℕ) × (b < shape.place.copies) × Gives (gift_of start shape (where_of e)) b takes.value
+  giver = voted_given shape.m shape.place.copies positive (gift_of start shape (where_of e)) takes.value takes.agreed
+
+  counted_now : c.base ≡ now → IsCounted shape.place c (where_of e) takes.value
+  counted_now same = record {
+    copy = giver.0;
+    inside = giver.1;
+    counts = inl (subst (λ (file : List ℕ). counting file e.blocks e.len e.hash ≡ Some takes.value)
+        (sym (ap (λ (image : Image). image (area shape.place.first giver.0)) same ∙ area_was giver.0)) giver.2);
+  }
+
+  counted_then : HasMended shape start c.base i → IsCounted shape.place c (where_of e) takes.value
+  counted_then mended =
+      let (n, ltn, at) = takes.listed in
+      let number : slice_index (lacked shape start e) n ≡ copy + 1 = listed (lacked shape start e) (copy + 1) n ltn at in
+      let back : copy + 1 - 1 ≡ copy = omega arith in
+      let full : IsFull (c.base (area shape.place.first copy)) e.blocks takes.value =
+      subst (λ (x : ℕ). IsFull (c.base (area shape.place.first x)) e.blocks takes.value) back
+      (subst (λ (x : ℕ). IsFull (c.base (area_of shape.place.first x)) e.blocks takes.value) number (all_in _ i.entries mended e k takes.value takes.agreed n ltn)) in
+      record {
+        copy = copy;
+        inside = lt;
+        counts = inl (full_counts (start (area shape.place.first giver.0)) (c.base (area shape.place.first copy)) e.blocks e.len e.hash takes.value (room i is_index e k) giver.2 full);
+      }
+
+  value_counted : IsCounted shape.place c (where_of e) takes.value
+  value_counted = elim mending.durable [ inl same ↦ counted_now same | inr mended ↦ counted_then mended ]
+
+  -- so that a mended copy gives no other
+  mends_no_other : HasNoTwins shape.place c → IsNamed shape.place c.base (where_of e) → (w : List ℕ)
+      → (counting (c.base (area shape.place.first copy)) e.blocks e.len e.hash ≡ Some w) ⊎ (counting (c.full (area shape.place.first copy)) e.blocks e.len e.hash ≡ Some w)
+      → value_at start shape (where_of e) ≡ Some w
+  mends_no_other twins named w from =
+      takes.agreed ∙ ap (λ (bytes : List ℕ). Some bytes) (twins (where_of e) takes.value w named value_counted (record { copy = copy; inside = lt; counts = from }))
+
 -- what base and full give was given at the start, or is the value
-given_or_value : AsideLaw → (shape : Shape) (start now : Image) (i : Index) (c : Case) → ((copy : ℕ) → now (area shape.place.first copy) ≡ start (area shape.place.first copy))
-    → IsIndex i → IsMending shape start now i c → MendsNoOther shape start i c → (e : IndexEntry) → In e i.entries → (copy : ℕ) (w : List ℕ) → copy < shape.place.copies
+given_or_value : AsideLaw → (shape : Shape) (start now : Image) (i : Index) (c : Case) → 1 ≤ shape.m → ((copy : ℕ) → now (area shape.place.first copy) ≡ start (area shape.place.first copy))
+    → IsIndex i → IsMending shape start now i c → HasNoTwins shape.place c → (e : IndexEntry) → In e i.entries → IsNamed shape.place c.base (where_of e)
+    → (copy : ℕ) (w : List ℕ) → copy < shape.place.copies
     → (counting (c.base (area shape.place.first copy)) e.blocks e.len e.hash ≡ Some w) ⊎ (counting (c.full (area shape.place.first copy)) e.blocks e.len e.hash ≡ Some w)
     → Gives (gift_of start shape (where_of e)) copy w ⊎ (value_at start shape (where_of e) ≡ Some w)
-given_or_value aside shape start now i c area_was is_index mending chance e k copy w lt from = elim (mended_or_not shape start e copy) [
-  | inl takes ↦ all_in _ i.entries chance e k copy w lt takes from
+given_or_value aside shape start now i c positive area_was is_index mending twins e k named copy w lt from = elim (mended_or_not shape start e copy) [
+  | inl takes ↦ inr (mends_no_other shape start now i c positive area_was is_index mending e k copy lt takes twins named w from)
   | inr untaken ↦
       let at = area shape.place.first copy in
       let then : counting (now at) e.blocks e.len e.hash ≡ Some w = elim from [
@@ -310,7 +374,7 @@ given_or_value aside shape start now i c area_was is_index mending chance e k co
 -- ---- the law
 
 pub mend : AsideLaw → MendLaw
-mend aside shape start now g t i after c positive adopted is_index mending chance sound damaged image d =
+mend aside shape start now g t i after c positive adopted is_index mending sound damaged image d =
     let first = shape.place.first in
     let copies = shape.place.copies in
     let opens = adopted.opens in
@@ -318,17 +382,20 @@ mend aside shape start now g t i after c positive adopted is_index mending chanc
     let area_was = λ (copy : ℕ). adopted.areas (area first copy) (area_no_slot first copies copy) in
     let only : HoldsOnly shape c.left g t = λ copy h u lt v. alone_only now first copies g t adopted.alone copy lt h u (subst (λ (bytes : List ℕ). VerifiesAs bytes h u) (slot_same copy h) v) in
     let spells = fit-spelled shape t i opens.fit in
+    let base_slot = mending.base.slots (slot first opens.copy (own g)) (slot_no_area first copies opens.copy g) in
+    let held_base : Holds c.base first opens.copy g t = subst (λ (bytes : List ℕ). VerifiesAs bytes g t) (sym base_slot) (adopted.alone.held opens.copy opens.inside) in
+    let named_base = λ (e : IndexEntry) (k : In e i.entries). names_it shape c.base opens.copy g t i opens.inside held_base opens.fit (where_of e) (map-In where_of e i.entries k) in
     let less : IsLess shape g t damaged start c.left = record {
       held = λ copy h u lt v. inr (only copy h u lt v);
       counted = λ at is copy w lt gives.
           let (e, k, same) = named_entry shape c.left g t i spells only at is in
-          let piece = sound (in_blocks (its_blocks shape copy at w)) (given_piece shape copy at w c.left lt is gives) in
+          let piece = sound.pieces (in_blocks (its_blocks shape copy at w)) (given_piece shape copy at w c.left lt is gives) in
           let from : (counting (c.base (area first copy)) e.blocks e.len e.hash ≡ Some w) ⊎ (counting (c.full (area first copy)) e.blocks e.len e.hash ≡ Some w) =
           elim piece [
             | inl p ↦ inl (subst (λ (x : Where). counting (c.base (area first copy)) x.blocks x.len x.hash ≡ Some w) (sym same) p.counts)
             | inr p ↦ inr (subst (λ (x : Where). counting (c.full (area first copy)) x.blocks x.len x.hash ≡ Some w) (sym same) p.counts)
           ] in
-          elim (given_or_value aside shape start now i c area_was is_index mending chance e k copy w lt from) [
+          elim (given_or_value aside shape start now i c positive area_was is_index mending sound.no_twins e k (named_base e k) copy w lt from) [
             | inl was ↦ inl (subst (λ (x : Where). Gives (gift_of start shape x) copy w) same was)
             | inr value ↦ inr (only, subst (λ (x : Where). value_at start shape x ≡ Some w) same value)
           ];

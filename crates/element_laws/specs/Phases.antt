@@ -15,7 +15,7 @@ use Rattle.block_files.specs.Writes.{IsNoneOf}
 use Rattle.disk_model.specs.Place.{area, IsNoSlot, IsNoArea}
 use Rattle.guarded_cell.specs.Register.{Holds, IsAlone, IsKeptAlone}
 use Rattle.guarded_cell.specs.Stops.{PutStops, KeepStops, HoldsLess}
-use Rattle.block_files.specs.Areas.{within}
+use Rattle.block_files.specs.Areas.{within, NamedFull}
 use Rattle.block_files.specs.Aside.{Where}
 use Rattle.index_text.specs.Reading.{index_of}
 use Rattle.index_text.specs.declared.entries.Index.{Index}
@@ -26,7 +26,7 @@ use Rattle.element_state.specs.declared.shapes.View.{View}
 use Rattle.element_state.specs.Fit.{FitText, fit_index, fit_texts}
 use Rattle.element_state.specs.Views.{qualifies, entry_view, given}
 use Rattle.element_state.specs.States.{State, Opens, Corrupt, store_at}
-use Rattle.element_state.specs.Clean.{where_of, counting_at, IsNamed, IsPiece, IsClean}
+use Rattle.element_state.specs.Clean.{where_of, counting_at, IsNamed, IsPiece, IsClean, IsSound}
 use Rattle.element_state.specs.Conditions.{IsMended, IsInUse}
 use Rattle.index_text.specs.Spelling.{index_text}
 use Rattle.element_state.specs.Kept.{heading, Kept, IsKeptCase}
@@ -223,10 +223,14 @@ CleanLaw = (shape : Shape) (image : Image) (generation : ℕ) (text : List ℕ) 
 abbrev pub AdoptedLaw : Type 0
 AdoptedLaw = (shape : Shape) (start now : Image) (generation : ℕ) (text : List ℕ) (index : Index) → IsAdopted shape start now generation text index → IsClean shape now
 
--- where nothing is pending at the end of a phase, its image is clean, and the storage kept on it
+-- where nothing is pending and the place is clean, the case is sound
+abbrev pub SoundLaw : Type 0
+SoundLaw = (shape : Shape) (image : Image) (c : Case) → IsSettledAt image c → IsClean shape image → IsSound shape.place c
+
+-- and so the storage is kept on the image at the end of a phase
 abbrev pub SettledLaw : Type 0
-SettledLaw = (shape : Shape) (before after : State) (image : Image) (c : Case) → IsSettledAt image c → IsKeptCase shape before after c
-    → Kept shape [] (store_at image shape) before after × IsClean shape image
+SettledLaw = (shape : Shape) (before after : State) (image : Image) (c : Case) → IsSettledAt image c → IsClean shape image
+    → IsKeptCase shape before after c → Kept shape [] (store_at image shape) before after
 
 -- ---- contents are mended in place
 
@@ -258,11 +262,17 @@ pub record IsSparing (keeps : (blocks old new : List ℕ) → Type 0) (shape : S
   pub kept : AllByRecursion (λ (e : IndexEntry). (copy : ℕ) → copy < shape.place.copies → ¬ (TakesMend shape start e copy)
       → keeps e.blocks (now (area shape.place.first copy)) (image (area shape.place.first copy))) index.entries
 
--- a case while contents are mended
+-- the copies that lacked a content on which enough copies agree have all of it
+abbrev pub HasMended : Shape → (start image : Image) → Index → Type 0
+HasMended shape start image index = AllByRecursion (λ (e : IndexEntry). (value : List ℕ) → voted shape.m (given start shape.place e) ≡ Some value
+    → NamedFull shape.place.first (lacked shape start e) e.blocks value image) index.entries
+
+-- a case while contents are mended: what is durable is as before, or all of them mended
 pub record IsMending (shape : Shape) (start now : Image) (index : Index) (c : Case) : Type 0 where
   pub base : IsSparing KeepsBlocksWhole shape start now index c.base
   pub full : IsSparing KeepsBlocksWhole shape start now index c.full
   pub left : IsSparing KeepsBlocks shape start now index c.left
+  pub durable : (c.base ≡ now) ⊎ HasMended shape start c.base index
 
 -- so it is at the beginning
 abbrev pub MendStartLaw : Type 0
@@ -274,22 +284,15 @@ MendStepLaw = (shape : Shape) (start now : Image) (index : Index) (e : IndexEntr
     → voted shape.m (given start shape.place e) ≡ Some value → AreCopies shape.place.copies (lacked shape start e) → IsMending shape start now index old
     → KeepsCase (IsNoneOf shape.place.first (lacked shape start e)) (IsApart e.blocks) old new → IsMending shape start now index new
 
--- and after a sync
+-- and after a sync, once all of them are mended
 abbrev pub MendSyncLaw : Type 0
-MendSyncLaw = (shape : Shape) (start now : Image) (index : Index) (old new : Case) → IsMending shape start now index old → IsSettledAt old.full new
-    → IsMending shape start now index new
-
--- No half of a mend passes for a content: what a copy that is mended gives in base or in full, it gave at the start, or it is the value. Blocks are
--- written one after another, so that full may have new bytes in some of them and old ones in others, and only chance could give these the hash.
-abbrev pub MendsNoOther : Shape → (start : Image) → Index → Case → Type 0
-MendsNoOther shape start index c = AllByRecursion (λ (e : IndexEntry). (copy : ℕ) (w : List ℕ) → copy < shape.place.copies → TakesMend shape start e copy
-    → (counting_at c.base shape.place copy (where_of e) ≡ Some w) ⊎ (counting_at c.full shape.place copy (where_of e) ≡ Some w)
-    → (counting_at start shape.place copy (where_of e) ≡ Some w) ⊎ (voted shape.m (given start shape.place e) ≡ Some w)) index.entries
+MendSyncLaw = (shape : Shape) (start now : Image) (index : Index) (old new : Case) → IsMending shape start now index old
+    → HasMended shape start old.full index → IsSettledAt old.full new → IsMending shape start now index new
 
 -- mending contents in the copies that lack them, after the text was adopted
 abbrev pub MendLaw : Type 0
 MendLaw = (shape : Shape) (start now : Image) (generation : ℕ) (text : List ℕ) (index : Index) (after : State) (c : Case) → 1 ≤ shape.m
-    → IsAdopted shape start now generation text index → IsIndex index → IsMending shape start now index c → MendsNoOther shape start index c
+    → IsAdopted shape start now generation text index → IsIndex index → IsMending shape start now index c
     → IsKeptCase shape (store_at start shape) after c
 
 -- ---- a storage in use

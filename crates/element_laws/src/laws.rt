@@ -1,6 +1,6 @@
 //! The laws, one after another, for the proofs of callers: none of these functions does anything when it runs.
 
-ghost use Rattle.element_laws.specs.Phases.{OpenedLaw, CorruptLaw, DamageLaw, UntouchedLaw, AdoptLaw, KeepLaw, ContentsLaw, ContentsDoneLaw, IndexLaw, GivenUpLaw, TakenLaw, AnewContentsLaw, AnewDoneLaw, AnewIndexLaw, CleanLaw, AdoptedLaw, SettledLaw, MendStartLaw, MendStepLaw, MendSyncLaw, MendLaw, InUseLaw, CarriedLaw, WholeLaw};
+ghost use Rattle.element_laws.specs.Phases.{OpenedLaw, CorruptLaw, DamageLaw, UntouchedLaw, AdoptLaw, KeepLaw, ContentsLaw, ContentsDoneLaw, IndexLaw, GivenUpLaw, TakenLaw, AnewContentsLaw, AnewDoneLaw, AnewIndexLaw, CleanLaw, AdoptedLaw, SoundLaw, SettledLaw, MendStartLaw, MendStepLaw, MendSyncLaw, MendLaw, InUseLaw, CarriedLaw, WholeLaw};
 ghost use Rattle.element_laws.specs.Apart.{FrameLaw, OutsideLaw, ElsewhereLaw, ElsewhereCaseLaw};
 ghost use Rattle.element_laws.specs.Refused.{IndexFirst, IndexFirstAnew, OldOverwritten, OtherValue, Planted, CopyEaten, OtherRaised, SalvageRaised};
 
@@ -54,15 +54,17 @@ pub fn making_anew_keeps()
     contents_stand_aside();
 }
 
-/// Places that hold one text alone are clean, and so is an image on which a phase ended.
+/// Places that hold one text alone are clean, and so is what was adopted; a case on a clean image with nothing pending is sound, so that
+/// what a phase leaves is kept at its end.
 pub fn places_are_clean()
     ensures alone { CleanLaw }
     ensures adopted { AdoptedLaw }
+    ensures sound { SoundLaw }
     ensures settled { SettledLaw }
 {}
 
-/// A stop while contents are mended in the copies that lacked them, after `adopting_keeps`, keeps a storage, where no half of a mend
-/// passes for a content by chance.
+/// A stop while contents are mended in the copies that lacked them, after `adopting_keeps`, keeps a storage. A mend goes block by block, so
+/// that a copy may be half mended: no two contents lie under one hash, and so it gives the value or nothing.
 pub fn mending_keeps()
     ensures start { MendStartLaw }
     ensures step { MendStepLaw }

@@ -1,5 +1,5 @@
 -- Elements that are the same by test are equal, and what the difference of two says.
-use Rattle.std.proofs.Common.{◌≡◌, ℕ, Bool, true, false, cond, ◌&&◌, nat_eq, Option, Some, None, refl, sym, ap, subst, ◌∙◌}
+use Rattle.std.proofs.Common.{◌≡◌, ◌≢◌, ℕ, List, [], ◌∷◌, Bool, true, false, cond, ◌&&◌, nat_eq, Option, Some, None, refl, sym, ap, subst, ◌∙◌}
 use Rattle.std.proofs.lemmas.Bool.Decides.{Decides-eqb}
 use Rattle.std.proofs.lemmas.Slice.Eq.{bytes_eq-Decides}
 use Rattle.per_base.specs.declared.elements.Cause.{Cause}
@@ -9,8 +9,12 @@ use Rattle.per_base.specs.declared.elements.Content.TheVariants.{Good, Bad}
 use Rattle.per_base.specs.declared.elements.Element.{Element}
 use Rattle.per_base.specs.declared.elements.FileInfo.{FileInfo}
 use Rattle.index_text.specs.Spelling.{cause_code}
-use Rattle.element_state.specs.Changes.{same_info, same_content, same_element, is_same}
-use Rattle.element_maps.proofs.Names.{eq_itself}
+use Rattle.per_base.specs.Maps.{Map}
+use Rattle.element_state.specs.declared.shapes.Shape.{Shape}
+use Rattle.element_state.specs.declared.shapes.View.{View}
+use Rattle.element_state.specs.Changes.{committed, same_info, same_content, same_element, is_same}
+use Rattle.element_maps.specs.Sessions.{same_map, synced_view}
+use Rattle.element_maps.proofs.Names.{eq_itself, same_names}
 
 pub both : (a b : Bool) → (a && b) ≡ true → (a ≡ true) × (b ≡ true)
 both true b e = (refl, e)
@@ -115,3 +119,35 @@ is_same_is (Some a) b e = ap (λ x. Some x) (same_is a b e)
 
 pub is_same_from : (o : Option Element) (b : Element) → o ≡ Some b → is_same o b ≡ true
 is_same_from o b e = subst (λ (x : Option Element). is_same x b ≡ true) (sym e) (same_itself b)
+
+-- ---- maps
+
+pub same_map_is : (a b : Map) → same_map a b ≡ true → a ≡ b
+same_map_is [] [] e = refl
+same_map_is [] (f ∷ fs) e = absurd (cc)
+same_map_is (e ∷ es) [] is = absurd (cc)
+same_map_is (e ∷ es) (f ∷ fs) is =
+    let one = both _ _ is in
+    let two = both _ _ one.0 in
+    ap (λ n. let p : List ℕ × Element = (n, e.1) in p ∷ es) (same_names e.0 f.0 two.0)
+    ∙ ap (λ x. let p : List ℕ × Element = (f.0, x) in p ∷ es) (same_is e.1 f.1 two.1)
+    ∙ ap (λ l. f ∷ l) (same_map_is es fs one.1)
+
+same_map_itself : (a : Map) → same_map a a ≡ true
+same_map_itself [] = refl
+same_map_itself (e ∷ es) = with_both _ _ (with_both _ _ (eq_itself e.0) (same_itself e.1)) (same_map_itself es)
+
+pub same_map_from : (a b : Map) → a ≡ b → same_map a b ≡ true
+same_map_from a b e = subst (λ (x : Map). same_map a x ≡ true) e (same_map_itself a)
+
+-- ---- the view after a sync
+
+pub view_stays : (shape : Shape) (v : View) (synced new : Map) → synced ≡ new → synced_view shape v synced new ≡ v
+view_stays shape v synced new is = rw (same_map_from synced new is) refl
+
+pub next_view : (shape : Shape) (v : View) (synced new : Map) → synced ≢ new → synced_view shape v synced new ≡ committed shape v synced new
+next_view shape v synced new differ = by (same_map synced new) refl
+  where
+    by : (b : Bool) → same_map synced new ≡ b → cond b v (committed shape v synced new) ≡ committed shape v synced new
+    by true p = absurd (differ (same_map_is synced new p))
+    by false p = refl

@@ -1,5 +1,5 @@
 -- What comes of the changes that make one map into another.
-use Rattle.std.specs.Prelude.{◌≡◌, ◌↔◌, ◌≤◌, ◌<◌, ◌+◌, ℕ, List, [], Bool, true, IsTrue, ⊤}
+use Rattle.std.specs.Prelude.{◌≡◌, ◌≢◌, ◌↔◌, ◌≤◌, ◌<◌, ◌+◌, ℕ, List, [], Bool, true, IsTrue, ⊤}
 use Rattle.std.specs.List.{AllByRecursion}
 use Rattle.per_base.specs.declared.elements.StoreKind.{StoreKind}
 use Rattle.per_base.specs.declared.elements.StoreKind.TheVariants.{Keys, Files}
@@ -16,7 +16,7 @@ use Rattle.element_state.specs.Conditions.{AreChanges, size_of}
 use Rattle.element_state.specs.Read.{IsView}
 use Rattle.element_state.specs.Views.{map_of}
 use Rattle.element_state.specs.Written.{commit_cost, map_cost}
-use Rattle.element_maps.specs.Sessions.{IsNext, IsSync, Passes, synchronised}
+use Rattle.element_maps.specs.Sessions.{IsNext, IsSync, Passes, same_map, synced_view, synchronised}
 
 -- they may be committed
 abbrev pub TakenLaw : Type 0
@@ -75,3 +75,17 @@ SynchronisedLaw = (shape : Shape) (test : List ℕ → Bool) (v : View) → IsVi
 -- elements that are the same by test are equal
 abbrev pub SameLaw : Type 0
 SameLaw = (a b : Element) → IsTrue (same_element a b) ↔ (a ≡ b)
+
+-- ---- the view after a sync
+
+-- the test of two maps decides whether they are equal
+abbrev pub DecidesLaw : Type 0
+DecidesLaw = (a b : Map) → (same_map a b ≡ true) ↔ (a ≡ b)
+
+-- the view stays where nothing differs
+abbrev pub StaysLaw : Type 0
+StaysLaw = (shape : Shape) (v : View) (synced new : Map) → synced ≡ new → synced_view shape v synced new ≡ v
+
+-- and is the next one where something does
+abbrev pub NextLaw : Type 0
+NextLaw = (shape : Shape) (v : View) (synced new : Map) → synced ≢ new → synced_view shape v synced new ≡ committed shape v synced new

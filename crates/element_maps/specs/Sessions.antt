@@ -1,6 +1,7 @@
 -- What a session of a storage owes: the map that the storage holds, and the one that it is to hold next.
-use Rattle.std.specs.Prelude.{◌≡◌, ◌≤◌, ℕ, List, length, Bool, Option, Some, IsTrue}
+use Rattle.std.specs.Prelude.{◌≡◌, ◌≤◌, ℕ, List, [], ◌∷◌, length, Bool, true, false, cond, ◌&&◌, Option, Some, IsTrue}
 use Rattle.std.specs.List.Sorted.{IsStrictlySortedBy}
+use Rattle.std.specs.Str.{bytes_eq}
 use Rattle.per_base.specs.declared.elements.StoreKind.{StoreKind}
 use Rattle.per_base.specs.declared.elements.Content.{Content}
 use Rattle.per_base.specs.declared.elements.Content.TheVariants.{Good, Bad}
@@ -11,6 +12,7 @@ use Rattle.index_text.specs.Rules.{has_info, max_len}
 use Rattle.element_state.specs.declared.shapes.Change.{Change}
 use Rattle.element_state.specs.declared.shapes.Shape.{Shape}
 use Rattle.element_state.specs.declared.shapes.View.{View}
+use Rattle.element_state.specs.Changes.{committed, same_element}
 use Rattle.element_state.specs.Read.{IsView}
 use Rattle.element_state.specs.Views.{judged_view, map_of}
 use Rattle.element_maps.specs.Differences.{MakeInto}
@@ -51,3 +53,16 @@ pub record IsSync (shape : Shape) (test : List ℕ → Bool) (v : View) (synced 
   pub held : synced ≡ synchronised test v
   pub next : IsNext shape synced new
   pub made : MakeInto changes synced new
+
+-- ---- what it holds then
+
+-- both have the same names, and the same element under each
+abbrev pub same_map : Map → Map → Bool
+same_map [] [] = true
+same_map (e ∷ es) [] = false
+same_map [] (f ∷ fs) = false
+same_map (e ∷ es) (f ∷ fs) = bytes_eq e.0 f.0 && same_element e.1 f.1 && same_map es fs
+
+-- the view of the storage once it holds the new map: that of before where nothing differs, and else the next
+abbrev pub synced_view : Shape → View → (synced new : Map) → View
+synced_view shape v synced new = cond (same_map synced new) v (committed shape v synced new)

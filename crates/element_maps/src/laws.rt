@@ -1,6 +1,6 @@
 //! The laws, for the proofs of callers: none of these functions does anything when it runs.
 
-ghost use Rattle.element_maps.specs.Laws.{CommittedLaw, CostLaw, ExactCostLaw, HeldLaw, NothingLaw, ReadLaw, SameLaw, SizeLaw, SynchronisedLaw, TakenLaw, UntestedLaw};
+ghost use Rattle.element_maps.specs.Laws.{CommittedLaw, CostLaw, DecidesLaw, ExactCostLaw, HeldLaw, NextLaw, NothingLaw, ReadLaw, SameLaw, SizeLaw, StaysLaw, SynchronisedLaw, TakenLaw, UntestedLaw};
 
 /// The changes that make the map that a storage holds into another may be committed; the storage then holds the other, and only what
 /// differs is written, nothing where both are equal.
@@ -21,4 +21,12 @@ pub fn views_are_maps()
     ensures untested { UntestedLaw }
     ensures synchronised { SynchronisedLaw }
     ensures same { SameLaw }
+{}
+
+/// Whether two maps are equal is decided by a test, and by it the view after a sync: that of before where nothing differs, and else the
+/// next.
+pub fn syncs_are_decided()
+    ensures decides { DecidesLaw }
+    ensures stays { StaysLaw }
+    ensures next { NextLaw }
 {}

@@ -3,3 +3,4 @@ pub mod ViewsRead
 pub mod Supported
 pub mod Finding
 pub mod Viewing
+mod Ranges

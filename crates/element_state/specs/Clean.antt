@@ -1,7 +1,10 @@
--- The pieces of a place, texts in slots and contents in blocks, and a place on which nothing contradicts anything.
-use Rattle.std.specs.Prelude.{◌≡◌, ℕ, ◌<◌, List, map, Option, Some, Contains}
+-- The pieces of a place, texts in slots and contents in blocks; a place on which nothing contradicts anything, and a case of a crash in which
+-- nothing passes its hash by chance.
+use Rattle.std.specs.Prelude.{◌≡◌, ◌⊎◌, ℕ, ◌<◌, List, map, Option, Some, Contains}
 use Rattle.disk_model.specs.declared.place.Place.{Place}
 use Rattle.disk_model.specs.Image.{Image}
+use Rattle.disk_model.specs.Case.{Case}
+use Rattle.disk_model.specs.Damage.{IsSoundFor}
 use Rattle.disk_model.specs.Place.{area}
 use Rattle.guarded_cell.specs.Register.{Holds, IsOneEach}
 use Rattle.guarded_cell.specs.Stops.{SlotText, IsSlotPiece}
@@ -60,3 +63,20 @@ pub record IsClean (shape : Shape) (image : Image) : Type 0 where
       → (index : Index) × (fit_index shape text ≡ Some index)
   pub alike : (at : Where) (a b : ℕ) (s t : List ℕ) → IsNamed shape.place image at → a < shape.place.copies → b < shape.place.copies
       → counting_at image shape.place a at ≡ Some s → counting_at image shape.place b at ≡ Some t → s ≡ t
+
+-- ---- what is granted of chance
+
+-- some copy gives these bytes under the entry, after the last sync or with the writes since then done whole
+pub record IsCounted (place : Place) (c : Case) (at : Where) (bytes : List ℕ) : Type 0 where
+  pub copy : ℕ
+  pub inside : copy < place.copies
+  pub counts : (counting_at c.base place copy at ≡ Some bytes) ⊎ (counting_at c.full place copy at ≡ Some bytes)
+
+-- No two contents lie under one hash: all that counts for a content which an index names that was held after the last sync is the same bytes.
+abbrev pub HasNoTwins : Place → Case → Type 0
+HasNoTwins place c = (at : Where) (s t : List ℕ) → IsNamed place c.base at → IsCounted place c at s → IsCounted place c at t → s ≡ t
+
+-- A sound case, for a place: no torn piece passes its hash by chance, and no two contents lie under one hash. It is a matter of hashes alone.
+pub record IsSound (place : Place) (c : Case) : Type 0 where
+  pub pieces : IsSoundFor (IsPiece place) c
+  pub no_twins : HasNoTwins place c

@@ -8,12 +8,12 @@ use Rattle.per_base.specs.declared.elements.Content.TheVariants.{Good, Bad}
 use Rattle.per_base.specs.declared.elements.Entry.{Entry}
 use Rattle.disk_model.specs.Image.{Image}
 use Rattle.disk_model.specs.Case.{Case}
-use Rattle.disk_model.specs.Damage.{IsSoundFor, DecaysFor, IsUndamaged, AtLeast}
+use Rattle.disk_model.specs.Damage.{DecaysFor, IsUndamaged, AtLeast}
 use Rattle.disk_model.specs.Medium.{Medium, Quiet, EachCase}
 use Rattle.element_state.specs.declared.shapes.Shape.{Shape}
 use Rattle.element_state.specs.declared.shapes.View.{View}
 use Rattle.element_state.specs.States.{State, Opens, Corrupt, store_at, salvage_of, others_of}
-use Rattle.element_state.specs.Clean.{IsPiece, IsClean}
+use Rattle.element_state.specs.Clean.{IsPiece, IsClean, IsSound}
 
 -- ---- views beside one another
 
@@ -106,7 +106,7 @@ pub record Kept (shape : Shape) (damaged : List ℕ) (left before after : State)
 
 -- so it is of each sound case, after each damage, and the place stays clean
 abbrev pub IsKeptCase : Shape → (before after : State) → Case → Type 0
-IsKeptCase shape before after c = IsSoundFor (IsPiece shape.place) c → (damaged : List ℕ) (image : Image)
+IsKeptCase shape before after c = IsSound shape.place c → (damaged : List ℕ) (image : Image)
     → DecaysFor (IsPiece shape.place) damaged c.left image → Kept shape damaged (store_at image shape) before after × IsClean shape image
 
 -- so it is of every moment since a start at which nothing was pending and the place was clean

@@ -14,7 +14,8 @@ use Rattle.guarded_cell.specs.Held.{held}
 use Rattle.block_files.specs.Contents.{counting}
 use Rattle.index_text.specs.declared.entries.Index.{Index}
 use Rattle.index_text.specs.Spelling.{index_text, entry_text}
-use Rattle.index_text.specs.Reading.{index_of, header_at, entry_at, name_at, info_at, file_info_at, cause_at, changed_at, len_at, many, bytes_at, number_at}
+use Rattle.per_base.specs.Fields.{many, bytes_at, number_at}
+use Rattle.index_text.specs.Reading.{index_of, header_at, entry_at, name_at, info_at, file_info_at, cause_at, changed_at, len_at}
 use Rattle.element_state.specs.declared.shapes.Shape.{Shape}
 use Rattle.element_state.specs.declared.shapes.View.{View}
 use Rattle.element_state.specs.declared.shapes.Change.TheVariants.{Put}

@@ -15,10 +15,12 @@ mod choosing;
 mod errors;
 mod fitting;
 mod reading;
+mod reporting;
 mod shapes;
 mod supporting;
 mod surveying;
 
 pub use errors::StoreError;
+pub use reporting::failed_report;
 pub use shapes::{Change, Shape, View};
 pub use surveying::{Found, inspect, salvage, survey};

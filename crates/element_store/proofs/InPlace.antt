@@ -1,6 +1,6 @@
 -- Elements that are mended one after another.
-use Rattle.std.proofs.Common.{◌≡◌, ◌≢◌, ℕ, zero, suc, ◌+◌, ◌-◌, ◌*◌, ◌<◌, ◌≤◌, List, [], ◌∷◌, length, get_or, take, Bool, IsTrue, Some, refl, sym, ap, ◌∙◌, subst, arith, ⊎_elim, length-append, eq-eqb}
-use Rattle.std.specs.Prelude.{nat_eq}
+use Rattle.std.proofs.Common.{◌≡◌, ◌≢◌, ℕ, zero, suc, ◌+◌, ◌-◌, ◌*◌, ◌<◌, ◌≤◌, List, [], ◌∷◌, length, get_or, take, Bool, IsTrue, Option, Some, inl, refl, sym, ap, ◌∙◌, subst, arith, ⊎_elim, length-append, eq-eqb}
+use Rattle.std.specs.Prelude.{nat_eq, map}
 use Rattle.std.specs.List.{AllZip, AllByRecursion, Contains, IsDistinct}
 use Rattle.std.proofs.lemmas.Map.Keys.{apart_from_distinct}
 use Rattle.std.proofs.lemmas.Bool.{cases_eq, cases_lt}
@@ -25,7 +25,7 @@ use Rattle.index_text.specs.declared.entries.Index.{Index}
 use Rattle.index_text.specs.declared.entries.IndexEntry.{IndexEntry}
 use Rattle.index_text.specs.Rules.{IsIndex, IsEntry, blocks_of}
 use Rattle.element_state.specs.declared.shapes.Shape.{Shape}
-use Rattle.element_state.specs.Views.{entry_view, given}
+use Rattle.element_state.specs.Views.{entry_view, given, content_of}
 use Rattle.element_state.specs.Chosen.{HasLength, IsReadBy}
 use Rattle.element_laws.specs.Phases.{MendStartLaw, MendStepLaw, MendSyncLaw, IsMending, IsSparing, TakesMend, KeepsBlocks, KeepsBlocksWhole, lacked}
 use Rattle.element_store.specs.Mends.{IsWholeIn, AreShown, MendsCase, SparesOthers}
@@ -116,6 +116,14 @@ less_blocks shape start now image (e ∷ es) all =
 less_sparing : (shape : Shape) (start now image : Image) (index : Index) → IsSparing KeepsBlocksWhole shape start now index image → IsSparing KeepsBlocks shape start now index image
 less_sparing shape start now image index s = record { slots = s.slots; kept = less_blocks shape start now image index.entries s.kept }
 
+same_blocks : (shape : Shape) (start image : Image) (es : List IndexEntry) → AllByRecursion (λ (e : IndexEntry). (copy : ℕ) → copy < shape.place.copies → ¬ (TakesMend shape start e copy)
+    → KeepsBlocksWhole e.blocks (image (area shape.place.first copy)) (image (area shape.place.first copy))) es
+same_blocks shape start image [] = tt
+same_blocks shape start image (e ∷ es) = ((λ copy lt untaken. record { bytes = λ i j lti small. refl; no_shorter = omega arith }), same_blocks shape start image es)
+
+same_sparing : (shape : Shape) (start image : Image) (index : Index) → IsSparing KeepsBlocksWhole shape start image index image
+same_sparing shape start image index = record { slots = λ f none. refl; kept = same_blocks shape start image index.entries }
+
 -- ---- one more
 
 pub record AreMended (told : Bool) (shape : Shape) (index : Index) (views : List Entry) (i : ℕ) (old now : Medium) : Type 0 where
@@ -130,6 +138,10 @@ pub record AreMended (told : Bool) (shape : Shape) (index : Index) (views : List
 seen_good : (shape : Shape) (start : Image) (e : IndexEntry) (v : List ℕ) → (entry_view start shape.place shape.m e).content ≡ Good v → voted shape.m (given start shape.place e) ≡ Some v
 unfolding entry_view
 seen_good shape start e v good = content_good (voted shape.m (given start shape.place e)) (first_content (given start shape.place e)) v good
+
+good_seen : (shape : Shape) (start : Image) (e : IndexEntry) (v : List ℕ) → voted shape.m (given start shape.place e) ≡ Some v → (entry_view start shape.place shape.m e).content ≡ Good v
+unfolding entry_view
+good_seen shape start e v agreed = ap (λ (o : Option (List ℕ)). content_of o (first_content (given start shape.place e))) agreed
 
 module _ (told : Bool) (shape : Shape) (index : Index) (views : List Entry) (rules : IsIndex index) (read : AllZip (IsReadBy shape.place.copies) index.entries views) where
   pub mended_none : MendStartLaw → (m : Medium) → IsLawful told m → Quiet m → AreMended told shape index views 0 m m
@@ -247,8 +259,13 @@ module _ (told : Bool) (shape : Shape) (index : Index) (views : List Entry) (rul
             (was.full tells x d g (omega (arith, less, other)) inside w is k ltk))
             (cases_eq x i);
         spared = λ tells start shown.
-            (one_step start (record { base = mid.image; full = mid.image; left = mid.image }) (record { base = mid.image; full = new.image; left = mid.image }) shown
-            (record { base = was.spared tells start shown; full = was.spared tells start shown; left = less_sparing shape start old.image mid.image index (was.spared tells start shown) })
+            (one_step start (record { base = old.image; full = mid.image; left = mid.image }) (record { base = old.image; full = new.image; left = mid.image }) shown
+            (record {
+              base = same_sparing shape start old.image index;
+              full = was.spared tells start shown;
+              left = less_sparing shape start old.image mid.image index (was.spared tells start shown);
+              durable = inl refl;
+            })
             (record { base = refl; full = wrote.keeps tells; left = keeps_tears (keeps_none mid.image) })).full;
         here = λ c past start shown. (let (d, was_now, keeps) = wrote.now c past in one_step start d c shown (was.here d was_now start shown) keeps);
         during = still_during was wrote.time wrote.during;
@@ -260,6 +277,12 @@ module _ (told : Bool) (shape : Shape) (index : Index) (views : List Entry) (rul
 
 -- ---- and a sync
 
+-- contents that are whole in the copies that lacked them are mended
+are_mended : (shape : Shape) (start image : Image) (es : List IndexEntry) → AllZip (IsWholeIn image shape.place.first) es (map (entry_view start shape.place shape.m) es)
+    → AllByRecursion (λ (e : IndexEntry). (value : List ℕ) → voted shape.m (given start shape.place e) ≡ Some value → NamedFull shape.place.first (lacked shape start e) e.blocks value image) es
+are_mended shape start image [] zip = tt
+are_mended shape start image (e ∷ es) zip = ((λ value agreed. zip.0 value (good_seen shape start e value agreed)), are_mended shape start image es zip.1)
+
 module _ (shape : Shape) (index : Index) (views : List Entry) (told : Bool) (old mid new : Medium) (law : IsLawful told mid)
     (during : EachCase (MendsCase shape index views old.image) old mid) (first : Elapses old mid) (next : Elapses mid new) where
   past_mid : (c : Case) → mid.now c → MendsCase shape index views old.image c
@@ -270,14 +293,16 @@ module _ (shape : Shape) (index : Index) (views : List Entry) (told : Bool) (old
   unsynced_during reads c past = ⊎_elim (during c) (λ after. past_mid c (reads.during c after)) (cases_on first next c past)
 
   -- one that did not
-  pub synced_during : MendStartLaw → MendSyncLaw → SparesOthers shape index views old.image mid.image → WritesNothing mid new → Quiet new
+  pub synced_during : MendStartLaw → MendSyncLaw → SparesOthers shape index views old.image mid.image
+      → AllZip (IsWholeIn mid.image shape.place.first) index.entries views → WritesNothing mid new → Quiet new
       → EachCase (MendsCase shape index views old.image) old new
-  synced_during starts syncs spared nothing quiet c past = ⊎_elim (during c)
+  synced_during starts syncs spared whole nothing quiet c past = ⊎_elim (during c)
       (λ after. ⊎_elim (past_mid c) (λ here start shown.
       let settled = quiet c here in
       let begin = starts shape start old.image index (record { base = old.image; full = old.image; left = old.image }) (record { base = refl; full = refl; left = refl }) in
       syncs shape start old.image index (record { base = old.image; full = mid.image; left = old.image }) c
-      (record { base = begin.base; full = spared start shown; left = begin.left })
+      (record { base = begin.base; full = spared start shown; left = begin.left; durable = begin.durable })
+      (are_mended shape start mid.image index.entries (subst (λ (vs : List Entry). AllZip (IsWholeIn mid.image shape.place.first) index.entries vs) shown whole))
       (record { base = settled.base ∙ nothing.image; full = settled.full ∙ nothing.image; left = settled.left ∙ nothing.image }))
       (nothing.during c after))
       (cases_on first next c past)

@@ -18,7 +18,7 @@ use Rattle.element_state.specs.States.{State, store_at}
 use Rattle.element_state.specs.Clean.{IsClean}
 use Rattle.element_state.specs.Conditions.{IsShape}
 use Rattle.element_state.specs.Kept.{IsKeptCase}
-use Rattle.element_laws.specs.Phases.{IsOfPlace, UntouchedLaw, AdoptLaw, MendLaw, OpensAt, MendsNoOther}
+use Rattle.element_laws.specs.Phases.{IsOfPlace, UntouchedLaw, AdoptLaw, MendLaw, OpensAt}
 use Rattle.element_store.specs.Mends.{AreShown, MendsCase}
 
 -- ---- the storage is kept
@@ -38,8 +38,8 @@ module _ (shape : Shape) (old one : Medium) (is : IsShape shape) (clean : IsClea
     module _ (three : Medium) (mend : MendLaw) (views : List Entry) (rules : IsIndex index) (shown : AreShown shape index views old.image)
         (alone : IsAlone two.image shape.place.first shape.place.copies g text) (areas : Spares (IsNoSlot shape.place.first shape.place.copies) one.image two.image)
         (t3 : Elapses two three) (during : EachCase (MendsCase shape index views two.image) two three) where
-      pub third_kept : (c : Case) → three.since old.moment c → MendsNoOther shape old.image index c → IsKeptCase shape (store_at old.image shape) after c
-      third_kept c past chance = ⊎_elim (second_kept c)
+      pub third_kept : (c : Case) → three.since old.moment c → IsKeptCase shape (store_at old.image shape) after c
+      third_kept c past = ⊎_elim (second_kept c)
           (λ later. mend shape old.image two.image g text index after c is.some
           (record {
             clean = clean;
@@ -47,7 +47,7 @@ module _ (shape : Shape) (old one : Medium) (is : IsShape shape) (clean : IsClea
             alone = alone;
             areas = subst (λ (i : Image). Spares (IsNoSlot shape.place.first shape.place.copies) i two.image) idle.image areas;
           })
-          rules (during c later old.image shown) chance)
+          rules (during c later old.image shown))
           (cases_on (elapses_on t1 t2) t3 c past)
 
 -- ---- no file outside changes

@@ -1,19 +1,17 @@
--- An opening: what it knows before it writes, and what it takes for granted of halves of a mend.
+-- An opening: what it knows before it writes.
 use Rattle.std.specs.Prelude.{◌≡◌, map, true, Some, find}
 use Rattle.std.specs.List.{AllZip}
 use Rattle.disk_model.specs.Image.{Image}
-use Rattle.disk_model.specs.Case.{Case}
 use Rattle.guarded_cell.specs.declared.looking.Seen.{Seen}
 use Rattle.index_text.specs.declared.entries.Index.{Index}
 use Rattle.index_text.specs.Sizes.{area_blocks}
 use Rattle.element_state.specs.declared.shapes.Shape.{Shape}
-use Rattle.element_state.specs.Fit.{FitText, fit_texts}
+use Rattle.element_state.specs.Fit.{fit_texts}
 use Rattle.element_state.specs.Views.{qualifies, view_of}
 use Rattle.element_state.specs.States.{mended_entry, store_at}
 use Rattle.element_state.specs.Chosen.{IsFit, IsReadBy, opened_of}
 use Rattle.element_state.specs.Read.{IsView}
 use Rattle.element_state.specs.Reports.{reports}
-use Rattle.element_laws.specs.Phases.{MendsNoOther}
 use Rattle.element_store.specs.declared.opening.OpeningPlan.{OpeningPlan}
 use Rattle.element_store.specs.Stores.{AreTaken}
 
@@ -37,7 +35,3 @@ pub record IsFoundOn (image : Image) (shape : Shape) (r : OpeningPlan) : Type 0 
 pub record OpensBy (image : Image) (shape : Shape) (index : Index) : Type 0 where
   pub seen : Seen
   pub first : find (qualifies image shape) (fit_texts shape image) ≡ Some (seen, index)
-
--- no half of a mend of the text at which the storage opens passes for a content in this case
-abbrev pub MendsByNoChance : Shape → (start : Image) → Case → Type 0
-MendsByNoChance shape start c = (text : FitText) → find (qualifies start shape) (fit_texts shape start) ≡ Some text → MendsNoOther shape start text.1 c

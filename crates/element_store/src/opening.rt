@@ -8,11 +8,11 @@ ghost use Rattle.disk_model.specs.Place.{IsOutside};
 ghost use Rattle.element_state.specs.Chosen.{opened_of};
 ghost use Rattle.element_state.specs.Clean.{IsClean};
 ghost use Rattle.element_state.specs.Conditions.{IsShape};
-ghost use Rattle.element_state.specs.Kept.{IsKeptCase};
+ghost use Rattle.element_state.specs.Kept.{KeptThroughout};
 ghost use Rattle.element_state.specs.Read.{IsView};
 ghost use Rattle.element_state.specs.Reports.{reports};
 ghost use Rattle.element_state.specs.States.{State, store_at, mended_view};
-ghost use Rattle.element_store.specs.Opened.{IsOpeningPlan, IsFoundOn, MendsByNoChance, OpensBy};
+ghost use Rattle.element_store.specs.Opened.{IsOpeningPlan, IsFoundOn, OpensBy};
 ghost use Rattle.element_store.specs.Committing.{index_in};
 ghost use Rattle.element_store.specs.Stores.{IsUsed, shape_of, view_in};
 
@@ -83,10 +83,8 @@ pub fn open_store<D: Disk>(
         → EachCase (IsSettledOn (IsOutside shape.place.first shape.place.copies) (D.medium disk.old).image)
         (D.medium disk.old) (D.medium disk.new) }
 
-    // A stop at any moment keeps the storage, where no half of a mend passes for a content by chance.
-    ensures any_moment { IsTrue D.told → Quiet (D.medium disk.old) → IsClean shape (D.medium disk.old).image → (after : State)
-        → EachCase (λ c. MendsByNoChance shape (D.medium disk.old).image c → IsKeptCase shape (store_at (D.medium disk.old).image shape) after c)
-        (D.medium disk.old) (D.medium disk.new) }
+    // A stop at any moment keeps the storage, whatever its next state is to be.
+    ensures any_moment { IsTrue D.told → (after : State) → KeptThroughout shape after (D.medium disk.old) (D.medium disk.new) }
     ensures time { Elapses (D.medium disk.old) (D.medium disk.new) }
 {
     use_is_adopted();

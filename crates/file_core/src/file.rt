@@ -5,7 +5,7 @@ ghost use Rattle.std.specs.Bool.{OnTrue, OnFalse};
 ghost use Rattle.file_core.specs.Files.{GrowsBy, IsFile, NoSalvage, bytes_of, changed_to, cut, file_of, is_good, opened_at, written};
 ghost use Rattle.file_core.specs.Places as places;
 ghost use Rattle.file_core.specs.Places.{overwritten};
-ghost use Rattle.file_core.specs.Refusals.{IsRefusal};
+ghost use Rattle.file_core.specs.Refusals.{IsDue, IsRefusal};
 
 use crate::contents::{overwrite_content, recover_content, truncate_content};
 use crate::cursor::{Cursor, writes};
@@ -152,6 +152,8 @@ impl File {
         ensures kind { cursor.new.kind ≡ cursor.old.kind }
         ensures within { room.others + self.old.len ≤ room.allowed → room.others + self.new.len ≤ room.allowed }
         ensures writer { OnOk result (IsTrue (places.writes cursor.old.kind)) }
+        // Want of memory stands for no refusal, and comes only where the file grows.
+        ensures due { IfErr result (λ error. error ≡ PerError.OutOfMemory → IsDue (written cursor.old self.old piece.now now room)) }
         ensures memory { IfErr result (λ error. error ≡ PerError.OutOfMemory → GrowsBy cursor.old self.old piece.now) }
     {
         if !writes(cursor.kind) {

@@ -61,6 +61,13 @@ salvage_of (Bad (Some salvage)) = salvage
 abbrev pub salvaged : ℕ → Element → Element
 salvaged now file = changed_to (salvage_of file.content) now Recovery file
 
+-- a recovery takes the initial content, which has to be copied
+abbrev pub TakesInitial : Option (List ℕ) → Content → Type 0
+TakesInitial initial (Good bytes) = ⊥
+TakesInitial initial (Bad (Some salvage)) = ⊥
+TakesInitial None (Bad None) = ⊥
+TakesInitial (Some bytes) (Bad None) = Unit {0}
+
 -- a readable file stays; an unreadable one becomes its salvage, else its initial content, else it goes
 abbrev pub recovered : Storage → Session → List ℕ → ℕ → Option (List ℕ) → Element → Content → Result Session PerError
 recovered storage s name now initial file (Good bytes) = Ok s

@@ -1,7 +1,7 @@
 //! The calls on a handle that change its file or release it.
 
 ghost use Rattle.std.specs.Prelude.{◌≡◌, IfErr, OnErr, OnOk};
-ghost use Rattle.file_core.specs.Refusals.{IsRefusal};
+ghost use Rattle.file_core.specs.Refusals.{IsDue, IsRefusal};
 ghost use Rattle.file_handles.specs.Handling as calls;
 ghost use Rattle.file_handles.specs.Sessions.{open_at};
 
@@ -19,6 +19,7 @@ impl FileTable {
     pub fn write(&mut self, number: u32, piece: &[u8]) -> Result<(), PerError>
         ensures ok { OnOk result (calls.write self.old.storage self.old.session self.old.moment number piece.now ≡ Ok self.new.session) }
         ensures refused { IfErr result (λ error. IsRefusal (calls.write self.old.storage self.old.session self.old.moment number piece.now) error) }
+        ensures due { IfErr result (λ error. error ≡ PerError.OutOfMemory → IsDue (calls.write self.old.storage self.old.session self.old.moment number piece.now)) }
         ensures memory { IfErr result (λ error. error ≡ PerError.OutOfMemory → calls.GrowsBy (open_at self.old.session number) piece.now) }
         ensures unchanged { OnErr result (self.new ≡ self.old) }
         ensures storage { self.new.storage ≡ self.old.storage }

@@ -10,7 +10,7 @@ ghost use Rattle.per_base.specs.Names.{name_cmp};
 ghost use Rattle.file_core.specs.Files as core;
 ghost use Rattle.file_core.specs.Infos as infos;
 ghost use Rattle.file_core.specs.Places.{writes};
-ghost use Rattle.file_core.specs.Refusals.{IsRefusal};
+ghost use Rattle.file_core.specs.Refusals.{IsDue, IsRefusal};
 ghost use Rattle.std.specs.Bool.{OnFalse, OnTrue};
 ghost use Rattle.file_handles.specs.ByName.{HasSalvage, salvaged};
 ghost use Rattle.file_handles.specs.Opening.{file_opened};
@@ -68,6 +68,7 @@ pub fn write_file(
     ensures held { OnOk result (IsHeldAt (element_at files.new.entries name.now) cursor.new.position) }
     ensures writer { OnOk result (IsTrue (writes cursor.old.kind) × (cursor.new.kind ≡ cursor.old.kind)) }
     ensures file { OnOk result (IsFileAt (element_at files.new.entries name.now)) }
+    ensures due { IfErr result (λ error. error ≡ PerError.OutOfMemory → (old : Element) → element_at files.old.entries name.now ≡ Some old → IsDue (core.written cursor.old old piece.now now room)) }
     ensures memory { IfErr result (λ error. error ≡ PerError.OutOfMemory → (old : Element) → element_at files.old.entries name.now ≡ Some old → core.GrowsBy cursor.old old piece.now) }
 {
     match files.get_mut(name) {

@@ -3,7 +3,7 @@
 ghost use Rattle.std.specs.Prelude.{◌≡◌, ◌≢◌, ◌≤◌, ◌^◌, None, Some, IfErr, IfOk, IsTrue, OnErr, OnOk};
 ghost use Rattle.per_base.specs.Maps.{element_at, has};
 ghost use Rattle.file_handles.specs.Sessions.{room_for};
-ghost use Rattle.file_core.specs.Refusals.{IsRefusal};
+ghost use Rattle.file_core.specs.Refusals.{IsRefusal, NeedsMemory};
 ghost use Rattle.file_handles.specs.Opening as opening;
 
 use crate::handle::{blocking, free_number};
@@ -60,6 +60,7 @@ impl FileTable {
     pub fn open_read_only(&mut self, name: &Name, mode: OpenMode, now: u64) -> Result<u32, PerError>
         ensures ok { IfOk result (λ number. opening.open_file self.old.storage self.old.session name.now OpenKind.Read mode now ≡ Ok (number, self.new.session)) }
         ensures refused { IfErr result (λ error. IsRefusal (opening.open_file self.old.storage self.old.session name.now OpenKind.Read mode now) error) }
+        ensures memory { IfErr result (λ error. error ≡ PerError.OutOfMemory → NeedsMemory (opening.open_file self.old.storage self.old.session name.now OpenKind.Read mode now)) }
         ensures unchanged { OnErr result (self.new ≡ self.old) }
         ensures storage { self.new.storage ≡ self.old.storage }
         ensures moment { OnOk result (self.new.moment ≡ now) }
@@ -78,6 +79,7 @@ impl FileTable {
     ) -> Result<u32, PerError>
         ensures ok { IfOk result (λ number. opening.open_file self.old.storage self.old.session name.now OpenKind.Write mode now ≡ Ok (number, self.new.session)) }
         ensures refused { IfErr result (λ error. IsRefusal (opening.open_file self.old.storage self.old.session name.now OpenKind.Write mode now) error) }
+        ensures memory { IfErr result (λ error. error ≡ PerError.OutOfMemory → NeedsMemory (opening.open_file self.old.storage self.old.session name.now OpenKind.Write mode now)) }
         ensures unchanged { OnErr result (self.new ≡ self.old) }
         ensures storage { self.new.storage ≡ self.old.storage }
         ensures moment { OnOk result (self.new.moment ≡ now) }
@@ -96,6 +98,7 @@ impl FileTable {
     ) -> Result<u32, PerError>
         ensures ok { IfOk result (λ number. opening.open_file self.old.storage self.old.session name.now OpenKind.ReadWrite mode now ≡ Ok (number, self.new.session)) }
         ensures refused { IfErr result (λ error. IsRefusal (opening.open_file self.old.storage self.old.session name.now OpenKind.ReadWrite mode now) error) }
+        ensures memory { IfErr result (λ error. error ≡ PerError.OutOfMemory → NeedsMemory (opening.open_file self.old.storage self.old.session name.now OpenKind.ReadWrite mode now)) }
         ensures unchanged { OnErr result (self.new ≡ self.old) }
         ensures storage { self.new.storage ≡ self.old.storage }
         ensures moment { OnOk result (self.new.moment ≡ now) }
@@ -116,6 +119,7 @@ impl FileTable {
     ) -> Result<u32, PerError>
         ensures ok { IfOk result (λ number. opening.open_file self.old.storage self.old.session name.now kind mode now ≡ Ok (number, self.new.session)) }
         ensures refused { IfErr result (λ error. IsRefusal (opening.open_file self.old.storage self.old.session name.now kind mode now) error) }
+        ensures memory { IfErr result (λ error. error ≡ PerError.OutOfMemory → NeedsMemory (opening.open_file self.old.storage self.old.session name.now kind mode now)) }
         ensures unchanged { OnErr result (self.new ≡ self.old) }
         ensures storage { self.new.storage ≡ self.old.storage }
         ensures moment { OnOk result (self.new.moment ≡ now) }

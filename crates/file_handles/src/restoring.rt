@@ -6,10 +6,10 @@ ghost use Rattle.per_base.specs.declared.elements.Element.{Element};
 ghost use Rattle.per_base.specs.Maps.{element_at, has, with_element, without};
 ghost use Rattle.file_core.specs.Files as core;
 ghost use Rattle.file_core.specs.Infos as infos;
-ghost use Rattle.file_core.specs.Refusals.{IsRefusal};
+ghost use Rattle.file_core.specs.Refusals.{IsDue, IsRefusal};
 ghost use Rattle.file_handles.specs.ByName as calls;
 ghost use Rattle.file_handles.specs.Opening as opening;
-ghost use Rattle.file_handles.specs.Sessions.{blocking};
+ghost use Rattle.file_handles.specs.Sessions.{blocking, room_for};
 
 use crate::handle::blocking;
 use crate::map::{add_file, len_of, name_len, recover_in, remove_file, replace_in};
@@ -31,6 +31,9 @@ impl FileTable {
         requires { MatchOption (option_copied initial) ⊤ (λ bytes. length bytes ≤ 1048576) }
         ensures ok { OnOk result (calls.recover_file self.old.storage self.old.session name.now now (option_copied initial.entry) ≡ Ok self.new.session) }
         ensures refused { IfErr result (λ error. IsRefusal (calls.recover_file self.old.storage self.old.session name.now now (option_copied initial.entry)) error) }
+        // Want of memory stands for no refusal, and comes only where the initial content is taken.
+        ensures memory { IfErr result (λ error. error ≡ PerError.OutOfMemory → IsDue (calls.recover_file self.old.storage self.old.session name.now now (option_copied initial.entry))) }
+        ensures copies { IfErr result (λ error. error ≡ PerError.OutOfMemory → (old : Element) → element_at self.old.session.files name.now ≡ Some old → calls.TakesInitial (option_copied initial.entry) old.content) }
         ensures unchanged { OnErr result (self.new ≡ self.old) }
         ensures storage { self.new.storage ≡ self.old.storage }
         ensures moment { self.new.moment ≡ self.old.moment }
@@ -60,6 +63,8 @@ impl FileTable {
         requires there { IsTrue (has self.old.session.files name.now) }
         ensures ok { OnOk result ((old : Element) → element_at self.old.session.files name.now ≡ Some old → calls.recovered self.old.storage self.old.session name.now now (option_copied initial.entry) old old.content ≡ Ok self.new.session) }
         ensures refused { IfErr result (λ error. (old : Element) → element_at self.old.session.files name.now ≡ Some old → IsRefusal (calls.recovered self.old.storage self.old.session name.now now (option_copied initial.entry) old old.content) error) }
+        ensures memory { IfErr result (λ error. error ≡ PerError.OutOfMemory → (old : Element) → element_at self.old.session.files name.now ≡ Some old → IsDue (calls.recovered self.old.storage self.old.session name.now now (option_copied initial.entry) old old.content)) }
+        ensures copies { IfErr result (λ error. error ≡ PerError.OutOfMemory → (old : Element) → element_at self.old.session.files name.now ≡ Some old → calls.TakesInitial (option_copied initial.entry) old.content) }
         ensures unchanged { OnErr result (self.new ≡ self.old) }
         ensures storage { self.new.storage ≡ self.old.storage }
         ensures moment { self.new.moment ≡ self.old.moment }
@@ -74,10 +79,14 @@ impl FileTable {
             self.vanish(name);
             return Ok(());
         };
+        if let Some(error) = self.refuses_content(name, bytes) {
+            return Err(error);
+        }
         let Ok(copy) = Vec::from_slice(self.alloc, bytes) else {
             return Err(PerError::OutOfMemory);
         };
-        self.give(name, Bytes::new(copy), now, Cause::Recovery)
+        self.give(name, Bytes::new(copy), now, Cause::Recovery);
+        Ok(())
     }
 
     /// The file of this name gets its initial content, and is made where it is missing.
@@ -93,6 +102,7 @@ impl FileTable {
         requires { MatchOption (option_copied initial) ⊤ (λ bytes. length bytes ≤ 1048576) }
         ensures ok { OnOk result (calls.reset_file self.old.storage self.old.session name.now now (option_copied initial.entry) ≡ Ok self.new.session) }
         ensures refused { IfErr result (λ error. IsRefusal (calls.reset_file self.old.storage self.old.session name.now now (option_copied initial.entry)) error) }
+        ensures memory { IfErr result (λ error. error ≡ PerError.OutOfMemory → IsDue (calls.reset_file self.old.storage self.old.session name.now now (option_copied initial.entry))) }
         ensures unchanged { OnErr result (self.new ≡ self.old) }
         ensures storage { self.new.storage ≡ self.old.storage }
         ensures moment { self.new.moment ≡ self.old.moment }
@@ -109,11 +119,15 @@ impl FileTable {
         if let Some(error) = self.too_many(name) {
             return Err(error);
         }
+        if let Some(error) = self.refuses_content(name, bytes) {
+            return Err(error);
+        }
         let Ok(copy) = Vec::from_slice(self.alloc, bytes) else {
             return Err(PerError::OutOfMemory);
         };
         if self.file_exists(name) {
-            self.give(name, Bytes::new(copy), now, Cause::Reset)
+            self.give(name, Bytes::new(copy), now, Cause::Reset);
+            Ok(())
         } else {
             self.make(name, Bytes::new(copy), now)
         }
@@ -145,42 +159,42 @@ impl FileTable {
         recover_in(&mut self.files, name, now)
     }
 
-    /// Gives a file without a handle other bytes.
-    fn give(&mut self, name: &Name, bytes: Bytes, now: u64, cause: Cause) -> Result<(), PerError>
+    /// What refuses these bytes as the content of this name: they are too long, or there is no room.
+    fn refuses_content(&self, name: &Name, bytes: &[u8]) -> Option<PerError>
+        ensures { result ≡ core.too_long (room_for self.now.session.files name.now self.now.storage.maximum) (length bytes.now) }
+    {
+        self.room_for(name).too_long(bytes.len() as u64)
+    }
+
+    /// Gives a file without a handle other bytes, for which there is room.
+    fn give(&mut self, name: &Name, bytes: Bytes, now: u64, cause: Cause)
         requires free { opening.busy (blocking OpenKind.Write name.now self.old.session.handles) ≡ None }
         requires there { IsTrue (has self.old.session.files name.now) }
         requires small { length bytes ≤ 1048576 }
-        ensures ok { OnOk result ((old : Element) → element_at self.old.session.files name.now ≡ Some old → calls.with_content self.old.storage self.old.session name.now (core.changed_to bytes now cause old) ≡ Ok self.new.session) }
-        ensures refused { IfErr result (λ error. (old : Element) → element_at self.old.session.files name.now ≡ Some old → calls.with_content self.old.storage self.old.session name.now (core.changed_to bytes now cause old) ≡ Err error) }
-        ensures unchanged { OnErr result (self.new ≡ self.old) }
+        requires fits { core.too_long (room_for self.old.session.files name.now self.old.storage.maximum) (length bytes) ≡ None }
+        ensures given { (old : Element) → element_at self.old.session.files name.now ≡ Some old → self.new.session ≡ record self.old.session { files = with_element self.old.session.files name.now (core.changed_to bytes now cause old) } }
         ensures storage { self.new.storage ≡ self.old.storage }
         ensures moment { self.new.moment ≡ self.old.moment }
     {
         let after = bytes.len() as u64;
-        if let Some(error) = self.room_for(name).too_long(after) {
-            return Err(error);
-        }
         let before = len_of(&self.files, name);
         replace_in(&mut self.files, name, bytes, now, cause);
         self.size = self.size - before + after;
-        Ok(())
     }
 
-    /// Makes a file that is missing, with its initial content.
+    /// Makes a file that is missing, with its initial content, for which there is room.
     fn make(&mut self, name: &Name, bytes: Bytes, now: u64) -> Result<(), PerError>
         requires missing { element_at self.old.session.files name.now ≡ None }
         requires few { opening.too_many self.old.session.files name.now ≡ None }
         requires small { length bytes ≤ 1048576 }
-        ensures ok { OnOk result (calls.with_content self.old.storage self.old.session name.now (core.file_of (Some (infos.made now Cause.Reset)) bytes) ≡ Ok self.new.session) }
-        ensures refused { IfErr result (λ error. IsRefusal (calls.with_content self.old.storage self.old.session name.now (core.file_of (Some (infos.made now Cause.Reset)) bytes)) error) }
+        requires fits { core.too_long (room_for self.old.session.files name.now self.old.storage.maximum) (length bytes) ≡ None }
+        ensures ok { OnOk result (self.new.session ≡ record self.old.session { files = with_element self.old.session.files name.now (core.file_of (Some (infos.made now Cause.Reset)) bytes) }) }
+        ensures memory { IfErr result (λ error. error ≡ PerError.OutOfMemory) }
         ensures unchanged { OnErr result (self.new ≡ self.old) }
         ensures storage { self.new.storage ≡ self.old.storage }
         ensures moment { self.new.moment ≡ self.old.moment }
     {
         let len = bytes.len() as u64;
-        if let Some(error) = self.room_for(name).too_long(len) {
-            return Err(error);
-        }
         let extra = name_len(name) + len;
         let file = File::new(made(now, Cause::Reset), bytes);
         let added = add_file(&mut self.files, name, file);

@@ -39,7 +39,7 @@ use Rattle.element_state.specs.Views.{map_of}
 use Rattle.element_state.specs.Written.{IsWithin, commit_cost, map_cost}
 use Rattle.element_laws.specs.Phases.{UntouchedLaw}
 use Rattle.element_maps.specs.Differences.{MakeInto}
-use Rattle.element_maps.specs.Laws.{CommittedLaw, CostLaw, HeldLaw, UntestedLaw}
+use Rattle.element_maps.specs.Laws.{CommittedLaw, CostLaw, DecidesLaw, HeldLaw, UntestedLaw}
 use Rattle.element_maps.specs.Sessions.{IsHeld, IsSync, Passes}
 use Rattle.element_maps.proofs.Names.{same_names}
 use Rattle.element_maps.proofs.Same.{both, same_is}
@@ -49,23 +49,12 @@ use Rattle.element_store.specs.Stores.{IsUsed, entries_of, shape_of, view_in}
 use Rattle.element_store.proofs.CommitKept.{none_around, none_kept}
 use Rattle.file_storage.specs.Durable.{IsDurable, IsSyncing}
 use Rattle.file_storage.specs.FileSessions.{AreAsStored, FileSession, IsConfigured, IsOpen, storage_of, stored_in}
-use Rattle.file_storage.specs.Syncs.{is_synced, same_files, synced_view, worn}
+use Rattle.file_storage.specs.Syncs.{is_synced, synced_view, worn}
 use Rattle.file_storage.specs.Walks.{walked}
 use Rattle.file_storage.proofs.Making.{walk_makes}
 use Rattle.file_storage.proofs.Stored.{keys_are}
 
 -- ---- where nothing differs
-
-pub same_files_are : (m n : Map) → same_files m n ≡ true → m ≡ n
-same_files_are [] [] e = refl
-same_files_are [] (f ∷ fs) e = absurd (cc)
-same_files_are (e ∷ es) [] is = absurd (cc)
-same_files_are (e ∷ es) (f ∷ fs) is =
-    let one = both _ _ is in
-    let two = both _ _ one.0 in
-    ap (λ n. let p : List ℕ × Element = (n, e.1) in p ∷ es) (same_names e.0 f.0 two.0)
-    ∙ ap (λ x. let p : List ℕ × Element = (f.0, x) in p ∷ es) (same_is e.1 f.1 two.1)
-    ∙ ap (λ l. f ∷ l) (same_files_are es fs one.1)
 
 pub same_view : (s : FileSession) → is_synced s ≡ true → synced_view s ≡ view_in s.store
 same_view s is = rw is refl
@@ -81,9 +70,9 @@ none_syncing untouched told s m is law = record {
   time = elapses_none law;
 }
 
-pub none_durable : (told : Bool) (s : FileSession) (m : Medium) → IsUsed told m.image s.store → is_synced s ≡ true → IsDurable told s s m m
-none_durable told s m used is = record {
-  stored = same_files_are (stored_in s.store) s.session.files is;
+pub none_durable : DecidesLaw → (told : Bool) (s : FileSession) (m : Medium) → IsUsed told m.image s.store → is_synced s ≡ true → IsDurable told s s m m
+none_durable decides told s m used is = record {
+  stored = (decides (stored_in s.store) s.session.files).0 is;
   view = sym (same_view s is);
   beside = refl;
   shape = refl;

@@ -14,7 +14,7 @@ use Rattle.element_state.specs.declared.shapes.Change.{Change}
 use Rattle.element_state.specs.declared.shapes.Change.TheVariants.{Remove}
 use Rattle.element_state.specs.Views.{element_of}
 use Rattle.element_maps.specs.Differences.{arrival, put}
-use Rattle.file_storage.specs.Syncs.{same_files}
+use Rattle.element_maps.specs.Sessions.{same_map}
 use Rattle.file_storage.specs.Walks.{passing, removed, walked}
 
 abbrev nothing : List Entry
@@ -70,6 +70,6 @@ taken_away [] = refl
 taken_away (e ∷ es) = ap (λ (l : List Change). Remove e.name ∷ l) (taken_away es)
 
 -- no working file is left, so no stored one may be
-pub none_left : (rest : List Entry) (empty : Bool) → empty ≡ (length rest == 0) → (let none : Map = [] in empty ≡ same_files (map element_of rest) none)
+pub none_left : (rest : List Entry) (empty : Bool) → empty ≡ (length rest == 0) → (let none : Map = [] in empty ≡ same_map (map element_of rest) none)
 none_left [] empty is = is
 none_left (e ∷ es) empty is = is ∙ ne_eqb (length (e ∷ es)) 0 (λ same. absurd (omega (arith, same)))

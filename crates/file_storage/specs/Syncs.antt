@@ -1,31 +1,22 @@
 -- Making the working files durable: what refuses it, and what it makes of the storage.
-use Rattle.std.specs.Prelude.{ℕ, [], ◌∷◌, Bool, true, false, not, cond, ◌&&◌, Option, Some, None}
-use Rattle.std.specs.Str.{bytes_eq}
+use Rattle.std.specs.Prelude.{ℕ, Bool, not, ◌&&◌, Option, Some, None}
 use Rattle.per_base.specs.declared.elements.Element.{Element}
 use Rattle.per_base.specs.declared.errors.Limit.TheVariants as limit
 use Rattle.per_base.specs.declared.errors.PerError.{PerError}
 use Rattle.per_base.specs.declared.errors.PerError.TheVariants.{IllegalWriteAccess, LimitReached, NotOpen}
-use Rattle.per_base.specs.Maps.{Map}
 use Rattle.file_core.specs.Places.{writes}
 use Rattle.file_handles.specs.declared.handle.Handle.{Handle}
 use Rattle.file_handles.specs.Opening.{busy, first, when}
 use Rattle.file_handles.specs.Sessions.{lowest, open_at}
 use Rattle.element_state.specs.declared.shapes.View.{View}
-use Rattle.element_state.specs.Changes.{committed, same_element}
 use Rattle.element_state.specs.States.{is_worn}
 use Rattle.element_store.specs.Stores.{shape_of, view_in}
+use Rattle.element_maps.specs.Sessions as maps
 use Rattle.file_storage.specs.FileSessions.{FileSession, stored_in}
-
--- both have the same files, in names, infos, lengths and contents
-abbrev pub same_files : Map → Map → Bool
-same_files [] [] = true
-same_files (e ∷ es) [] = false
-same_files [] (f ∷ fs) = false
-same_files (e ∷ es) (f ∷ fs) = bytes_eq e.0 f.0 && same_element e.1 f.1 && same_files es fs
 
 -- the working files are those that are synchronised
 abbrev pub is_synced : FileSession → Bool
-is_synced s = same_files (stored_in s.store) s.session.files
+is_synced s = maps.same_map (stored_in s.store) s.session.files
 
 -- no generation is left for files that differ
 abbrev pub worn : FileSession → Option PerError
@@ -46,4 +37,4 @@ close_refused s = first (busy (lowest s.session.handles)) (worn s)
 
 -- the view once the working files are durable: that of before where nothing differs
 abbrev pub synced_view : FileSession → View
-synced_view s = cond (is_synced s) (view_in s.store) (committed (shape_of s.store) (view_in s.store) (stored_in s.store) s.session.files)
+synced_view s = maps.synced_view (shape_of s.store) (view_in s.store) (stored_in s.store) s.session.files

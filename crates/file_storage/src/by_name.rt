@@ -1,12 +1,13 @@
 //! The calls by name.
 
-ghost use Rattle.std.specs.Prelude.{◌≡◌, ◌≤◌, length, ⊤, MatchOption, option_copied, IfErr, IfOk, OnErr, OnOk, Ok, Err};
+ghost use Rattle.std.specs.Prelude.{◌≡◌, ◌≤◌, length, ⊤, MatchOption, option_copied, IfErr, IfOk, OnErr, OnOk, Ok, Err, Some};
 ghost use Rattle.per_base.specs.declared.elements.StoreKind.TheVariants as kinds;
 ghost use Rattle.deployment_model.specs.Conditions.{IsStorage};
 ghost use Rattle.deployment_model.specs.Data.{storage_data};
-ghost use Rattle.per_base.specs.Maps.{has, names_of, size_of};
+ghost use Rattle.per_base.specs.declared.elements.Element.{Element};
+ghost use Rattle.per_base.specs.Maps.{element_at, has, names_of, size_of};
 ghost use Rattle.deployment_model.specs.Lookups.{initial_of};
-ghost use Rattle.file_core.specs.Refusals.{IsRefusal};
+ghost use Rattle.file_core.specs.Refusals.{IsDue, IsRefusal};
 ghost use Rattle.file_handles.specs.ByName as calls;
 ghost use Rattle.file_storage.specs.FileSessions.{storage_of};
 
@@ -86,6 +87,9 @@ impl Files {
     pub fn recover_file(&mut self, name: &Name, now: u64) -> Result<(), PerError>
         ensures ok { OnOk result (calls.recover_file (storage_of self.old.config) self.old.session name.now now (initial_of self.old.config name.now) ≡ Ok self.new.session) }
         ensures refused { IfErr result (λ error. IsRefusal (calls.recover_file (storage_of self.old.config) self.old.session name.now now (initial_of self.old.config name.now)) error) }
+        // Want of memory stands for no refusal, and comes only where the initial content is taken.
+        ensures memory { IfErr result (λ error. error ≡ PerError.OutOfMemory → IsDue (calls.recover_file (storage_of self.old.config) self.old.session name.now now (initial_of self.old.config name.now))) }
+        ensures copies { IfErr result (λ error. error ≡ PerError.OutOfMemory → (file : Element) → element_at self.old.session.files name.now ≡ Some file → calls.TakesInitial (initial_of self.old.config name.now) file.content) }
         ensures beside { self.new ≡ record self.old { session = self.new.session } }
         ensures unchanged { OnErr result (self.new ≡ self.old) }
     {
@@ -101,6 +105,7 @@ impl Files {
     pub fn reset_file(&mut self, name: &Name, now: u64) -> Result<(), PerError>
         ensures ok { OnOk result (calls.reset_file (storage_of self.old.config) self.old.session name.now now (initial_of self.old.config name.now) ≡ Ok self.new.session) }
         ensures refused { IfErr result (λ error. IsRefusal (calls.reset_file (storage_of self.old.config) self.old.session name.now now (initial_of self.old.config name.now)) error) }
+        ensures memory { IfErr result (λ error. error ≡ PerError.OutOfMemory → IsDue (calls.reset_file (storage_of self.old.config) self.old.session name.now now (initial_of self.old.config name.now))) }
         ensures beside { self.new ≡ record self.old { session = self.new.session } }
         ensures unchanged { OnErr result (self.new ≡ self.old) }
     {

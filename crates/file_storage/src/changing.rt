@@ -1,7 +1,7 @@
 //! The calls on a handle that change its file or release it.
 
 ghost use Rattle.std.specs.Prelude.{◌≡◌, IfErr, OnErr, OnOk, Ok, Err};
-ghost use Rattle.file_core.specs.Refusals.{IsRefusal};
+ghost use Rattle.file_core.specs.Refusals.{IsDue, IsRefusal};
 ghost use Rattle.file_handles.specs.Handling as calls;
 ghost use Rattle.file_handles.specs.Sessions.{open_at};
 ghost use Rattle.file_storage.specs.FileSessions.{storage_of};
@@ -18,6 +18,8 @@ impl Files {
     pub fn write(&mut self, handle: u32, bytes: &[u8]) -> Result<(), PerError>
         ensures ok { OnOk result (calls.write (storage_of self.old.config) self.old.session self.old.moment handle bytes.now ≡ Ok self.new.session) }
         ensures refused { IfErr result (λ error. IsRefusal (calls.write (storage_of self.old.config) self.old.session self.old.moment handle bytes.now) error) }
+        // Want of memory stands for no refusal, and comes only where the file grows.
+        ensures due { IfErr result (λ error. error ≡ PerError.OutOfMemory → IsDue (calls.write (storage_of self.old.config) self.old.session self.old.moment handle bytes.now)) }
         ensures memory { IfErr result (λ error. error ≡ PerError.OutOfMemory → calls.GrowsBy (open_at self.old.session handle) bytes.now) }
         ensures beside { self.new ≡ record self.old { session = self.new.session } }
         ensures unchanged { OnErr result (self.new ≡ self.old) }

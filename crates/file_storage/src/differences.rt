@@ -8,8 +8,8 @@ ghost use Rattle.file_core.specs.Files.{is_good};
 ghost use Rattle.element_state.specs.Changes as changes;
 ghost use Rattle.element_state.specs.Views.{element_of};
 ghost use Rattle.element_maps.specs.Differences as differences;
+ghost use Rattle.element_maps.specs.Sessions.{same_map};
 ghost use Rattle.file_storage.specs.FileSessions.{AreAsStored};
-ghost use Rattle.file_storage.specs.Syncs.{same_files};
 ghost use Rattle.file_storage.specs.Walks.{walked};
 
 use element_state::Change;
@@ -21,7 +21,7 @@ use std::collections::BTreeMap;
 
 /// Whether the working files are the stored ones. Takes no memory.
 pub fn are_same(entries: &[Entry], files: &BTreeMap<Name, File>) -> bool
-    ensures { result ≡ same_files (map element_of entries.now) files.now.entries }
+    ensures { result ≡ same_map (map element_of entries.now) files.now.entries }
 {
     let mut rest = entries;
     for (name, file) in files {

@@ -2,7 +2,7 @@
 
 ghost use Rattle.std.specs.Prelude.{◌≡◌, ◌≢◌, IfErr, IfOk, OnErr, OnOk, Ok, Err, Some, None};
 ghost use Rattle.per_base.specs.declared.errors.Unit.TheVariants.{Part};
-ghost use Rattle.file_core.specs.Refusals.{IsRefusal};
+ghost use Rattle.file_core.specs.Refusals.{IsRefusal, NeedsMemory};
 ghost use Rattle.file_handles.specs.Opening as opening;
 ghost use Rattle.file_storage.specs.FileSessions.{storage_of};
 
@@ -16,6 +16,7 @@ impl Files {
     pub fn open_read_only(&mut self, name: &Name, mode: OpenMode, now: u64) -> Result<u32, PerError>
         ensures ok { IfOk result (λ handle. opening.open_file (storage_of self.old.config) self.old.session name.now OpenKind.Read mode now ≡ Ok (handle, self.new.session)) }
         ensures refused { IfErr result (λ error. IsRefusal (opening.open_file (storage_of self.old.config) self.old.session name.now OpenKind.Read mode now) error) }
+        ensures memory { IfErr result (λ error. error ≡ PerError.OutOfMemory → NeedsMemory (opening.open_file (storage_of self.old.config) self.old.session name.now OpenKind.Read mode now)) }
         ensures moment { OnOk result (self.new.moment ≡ now) }
         ensures beside { self.new ≡ record self.old { session = self.new.session; moment = self.new.moment } }
         ensures unchanged { OnErr result (self.new ≡ self.old) }
@@ -34,6 +35,7 @@ impl Files {
     ) -> Result<u32, PerError>
         ensures ok { IfOk result (λ handle. opening.open_file (storage_of self.old.config) self.old.session name.now OpenKind.Write mode now ≡ Ok (handle, self.new.session)) }
         ensures refused { IfErr result (λ error. IsRefusal (opening.open_file (storage_of self.old.config) self.old.session name.now OpenKind.Write mode now) error) }
+        ensures memory { IfErr result (λ error. error ≡ PerError.OutOfMemory → NeedsMemory (opening.open_file (storage_of self.old.config) self.old.session name.now OpenKind.Write mode now)) }
         ensures moment { OnOk result (self.new.moment ≡ now) }
         ensures beside { self.new ≡ record self.old { session = self.new.session; moment = self.new.moment } }
         ensures unchanged { OnErr result (self.new ≡ self.old) }
@@ -52,6 +54,7 @@ impl Files {
     ) -> Result<u32, PerError>
         ensures ok { IfOk result (λ handle. opening.open_file (storage_of self.old.config) self.old.session name.now OpenKind.ReadWrite mode now ≡ Ok (handle, self.new.session)) }
         ensures refused { IfErr result (λ error. IsRefusal (opening.open_file (storage_of self.old.config) self.old.session name.now OpenKind.ReadWrite mode now) error) }
+        ensures memory { IfErr result (λ error. error ≡ PerError.OutOfMemory → NeedsMemory (opening.open_file (storage_of self.old.config) self.old.session name.now OpenKind.ReadWrite mode now)) }
         ensures moment { OnOk result (self.new.moment ≡ now) }
         ensures beside { self.new ≡ record self.old { session = self.new.session; moment = self.new.moment } }
         ensures unchanged { OnErr result (self.new ≡ self.old) }
@@ -71,6 +74,7 @@ impl Files {
     ) -> Result<u32, PerError>
         ensures ok { IfOk result (λ handle. opening.open_file (storage_of self.old.config) self.old.session name.now kind mode now ≡ Ok (handle, self.new.session)) }
         ensures refused { IfErr result (λ error. IsRefusal (opening.open_file (storage_of self.old.config) self.old.session name.now kind mode now) error) }
+        ensures memory { IfErr result (λ error. error ≡ PerError.OutOfMemory → NeedsMemory (opening.open_file (storage_of self.old.config) self.old.session name.now kind mode now)) }
         ensures moment { OnOk result (self.new.moment ≡ now) }
         ensures beside { self.new ≡ record self.old { session = self.new.session; moment = self.new.moment } }
         ensures unchanged { OnErr result (self.new ≡ self.old) }

@@ -2,7 +2,7 @@
 
 ghost use Rattle.std.specs.Prelude.{◌≡◌, IfErr, IfOk, OnErr, OnOk, Ok, Err};
 ghost use Rattle.std.specs.Borrow.{sem, RestsIfErr};
-ghost use Rattle.file_core.specs.Refusals.{IsDue, IsRefusal};
+ghost use Rattle.file_core.specs.Refusals.{IsDue, IsRefusal, NeedsMemory};
 ghost use Rattle.file_handles.specs.Handling as calls;
 ghost use Rattle.file_handles.specs.Opening as opening;
 ghost use Rattle.file_handles.specs.Sessions.{open_at, without_handle};
@@ -38,6 +38,7 @@ impl Files {
         ensures beside { IfOk result (λ scoped. scoped.files.now ≡ record self.old { session = scoped.files.now.session; moment = now }) }
         ensures others { IfOk result (λ scoped. without_handle scoped.files.now.session.handles scoped.handle ≡ self.old.session.handles) }
         ensures refused { IfErr result (λ error. IsRefusal (opening.open_file (storage_of self.old.config) self.old.session name.now kind mode now) error) }
+        ensures memory { IfErr result (λ error. error ≡ PerError.OutOfMemory → NeedsMemory (opening.open_file (storage_of self.old.config) self.old.session name.now kind mode now)) }
     {
         self.table.holds();
         let handle = self.open_file(name, kind, mode, now)?;
@@ -85,6 +86,7 @@ impl<'a> Scoped<'a> {
         ensures handle { self.new.handle ≡ self.old.handle }
         ensures ok { OnOk result (calls.write (storage_of self.old.files.now.config) self.old.files.now.session self.old.files.now.moment self.old.handle bytes.now ≡ Ok self.new.files.now.session) }
         ensures refused { IfErr result (λ error. IsRefusal (calls.write (storage_of self.old.files.now.config) self.old.files.now.session self.old.files.now.moment self.old.handle bytes.now) error) }
+        ensures due { IfErr result (λ error. error ≡ PerError.OutOfMemory → IsDue (calls.write (storage_of self.old.files.now.config) self.old.files.now.session self.old.files.now.moment self.old.handle bytes.now)) }
         ensures memory { IfErr result (λ error. error ≡ PerError.OutOfMemory → calls.GrowsBy (open_at self.old.files.now.session self.old.handle) bytes.now) }
         ensures beside { self.new.files.now ≡ record self.old.files.now { session = self.new.files.now.session } }
         ensures others { without_handle self.new.files.now.session.handles self.new.handle ≡ without_handle self.old.files.now.session.handles self.old.handle }

@@ -25,7 +25,7 @@ use crate::differences::{are_same, differences};
 use crate::files::Files;
 use disk_model::Disk;
 use element_laws::untouched_is_kept;
-use element_maps::{changes_make_maps, views_are_maps};
+use element_maps::{changes_make_maps, syncs_are_decided, views_are_maps};
 use element_state::Change;
 use element_store::CommitFault;
 use file_core::writes;
@@ -76,8 +76,12 @@ impl Files {
     ) -> Result<FilesOutcome, FilesFault>
         requires { IsUsed D.told (D.medium disk.old).image self.store }
 
+        // What is due is given: a refusal hands all back, and where nothing differs nothing happens.
         ensures refused { IfOk result (λ o. o.refused ≡ sync_refused self handle) }
-        ensures unchanged { IfOk result (λ o. IsSome o.refused → (o.files ≡ self) × (disk.new ≡ disk.old)) }
+        ensures due { IsSome (sync_refused self handle)
+            → (result ≡ Ok (record { files = self; refused = sync_refused self handle })) × (disk.new ≡ disk.old) }
+        ensures unchanged { is_synced self ≡ true
+            → (result ≡ Ok (record { files = self; refused = sync_refused self handle })) × (disk.new ≡ disk.old) }
 
         // The working files are then the synchronised ones, and all else of the session stays.
         ensures stored { IfOk result (λ o. o.refused ≡ None → stored_in o.files.store ≡ self.session.files) }
@@ -91,8 +95,7 @@ impl Files {
         ensures durable { is_synced self ≡ false → IfOk result (λ o. o.refused ≡ None → Quiet (D.medium disk.new)) }
         ensures quiet { Quiet (D.medium disk.old) → OnOk result (Quiet (D.medium disk.new)) }
 
-        // Where nothing differs, the disk is not called. Else in each copy the contents that differ, and the index.
-        ensures untouched { is_synced self ≡ true → disk.new ≡ disk.old }
+        // In each copy the contents that differ, and the index.
         ensures written { is_synced self ≡ false → IfOk result (λ o. o.refused ≡ None → IsWithin (shape_of self.store).place.copies
             (map_cost kinds.Files (stored_in self.store) self.session.files) (length (index_text (index_in o.files.store)))
             (D.medium disk.old).written (D.medium disk.new).written) }
@@ -139,8 +142,10 @@ impl Files {
     pub fn close_storage<D: Disk>(self, disk: &mut D) -> Result<Closed, FilesFault>
         requires { IsUsed D.told (D.medium disk.old).image self.store }
 
-        ensures refused { IfOk result (λ closed. MatchClosed closed (close_refused self ≡ None)
-            (λ files error. (close_refused self ≡ Some error) × (files ≡ self) × (disk.new ≡ disk.old))) }
+        // What is due is given: a refusal hands all back, and where nothing differs the disk is not called.
+        ensures refused { IfOk result (λ closed. MatchClosed closed (close_refused self ≡ None) (λ files error. close_refused self ≡ Some error)) }
+        ensures due { (error : PerError) → close_refused self ≡ Some error → (result ≡ Ok (Closed.Refused self error)) × (disk.new ≡ disk.old) }
+        ensures unchanged { is_synced self ≡ true → close_refused self ≡ None → (result ≡ Ok Closed.Done) × (disk.new ≡ disk.old) }
 
         // The storage then opens at the working files.
         ensures opens { IsTrue D.told → IfOk result (λ closed. OnDone closed
@@ -152,8 +157,7 @@ impl Files {
         ensures durable { is_synced self ≡ false → IfOk result (λ closed. OnDone closed (Quiet (D.medium disk.new))) }
         ensures quiet { Quiet (D.medium disk.old) → OnOk result (Quiet (D.medium disk.new)) }
 
-        // Where nothing differs, the disk is not called. Else in each copy the contents that differ, and the index that stands.
-        ensures untouched { is_synced self ≡ true → disk.new ≡ disk.old }
+        // In each copy the contents that differ, and the index that stands.
         ensures written { is_synced self ≡ false → IfOk result (λ closed. OnDone closed ((text : List ℕ)
             × (IsTrue D.told → IsAlone (D.medium disk.new).image (shape_of self.store).place.first (shape_of self.store).place.copies (synced_view self).generation text)
             × IsWithin (shape_of self.store).place.copies (map_cost kinds.Files (stored_in self.store) self.session.files) (length text)
@@ -187,12 +191,13 @@ impl Files {
         requires used { IsUsed D.told (D.medium disk.old).image self.store }
         requires not_worn { worn self ≡ None }
         ensures durable { IfOk result (λ files. IsDurable D.told self files (D.medium disk.old) (D.medium disk.new)) }
-        ensures untouched { is_synced self ≡ true → disk.new ≡ disk.old }
+        ensures unchanged { is_synced self ≡ true → (result ≡ Ok self) × (disk.new ≡ disk.old) }
         ensures memory { IfErr result (λ fault. HandsBack self fault (disk.new ≡ disk.old)) }
         ensures cause { IfErr result (λ fault. IsDeviceFault fault → Rose (D.medium disk.old).faults (D.medium disk.new).faults) }
         ensures syncing { IsSyncing D.told self (D.medium disk.old) (D.medium disk.new) }
     {
         untouched_is_kept();
+        syncs_are_decided();
         if self.is_synced() {
             return Ok(self);
         }

@@ -5,7 +5,7 @@ use Rattle.std.proofs.Math.Path.{fun_ext}
 use Rattle.std.proofs.lemmas.Bool.{cases_eq}
 use Rattle.disk_model.specs.Image.{Image, put_image, TornImage}
 use Rattle.disk_model.specs.Case.{Case, WriteCase, WriteOrNot, Follows}
-use Rattle.disk_model.specs.Medium.{Medium, Elapses, OnlyReads}
+use Rattle.disk_model.specs.Medium.{Medium, Grows, Elapses, OnlyReads}
 use Rattle.disk_model.specs.Written.{put_none, put_image_here, put_image_elsewhere}
 use Rattle.flash_model.specs.State.{Announced, FlashCase, IsStill}
 use Rattle.flash_model.specs.FlashMedium.{FlashMedium, IsLawfulFlash, FlashElapses, EachFlashCase}
@@ -13,7 +13,9 @@ use Rattle.flash_disk.specs.FlashFiles.{flash_files}
 use Rattle.flash_disk.specs.FlashDiskMedium.{put_announced, disk_case, still_case, IsCaseOf, files_told, flash_disk_medium}
 use Rattle.flash_disk.specs.FlashDiskLaws.{told_moment, same_case}
 pub use Rattle.flash_disk.specs.FlashDiskLaws.{told_files, disk_is_lawful}
+use Rattle.flash_disk.specs.Throughout.{KeepsUsable, KeepsAgreed}
 use Rattle.flash_disk.proofs.Parts.{torn_refl}
+use Rattle.flash_disk.proofs.Throughout.{usable_since, agreed_since}
 
 -- the same pages, the same files
 same_files : (told : Bool) (m m' : FlashMedium) → (IsTrue told → m'.state.pages ≡ m.state.pages) → (IsTrue told → m'.blocks ≡ m.blocks) → files_told told m' ≡ files_told told m
@@ -31,12 +33,33 @@ module _ (told : Bool) (m m' : FlashMedium) (own own' written written' : ℕ) wh
   abbrev Since : (FlashCase → Type 0) → Type 0
   Since P = IsTrue told → EachFlashCase P m m'
 
+  le_of : (t : ℕ) → IsTrue told → t ≤ start.moment → t ≤ m.moment
+  le_of t tells le = subst (λ k. t ≤ k) (told_moment told m.moment tells) le
+
   case_since : (c : Case) → end.since start.moment c → (f : FlashCase) × m'.since m.moment f × IsCaseOf m'.blocks f c
   case_since c past = (past.1.0, subst (λ k. m'.since k past.1.0) (told_moment told m.moment past.0) past.1.1, past.1.2)
 
+  -- the files of a moment are those of one before the call, or of one since its start
+  files_since : (time : IsTrue told → FlashElapses m m') → Grows start.moment start.gave end.gave
+  files_since time = record {
+    nothing_else = λ t i le past.
+        let on = time past.0 in
+        ⊎_elim
+        (λ before. inl (past.0, (past.1.0, before, past.1.2 ∙ ap (flash_files past.1.0.pages) on.blocks)))
+        (λ since. inr (past.0, (past.1.0, subst (λ k. m'.since k (still_case past.1.0)) (sym (told_moment told m.moment past.0)) since, past.1.2)))
+        (on.nothing_else t (still_case past.1.0) (le_of t past.0 le) past.1.1);
+    keeps = λ t i le past.
+        let on = time past.0 in
+        (past.0, (past.1.0, on.keeps t (still_case past.1.0) (le_of t past.0 le) past.1.1, past.1.2 ∙ ap (flash_files past.1.0.pages) (sym on.blocks)));
+    adds = λ t i le past.
+        let on = time past.0 in
+        (past.0, (past.1.0, on.adds t (still_case past.1.0) (le_of t past.0 le) (subst (λ k. m'.since k (still_case past.1.0)) (told_moment told m.moment past.0) past.1.1), past.1.2));
+  }
+
   -- time goes on as it does for the flash
-  pub disk_elapses : (IsTrue told → FlashElapses m m') → m.faults + own ≤ m'.faults + own' → written ≤ written' → Elapses start end
-  disk_elapses time faults more = record {
+  pub disk_elapses : (IsTrue told → FlashElapses m m') → m.faults + own ≤ m'.faults + own' → written ≤ written'
+      → (IsTrue told → KeepsUsable m m') → (IsTrue told → KeepsAgreed m m') → Elapses start end
+  disk_elapses time faults more usable agreed = record {
     later = later told time;
     nothing_else = λ t c le past.
         let on = time past.0 in
@@ -51,6 +74,9 @@ module _ (told : Bool) (m m' : FlashMedium) (own own' written written' : ℕ) wh
         let on = time past.0 in
         let f = case_since c past in
         (past.0, (f.0, on.adds t f.0 (le_of t past.0 le) f.1, f.2));
+    gave = files_since time;
+    opens = λ t le was tells. usable_since m m' (time tells) (usable tells) t (le_of t tells le) (was tells);
+    agrees = λ t le was tells. agreed_since m m' (time tells) (agreed tells) t (le_of t tells le) (was tells);
     faults = faults;
     written = more;
   }
@@ -58,9 +84,6 @@ module _ (told : Bool) (m m' : FlashMedium) (own own' written written' : ℕ) wh
       later : (b : Bool) → (IsTrue b → FlashElapses m m') → cond b m.moment 0 ≤ cond b m'.moment 0
       later true on = (on refl).later
       later false on = le_refl 0
-
-      le_of : (t : ℕ) → IsTrue told → t ≤ start.moment → t ≤ m.moment
-      le_of t tells le = subst (λ k. t ≤ k) (told_moment told m.moment tells) le
 
   -- calls that only look
   pub disk_reads : (IsTrue told → m'.state ≡ m.state) → (IsTrue told → m'.blocks ≡ m.blocks) → Since (IsStill m.state) → written' ≡ written → OnlyReads start end

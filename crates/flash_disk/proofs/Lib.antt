@@ -29,4 +29,6 @@ pub mod Entries
 pub mod Affording
 pub mod PageCount
 pub mod Throughout
+pub mod Times
 pub mod Failing
+mod Fresh

@@ -1,14 +1,12 @@
 -- What programming a page or erasing a block leaves of the records, whole or cut short, where no page passes its hash by chance.
 use Rattle.std.proofs.Common.{◌≡◌, ◌≢◌, ◌⊎◌, ℕ, ◌+◌, ◌*◌, ◌/◌, ◌%◌, ◌<◌, List, cond, refl, sym, ap, subst, ◌∙◌, inl, inr, ⊎_elim, arith, eq-eqb}
 use Rattle.std.specs.Prelude.{Option, Some, None, nat_eq}
-use Rattle.std.proofs.lemmas.Bool.{cases_eq, cases_Bool, true≢false, ne_eqb, and_from, and_left, and_right}
+use Rattle.std.proofs.lemmas.Bool.{cases_eq, ne_eqb, and_from, and_left, and_right}
 use Rattle.std.proofs.lemmas.Option.{same_Some, none-some}
-use Rattle.std.proofs.lemmas.Slice.Eq.{bytes_eq-Decides}
-use Rattle.std.specs.Str.{bytes_eq}
 use Rattle.flash_model.specs.Pages.{Pages, blank_page, program_page, erase_block, TornPage, TornBlock, IsPlain}
 use Rattle.flash_record.specs.PageRecord.{PageRecord, record_in}
 use Rattle.flash_record.specs.Blank.{blank_is_none}
-use Rattle.flash_record.proofs.Bodies.{record_in-none}
+use Rattle.flash_record.proofs.Bodies.{record_in-plain}
 use Rattle.flash_disk.specs.declared.table.Place.{Place}
 use Rattle.flash_disk.specs.Newest.{record_at}
 use Rattle.flash_disk.specs.Learnt.{number, Adds}
@@ -17,22 +15,10 @@ use Rattle.flash_disk.proofs.Learning.{record_at_place}
 use Rattle.flash_disk.proofs.Standing.{is_newest_of, HasSameRecords}
 use Rattle.flash_disk.proofs.Sparing.{LiesElsewhere}
 
-bytes_tell : (a b : List ℕ) → (a ≡ b) ⊎ (a ≡ b → ⊥)
-bytes_tell a b = let tells = bytes_eq-Decides a b in ⊎_elim
-    (λ same. inl (tells.0 same))
-    (λ other. inr (λ same. true≢false (sym (tells.1 same) ∙ other)))
-    (cases_Bool (bytes_eq a b))
-
--- a page is no record, or it is as it was, or as the call done whole leaves it
+-- a page is no record, or the one that it was, or the one that the call done whole leaves there
 pub plain_page : (before whole left : Pages) → IsPlain before whole left → (b p : ℕ)
-    → (record_in (left b p) ≡ None) ⊎ ((left b p ≡ before b p) ⊎ (left b p ≡ whole b p))
-plain_page before whole left plain b p = ⊎_elim
-    (λ was. inr (inl was))
-    (λ changed. ⊎_elim
-    (λ done. inr (inr done))
-    (λ other. inl (record_in-none (left b p) (λ g body verifies. ⊎_elim changed other (plain b p g body verifies))))
-    (bytes_tell (left b p) (whole b p)))
-    (bytes_tell (left b p) (before b p))
+    → (record_in (left b p) ≡ None) ⊎ ((record_in (left b p) ≡ record_in (before b p)) ⊎ (record_in (left b p) ≡ record_in (whole b p)))
+plain_page before whole left plain b p = record_in-plain (left b p) (before b p) (whole b p) (plain b p)
 
 -- ---- a page was programmed
 
@@ -75,8 +61,8 @@ module _ (old : Pages) (block page : ℕ) where
     torn_here left bytes plain = let at = record_at_place left block page small in ⊎_elim
         (λ none. inl (at ∙ none))
         (λ some. ⊎_elim
-        (λ was. inl (at ∙ (ap record_in (was ∙ blank) ∙ blank_is_none)))
-        (λ done. inr (at ∙ ap record_in (done ∙ whole_page bytes)))
+        (λ was. inl (at ∙ (was ∙ (ap record_in blank ∙ blank_is_none))))
+        (λ done. inr (at ∙ (done ∙ ap record_in (whole_page bytes))))
         some)
         (plain_page old (program_page old block page bytes) left plain block page)
 
@@ -202,8 +188,8 @@ module _ (old : Pages) (block : ℕ) where
       (λ here. ⊎_elim
       (λ none. absurd (none-some q (sym none ∙ there)))
       (λ some. ⊎_elim
-      (λ was. ap record_in (sym was) ∙ there)
-      (λ done. absurd (none-some q (sym (ap record_in done ∙ nothing_left j here) ∙ there)))
+      (λ was. sym was ∙ there)
+      (λ done. absurd (none-some q (sym (done ∙ nothing_left j here) ∙ there)))
       some)
       (plain_page old (erase_block old block) left plain (j / 64) (j % 64)))
       (λ other. ap record_in (sym (torn (j / 64) (j % 64) other)) ∙ there)

@@ -12,7 +12,7 @@ use Rattle.flash_disk.specs.Newest.{record_at, newest, places, page_count, page_
 use Rattle.flash_disk.specs.Known.{page_of, known, page_len, limit_of}
 use Rattle.flash_disk.specs.Learnt.{number}
 use Rattle.flash_disk.specs.Sound.{Sound, Pends, PendsAt, Holds, Enters}
-use Rattle.flash_disk.specs.Throughout.{KeepsUsable, KeepsAgreed}
+use Rattle.flash_disk.specs.Throughout.{KeepsUsable, KeepsAgreed, UsableSince, AgreedSince}
 use Rattle.flash_disk.specs.Standing.{IsAgreed, StaysAgreed}
 use Rattle.flash_disk.specs.Writes.{WritesInto}
 use Rattle.flash_disk.proofs.Growing.{adds_is_spare}
@@ -130,6 +130,14 @@ usable_then a b c first second early late = record {
       (second.nothing_else a.moment x first.later past);
 }
 
+-- what could be opened since a moment can be so after calls that leave what can be opened
+pub usable_since : (a b : FlashMedium) → FlashElapses a b → KeepsUsable a b → (t : ℕ) → t ≤ a.moment → UsableSince a t → UsableSince b t
+usable_since a b time kept t le was = record {
+  now = subst (IsUsable b.state.pages) (sym time.blocks) kept.now;
+  during = λ c past plain. subst (IsUsable c.left) (sym time.blocks)
+      (⊎_elim (λ before. was.during c before plain) (λ since. kept.during c since plain) (time.nothing_else t c le past));
+}
+
 -- ---- rivals
 
 stays_agreed : (a : FlashMedium) (pages : Pages) → pages ≡ a.state.pages → StaysAgreed a pages
@@ -141,6 +149,13 @@ module _ (a b : FlashMedium) where
   look_agreed state looks = record {
     now = stays_agreed a b.state.pages (ap (λ s. s.pages) state);
     during = λ c past plain. stays_agreed a c.left (looks c past).left;
+  }
+
+  -- calls that change no page
+  pub settle_agreed : b.state.pages ≡ a.state.pages → EachFlashCase (λ c. IsStill a.state c ⊎ IsStill b.state c) a b → KeepsAgreed a b
+  settle_agreed pages cases = record {
+    now = stays_agreed a b.state.pages pages;
+    during = λ c past plain. stays_agreed a c.left (⊎_elim (λ still. still.left) (λ still. still.left ∙ pages) (cases c past));
   }
 
   -- a write
@@ -170,3 +185,13 @@ module _ (a b c : FlashMedium) (first : FlashElapses a b) (second : FlashElapses
         (λ since. agreed_by x.left (late.during x since plain))
         (second.nothing_else a.moment x first.later past);
   }
+
+-- what had no rivals since a moment has none after calls that bring none
+pub agreed_since : (a b : FlashMedium) → FlashElapses a b → KeepsAgreed a b → (t : ℕ) → t ≤ a.moment → AgreedSince a t → AgreedSince b t
+agreed_since a b time kept t le was = record {
+  now = here b.state.pages (kept.now was.now);
+  during = λ c past plain. here c.left (⊎_elim (λ before. was.during c before plain) (λ since. kept.during c since plain was.now) (time.nothing_else t c le past));
+}
+  where
+    here : (pages : Pages) → IsAgreed pages (places a.blocks) → IsAgreed pages (places b.blocks)
+    here pages agreed = subst (λ k. IsAgreed pages (places k)) (sym time.blocks) agreed

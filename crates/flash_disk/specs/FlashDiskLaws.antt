@@ -1,10 +1,12 @@
 -- That a disk over a lawful flash meets the laws of a disk.
 use Rattle.std.specs.Prelude.{◌≡◌, ℕ, ◌≤◌, Bool, true, false, cond, IsTrue}
-use Rattle.std.proofs.Common.{sym, refl, ◌∙◌, subst, inl, true≢false}
+use Rattle.std.proofs.Common.{sym, refl, ap, ◌∙◌, subst, inl, le_refl, true≢false}
 use Rattle.disk_model.specs.Medium.{Medium, IsLawful}
 use Rattle.flash_model.specs.State.{FlashState, FlashCase, IsStill}
 use Rattle.flash_model.specs.FlashMedium.{FlashMedium, IsLawfulFlash}
 use Rattle.flash_disk.specs.FlashFiles.{flash_files}
+use Rattle.flash_disk.specs.Newest.{places, IsUsable}
+use Rattle.flash_disk.specs.Standing.{IsAgreed}
 use Rattle.flash_disk.specs.FlashDiskMedium.{put_announced, disk_case, still_case, files_told, flash_disk_medium}
 
 untold : {X : Type 0} → IsTrue false → X
@@ -36,6 +38,10 @@ module _ (told : Bool) (m : FlashMedium) (own written : ℕ) where
   abbrev disk : Medium
   disk = flash_disk_medium told m own written
 
+  -- a crash since now leaves what there is
+  left_now : IsLawfulFlash told m → IsTrue told → (c : FlashCase) → m.since disk.moment c → c.left ≡ m.state.pages
+  left_now lawful tells c past = (lawful.only_now c (subst (λ k. m.since k c) (told_moment told m.moment tells) past)).left
+
   -- the disk meets the laws where its flash does
   pub disk_is_lawful : IsLawfulFlash told m → IsLawful told disk
   disk_is_lawful lawful = record {
@@ -44,7 +50,7 @@ module _ (told : Bool) (m : FlashMedium) (own written : ℕ) where
       (
         still_case m.state,
         lawful.counts_now now.0 t (still_case m.state) (subst (λ k. t ≤ k) (told_moment told m.moment now.0) le) (still_is m.state),
-        (λ b p generation body verifies. inl refl, now.1),
+        (λ b p generation body verifies. inl verifies, now.1),
       ),
     );
     only_now = λ c past.
@@ -52,4 +58,26 @@ module _ (told : Bool) (m : FlashMedium) (own written : ℕ) where
         let since : m.since m.moment f = subst (λ k. m.since k f) (told_moment told m.moment past.0) past.1.1 in
         (past.0, past.1.2.1 ∙ same_case m.state m.blocks m.blocks f refl (lawful.only_now f since));
     reads_one = λ t. (disk_case m.blocks (still_case m.state), (t, refl), sym (told_files told m t));
+    gives = λ t. (t, (m.state, counts m.state t disk.moment (le_refl _) (still_is m.state), told_files told m t));
+    gave_counts = λ t i le past. (past.0, (past.1.0, counts past.1.0 past.0 t le (still past.1.0 past.0 past.1.1), past.1.2));
+    gives_only = λ i past. past.1.2 ∙ ap (λ p. flash_files p m.blocks) (still past.1.0 past.0 past.1.1).left ∙ sym (told_files told m past.0);
+  }
+    where
+      counts : (s : FlashState) → IsTrue told → (t : ℕ) → t ≤ disk.moment → IsStill m.state (still_case s) → m.since t (still_case s)
+      counts s tells t le is = lawful.counts_now tells t (still_case s) (subst (λ k. t ≤ k) (told_moment told m.moment tells) le) is
+
+      still : (s : FlashState) → IsTrue told → m.since disk.moment (still_case s) → IsStill m.state (still_case s)
+      still s tells past = lawful.only_now (still_case s) (subst (λ k. m.since k (still_case s)) (told_moment told m.moment tells) past)
+
+  -- what can be opened, or has no rivals, is so since now: with what calls keep, at each moment from now on
+  pub opens_now : IsLawfulFlash told m → (IsTrue told → IsUsable m.state.pages m.blocks) → disk.opens disk.moment
+  opens_now lawful usable tells = record {
+    now = usable tells;
+    during = λ c past plain. subst (λ p. IsUsable p m.blocks) (sym (left_now lawful tells c past)) (usable tells);
+  }
+
+  pub agrees_now : IsLawfulFlash told m → (IsTrue told → IsAgreed m.state.pages (places m.blocks)) → disk.agrees disk.moment
+  agrees_now lawful agreed tells = record {
+    now = agreed tells;
+    during = λ c past plain. subst (λ p. IsAgreed p (places m.blocks)) (sym (left_now lawful tells c past)) (agreed tells);
   }

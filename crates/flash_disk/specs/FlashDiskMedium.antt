@@ -9,6 +9,7 @@ use Rattle.flash_model.specs.State.{Announced, FlashState, FlashCase}
 use Rattle.flash_model.specs.FlashMedium.{FlashMedium}
 use Rattle.flash_disk.specs.FlashFiles.{flash_files}
 use Rattle.flash_disk.specs.FlashView.{FlashView}
+use Rattle.flash_disk.specs.Throughout.{UsableSince, AgreedSince}
 
 -- the files after these writes
 abbrev pub put_announced : Image → List Announced → Image
@@ -31,6 +32,10 @@ still_case s = record { before = s.pages; whole = s.pages; left = s.pages; settl
 abbrev pub IsCaseOf : ℕ → FlashCase → Case → Type 0
 IsCaseOf blocks f c = IsPlain f.before f.whole f.left × (c ≡ disk_case blocks f)
 
+-- the files after at least t of the flash's calls
+abbrev pub GaveFiles : FlashMedium → ℕ → Image → Type 0
+GaveFiles m t i = (s : FlashState) × m.since t (still_case s) × (i ≡ flash_files s.pages m.blocks)
+
 -- what reads give; an untold flash says nothing of its pages, not even that a read leaves them alone
 abbrev pub files_told : (told : Bool) → FlashMedium → Image
 files_told told m = if told then flash_files m.state.pages m.blocks else (λ f. [])
@@ -43,6 +48,9 @@ flash_disk_medium told m own written = record {
   now = λ c. IsTrue told × (c ≡ disk_case m.blocks (still_case m.state));
   moment = if told then m.moment else 0;
   since = λ t c. IsTrue told × ((f : FlashCase) × m.since t f × IsCaseOf m.blocks f c);
+  gave = λ t i. IsTrue told × GaveFiles m t i;
+  opens = λ t. IsTrue told → UsableSince m t;
+  agrees = λ t. IsTrue told → AgreedSince m t;
   faults = m.faults + own;
   written = written;
 }

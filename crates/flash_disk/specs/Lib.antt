@@ -18,3 +18,4 @@ pub mod Writes
 pub mod Moving
 pub mod FlashDiskLaws
 pub mod Looks
+pub mod Fresh

@@ -18,14 +18,20 @@
 //! Limits: files of at most 1,099,511,627,776 bytes, as many pages as all blocks but two hold, and numbers up to 2^64 - 1; wear is not
 //! even. A write that would break one of them fails, and so does one that finds rivals; where the flash did not fail it counts as the disk's
 //! own fault, and no other call does. No call makes rivals where there were none, and at every moment a crash leaves a flash that can be opened again.
+//! A fresh flash can be opened and has no rivals ([`fresh_flashes_open`]).
+//!
+//! A flash has to be as the trait says: reads are stable, a page that cannot be corrected is answered with some bytes, and no block goes bad.
+//! The memory grows with the blocks, by some 110 bytes for each page that may have a record: about 30 MB at 4,096 blocks, the most that open.
 #![tactic(auto)]
 
 mod calls;
 mod disk;
 mod filling;
+mod laws;
 mod layer;
 mod opening;
 mod serving;
 mod table;
 
 pub use disk::{FlashDisk, FlashOpenError, FlashRefused};
+pub use laws::fresh_flashes_open;

@@ -32,6 +32,10 @@ impl<F: Flash> FlashDisk<F> {
         ensures device { IfErr result (λ refused. refused.error ≡ FlashOpenError.Device
             → Rose (F.medium flash).faults (F.medium refused.flash).faults) }
 
+        // No count falls, and the disk's begins at that of its flash.
+        ensures faults { MatchResult result (λ disk. (F.medium flash).faults ≤ (F.medium disk.flash).faults)
+            (λ refused. (F.medium flash).faults ≤ (F.medium refused.flash).faults) }
+
         // A flash that opens is usable; one that is refused as unusable is not.
         ensures usable { IsTrue F.told → OnOk result (IsUsable (F.medium flash).state.pages (F.medium flash).blocks) }
         ensures throughout { IsTrue F.told → IfOk result (λ disk. KeepsUsable (F.medium flash) (F.medium disk.flash)) }

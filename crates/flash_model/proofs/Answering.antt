@@ -4,7 +4,7 @@ use Rattle.std.specs.Prelude.{Result, Ok, Err, OnErr}
 use Rattle.flash_model.specs.declared.memory.MemFlash.{MemFlash}
 use Rattle.flash_model.specs.declared.record.FlashCall.{FlashCall}
 use Rattle.disk_model.specs.Orders.{names, stops}
-use Rattle.disk_model.specs.Memory.{raised}
+use Rattle.per_base.specs.Causes.{raised}
 use Rattle.flash_model.specs.Pages.{Pages}
 use Rattle.flash_model.specs.State.{FlashState, FlashCase, IsStill, IsLeftBy}
 use Rattle.flash_model.specs.FlashMedium.{FlashMedium, FlashElapses, EachFlashCase}
@@ -114,7 +114,7 @@ shows_on old mid new call first next = record {
 -- a failed call that changed nothing left what a crash in it may leave
 pub left_alone : (done : Pages) (Tears : Pages → Pages → Type 0) (old new : FlashState) → Tears old.pages old.pages → new ≡ old → IsLeftBy done Tears old new
 left_alone done Tears old new torn same = subst (λ s. IsLeftBy done Tears old s) (sym same)
-    (record { torn = torn; plain = λ b p g body v. inl refl; settled = refl; announced = refl })
+    (record { torn = torn; plain = λ b p g body v. inl v; settled = refl; announced = refl })
 
 -- want of memory in the rest of a call makes it fail
 pub want_after : (old mid next new : MemFlash) → Begins old mid false → SameRecord old mid → SameRecord mid next → Succeeds mid next

@@ -1,8 +1,7 @@
 -- A flash in memory: what it is as a flash, which calls fail, and how it answers.
 use Rattle.std.specs.Prelude.{◌≡◌, ◌↔◌, ℕ, suc, ◌≤◌, Bool, true, false, ◌||◌, List, IsTrue, IsFalse}
-use Rattle.per_base.specs.Causes.{Rose}
+use Rattle.per_base.specs.Causes.{Rose, raised}
 use Rattle.disk_model.specs.Orders.{names, stops}
-use Rattle.disk_model.specs.Memory.{raised}
 use Rattle.flash_model.specs.declared.memory.MemFlash.{MemFlash}
 use Rattle.flash_model.specs.declared.record.FlashCall.{FlashCall}
 use Rattle.flash_model.specs.State.{FlashCase, IsStill}

@@ -24,7 +24,8 @@ TornPage block page old new = (b p : ℕ) → (b ≢ block) ⊎ (p ≢ page) →
 abbrev pub TornBlock : ℕ → Pages → Pages → Type 0
 TornBlock block old new = (b p : ℕ) → b ≢ block → new b p ≡ old b p
 
--- no page passes its hash by chance: one that verifies is as it was before the call, or as the call done whole leaves it
+-- No page passes its hash by chance: what the front of one verifies as, it verified as before the call, or verifies as once the call is
+-- done whole. Behind the text anything may stand.
 abbrev pub IsPlain : (before whole left : Pages) → Type 0
 IsPlain before whole left = (b p generation : ℕ) (body : List ℕ) → VerifiesAs (left b p) generation body
-    → (left b p ≡ before b p) ⊎ (left b p ≡ whole b p)
+    → VerifiesAs (before b p) generation body ⊎ VerifiesAs (whole b p) generation body

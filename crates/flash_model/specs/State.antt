@@ -61,7 +61,7 @@ ProgramCase block page bytes s c = IsCutShort (program_page s.pages block page b
 abbrev pub EraseCase : ℕ → FlashState → FlashCase → Type 0
 EraseCase block s c = IsCutShort (erase_block s.pages block) (TornBlock block) s c
 
--- ---- what a call that failed leaves: what a crash in it leaves, with no page that passes its hash by chance
+-- ---- what a call that failed leaves: what a crash in it leaves, and nothing that passes its hash by chance
 
 pub record IsLeftBy (done : Pages) (Tears : Pages → Pages → Type 0) (old new : FlashState) : Type 0 where
   pub torn : Tears old.pages new.pages

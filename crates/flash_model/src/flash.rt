@@ -23,6 +23,13 @@ pub struct FlashFailed;
 ///
 /// What is said of pages holds where the flash tells them, and so does what is said of crashes: a flash that tells nothing names no
 /// case. Whether a flash tells is a constant of its type, so it never changes from call to call.
+///
+/// Limits, which a device has to keep beneath this trait:
+///
+/// - Reads are stable. Until a page is programmed or its block erased, each read of it gives the same bytes, also where a crash or a failed
+///   call left the page torn.
+/// - A page that the device cannot correct is answered with some bytes, and not as a failure: whoever opens a flash reads every page.
+/// - No block goes bad. A device that retires blocks does so under numbers that stay.
 pub trait Flash {
     /// Whether a flash of this type tells its pages.
     ghost told: { Bool };
@@ -44,8 +51,8 @@ pub trait Flash {
         ensures time { FlashElapses (medium self.old) (medium self.new) }
         ensures cause { OnErr result (Rose (medium self.old).faults (medium self.new).faults) };
 
-    /// Programs a page that is blank. Where the call fails, the page may hold anything, as after a crash; but where it then verifies,
-    /// it is blank, or programmed whole.
+    /// Programs a page that is blank. Where the call fails, the page may hold anything, as after a crash; but what its front then
+    /// verifies as, these bytes verify as. A blank page never verifies.
     fn program(&mut self, block: u32, page: u32, bytes: &[u8; 512]) -> Result<(), FlashFailed>
         requires block { block < (medium self.old).blocks }
         requires page { page < 64 }
@@ -61,8 +68,8 @@ pub trait Flash {
         ensures time { FlashElapses (medium self.old) (medium self.new) }
         ensures cause { OnErr result (Rose (medium self.old).faults (medium self.new).faults) };
 
-    /// Makes all pages of a block blank. Where the call fails, they may hold anything, as after a crash; but a page that then verifies
-    /// is as it was.
+    /// Makes all pages of a block blank. Where the call fails, they may hold anything, as after a crash; but what the front of a page
+    /// then verifies as, it verified as before.
     fn erase(&mut self, block: u32) -> Result<(), FlashFailed>
         requires { block < (medium self.old).blocks }
         ensures state { IsTrue told → OnOk result ((medium self.new).state ≡ erased (medium self.old).state block) }

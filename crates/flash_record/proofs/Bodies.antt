@@ -1,10 +1,11 @@
 -- The body of a record reads back as what was written into it.
-use Rattle.std.proofs.Common.{◌≡◌, ℕ, ◌^◌, ◌<◌, List, ◌++◌, length, drop, Some, None, sym, ap, ◌∙◌, append_assoc, arith, length-append, cond, eq-eqb, ne_eqb, ◌≢◌}
+use Rattle.std.proofs.Common.{◌≡◌, ◌⊎◌, ℕ, ◌^◌, ◌<◌, List, ◌++◌, length, drop, Some, None, refl, sym, ap, ◌∙◌, inl, inr, ⊎_elim, append_assoc, arith, length-append, cond, eq-eqb, ne_eqb, ◌≢◌}
+use Rattle.std.specs.Prelude.{Option}
 use Rattle.std.proofs.lemmas.List.{drop_at, drop-drop}
 use Rattle.byteorder.specs.Endian.{little_bytes, little_number}
 use Rattle.byteorder.specs.Numbers.{little_number-reads_back, length-bytes_low_first}
-use Rattle.hash_guard.specs.SealedText.{VerifiesAs}
-use Rattle.hash_guard.specs.Laws.{verifies-verified, verified-none}
+use Rattle.hash_guard.specs.SealedText.{VerifiesAs, verified}
+use Rattle.hash_guard.specs.Laws.{verifies-verified, verified-verifies, verified-none}
 use Rattle.flash_record.specs.PageRecord.{record_numbers, record_body, body_record, record_by, record_in}
 
 pub length-record_numbers : (file page len : ℕ) → length (record_numbers file page len) ≡ 16
@@ -52,6 +53,30 @@ record_in-text page sequence body v long = ap record_by (verifies-verified page 
 pub record_in-none : (page : List ℕ) → ((g : ℕ) (body : List ℕ) → VerifiesAs page g body → ⊥) → record_in page ≡ None
 unfolding record_in
 record_in-none page never = ap record_by (verified-none page never)
+
+-- a page whose text is the front of another is the same record
+same_text : (page other : List ℕ) (text : ℕ × List ℕ) → verified page ≡ Some text → VerifiesAs other text.0 text.1
+    → record_in page ≡ record_in other
+unfolding record_in
+same_text page other text is v = ap record_by (is ∙ sym (verifies-verified other text.0 text.1 v))
+
+no_text : (page : List ℕ) → verified page ≡ None → record_in page ≡ None
+unfolding record_in
+no_text page none = ap record_by none
+
+-- a page that verifies as nothing but what one of two others verifies as is no record, or the record of one of these
+pub record_in-plain : (page one other : List ℕ)
+    → ((g : ℕ) (body : List ℕ) → VerifiesAs page g body → VerifiesAs one g body ⊎ VerifiesAs other g body)
+    → (record_in page ≡ None) ⊎ ((record_in page ≡ record_in one) ⊎ (record_in page ≡ record_in other))
+record_in-plain page one other plain = by_text (verified page) refl
+  where
+    by_text : (text : Option (ℕ × List ℕ)) → verified page ≡ text
+        → (record_in page ≡ None) ⊎ ((record_in page ≡ record_in one) ⊎ (record_in page ≡ record_in other))
+    by_text None none = inl (no_text page none)
+    by_text (Some text) is = inr (⊎_elim
+        (λ was. inl (same_text page one text is was))
+        (λ done. inr (same_text page other text is done))
+        (plain text.0 text.1 (verified-verifies page text.0 text.1 is)))
 
 -- a page whose front verifies with a body of another length is no record
 pub record_in-other : (page : List ℕ) (sequence : ℕ) (body : List ℕ) → VerifiesAs page sequence body → length body ≢ 272

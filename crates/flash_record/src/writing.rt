@@ -1,6 +1,6 @@
 //! Writing the page that is a record.
 
-ghost use Rattle.std.specs.Prelude.{◌≡◌, ◌≤◌, Some, length};
+ghost use Rattle.std.specs.Prelude.{◌≡◌, ◌≤◌, Some, drop, length, replicate};
 ghost use Rattle.flash_record.specs.PageRecord.{record_in, record_body, record_numbers};
 
 use crate::reading::{BODY, BYTES_AT, RECORD_BYTES};
@@ -8,7 +8,8 @@ use byteorder::{ByteOrder, LittleEndian};
 use flash_model::{BLANK_PAGE, PAGE_BYTES};
 use hash_guard::{HEADER, seal_into};
 
-/// The page of flash that keeps these bytes of a file of `len` bytes under this sequence number.
+/// The page of flash that keeps these bytes of a file of `len` bytes under this sequence number. What stands behind the text is as in a
+/// blank page.
 pub fn record_page(
     sequence: u64,
     file: u32,
@@ -18,6 +19,7 @@ pub fn record_page(
 ) -> [u8; PAGE_BYTES]
     requires { 1 ≤ sequence }
     ensures long { length result ≡ 512 }
+    ensures behind { drop 316 result ≡ replicate 196 255 }
     ensures record { record_in result ≡ Some (record { sequence = sequence; file = file; page = page; len = len; bytes = bytes.now }) }
 {
     let mut body = [0; BODY];

@@ -1,5 +1,6 @@
 -- A register is opened: what a stop leaves, and at which text it opens.
-use Rattle.std.proofs.Common.{◌≡◌, ℕ, List, Option, Some, None, sym, subst}
+use Rattle.std.proofs.Common.{◌≡◌, ℕ, ◌+◌, ◌*◌, ◌≤◌, List, Option, Some, None, sym, subst, arith}
+use Rattle.std.proofs.Math.Nat.{mul-le-mul_left}
 use Rattle.disk_model.specs.Image.{Image}
 use Rattle.disk_model.specs.Case.{Case, IsSettledAt}
 use Rattle.disk_model.specs.Medium.{Medium, Elapses, IsIdle, EachCase}
@@ -28,3 +29,11 @@ open_later first copies m old mid new seen time next idle stands put = goes_on (
 
 pub stands_as : (s : Option Seen) (seen : Seen) (g : ℕ) (t : List ℕ) → s ≡ Some seen → g ≡ seen.generation → t ≡ seen.text → StandsAs s g t
 stands_as s seen g t is_it counts alike = subst (λ (x : Option Seen). StandsAs x g t) (sym is_it) (sym counts, sym alike)
+
+-- ---- the count of bytes
+
+-- a text that can be sealed again is short
+pub opened_most : (copies len was mid now : ℕ) → mid ≡ was → len ≤ 524244 → now ≤ mid + copies * (44 + len + 44) → now ≤ was + copies * (44 + 524244 + 44)
+opened_most copies len was mid now same short written =
+    let wider : copies * (44 + len + 44) ≤ copies * (44 + 524244 + 44) = mul-le-mul_left copies (omega (arith, short)) in
+    omega (arith, same, written, wider)

@@ -273,3 +273,10 @@ both_written copies len size was mid now is more again =
     let e : copies * size ≡ copies * (44 + len) = ap (λ (n : ℕ). copies * n) is in
     let whole : copies * (44 + len + 44) ≡ copies * (44 + len) + copies * 44 = mul-add copies (44 + len) 44 in
     omega (arith, more, again, e, whole)
+
+pub format_written : (copies len size was even blank now : ℕ) → size ≡ 44 + len → even ≤ was + copies * 44 → blank ≤ even + copies * 44
+    → now ≤ blank + copies * size → now ≤ was + copies * (44 + 44 + (44 + len))
+format_written copies len size was even blank now is first second third =
+    let e : copies * size ≡ copies * (44 + len) = ap (λ (n : ℕ). copies * n) is in
+    let whole : copies * (44 + 44 + (44 + len)) ≡ copies * (44 + 44) + copies * (44 + len) = mul-add copies (44 + 44) (44 + len) in
+    omega (arith, first, second, third, e, whole)

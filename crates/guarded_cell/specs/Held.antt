@@ -56,6 +56,10 @@ unfoldable pub held : Image → (first copies : ℕ) → List Seen
 held image first zero = []
 held image first (suc copy) = with_slot (copy + 1) (text_in image first copy 1) (with_slot (copy + 1) (text_in image first copy 0) (held image first copy))
 
--- the first of them that at least m copies hold
+-- the first of a list of texts that at least m copies hold
+abbrev pub standing_in : (m : ℕ) → List Seen → Option Seen
+standing_in m seens = find (λ seen. nat_le m (length seen.copies)) seens
+
+-- what stands: the first of the texts that are held which at least m copies hold
 unfoldable pub standing : Image → (first copies m : ℕ) → Option Seen
-standing image first copies m = find (λ seen. nat_le m (length seen.copies)) (held image first copies)
+standing image first copies m = standing_in m (held image first copies)

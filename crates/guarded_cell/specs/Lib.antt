@@ -1,6 +1,7 @@
 pub mod Register
 pub mod Held
 pub mod Stops
+pub mod Stands
 pub mod Cells
 pub mod Slots
 pub mod Rights
@@ -12,5 +13,6 @@ pub mod CopyLaws
 pub mod SeenLaws
 pub mod HeldLaws
 pub mod FirstLaws
+pub mod AloneLaws
 pub mod Shown
 pub mod ShownLaws

@@ -46,6 +46,6 @@ pub record IsStanding (image : Image) (first copies m generation : ℕ) (text : 
   pub enough : IsHeldBy image first copies m generation text
   pub greatest : (g : ℕ) (t : List ℕ) → IsHeldBy image first copies m g t → g ≤ generation
 
--- at least m copies hold no text
+-- nothing stands: no text is held by m copies
 abbrev pub HasNoStanding : Image → (first copies m : ℕ) → Type 0
 HasNoStanding image first copies m = (generation : ℕ) (text : List ℕ) → ¬ (IsHeldBy image first copies m generation text)

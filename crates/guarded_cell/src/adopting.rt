@@ -1,8 +1,8 @@
 //! Settling on a text that the caller chose.
 
-ghost use Rattle.std.specs.Prelude.{◌≡◌, ◌≤◌, ◌<◌, ◌+◌, ℕ, List, IsTrue, IfOk, OnOk, OnErr, IsErrOf, length};
+ghost use Rattle.std.specs.Prelude.{◌≡◌, ◌≤◌, ◌<◌, ◌+◌, ◌*◌, ℕ, List, IsTrue, IfOk, OnOk, OnErr, IsErrOf, length};
 ghost use Rattle.per_base.specs.Causes.{Rose};
-ghost use Rattle.hash_guard.specs.SealedText.{max_body, sealed};
+ghost use Rattle.hash_guard.specs.SealedText.{max_body, header, sealed};
 ghost use Rattle.disk_model.specs.Frame.{Spares};
 ghost use Rattle.disk_model.specs.Medium.{Quiet, EachCase, Elapses};
 ghost use Rattle.disk_model.specs.Place.{IsNoSlot};
@@ -53,6 +53,7 @@ pub fn adopt<D: Disk>(
     ensures any_moment { IsTrue D.told → Quiet (D.medium disk.old)
         → EachCase (PutStops place.first place.copies generation text.now (D.medium disk.old).image)
         (D.medium disk.old) (D.medium disk.new) }
+    ensures written { (D.medium disk.new).written ≤ (D.medium disk.old).written + place.copies * (header + length text.now + header) }
     ensures time { Elapses (D.medium disk.old) (D.medium disk.new) }
 {
     let sealed_text = seal(alloc, generation, text)?;
@@ -83,6 +84,7 @@ fn adopt_in<D: Disk>(
     ensures any_moment { IsTrue D.told → Quiet (D.medium disk.old)
         → EachCase (PutStops place.first place.copies generation text.now (D.medium disk.old).image)
         (D.medium disk.old) (D.medium disk.new) }
+    ensures written { (D.medium disk.new).written ≤ (D.medium disk.old).written + place.copies * (header + length text.now + header) }
     ensures time { Elapses (D.medium disk.old) (D.medium disk.new) }
     ensures cause { OnErr result (Rose (D.medium disk.old).faults (D.medium disk.new).faults) }
 {
@@ -118,6 +120,7 @@ pub(crate) fn settle_on<D: Disk>(
     ensures any_moment { IsTrue D.told → Quiet (D.medium disk.old)
         → EachCase (PutStops place.first place.copies generation text.now (D.medium disk.old).image)
         (D.medium disk.old) (D.medium disk.new) }
+    ensures written { (D.medium disk.new).written ≤ (D.medium disk.old).written + place.copies * (header + length text.now + header) }
     ensures time { Elapses (D.medium disk.old) (D.medium disk.new) }
     ensures cause { OnErr result (Rose (D.medium disk.old).faults (D.medium disk.new).faults) }
 {

@@ -1,8 +1,8 @@
 //! Beginning anew.
 
-ghost use Rattle.std.specs.Prelude.{◌≡◌, ◌≤◌, IsTrue, IfOk, OnOk, OnErr, IsErrOf, length};
+ghost use Rattle.std.specs.Prelude.{◌≡◌, ◌≤◌, ◌+◌, ◌*◌, IsTrue, IfOk, OnOk, OnErr, IsErrOf, length};
 ghost use Rattle.per_base.specs.Causes.{Rose};
-ghost use Rattle.hash_guard.specs.SealedText.{max_body, sealed};
+ghost use Rattle.hash_guard.specs.SealedText.{max_body, header, sealed};
 ghost use Rattle.disk_model.specs.Frame.{Spares};
 ghost use Rattle.disk_model.specs.Medium.{Quiet, EachCase, Elapses};
 ghost use Rattle.disk_model.specs.Place.{IsNoSlot};
@@ -43,6 +43,8 @@ pub fn format_cell<D: Disk>(
     ensures elsewhere { IsTrue D.told → Spares (IsNoSlot place.first place.copies) (D.medium disk.old).image (D.medium disk.new).image }
     ensures any_moment { IsTrue D.told → Quiet (D.medium disk.old)
         → EachCase (FormatStops place.first place.copies 1 text.now (D.medium disk.old).image) (D.medium disk.old) (D.medium disk.new) }
+    ensures written { (D.medium disk.new).written
+        ≤ (D.medium disk.old).written + place.copies * (header + header + (header + length text.now)) }
     ensures time { Elapses (D.medium disk.old) (D.medium disk.new) }
 {
     let sealed_text = seal(alloc, 1, text)?;
@@ -65,6 +67,8 @@ fn format_in<D: Disk>(
     ensures elsewhere { IsTrue D.told → Spares (IsNoSlot place.first place.copies) (D.medium disk.old).image (D.medium disk.new).image }
     ensures any_moment { IsTrue D.told → Quiet (D.medium disk.old)
         → EachCase (FormatStops place.first place.copies 1 text.now (D.medium disk.old).image) (D.medium disk.old) (D.medium disk.new) }
+    ensures written { (D.medium disk.new).written
+        ≤ (D.medium disk.old).written + place.copies * (header + header + (header + length text.now)) }
     ensures time { Elapses (D.medium disk.old) (D.medium disk.new) }
     ensures cause { OnErr result (Rose (D.medium disk.old).faults (D.medium disk.new).faults) }
 {

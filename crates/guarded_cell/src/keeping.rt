@@ -1,7 +1,8 @@
 //! Taking every text away but one.
 
-ghost use Rattle.std.specs.Prelude.{◌≡◌, ◌≤◌, IsTrue, OnOk, OnErr, IsErrOf, length};
+ghost use Rattle.std.specs.Prelude.{◌≡◌, ◌≤◌, ◌+◌, ◌*◌, IsTrue, OnOk, OnErr, IsErrOf, length};
 ghost use Rattle.per_base.specs.Causes.{Rose};
+ghost use Rattle.hash_guard.specs.SealedText.{header};
 ghost use Rattle.disk_model.specs.Frame.{Spares};
 ghost use Rattle.disk_model.specs.Medium.{Quiet, EachCase, Elapses};
 ghost use Rattle.disk_model.specs.Place.{IsNoSlot};
@@ -46,6 +47,7 @@ pub fn keep_only<D: Disk>(
     ensures any_moment { IsTrue D.told → Quiet (D.medium disk.old)
         → EachCase (KeepStops place.first place.copies generation text.now (D.medium disk.old).image)
         (D.medium disk.old) (D.medium disk.new) }
+    ensures written { (D.medium disk.new).written ≤ (D.medium disk.old).written + place.copies * (header + header) }
     ensures time { Elapses (D.medium disk.old) (D.medium disk.new) }
 {
     let mut room = front_room(alloc)?;
@@ -72,6 +74,7 @@ fn keep_in<D: Disk>(
     ensures any_moment { IsTrue D.told → Quiet (D.medium disk.old)
         → EachCase (KeepStops place.first place.copies generation text.now (D.medium disk.old).image)
         (D.medium disk.old) (D.medium disk.new) }
+    ensures written { (D.medium disk.new).written ≤ (D.medium disk.old).written + place.copies * (header + header) }
     ensures time { Elapses (D.medium disk.old) (D.medium disk.new) }
     ensures cause { OnErr result (Rose (D.medium disk.old).faults (D.medium disk.new).faults) }
 {
@@ -115,6 +118,7 @@ fn blank_both<D: Disk>(
     ensures any_moment { IsTrue D.told → Quiet (D.medium disk.old)
         → EachCase (KeepStops place.first place.copies generation text.now (D.medium disk.old).image)
         (D.medium disk.old) (D.medium disk.new) }
+    ensures written { (D.medium disk.new).written ≤ (D.medium disk.old).written + place.copies * (header + header) }
     ensures time { Elapses (D.medium disk.old) (D.medium disk.new) }
     ensures cause { OnErr result (Rose (D.medium disk.old).faults (D.medium disk.new).faults) }
 {

@@ -7,8 +7,8 @@
 //! damaged.
 //!
 //! [`open_cell`] finds the text that stands and brings every copy to it, [`look`] only shows what the
-//! copies hold, [`adopt`] and [`keep_only`] settle on a text that the caller chose, and
-//! [`format_cell`] begins anew. Each call changes slots of its place alone.
+//! copies hold, [`standing_among`] chooses of that what stands, [`adopt`] and [`keep_only`] settle on
+//! a text that the caller chose, and [`format_cell`] begins anew. Each call changes slots of its place alone.
 //!
 //! Limits: a body of at most 524,244 bytes, generations up to the greatest `u64`, and one caller at a
 //! time. The hash guards against damage, not against malice.
@@ -31,6 +31,6 @@ pub use cell::Cell;
 pub use errors::{CellError, WriteFault};
 pub use formatting::format_cell;
 pub use keeping::keep_only;
-pub use laws::held_is_lawful;
+pub use laws::{held_is_lawful, stops_are_lawful};
 pub use looking::{Seen, look};
-pub use opening::{OpenedCell, open_cell};
+pub use opening::{OpenedCell, open_cell, standing_among};

@@ -1,14 +1,14 @@
 //! Opening the register at the text that stands.
 
-ghost use Rattle.std.specs.Prelude.{◌≡◌, ◌≤◌, ◌<◌, IsTrue, IfOk, OnOk, IsErrOf, find, length, nat_le, None, get_or, false};
+ghost use Rattle.std.specs.Prelude.{◌≡◌, ◌≤◌, ◌<◌, ◌+◌, ◌*◌, IsTrue, IfOk, OnOk, IsErrOf, length, nat_le, None, get_or, false};
 ghost use Rattle.per_base.specs.Causes.{Rose};
 ghost use Rattle.disk_model.specs.Frame.{Spares};
 ghost use Rattle.disk_model.specs.Medium.{Quiet, EachCase, Elapses};
 ghost use Rattle.disk_model.specs.Place.{IsNoSlot};
-ghost use Rattle.guarded_cell.specs.Held.{standing, lacking, copies_that};
+ghost use Rattle.guarded_cell.specs.Held.{standing, standing_in, lacking, copies_that};
 ghost use Rattle.guarded_cell.specs.Seens.{IsSealable};
 ghost use Rattle.guarded_cell.specs.Register.{IsAlone};
-ghost use Rattle.hash_guard.specs.SealedText.{max_body};
+ghost use Rattle.hash_guard.specs.SealedText.{max_body, header};
 ghost use Rattle.guarded_cell.specs.Opens.{StandsAs, OpenStops};
 ghost use Rattle.guarded_cell.specs.Rights.{IsRight, IsRightFor};
 ghost use Rattle.guarded_cell.specs.Stops.{PutStops};
@@ -56,12 +56,14 @@ pub fn open_cell<D: Disk>(
     ensures held { IsTrue D.told → IfOk result (λ opened. CellAt (D.medium disk.new).image opened.cell opened.text) }
     ensures quiet { OnOk result (Quiet (D.medium disk.new)) }
 
-    // Where nothing stands, nothing is written.
+    // Where nothing stands, nothing is written; nor is it where memory runs out.
     ensures corrupt { IsTrue D.told → IsErrOf result CellError.Corrupt
         → standing (D.medium disk.old).image place.first place.copies m ≡ None }
     ensures not_written { IsErrOf result CellError.Corrupt → (D.medium disk.new).image ≡ (D.medium disk.old).image }
     ensures settled { IsErrOf result CellError.Corrupt
         → Quiet (D.medium disk.new) × ((D.medium disk.new).written ≡ (D.medium disk.old).written) }
+    ensures memory { IsErrOf result CellError.OutOfMemory
+        → ((D.medium disk.new).image ≡ (D.medium disk.old).image) × ((D.medium disk.new).written ≡ (D.medium disk.old).written) }
     ensures cause { IsErrOf result CellError.Device → Rose (D.medium disk.old).faults (D.medium disk.new).faults }
 
     // Only slots of the place change, and none that is right already. A stop at any moment leaves every copy what it held or every copy
@@ -72,6 +74,9 @@ pub fn open_cell<D: Disk>(
         (D.medium disk.old).image (D.medium disk.new).image }
     ensures any_moment { IsTrue D.told → Quiet (D.medium disk.old)
         → EachCase (OpenStops place.first place.copies m (D.medium disk.old).image) (D.medium disk.old) (D.medium disk.new) }
+    ensures written { IfOk result (λ opened.
+        (D.medium disk.new).written ≤ (D.medium disk.old).written + place.copies * (header + length opened.text + header)) }
+    ensures at_most { (D.medium disk.new).written ≤ (D.medium disk.old).written + place.copies * (header + max_body + header) }
     ensures time { Elapses (D.medium disk.old) (D.medium disk.new) }
 {
     let seens = look(alloc, disk, place)?;
@@ -84,9 +89,10 @@ pub fn open_cell<D: Disk>(
     }
 }
 
-// The first that at least m copies hold.
-fn standing_among(seens: Vec<Seen>, m: u32) -> Option<Seen>
-    ensures { result ≡ find (λ seen. nat_le m (length seen.copies)) seens.items }
+/// The text that stands among those that [`look`] gave: the first that at least `m` copies hold. Takes no memory and no disk, so that
+/// a text can be judged before [`adopt`](crate::adopt) brings every copy to it.
+pub fn standing_among(seens: Vec<Seen>, m: u32) -> Option<Seen>
+    ensures { result ≡ standing_in m seens.items }
 {
     seens.into_iter().find(|seen| is_enough(seen, m))
 }
@@ -113,6 +119,8 @@ fn open_at<D: Disk>(
     ensures held { IsTrue D.told → IfOk result (λ opened. CellAt (D.medium disk.new).image opened.cell seen.text) }
     ensures quiet { OnOk result (Quiet (D.medium disk.new)) }
     ensures never_corrupt { IsErrOf result CellError.Corrupt → ⊥ }
+    ensures memory { IsErrOf result CellError.OutOfMemory
+        → ((D.medium disk.new).image ≡ (D.medium disk.old).image) × ((D.medium disk.new).written ≡ (D.medium disk.old).written) }
     ensures cause { IsErrOf result CellError.Device → Rose (D.medium disk.old).faults (D.medium disk.new).faults }
     ensures elsewhere { IsTrue D.told → Spares (IsNoSlot place.first place.copies) (D.medium disk.old).image (D.medium disk.new).image }
     ensures right { IsTrue D.told → Spares (IsRight (D.medium disk.old).image place.first place.copies seen.generation seen.text)
@@ -120,6 +128,7 @@ fn open_at<D: Disk>(
     ensures any_moment { IsTrue D.told → Quiet (D.medium disk.old)
         → EachCase (PutStops place.first place.copies seen.generation seen.text (D.medium disk.old).image)
         (D.medium disk.old) (D.medium disk.new) }
+    ensures written { (D.medium disk.new).written ≤ (D.medium disk.old).written + place.copies * (header + length seen.text + header) }
     ensures time { Elapses (D.medium disk.old) (D.medium disk.new) }
 {
     let lacking = open_text(alloc, disk, place, seen.generation, seen.text.as_slice())?;
@@ -150,6 +159,8 @@ fn open_text<D: Disk>(
     ensures alone { IsTrue D.told → OnOk result (IsAlone (D.medium disk.new).image place.first place.copies generation text.now) }
     ensures quiet { OnOk result (Quiet (D.medium disk.new)) }
     ensures never_corrupt { IsErrOf result CellError.Corrupt → ⊥ }
+    ensures memory { IsErrOf result CellError.OutOfMemory
+        → ((D.medium disk.new).image ≡ (D.medium disk.old).image) × ((D.medium disk.new).written ≡ (D.medium disk.old).written) }
     ensures cause { IsErrOf result CellError.Device → Rose (D.medium disk.old).faults (D.medium disk.new).faults }
     ensures elsewhere { IsTrue D.told → Spares (IsNoSlot place.first place.copies) (D.medium disk.old).image (D.medium disk.new).image }
     ensures right { IsTrue D.told → Spares (IsRight (D.medium disk.old).image place.first place.copies generation text.now)
@@ -157,6 +168,7 @@ fn open_text<D: Disk>(
     ensures any_moment { IsTrue D.told → Quiet (D.medium disk.old)
         → EachCase (PutStops place.first place.copies generation text.now (D.medium disk.old).image)
         (D.medium disk.old) (D.medium disk.new) }
+    ensures written { (D.medium disk.new).written ≤ (D.medium disk.old).written + place.copies * (header + length text.now + header) }
     ensures time { Elapses (D.medium disk.old) (D.medium disk.new) }
 {
     let sealed_text = seal(alloc, generation, text)?;

@@ -15,8 +15,9 @@ use Rattle.per_base.specs.declared.elements.FileInfo.{FileInfo}
 use Rattle.per_base.specs.Names.{IsName, in_name, is_name}
 use Rattle.index_text.specs.Rules.{InfoInRange, InfoIsInRange, has_changed, has_info, max_len}
 use Rattle.index_text.specs.Spelling.{cause_code, changed_text, file_info_text, info_text, kind_code, name_text}
-use Rattle.index_text.specs.Reading.{byte_at, bytes_at, cause_at, coded_cause, changed_at, file_info_at, info_at, coded_kind, len_at, name_at, number_at, only_if}
-use Rattle.index_text.proofs.Readers.{IsBytes, IsReader, Takes, Takes-then, bind_some, byte_reader, bytes_reader, code_step, number_reader, only_some, moved, only_true, wide_32, wide_64}
+use Rattle.per_base.specs.Fields.{byte_at, bytes_at, number_at, only_if}
+use Rattle.index_text.specs.Reading.{cause_at, coded_cause, changed_at, file_info_at, info_at, coded_kind, len_at, name_at}
+use Rattle.per_base.specs.FieldLaws.{IsBytes, IsReader, Takes, Takes-then, bind_some, byte_reader, bytes_reader, code_step, number_reader, only_some, moved, only_true, wide_32, wide_64}
 
 -- ---- names
 

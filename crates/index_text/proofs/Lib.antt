@@ -2,5 +2,4 @@ pub mod FieldReaders
 pub mod Lengths
 pub mod Loop
 pub mod Order
-pub mod Readers
 pub mod Whole

@@ -13,8 +13,9 @@ use Rattle.index_text.specs.declared.errors.IndexError.{IndexError}
 use Rattle.index_text.specs.declared.errors.IndexError.TheVariants as errors
 use Rattle.index_text.specs.Rules.{EntryInRange, InRange, IsEntry, IsIndex, block_count, blocks_of, is_format, names_of}
 use Rattle.index_text.specs.Spelling.{changed_text, entry_text, header_text, index_text, info_text, kind_code, name_text}
-use Rattle.index_text.specs.Reading.{Gives, are_distinct, ascends, byte_at, bytes_at, changed_at, entry_at, header_at, index_of, info_at, coded_kind, len_at, many, name_at, number_at}
-use Rattle.index_text.proofs.Readers.{IsBytes, IsReader, Takes, Takes-then, bind_some, byte_reader, bytes_reader, many_reader, moved, number_reader, only_some, only_true, some_is, wide_16, wide_32}
+use Rattle.per_base.specs.Fields.{byte_at, bytes_at, many, number_at}
+use Rattle.index_text.specs.Reading.{Gives, are_distinct, ascends, changed_at, entry_at, header_at, index_of, info_at, coded_kind, len_at, name_at}
+use Rattle.per_base.specs.FieldLaws.{IsBytes, IsReader, Takes, Takes-then, bind_some, byte_reader, bytes_reader, many_reader, moved, number_reader, only_some, only_true, some_is, wide_16, wide_32}
 use Rattle.index_text.proofs.FieldReaders.{changed_reader, info_reader, coded_kind_again, kind_back, len_reader, name_reader}
 use Rattle.index_text.proofs.Order.{apart_from_test, ascends_from_sorted, sorted_from_ascends, test_from_apart}
 
@@ -41,7 +42,16 @@ entry_takes format kind bytes x rest fits e =
     let t3 = (len_reader kind).takes changed.0.1 len.0.0 len.0.1 t2.0.rest_fits len.1 in
     let t4 = (bytes_reader 32).takes len.0.1 hash.0.0 hash.0.1 t3.0.rest_fits hash.1 in
     let t5 = (numbers (block_count len.0.0)).takes hash.0.1 blocks.0.0 blocks.0.1 t4.0.rest_fits blocks.1 in
-    let whole = Takes-then t0.0 (Takes-then t1.0 (Takes-then t2.0 (Takes-then t3.0 (Takes-then t4.0 t5.0)))) in
+    let from_blocks : List ℕ = flat_map (to_le_bytes w32) blocks.0.0 in
+    let from_hash : List ℕ = hash.0.0 ++ from_blocks in
+    let from_len : List ℕ = to_le_bytes w32 len.0.0 ++ from_hash in
+    let from_changed : List ℕ = changed_text format changed.0.0 ++ from_len in
+    let from_info : List ℕ = info_text info.0.0 ++ from_changed in
+    let w4 : Takes len.0.1 from_hash blocks.0.1 = Takes-then {a = len.0.1} {x = hash.0.0} {b = hash.0.1} {y = from_blocks} {c = blocks.0.1} t4.0 t5.0 in
+    let w3 : Takes changed.0.1 from_len blocks.0.1 = Takes-then {a = changed.0.1} {x = to_le_bytes w32 len.0.0} {b = len.0.1} {y = from_hash} {c = blocks.0.1} t3.0 w4 in
+    let w2 : Takes info.0.1 from_changed blocks.0.1 = Takes-then {a = info.0.1} {x = changed_text format changed.0.0} {b = changed.0.1} {y = from_len} {c = blocks.0.1} t2.0 w3 in
+    let w1 : Takes name.0.1 from_info blocks.0.1 = Takes-then {a = name.0.1} {x = info_text info.0.0} {b = info.0.1} {y = from_changed} {c = blocks.0.1} t1.0 w2 in
+    let whole : Takes bytes (name_text name.0.0 ++ from_info) blocks.0.1 = Takes-then {a = bytes} {x = name_text name.0.0} {b = name.0.1} {y = from_info} {c = blocks.0.1} t0.0 w1 in
     let made : IndexEntry × List ℕ = (record { name = name.0.0; info = info.0.0; changed = changed.0.0; len = len.0.0; hash = hash.0.0; blocks = blocks.0.0 }, blocks.0.1) in
     let good : IsGoodEntry format kind made.0 = (record { name = t0.1; info = t1.1.0; changed = t2.1.0; len = t3.1; hash = t4.1; blocks = t5.1.0 }, record { info = t1.1.1; changed = t2.1.1; blocks = t5.1.1 }) in
     moved (λ (p : IndexEntry × List ℕ). Takes bytes (entry_text format p.0) p.1 × IsGoodEntry format kind p.0) made (x, rest) blocks.2 (whole, good)

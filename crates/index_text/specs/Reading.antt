@@ -1,6 +1,6 @@
 -- The index that a text spells, read field by field from the left.
-use Rattle.std.specs.Prelude.{◌≡◌, ℕ, zero, suc, List, [], ◌∷◌, length, take, drop, Bool, true, ◌&&◌, Option, Some, None, Result, Ok, Err, nat_lt, nat_le, nat_eq, ◌==◌, if◌then◌else◌}
-use Rattle.std.specs.Int.{Width, w16, w32, w64, byte_len, from_le_bytes}
+use Rattle.std.specs.Prelude.{◌≡◌, ℕ, List, [], ◌∷◌, length, Bool, true, ◌&&◌, Option, Some, None, Result, Ok, Err, nat_le, nat_eq, ◌==◌, if◌then◌else◌}
+use Rattle.std.specs.Int.{w16, w32, w64}
 use Rattle.std.specs.Ordering.{is_lt}
 use Rattle.std.specs.Set.{distinct_count}
 use Rattle.per_base.specs.declared.elements.Cause.{Cause}
@@ -8,6 +8,7 @@ use Rattle.per_base.specs.declared.elements.Cause.TheVariants.{Installation, Upd
 use Rattle.per_base.specs.declared.elements.StoreKind.{StoreKind}
 use Rattle.per_base.specs.declared.elements.StoreKind.TheVariants.{Keys, Files}
 use Rattle.per_base.specs.declared.elements.FileInfo.{FileInfo}
+use Rattle.per_base.specs.Fields.{◌>>=◌, byte_at, bytes_at, number_at, only_if, many}
 use Rattle.per_base.specs.Names.{is_name, name_cmp}
 use Rattle.index_text.specs.declared.entries.IndexEntry.{IndexEntry}
 use Rattle.index_text.specs.declared.entries.Index.{Index}
@@ -15,11 +16,6 @@ use Rattle.index_text.specs.declared.reading.Header.{Header}
 use Rattle.index_text.specs.declared.errors.IndexError.{IndexError}
 use Rattle.index_text.specs.declared.errors.IndexError.TheVariants as errors
 use Rattle.index_text.specs.Rules.{block_count, max_len, is_format, names_of, blocks_of}
-
-infixl 10 ◌>>=◌
-abbrev pub ◌>>=◌ : {A B : Type 0} → Option A → (A → Option B) → Option B
-None >>= f = None
-(Some x) >>= f = f x
 
 -- what a function returned, seen by view, is what reading gives, unless memory ran out
 abbrev pub Refuses : {Y : Type 0} → IndexError → Option Y → Type 0
@@ -30,20 +26,7 @@ abbrev pub Gives : {X Y : Type 0} → (X → Y) → Result X IndexError → Opti
 Gives view (Ok x) read = read ≡ Some (view x)
 Gives view (Err e) read = Refuses e read
 
--- ---- a field is a value and the bytes after it
-
-abbrev pub byte_at : List ℕ → Option (ℕ × List ℕ)
-byte_at [] = None
-byte_at (b ∷ bytes) = Some (b, bytes)
-
-unfoldable pub bytes_at : ℕ → List ℕ → Option (List ℕ × List ℕ)
-bytes_at n bytes = if nat_lt (length bytes) n then None else Some (take n bytes, drop n bytes)
-
-unfoldable pub number_at : Width → List ℕ → Option (ℕ × List ℕ)
-number_at w bytes = if nat_lt (length bytes) (byte_len w) then None else Some (from_le_bytes w (take (byte_len w) bytes), drop (byte_len w) bytes)
-
-abbrev pub only_if : {A : Type 0} → Bool → A → Option A
-only_if b x = if b then Some x else None
+-- ---- the fields of an entry
 
 unfoldable pub name_at : List ℕ → Option (List ℕ × List ℕ)
 name_at bytes = do
@@ -85,14 +68,6 @@ unfoldable pub len_at : StoreKind → List ℕ → Option (ℕ × List ℕ)
 len_at kind bytes = do
   len ← number_at w32 bytes
   only_if (nat_le len.0 (max_len kind)) len
-
--- n things, one after another
-unfoldable pub many : {A : Type 0} → (List ℕ → Option (A × List ℕ)) → ℕ → List ℕ → Option (List A × List ℕ)
-many read zero bytes = Some ([], bytes)
-many read (suc n) bytes = do
-  first ← read bytes
-  others ← many read n first.1
-  Some (first.0 ∷ others.0, others.1)
 
 unfoldable pub entry_at : ℕ → StoreKind → List ℕ → Option (IndexEntry × List ℕ)
 entry_at format kind bytes = do

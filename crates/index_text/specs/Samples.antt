@@ -4,7 +4,8 @@ use Rattle.per_base.specs.declared.elements.StoreKind.TheVariants.{Files}
 use Rattle.per_base.specs.declared.elements.Cause.TheVariants as cause
 use Rattle.index_text.specs.declared.entries.Index.{Index}
 use Rattle.index_text.specs.Spelling.{index_text, entry_text}
-use Rattle.index_text.specs.Reading.{index_of, header_at, entry_at, name_at, info_at, file_info_at, cause_at, changed_at, len_at, many, bytes_at, number_at}
+use Rattle.per_base.specs.Fields.{many, bytes_at, number_at}
+use Rattle.index_text.specs.Reading.{index_of, header_at, entry_at, name_at, info_at, file_info_at, cause_at, changed_at, len_at}
 
 -- the SHA-256 of `abc`
 abbrev hash : List ℕ

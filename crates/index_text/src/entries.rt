@@ -14,9 +14,6 @@ pub(crate) const MAX_KEY_BYTES: u32 = 65_536;
 /// The most bytes of a file.
 pub(crate) const MAX_FILE_BYTES: u32 = 1_048_576;
 
-/// The bytes of a block.
-pub(crate) const BLOCK_BYTES: u32 = 256;
-
 /// The bytes of a hash.
 pub(crate) const HASH_BYTES: usize = 32;
 

@@ -1,8 +1,9 @@
 //! Why an index could not be read.
 
 ghost use Rattle.std.specs.Prelude.{◌≡◌};
-ghost use Rattle.index_text.specs.declared.errors.IndexError.TheVariants.{OutOfMemory};
+ghost use Rattle.index_text.specs.declared.errors.IndexError.TheVariants.{NotAnIndex, OutOfMemory};
 
+use per_base::Ended;
 use std::alloc::{AllocError, AllocFailed};
 use thiserror::Error;
 
@@ -15,6 +16,14 @@ pub enum IndexError {
     /// Memory ran out.
     #[error("memory ran out")]
     OutOfMemory,
+}
+
+impl From<Ended> for IndexError {
+    ghost from_gives = { λ _ e. e ≡ NotAnIndex };
+
+    fn from(_e: Ended) -> IndexError {
+        IndexError::NotAnIndex
+    }
 }
 
 impl From<AllocError> for IndexError {

@@ -4,12 +4,14 @@ ghost use Rattle.std.specs.Prelude.{◌≡◌};
 ghost use Rattle.std.specs.Int.{w32};
 ghost use Rattle.per_base.specs.Names.{is_name};
 ghost use Rattle.index_text.specs.Rules.{block_count, max_len};
-ghost use Rattle.index_text.specs.Reading.{Gives, bytes_at, cause_at, coded_cause, changed_at, file_info_at, info_at, coded_kind, len_at, many, name_at, number_at, only_if};
+ghost use Rattle.per_base.specs.Fields.{bytes_at, many, number_at, only_if};
+ghost use Rattle.index_text.specs.Reading.{Gives, cause_at, coded_cause, changed_at, file_info_at, info_at, coded_kind, len_at, name_at};
 
-use crate::entries::{BLOCK_BYTES, HASH_BYTES, MAX_FILE_BYTES, MAX_KEY_BYTES};
+use crate::entries::{HASH_BYTES, MAX_FILE_BYTES, MAX_KEY_BYTES};
 use crate::errors::IndexError;
-use crate::numbers::{byte_of, bytes_of, u32_of, u64_of};
-use per_base::{Cause, FileInfo, Name, Numbers, PerError, StoreKind};
+use per_base::{
+    BLOCK, Cause, FileInfo, Name, Numbers, PerError, StoreKind, byte_of, bytes_of, u32_of, u64_of,
+};
 use std::alloc::Global;
 use std::str;
 
@@ -107,7 +109,7 @@ pub fn changed_of(format: u8, bytes: &[u8]) -> Result<(u64, &[u8]), IndexError>
     ensures { Gives (λ x. (x.0, x.1.now)) result (changed_at format bytes.now) }
 {
     if format == 2 {
-        u64_of(bytes)
+        Ok(u64_of(bytes)?)
     } else {
         Ok((0, bytes))
     }
@@ -146,7 +148,7 @@ pub fn hash_of(bytes: &[u8]) -> Result<([u8; 32], &[u8]), IndexError>
 pub fn blocks_of(alloc: Global, len: u32, bytes: &[u8]) -> Result<(Numbers, &[u8]), IndexError>
     ensures { Gives (λ x. (x.0, x.1.now)) result (many (number_at w32) (block_count len) bytes.now) }
 {
-    let (blocks, rest) = numbers_of(alloc, len.div_ceil(BLOCK_BYTES), bytes)?;
+    let (blocks, rest) = numbers_of(alloc, len.div_ceil(BLOCK as u32), bytes)?;
     Ok((Numbers::new(blocks), rest))
 }
 

@@ -15,7 +15,6 @@ mod entries;
 mod errors;
 mod fields;
 mod laws;
-mod numbers;
 mod reading;
 mod rules;
 mod writing;

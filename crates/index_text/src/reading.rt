@@ -4,14 +4,14 @@ ghost use Rattle.std.specs.Prelude.{◌≡◌, ◌≢◌, IfOk};
 ghost use Rattle.index_text.specs.declared.entries.Index.{Index};
 ghost use Rattle.index_text.specs.Rules.{IsIndex, InRange};
 ghost use Rattle.index_text.specs.Spelling.{index_text};
-ghost use Rattle.index_text.specs.Reading.{Gives, entry_at, header_at, index_of, many};
+ghost use Rattle.per_base.specs.Fields.{many};
+ghost use Rattle.index_text.specs.Reading.{Gives, entry_at, header_at, index_of};
 
 use crate::entries::{Index, IndexEntry, MAX_ENTRIES};
 use crate::errors::IndexError;
 use crate::fields::{blocks_of, changed_of, hash_of, info_of, kind_from, len_of, name_of};
-use crate::numbers::{byte_of, u16_of};
 use crate::rules::{blocks_are_distinct, names_ascend};
-use per_base::{Sequence, StoreKind};
+use per_base::{Sequence, StoreKind, byte_of, u16_of};
 use std::alloc::Global;
 
 /// The index that the bytes spell, in format 1 or format 2.

@@ -87,6 +87,10 @@ placed c m name bytes = with_place m name (with_room c (with_element m name (key
 abbrev pub unless_refused : StorageData → Map → List ℕ → Kind → Result Map PerError → Result Map PerError
 unless_refused c m name asked rest = refuse c.read_only IllegalWriteAccess (unless_typed (kind_for (element_named c name) (element_at m name)) asked rest)
 
+-- what refuses a value before it is encoded: all but want of room, for which its encoding must be measured
+abbrev pub takes_any : StorageData → Map → List ℕ → Kind → Result Map PerError
+takes_any c m name asked = unless_refused c m name asked (with_place m name (Ok m))
+
 abbrev pub set_any : StorageData → Map → List ℕ → Tree → Result Map PerError
 set_any c m name value = unless_refused c m name (type_of value) (placed c m name (encoding value))
 
@@ -110,6 +114,13 @@ abbrev pub restored : StorageData → Map → List ℕ → Option (List ℕ) →
 restored c m name None = Ok (without m name)
 restored c m name (Some bytes) = with_room c (with_element m name (key_of bytes))
 
+-- a recovery takes a salvage or an initial value, which has to be copied
+abbrev pub TakesCopy : Option (List ℕ) → Content → Type 0
+TakesCopy initial (Good bytes) = ⊥
+TakesCopy initial (Bad (Some salvage)) = Unit {0}
+TakesCopy None (Bad None) = ⊥
+TakesCopy (Some bytes) (Bad None) = Unit {0}
+
 -- a readable key stays; an unreadable one becomes its salvage, else its initial value, else it goes
 abbrev pub recovered : StorageData → Map → List ℕ → Content → Result Map PerError
 recovered c m name (Good bytes) = Ok m
@@ -125,3 +136,7 @@ with_initial (Some bytes) call = call bytes
 
 abbrev pub reset_key : StorageData → Map → List ℕ → Result Map PerError
 reset_key c m name = refuse c.read_only IllegalWriteAccess (with_initial (initial_of c name) (λ bytes. placed c m name bytes))
+
+-- what refuses a reset before the initial value is copied: all but want of room
+abbrev pub takes_initial : StorageData → Map → List ℕ → Result Map PerError
+takes_initial c m name = refuse c.read_only IllegalWriteAccess (with_initial (initial_of c name) (λ bytes. with_place m name (Ok m)))

@@ -1,17 +1,19 @@
 //! Reading keys.
 
-ghost use Rattle.std.specs.Prelude.{◌≡◌, ◌≢◌, IfErr, IfOk};
+ghost use Rattle.std.specs.Prelude.{◌≡◌, ◌≢◌, IfErr, IfOk, IsTrue};
 ghost use Rattle.per_base.specs.declared.errors.Unit.TheVariants.{Part};
 ghost use Rattle.per_base.specs.Maps.{has, names_of, size_of};
+ghost use Rattle.value_model.specs.Kinds.{kind_fits};
 ghost use Rattle.value_model.specs.Validity.{IsValue};
+ghost use Rattle.value_model.specs.Views.{kind_of};
 ghost use Rattle.kvs_core.specs.Calls as calls;
-ghost use Rattle.kvs_core.specs.Refusals.{IsRefusal};
+ghost use Rattle.kvs_core.specs.Refusals.{IsRefusal, IsTextRefusal, NeedsMemory};
 
 use crate::session::KeySession;
 use crate::typing::has_type;
 use per_base::{Name, PerError, Unit};
 use per_value::PerValue;
-use value_model::Value;
+use value_model::{Value, ValueType};
 
 impl KeySession {
     /// Whether this name is visible, readable or not. Takes no memory.
@@ -49,6 +51,8 @@ impl KeySession {
         ensures ok { IfOk result (λ value. calls.get_any self.now.config self.now.visible name.now ≡ Ok value.now) }
         ensures valid { IfOk result (λ value. IsValue value.now) }
         ensures refused { IfErr result (λ error. IsRefusal (calls.get_any self.now.config self.now.visible name.now) error) }
+        // A value takes no memory, nor does that there is none.
+        ensures memory { IfErr result (λ error. error ≡ PerError.OutOfMemory → IsTextRefusal (calls.get_any self.now.config self.now.visible name.now)) }
     {
         let Some(key) = self.maps.get(name) else {
             return Err(PerError::KeyNotFound);
@@ -59,12 +63,32 @@ impl KeySession {
         }
     }
 
+    /// The value of a key, asked for by its type.
+    ///
+    /// Errors: those of `get_any`; `DataTypeMismatch` with the stored and the asked type where they differ; `OutOfMemory`, and this
+    /// only in the place of a refusal that carries names or texts.
+    pub fn get_as(&self, name: &Name, asked: &ValueType) -> Result<&Value, PerError>
+        requires { IsTrue (kind_fits (kind_of asked.now)) }
+        ensures ok { IfOk result (λ value. calls.get_as self.now.config self.now.visible name.now (kind_of asked.now) ≡ Ok value.now) }
+        ensures valid { IfOk result (λ value. IsValue value.now) }
+        ensures refused { IfErr result (λ error. IsRefusal (calls.get_as self.now.config self.now.visible name.now (kind_of asked.now)) error) }
+        ensures memory { IfErr result (λ error. error ≡ PerError.OutOfMemory → IsTextRefusal (calls.get_as self.now.config self.now.visible name.now (kind_of asked.now))) }
+    {
+        let value = self.get_any(name)?;
+        if !has_type(value, asked) {
+            return Err(self.differs(value, asked));
+        }
+        Ok(value)
+    }
+
     /// The thing of a Rust type that a key's value is.
     ///
     /// Errors: those of `get_any`; `DataTypeMismatch` with the stored and the asked type where they differ; `OutOfMemory`.
+    #[tactic(auto, using(crate::proofs::Contents::needs_value))]
     pub fn get_value<T: PerValue>(&self, name: &Name) -> Result<T, PerError>
         ensures ok { IfOk result (λ thing. calls.get_as self.now.config self.now.visible name.now T.kind ≡ Ok (T.tree thing)) }
         ensures refused { IfErr result (λ error. IsRefusal (calls.get_as self.now.config self.now.visible name.now T.kind) error) }
+        ensures memory { IfErr result (λ error. error ≡ PerError.OutOfMemory → NeedsMemory (calls.get_as self.now.config self.now.visible name.now T.kind)) }
     {
         let value = self.get_any(name)?;
         let Ok(asked) = T::type_of(self.alloc) else {

@@ -1,14 +1,15 @@
 //! Recovering and resetting keys.
 
-ghost use Rattle.std.specs.Prelude.{◌≡◌, IfErr, IsTrue, OnErr, OnOk};
-ghost use Rattle.per_base.specs.Maps.{has};
+ghost use Rattle.std.specs.Prelude.{◌≡◌, false, IfErr, IsSome, IsTrue, OnErr, OnOk, Some};
+ghost use Rattle.per_base.specs.declared.elements.Element.{Element};
+ghost use Rattle.per_base.specs.Maps.{element_at, has};
 ghost use Rattle.deployment_model.specs.Lookups.{initial_of};
 ghost use Rattle.kvs_core.specs.Calls as calls;
-ghost use Rattle.kvs_core.specs.Refusals.{IsRefusal};
+ghost use Rattle.kvs_core.specs.Refusals.{IsRefusal, NeedsMemory};
 
 use crate::session::KeySession;
 use key_maps::{KeyElement, Stored};
-use per_base::{Name, PerError};
+use per_base::{Limit, Name, PerError};
 
 impl KeySession {
     /// A readable key stays; an unreadable one becomes its salvage, else its initial value, else it goes.
@@ -19,6 +20,9 @@ impl KeySession {
     pub fn recover_key(&mut self, name: &Name) -> Result<(), PerError>
         ensures ok { OnOk result (calls.recover_key self.old.config self.old.visible name.now ≡ Ok self.new.visible) }
         ensures refused { IfErr result (λ error. IsRefusal (calls.recover_key self.old.config self.old.visible name.now) error) }
+        // Want of memory comes only where a salvage or an initial value is taken, and stands for want of room alone.
+        ensures memory { IfErr result (λ error. error ≡ PerError.OutOfMemory → (self.old.config.read_only ≡ false) × IsTrue (has self.old.visible name.now)) }
+        ensures copies { IfErr result (λ error. error ≡ PerError.OutOfMemory → (key : Element) → element_at self.old.visible name.now ≡ Some key → calls.TakesCopy (initial_of self.old.config name.now) key.content) }
         ensures beside { self.new ≡ record self.old { visible = self.new.visible } }
         ensures unchanged { OnErr result (self.new ≡ self.old) }
     {
@@ -46,6 +50,7 @@ impl KeySession {
         requires { IsTrue (has self.old.visible name.now) }
         ensures ok { OnOk result (calls.restored self.old.config self.old.visible name.now (initial_of self.old.config name.now) ≡ Ok self.new.visible) }
         ensures refused { IfErr result (λ error. IsRefusal (calls.restored self.old.config self.old.visible name.now (initial_of self.old.config name.now)) error) }
+        ensures memory { IfErr result (λ error. error ≡ PerError.OutOfMemory → IsSome (initial_of self.old.config name.now)) }
         ensures beside { self.new ≡ record self.old { visible = self.new.visible } }
         ensures unchanged { OnErr result (self.new ≡ self.old) }
     {
@@ -66,6 +71,8 @@ impl KeySession {
     pub fn reset_key(&mut self, name: &Name) -> Result<(), PerError>
         ensures ok { OnOk result (calls.reset_key self.old.config self.old.visible name.now ≡ Ok self.new.visible) }
         ensures refused { IfErr result (λ error. IsRefusal (calls.reset_key self.old.config self.old.visible name.now) error) }
+        // Want of memory stands for want of room alone.
+        ensures memory { IfErr result (λ error. error ≡ PerError.OutOfMemory → NeedsMemory (calls.takes_initial self.old.config self.old.visible name.now)) }
         ensures beside { self.new ≡ record self.old { visible = self.new.visible } }
         ensures unchanged { OnErr result (self.new ≡ self.old) }
     {
@@ -75,8 +82,13 @@ impl KeySession {
         let Some(initial) = self.config.initial(name) else {
             return Err(PerError::InitValueNotAvailable);
         };
+        if self.is_full(name) {
+            return Err(PerError::LimitReached {
+                which: Limit::Elements,
+            });
+        }
         match Stored::read(self.alloc, initial.as_slice()) {
-            Ok(stored) => self.place(name, stored),
+            Ok(stored) => self.fit(name, stored),
             Err(_) => Err(PerError::OutOfMemory),
         }
     }

@@ -1,11 +1,11 @@
 //! Types of values, and the refusal where two differ.
 
-ghost use Rattle.std.specs.Prelude.{◌≡◌, ◌≢◌, IfErr, IsTrue, OnOk, Result, option_copied, option_map, Option};
+ghost use Rattle.std.specs.Prelude.{◌≡◌, ◌≢◌, IfErr, IsTrue, OnOk, Result, Ok, option_copied, option_map, Option};
 ghost use Rattle.per_base.specs.declared.elements.Element.{Element};
 ghost use Rattle.per_base.specs.declared.errors.PerError.{PerError};
 ghost use Rattle.per_base.specs.Maps.{Map, element_at};
 ghost use Rattle.deployment_model.specs.Lookups.{element_named};
-ghost use Rattle.kvs_core.specs.Refusals.{IsRefusal};
+ghost use Rattle.kvs_core.specs.Refusals.{IsRefusal, NeedsMemory};
 ghost use Rattle.value_model.specs.Kinds.{kind_fits};
 ghost use Rattle.value_model.specs.Trees.{type_of};
 ghost use Rattle.value_model.specs.Views.{kind_of};
@@ -73,9 +73,11 @@ impl KeySession {
     }
 
     /// Refuses a value whose type is not that of the key: the configured one, or that of its visible readable value.
+    #[tactic(auto, using(crate::proofs::Contents::there))]
     fn check_type(&self, name: &Name, value: &Value) -> Result<(), PerError>
         ensures ok { OnOk result ((rest : Result Map PerError) → calls.unless_typed (calls.kind_for (element_named self.now.config name.now) (element_at self.now.visible name.now)) (type_of value.now) rest ≡ rest) }
         ensures refused { IfErr result (λ error. (rest : Result Map PerError) → IsRefusal (calls.unless_typed (calls.kind_for (element_named self.now.config name.now) (element_at self.now.visible name.now)) (type_of value.now) rest) error) }
+        ensures memory { IfErr result (λ error. error ≡ PerError.OutOfMemory → NeedsMemory (calls.unless_typed (calls.kind_for (element_named self.now.config name.now) (element_at self.now.visible name.now)) (type_of value.now) (calls.with_place self.now.visible name.now (Ok self.now.visible)))) }
     {
         if let Some(element) = self.config.element(name) {
             return match &element.value_type {
@@ -93,6 +95,7 @@ impl KeySession {
     pub(crate) fn check_value(&self, name: &Name, value: &Value) -> Result<(), PerError>
         ensures ok { OnOk result ((rest : Result Map PerError) → calls.unless_refused self.now.config self.now.visible name.now (type_of value.now) rest ≡ rest) }
         ensures refused { IfErr result (λ error. (rest : Result Map PerError) → IsRefusal (calls.unless_refused self.now.config self.now.visible name.now (type_of value.now) rest) error) }
+        ensures memory { IfErr result (λ error. error ≡ PerError.OutOfMemory → NeedsMemory (calls.takes_any self.now.config self.now.visible name.now (type_of value.now))) }
     {
         if self.config.read_only {
             return Err(PerError::IllegalWriteAccess);
@@ -104,6 +107,7 @@ impl KeySession {
         requires { IsTrue (kind_fits (kind_of stored.now)) }
         ensures ok { OnOk result ((rest : Result Map PerError) → calls.unless_differ (kind_of stored.now) (type_of value.now) rest ≡ rest) }
         ensures refused { IfErr result (λ error. (rest : Result Map PerError) → IsRefusal (calls.unless_differ (kind_of stored.now) (type_of value.now) rest) error) }
+        ensures memory { IfErr result (λ error. error ≡ PerError.OutOfMemory → (rest : Result Map PerError) → NeedsMemory (calls.unless_differ (kind_of stored.now) (type_of value.now) rest)) }
     {
         if has_type(value, stored) {
             return Ok(());
@@ -111,10 +115,11 @@ impl KeySession {
         Err(self.differs_from(stored, value))
     }
 
-    #[tactic(auto, using(crate::proofs::Contents::kind_stored, crate::proofs::Contents::kind_bad, value_code::proofs::ValueLaws::typed_fits))]
+    #[tactic(auto, using(crate::proofs::Contents::kind_stored, crate::proofs::Contents::kind_bad, crate::proofs::Contents::needs_kind, value_code::proofs::ValueLaws::typed_fits))]
     fn check_stored(&self, key: &KeyElement, value: &Value) -> Result<(), PerError>
         ensures ok { OnOk result ((rest : Result Map PerError) → calls.unless_typed (calls.stored_kind key.now.content) (type_of value.now) rest ≡ rest) }
         ensures refused { IfErr result (λ error. (rest : Result Map PerError) → IsRefusal (calls.unless_typed (calls.stored_kind key.now.content) (type_of value.now) rest) error) }
+        ensures memory { IfErr result (λ error. error ≡ PerError.OutOfMemory → (m : Map) → NeedsMemory (calls.unless_typed (calls.stored_kind key.now.content) (type_of value.now) (Ok m))) }
     {
         let Some(stored) = key.stored() else {
             return Ok(());

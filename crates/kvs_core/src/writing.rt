@@ -1,11 +1,12 @@
 //! Writing and removing keys.
 
-ghost use Rattle.std.specs.Prelude.{◌≡◌, ◌<◌, ◌≤◌, IfErr, IsTrue, None, OnErr, OnOk, length};
-ghost use Rattle.per_base.specs.Maps.{element_at, size_of, with_element};
+ghost use Rattle.std.specs.Prelude.{◌≡◌, ◌<◌, ◌≤◌, ◌&&◌, nat_le, not, IfErr, IsTrue, None, Ok, OnErr, OnOk, length};
+ghost use Rattle.per_base.specs.Maps.{element_at, has, size_of, with_element};
 ghost use Rattle.value_model.specs.Encoding.{encoding};
+ghost use Rattle.value_model.specs.Trees.{type_of};
 ghost use Rattle.key_maps.specs.KeyElements.{is_readable, key_of};
 ghost use Rattle.kvs_core.specs.Calls as calls;
-ghost use Rattle.kvs_core.specs.Refusals.{IsRefusal};
+ghost use Rattle.kvs_core.specs.Refusals.{IsRefusal, NeedsMemory};
 
 use crate::session::KeySession;
 use key_maps::{KEYS, KeyElement, Stored};
@@ -24,6 +25,8 @@ impl KeySession {
     pub fn set_any(&mut self, name: &Name, value: Value) -> Result<(), PerError>
         ensures ok { OnOk result (calls.set_any self.old.config self.old.visible name.now value ≡ Ok self.new.visible) }
         ensures refused { IfErr result (λ error. IsRefusal (calls.set_any self.old.config self.old.visible name.now value) error) }
+        // Want of memory stands for want of room alone.
+        ensures memory { IfErr result (λ error. error ≡ PerError.OutOfMemory → NeedsMemory (calls.takes_any self.old.config self.old.visible name.now (type_of value))) }
         ensures beside { self.new ≡ record self.old { visible = self.new.visible } }
         ensures unchanged { OnErr result (self.new ≡ self.old) }
     {
@@ -93,28 +96,27 @@ impl KeySession {
     fn write(&mut self, name: &Name, value: Value) -> Result<(), PerError>
         ensures ok { OnOk result (calls.placed self.old.config self.old.visible name.now (encoding value) ≡ Ok self.new.visible) }
         ensures refused { IfErr result (λ error. IsRefusal (calls.placed self.old.config self.old.visible name.now (encoding value)) error) }
+        ensures memory { IfErr result (λ error. error ≡ PerError.OutOfMemory → calls.with_place self.old.visible name.now (Ok self.old.visible) ≡ Ok self.old.visible) }
         ensures beside { self.new ≡ record self.old { visible = self.new.visible } }
         ensures unchanged { OnErr result (self.new ≡ self.old) }
     {
-        match Stored::new(self.alloc, value) {
-            Ok(stored) => self.place(name, stored),
-            Err(_) => Err(PerError::OutOfMemory),
-        }
-    }
-
-    /// Puts an encoding under a name, where there is a place and room for it.
-    pub(crate) fn place(&mut self, name: &Name, stored: Stored) -> Result<(), PerError>
-        ensures ok { OnOk result (calls.placed self.old.config self.old.visible name.now stored ≡ Ok self.new.visible) }
-        ensures refused { IfErr result (λ error. IsRefusal (calls.placed self.old.config self.old.visible name.now stored) error) }
-        ensures beside { self.new ≡ record self.old { visible = self.new.visible } }
-        ensures unchanged { OnErr result (self.new ≡ self.old) }
-    {
-        if !self.maps.has(name) && self.maps.count() >= KEYS {
+        if self.is_full(name) {
+            mem::drop(value);
             return Err(PerError::LimitReached {
                 which: Limit::Elements,
             });
         }
-        self.fit(name, stored)
+        match Stored::new(self.alloc, value) {
+            Ok(stored) => self.fit(name, stored),
+            Err(_) => Err(PerError::OutOfMemory),
+        }
+    }
+
+    /// Whether a key of this name would be one too many.
+    pub(crate) fn is_full(&self, name: &Name) -> bool
+        ensures { result ≡ (not (has self.now.visible name.now) && nat_le 1024 (length self.now.visible)) }
+    {
+        !self.maps.has(name) && self.maps.count() >= KEYS
     }
 
     /// Puts an encoding under a name that has a place, where there is room for it.

@@ -21,14 +21,14 @@ use Rattle.element_state.specs.States.{Opens, greatest_generation}
 use Rattle.element_state.specs.Written.{IsWithin, commit_cost, map_cost}
 use Rattle.element_store.specs.Stores.{IsUsed}
 use Rattle.element_maps.specs.Differences.{MakeInto}
-use Rattle.element_maps.specs.Laws.{CommittedLaw, CostLaw, HeldLaw, TakenLaw}
+use Rattle.element_maps.specs.Laws.{CommittedLaw, CostLaw, HeldLaw, NextLaw, TakenLaw}
 use Rattle.element_maps.specs.Sessions.{IsHeld, IsNext, IsSync, IsWritable, Passes, synchronised}
 use Rattle.key_maps.specs.KeyElements.{Encodes, IsKey, is_encoding, is_readable}
 use Rattle.key_maps.specs.TwoMaps.{AreTwoMaps}
 use Rattle.kvs_core.specs.Sessions.{HasRoom, Session}
 use Rattle.kvs_store.specs.declared.storages.Kvs.{Kvs}
 use Rattle.kvs_store.specs.Storages.{IsKvs, LiesAs, keys_in, session_of, shape_of, view_in}
-use Rattle.kvs_store.specs.Synced.{IsSynced, settled}
+use Rattle.kvs_store.specs.Synced.{settled, synced_view}
 
 -- a key is as a storage of keys asks
 writable : (kind : StoreKind) → kind ≡ Keys → (key : Element) (bytes : List ℕ) → key.content ≡ Good bytes → IsKey key → IsWritable kind key bytes
@@ -90,15 +90,13 @@ module _ (told : Bool) (image : Image) (kvs : Kvs) (is : IsKvs told image kvs) (
   next_cost cost = subst (λ (k : StoreKind). commit_cost (shape_of kvs).kind (view_in kvs).entries changes ≤ map_cost k (session_of kvs).synced (session_of kvs).visible) is.lies.of_keys
       (cost (shape_of kvs) is_encoding (view_in kvs) (session_of kvs).synced (session_of kvs).visible changes sync)
 
-  pub synced_view : CommittedLaw → (session_of kvs).synced ≢ (session_of kvs).visible → (after : View) → after ≡ committed_by (shape_of kvs) (view_in kvs) changes
-      → IsSynced (shape_of kvs) (session_of kvs) (view_in kvs) after
-  synced_view law differ after is = record { equal = λ same. absurd (differ same); differing = λ d. is ∙ next_view law }
+  pub view_then : CommittedLaw → NextLaw → (session_of kvs).synced ≢ (session_of kvs).visible → committed_by (shape_of kvs) (view_in kvs) changes ≡ synced_view kvs
+  view_then law next differ = next_view law ∙ sym (next (shape_of kvs) (view_in kvs) (session_of kvs).synced (session_of kvs).visible differ)
 
-  pub synced_state : CommittedLaw → (session_of kvs).synced ≢ (session_of kvs).visible → (old new : Medium)
+  pub synced_state : CommittedLaw → NextLaw → (session_of kvs).synced ≢ (session_of kvs).visible → (old new : Medium)
       → KeptThroughout (shape_of kvs) (Opens (committed_by (shape_of kvs) (view_in kvs) changes) []) old new
-      → (after : View) → IsSynced (shape_of kvs) (session_of kvs) (view_in kvs) after → KeptThroughout (shape_of kvs) (Opens after []) old new
-  synced_state law differ old new kept after is =
-      subst (λ (v : View). KeptThroughout (shape_of kvs) (Opens v []) old new) (next_view law ∙ sym (is.differing differ)) kept
+      → KeptThroughout (shape_of kvs) (Opens (synced_view kvs) []) old new
+  synced_state law next differ old new kept = subst (λ (v : View). KeptThroughout (shape_of kvs) (Opens v []) old new) (view_then law next differ) kept
 
   pub synced_in_use : CommittedLaw → HeldLaw → (now : Image) (next : Kvs) → IsUsed told now next.store → shape_of next ≡ shape_of kvs
       → view_in next ≡ committed_by (shape_of kvs) (view_in kvs) changes → session_of next ≡ settled (session_of kvs) → IsKvs told now next

@@ -1,21 +1,20 @@
 -- What a sync makes, and how it fails.
-use Rattle.std.specs.Prelude.{◌≡◌, ◌≢◌}
-use Rattle.element_state.specs.declared.shapes.Shape.{Shape}
+use Rattle.std.specs.Prelude.{◌≡◌}
 use Rattle.element_state.specs.declared.shapes.View.{View}
-use Rattle.element_state.specs.Changes.{committed}
+use Rattle.element_maps.specs.Sessions as maps
 use Rattle.kvs_core.specs.Sessions.{Session}
 use Rattle.kvs_store.specs.declared.storages.Kvs.{Kvs}
 use Rattle.kvs_store.specs.declared.syncing.SyncFault.{SyncFault}
 use Rattle.kvs_store.specs.declared.syncing.SyncFault.TheVariants.{Device, WornOut, OutOfMemory}
+use Rattle.kvs_store.specs.Storages.{session_of, shape_of, view_in}
 
 -- the session after a sync
 abbrev pub settled : Session → Session
 settled s = record s { synced = s.visible }
 
--- the view after a sync: where the maps are equal it is that of before, and where they differ it is the next, with the visible map
-pub record IsSynced (shape : Shape) (s : Session) (v after : View) : Type 0 where
-  pub equal : s.synced ≡ s.visible → after ≡ v
-  pub differing : s.synced ≢ s.visible → after ≡ committed shape v s.synced s.visible
+-- the view after a sync: that of before where nothing differs
+abbrev pub synced_view : Kvs → View
+synced_view kvs = maps.synced_view (shape_of kvs) (view_in kvs) (session_of kvs).synced (session_of kvs).visible
 
 -- all but a failure of the device hands the storage back, and then this holds
 abbrev pub HandsBack : Kvs → SyncFault → Type 0 → Type 0

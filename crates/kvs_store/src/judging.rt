@@ -10,8 +10,8 @@ use std::alloc::{AllocError, Global};
 use value_code::decode;
 use value_model::DecodeError;
 
-// The view with each of its keys judged.
-pub(crate) fn judged(alloc: Global, view: View) -> Result<View, AllocError>
+/// The view with each of its keys judged: bytes that encode no value are unreadable, and no salvage.
+pub fn judged(alloc: Global, view: View) -> Result<View, AllocError>
     ensures { IfOk result (λ judged. judged ≡ judged_view is_encoding view) }
 {
     let View {

@@ -21,6 +21,7 @@ mod syncing;
 mod writing;
 
 pub use element_state::{Shape, StoreError};
+pub use judging::judged;
 pub use opening::{OpenedKvs, open_kvs};
 pub use storages::Kvs;
 pub use syncing::SyncFault;

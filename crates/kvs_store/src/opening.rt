@@ -9,9 +9,9 @@ ghost use Rattle.deployment_model.specs.Conditions.{IsStorage};
 ghost use Rattle.deployment_model.specs.Data.{storage_data};
 ghost use Rattle.element_state.specs.Chosen.{opened_of};
 ghost use Rattle.element_state.specs.Clean.{IsClean};
-ghost use Rattle.element_state.specs.Kept.{IsKeptCase};
+ghost use Rattle.element_state.specs.Kept.{KeptThroughout};
 ghost use Rattle.element_state.specs.States.{State, store_at};
-ghost use Rattle.element_store.specs.Opened.{MendsByNoChance, OpensBy};
+ghost use Rattle.element_store.specs.Opened.{OpensBy};
 ghost use Rattle.kvs_store.specs.Opened.{IsOpened};
 ghost use Rattle.kvs_store.specs.Storages.{IsKvs, LiesAs, index_in};
 
@@ -71,10 +71,8 @@ pub fn open_kvs<D: Disk>(
         → EachCase (IsSettledOn (IsOutside shape.place.first shape.place.copies) (D.medium disk.old).image)
         (D.medium disk.old) (D.medium disk.new) }
 
-    // A stop at any moment keeps the storage, where no half of a mend passes for a content by chance.
-    ensures any_moment { IsTrue D.told → Quiet (D.medium disk.old) → IsClean shape (D.medium disk.old).image → (after : State)
-        → EachCase (λ c. MendsByNoChance shape (D.medium disk.old).image c → IsKeptCase shape (store_at (D.medium disk.old).image shape) after c)
-        (D.medium disk.old) (D.medium disk.new) }
+    // A stop at any moment keeps the storage, whatever its next state is to be.
+    ensures any_moment { IsTrue D.told → (after : State) → KeptThroughout shape after (D.medium disk.old) (D.medium disk.new) }
     ensures time { Elapses (D.medium disk.old) (D.medium disk.new) }
 {
     untouched_is_kept();

@@ -7,18 +7,17 @@ ghost use Rattle.disk_model.specs.Frame.{Spares, IsSettledOn};
 ghost use Rattle.disk_model.specs.Medium.{Quiet, EachCase, Elapses};
 ghost use Rattle.disk_model.specs.Place.{IsOutside};
 ghost use Rattle.index_text.specs.Spelling.{index_text};
-ghost use Rattle.element_state.specs.declared.shapes.View.{View};
 ghost use Rattle.element_state.specs.Clean.{IsClean};
 ghost use Rattle.element_state.specs.Kept.{KeptThroughout};
 ghost use Rattle.element_state.specs.States.{Opens, is_worn};
 ghost use Rattle.element_state.specs.Written.{IsWithin, map_cost};
 ghost use Rattle.kvs_store.specs.Storages.{IsKvs, index_in, session_of, shape_of, view_in};
-ghost use Rattle.kvs_store.specs.Synced.{HandsBack, IsDeviceFault, IsSynced, settled};
+ghost use Rattle.kvs_store.specs.Synced.{HandsBack, IsDeviceFault, settled, synced_view};
 
 use crate::storages::Kvs;
 use disk_model::Disk;
 use element_laws::untouched_is_kept;
-use element_maps::changes_make_maps;
+use element_maps::{changes_make_maps, syncs_are_decided};
 use element_store::CommitFault;
 
 /// Why a sync gave up.
@@ -47,7 +46,7 @@ impl Kvs {
         ensures in_use { IfOk result (IsKvs D.told (D.medium disk.new).image) }
         ensures session { IfOk result (λ kvs. session_of kvs ≡ settled (session_of self)) }
         ensures shape { IfOk result (λ kvs. shape_of kvs ≡ shape_of self) }
-        ensures view { IfOk result (λ kvs. IsSynced (shape_of self) (session_of self) (view_in self) (view_in kvs)) }
+        ensures view { IfOk result (λ kvs. view_in kvs ≡ synced_view self) }
 
         // Where the maps are equal nothing happens.
         ensures unchanged { (session_of self).synced ≡ (session_of self).visible → (result ≡ Ok self) × (disk.new ≡ disk.old) }
@@ -70,8 +69,8 @@ impl Kvs {
         ensures outside { IsTrue D.told → Quiet (D.medium disk.old)
             → EachCase (IsSettledOn (IsOutside (shape_of self).place.first (shape_of self).place.copies) (D.medium disk.old).image)
             (D.medium disk.old) (D.medium disk.new) }
-        ensures any_moment { IsTrue D.told → (after : View) → IsSynced (shape_of self) (session_of self) (view_in self) after
-            → KeptThroughout (shape_of self) (Opens after []) (D.medium disk.old) (D.medium disk.new) }
+        ensures any_moment { IsTrue D.told
+            → KeptThroughout (shape_of self) (Opens (synced_view self) []) (D.medium disk.old) (D.medium disk.new) }
 
         // In each copy the keys that differ, and the index.
         ensures written { IfOk result (λ kvs. IsWithin (shape_of self).place.copies
@@ -81,6 +80,7 @@ impl Kvs {
     {
         untouched_is_kept();
         changes_make_maps();
+        syncs_are_decided();
         self.store.holds();
         self.session.holds();
         if !self.session.has_changes() {

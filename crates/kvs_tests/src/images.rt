@@ -1,38 +1,49 @@
-//! Damage, and texts written straight into the files of a storage.
+//! Damage, and texts written straight into the files of a storage. Each copy of `fav` has two slots and an area: files 1024, 1025 and
+//! 1026, and the others four files on.
 
-use disk_model::{Disk, MemDisk};
+use crate::answers::CaseError;
+use disk_model::{Disk, DiskFailed, MemDisk};
 use hash_guard::seal;
-use std::alloc::Global;
-use std::test::Fail;
+use std::alloc::{AllocError, Global};
 
-/// The disk with each of these files damaged.
-pub(crate) fn damaged(alloc: Global, mut disk: MemDisk, files: &[u32]) -> Result<MemDisk, Fail> {
-    for file in files {
-        complement(alloc, &mut disk, *file)?;
+/// Replaces each of the first bytes of these files, at most 1,024 of each, by its complement, and makes that durable.
+pub(crate) fn damage(alloc: Global, disk: &mut MemDisk, files: &str) -> Result<(), CaseError> {
+    for file in files.split(',') {
+        let file = file.parse::<u32>().unwrap_or(0);
+        complement(alloc, disk, file)?;
     }
-    Ok(disk)
+    made(disk.sync())
 }
 
-// Replaces each of the first bytes of a file, at most 1,024, by its complement, and makes that durable.
-fn complement(alloc: Global, disk: &mut MemDisk, file: u32) -> Result<(), Fail> {
+fn complement(alloc: Global, disk: &mut MemDisk, file: u32) -> Result<(), CaseError> {
     let mut room = [0; 1024];
-    let count = disk.read(file, 0, &mut room)?;
-    let mut damaged = Vec::new(alloc);
-    for byte in &room[..count] {
-        damaged.push(!*byte)?;
+    let count = disk.read(file, 0, &mut room).unwrap_or(0);
+    let damaged = complements(alloc, &room[..count])?;
+    made(disk.write_at(file, 0, &damaged))
+}
+
+fn complements(alloc: Global, bytes: &[u8]) -> Result<Vec<u8>, AllocError> {
+    let mut complements = Vec::new(alloc);
+    for byte in bytes {
+        complements.push(!*byte)?;
     }
-    disk.write_at(file, 0, &damaged)?;
-    disk.sync()?;
-    Ok(())
+    Ok(complements)
 }
 
 /// A disk with `fav` in three copies, empty and under the greatest generation.
-pub(crate) fn worn(alloc: Global) -> Result<MemDisk, Fail> {
+pub(crate) fn worn(alloc: Global) -> Result<MemDisk, CaseError> {
     let mut disk = MemDisk::new(alloc);
     let text = seal(alloc, u64::MAX, &[2, 1, 0, 0])?;
     for slot in [1025, 1029, 1033] {
-        disk.write_at(slot, 0, &text)?;
+        made(disk.write_at(slot, 0, &text))?;
     }
-    disk.sync()?;
+    made(disk.sync())?;
     Ok(disk)
+}
+
+fn made(outcome: Result<(), DiskFailed>) -> Result<(), CaseError> {
+    match outcome {
+        Ok(()) => Ok(()),
+        Err(_) => Err(CaseError::Case("the disk failed")),
+    }
 }

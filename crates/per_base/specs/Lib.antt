@@ -1,5 +1,8 @@
 pub mod Causes
 pub mod Errors
+pub mod FieldLaws
+pub mod FieldLoops
+pub mod Fields
 pub mod Maps
 pub mod Modes
 pub mod Names

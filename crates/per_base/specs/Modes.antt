@@ -1,10 +1,17 @@
 -- The flags of an opening, read off the bits of the set: 1, 2, 4 and 8.
-use Rattle.std.specs.Prelude.{ℕ, Bool, ◌==◌}
+use Rattle.std.specs.Prelude.{◌≡◌, ℕ, Bool, true, false, ◌==◌, refl}
 use Rattle.std.specs.Int.RustNames.{bit_and}
 use Rattle.per_base.specs.declared.opening.OpenMode.{OpenMode}
 
 abbrev pub bits_of : OpenMode → ℕ
 bits_of mode = mode.0
+
+-- no flag, and the one that empties the file
+abbrev pub plain : OpenMode
+plain = record { 0 = 0 }
+
+abbrev pub truncating : OpenMode
+truncating = record { 0 = 4 }
 
 abbrev pub at_beginning : OpenMode → Bool
 at_beginning mode = bit_and (bits_of mode) 1 == 1
@@ -17,3 +24,15 @@ truncates mode = bit_and (bits_of mode) 4 == 4
 
 abbrev pub appends : OpenMode → Bool
 appends mode = bit_and (bits_of mode) 8 == 8
+
+plain_has_none : bits_of plain ≡ 0
+plain_has_none = refl
+
+plain_leaves : truncates plain ≡ false
+plain_leaves = refl
+
+truncating_has_one : bits_of truncating ≡ 4
+truncating_has_one = refl
+
+truncating_empties : truncates truncating ≡ true
+truncating_empties = refl

@@ -1,6 +1,7 @@
 -- What the streams in memory know of themselves: a source with the bytes that are left, a sink with the bytes that it took.
-use Rattle.std.specs.Prelude.{ℕ, List, Bool, nat_eq}
+use Rattle.std.specs.Prelude.{◌≡◌, ℕ, List, Bool, IsTrue, IsFalse, nat_eq}
 use Rattle.std.specs.List.{list_any}
+use Rattle.per_base.specs.Causes.{raised}
 
 pub record SourceState : Type 0 where
   pub left : List ℕ
@@ -25,3 +26,10 @@ pub record SinkState : Type 0 where
 -- whether the plan lets the call of this number fail
 abbrev pub is_failing : List ℕ → ℕ → Bool
 is_failing failing call = list_any (λ n. nat_eq n call) failing
+
+-- a failure of a sink that the plan has, and one for want of memory
+abbrev pub FailsAsPlanned : SinkState → SinkState → Type 0
+FailsAsPlanned old new = IsTrue (is_failing old.failing old.calls) × (new.starved ≡ old.starved)
+
+abbrev pub FailsForWant : SinkState → SinkState → Type 0
+FailsForWant old new = IsFalse (is_failing old.failing old.calls) × (new.starved ≡ raised old.starved)

@@ -147,6 +147,9 @@ impl Fresh {
     }
 }
 
+/// The bytes of a block of an area, in which contents lie.
+pub const BLOCK: usize = 256;
+
 /// No element is larger, in bytes: 255 for the name and what a `u32` counts.
 pub const ENTRY_SIZE: u64 = 255 + 4_294_967_295;
 

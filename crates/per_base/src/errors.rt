@@ -1,7 +1,10 @@
 //! The errors that calls answer, and what they carry.
 
+ghost use Rattle.std.specs.Prelude.{◌≡◌, IfOk};
+
 use crate::lists::ValueText;
 use crate::names::Name;
+use std::alloc::AllocError;
 
 /// What is damaged.
 #[derive(Debug, Drop)]
@@ -99,4 +102,86 @@ pub enum PerError {
     ExportRejected,
     /// Memory ran out; it has no number and no reply.
     OutOfMemory,
+}
+
+impl Unit {
+    /// A copy that is equal in all.
+    pub fn copy(&self) -> Result<Unit, AllocError>
+        ensures { IfOk result (λ copy. copy ≡ self.now) }
+    {
+        match self {
+            Unit::Root => Ok(Unit::Root),
+            Unit::Whole(storage) => Ok(Unit::Whole(storage.copy()?)),
+            Unit::Part(storage, element) => {
+                let storage = storage.copy()?;
+                Ok(Unit::Part(storage, element.copy()?))
+            }
+        }
+    }
+}
+
+impl Holder {
+    /// A copy that is equal in all.
+    pub fn copy(&self) -> Result<Holder, AllocError>
+        ensures { IfOk result (λ copy. copy ≡ self.now) }
+    {
+        match self {
+            Holder::Storage(name) => Ok(Holder::Storage(name.copy()?)),
+            Holder::Handle(number) => Ok(Holder::Handle(*number)),
+            Holder::Update(version) => Ok(Holder::Update(*version)),
+        }
+    }
+}
+
+impl PerError {
+    /// A copy that is equal in all.
+    pub fn copy(&self) -> Result<PerError, AllocError>
+        ensures { IfOk result (λ copy. copy ≡ self.now) }
+    {
+        match self {
+            PerError::IntegrityCorrupted { unit } => Ok(PerError::IntegrityCorrupted {
+                unit: unit.copy()?,
+            }),
+            PerError::DataTypeMismatch { stored, asked } => {
+                let stored = stored.copy()?;
+                let asked = asked.copy()?;
+                Ok(PerError::DataTypeMismatch { stored, asked })
+            }
+            PerError::ResourceBusy { holder } => Ok(PerError::ResourceBusy {
+                holder: holder.copy()?,
+            }),
+            PerError::OutOfStorageSpace { needed, allowed } => Ok(PerError::OutOfStorageSpace {
+                needed: *needed,
+                allowed: *allowed,
+            }),
+            PerError::ManifestRejected { rule } => Ok(PerError::ManifestRejected { rule: *rule }),
+            PerError::LimitReached { which } => Ok(PerError::LimitReached { which: *which }),
+            PerError::UpdateNotFinished { previous } => Ok(PerError::UpdateNotFinished {
+                previous: *previous,
+            }),
+            PerError::VersionNotNewer { active, offered } => Ok(PerError::VersionNotNewer {
+                active: *active,
+                offered: *offered,
+            }),
+            PerError::StorageNotFound => Ok(PerError::StorageNotFound),
+            PerError::KeyNotFound => Ok(PerError::KeyNotFound),
+            PerError::IllegalWriteAccess => Ok(PerError::IllegalWriteAccess),
+            PerError::PhysicalStorageFailure => Ok(PerError::PhysicalStorageFailure),
+            PerError::InitValueNotAvailable => Ok(PerError::InitValueNotAvailable),
+            PerError::FileNotFound => Ok(PerError::FileNotFound),
+            PerError::InvalidPosition => Ok(PerError::InvalidPosition),
+            PerError::IsEof => Ok(PerError::IsEof),
+            PerError::InvalidOpenMode => Ok(PerError::InvalidOpenMode),
+            PerError::InvalidSize => Ok(PerError::InvalidSize),
+            PerError::NotInstalled => Ok(PerError::NotInstalled),
+            PerError::AlreadyInstalled => Ok(PerError::AlreadyInstalled),
+            PerError::NoPreviousVersion => Ok(PerError::NoPreviousVersion),
+            PerError::NotOpen => Ok(PerError::NotOpen),
+            PerError::IllegalReadAccess => Ok(PerError::IllegalReadAccess),
+            PerError::BadName => Ok(PerError::BadName),
+            PerError::NoUpdateInProgress => Ok(PerError::NoUpdateInProgress),
+            PerError::ExportRejected => Ok(PerError::ExportRejected),
+            PerError::OutOfMemory => Ok(PerError::OutOfMemory),
+        }
+    }
 }

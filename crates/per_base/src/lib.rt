@@ -1,15 +1,16 @@
 //! The words that every crate of `per` shares.
 //!
 //! Names of storages, keys and files; the small types for bytes, texts and lists that contracts see as plain lists; elements with
-//! their contents and infos; errors, reports and modes of opening; and the two streams of the outside, a source of bytes and a
-//! sink for bytes, each with a count of faults that never falls.
+//! their contents and infos; errors, reports and modes of opening; readers of the bytes and numbers at the front of a text; and
+//! the two streams of the outside, a source of bytes and a sink for bytes, each with a count of faults that never falls.
 //!
-//! Nothing here touches a disk. The promises are the grammar of names, sums that do not overflow within the limits, and that a
-//! stream answers its failure only where its count of faults rose.
+//! Nothing here touches a disk. The promises are the grammar of names, sums that do not overflow within the limits, that a reader
+//! takes exactly the texts of what it gives, and that a stream answers its failure only where its count of faults rose.
 #![tactic(auto)]
 
 mod elements;
 mod errors;
+mod fields;
 mod lists;
 mod memory_streams;
 mod names;
@@ -18,10 +19,11 @@ mod reports;
 mod streams;
 
 pub use elements::{
-    Cause, Content, ENTRY_SIZE, Element, Entry, FileInfo, Fresh, Scope, StoreKind, element_size,
-    storage_size,
+    BLOCK, Cause, Content, ENTRY_SIZE, Element, Entry, FileInfo, Fresh, Scope, StoreKind,
+    element_size, storage_size,
 };
 pub use errors::{Holder, Limit, PerError, Unit};
+pub use fields::{Ended, byte_of, bytes_of, u16_of, u32_of, u64_of};
 pub use lists::{Bytes, Numbers, Sequence, ValueText};
 pub use memory_streams::{MemSink, MemSource};
 pub use names::Name;

@@ -1,9 +1,9 @@
 //! Streams in memory, which tell all that they hold and fail by a plan: for tests.
 
-ghost use Rattle.std.specs.Prelude.{◌≡◌, ◌<◌, ◌≤◌, ◌+◌, ◌-◌, ◌^◌, ℕ, [], ◌++◌, Some, IfOk, is_err, IsTrue, OnErr, IsErr, ◌⊎◌, is_some, length, min, take};
+ghost use Rattle.std.specs.Prelude.{◌≡◌, ◌<◌, ◌≤◌, [], Some, IfOk, is_err, IsTrue, OnErr, IsErr, ◌⊎◌, is_some, length, min, take};
 ghost use Rattle.std.specs.Io.KnownBytes.{ReadConsumes, WriteAppends};
-ghost use Rattle.per_base.specs.Causes.{HasCause, Rose};
-ghost use Rattle.per_base.specs.Streams.{is_failing};
+ghost use Rattle.per_base.specs.Causes.{HasCause, Rose, raised};
+ghost use Rattle.per_base.specs.Streams.{FailsAsPlanned, FailsForWant, is_failing};
 
 use crate::streams::{Failed, Sink, Source};
 use std::alloc::Global;
@@ -60,11 +60,12 @@ impl Source for MemSource {
         ensures bytes { ReadConsumes (Some self.old.left) (Some self.new.left) result out.new }
         ensures told { is_some (Some self.new.left) ≡ is_some (Some self.old.left) }
         ensures cause { HasCause self.old.faults self.new.faults result }
-        // As much as there is, up to the piece, and a failure exactly where the plan has one.
+        // As much as there is, up to the piece, and a failure exactly where the plan has one. No other call counts as a fault.
         ensures count { IfOk result (λ n. n ≡ min (min self.old.piece (length out.new)) (length self.old.left)) }
         ensures fails { is_failing self.old.failing self.old.calls ≡ is_err result }
+        ensures clean { IfOk result (λ n. self.new.faults ≡ self.old.faults) }
         ensures plan { (self.new.piece ≡ self.old.piece) × (self.new.failing ≡ self.old.failing) }
-        ensures calls { self.new.calls ≡ min (self.old.calls + 1) (2 ^ 64 - 1) }
+        ensures calls { self.new.calls ≡ raised self.old.calls }
     {
         let call = self.calls;
         self.calls = call.saturating_add(1);
@@ -152,12 +153,14 @@ impl Sink for MemSink {
         ensures told { is_some (Some self.new.written) ≡ is_some (Some self.old.written) }
         ensures cause { HasCause self.old.faults self.new.faults result }
         ensures stuck { IfOk result (λ n. n ≡ 0 → 0 < length bytes.now → Rose self.old.faults self.new.faults) }
-        // As much as there is, up to the piece, and a failure only where the plan has one or memory ran out.
+        // As much as there is, up to the piece, and a failure only where the plan has one or memory ran out, which is counted.
         ensures count { IfOk result (λ n. n ≡ min self.old.piece (length bytes.now)) }
         ensures planned { IsTrue (is_failing self.old.failing self.old.calls) → IsErr result }
-        ensures fails { OnErr result (IsTrue (is_failing self.old.failing self.old.calls) ⊎ Rose self.old.starved self.new.starved) }
+        ensures fails { OnErr result (FailsAsPlanned self.old self.new ⊎ FailsForWant self.old self.new) }
+        ensures fed { IfOk result (λ n. self.new.starved ≡ self.old.starved) }
+        ensures clean { IfOk result (λ n. (0 < n) ⊎ (length bytes.now ≡ 0) → self.new.faults ≡ self.old.faults) }
         ensures plan { (self.new.piece ≡ self.old.piece) × (self.new.failing ≡ self.old.failing) }
-        ensures calls { self.new.calls ≡ min (self.old.calls + 1) (2 ^ 64 - 1) }
+        ensures calls { self.new.calls ≡ raised self.old.calls }
     {
         let call = self.calls;
         self.calls = call.saturating_add(1);

@@ -1,18 +1,13 @@
 //! The program `per`: one folder, standard input and standard output.
 //!
 //! `per --dir DIR` handles the lines of standard input on the storage that lies in the folder, and ends with the status of
-//! [`per_run::per_run`]. Here stand only the three ends that the program is tied to the system by, a folder as a disk, standard
-//! input as a source and standard output as a sink, each of which counts its failures and tells nothing of its content.
+//! [`per_run::per_run`], over the three ends of [`per_system`].
 //!
 //! Two statuses are main's own: 4 where the words find no memory, and 12 where the system does not give them.
 #![tactic(auto)]
 
-mod folder;
-mod standard;
-
-use folder::DirDisk;
 use per_run::{per_run, read_words};
-use standard::{StdSink, StdSource};
+use per_system::{DirDisk, StdSink, StdSource};
 use std::alloc::{AllocError, Global};
 use std::process::ExitCode;
 use std::{env, io};

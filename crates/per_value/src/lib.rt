@@ -11,6 +11,7 @@
 
 mod conversion;
 mod favourite;
+mod laws;
 mod lists;
 mod members;
 mod round_trips;
@@ -21,5 +22,6 @@ mod unsigned;
 
 pub use conversion::PerValue;
 pub use favourite::Favourite;
+pub use laws::{favourites_have_trees, lists_have_trees, scalars_have_trees};
 pub use members::{first_member, last_member};
 pub use round_trips::{back_and_forth, there_and_back};

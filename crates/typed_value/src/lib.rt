@@ -10,7 +10,7 @@
 #![tactic(auto)]
 
 pub use value_code::{
-    decode, decoded_is_exact, encode, encoding_lengths, one_value, type_in_front,
+    decode, decoded_is_exact, encode, encodes, encoding_lengths, one_value, type_in_front,
 };
 pub use value_model::{
     DecodeError, MAX_DEPTH, MAX_LENGTH, MAX_MEMBERS, Node, Value, ValueError, ValueType,

@@ -1,5 +1,5 @@
 -- What bytes say, read from left to right: a kind, a tree of a kind that is known, and the value that all of them encode.
-use Rattle.std.specs.Prelude.{◌≡◌, ℕ, zero, suc, List, [], ◌∷◌, length, take, drop, Bool, true, false, nat_eq, nat_lt, Option, Some, None, Result, Ok, Err, if◌then◌else◌}
+use Rattle.std.specs.Prelude.{◌≡◌, ℕ, zero, suc, List, [], ◌∷◌, length, take, drop, Bool, true, false, nat_eq, nat_lt, Option, Some, None, is_some, Result, Ok, Err, if◌then◌else◌}
 use Rattle.std.specs.Int.{Width, w32, byte_len, from_le_bytes, cast_signed}
 use Rattle.std.specs.Str.{is_utf8}
 use Rattle.value_model.specs.declared.errors.DecodeError.{DecodeError}
@@ -122,3 +122,7 @@ if_whole t = if nat_eq (length t.1) 0 then Some t.0 else None
 -- the value that the bytes encode, where there is one
 unfoldable pub decoded : List ℕ → Option Tree
 decoded bytes = if nat_lt max_length (length bytes) then None else (kind_at max_depth bytes >>= λ k. tree_at k.0 k.1 >>= if_whole)
+
+-- whether some value encodes to the bytes
+abbrev pub is_encoding : List ℕ → Bool
+is_encoding bytes = is_some (decoded bytes)

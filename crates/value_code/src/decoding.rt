@@ -1,7 +1,7 @@
 //! Reading values.
 
 ghost use Rattle.std.specs.Prelude.{◌≡◌, ◌≢◌, IfOk};
-ghost use Rattle.value_code.specs.Reading.{Gives, decoded};
+ghost use Rattle.value_code.specs.Reading.{Gives, decoded, is_encoding};
 ghost use Rattle.value_model.specs.Encoding.{encoding};
 ghost use Rattle.value_model.specs.Trees.{Tree};
 ghost use Rattle.value_model.specs.Validity.{IsValue};
@@ -9,7 +9,7 @@ ghost use Rattle.value_model.specs.Views.{tree_of};
 
 use crate::trees::node_at;
 use crate::types::type_at;
-use std::alloc::Global;
+use std::alloc::{AllocError, Global};
 use value_model::{DecodeError, MAX_DEPTH, MAX_LENGTH, Node, Value};
 
 /// The value that the bytes encode, all of the bytes.
@@ -24,6 +24,17 @@ pub fn decode(alloc: Global, bytes: &[u8]) -> Result<Value, DecodeError>
     ensures exact { Gives (λ v. v) result (decoded bytes.now) }
 {
     value_of(alloc, bytes)
+}
+
+/// Whether some value encodes to the bytes, all of the bytes.
+pub fn encodes(alloc: Global, bytes: &[u8]) -> Result<bool, AllocError>
+    ensures { IfOk result (λ answer. answer ≡ is_encoding bytes.now) }
+{
+    match decode(alloc, bytes) {
+        Ok(_) => Ok(true),
+        Err(DecodeError::NotAValue) => Ok(false),
+        Err(DecodeError::OutOfMemory) => Err(AllocError),
+    }
 }
 
 fn value_of(alloc: Global, bytes: &[u8]) -> Result<Value, DecodeError>

@@ -68,6 +68,14 @@ impl Value {
         Ok(Value { node })
     }
 
+    /// A copy of the value.
+    pub fn copy(&self, alloc: Global) -> Result<Value, AllocError>
+        ensures { IfOk result (λ copy. copy ≡ self.now) }
+    {
+        let node = self.node.copy(alloc)?;
+        Ok(Value { node })
+    }
+
     /// The value's type.
     pub fn value_type(&self, alloc: Global) -> Result<ValueType, AllocError>
         ensures { IfOk result (λ t. kind_of t ≡ type_of self.now) }

@@ -8,7 +8,7 @@ use Rattle.element_store.proofs.Moments.{first_kept, second_kept, third_kept, sl
 use Rattle.element_store.proofs.opening.open_store.Goals as goal
 
 pub returns-in_err-seen-clause-any_moment : goal.returns-in_err-seen-clause-any_moment
-returns-in_err-seen-clause-any_moment g c = λ tells quiet clean after x past chance. first_kept c.args.shape (g.D.Disk.medium c.args.disk.now) (g.D.Disk.medium c.prepare.new.disk) c.requires clean (c.in_err-seen.ensures.idle quiet) c.untouched_is_kept.ensures.untouched after x past
+returns-in_err-seen-clause-any_moment g c = λ tells after quiet clean x past. first_kept c.args.shape (g.D.Disk.medium c.args.disk.now) (g.D.Disk.medium c.prepare.new.disk) c.requires clean (c.in_err-seen.ensures.idle quiet) c.untouched_is_kept.ensures.untouched after x past
 
 pub returns-in_err-cell-clause-elsewhere : goal.returns-in_err-cell-clause-elsewhere
 returns-in_err-cell-clause-elsewhere g c = λ tells. slots_outside c.args.shape.place.first c.args.shape.place.copies (g.D.Disk.medium c.args.disk.now) (g.D.Disk.medium c.prepare.new.disk) (g.D.Disk.medium c.adopt.new.disk) c.in_ok-seen.ensures.image (c.in_err-cell.ensures.elsewhere tells)
@@ -17,7 +17,7 @@ pub returns-in_err-cell-clause-outside : goal.returns-in_err-cell-clause-outside
 returns-in_err-cell-clause-outside g c = λ tells quiet. second_outside c.args.shape.place.first c.args.shape.place.copies c.in_ok-seen.field-0.seen.generation c.as_slice.result.now (g.D.Disk.medium c.args.disk.now) (g.D.Disk.medium c.prepare.new.disk) (g.D.Disk.medium c.adopt.new.disk) (c.in_ok-seen.ensures.idle quiet) c.in_ok-seen.ensures.time c.in_err-cell.ensures.time (c.in_err-cell.ensures.any_moment tells c.in_ok-seen.ensures.quiet)
 
 pub returns-in_err-cell-clause-any_moment : goal.returns-in_err-cell-clause-any_moment
-returns-in_err-cell-clause-any_moment g c = λ tells quiet clean after x past chance. second_kept c.args.shape (g.D.Disk.medium c.args.disk.now) (g.D.Disk.medium c.prepare.new.disk) c.requires clean (c.in_ok-seen.ensures.idle quiet) c.untouched_is_kept.ensures.untouched after
+returns-in_err-cell-clause-any_moment g c = λ tells after quiet clean x past. second_kept c.args.shape (g.D.Disk.medium c.args.disk.now) (g.D.Disk.medium c.prepare.new.disk) c.requires clean (c.in_ok-seen.ensures.idle quiet) c.untouched_is_kept.ensures.untouched after
     (g.D.Disk.medium c.adopt.new.disk) c.adopting_keeps.ensures.adopt c.in_ok-seen.field-0.seen.generation c.as_slice.result.now c.in_ok-seen.field-0.index (opening_opens (g.D.Disk.medium c.args.disk.now).image c.args.shape c.in_ok-seen.field-0 c.as_slice.result.now (c.in_ok-seen.ensures.found tells) c.as_slice.ensures c.use_is_adopted.ensures.opened) c.in_ok-seen.ensures.time c.in_err-cell.ensures.time (c.in_err-cell.ensures.any_moment tells c.in_ok-seen.ensures.quiet) x past
 
 pub returns-in_err-mend_durably-clause-elsewhere : goal.returns-in_err-mend_durably-clause-elsewhere
@@ -28,11 +28,11 @@ returns-in_err-mend_durably-clause-outside g c = λ tells quiet. third_outside c
     c.args.shape refl refl (g.D.Disk.medium c.mend_durably.new.disk) c.in_ok-seen.field-0.index c.as_slice-2.result.now (opening_shown (g.D.Disk.medium c.args.disk.now).image c.args.shape c.in_ok-seen.field-0 c.as_slice-2.result.now (c.in_ok-seen.ensures.found tells) c.as_slice-2.ensures) (c.in_ok-cell.ensures.elsewhere tells) c.in_err-mend_durably.ensures.time (c.in_err-mend_durably.ensures.during tells)
 
 pub returns-in_err-mend_durably-clause-any_moment : goal.returns-in_err-mend_durably-clause-any_moment
-returns-in_err-mend_durably-clause-any_moment g c = λ tells quiet clean after x past chance. third_kept c.args.shape (g.D.Disk.medium c.args.disk.now) (g.D.Disk.medium c.prepare.new.disk) c.requires clean (c.in_ok-seen.ensures.idle quiet) c.untouched_is_kept.ensures.untouched after
+returns-in_err-mend_durably-clause-any_moment g c = λ tells after quiet clean x past. third_kept c.args.shape (g.D.Disk.medium c.args.disk.now) (g.D.Disk.medium c.prepare.new.disk) c.requires clean (c.in_ok-seen.ensures.idle quiet) c.untouched_is_kept.ensures.untouched after
     (g.D.Disk.medium c.adopt.new.disk) c.adopting_keeps.ensures.adopt c.in_ok-seen.field-0.seen.generation c.as_slice.result.now c.in_ok-seen.field-0.index (opening_opens (g.D.Disk.medium c.args.disk.now).image c.args.shape c.in_ok-seen.field-0 c.as_slice.result.now (c.in_ok-seen.ensures.found tells) c.as_slice.ensures c.use_is_adopted.ensures.opened) c.in_ok-seen.ensures.time c.in_ok-cell.ensures.time (c.in_ok-cell.ensures.any_moment tells c.in_ok-seen.ensures.quiet)
     (g.D.Disk.medium c.mend_durably.new.disk) c.mending_keeps.ensures.mend c.as_slice-2.result.now c.in_ok-seen.ensures.ready.text.index.rules (opening_shown (g.D.Disk.medium c.args.disk.now).image c.args.shape c.in_ok-seen.field-0 c.as_slice-2.result.now (c.in_ok-seen.ensures.found tells) c.as_slice-2.ensures)
     (opening_alone (g.D.Disk.medium c.adopt.new.disk).image c.args.shape c.in_ok-seen.field-0.seen.generation c.in_ok-cell.cell c.as_slice.result.now c.in_ok-cell.ensures.cell (c.in_ok-cell.ensures.held tells)) (c.in_ok-cell.ensures.elsewhere tells)
-    c.in_err-mend_durably.ensures.time (c.in_err-mend_durably.ensures.during tells) x past (chance (c.in_ok-seen.field-0.seen, c.in_ok-seen.field-0.index) (c.in_ok-seen.ensures.found tells).first)
+    c.in_err-mend_durably.ensures.time (c.in_err-mend_durably.ensures.during tells) x past
 
 pub returns-clause-elsewhere : goal.returns-clause-elsewhere
 returns-clause-elsewhere g c = λ tells. both_outside c.args.shape.place.first c.args.shape.place.copies (g.D.Disk.medium c.args.disk.now) (g.D.Disk.medium c.prepare.new.disk) (g.D.Disk.medium c.adopt.new.disk) c.in_ok-seen.ensures.image (c.in_ok-cell.ensures.elsewhere tells) (g.D.Disk.medium c.mend_durably.new.disk).image (c.in_ok-mend_durably.ensures.elsewhere tells)
@@ -42,11 +42,11 @@ returns-clause-outside g c = λ tells quiet. third_outside c.args.shape.place.fi
     c.args.shape refl refl (g.D.Disk.medium c.mend_durably.new.disk) c.in_ok-seen.field-0.index c.as_slice-2.result.now (opening_shown (g.D.Disk.medium c.args.disk.now).image c.args.shape c.in_ok-seen.field-0 c.as_slice-2.result.now (c.in_ok-seen.ensures.found tells) c.as_slice-2.ensures) (c.in_ok-cell.ensures.elsewhere tells) c.in_ok-mend_durably.ensures.time (c.in_ok-mend_durably.ensures.during tells)
 
 pub returns-clause-any_moment : goal.returns-clause-any_moment
-returns-clause-any_moment g c = λ tells quiet clean after x past chance. third_kept c.args.shape (g.D.Disk.medium c.args.disk.now) (g.D.Disk.medium c.prepare.new.disk) c.requires clean (c.in_ok-seen.ensures.idle quiet) c.untouched_is_kept.ensures.untouched after
+returns-clause-any_moment g c = λ tells after quiet clean x past. third_kept c.args.shape (g.D.Disk.medium c.args.disk.now) (g.D.Disk.medium c.prepare.new.disk) c.requires clean (c.in_ok-seen.ensures.idle quiet) c.untouched_is_kept.ensures.untouched after
     (g.D.Disk.medium c.adopt.new.disk) c.adopting_keeps.ensures.adopt c.in_ok-seen.field-0.seen.generation c.as_slice.result.now c.in_ok-seen.field-0.index (opening_opens (g.D.Disk.medium c.args.disk.now).image c.args.shape c.in_ok-seen.field-0 c.as_slice.result.now (c.in_ok-seen.ensures.found tells) c.as_slice.ensures c.use_is_adopted.ensures.opened) c.in_ok-seen.ensures.time c.in_ok-cell.ensures.time (c.in_ok-cell.ensures.any_moment tells c.in_ok-seen.ensures.quiet)
     (g.D.Disk.medium c.mend_durably.new.disk) c.mending_keeps.ensures.mend c.as_slice-2.result.now c.in_ok-seen.ensures.ready.text.index.rules (opening_shown (g.D.Disk.medium c.args.disk.now).image c.args.shape c.in_ok-seen.field-0 c.as_slice-2.result.now (c.in_ok-seen.ensures.found tells) c.as_slice-2.ensures)
     (opening_alone (g.D.Disk.medium c.adopt.new.disk).image c.args.shape c.in_ok-seen.field-0.seen.generation c.in_ok-cell.cell c.as_slice.result.now c.in_ok-cell.ensures.cell (c.in_ok-cell.ensures.held tells)) (c.in_ok-cell.ensures.elsewhere tells)
-    c.in_ok-mend_durably.ensures.time (c.in_ok-mend_durably.ensures.during tells) x past (chance (c.in_ok-seen.field-0.seen, c.in_ok-seen.field-0.index) (c.in_ok-seen.ensures.found tells).first)
+    c.in_ok-mend_durably.ensures.time (c.in_ok-mend_durably.ensures.during tells) x past
 
 pub returns-clause-view : goal.returns-clause-view
 returns-clause-view g c = opening_view g.D.Disk.told (g.D.Disk.medium c.args.disk.now).image (g.D.Disk.medium c.adopt.new.disk).image (g.D.Disk.medium c.mend_durably.new.disk).image c.args.shape c.in_ok-seen.field-0 c.in_ok-cell.cell c.as_slice.result.now

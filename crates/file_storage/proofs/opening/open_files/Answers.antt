@@ -16,12 +16,12 @@ use Rattle.file_storage.proofs.Stored.{files_are, is_shape, opened_map, opened_r
 use Rattle.file_storage.proofs.opening.open_files.Goals as goal
 
 pub returns-in_err-name-clause-any_moment : goal.returns-in_err-name-clause-any_moment
-returns-in_err-name-clause-any_moment g c = λ tells quiet clean after x past chance. none_kept c.untouched_is_kept.ensures.untouched g.D.Disk.told c.args.shape after (g.D.Disk.medium c.args.disk.now)
-    (is_shape (storage_data c.args.config.now) c.args.shape c.requires.valid c.requires.configured) (g.met.D.Disk.lawful c.args.disk.now) quiet clean x past
+returns-in_err-name-clause-any_moment g c = λ tells after. none_kept c.untouched_is_kept.ensures.untouched g.D.Disk.told c.args.shape after (g.D.Disk.medium c.args.disk.now)
+    (is_shape (storage_data c.args.config.now) c.args.shape c.requires.valid c.requires.configured) (g.met.D.Disk.lawful c.args.disk.now)
 
 pub returns-in_err-config-clause-any_moment : goal.returns-in_err-config-clause-any_moment
-returns-in_err-config-clause-any_moment g c = λ tells quiet clean after x past chance. none_kept c.untouched_is_kept.ensures.untouched g.D.Disk.told c.args.shape after (g.D.Disk.medium c.args.disk.now)
-    (is_shape (storage_data c.args.config.now) c.args.shape c.requires.valid c.requires.configured) (g.met.D.Disk.lawful c.args.disk.now) quiet clean x past
+returns-in_err-config-clause-any_moment g c = λ tells after. none_kept c.untouched_is_kept.ensures.untouched g.D.Disk.told c.args.shape after (g.D.Disk.medium c.args.disk.now)
+    (is_shape (storage_data c.args.config.now) c.args.shape c.requires.valid c.requires.configured) (g.met.D.Disk.lawful c.args.disk.now)
 
 pub working_files-requires-clause-each : goal.working_files-requires-clause-each
 working_files-requires-clause-each g c = subst (λ es. AllByRecursion IsStoredFile es) (sym c.into_vec-entries.ensures)

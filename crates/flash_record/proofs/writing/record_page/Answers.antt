@@ -1,4 +1,5 @@
-use Rattle.std.proofs.Common.{rules, ◌≡◌, ap, ◌∙◌, length, Some, List, ℕ, ◌++◌}
+use Rattle.std.proofs.Common.{rules, ◌≡◌, ap, ◌∙◌, length, replicate, Some, List, ℕ, ◌++◌}
+use Rattle.std.proofs.lemmas.List.{drop_at}
 use Rattle.flash_record.specs.PageRecord.{body_record}
 use Rattle.flash_record.proofs.Bodies.{length-record_body, body_reads_back, record_in-text}
 use Rattle.flash_record.proofs.writing.record_page.Goals as goal
@@ -11,3 +12,11 @@ returns-clause-record c =
     (ap length c.write_body.ensures ∙ length-record_body c.args.file c.args.page c.args.len c.args.bytes.now long)
     ∙ ap (λ (b : List ℕ). Some (body_record c.args.sequence b)) c.write_body.ensures
     ∙ ap Some (body_reads_back c.args.sequence c.args.file c.args.page c.args.len c.args.bytes.now c.ranges.file.fits c.ranges.page.fits c.ranges.len.fits)
+
+pub returns-clause-behind : goal.returns-clause-behind
+returns-clause-behind c =
+    let text : List ℕ = c.seal_into.new.text in
+    let behind : List ℕ = c.split_at_mut-text.result.1.now in
+    let long : length text ≡ 316 = search rules in
+    let blank : behind ≡ replicate 196 255 = search rules in
+    drop_at text behind 316 long ∙ blank

@@ -1,9 +1,10 @@
 use Rattle.std.proofs.lemmas.Bool.{false≢true}
-use Rattle.std.proofs.Common.{arith}
+use Rattle.std.proofs.Common.{◌∙◌, length, ap, arith}
+use Rattle.hash_guard.specs.Laws.{length-sealed}
 use Rattle.disk_model.specs.Place.{IsNoSlot}
 use Rattle.disk_model.proofs.Moments.{goes_on, elapses_on}
 use Rattle.guarded_cell.specs.Stops.{FormatStops}
-use Rattle.guarded_cell.proofs.Putting.{chosen_elsewhere, spares_on}
+use Rattle.guarded_cell.proofs.Putting.{chosen_elsewhere, spares_on, format_written}
 use Rattle.guarded_cell.proofs.Flags.{all}
 use Rattle.guarded_cell.proofs.Anew.{format_first, format_second, format_third, text_alone}
 use Rattle.guarded_cell.proofs.formatting.format_in.Goals as goal
@@ -98,3 +99,15 @@ returns-clause-alone g c = λ tells.
     (g.D.Disk.medium c.write_fronts.new.disk).image (g.D.Disk.medium c.write_durably.new.disk).image
     (c.in_ok-write_fronts.ensures.put tells) (c.in_ok-write_durably.ensures.put tells) c.requires.short c.args.sealed_text.now c.requires.text
     (g.D.Disk.medium c.write_durably-2.new.disk).image (c.in_ok-write_durably-2.ensures.put tells)
+
+pub returns-in_err-write_durably-2-clause-written : goal.returns-in_err-write_durably-2-clause-written
+returns-in_err-write_durably-2-clause-written g c =
+    format_written c.args.place.copies (length c.args.text.now) (length c.args.sealed_text.now) (g.D.Disk.medium c.args.disk.now).written
+    (g.D.Disk.medium c.write_fronts.new.disk).written (g.D.Disk.medium c.write_durably.new.disk).written (g.D.Disk.medium c.write_durably-2.new.disk).written
+    (ap length c.requires.text ∙ length-sealed 1 c.args.text.now) c.write_fronts.ensures.written c.write_durably.ensures.written c.write_durably-2.ensures.written
+
+pub returns-clause-written : goal.returns-clause-written
+returns-clause-written g c =
+    format_written c.args.place.copies (length c.args.text.now) (length c.args.sealed_text.now) (g.D.Disk.medium c.args.disk.now).written
+    (g.D.Disk.medium c.write_fronts.new.disk).written (g.D.Disk.medium c.write_durably.new.disk).written (g.D.Disk.medium c.write_durably-2.new.disk).written
+    (ap length c.requires.text ∙ length-sealed 1 c.args.text.now) c.write_fronts.ensures.written c.write_durably.ensures.written c.write_durably-2.ensures.written

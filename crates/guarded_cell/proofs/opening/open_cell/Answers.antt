@@ -3,7 +3,7 @@ use Rattle.guarded_cell.specs.declared.looking.Seen.{Seen}
 use Rattle.guarded_cell.specs.Held.{standing}
 use Rattle.guarded_cell.specs.Seens.{IsSealable}
 use Rattle.guarded_cell.proofs.Seeing.{standing_is, found_all}
-use Rattle.guarded_cell.proofs.Opened.{open_still, open_later, stands_as}
+use Rattle.guarded_cell.proofs.Opened.{open_still, open_later, stands_as, opened_most}
 use Rattle.guarded_cell.proofs.Sparing.{right_since, right_for}
 use Rattle.guarded_cell.proofs.opening.open_cell.Goals as goal
 
@@ -72,3 +72,17 @@ returns-in_ok-opened-in-Some-clause-right g c = λ tells.
     right_for (standing old c.args.place.first c.args.place.copies c.args.m) seen c.args.place.first c.args.place.copies old new stands
     (right_since c.args.place.first c.args.place.copies seen.generation seen.text old (g.D.Disk.medium c.look.new.disk).image new
     c.look.ensures.image (c.open_at.ensures.right tells))
+
+pub returns-in_err-opened-in-Some-clause-at_most : goal.returns-in_err-opened-in-Some-clause-at_most
+returns-in_err-opened-in-Some-clause-at_most g c =
+    let enough : Seen → Bool = λ seen. nat_le c.args.m (length seen.copies) in
+    let sealable = found_all IsSealable enough c.in_ok-seens.seens.items c.in-Some.seen (sym c.standing_among.ensures ∙ c.in-Some.is) c.in_ok-seens.ensures.sealable in
+    opened_most c.args.place.copies (length c.in-Some.seen.text) (g.D.Disk.medium c.args.disk.now).written (g.D.Disk.medium c.look.new.disk).written
+    (g.D.Disk.medium c.open_at.new.disk).written c.look.ensures.written sealable.short c.open_at.ensures.written
+
+pub returns-in_ok-opened-in-Some-clause-at_most : goal.returns-in_ok-opened-in-Some-clause-at_most
+returns-in_ok-opened-in-Some-clause-at_most g c =
+    let enough : Seen → Bool = λ seen. nat_le c.args.m (length seen.copies) in
+    let sealable = found_all IsSealable enough c.in_ok-seens.seens.items c.in-Some.seen (sym c.standing_among.ensures ∙ c.in-Some.is) c.in_ok-seens.ensures.sealable in
+    opened_most c.args.place.copies (length c.in-Some.seen.text) (g.D.Disk.medium c.args.disk.now).written (g.D.Disk.medium c.look.new.disk).written
+    (g.D.Disk.medium c.open_at.new.disk).written c.look.ensures.written sealable.short c.open_at.ensures.written

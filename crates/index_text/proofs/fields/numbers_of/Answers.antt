@@ -1,13 +1,13 @@
 use Rattle.std.proofs.lemmas.Result.{err_from_is_err_and}
 use Rattle.std.specs.Int.{w32}
-use Rattle.index_text.specs.Reading.{many, number_at}
-use Rattle.index_text.proofs.Loop.{goes_on, ends, is_done}
+use Rattle.per_base.specs.Fields.{many, number_at}
+use Rattle.per_base.specs.FieldLoops.{goes_on, breaks_off, is_done}
 use Rattle.index_text.proofs.fields.numbers_of.Goals as goal
 
 pub returns-in_err-number : goal.returns-in_err-number
 returns-in_err-number c =
     let p = err_from_is_err_and c.from_residual.result c.from_residual.ensures.1 in
-    rw (p.1, p.2) (ends (number_at w32) c.in_err-number.field-0.0 c.loop.numbers.items c.args.count c.loop.counter c.loop.rest.now (many (number_at w32) c.args.count c.args.bytes.now) c.loop-test.true c.in_err-number.ensures c.loop.invariant)
+    rw (p.1, p.2) (breaks_off (number_at w32) c.loop.numbers.items c.args.count c.loop.counter c.loop.rest.now (many (number_at w32) c.args.count c.args.bytes.now) c.loop-test.true c.in_err-number.ensures c.loop.invariant)
 
 pub loop-preserved : goal.loop-preserved
 loop-preserved c =

@@ -1,7 +1,7 @@
 use Rattle.std.proofs.Common.{◌≡◌, ◌-◌}
 use Rattle.std.specs.Int.{w32}
-use Rattle.index_text.specs.Reading.{many, number_at}
-use Rattle.index_text.proofs.Loop.{with_front}
+use Rattle.per_base.specs.Fields.{many, number_at}
+use Rattle.per_base.specs.FieldLoops.{with_front}
 use Rattle.index_text.proofs.fields.numbers_of.Given as goal
 
 abbrev pub invariant-loop : goal.invariant-loop

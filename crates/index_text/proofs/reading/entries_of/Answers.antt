@@ -1,6 +1,8 @@
 use Rattle.std.proofs.lemmas.Result.{err_from_is_err_and}
-use Rattle.index_text.specs.Reading.{entry_at, many}
-use Rattle.index_text.proofs.Loop.{goes_on, ends, is_done}
+use Rattle.per_base.specs.Fields.{many}
+use Rattle.index_text.specs.Reading.{entry_at}
+use Rattle.per_base.specs.FieldLoops.{goes_on, is_done}
+use Rattle.index_text.proofs.Loop.{ends}
 use Rattle.index_text.proofs.reading.entries_of.Goals as goal
 
 pub returns-in_err-entry : goal.returns-in_err-entry

@@ -1,6 +1,7 @@
 use Rattle.std.proofs.Common.{◌≡◌, ◌-◌}
-use Rattle.index_text.specs.Reading.{entry_at, many}
-use Rattle.index_text.proofs.Loop.{with_front}
+use Rattle.per_base.specs.Fields.{many}
+use Rattle.index_text.specs.Reading.{entry_at}
+use Rattle.per_base.specs.FieldLoops.{with_front}
 use Rattle.index_text.proofs.reading.entries_of.Given as goal
 
 abbrev pub invariant-loop : goal.invariant-loop

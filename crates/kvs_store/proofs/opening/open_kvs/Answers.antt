@@ -25,5 +25,5 @@ returns-clause-opened g c = opened_is g.D.Disk.told (g.D.Disk.medium c.args.disk
     c.in_ok-session.ensures c.in_ok-copy.ensures c.in_ok-seen.ensures c.in_ok-reports.ensures
 
 pub returns-in_err-copy-clause-any_moment : goal.returns-in_err-copy-clause-any_moment
-returns-in_err-copy-clause-any_moment g c = λ tells quiet clean after x since chance. none_kept c.untouched_is_kept.ensures.untouched g.D.Disk.told c.args.shape after (g.D.Disk.medium c.args.disk.now)
-    (shape_is c.args.shape (storage_data c.args.config.now) c.requires.configured c.requires.lies) (g.met.D.Disk.lawful c.args.disk.now) quiet clean x since
+returns-in_err-copy-clause-any_moment g c = λ tells after. none_kept c.untouched_is_kept.ensures.untouched g.D.Disk.told c.args.shape after (g.D.Disk.medium c.args.disk.now)
+    (shape_is c.args.shape (storage_data c.args.config.now) c.requires.configured c.requires.lies) (g.met.D.Disk.lawful c.args.disk.now)

@@ -1,6 +1,7 @@
-use Rattle.std.proofs.Common.{subst}
+use Rattle.std.proofs.Common.{◌≡◌, subst}
 use Rattle.std.specs.Prelude.{IfErr}
-use Rattle.file_core.specs.Refusals.{IsRefusal}
+use Rattle.per_base.specs.declared.errors.PerError.TheVariants.{OutOfMemory}
+use Rattle.file_core.specs.Refusals.{IsDue, IsRefusal}
 use Rattle.file_handles.specs.Handling as calls
 use Rattle.deployment_model.specs.Data.{storage_data}
 use Rattle.file_storage.specs.FileSessions.{FileSession, storage_of}
@@ -14,3 +15,7 @@ invariant_of-self c = stays_open c.self.inside.table c.write.new.self c.write.re
 pub returns-clause-refused : goal.returns-clause-refused
 returns-clause-refused c = subst (λ (s : FileSession). IfErr c.write.result (λ error. IsRefusal (calls.write (storage_of s.config) s.session s.moment c.args.handle c.args.bytes.now) error)) c.self.view_is
     (subst (λ storage. IfErr c.write.result (λ error. IsRefusal (calls.write storage c.self.inside.table.session c.self.inside.table.moment c.args.handle c.args.bytes.now) error)) c.self.invariant.same_storage c.write.ensures.refused)
+
+pub returns-clause-due : goal.returns-clause-due
+returns-clause-due c = subst (λ (s : FileSession). IfErr c.write.result (λ error. error ≡ OutOfMemory → IsDue (calls.write (storage_of s.config) s.session s.moment c.args.handle c.args.bytes.now))) c.self.view_is
+    (subst (λ storage. IfErr c.write.result (λ error. error ≡ OutOfMemory → IsDue (calls.write storage c.self.inside.table.session c.self.inside.table.moment c.args.handle c.args.bytes.now))) c.self.invariant.same_storage c.write.ensures.due)

@@ -1,6 +1,10 @@
 use Rattle.std.proofs.Common.{subst}
+use Rattle.disk_model.specs.Medium.{Elapses}
+use Rattle.disk_model.specs.Laws.{elapses_on}
+use Rattle.flash_disk.specs.FlashDiskMedium.{flash_disk_medium, disk_seen}
 use Rattle.flash_disk.specs.Throughout.{KeepsUsable}
 use Rattle.flash_disk.proofs.Throughout.{holds_usable, look_usable, usable_then}
+use Rattle.flash_disk.proofs.Times.{look_time}
 use Rattle.flash_disk.proofs.calls.FlashDiskDisk.read.Goals as goal
 
 pub returns-in_err-make_sure-clause-usable : goal.returns-in_err-make_sure-clause-usable
@@ -22,3 +26,27 @@ returns-clause-usable g c told =
     (usable_then m0 m1 m2 (e.time told) (r.time told)
     (look_usable m0 m1 (e.time told) (holds_usable m0 c.self.inside.layer.state (c.self.invariant.holds told)) (e.unchanged told) e.during)
     (look_usable m1 m2 (r.time told) (holds_usable m1 c.make_sure.new.self.state (e.holds told)) (r.unchanged told) (r.during told)))
+
+pub returns-in_err-make_sure-clause-time : goal.returns-in_err-make_sure-clause-time
+returns-in_err-make_sure-clause-time g c =
+    let told = g.F.Flash.told in
+    let m0 = g.F.Flash.medium c.self.inside.layer.flash in
+    let m1 = g.F.Flash.medium c.make_sure.new.self.flash in
+    let e = c.make_sure.ensures in
+    subst (λ v. Elapses (disk_seen told g.F.Flash.medium v) (flash_disk_medium told m1 c.make_sure.new.self.own c.self.inside.written)) c.self.view_is
+    (look_time told m0 m1 c.self.inside.layer.own c.make_sure.new.self.own c.self.inside.written c.self.inside.layer.state c.self.invariant.holds e.time e.cause.later
+    e.unchanged (λ t. e.during))
+
+pub returns-clause-time : goal.returns-clause-time
+returns-clause-time g c =
+    let told = g.F.Flash.told in
+    let m0 = g.F.Flash.medium c.self.inside.layer.flash in
+    let m1 = g.F.Flash.medium c.make_sure.new.self.flash in
+    let m2 = g.F.Flash.medium c.read_file.new.self.flash in
+    let e = c.make_sure.ensures in
+    let r = c.read_file.ensures in
+    subst (λ v. Elapses (disk_seen told g.F.Flash.medium v) (flash_disk_medium told m2 c.read_file.new.self.own c.self.inside.written)) c.self.view_is
+    (elapses_on
+    (look_time told m0 m1 c.self.inside.layer.own c.make_sure.new.self.own c.self.inside.written c.self.inside.layer.state c.self.invariant.holds e.time e.cause.later
+    e.unchanged (λ t. e.during))
+    (look_time told m1 m2 c.make_sure.new.self.own c.read_file.new.self.own c.self.inside.written c.make_sure.new.self.state e.holds r.time r.cause.later r.unchanged r.during))

@@ -1,6 +1,7 @@
-use Rattle.std.proofs.Common.{◌≡◌, Bool, ◌⊎◌, ◌<◌, length, inl, inr, ⊎_elim, subst, ◌∙◌, arith}
+use Rattle.std.proofs.Common.{◌≡◌, Bool, ◌⊎◌, ◌<◌, length, inl, inr, ⊎_elim, subst, ◌∙◌, le_refl, arith}
 use Rattle.disk_model.specs.Case.{Follows, WriteCase, WriteOrNot}
-use Rattle.disk_model.specs.Medium.{Medium}
+use Rattle.disk_model.specs.Medium.{Medium, Elapses}
+use Rattle.disk_model.specs.Laws.{elapses_on}
 use Rattle.flash_model.specs.FlashMedium.{FlashMedium}
 use Rattle.flash_disk.specs.FlashView.{FlashView}
 use Rattle.flash_disk.specs.FlashDiskMedium.{flash_disk_medium}
@@ -8,6 +9,7 @@ use Rattle.flash_disk.specs.Throughout.{KeepsUsable, KeepsAgreed}
 use Rattle.flash_disk.proofs.DiskCases.{disk_rests, disk_write_nothing}
 use Rattle.flash_disk.proofs.DiskWrites.{write_during, write_now}
 use Rattle.flash_disk.proofs.Throughout.{holds_usable, look_usable, rest_usable, write_usable, usable_then, look_agreed, write_agreed, agreed_then}
+use Rattle.flash_disk.proofs.Times.{look_time, write_time}
 use Rattle.flash_disk.specs.OwnFaults.{FailsAlone}
 use Rattle.flash_disk.proofs.Failing.{fails_alone}
 use Rattle.flash_disk.proofs.calls.FlashDiskDisk.write_at.Goals as goal
@@ -142,3 +144,43 @@ returns-in_err-write_file-clause-own g c told =
           (c.in_ok-make_sure.ensures.sound told) c.write_file.ensures.disputed why,
     ))
     (c.write_file.ensures.own told))
+
+pub returns-in_err-make_sure-clause-time : goal.returns-in_err-make_sure-clause-time
+returns-in_err-make_sure-clause-time g c =
+    let told = g.F.Flash.told in
+    let m0 = g.F.Flash.medium c.self.inside.layer.flash in
+    let m1 = g.F.Flash.medium c.make_sure.new.self.flash in
+    let e = c.make_sure.ensures in
+    subst (λ v. Elapses (medium_of told g.F.Flash.medium v) (flash_disk_medium told m1 c.make_sure.new.self.own c.self.inside.written)) c.self.view_is
+    (look_time told m0 m1 c.self.inside.layer.own c.make_sure.new.self.own c.self.inside.written c.self.inside.layer.state c.self.invariant.holds e.time e.cause.later
+    e.unchanged (λ t. e.during))
+
+pub returns-in_err-write_file-clause-time : goal.returns-in_err-write_file-clause-time
+returns-in_err-write_file-clause-time g c =
+    let told = g.F.Flash.told in
+    let m0 = g.F.Flash.medium c.self.inside.layer.flash in
+    let m1 = g.F.Flash.medium c.make_sure.new.self.flash in
+    let m2 = g.F.Flash.medium c.write_file.new.self.flash in
+    let e = c.make_sure.ensures in
+    let w = c.write_file.ensures in
+    subst (λ v. Elapses (medium_of told g.F.Flash.medium v) (flash_disk_medium told m2 c.write_file.new.self.own c.self.inside.written)) c.self.view_is
+    (elapses_on
+    (look_time told m0 m1 c.self.inside.layer.own c.make_sure.new.self.own c.self.inside.written c.self.inside.layer.state c.self.invariant.holds e.time e.cause.later
+    e.unchanged (λ t. e.during))
+    (write_time told m1 m2 c.make_sure.new.self.own c.write_file.new.self.own c.self.inside.written c.make_sure.new.self.state e.holds w.time w.cause.later
+    c.self.inside.written c.args.file c.args.at c.args.bytes.now (le_refl _) w.writes))
+
+pub returns-clause-time : goal.returns-clause-time
+returns-clause-time g c =
+    let told = g.F.Flash.told in
+    let m0 = g.F.Flash.medium c.self.inside.layer.flash in
+    let m1 = g.F.Flash.medium c.make_sure.new.self.flash in
+    let m2 = g.F.Flash.medium c.write_file.new.self.flash in
+    let e = c.make_sure.ensures in
+    let w = c.write_file.ensures in
+    subst (λ v. Elapses (medium_of told g.F.Flash.medium v) (flash_disk_medium told m2 c.write_file.new.self.own c.with_more-self-inside.result)) c.self.view_is
+    (elapses_on
+    (look_time told m0 m1 c.self.inside.layer.own c.make_sure.new.self.own c.self.inside.written c.self.inside.layer.state c.self.invariant.holds e.time e.cause.later
+    e.unchanged (λ t. e.during))
+    (write_time told m1 m2 c.make_sure.new.self.own c.write_file.new.self.own c.self.inside.written c.make_sure.new.self.state e.holds w.time w.cause.later
+    c.with_more-self-inside.result c.args.file c.args.at c.args.bytes.now (let sum = c.with_more-self-inside.ensures in omega (arith, sum)) w.writes))

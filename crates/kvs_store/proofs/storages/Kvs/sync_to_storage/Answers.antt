@@ -1,21 +1,22 @@
-use Rattle.std.proofs.Common.{◌≡◌, [], false, arith}
+use Rattle.std.proofs.Common.{◌≡◌, ◌∙◌, [], false, arith}
 use Rattle.element_state.specs.States.{Opens}
 use Rattle.element_store.proofs.CommitKept.{none_kept}
 use Rattle.kvs_store.specs.Storages.{shape_of}
-use Rattle.kvs_store.proofs.Synced.{may_commit, next_cost, synced_in_use, synced_state, synced_view, within_more}
+use Rattle.kvs_store.specs.Synced.{synced_view}
+use Rattle.kvs_store.proofs.Synced.{may_commit, next_cost, synced_in_use, synced_state, view_then, within_more}
 use Rattle.kvs_store.proofs.storages.Kvs.sync_to_storage.Goals as goal
 
 pub returns-then-not-has_changes-clause-any_moment :
     goal.returns-then-not-has_changes-clause-any_moment
-returns-then-not-has_changes-clause-any_moment g c = λ tells after is. none_kept c.untouched_is_kept.ensures.untouched g.D.Disk.told (shape_of c.args.self) (Opens after []) (g.D.Disk.medium c.args.disk.now)
+returns-then-not-has_changes-clause-any_moment g c = λ tells. none_kept c.untouched_is_kept.ensures.untouched g.D.Disk.told (shape_of c.args.self) (Opens (synced_view c.args.self) []) (g.D.Disk.medium c.args.disk.now)
     c.requires.used.memory.shape (g.met.D.Disk.lawful c.args.disk.now)
 
 pub returns-then-generation-clause-any_moment : goal.returns-then-generation-clause-any_moment
-returns-then-generation-clause-any_moment g c = λ tells after is. none_kept c.untouched_is_kept.ensures.untouched g.D.Disk.told (shape_of c.args.self) (Opens after []) (g.D.Disk.medium c.args.disk.now)
+returns-then-generation-clause-any_moment g c = λ tells. none_kept c.untouched_is_kept.ensures.untouched g.D.Disk.told (shape_of c.args.self) (Opens (synced_view c.args.self) []) (g.D.Disk.medium c.args.disk.now)
     c.requires.used.memory.shape (g.met.D.Disk.lawful c.args.disk.now)
 
 pub returns-in_default-clause-any_moment : goal.returns-in_default-clause-any_moment
-returns-in_default-clause-any_moment g c = λ tells after is. none_kept c.untouched_is_kept.ensures.untouched g.D.Disk.told (shape_of c.args.self) (Opens after []) (g.D.Disk.medium c.args.disk.now)
+returns-in_default-clause-any_moment g c = λ tells. none_kept c.untouched_is_kept.ensures.untouched g.D.Disk.told (shape_of c.args.self) (Opens (synced_view c.args.self) []) (g.D.Disk.medium c.args.disk.now)
     c.requires.used.memory.shape (g.met.D.Disk.lawful c.args.disk.now)
 
 pub commit-requires-clause-changes : goal.commit-requires-clause-changes
@@ -30,14 +31,15 @@ returns-in-Ok-commit-clause-in_use g c =
 
 pub returns-in-Ok-commit-clause-view : goal.returns-in-Ok-commit-clause-view
 returns-in-Ok-commit-clause-view g c =
-    synced_view g.D.Disk.told (g.D.Disk.medium c.args.disk.now).image c.args.self c.requires c.holds.ensures c.holds-2.ensures.maps c.holds-2.ensures.room c.in-Ok.changes.items c.in-Ok.ensures
-    c.changes_make_maps.ensures.committed
-    (λ same. let no : c.has_changes.result ≡ false = c.has_changes.ensures.1 same in absurd (cc)) _ c.in-Ok-commit.ensures.view
+    c.in-Ok-commit.ensures.view
+    ∙ view_then g.D.Disk.told (g.D.Disk.medium c.args.disk.now).image c.args.self c.requires c.holds.ensures c.holds-2.ensures.maps c.holds-2.ensures.room c.in-Ok.changes.items c.in-Ok.ensures
+    c.changes_make_maps.ensures.committed c.syncs_are_decided.ensures.next
+    (λ same. let no : c.has_changes.result ≡ false = c.has_changes.ensures.1 same in absurd (cc))
 
 pub returns-in-Ok-commit-clause-any_moment : goal.returns-in-Ok-commit-clause-any_moment
 returns-in-Ok-commit-clause-any_moment g c = λ tells.
     synced_state g.D.Disk.told (g.D.Disk.medium c.args.disk.now).image c.args.self c.requires c.holds.ensures c.holds-2.ensures.maps c.holds-2.ensures.room c.in-Ok.changes.items c.in-Ok.ensures
-    c.changes_make_maps.ensures.committed
+    c.changes_make_maps.ensures.committed c.syncs_are_decided.ensures.next
     (λ same. let no : c.has_changes.result ≡ false = c.has_changes.ensures.1 same in absurd (cc)) (g.D.Disk.medium c.args.disk.now) (g.D.Disk.medium c.commit.new.disk) (c.in-Ok-commit.ensures.any_moment tells)
 
 pub returns-in-Ok-commit-clause-written : goal.returns-in-Ok-commit-clause-written
@@ -50,11 +52,11 @@ pub returns-in-Err-OutOfMemory-clause-any_moment :
     goal.returns-in-Err-OutOfMemory-clause-any_moment
 returns-in-Err-OutOfMemory-clause-any_moment g c = λ tells.
     synced_state g.D.Disk.told (g.D.Disk.medium c.args.disk.now).image c.args.self c.requires c.holds.ensures c.holds-2.ensures.maps c.holds-2.ensures.room c.in-Ok.changes.items c.in-Ok.ensures
-    c.changes_make_maps.ensures.committed
+    c.changes_make_maps.ensures.committed c.syncs_are_decided.ensures.next
     (λ same. let no : c.has_changes.result ≡ false = c.has_changes.ensures.1 same in absurd (cc)) (g.D.Disk.medium c.args.disk.now) (g.D.Disk.medium c.commit.new.disk) (c.in-Err-OutOfMemory.ensures.any_moment tells)
 
 pub returns-in-Err-Device-clause-any_moment : goal.returns-in-Err-Device-clause-any_moment
 returns-in-Err-Device-clause-any_moment g c = λ tells.
     synced_state g.D.Disk.told (g.D.Disk.medium c.args.disk.now).image c.args.self c.requires c.holds.ensures c.holds-2.ensures.maps c.holds-2.ensures.room c.in-Ok.changes.items c.in-Ok.ensures
-    c.changes_make_maps.ensures.committed
+    c.changes_make_maps.ensures.committed c.syncs_are_decided.ensures.next
     (λ same. let no : c.has_changes.result ≡ false = c.has_changes.ensures.1 same in absurd (cc)) (g.D.Disk.medium c.args.disk.now) (g.D.Disk.medium c.commit.new.disk) (c.in-Err-Device.ensures.any_moment tells)

@@ -1,0 +1,336 @@
+//! A storage of files on a disk in memory, through openings, calls, syncs, damage and stops.
+
+ghost use Rattle.std.specs.Prelude.{◌≡◌, IfOk, IsTrue, OnOk, true};
+ghost use Rattle.disk_model.specs.Memory.{mem_medium};
+ghost use Rattle.element_state.specs.Conditions.{AreContents, IsFresh, IsShape};
+ghost use Rattle.element_store.specs.Rebuilds.{HasNext};
+ghost use Rattle.element_store.specs.Stores.{IsUsed};
+ghost use Rattle.element_state.specs.States.{salvage_of, store_at};
+ghost use Rattle.file_tests.specs.Stages.{IsInUse};
+
+use crate::answers::{CaseError, only, push_answer, refused, reported, said};
+use crate::calls::{called, count, sevens};
+use crate::configs::{Plan, cal, initial, parted, shape_by, shape_of};
+use crate::images;
+use disk_model::MemDisk;
+use element_state::{Shape, StoreError};
+use element_store::{create, rebuild, salvage};
+use file_storage::{Closed, Files, FilesOutcome, OpenedFiles, open_files};
+use per_base::{Bytes, Cause, Content, Entry, FileInfo, Fresh, Name, StoreKind};
+use std::alloc::Global;
+use value_text::parse_hex;
+
+/// What a storage shows: its calls, each beside its answer.
+pub(crate) fn shown(alloc: Global, setting: &str, calls: &str) -> Result<String, CaseError> {
+    let plan = Plan::of(setting);
+    let mut stage = Stage::Closed(MemDisk::new(alloc));
+    let mut line = String::new(alloc);
+    for call in calls.split_whitespace() {
+        let step = stepped(alloc, plan, stage, call)?;
+        push_answer(&mut line, call, step.answer.as_str())?;
+        stage = step.stage;
+    }
+    Ok(line)
+}
+
+/// Where a case stands: with no open storage, or with one in use on its disk.
+#[derive(Drop)]
+pub(crate) enum Stage {
+    Closed(MemDisk),
+    Open(Run),
+}
+
+/// A storage in use.
+#[derive(Drop)]
+pub(crate) struct Run {
+    disk: MemDisk,
+    files: Files,
+    /// The moment of its calls.
+    now: u64,
+    /// How many bytes the last sync wrote.
+    spent: u64,
+}
+
+/// What a call leaves, and its answer.
+#[derive(Drop)]
+struct Step {
+    stage: Stage,
+    answer: String,
+}
+
+/// The answer of one call.
+fn stepped(alloc: Global, plan: Plan, stage: Stage, call: &str) -> Result<Step, CaseError>
+    requires { IsInUse stage }
+    ensures { IfOk result (λ step. IsInUse step.stage) }
+{
+    match stage {
+        Stage::Closed(disk) => closed(alloc, plan, disk, call),
+        Stage::Open(run) => open(alloc, run, call),
+    }
+}
+
+fn then(alloc: Global, stage: Stage, answer: &str) -> Result<Step, CaseError>
+    requires { IsInUse stage }
+    ensures { IfOk result (λ step. IsInUse step.stage) }
+{
+    let answer = said(alloc, answer)?;
+    Ok(Step { stage, answer })
+}
+
+// ---- with no open storage
+
+/// `new.NAME=HEX` makes the storage with a file of this name and these bytes, installed at moment 3, `large.NAME` with one of 1,048,576
+/// bytes, `worn` a disk with one under the greatest generation; `damage=FILES` damages files, `rebuild` makes the storage anew with the
+/// first file of its salvage, or as it starts; `stop` cuts the power; `open` opens it and answers its reports.
+fn closed(alloc: Global, plan: Plan, mut disk: MemDisk, call: &str) -> Result<Step, CaseError>
+    ensures { IfOk result (λ step. IsInUse step.stage) }
+{
+    let (word, rest) = parted(call, "=");
+    let (word, name) = parted(word, ".");
+    match word {
+        "open" => return opened(alloc, plan, disk),
+        "new" => disk = holding(alloc, plan, name, parse_hex(alloc, rest.as_bytes())?)?,
+        "large" => disk = holding(alloc, plan, name, Bytes::new(sevens(alloc, 1_048_576)?))?,
+        "worn" => disk = images::worn(alloc)?,
+        "damage" => images::damage(&mut disk, rest)?,
+        "rebuild" => rebuilt(alloc, plan, &mut disk)?,
+        "stop" => disk = disk.crash(false)?,
+        _ => return Err(CaseError::Case("no such call of a closed storage")),
+    }
+    then(alloc, Stage::Closed(disk), "ok")
+}
+
+fn opened(alloc: Global, plan: Plan, mut disk: MemDisk) -> Result<Step, CaseError>
+    ensures { IfOk result (λ step. IsInUse step.stage) }
+{
+    let config = cal(alloc, plan)?;
+    let shape = shape_of(&config)?;
+    match open_files(alloc, &mut disk, shape, &config) {
+        Ok(OpenedFiles { files, reports }) => {
+            let answer = reported(alloc, reports.as_slice())?;
+            let run = Run {
+                disk,
+                files,
+                now: 7,
+                spent: 0,
+            };
+            Ok(Step {
+                stage: Stage::Open(run),
+                answer,
+            })
+        }
+        Err(error) => then(alloc, Stage::Closed(disk), error_name(&error)),
+    }
+}
+
+fn error_name(error: &StoreError) -> &'static str {
+    match error {
+        StoreError::Corrupt => "Corrupt",
+        StoreError::Device => "Device",
+        StoreError::OutOfMemory => "OutOfMemory",
+    }
+}
+
+/// Whether a storage of this kind takes the file.
+fn is_file(kind: StoreKind, fresh: &Fresh) -> bool
+    ensures { IsTrue result → IsFresh kind fresh.now }
+{
+    match kind {
+        StoreKind::Keys => false,
+        StoreKind::Files => fresh.info.is_some() && fresh.bytes.len() <= 1_048_576,
+    }
+}
+
+/// The file alone, where the storage takes it.
+fn alone(alloc: Global, shape: &Shape, fresh: Fresh) -> Result<Vec<Fresh>, CaseError>
+    ensures { IfOk result (λ contents. AreContents shape.now contents.items) }
+{
+    if !is_file(shape.kind, &fresh) {
+        return Err(CaseError::Case("no file"));
+    }
+    if fresh.name.as_str().len() as u64 + fresh.bytes.len() as u64 > shape.allowed {
+        return Err(CaseError::Case("too large"));
+    }
+    Ok(only(alloc, fresh)?)
+}
+
+/// The file of this name with these bytes, installed at moment 3.
+fn installed(alloc: Global, name: &str, bytes: Bytes) -> Result<Fresh, CaseError> {
+    Ok(Fresh {
+        name: Name::new(alloc, name)?,
+        info: Some(FileInfo {
+            created: 3,
+            modified: 3,
+            accessed: 3,
+            creation: Cause::Installation,
+            modification: Cause::Installation,
+        }),
+        bytes,
+    })
+}
+
+/// A disk with `cal`, where this file was installed.
+fn holding(alloc: Global, plan: Plan, name: &str, bytes: Bytes) -> Result<MemDisk, CaseError> {
+    let shape = shape_by(alloc, plan)?;
+    let contents = alone(alloc, &shape, installed(alloc, name, bytes)?)?;
+    let mut disk = MemDisk::new(alloc);
+    create(alloc, &mut disk, shape, contents)?;
+    Ok(disk)
+}
+
+/// The bytes that enough copies have, or the salvage of a file.
+fn bytes_of(content: &Content) -> Option<&Bytes> {
+    match content {
+        Content::Good(bytes) => Some(bytes),
+        Content::Bad(Some(salvage)) => Some(salvage),
+        Content::Bad(None) => None,
+    }
+}
+
+/// The first file, as it is to be written anew.
+fn first_of(entries: &[Entry]) -> Result<Fresh, CaseError> {
+    let Some(first) = entries.first() else {
+        return Err(CaseError::Case("no file"));
+    };
+    let Some(bytes) = bytes_of(&first.content) else {
+        return Err(CaseError::Case("a file without bytes"));
+    };
+    Ok(Fresh {
+        name: first.name.copy()?,
+        info: first.info,
+        bytes: bytes.copy()?,
+    })
+}
+
+/// The first file of the salvage, and without a salvage the file `map`, as it starts.
+fn salvaged(alloc: Global, disk: &mut MemDisk, shape: &Shape) -> Result<Fresh, CaseError>
+    requires { IsShape shape.now }
+    ensures { OnOk result (HasNext (salvage_of (store_at (mem_medium disk.new).image shape.now))) }
+{
+    match salvage(alloc, disk, shape)? {
+        None => installed(alloc, "map", initial(alloc)?),
+        Some(view) => {
+            if view.generation == u64::MAX {
+                return Err(CaseError::Case("no generation is left"));
+            }
+            first_of(view.entries.as_slice())
+        }
+    }
+}
+
+fn rebuilt(alloc: Global, plan: Plan, disk: &mut MemDisk) -> Result<(), CaseError> {
+    let shape = shape_by(alloc, plan)?;
+    let file = salvaged(alloc, disk, &shape)?;
+    let contents = alone(alloc, &shape, file)?;
+    rebuild(alloc, disk, &shape, contents)?;
+    Ok(())
+}
+
+// ---- with an open storage
+
+/// `now=N` is the moment of the next calls, which is 7 at first; `sync#HANDLE` makes the files durable by a handle; `spent=N` answers
+/// whether the last sync wrote at most so many bytes; `close-storage` closes the storage; `stop` cuts the power, so that what no sync made
+/// durable is gone. All else is a call on the open storage.
+fn open(alloc: Global, run: Run, call: &str) -> Result<Step, CaseError>
+    requires { IsUsed true (mem_medium run.disk).image run.files.store }
+    ensures { IfOk result (λ step. IsInUse step.stage) }
+{
+    let (word, rest) = parted(call, "=");
+    match word {
+        "stop" => return then(alloc, Stage::Closed(run.disk.crash(false)?), "ok"),
+        "close-storage" => return closing(alloc, run),
+        _ => {}
+    }
+    if let Some(("sync", handle)) = word.split_once('#') {
+        return synced(alloc, run, handle.parse::<u32>().unwrap_or(0));
+    }
+    let Run {
+        disk,
+        mut files,
+        mut now,
+        spent,
+    } = run;
+    let answer = match word {
+        "now" => {
+            now = count(rest);
+            files.set_now(now);
+            said(alloc, "ok")?
+        }
+        "spent" => format!(in alloc; "{}", spent <= count(rest))?,
+        _ => called(alloc, &mut files, now, call)?,
+    };
+    let run = Run {
+        disk,
+        files,
+        now,
+        spent,
+    };
+    Ok(Step {
+        stage: Stage::Open(run),
+        answer,
+    })
+}
+
+fn synced(alloc: Global, run: Run, handle: u32) -> Result<Step, CaseError>
+    requires { IsUsed true (mem_medium run.disk).image run.files.store }
+    ensures { IfOk result (λ step. IsInUse step.stage) }
+{
+    let Run {
+        mut disk,
+        files,
+        now,
+        ..
+    } = run;
+    let before = disk.written();
+    match files.sync_to_file(&mut disk, handle) {
+        Ok(
+            FilesOutcome {
+                files,
+                refused: refusal,
+            },
+        ) => {
+            let answer = refused(alloc, refusal)?;
+            let spent = disk.written().saturating_sub(before);
+            let run = Run {
+                disk,
+                files,
+                now,
+                spent,
+            };
+            Ok(Step {
+                stage: Stage::Open(run),
+                answer,
+            })
+        }
+        Err(_) => Err(CaseError::Case("a sync that failed")),
+    }
+}
+
+fn closing(alloc: Global, run: Run) -> Result<Step, CaseError>
+    requires { IsUsed true (mem_medium run.disk).image run.files.store }
+    ensures { IfOk result (λ step. IsInUse step.stage) }
+{
+    let Run {
+        mut disk,
+        files,
+        now,
+        spent,
+    } = run;
+    match files.close_storage(&mut disk) {
+        Ok(Closed::Done) => then(alloc, Stage::Closed(disk), "ok"),
+        Ok(Closed::Refused(files, error)) => {
+            let answer = refused(alloc, Some(error))?;
+            let run = Run {
+                disk,
+                files,
+                now,
+                spent,
+            };
+            Ok(Step {
+                stage: Stage::Open(run),
+                answer,
+            })
+        }
+        Err(_) => Err(CaseError::Case("a close that failed")),
+    }
+}

@@ -1,7 +1,0 @@
-use Rattle.kvs_tests.proofs.many.fill.Goals as goal
-
-pub loop-number-preserved : goal.loop-number-preserved
-loop-number-preserved c = λ told image used. c.set_value.ensures.in_use told image (c.loop-number.invariant told image used)
-
-pub returns-in_err-set_value : goal.returns-in_err-set_value
-returns-in_err-set_value c = λ told image used. c.set_value.ensures.in_use told image (c.loop-number.invariant told image used)

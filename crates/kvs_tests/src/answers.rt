@@ -1,0 +1,118 @@
+//! Answers as texts, and what ends a case before its time.
+
+ghost use Rattle.std.specs.Prelude.{◌≡◌, ◌∷◌, [], IfOk};
+
+use element_state::StoreError;
+use per_base::{PerError, Report, Unit};
+use std::alloc::{AllocError, Global};
+use thiserror::Error;
+use value_model::{DecodeError, Value, ValueError};
+use value_text::print_value;
+
+/// Why a case cannot be shown: a row is not one, or what it makes has no place in a storage.
+#[derive(Debug, Drop, Error)]
+pub(crate) enum CaseError {
+    #[error("a case: {0}")]
+    Case(&'static str),
+    #[error("memory ran out")]
+    OutOfMemory,
+}
+
+impl From<AllocError> for CaseError {
+    fn from(_: AllocError) -> CaseError {
+        CaseError::OutOfMemory
+    }
+}
+
+impl From<PerError> for CaseError {
+    fn from(_: PerError) -> CaseError {
+        CaseError::Case("a call was refused")
+    }
+}
+
+impl From<StoreError> for CaseError {
+    fn from(_: StoreError) -> CaseError {
+        CaseError::Case("a call of the storage failed")
+    }
+}
+
+impl From<ValueError> for CaseError {
+    fn from(_: ValueError) -> CaseError {
+        CaseError::Case("no value")
+    }
+}
+
+impl From<DecodeError> for CaseError {
+    fn from(_: DecodeError) -> CaseError {
+        CaseError::Case("no value")
+    }
+}
+
+/// A list of one.
+pub(crate) fn only<T: Drop>(alloc: Global, item: T) -> Result<Vec<T>, AllocError>
+    ensures { IfOk result (λ list. list.items ≡ item ∷ []) }
+{
+    Ok(vec![in alloc; item]?)
+}
+
+pub(crate) fn said(alloc: Global, text: &str) -> Result<String, CaseError> {
+    Ok(String::from_str(alloc, text)?)
+}
+
+pub(crate) fn refusal(alloc: Global, error: &PerError) -> Result<String, CaseError> {
+    let text = match error {
+        PerError::IntegrityCorrupted {
+            unit: Unit::Part(storage, key),
+        } => format!(in alloc; "IntegrityCorrupted({}:{})", storage.as_str(), key.as_str())?,
+        PerError::DataTypeMismatch { stored, asked } => {
+            format!(in alloc; "DataTypeMismatch({},{})", stored.as_str(), asked.as_str())?
+        }
+        PerError::OutOfStorageSpace { needed, allowed } => {
+            format!(in alloc; "OutOfStorageSpace({needed},{allowed})")?
+        }
+        PerError::LimitReached { which } => format!(in alloc; "LimitReached({which:?})")?,
+        error => format!(in alloc; "{error:?}")?,
+    };
+    Ok(text)
+}
+
+pub(crate) fn done(alloc: Global, outcome: Result<(), PerError>) -> Result<String, CaseError> {
+    match outcome {
+        Ok(()) => said(alloc, "ok"),
+        Err(error) => refusal(alloc, &error),
+    }
+}
+
+pub(crate) fn read(alloc: Global, outcome: Result<&Value, PerError>) -> Result<String, CaseError> {
+    match outcome {
+        Ok(value) => Ok(print_value(alloc, value)?),
+        Err(error) => refusal(alloc, &error),
+    }
+}
+
+/// The reports, each as `KIND(ELEMENT COPY COPY)` before a comma.
+pub(crate) fn reported(alloc: Global, reports: &[Report]) -> Result<String, CaseError> {
+    let mut text = String::new(alloc);
+    for report in reports {
+        text.push_str(format!(in alloc; "{:?}(", report.kind)?.as_str())?;
+        if let Some(name) = &report.element {
+            text.push_str(name.as_str())?;
+        }
+        for copy in report.copies.as_slice() {
+            text.push_str(format!(in alloc; "/{copy}")?.as_str())?;
+        }
+        text.push_str("),")?;
+    }
+    Ok(text)
+}
+
+/// The texts of a line, each beside what it gave.
+pub(crate) fn push_answer(line: &mut String, call: &str, answer: &str) -> Result<(), CaseError> {
+    if !line.is_empty() {
+        line.push(' ')?;
+    }
+    line.push_str(call)?;
+    line.push_str("->")?;
+    line.push_str(answer)?;
+    Ok(())
+}

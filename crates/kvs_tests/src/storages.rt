@@ -1,0 +1,333 @@
+//! A storage of keys on a disk in memory, through openings, calls, syncs, damage and stops.
+
+ghost use Rattle.std.specs.Prelude.{◌≡◌, IfOk, IsTrue, OnOk, true};
+ghost use Rattle.per_base.specs.declared.elements.StoreKind.TheVariants.{Keys};
+ghost use Rattle.deployment_model.specs.Conditions.{IsStorage};
+ghost use Rattle.deployment_model.specs.Data.{storage_data};
+ghost use Rattle.disk_model.specs.Memory.{mem_medium};
+ghost use Rattle.element_state.specs.Conditions.{AreContents, IsFresh, IsShape};
+ghost use Rattle.element_store.specs.Rebuilds.{HasNext};
+ghost use Rattle.element_state.specs.States.{salvage_of, store_at};
+ghost use Rattle.kvs_store.specs.Storages.{IsKvs, LiesAs, StaysInUse};
+ghost use Rattle.kvs_tests.specs.Stages.{IsInUse};
+
+use crate::answers::{CaseError, done, only, push_answer, read, reported, said};
+use crate::configs::{Plan, fav, parted};
+use crate::images;
+use deployment_model::StorageConfig;
+use disk_model::{MemDisk, Place};
+use element_store::{create, rebuild, salvage};
+use kvs_store::{Kvs, OpenedKvs, Shape, StoreError, SyncFault, open_kvs};
+use per_base::{Bytes, Content, Entry, Fresh, Name, StoreKind};
+use std::alloc::Global;
+use value_text::{parse_hex, parse_value};
+
+/// The encoding of 513.
+const INITIAL: [u8; 3] = [3, 1, 2];
+
+/// What a storage shows: its calls, each beside its answer.
+pub(crate) fn shown(alloc: Global, setting: &str, calls: &str) -> Result<String, CaseError> {
+    let plan = Plan::of(setting);
+    let mut stage = Stage::Closed(MemDisk::new(alloc));
+    let mut line = String::new(alloc);
+    for call in calls.split_whitespace() {
+        let step = stepped(alloc, plan, stage, call)?;
+        push_answer(&mut line, call, step.answer.as_str())?;
+        stage = step.stage;
+    }
+    Ok(line)
+}
+
+/// Where a case stands: with no open storage, or with one in use on its disk.
+#[derive(Drop)]
+pub(crate) enum Stage {
+    Closed(MemDisk),
+    Open {
+        disk: MemDisk,
+        kvs: Kvs,
+        /// How many bytes the last sync wrote.
+        spent: u64,
+    },
+}
+
+/// What a call leaves, and its answer.
+#[derive(Drop)]
+struct Step {
+    stage: Stage,
+    answer: String,
+}
+
+/// The answer of one call.
+fn stepped(alloc: Global, plan: Plan, stage: Stage, call: &str) -> Result<Step, CaseError>
+    requires { IsInUse stage }
+    ensures { IfOk result (λ step. IsInUse step.stage) }
+{
+    match stage {
+        Stage::Closed(disk) => closed(alloc, plan, disk, call),
+        Stage::Open { disk, kvs, spent } => open(alloc, disk, kvs, spent, call),
+    }
+}
+
+fn then(alloc: Global, stage: Stage, answer: &str) -> Result<Step, CaseError>
+    requires { IsInUse stage }
+    ensures { IfOk result (λ step. IsInUse step.stage) }
+{
+    let answer = said(alloc, answer)?;
+    Ok(Step { stage, answer })
+}
+
+// ---- with no open storage
+
+/// `new=HEX` makes the storage with these bytes under `home`, `worn` a disk with an empty one under the greatest generation,
+/// `damage=FILES` damages files, `rebuild` makes the storage anew with what its salvage has under `home` or the initial value,
+/// `calls=N` lets so many calls of the disk pass, and `open` opens it and answers its reports.
+fn closed(alloc: Global, plan: Plan, mut disk: MemDisk, call: &str) -> Result<Step, CaseError>
+    ensures { IfOk result (λ step. IsInUse step.stage) }
+{
+    let (word, rest) = parted(call, "=");
+    match word {
+        "open" => return opened(alloc, plan, disk),
+        "new" => disk = holding(alloc, plan, rest)?,
+        "worn" => disk = images::worn(alloc)?,
+        "damage" => images::damage(alloc, &mut disk, rest)?,
+        "rebuild" => rebuilt(alloc, plan, &mut disk)?,
+        "calls" => disk.stop_after(number(rest)),
+        _ => return Err(CaseError::Case("no such call of a closed storage")),
+    }
+    then(alloc, Stage::Closed(disk), "ok")
+}
+
+fn number(text: &str) -> u64 {
+    text.parse::<u64>().unwrap_or(0)
+}
+
+fn opened(alloc: Global, plan: Plan, mut disk: MemDisk) -> Result<Step, CaseError>
+    ensures { IfOk result (λ step. IsInUse step.stage) }
+{
+    let config = fav(alloc, plan)?;
+    let shape = shape_of(&config)?;
+    match open_kvs(alloc, &mut disk, shape, &config) {
+        Ok(OpenedKvs { kvs, reports }) => {
+            let answer = reported(alloc, reports.as_slice())?;
+            let stage = Stage::Open {
+                disk,
+                kvs,
+                spent: 0,
+            };
+            Ok(Step { stage, answer })
+        }
+        Err(error) => then(alloc, Stage::Closed(disk), error_name(&error)),
+    }
+}
+
+fn error_name(error: &StoreError) -> &'static str {
+    match error {
+        StoreError::Corrupt => "Corrupt",
+        StoreError::Device => "Device",
+        StoreError::OutOfMemory => "OutOfMemory",
+    }
+}
+
+/// Where a storage lies: from file 1024 on.
+fn shape_of(config: &StorageConfig) -> Result<Shape, CaseError>
+    requires storage { IsStorage (storage_data config.now) }
+    requires of_keys { config.now.kind ≡ Keys }
+    ensures lies { IfOk result (λ shape. LiesAs shape (storage_data config.now)) }
+    ensures shape { IfOk result IsShape }
+{
+    Ok(Shape {
+        name: config.name.copy()?,
+        place: Place {
+            first: 1024,
+            copies: config.n,
+        },
+        kind: StoreKind::Keys,
+        m: config.m,
+        scope: config.scope,
+        allowed: config.maximum,
+    })
+}
+
+fn shape_by(alloc: Global, plan: Plan) -> Result<Shape, CaseError>
+    ensures { IfOk result IsShape }
+{
+    shape_of(&fav(alloc, plan)?)
+}
+
+/// Whether a storage of this kind takes the key.
+fn is_key(kind: StoreKind, fresh: &Fresh) -> bool
+    ensures { IsTrue result → IsFresh kind fresh.now }
+{
+    match kind {
+        StoreKind::Keys => fresh.info.is_none() && fresh.bytes.len() <= 65_536,
+        StoreKind::Files => false,
+    }
+}
+
+/// The key alone, where the storage takes it.
+fn alone(alloc: Global, shape: &Shape, fresh: Fresh) -> Result<Vec<Fresh>, CaseError>
+    ensures { IfOk result (λ contents. AreContents shape.now contents.items) }
+{
+    if !is_key(shape.kind, &fresh) {
+        return Err(CaseError::Case("no key"));
+    }
+    if fresh.name.as_str().len() as u64 + fresh.bytes.len() as u64 > shape.allowed {
+        return Err(CaseError::Case("too large"));
+    }
+    Ok(only(alloc, fresh)?)
+}
+
+/// These bytes alone, under `home`.
+fn contents(alloc: Global, shape: &Shape, bytes: Bytes) -> Result<Vec<Fresh>, CaseError>
+    ensures { IfOk result (λ contents. AreContents shape.now contents.items) }
+{
+    let home = Fresh {
+        name: Name::new(alloc, "home")?,
+        info: None,
+        bytes,
+    };
+    alone(alloc, shape, home)
+}
+
+/// A disk with `fav`, where these bytes stand under `home`.
+fn holding(alloc: Global, plan: Plan, hex: &str) -> Result<MemDisk, CaseError> {
+    let shape = shape_by(alloc, plan)?;
+    let contents = contents(alloc, &shape, parse_hex(alloc, hex.as_bytes())?)?;
+    let mut disk = MemDisk::new(alloc);
+    create(alloc, &mut disk, shape, contents)?;
+    Ok(disk)
+}
+
+/// The bytes that enough copies have, or the salvage of a key.
+fn bytes_of(content: &Content) -> Option<&Bytes> {
+    match content {
+        Content::Good(bytes) => Some(bytes),
+        Content::Bad(Some(salvage)) => Some(salvage),
+        Content::Bad(None) => None,
+    }
+}
+
+/// The bytes of the first key.
+fn first_of(entries: &[Entry]) -> Result<Bytes, CaseError> {
+    let Some(first) = entries.first() else {
+        return Err(CaseError::Case("no key"));
+    };
+    match bytes_of(&first.content) {
+        Some(bytes) => Ok(bytes.copy()?),
+        None => Err(CaseError::Case("a key without bytes")),
+    }
+}
+
+/// What the salvage has under its first key, and without a salvage the initial value.
+fn salvaged(alloc: Global, disk: &mut MemDisk, shape: &Shape) -> Result<Bytes, CaseError>
+    requires { IsShape shape.now }
+    ensures { OnOk result (HasNext (salvage_of (store_at (mem_medium disk.new).image shape.now))) }
+{
+    match salvage(alloc, disk, shape)? {
+        None => Ok(Bytes::new(Vec::from_slice(alloc, &INITIAL)?)),
+        Some(view) => {
+            if view.generation == u64::MAX {
+                return Err(CaseError::Case("no generation is left"));
+            }
+            Ok(first_of(view.entries.as_slice())?)
+        }
+    }
+}
+
+fn rebuilt(alloc: Global, plan: Plan, disk: &mut MemDisk) -> Result<(), CaseError> {
+    let shape = shape_by(alloc, plan)?;
+    let bytes = salvaged(alloc, disk, &shape)?;
+    let contents = contents(alloc, &shape, bytes)?;
+    rebuild(alloc, disk, &shape, contents)?;
+    Ok(())
+}
+
+// ---- with an open storage
+
+/// `get.KEY`, `set.KEY=VALUE`, `recover.KEY`; `fill=N` sets the keys k000 and on, so many; `sync`; `calls=N` lets so many calls of the
+/// disk pass; `spent=N` answers whether the last sync wrote at most so many bytes; `stop` cuts the power, so that what no sync made durable is gone.
+fn open(alloc: Global, disk: MemDisk, kvs: Kvs, spent: u64, call: &str) -> Result<Step, CaseError>
+    requires { IsKvs true (mem_medium disk).image kvs }
+    ensures { IfOk result (λ step. IsInUse step.stage) }
+{
+    match call {
+        "sync" => return synced(alloc, disk, kvs),
+        "stop" => return then(alloc, Stage::Closed(disk.crash(false)?), "ok"),
+        _ => {}
+    }
+    let (word, rest) = parted(call, "=");
+    let mut disk = disk;
+    let mut kvs = kvs;
+    let answer = match word {
+        "calls" => {
+            disk.stop_after(number(rest));
+            said(alloc, "ok")?
+        }
+        "spent" => format!(in alloc; "{}", spent <= number(rest))?,
+        _ => called(alloc, &mut kvs, call)?,
+    };
+    let stage = Stage::Open { disk, kvs, spent };
+    Ok(Step { stage, answer })
+}
+
+fn synced(alloc: Global, disk: MemDisk, kvs: Kvs) -> Result<Step, CaseError>
+    requires { IsKvs true (mem_medium disk).image kvs }
+    ensures { IfOk result (λ step. IsInUse step.stage) }
+{
+    let mut disk = disk;
+    let before = disk.written();
+    match kvs.sync_to_storage(&mut disk) {
+        Ok(kvs) => {
+            let spent = disk.written().saturating_sub(before);
+            then(alloc, Stage::Open { disk, kvs, spent }, "ok")
+        }
+        Err(SyncFault::WornOut(kvs)) => {
+            let spent = disk.written().saturating_sub(before);
+            then(alloc, Stage::Open { disk, kvs, spent }, "WornOut")
+        }
+        Err(SyncFault::Device) => then(alloc, Stage::Closed(disk), "Device"),
+        Err(SyncFault::OutOfMemory(_)) => Err(CaseError::OutOfMemory),
+    }
+}
+
+/// The answer of a call that touches no disk.
+fn called(alloc: Global, kvs: &mut Kvs, call: &str) -> Result<String, CaseError>
+    ensures { OnOk result (StaysInUse kvs.old kvs.new) }
+{
+    if let Some((call, key)) = call.split_once('.') {
+        let (key, value) = parted(key, "=");
+        return single(alloc, kvs, call, &Name::new(alloc, key)?, value);
+    }
+    let (_, rest) = parted(call, "=");
+    fill(alloc, kvs, number(rest))
+}
+
+fn single(
+    alloc: Global,
+    kvs: &mut Kvs,
+    call: &str,
+    key: &Name,
+    value: &str,
+) -> Result<String, CaseError>
+    ensures { OnOk result (StaysInUse kvs.old kvs.new) }
+{
+    match call {
+        "get" => read(alloc, kvs.get_any(key)),
+        "set" => {
+            let value = parse_value(alloc, value.as_bytes())?;
+            done(alloc, kvs.set_any(key, value))
+        }
+        _ => done(alloc, kvs.recover_key(key)),
+    }
+}
+
+fn fill(alloc: Global, kvs: &mut Kvs, count: u64) -> Result<String, CaseError>
+    ensures { OnOk result (StaysInUse kvs.old kvs.new) }
+{
+    for number in 0..count.min(60_000) as u16 {
+        let text = format!(in alloc; "k{number:03}")?;
+        let name = Name::new(alloc, &text)?;
+        kvs.set_value(&name, &number)?;
+    }
+    said(alloc, "ok")
+}

@@ -1,0 +1,12 @@
+//! The three ends that tie the engine to a system: a folder as a disk, a reader as a source, a writer as a sink.
+//!
+//! Each meets its trait: it fails only where its count of failures rises, and it neither panics nor hangs in code of its own. None
+//! tells what it holds, since no contract can say what a file gives: over these ends the causes of failures and the safety of every
+//! call are proved, and what a folder holds is trusted.
+#![tactic(auto)]
+
+mod folder;
+mod standard;
+
+pub use folder::DirDisk;
+pub use standard::{StdSink, StdSource};
