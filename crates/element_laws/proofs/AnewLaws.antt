@@ -1,5 +1,5 @@
 -- A corrupt storage that is made anew, and places that are clean.
-use Rattle.std.proofs.Common.{◌≡◌, ℕ, ◌*◌, ◌<◌, ◌≤◌, ◌⊎◌, Bool, true, List, [], length, Some, refl, sym, ap, subst, ◌∙◌, inl, inr, arith}
+use Rattle.std.proofs.Common.{◌≡◌, ℕ, ◌+◌, ◌*◌, ◌<◌, ◌≤◌, ◌⊎◌, Bool, true, List, [], length, Some, refl, sym, ap, subst, ◌∙◌, inl, inr, arith}
 use Rattle.std.specs.Prelude.{map, slice_index}
 use Rattle.disk_model.specs.Image.{Image}
 use Rattle.disk_model.specs.Case.{Case, IsSettledAt}
@@ -9,27 +9,28 @@ use Rattle.disk_model.specs.Place.{slot, area, IsNoArea}
 use Rattle.hash_guard.specs.SealedText.{VerifiesAs}
 use Rattle.std.proofs.lemmas.Bool.{cases_eq}
 use Rattle.guarded_cell.specs.Register.{Holds, IsKeptAlone, own, other}
-use Rattle.guarded_cell.specs.Stops.{IsOldOrNew}
+use Rattle.guarded_cell.specs.Stops.{KeepsText, IsOldOrNew}
 use Rattle.guarded_cell.specs.StopLaws.{alone_only}
 use Rattle.block_files.specs.Aside.{Where, AsideLaw}
+use Rattle.block_files.specs.Areas.{within}
 use Rattle.block_files.specs.Contents.{counting}
 use Rattle.index_text.specs.declared.entries.Index.{Index}
 use Rattle.index_text.specs.declared.entries.IndexEntry.{IndexEntry}
 use Rattle.index_text.specs.Reading.{index_of}
 use Rattle.element_state.specs.declared.shapes.Shape.{Shape}
-use Rattle.element_state.specs.Fit.{fit_index}
+use Rattle.element_state.specs.Fit.{FitText, fit_index}
 use Rattle.element_state.specs.Clean.{where_of, counting_at, IsNamed, IsPiece, in_blocks, IsCounted}
-use Rattle.element_laws.specs.Phases.{IsGivenUp, GivenUpLaw, IsWritten, TakesNamed, TakenLaw, AnewContentsLaw, AnewDoneLaw, AnewIndexLaw, AreAgreed, CleanLaw, AdoptedLaw, SoundLaw, SettledLaw}
-use Rattle.element_laws.proofs.Lists.{In, all_by, all_in, Contains-In, In-map, map-In, some_is, zip_with, zip_find}
+use Rattle.element_laws.specs.Phases.{IsSalvageAt, IsGivenUp, GivenUpLaw, IsWritten, TakesNamed, TakenLaw, AnewContentsLaw, AnewDoneLaw, AnewIndexLaw, AreAgreed, CleanLaw, AdoptedLaw, SoundLaw, SettledLaw}
+use Rattle.element_laws.proofs.Lists.{In, In-Contains, nothing_listed, all_by, all_in, Contains-In, In-map, map-In, some_is, zip_with, zip_find}
 use Rattle.element_laws.proofs.Copies.{Gives, backed_alike}
 use Rattle.element_laws.proofs.Fits.{fit-spelled}
 use Rattle.element_laws.proofs.Standing.{gift_of}
 use Rattle.element_laws.proofs.Left.{is_whole_at, value_at}
-use Rattle.element_laws.proofs.Keeping.{IsFewer, WasHeld}
-use Rattle.element_laws.proofs.Frames.{slot_no_area, area_no_slot, its_blocks, given_piece, fewer_decays}
-use Rattle.element_laws.proofs.Phases.{fewer_kept, room, sound_slots, decays_slots, given_then, whole_then}
+use Rattle.element_laws.proofs.Keeping.{IsFewer, KeepsAll, WasHeld}
+use Rattle.element_laws.proofs.Frames.{slot_no_area, area_no_slot, its_blocks, given_piece, fewer_decays, keeps_decays}
+use Rattle.element_laws.proofs.Phases.{fewer_kept, salvage_corrupt, one_salvage, salvage_held, room, sound_slots, decays_slots, given_then, whole_then}
 use Rattle.element_laws.proofs.NewText.{EntryStands}
-use Rattle.element_laws.proofs.TwoTexts.{two_clean, corrupt_two}
+use Rattle.element_laws.proofs.TwoTexts.{SalvageKept, two_clean, corrupt_two}
 use Rattle.element_laws.proofs.IndexLaws.{names_it, written_stands}
 
 -- a text that is held after all but one were taken away is that one, and was held
@@ -43,16 +44,18 @@ kept_alone first copies g t old new alone copy h u lt v = elim (cases_eq (own h)
 ]
 
 pub given_up : GivenUpLaw
-given_up shape start now g t clean corrupt alone areas = (
+given_up shape start now text clean salvage alone areas = (
   record {
     clean = clean;
-    corrupt = corrupt;
+    corrupt = salvage_corrupt shape start text salvage;
     less = λ copy lt h u v.
-        let k = kept_alone shape.place.first shape.place.copies g t start now alone copy h u lt v in
-        subst (λ (n : ℕ). Holds start shape.place.first copy n u) (sym k.0) (subst (λ (x : List ℕ). Holds start shape.place.first copy g x) (sym k.1) k.2);
+        let k = kept_alone shape.place.first shape.place.copies text.0.generation text.0.text start now alone copy h u lt v in
+        subst (λ (n : ℕ). Holds start shape.place.first copy n u) (sym k.0) (subst (λ (x : List ℕ). Holds start shape.place.first copy text.0.generation x) (sym k.1) k.2);
+    salvage = λ other is. subst (λ (x : FitText). KeepsText shape.place.first shape.place.copies x.0.generation x.0.text [] start now)
+        (one_salvage shape start text other salvage is) (λ copy lt spared held. alone.held copy lt held);
     areas = areas;
   },
-  λ copy h u lt v. let k = kept_alone shape.place.first shape.place.copies g t start now alone copy h u lt v in (k.0, k.1),
+  λ copy h u lt v. let k = kept_alone shape.place.first shape.place.copies text.0.generation text.0.text start now alone copy h u lt v in (k.0, k.1),
 )
 
 pub taken_named : TakenLaw
@@ -92,28 +95,73 @@ anew_fewer aside shape start now taken old c given_up takes settled keeps sound 
           subst (λ (file : List ℕ). counting file at.blocks at.len at.hash ≡ Some w) (area_was copy) (stand.piece w from);
     }
 
+-- the copies that held the text of the salvage hold it, and give its contents as before
+anew_keeps : AsideLaw → (shape : Shape) (start now : Image) (taken : ℕ → Bool) (damaged : List ℕ) (old c : Case) → IsGivenUp shape start now → TakesNamed taken shape.place now → IsSettledAt now old
+    → KeepsCase (IsNoArea shape.place.first shape.place.copies) (λ k. taken k ≡ true) old c → (text : FitText) → IsSalvageAt shape start text
+    → KeepsAll shape text.0.generation text.0.text damaged start c.left
+anew_keeps aside shape start now taken damaged old c given_up takes settled keeps text salvage =
+    let first = shape.place.first in
+    let copies = shape.place.copies in
+    let slot_same = λ (copy h : ℕ). keeps.left.files (slot first copy (own h)) (slot_no_area first copies copy h) ∙ ap (λ (image : Image). image (slot first copy (own h))) settled.left in
+    let area_was = λ (copy : ℕ). given_up.areas (area first copy) (area_no_slot first copies copy) in
+    let still = λ (copy : ℕ) (lt : copy < copies) (held : Holds start first copy text.0.generation text.0.text).
+    given_up.salvage text salvage copy lt (λ k small. nothing_listed (first + 4 * copy + k)) held in
+    let at_text = salvage_held shape start text salvage in
+    record {
+      text = λ copy lt spared held. subst (λ (bytes : List ℕ). VerifiesAs bytes text.0.generation text.0.text) (sym (slot_same copy text.0.generation)) (still copy lt held);
+      whole = λ i spells e k copy v lt spared was gave.
+          let at = where_of e in
+          let named : IsNamed shape.place now at = record {
+            copy = at_text.0;
+            generation = text.0.generation;
+            text = text.0.text;
+            index = i;
+            inside = at_text.1;
+            held = still at_text.0 at_text.1 at_text.2;
+            spelled = spells;
+            named = In-Contains at (map where_of i.entries) (map-In where_of e i.entries k);
+          } in
+          let took = takes at named in
+          let stand = aside first copies taken now old c settled keeps at took.0 took.1 (area first copy) in
+          let now_is = subst (λ (file : List ℕ). (within file at.blocks at.len ≡ true) × (counting file at.blocks at.len at.hash ≡ Some v)) (sym (area_was copy)) (was, gave) in
+          let then = stand.whole now_is.0 in
+          (then.1, then.0 ∙ now_is.1);
+    }
+
 pub anew_contents : AsideLaw → AnewContentsLaw
 anew_contents aside shape start now taken after old c positive given_up takes settled keeps sound damaged image d =
     fewer_kept shape start image damaged after positive given_up.clean given_up.corrupt
     (fewer_decays shape damaged c.left image d start (anew_fewer aside shape start now taken old c given_up takes settled keeps sound.pieces))
+    (λ text is. keeps_decays shape damaged c.left image d text.0.generation text.0.text start (anew_keeps aside shape start now taken damaged old c given_up takes settled keeps text is))
 
 -- after whole writes, with nothing pending
+whole_case : (shape : Shape) (now then : Image) (taken : ℕ → Bool) → Keeps (IsNoArea shape.place.first shape.place.copies) (λ k. taken k ≡ true) now then
+    → KeepsCase (IsNoArea shape.place.first shape.place.copies) (λ k. taken k ≡ true) (record { base = now; full = now; left = now }) (record { base = now; full = then; left = then })
+whole_case shape now then taken keeps = record {
+  base = refl;
+  full = keeps;
+  left = record { files = keeps.files; bytes = λ f k j lt apart inside. keeps.bytes f k j lt apart; no_shorter = keeps.no_shorter };
+}
+
 anew_then : AsideLaw → (shape : Shape) (start now then : Image) (taken : ℕ → Bool) → IsGivenUp shape start now → TakesNamed taken shape.place now
     → Keeps (IsNoArea shape.place.first shape.place.copies) (λ k. taken k ≡ true) now then → IsFewer shape start then
 anew_then aside shape start now then taken given_up takes keeps =
     anew_fewer aside shape start now taken (record { base = now; full = now; left = now }) (record { base = now; full = then; left = then }) given_up takes
-    (record { base = refl; full = refl; left = refl })
-    (record {
-      base = refl;
-      full = keeps;
-      left = record { files = keeps.files; bytes = λ f k j lt apart inside. keeps.bytes f k j lt apart; no_shorter = keeps.no_shorter };
-    })
-    (λ x is. inr is)
+    (record { base = refl; full = refl; left = refl }) (whole_case shape now then taken keeps) (λ x is. inr is)
+
+keeps_then : AsideLaw → (shape : Shape) (start now then : Image) (taken : ℕ → Bool) (damaged : List ℕ) → IsGivenUp shape start now → TakesNamed taken shape.place now
+    → Keeps (IsNoArea shape.place.first shape.place.copies) (λ k. taken k ≡ true) now then → (text : FitText) → IsSalvageAt shape start text
+    → KeepsAll shape text.0.generation text.0.text damaged start then
+keeps_then aside shape start now then taken damaged given_up takes keeps =
+    anew_keeps aside shape start now taken damaged (record { base = now; full = now; left = now }) (record { base = now; full = then; left = then }) given_up takes
+    (record { base = refl; full = refl; left = refl }) (whole_case shape now then taken keeps)
 
 pub anew_done : AsideLaw → AnewDoneLaw
 anew_done aside shape start now then taken after c positive given_up takes keeps settled sound damaged image d =
     fewer_kept shape start image damaged after positive given_up.clean given_up.corrupt
     (fewer_decays shape damaged c.left image d start (subst (λ (im : Image). IsFewer shape start im) (sym settled.left) (anew_then aside shape start now then taken given_up takes keeps)))
+    (λ text is. keeps_decays shape damaged c.left image d text.0.generation text.0.text start
+    (subst (λ (im : Image). KeepsAll shape text.0.generation text.0.text damaged start im) (sym settled.left) (keeps_then aside shape start now then taken damaged given_up takes keeps text is)))
 
 -- a text is one of before, below the new generation, or the new one
 old_or_anew : (shape : Shape) (start then new : Image) (g : ℕ) (next : List ℕ) → IsFewer shape start then
@@ -137,7 +185,7 @@ as_given : (shape : Shape) (start : Image) (at : Where) (copy : ℕ) (w : List �
 as_given shape start at copy w gives = inl gives
 
 pub anew_index : AsideLaw → AnewIndexLaw
-anew_index aside shape start now then taken g next new_index view others c positive given_up takes below keeps fit generation_is entries stops sound damaged image d =
+anew_index aside shape start now then taken g next new_index view others c positive given_up takes below next_is keeps fit generation_is entries stops sound damaged image d =
     let first = shape.place.first in
     let copies = shape.place.copies in
     let fewer = anew_then aside shape start now then taken given_up takes keeps in
@@ -174,9 +222,26 @@ anew_index aside shape start now then taken g next new_index view others c posit
     let alike_new = λ (e : IndexEntry) (h : In e new_index.entries) (is : IsNamed shape.place image (where_of e)).
     let found = zip_find (IsWritten shape then) new_index.entries view.entries e entries h in
     let stands = written_stands shape start then image damaged given whole e found.0 is found.2 in
-    backed_alike shape.m copies (gift_of image shape (where_of e)) found.0.content stands.backed in (
+    backed_alike shape.m copies (gift_of image shape (where_of e)) found.0.content stands.backed in
+    let kept = λ (text : FitText) (is : IsSalvageAt shape start text).
+    let all = keeps_then aside shape start now then taken damaged given_up takes keeps text is in
+    let after = next_is text is in
+    let own_is : own text.0.generation ≡ own (g + 1) = omega (arith, after) in
+    let held : KeepsText first copies text.0.generation text.0.text damaged start image ⊎ ((copy : ℕ) → copy < copies → IsUndamaged damaged first copy → Holds image first copy g next) =
+    elim it.stands [
+      | inl old ↦ inl (λ copy lt spared was. old copy lt spared text.0.generation text.0.text own_is (all.text copy lt spared was))
+      | inr newer ↦ inr newer
+    ] in
+    let salvage_kept : SalvageKept shape damaged start image g next text = record {
+      below = omega (arith, after);
+      held = held;
+      whole = λ i spells e k copy v lt spared was gave.
+          let there = all.whole i spells e k copy v lt spared was gave in
+          whole (where_of e) copy v spared there.0 there.1;
+    } in
+    salvage_kept in (
       corrupt_two shape start image damaged positive given_up.clean g next new_index view others fit generation_is stand texts counted alike_new given_up.corrupt
-          (λ copy h u lt apart v. fewer.held copy lt h u (same_copy copy h u lt apart v)) same_gift,
+          (λ copy h u lt apart v. fewer.held copy lt h u (same_copy copy h u lt apart v)) same_gift kept,
       two_clean shape start image damaged positive given_up.clean g next new_index view others fit generation_is stand texts counted alike_new,
     )
 

@@ -209,7 +209,7 @@ pick_greatest q (x ∷ xs) y g h is most one = elim (q x) as (λ b. q x ≡ b �
       ((r.0.0, x ∷ r.0.1), ap (beside x) r.1, r.2)
 ] refl
 
-nothing_beside : {A : Type 0} (x : A) (o : Option (A × List A)) → beside x o ≡ None → o ≡ None
+pub nothing_beside : {A : Type 0} (x : A) (o : Option (A × List A)) → beside x o ≡ None → o ≡ None
 nothing_beside x None e = refl
 nothing_beside x (Some r) e = absurd (not_none (r.0, x ∷ r.1) e)
 

@@ -14,7 +14,7 @@ use Rattle.element_state.specs.Clean.{where_of, IsNamed, IsPiece, in_slot, in_bl
 use Rattle.element_laws.proofs.Copies.{Gives}
 use Rattle.element_laws.proofs.Standing.{gift_of}
 use Rattle.element_laws.proofs.Left.{is_whole_at}
-use Rattle.element_laws.proofs.Keeping.{IsLess, IsFewer}
+use Rattle.element_laws.proofs.Keeping.{IsLess, IsFewer, KeepsAll}
 
 pub own_small : (g : ℕ) → own g < 2
 own_small g = omega arith
@@ -93,4 +93,10 @@ module _ (shape : Shape) (damaged : List ℕ) (left new : Image) (d : DecaysFor 
   fewer_decays old fewer = record {
     held = λ copy lt h u v. fewer.held copy lt h u (held_back copy h u lt v);
     counted = λ at is copy w lt gives. fewer.counted at (named_back at is) copy w lt (given_back at is copy w lt gives);
+  }
+
+  pub keeps_decays : (g : ℕ) (t : List ℕ) (old : Image) → KeepsAll shape g t damaged old left → KeepsAll shape g t damaged old new
+  keeps_decays g t old keeps = record {
+    text = λ copy lt spared v. held_on copy g t spared (keeps.text copy lt spared v);
+    whole = λ i spells e k copy v lt spared was gave. whole_on copy (where_of e) v spared (keeps.whole i spells e k copy v lt spared was gave);
   }

@@ -1,6 +1,6 @@
 -- A stop and damage that put no new text and no new content on the disk keep a storage.
-use Rattle.std.proofs.Common.{◌≡◌, ℕ, ◌<◌, ◌≤◌, ◌⊎◌, true, List, [], ◌∷◌, Option, Some, None, refl, sym, ap, subst, ◌∙◌, inl, inr, arith}
-use Rattle.std.specs.Prelude.{map}
+use Rattle.std.proofs.Common.{◌≡◌, ℕ, ◌<◌, ◌≤◌, ◌⊎◌, Bool, true, false, List, [], ◌∷◌, Option, Some, None, refl, sym, ap, subst, ◌∙◌, inl, inr, arith}
+use Rattle.std.specs.Prelude.{map, cond, find}
 use Rattle.std.proofs.lemmas.Bool.{cases_eq}
 use Rattle.disk_model.specs.Image.{Image}
 use Rattle.disk_model.specs.Damage.{IsUndamaged}
@@ -15,14 +15,15 @@ use Rattle.element_state.specs.declared.shapes.Shape.{Shape}
 use Rattle.element_state.specs.declared.shapes.View.{View}
 use Rattle.element_state.specs.Fit.{FitText, fit_index, fit_texts}
 use Rattle.element_state.specs.Views.{qualifies, view_of}
-use Rattle.element_state.specs.States.{State, Opens, picked, state_of, store_at, corrupt_state, salvage_of}
+use Rattle.element_state.specs.States.{State, Opens, beside, picked, state_of, store_at, corrupt_state, salvage_of}
 use Rattle.element_state.specs.Clean.{where_of, IsNamed, IsClean}
-use Rattle.element_state.specs.Kept.{HasEnough, CostsNoCopy, all_views, listed, Kept}
-use Rattle.element_laws.proofs.Lists.{In, append-In}
+use Rattle.element_state.specs.Chosen.{chosen, first_of, or_first}
+use Rattle.element_state.specs.Kept.{IsSpared, HasEnough, HasOne, CostsNoCopy, IsLeftAs, SalvageStays, all_views, listed, Kept}
+use Rattle.element_laws.proofs.Lists.{In, append-In, some_is, not_none}
 use Rattle.element_laws.proofs.Copies.{Gives, voted_given}
-use Rattle.element_laws.proofs.Fits.{fit_at, IsFit, In-fit, fit-In, fit-spelled, fit_descends, picked_max, picked_parts, none_passes, views-In}
-use Rattle.element_laws.proofs.Standing.{gift_of, StandsFor, one_fit, EachStands, SparesCopies, Found, kept_opens, corrupt_kept}
-use Rattle.element_laws.proofs.Left.{is_whole_at, value_at, named, stands_left, costs_left, enough_left, enough_held, qualifies_left, qualifies_back}
+use Rattle.element_laws.proofs.Fits.{fit_at, IsFit, In-fit, fit-In, fit-spelled, fit_descends, nothing_beside, pick_greatest, picked_max, picked_parts, none_passes, views-In}
+use Rattle.element_laws.proofs.Standing.{gift_of, StandsFor, one_fit, EachStands, SparesCopies, Found, same_headings, keeps_each, kept_opens, corrupt_kept}
+use Rattle.element_laws.proofs.Left.{is_whole_at, value_at, named, numbers_lacking, spared_holds, lacking_view, stands_left, costs_left, each_left, enough_left, enough_held, qualifies_left, qualifies_back}
 
 -- copies hold no other text than this
 abbrev pub HoldsOnly : Shape → Image → ℕ → List ℕ → Type 0
@@ -223,6 +224,70 @@ module _ (shape : Shape) (old new : Image) (damaged : List ℕ) (positive : 1 �
 
 -- ---- from a storage that was corrupt
 
+-- outside the damage a copy that held the text holds it, and gives its contents whole as before
+pub record KeepsAll (shape : Shape) (g : ℕ) (t : List ℕ) (damaged : List ℕ) (old new : Image) : Type 0 where
+  pub text : KeepsText shape.place.first shape.place.copies g t damaged old new
+  pub whole : (i : Index) → index_of t ≡ Some i → (e : IndexEntry) → In e i.entries → (copy : ℕ) (v : List ℕ) → copy < shape.place.copies
+      → IsUndamaged damaged shape.place.first copy → is_whole_at old shape copy (where_of e) ≡ true → Gives (gift_of old shape (where_of e)) copy v
+      → (is_whole_at new shape copy (where_of e) ≡ true) × Gives (gift_of new shape (where_of e)) copy v
+
+pub less_keeps : (shape : Shape) (g : ℕ) (t : List ℕ) (damaged : List ℕ) (old new : Image) → IsLess shape g t damaged old new → KeepsAll shape g t damaged old new
+less_keeps shape g t damaged old new less = record { text = less.text; whole = less.whole }
+
+-- a text that fits, and whose contents are those of before, shows what is left of its view
+pub left_as : (shape : Shape) (old new : Image) (damaged : List ℕ) → 1 ≤ shape.m → IsClean shape old → IsClean shape new → (copy g : ℕ) (t : List ℕ) (i : Index)
+    → copy < shape.place.copies → Holds old shape.place.first copy g t → fit_index shape t ≡ Some i
+    → ((e : IndexEntry) → In e i.entries → (copy : ℕ) (w : List ℕ) → copy < shape.place.copies → Gives (gift_of new shape (where_of e)) copy w
+    → Gives (gift_of old shape (where_of e)) copy w ⊎ (value_at old shape (where_of e) ≡ Some w))
+    → ((e : IndexEntry) → In e i.entries → (copy : ℕ) (v : List ℕ) → copy < shape.place.copies → IsUndamaged damaged shape.place.first copy
+    → is_whole_at old shape copy (where_of e) ≡ true → Gives (gift_of old shape (where_of e)) copy v
+    → (is_whole_at new shape copy (where_of e) ≡ true) × Gives (gift_of new shape (where_of e)) copy v)
+    → IsLeftAs shape damaged (view_of new shape (fit_at new shape g t i)) (view_of old shape (fit_at old shape g t i))
+left_as shape old new damaged positive clean new_clean copy g t i inside held fit counted whole =
+    let stands = stands_left shape old new damaged positive clean copy g t i inside held fit counted in
+    record {
+      same = same_headings shape new damaged positive new_clean g t i (view_of old shape (fit_at old shape g t i)) stands;
+      good = keeps_each shape new damaged positive new_clean g t i (view_of old shape (fit_at old shape g t i)) stands
+          (each_left shape old new damaged positive clean copy g t i inside held fit counted whole);
+      copies = costs_left shape old new damaged positive clean copy g t i inside held fit counted whole;
+    }
+
+-- the first of the texts that fit has the greatest generation, and is held where a copy of it is left
+pub at_first : (shape : Shape) (old : Image) (x : FitText) (xs : List FitText) → fit_texts shape old ≡ x ∷ xs → IsFit old shape x
+at_first shape old x xs are = In-fit old shape x (subst (λ (ys : List FitText). In x ys) (sym are) (inl refl))
+
+pub first_greatest : (shape : Shape) (old : Image) (x : FitText) (xs : List FitText) → fit_texts shape old ≡ x ∷ xs → (z : FitText) → In z (fit_texts shape old)
+    → z.0.generation ≤ x.0.generation
+first_greatest shape old x xs are z h = picked_max (λ (u : FitText). true) (fit_texts shape old) (x, xs) (fit_descends old shape)
+    (subst (λ (ys : List FitText). picked (λ (u : FitText). true) ys ≡ Some (x, xs)) (sym are) refl) z h refl
+
+pub first_held : (shape : Shape) (old : Image) (damaged : List ℕ) (x : FitText) (xs : List FitText) (are : fit_texts shape old ≡ x ∷ xs) (one : HasOne shape damaged (view_of old shape x).lacking)
+    → IsUndamaged damaged shape.place.first one.0 × Holds old shape.place.first one.0 (at_first shape old x xs are).generation (at_first shape old x xs are).text
+first_held shape old damaged x xs are one =
+    let at = at_first shape old x xs are in
+    let spared : IsSpared shape damaged (numbers_lacking shape old at.generation at.text at.index shape.scope) one.0 = subst (λ (ls : List ℕ). IsSpared shape damaged ls one.0)
+    (ap (λ (u : FitText). (view_of old shape u).lacking) (sym at.is) ∙ lacking_view shape old at.generation at.text at.index) one.2 in
+    (spared.0, spared_holds shape old at.generation at.text at.index shape.scope one.0 one.1 spared.1)
+
+-- the salvage is the view of the first text
+pub first_salvage : (view : FitText → View) (ts : List FitText) (r : FitText × List FitText) → picked (λ (u : FitText). true) ts ≡ Some r
+    → salvage_of (corrupt_state (map view ts)) ≡ Some (view r.0)
+first_salvage view [] r e = absurd (not_none r (sym e))
+first_salvage view (x ∷ xs) r e = ap (λ (s : FitText × List FitText). Some (view s.0)) (some_is (x, xs) r e)
+
+none_found : (q : FitText → Bool) (ts : List FitText) → picked q ts ≡ None → find q ts ≡ None
+none_found q [] e = refl
+none_found q (x ∷ xs) e = elim (q x) as (λ b. cond b (Some (x, xs)) (beside x (picked q xs)) ≡ None → cond b (Some x) (find q xs) ≡ None) [
+  | true ↦ λ n. absurd (not_none (x, xs) n)
+  | false ↦ λ n. none_found q xs (nothing_beside x (picked q xs) n)
+] e
+
+pub first_chosen : (shape : Shape) (old : Image) (x : FitText) (xs : List FitText) → fit_texts shape old ≡ x ∷ xs
+    → picked (qualifies old shape) (fit_texts shape old) ≡ None → chosen old shape ≡ Some (false, x)
+unfolding chosen
+first_chosen shape old x xs are none =
+    ap (or_first (fit_texts shape old)) (none_found (qualifies old shape) (fit_texts shape old) none) ∙ ap first_of are
+
 -- copies hold only texts that they held, and give only contents that they gave
 pub record IsFewer (shape : Shape) (old new : Image) : Type 0 where
   pub held : HoldsLess shape.place.first shape.place.copies old new
@@ -267,9 +332,64 @@ module _ (shape : Shape) (old new : Image) (damaged : List ℕ) (positive : 1 �
     unfolding store_at
     never_opens w rest is = still_none (picked (qualifies new shape) (fit_texts shape new)) refl w rest is
 
-    pub fewer_corrupt : (after : State) → Kept shape damaged (store_at new shape) (store_at old shape) after
-    fewer_corrupt after =
+    -- and the salvage is the one of before, where a copy of it is left
+    module _ (x : FitText) (xs : List FitText) (are : fit_texts shape old ≡ x ∷ xs) (keeps : KeepsAll shape x.0.generation x.0.text damaged old new)
+        (one : HasOne shape damaged (view_of old shape x).lacking) where
+      abbrev at_x : IsFit old shape x
+      at_x = at_first shape old x xs are
+
+      keeps_x : KeepsAll shape at_x.generation at_x.text damaged old new
+      keeps_x = subst (λ (u : FitText). KeepsAll shape u.0.generation u.0.text damaged old new) (sym at_x.is) keeps
+
+      still : Holds new shape.place.first one.0 at_x.generation at_x.text
+      still = keeps_x.text one.0 one.1 (first_held shape old damaged x xs are one).0 (first_held shape old damaged x xs are one).1
+
+      abbrev y : FitText
+      y = fit_at new shape at_x.generation at_x.text at_x.index
+
+      y_In : In y (fit_texts shape new)
+      y_In = fit-In new shape one.0 at_x.generation at_x.text at_x.index one.1 still at_x.fit
+
+      greatest : (z : FitText) → In z (fit_texts shape new) → true ≡ true → z.0.generation ≤ at_x.generation
+      greatest z h passes =
+          let w = In-fit new shape z h in
+          let there = fit-In old shape w.copy w.generation w.text w.index w.inside (fewer.held w.copy w.inside w.generation w.text w.holds) w.fit in
+          let max : w.generation ≤ x.0.generation = first_greatest shape old x xs are (fit_at old shape w.generation w.text w.index) there in
+          let a : w.generation ≡ z.0.generation = ap (λ (u : FitText). u.0.generation) w.is in
+          let b : at_x.generation ≡ x.0.generation = ap (λ (u : FitText). u.0.generation) at_x.is in
+          omega (arith, max, a, b)
+
+      left_x : IsLeftAs shape damaged (view_of new shape y) (view_of old shape x)
+      left_x = subst (λ (u : FitText). IsLeftAs shape damaged (view_of new shape y) (view_of old shape u)) at_x.is
+          (left_as shape old new damaged positive clean fewer_clean at_x.copy at_x.generation at_x.text at_x.index at_x.inside at_x.holds at_x.fit
+          (λ e k c w ltc gives. inl (fewer.counted (where_of e) (named shape new fewer_clean one.0 at_x.generation at_x.text at_x.index one.1 still at_x.fit e k) c w ltc gives))
+          (keeps_x.whole at_x.index (fit-spelled shape at_x.text at_x.index at_x.fit)))
+
+      salvage_here : (o : Option (FitText × List FitText)) → picked (qualifies new shape) (fit_texts shape new) ≡ o
+          → salvage_of (state_of (view_of new shape) (fit_texts shape new) o) ≡ Some (view_of new shape y)
+      salvage_here None e =
+          let r = pick_greatest (λ (u : FitText). true) (fit_texts shape new) y (fit_descends new shape) y_In refl greatest
+          (λ z h same. one_fit shape new fewer_clean z y h y_In same) in
+          first_salvage (view_of new shape) (fit_texts shape new) r.0 r.1 ∙ ap (λ (u : FitText). Some (view_of new shape u)) r.2
+      salvage_here (Some r) e = absurd (still_none (Some r) e (view_of new shape r.0) (map (view_of new shape) r.1) refl)
+
+      salvage_now : salvage_of (store_at new shape) ≡ Some (view_of new shape y)
+      unfolding store_at
+      salvage_now = salvage_here (picked (qualifies new shape) (fit_texts shape new)) refl
+
+    salvage_stays : (after : State) (ts : List FitText) → fit_texts shape old ≡ ts
+        → ((text : FitText) → chosen old shape ≡ Some (false, text) → KeepsAll shape text.0.generation text.0.text damaged old new)
+        → SalvageStays shape damaged (store_at new shape) (corrupt_state (map (view_of old shape) ts)) after
+    salvage_stays after [] are keeps = tt
+    salvage_stays after (x ∷ xs) are keeps = λ one.
+        let here = keeps x (first_chosen shape old x xs are none) in
+        (view_of new shape (y x xs are here one), salvage_now x xs are here one, inl (left_x x xs are here one))
+
+    pub fewer_corrupt : (after : State) → ((text : FitText) → chosen old shape ≡ Some (false, text) → KeepsAll shape text.0.generation text.0.text damaged old new)
+        → Kept shape damaged (store_at new shape) (store_at old shape) after
+    fewer_corrupt after keeps =
         subst (λ s. Kept shape damaged (store_at new shape) s after) (sym was_corrupt)
         (corrupt_kept shape new damaged positive fewer_clean (map (view_of old shape) (fit_texts shape old)) after
         (subst (λ s. EachStands shape new damaged positive fewer_clean s after) was_corrupt (each_fewer after))
-        (λ w rest is. absurd (never_opens w rest is)))
+        (λ w rest is. absurd (never_opens w rest is))
+        (salvage_stays after (fit_texts shape old) refl keeps))

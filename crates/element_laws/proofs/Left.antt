@@ -32,7 +32,7 @@ use Rattle.element_state.specs.Kept.{IsSpared, HasEnough, CostsNoCopy}
 use Rattle.element_laws.proofs.Lists.{In, In-Contains, map-In, not_none, some_is, not_false, both_true, true_both, or_false, not_is_false, false_not_true, there_is, none_any, list_all-In, In-list_all, zip_map, zip_right}
 use Rattle.element_laws.proofs.Copies.{Gift, Gives, gifts, AreAlike, Backed, backed_now, backed_less, voted_given, good_now, filtered_that, Contains_named, good_same, bad_good}
 use Rattle.element_laws.proofs.Fits.{fit_at, fit-spelled}
-use Rattle.element_laws.proofs.Standing.{gift_of, StandsFor, headings_of, generation_of, HasValue}
+use Rattle.element_laws.proofs.Standing.{gift_of, StandsFor, headings_of, generation_of, HasValue, HasEach}
 
 -- the copy has all bytes of a content within its area
 abbrev pub is_whole_at : Image → Shape → ℕ → Where → Bool
@@ -193,7 +193,7 @@ module _ (shape : Shape) (old : Image) (g : ℕ) (t : List ℕ) (i : Index) wher
       both_false (named_in f.lacking (c + 1)) (Contains_named f.lacking (c + 1) inside_it)
       (none_any (λ (f : Entry). named_in f.lacking (c + 1)) (entries_of old shape text_was) r.1 f (map-In (entry_view old shape.place shape.m) e i.entries h))
 
-  lacking_view : (view_of old shape text_was).lacking ≡ numbers_lacking shape.scope
+  pub lacking_view : (view_of old shape text_was).lacking ≡ numbers_lacking shape.scope
   unfolding view_of
   lacking_view = refl
 
@@ -294,6 +294,16 @@ module _ (shape : Shape) (old new : Image) (damaged : List ℕ) (positive : 1 �
     costs_left = zip_map (λ (e f : Entry). (value : List ℕ) (copy : ℕ) → f.content ≡ Good value → copy < n → IsSpared shape damaged f.lacking copy → ¬ (Contains e.lacking (copy + 1)))
         (entry_view new shape.place shape.m) (entry_view old shape.place shape.m) i.entries entry_costs
 
+    -- with enough copies left of an element, so many give its value
+    each_entry : (e : IndexEntry) → In e i.entries → HasEach shape new damaged e (entry_view old shape.place shape.m e)
+    each_entry e h v good some =
+        at_least_map (IsSpared shape damaged (entry_view old shape.place shape.m e).lacking) (λ c. Gives (gift_of new shape (where_of e)) c v) n shape.m
+        (λ c lt spared. (spared_gives e h v c lt good spared).1) some
+
+    pub each_left : AllZip (HasEach shape new damaged) i.entries (view_of old shape was).entries
+    unfolding view_of
+    each_left = zip_right (HasEach shape new damaged) (entry_view old shape.place shape.m) i.entries each_entry
+
     -- ---- with enough copies left
 
     abbrev store_numbers : Scope → List ℕ
@@ -304,9 +314,7 @@ module _ (shape : Shape) (old new : Image) (damaged : List ℕ) (positive : 1 �
       enough_of = enough_lacking shape old g t i damaged enough
 
       value_entry : (e : IndexEntry) → In e i.entries → HasValue shape new damaged e (entry_view old shape.place shape.m e)
-      value_entry e h v good (inr some) =
-          at_least_map (IsSpared shape damaged (entry_view old shape.place shape.m e).lacking) (λ c. Gives (gift_of new shape (where_of e)) c v) n shape.m
-          (λ c lt spared. (spared_gives e h v c lt good spared).1) some
+      value_entry e h v good (inr some) = each_entry e h v good some
       value_entry e h v good (inl storage) =
           let some = subst (λ (s : Scope). HasEnough shape damaged (store_numbers s)) storage enough_of in
           at_least_map (IsSpared shape damaged (store_numbers scope.Storage)) (λ c. Gives (gift_of new shape (where_of e)) c v) n shape.m

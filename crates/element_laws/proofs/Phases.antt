@@ -1,5 +1,5 @@
 -- The phases of a call, from the cases of a crash to what is kept.
-use Rattle.std.proofs.Common.{◌≡◌, ℕ, ◌*◌, ◌<◌, ◌≤◌, ◌⊎◌, Bool, true, List, [], ◌∷◌, Option, Some, None, refl, sym, ap, subst, ◌∙◌, inl, inr, arith}
+use Rattle.std.proofs.Common.{◌≡◌, ℕ, ◌*◌, ◌<◌, ◌≤◌, ◌⊎◌, Bool, true, false, List, [], ◌∷◌, Option, Some, None, cond, find, refl, sym, ap, subst, ◌∙◌, inl, inr, arith}
 use Rattle.std.specs.Prelude.{map, length, slice_index}
 use Rattle.disk_model.specs.Image.{Image}
 use Rattle.disk_model.specs.Case.{Case, IsSettledAt}
@@ -21,16 +21,17 @@ use Rattle.element_state.specs.declared.shapes.Shape.{Shape}
 use Rattle.element_state.specs.declared.shapes.View.{View}
 use Rattle.element_state.specs.Fit.{FitText, fit_texts}
 use Rattle.element_state.specs.Views.{qualifies, view_of}
-use Rattle.element_state.specs.States.{State, Opens, Corrupt, picked, state_of, store_at, corrupt_state}
+use Rattle.element_state.specs.States.{State, Opens, Corrupt, beside, picked, state_of, store_at, corrupt_state}
 use Rattle.element_state.specs.Clean.{where_of, IsNamed, IsPiece, in_slot, in_blocks, IsClean, IsSound}
+use Rattle.element_state.specs.Chosen.{chosen, or_first}
 use Rattle.element_state.specs.Kept.{Kept}
-use Rattle.element_laws.specs.Phases.{IsOfPlace, DamageLaw, UntouchedLaw, OpensAt, IsCorruptAt, IsAdopted, AdoptLaw, KeepLaw, TakesBlocks, ContentsLaw, ContentsDoneLaw}
-use Rattle.element_laws.proofs.Lists.{In, all_in, Contains-In, In-map, some_is}
+use Rattle.element_laws.specs.Phases.{IsOfPlace, DamageLaw, UntouchedLaw, OpensAt, IsCorruptAt, CorruptLaw, IsSalvageAt, IsAdopted, AdoptLaw, KeepLaw, TakesBlocks, ContentsLaw, ContentsDoneLaw}
+use Rattle.element_laws.proofs.Lists.{In, all_in, Contains-In, In-map, not_none, not_false, some_is}
 use Rattle.element_laws.proofs.Copies.{Gives}
 use Rattle.element_laws.proofs.Fits.{fit-spelled}
 use Rattle.element_laws.proofs.Standing.{gift_of, generation_of}
 use Rattle.element_laws.proofs.Left.{is_whole_at}
-use Rattle.element_laws.proofs.Keeping.{HoldsOnly, IsLess, IsFewer, its, its_generation, its_only, less_opens, less_clean, fewer_corrupt, fewer_clean}
+use Rattle.element_laws.proofs.Keeping.{HoldsOnly, IsLess, IsFewer, KeepsAll, less_keeps, at_first, its, its_generation, its_only, less_opens, less_clean, fewer_corrupt, fewer_clean}
 use Rattle.element_laws.proofs.Frames.{own_small, slot_no_area, area_no_slot, its_blocks, given_piece, given_back, whole_on, less_decays, fewer_decays}
 
 -- ---- at which text a storage opens
@@ -79,9 +80,10 @@ less_kept shape start new damaged g t i after positive clean opens less =
 
 -- from a corrupt one
 pub fewer_kept : (shape : Shape) (start new : Image) (damaged : List ℕ) (after : State) → 1 ≤ shape.m → IsClean shape start → IsCorruptAt shape start
-    → IsFewer shape start new → Kept shape damaged (store_at new shape) (store_at start shape) after × IsClean shape new
-fewer_kept shape start new damaged after positive clean corrupt fewer =
-    (fewer_corrupt shape start new damaged positive clean fewer (corrupt_pick shape start corrupt) after, fewer_clean shape start new damaged positive clean fewer)
+    → IsFewer shape start new → ((text : FitText) → IsSalvageAt shape start text → KeepsAll shape text.0.generation text.0.text damaged start new)
+    → Kept shape damaged (store_at new shape) (store_at start shape) after × IsClean shape new
+fewer_kept shape start new damaged after positive clean corrupt fewer keeps =
+    (fewer_corrupt shape start new damaged positive clean fewer (corrupt_pick shape start corrupt) after keeps, fewer_clean shape start new damaged positive clean fewer)
 
 -- ---- what nobody touched
 
@@ -115,7 +117,12 @@ module _ (shape : Shape) (start mid new : Image) (damaged : List ℕ) (after : S
   by_pick : (o : Option (FitText × List FitText)) → pick shape start ≡ o → Kept shape damaged (store_at new shape) (store_at start shape) after × IsClean shape new
   by_pick None e =
       let fewer = fewer_decays shape damaged mid new d start same_fewer in
-      (fewer_corrupt shape start new damaged positive clean fewer e after, fewer_clean shape start new damaged positive clean fewer)
+      (
+        fewer_corrupt shape start new damaged positive clean fewer e after (λ text is.
+        less_keeps shape text.0.generation text.0.text damaged start new
+        (less_decays shape damaged mid new d text.0.generation text.0.text start (same_less text.0.generation text.0.text))),
+        fewer_clean shape start new damaged positive clean fewer,
+      )
   by_pick (Some r) e =
       let fit = its shape start new damaged positive clean r e in
       let less = less_decays shape damaged mid new d fit.generation fit.text start (same_less fit.generation fit.text) in
@@ -129,6 +136,52 @@ damage shape start left damaged positive clean d = same_kept shape start start l
 
 pub untouched : UntouchedLaw
 untouched shape start after c positive clean settled sound damaged image d = same_kept shape start c.left image damaged after positive clean (λ f is. settled.left f is) d
+
+-- ---- where none qualifies
+
+none_picked : {A : Type 0} (q : A → Bool) (xs : List A) → find q xs ≡ None → picked q xs ≡ None
+none_picked q [] e = refl
+none_picked q (y ∷ ys) e = elim (q y) as (λ b. cond b (Some y) (find q ys) ≡ None → cond b (Some (y, ys)) (beside y (picked q ys)) ≡ None) [
+  | true ↦ λ e. absurd (not_none y e)
+  | false ↦ λ e. ap (beside y) (none_picked q ys e)
+] e
+
+is_corrupt : (vs : List View) → (salvage : Option View) × (others : List View) × (corrupt_state vs ≡ Corrupt salvage others)
+is_corrupt [] = (None, [], refl)
+is_corrupt (v ∷ vs) = (Some v, vs, refl)
+
+pub corrupt_found : CorruptLaw
+unfolding store_at
+corrupt_found shape start e =
+    let it = is_corrupt (map (view_of start shape) (fit_texts shape start)) in
+    (it.0, it.1, ap (state_of (view_of start shape) (fit_texts shape start)) (none_picked (qualifies start shape) (fit_texts shape start) e) ∙ it.2)
+
+-- ---- the text of a salvage
+
+first_false : (ts : List FitText) (o : Option FitText) (text : FitText) → or_first ts o ≡ Some (false, text) → o ≡ None
+first_false ts None text e = refl
+first_false ts (Some x) text e = absurd (not_false (sym (ap (λ (p : Bool × FitText). p.0) (some_is (true, x) (false, text) e))))
+
+pub salvage_corrupt : (shape : Shape) (start : Image) (text : FitText) → IsSalvageAt shape start text → IsCorruptAt shape start
+unfolding chosen
+salvage_corrupt shape start text is = corrupt_found shape start (first_false (fit_texts shape start) (find (qualifies start shape) (fit_texts shape start)) text is)
+
+first_list : (ts : List FitText) (o : Option FitText) (text : FitText) → or_first ts o ≡ Some (false, text) → (rest : List FitText) × (ts ≡ text ∷ rest)
+first_list ts (Some x) text e = absurd (not_false (sym (ap (λ (p : Bool × FitText). p.0) (some_is (true, x) (false, text) e))))
+first_list [] None text e = absurd (not_none (false, text) (sym e))
+first_list (y ∷ ys) None text e = (ys, ap (λ (p : Bool × FitText). p.1 ∷ ys) (some_is (false, y) (false, text) e))
+
+-- some copy holds it
+pub salvage_held : (shape : Shape) (start : Image) (text : FitText) → IsSalvageAt shape start text
+    → (copy : ℕ) × (copy < shape.place.copies) × Holds start shape.place.first copy text.0.generation text.0.text
+unfolding chosen
+salvage_held shape start text is =
+    let list = first_list (fit_texts shape start) (find (qualifies start shape) (fit_texts shape start)) text is in
+    let at = at_first shape start text list.0 list.1 in
+    (at.copy, at.inside, subst (λ (u : FitText). Holds start shape.place.first at.copy u.0.generation u.0.text) at.is at.holds)
+
+pub one_salvage : (shape : Shape) (start : Image) (text other : FitText) → IsSalvageAt shape start text → IsSalvageAt shape start other → text ≡ other
+one_salvage shape start text other a b = ap (λ (p : Bool × FitText). p.1) (some_is (false, text) (false, other) (sym a ∙ b))
 
 -- ---- slots are written, and no area
 
@@ -166,13 +219,18 @@ adopt shape start g t i after c positive clean opens stops sound damaged image d
     })
 
 pub keep : KeepLaw
-keep shape start g t after c positive clean corrupt stops sound damaged image d =
+keep shape start text after c positive clean salvage stops sound damaged image d =
     let known : HoldsLess shape.place.first shape.place.copies start image = stops.known (sound_slots shape c sound) damaged image (decays_slots shape c damaged image d) in
     let same = λ (copy : ℕ). stops.elsewhere.left (area shape.place.first copy) (area_no_slot shape.place.first shape.place.copies copy) in
-    fewer_kept shape start image damaged after positive clean corrupt (record {
+    let its : KeepsAll shape text.0.generation text.0.text damaged start image = record {
+      text = stops.kept (sound_slots shape c sound) damaged image (decays_slots shape c damaged image d);
+      whole = λ j spells e k copy v lt spared was gave. whole_then shape start c.left image damaged same d (where_of e) copy v spared was gave;
+    } in
+    fewer_kept shape start image damaged after positive clean (salvage_corrupt shape start text salvage) (record {
       held = known;
       counted = λ at is copy w lt gives. given_then shape start c.left image damaged same d at is copy w lt gives;
     })
+    (λ other is. subst (λ (u : FitText). KeepsAll shape u.0.generation u.0.text damaged start image) (one_salvage shape start text other salvage is) its)
 
 -- ---- contents are written, in blocks outside those of the text that is held alone
 

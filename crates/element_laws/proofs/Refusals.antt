@@ -20,8 +20,8 @@ use Rattle.element_state.specs.Views.{entry_view, content_of, qualifies, view_of
 use Rattle.element_state.specs.Clean.{where_of}
 use Rattle.element_state.specs.Conditions.{IsMended, IsInUse}
 use Rattle.element_state.specs.Kept.{HasEnough, IsSpared, KeepsGood}
-use Rattle.element_laws.specs.Phases.{InUseLaw, CarriedLaw, WholeLaw, OpenedLaw, CorruptLaw}
-use Rattle.element_laws.specs.Refused.{one, IndexFirst, IndexFirstAnew, OldOverwritten, OtherValue, Planted, CopyEaten, OtherRaised, SalvageRaised}
+use Rattle.element_laws.specs.Phases.{InUseLaw, CarriedLaw, WholeLaw, OpenedLaw}
+use Rattle.element_laws.specs.Refused.{one, IndexFirst, IndexFirstAnew, OldOverwritten, OtherValue, Planted, CopyEaten, OtherRaised, SalvageRaised, SalvageLost}
 use Rattle.element_laws.proofs.Lists.{In, Contains-In, In-Contains, map-In, Contains-head, all_in, nothing_listed, not_none, some_is}
 use Rattle.element_laws.proofs.Copies.{good_same, bad_good, gifts}
 use Rattle.element_laws.proofs.Standing.{gift_of, generation_of}
@@ -107,6 +107,11 @@ other_raised shape g h was other others rest le ne k =
 pub salvage_raised : SalvageRaised
 salvage_raised shape g was is others rest k = not_next g (sym (k.stays (one g (Good was)) rest refl).0.generation)
 
+pub salvage_lost : SalvageLost
+salvage_lost shape g was is some k =
+    let left = k.salvage (0, some, ((λ n small. nothing_listed (shape.place.first + 4 * 0 + n)), nothing_listed (0 + 1))) in
+    not_none left.0 (sym left.1)
+
 -- ---- storages in use
 
 pub in_use : InUseLaw
@@ -176,13 +181,6 @@ found_pick {A} q (y ∷ ys) x e = elim (q y) as (λ b. cond b (Some y) (find q y
   | false ↦ λ e. let r = found_pick q ys x e in ((r.0.0, y ∷ r.0.1), ap (beside y) r.1, r.2)
 ] e
 
-none_picked : {A : Type 0} (q : A → Bool) (xs : List A) → find q xs ≡ None → picked q xs ≡ None
-none_picked q [] e = refl
-none_picked q (y ∷ ys) e = elim (q y) as (λ b. cond b (Some y) (find q ys) ≡ None → cond b (Some (y, ys)) (beside y (picked q ys)) ≡ None) [
-  | true ↦ λ e. absurd (not_none y e)
-  | false ↦ λ e. ap (beside y) (none_picked q ys e)
-] e
-
 pub opened : OpenedLaw
 unfolding store_at
 opened shape start text e =
@@ -202,13 +200,3 @@ opened shape start text e =
       opens = ap (state_of (view_of start shape) (fit_texts shape start)) picks;
       generation_is = generation_of shape start r.0 ∙ ap (λ (x : FitText). x.0.generation) same;
     }
-
-is_corrupt : (vs : List View) → (salvage : Option View) × (others : List View) × (corrupt_state vs ≡ Corrupt salvage others)
-is_corrupt [] = (None, [], refl)
-is_corrupt (v ∷ vs) = (Some v, vs, refl)
-
-pub corrupt : CorruptLaw
-unfolding store_at
-corrupt shape start e =
-    let it = is_corrupt (map (view_of start shape) (fit_texts shape start)) in
-    (it.0, it.1, ap (state_of (view_of start shape) (fit_texts shape start)) (none_picked (qualifies start shape) (fit_texts shape start) e) ∙ it.2)

@@ -19,7 +19,7 @@ use Rattle.element_state.specs.Fit.{FitText, fit_index, fit_texts}
 use Rattle.element_state.specs.Views.{entry_view, view_of, content_of, qualifies}
 use Rattle.element_state.specs.States.{State, Opens, Corrupt, picked, state_of, store_at, corrupt_state, salvage_of}
 use Rattle.element_state.specs.Clean.{where_of, counting_at, IsClean}
-use Rattle.element_state.specs.Kept.{heading, SameHeadings, IsLeftOf, IsFrom, IsFromOneOf, HasEnough, KeepsGood, CostsNoCopy, listed, all_views, BecomesAs, Stays, CopiesStay, Kept}
+use Rattle.element_state.specs.Kept.{heading, SameHeadings, IsLeftOf, IsFrom, IsFromOneOf, HasEnough, KeepsGood, KeepsEach, CostsNoCopy, SalvageStays, listed, all_views, BecomesAs, Stays, CopiesStay, Kept}
 use Rattle.element_laws.proofs.Lists.{In, all_by, some_is, zip_left, zip_with, zip_both}
 use Rattle.element_laws.proofs.Copies.{Gift, Gives, gifts, Backed, left_of, good_now}
 use Rattle.element_laws.proofs.Fits.{fit_at, In-fit, fit-In, fit_descends, pick_greatest, picked_parts, In-views}
@@ -79,6 +79,11 @@ abbrev pub HasValue : Shape → Image → (damaged : List ℕ) → IndexEntry �
 HasValue shape image damaged e f = (v : List ℕ) → f.content ≡ Good v → (shape.scope ≡ scope.Storage) ⊎ HasEnough shape damaged f.lacking
     → AtLeast (λ c. Gives (gift_of image shape (where_of e)) c v) shape.place.copies shape.m
 
+-- so they do with enough copies left of the element, in either scope
+abbrev pub HasEach : Shape → Image → (damaged : List ℕ) → IndexEntry → Entry → Type 0
+HasEach shape image damaged e f = (v : List ℕ) → f.content ≡ Good v → HasEnough shape damaged f.lacking
+    → AtLeast (λ c. Gives (gift_of image shape (where_of e)) c v) shape.place.copies shape.m
+
 module _ (shape : Shape) (image : Image) (damaged : List ℕ) (positive : 1 ≤ shape.m) (clean : IsClean shape image) where
   abbrev view : FitText → View
   view = view_of image shape
@@ -110,15 +115,13 @@ module _ (shape : Shape) (image : Image) (damaged : List ℕ) (positive : 1 ≤ 
         (λ e f ie jf b. left_entry e f b) s.backed);
   }
 
-  good_entry : (e : IndexEntry) (f : Entry) → Backed shape.m shape.place.copies (gift_of image shape (where_of e)) f.content × HasValue shape image damaged e f
-      → (v : List ℕ) → f.content ≡ Good v → (shape.scope ≡ scope.Storage) ⊎ HasEnough shape damaged f.lacking
-      → (entry_view image shape.place shape.m e).content ≡ Good v
+  good_value : (e : IndexEntry) (f : Entry) (v : List ℕ) → Backed shape.m shape.place.copies (gift_of image shape (where_of e)) f.content → f.content ≡ Good v
+      → AtLeast (λ c. Gives (gift_of image shape (where_of e)) c v) shape.place.copies shape.m → (entry_view image shape.place shape.m e).content ≡ Good v
   unfolding entry_view
-  good_entry e f b v good enough =
+  good_value e f v backed good enough =
       let gift : Gift = gift_of image shape (where_of e) in
-      let all = subst (λ x. Backed shape.m shape.place.copies gift x) good b.0 in
-      ap (λ o. content_of o (first_content (gifts gift shape.place.copies)))
-      (good_now shape.m shape.place.copies positive gift v all (b.1 v good enough))
+      let all = subst (λ x. Backed shape.m shape.place.copies gift x) good backed in
+      ap (λ o. content_of o (first_content (gifts gift shape.place.copies))) (good_now shape.m shape.place.copies positive gift v all enough)
 
   pub keeps : (g : ℕ) (t : List ℕ) (i : Index) (there : View) → StandsFor shape image g i there → AllZip (HasValue shape image damaged) i.entries there.entries
       → KeepsGood shape damaged (view (fit_at image shape g t i)) there
@@ -128,8 +131,19 @@ module _ (shape : Shape) (image : Image) (damaged : List ℕ) (positive : 1 ≤ 
       (entry_view image shape.place shape.m) i.entries there.entries
       (zip_with (λ e f. Backed shape.m shape.place.copies (gift_of image shape (where_of e)) f.content × HasValue shape image damaged e f)
       (λ e f. (v : List ℕ) → f.content ≡ Good v → (shape.scope ≡ scope.Storage) ⊎ HasEnough shape damaged f.lacking
-      → (entry_view image shape.place shape.m e).content ≡ Good v) i.entries there.entries (λ e f ie jf b. good_entry e f b)
+      → (entry_view image shape.place shape.m e).content ≡ Good v) i.entries there.entries (λ e f ie jf b v good enough. good_value e f v b.0 good (b.1 v good enough))
       (zip_both (λ e f. Backed shape.m shape.place.copies (gift_of image shape (where_of e)) f.content) (HasValue shape image damaged) i.entries there.entries s.backed n))
+
+  pub keeps_each : (g : ℕ) (t : List ℕ) (i : Index) (there : View) → StandsFor shape image g i there → AllZip (HasEach shape image damaged) i.entries there.entries
+      → KeepsEach shape damaged (view (fit_at image shape g t i)) there
+  unfolding view_of
+  keeps_each g t i there s n =
+      zip_left (λ (e f : Entry). (v : List ℕ) → f.content ≡ Good v → HasEnough shape damaged f.lacking → e.content ≡ Good v)
+      (entry_view image shape.place shape.m) i.entries there.entries
+      (zip_with (λ e f. Backed shape.m shape.place.copies (gift_of image shape (where_of e)) f.content × HasEach shape image damaged e f)
+      (λ e f. (v : List ℕ) → f.content ≡ Good v → HasEnough shape damaged f.lacking
+      → (entry_view image shape.place shape.m e).content ≡ Good v) i.entries there.entries (λ e f ie jf b v good enough. good_value e f v b.0 good (b.1 v good enough))
+      (zip_both (λ e f. Backed shape.m shape.place.copies (gift_of image shape (where_of e)) f.content) (HasEach shape image damaged) i.entries there.entries s.backed n))
 
   -- the text that is found, and the view that it stands for: that of before, or, of another generation, that of after
   pub record Found (v : View) (after : State) : Type 0 where
@@ -201,6 +215,7 @@ module _ (shape : Shape) (image : Image) (damaged : List ℕ) (positive : 1 ≤ 
     known = known_by (Opens v others) after each;
     stays = λ enough. opens v others after (found enough) enough;
     copies = spared_by v others spares (picked q xs) refl;
+    salvage = tt;
   }
 
   nothing_before : (x : State) (salvage : Option View) (others : List View) → CopiesStay shape damaged x (Corrupt salvage others)
@@ -209,14 +224,17 @@ module _ (shape : Shape) (image : Image) (damaged : List ℕ) (positive : 1 ≤ 
 
   -- where nothing opened before, what opens is the view of after
   pub kept_corrupt : (salvage : Option View) (others : List View) (after : State) → EachStands (Corrupt salvage others) after
-      → ((w : View) (rest : List View) → store_at image shape ≡ Opens w rest → BecomesAs shape damaged w after) → Kept shape damaged (store_at image shape) (Corrupt salvage others) after
-  kept_corrupt salvage others after each like = record {
+      → ((w : View) (rest : List View) → store_at image shape ≡ Opens w rest → BecomesAs shape damaged w after)
+      → SalvageStays shape damaged (store_at image shape) (Corrupt salvage others) after → Kept shape damaged (store_at image shape) (Corrupt salvage others) after
+  kept_corrupt salvage others after each like stays = record {
     known = known_by (Corrupt salvage others) after each;
     stays = like;
     copies = nothing_before (store_at image shape) salvage others;
+    salvage = stays;
   }
 
   pub corrupt_kept : (vs : List View) (after : State) → EachStands (corrupt_state vs) after
-      → ((w : View) (rest : List View) → store_at image shape ≡ Opens w rest → BecomesAs shape damaged w after) → Kept shape damaged (store_at image shape) (corrupt_state vs) after
-  corrupt_kept [] after each like = kept_corrupt None [] after each like
-  corrupt_kept (v ∷ vs) after each like = kept_corrupt (Some v) vs after each like
+      → ((w : View) (rest : List View) → store_at image shape ≡ Opens w rest → BecomesAs shape damaged w after)
+      → SalvageStays shape damaged (store_at image shape) (corrupt_state vs) after → Kept shape damaged (store_at image shape) (corrupt_state vs) after
+  corrupt_kept [] after each like stays = kept_corrupt None [] after each like stays
+  corrupt_kept (v ∷ vs) after each like stays = kept_corrupt (Some v) vs after each like stays

@@ -1,17 +1,19 @@
 -- An image on which copies hold texts of before, and one new text.
-use Rattle.std.proofs.Common.{◌≡◌, ℕ, ◌<◌, ◌≤◌, ◌⊎◌, true, List, [], ◌∷◌, Option, Some, None, refl, sym, ap, subst, ◌∙◌, inl, inr}
+use Rattle.std.proofs.Common.{◌≡◌, ℕ, ◌<◌, ◌≤◌, ◌⊎◌, true, false, List, [], ◌∷◌, Option, Some, None, refl, sym, ap, subst, ◌∙◌, inl, inr, arith}
 use Rattle.std.specs.Prelude.{length, map, nat_le}
 use Rattle.std.proofs.lemmas.Bool.{leb-true}
 use Rattle.per_base.specs.declared.elements.Scope.{Scope}
 use Rattle.per_base.specs.declared.elements.Scope.TheVariants as scope
 use Rattle.per_base.specs.declared.elements.Content.{Content}
+use Rattle.per_base.specs.declared.elements.Content.TheVariants.{Good}
 use Rattle.per_base.specs.declared.elements.Entry.{Entry}
-use Rattle.disk_model.specs.Damage.{AtLeast}
+use Rattle.disk_model.specs.Damage.{AtLeast, IsUndamaged}
 use Rattle.guarded_cell.specs.CopyLaws.{enough_pass}
 use Rattle.guarded_cell.specs.StopLaws.{at_least_map}
 use Rattle.std.specs.List.{AllZip}
 use Rattle.disk_model.specs.Image.{Image}
 use Rattle.guarded_cell.specs.Register.{Holds}
+use Rattle.guarded_cell.specs.Stops.{KeepsText}
 use Rattle.block_files.specs.Aside.{Where}
 use Rattle.index_text.specs.declared.entries.Index.{Index}
 use Rattle.index_text.specs.declared.entries.IndexEntry.{IndexEntry}
@@ -20,18 +22,28 @@ use Rattle.element_state.specs.declared.shapes.Shape.{Shape}
 use Rattle.element_state.specs.declared.shapes.View.{View}
 use Rattle.element_state.specs.Fit.{FitText, fit_index, fit_texts}
 use Rattle.element_state.specs.Views.{holds_all, supporters, qualifies, view_of}
-use Rattle.element_state.specs.States.{Opens, picked, state_of, store_at, corrupt_state}
+use Rattle.element_state.specs.States.{Opens, picked, state_of, store_at, corrupt_state, salvage_of}
 use Rattle.element_state.specs.Clean.{where_of, IsNamed, IsClean}
-use Rattle.element_state.specs.Kept.{IsSpared, BecomesAs, all_views, Kept}
+use Rattle.element_state.specs.Chosen.{chosen}
+use Rattle.element_state.specs.Kept.{IsSpared, HasEnough, HasOne, IsLeftAs, SalvageStays, BecomesAs, all_views, Kept}
 use Rattle.element_laws.specs.Phases.{IsCorruptAt}
 use Rattle.element_laws.proofs.Lists.{In, Contains-In, In-map, append-In, some_is, zip_with}
 use Rattle.element_laws.proofs.Copies.{Gives, AreAlike, Backed, voted_given}
-use Rattle.element_laws.proofs.Fits.{fit_at, In-fit, fit-In, fit-spelled, picked_parts, none_passes}
-use Rattle.element_laws.proofs.Standing.{gift_of, StandsFor, HasValue, EachStands, same_headings, keeps, corrupt_kept}
-use Rattle.element_laws.proofs.Left.{value_at, named, counts_all, qualifies_back}
-use Rattle.element_laws.proofs.Keeping.{WasHeld, stood}
+use Rattle.element_laws.proofs.Fits.{fit_at, IsFit, In-fit, fit-In, fit-spelled, picked_parts, none_passes}
+use Rattle.element_laws.proofs.Standing.{gift_of, StandsFor, HasValue, HasEach, EachStands, one_fit, same_headings, keeps, keeps_each, corrupt_kept}
+use Rattle.element_laws.proofs.Left.{is_whole_at, value_at, named, counts_all, qualifies_back}
+use Rattle.element_laws.proofs.Keeping.{WasHeld, stood, left_as, at_first, first_greatest, first_held, first_chosen}
 use Rattle.element_laws.proofs.NewText.{EntryStands, new_stands, new_costs}
 use Rattle.element_laws.proofs.Phases.{no_open, corrupt_pick}
+
+-- outside the damage the copies that held the text of the salvage hold it, or all hold the new one; and they give its contents as before
+pub record SalvageKept (shape : Shape) (damaged : List ℕ) (start new : Image) (g : ℕ) (next : List ℕ) (text : FitText) : Type 0 where
+  pub below : text.0.generation < g
+  pub held : KeepsText shape.place.first shape.place.copies text.0.generation text.0.text damaged start new
+      ⊎ ((copy : ℕ) → copy < shape.place.copies → IsUndamaged damaged shape.place.first copy → Holds new shape.place.first copy g next)
+  pub whole : (i : Index) → index_of text.0.text ≡ Some i → (e : IndexEntry) → In e i.entries → (copy : ℕ) (v : List ℕ) → copy < shape.place.copies
+      → IsUndamaged damaged shape.place.first copy → is_whole_at start shape copy (where_of e) ≡ true → Gives (gift_of start shape (where_of e)) copy v
+      → (is_whole_at new shape copy (where_of e) ≡ true) × Gives (gift_of new shape (where_of e)) copy v
 
 module _ (shape : Shape) (start new : Image) (damaged : List ℕ) (positive : 1 ≤ shape.m) (clean : IsClean shape start)
     (g : ℕ) (next : List ℕ) (index : Index) (view : View) (others : List View)
@@ -174,7 +186,136 @@ module _ (shape : Shape) (start new : Image) (damaged : List ℕ) (positive : 1 
     unfolding store_at
     corrupt_is = ap (state_of (view_of start shape) (fit_texts shape start)) (corrupt_pick shape start corrupt)
 
-    pub corrupt_two : Kept shape damaged (store_at new shape) (store_at start shape) (Opens view others)
-    corrupt_two = subst (λ s. Kept shape damaged (store_at new shape) s (Opens view others)) (sym corrupt_is)
-        (corrupt_kept shape new damaged positive two_clean (map (view_of start shape) (fit_texts shape start)) (Opens view others)
-        (subst (λ s. EachStands shape new damaged positive two_clean s (Opens view others)) corrupt_is each_two) like)
+    -- ---- the salvage
+
+    -- the new text, where a copy holds it
+    left_new : (copy : ℕ) → copy < shape.place.copies → Holds new shape.place.first copy g next → IsLeftAs shape damaged (view_of new shape (fit_at new shape g next index)) view
+    left_new copy lt holds = record {
+      same = same_headings shape new damaged positive two_clean g next index view (stands_new copy lt holds);
+      good = keeps_each shape new damaged positive two_clean g next index view (stands_new copy lt holds)
+          (zip_with (EntryStands shape new damaged) (HasEach shape new damaged) index.entries view.entries
+          (λ e f h k s v good enough. at_least_map (IsSpared shape damaged f.lacking) (λ c. Gives (gift_of new shape (where_of e)) c v) shape.place.copies shape.m
+          (λ c ltc is. (s.gives v c good ltc is.0).1) enough) (stand copy lt holds));
+      copies = new_costs shape new damaged g next index view (stand copy lt holds) generation_is positive;
+    }
+
+    opens_at : (r : FitText × List FitText) → pick_new ≡ Some r → store_at new shape ≡ Opens (view_of new shape r.0) (map (view_of new shape) r.1)
+    unfolding store_at
+    opens_at r e = ap (state_of (view_of new shape) (fit_texts shape new)) e
+
+    -- where it opens, it opens at the new text
+    left_open : (w : View) (rest : List View) → store_at new shape ≡ Opens w rest → IsLeftAs shape damaged w view
+    left_open w rest is =
+        let becomes = like w rest is in
+        record {
+          same = becomes.0;
+          good = zip_with (λ (e f : Entry). (v : List ℕ) → f.content ≡ Good v → (shape.scope ≡ scope.Storage) ⊎ HasEnough shape damaged f.lacking → e.content ≡ Good v)
+              (λ (e f : Entry). (v : List ℕ) → f.content ≡ Good v → HasEnough shape damaged f.lacking → e.content ≡ Good v) w.entries view.entries
+              (λ e f h k keeps v good enough. keeps v good (inr enough)) becomes.1;
+          copies = becomes.2;
+        }
+
+    module _ (x : FitText) (xs : List FitText) (are : fit_texts shape start ≡ x ∷ xs) (below : x.0.generation < g)
+        (keeps : KeepsText shape.place.first shape.place.copies x.0.generation x.0.text damaged start new
+        ⊎ ((copy : ℕ) → copy < shape.place.copies → IsUndamaged damaged shape.place.first copy → Holds new shape.place.first copy g next))
+        (whole : (i : Index) → index_of x.0.text ≡ Some i → (e : IndexEntry) → In e i.entries → (copy : ℕ) (v : List ℕ) → copy < shape.place.copies
+        → IsUndamaged damaged shape.place.first copy → is_whole_at start shape copy (where_of e) ≡ true → Gives (gift_of start shape (where_of e)) copy v
+        → (is_whole_at new shape copy (where_of e) ≡ true) × Gives (gift_of new shape (where_of e)) copy v)
+        (one : HasOne shape damaged (view_of start shape x).lacking) where
+      abbrev at_x : IsFit start shape x
+      at_x = at_first shape start x xs are
+
+      generation_x : at_x.generation ≡ x.0.generation
+      generation_x = ap (λ (u : FitText). u.0.generation) at_x.is
+
+      text_x : at_x.text ≡ x.0.text
+      text_x = ap (λ (u : FitText). u.0.text) at_x.is
+
+      apart_x : at_x.generation ≡ g → ⊥
+      apart_x e = let same = generation_x in omega (arith, below, e, same)
+
+      -- a text of before that is held, and above which none is, is the salvage
+      left_old : (copy : ℕ) → copy < shape.place.copies → Holds new shape.place.first copy at_x.generation at_x.text
+          → IsLeftAs shape damaged (view_of new shape (fit_at new shape at_x.generation at_x.text at_x.index)) (view_of start shape x)
+      left_old copy lt held =
+          let was : WasHeld shape start at_x.generation at_x.text = record { copy = at_x.copy; inside = at_x.inside; holds = at_x.holds } in
+          subst (λ (u : FitText). IsLeftAs shape damaged (view_of new shape (fit_at new shape at_x.generation at_x.text at_x.index)) (view_of start shape u)) at_x.is
+          (left_as shape start new damaged positive clean two_clean at_x.copy at_x.generation at_x.text at_x.index at_x.inside at_x.holds at_x.fit
+          (old_counted copy at_x.generation at_x.text at_x.index lt held at_x.fit was apart_x)
+          (whole at_x.index (ap index_of (sym text_x) ∙ fit-spelled shape at_x.text at_x.index at_x.fit)))
+
+      -- one of the two is held
+      held_one : Holds new shape.place.first one.0 at_x.generation at_x.text ⊎ Holds new shape.place.first one.0 g next
+      held_one =
+          let was = first_held shape start damaged x xs are one in
+          elim keeps [
+            | inl old ↦ inl (subst (λ (u : FitText). Holds start shape.place.first one.0 u.0.generation u.0.text → Holds new shape.place.first one.0 u.0.generation u.0.text) (sym at_x.is)
+                (old one.0 one.1 was.0) was.1)
+            | inr newer ↦ inr (newer one.0 one.1 was.0)
+          ]
+
+      -- what the first text is
+      module _ (z : FitText) (zs : List FitText) (be : fit_texts shape new ≡ z ∷ zs) where
+        abbrev at_z : IsFit new shape z
+        at_z = at_first shape new z zs be
+
+        first_new : (at_z.generation ≡ g) × (at_z.text ≡ next) → IsLeftAs shape damaged (view_of new shape z) view
+        first_new same =
+            let i : index ≡ at_z.index = some_is index at_z.index (sym fit ∙ ap (fit_index shape) (sym same.1) ∙ at_z.fit) in
+            let at : fit_at new shape g next index ≡ z = (λ k. fit_at new shape (sym same.0 k) (sym same.1 k) (i k)) ∙ at_z.is in
+            let held = subst (λ (k : ℕ). Holds new shape.place.first at_z.copy k next) same.0 (subst (λ (u : List ℕ). Holds new shape.place.first at_z.copy at_z.generation u) same.1 at_z.holds) in
+            subst (λ (u : FitText). IsLeftAs shape damaged (view_of new shape u) view) at (left_new at_z.copy at_z.inside held)
+
+        first_old : WasHeld shape start at_z.generation at_z.text → IsLeftAs shape damaged (view_of new shape z) (view_of start shape x)
+        first_old was =
+            let low : at_z.generation ≤ x.0.generation = first_greatest shape start x xs are (fit_at start shape at_z.generation at_z.text at_z.index)
+            (fit-In start shape was.copy at_z.generation at_z.text at_z.index was.inside was.holds at_z.fit) in
+            let gen : at_z.generation ≡ z.0.generation = ap (λ (u : FitText). u.0.generation) at_z.is in
+            let gen_x = generation_x in
+            elim held_one [
+              | inl held ↦
+                  let here = fit-In new shape one.0 at_x.generation at_x.text at_x.index one.1 held at_x.fit in
+                  let high : at_x.generation ≤ z.0.generation = first_greatest shape new z zs be (fit_at new shape at_x.generation at_x.text at_x.index) here in
+                  let same = one_fit shape new two_clean (fit_at new shape at_x.generation at_x.text at_x.index) z here
+                  (subst (λ (us : List FitText). In z us) (sym be) (inl refl)) (omega (arith, low, high, gen, gen_x)) in
+                  subst (λ (u : FitText). IsLeftAs shape damaged (view_of new shape u) (view_of start shape x)) same (left_old one.0 one.1 held)
+              | inr held ↦
+                  let high : g ≤ z.0.generation = first_greatest shape new z zs be (fit_at new shape g next index) (fit-In new shape one.0 g next index one.1 held fit) in
+                  absurd (omega (arith, low, high, gen, below))
+            ]
+
+        first_left : IsLeftAs shape damaged (view_of new shape z) (view_of start shape x) ⊎ IsLeftAs shape damaged (view_of new shape z) view
+        first_left = elim (texts at_z.copy at_z.generation at_z.text at_z.inside at_z.holds) [
+          | inl old ↦ inl (first_old old.0)
+          | inr newer ↦ inr (first_new newer)
+        ]
+
+      some_text : (ts : List FitText) → fit_texts shape new ≡ ts
+          → (w : View) × (salvage_of (corrupt_state (map (view_of new shape) ts)) ≡ Some w) × (IsLeftAs shape damaged w (view_of start shape x) ⊎ IsLeftAs shape damaged w view)
+      some_text [] be = absurd (elim held_one [
+        | inl held ↦ subst (λ (us : List FitText). In (fit_at new shape at_x.generation at_x.text at_x.index) us) be (fit-In new shape one.0 at_x.generation at_x.text at_x.index one.1 held at_x.fit)
+        | inr held ↦ subst (λ (us : List FitText). In (fit_at new shape g next index) us) be (fit-In new shape one.0 g next index one.1 held fit)
+      ])
+      some_text (z ∷ zs) be = (view_of new shape z, refl, first_left z zs be)
+
+      salvage_here : (o : Option (FitText × List FitText)) → pick_new ≡ o
+          → (w : View) × (salvage_of (state_of (view_of new shape) (fit_texts shape new) o) ≡ Some w) × (IsLeftAs shape damaged w (view_of start shape x) ⊎ IsLeftAs shape damaged w view)
+      salvage_here None e = some_text (fit_texts shape new) refl
+      salvage_here (Some r) e = (view_of new shape r.0, refl, inr (left_open (view_of new shape r.0) (map (view_of new shape) r.1) (opens_at r e)))
+
+      salvage_two : (w : View) × (salvage_of (store_at new shape) ≡ Some w) × (IsLeftAs shape damaged w (view_of start shape x) ⊎ IsLeftAs shape damaged w view)
+      unfolding store_at
+      salvage_two = salvage_here pick_new refl
+
+    module _ (kept : (text : FitText) → chosen start shape ≡ Some (false, text) → SalvageKept shape damaged start new g next text) where
+      salvage_stays : (ts : List FitText) → fit_texts shape start ≡ ts → SalvageStays shape damaged (store_at new shape) (corrupt_state (map (view_of start shape) ts)) (Opens view others)
+      salvage_stays [] are = tt
+      salvage_stays (x ∷ xs) are = λ one.
+          let it = kept x (first_chosen shape start x xs are (corrupt_pick shape start corrupt)) in
+          salvage_two x xs are it.below it.held it.whole one
+
+      pub corrupt_two : Kept shape damaged (store_at new shape) (store_at start shape) (Opens view others)
+      corrupt_two = subst (λ s. Kept shape damaged (store_at new shape) s (Opens view others)) (sym corrupt_is)
+          (corrupt_kept shape new damaged positive two_clean (map (view_of start shape) (fit_texts shape start)) (Opens view others)
+          (subst (λ s. EachStands shape new damaged positive two_clean s (Opens view others)) corrupt_is each_two) like
+          (salvage_stays (fit_texts shape start) refl))

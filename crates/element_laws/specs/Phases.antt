@@ -1,5 +1,5 @@
 -- What a stop in each phase of a call leaves of a storage: the statements of the laws.
-use Rattle.std.specs.Prelude.{◌≡◌, ◌⊎◌, ℕ, ◌+◌, ◌*◌, ◌<◌, ◌≤◌, List, [], length, slice_index, map, Bool, true, Option, Some, find, None}
+use Rattle.std.specs.Prelude.{◌≡◌, ◌⊎◌, ℕ, ◌+◌, ◌*◌, ◌<◌, ◌≤◌, List, [], length, slice_index, map, Bool, true, false, Option, Some, find, None}
 use Rattle.std.specs.List.{AllByRecursion, AllZip, Contains}
 use Rattle.per_base.specs.declared.elements.Entry.{Entry}
 use Rattle.per_base.specs.declared.elements.Content.TheVariants.{Good}
@@ -14,7 +14,7 @@ use Rattle.block_files.specs.Contents.{AreCopies}
 use Rattle.block_files.specs.Writes.{IsNoneOf}
 use Rattle.disk_model.specs.Place.{area, IsNoSlot, IsNoArea}
 use Rattle.guarded_cell.specs.Register.{Holds, IsAlone, IsKeptAlone}
-use Rattle.guarded_cell.specs.Stops.{PutStops, KeepStops, HoldsLess}
+use Rattle.guarded_cell.specs.Stops.{PutStops, KeepStops, HoldsLess, KeepsText}
 use Rattle.block_files.specs.Areas.{within, NamedFull}
 use Rattle.block_files.specs.Aside.{Where}
 use Rattle.index_text.specs.Reading.{index_of}
@@ -27,6 +27,7 @@ use Rattle.element_state.specs.Fit.{FitText, fit_index, fit_texts}
 use Rattle.element_state.specs.Views.{qualifies, entry_view, given}
 use Rattle.element_state.specs.States.{State, Opens, Corrupt, store_at}
 use Rattle.element_state.specs.Clean.{where_of, counting_at, IsNamed, IsPiece, IsClean, IsSound}
+use Rattle.element_state.specs.Chosen.{chosen}
 use Rattle.element_state.specs.Conditions.{IsMended, IsInUse}
 use Rattle.index_text.specs.Spelling.{index_text}
 use Rattle.element_state.specs.Kept.{heading, Kept, IsKeptCase}
@@ -84,11 +85,17 @@ pub record IsAdopted (shape : Shape) (start now : Image) (generation : ℕ) (tex
   pub alone : IsAlone now shape.place.first shape.place.copies generation text
   pub areas : Spares (IsNoSlot shape.place.first shape.place.copies) start now
 
--- From a clean start at which a storage is corrupt, copies came to hold less, with the contents as they were.
+-- the text is that of the salvage: none qualifies, and it is the first that fits
+abbrev pub IsSalvageAt : Shape → Image → FitText → Type 0
+IsSalvageAt shape start text = chosen start shape ≡ Some (false, text)
+
+-- From a clean start at which a storage is corrupt, copies came to hold less, with the contents as they were; each still holds the text of
+-- the salvage.
 pub record IsGivenUp (shape : Shape) (start now : Image) : Type 0 where
   pub clean : IsClean shape start
   pub corrupt : IsCorruptAt shape start
   pub less : HoldsLess shape.place.first shape.place.copies start now
+  pub salvage : (text : FitText) → IsSalvageAt shape start text → KeepsText shape.place.first shape.place.copies text.0.generation text.0.text [] start now
   pub areas : Spares (IsNoSlot shape.place.first shape.place.copies) start now
 
 -- ---- the index is adopted, or given up but for one text
@@ -99,10 +106,10 @@ AdoptLaw = (shape : Shape) (start : Image) (generation : ℕ) (text : List ℕ) 
     → OpensAt shape start generation text index → PutStops shape.place.first shape.place.copies generation text start c
     → IsKeptCase shape (store_at start shape) after c
 
--- taking every text away but one of a corrupt storage
+-- taking every text away but that of the salvage of a corrupt storage
 abbrev pub KeepLaw : Type 0
-KeepLaw = (shape : Shape) (start : Image) (generation : ℕ) (text : List ℕ) (after : State) (c : Case) → 1 ≤ shape.m → IsClean shape start → IsCorruptAt shape start
-    → KeepStops shape.place.first shape.place.copies generation text start c → IsKeptCase shape (store_at start shape) after c
+KeepLaw = (shape : Shape) (start : Image) (text : FitText) (after : State) (c : Case) → 1 ≤ shape.m → IsClean shape start → IsSalvageAt shape start text
+    → KeepStops shape.place.first shape.place.copies text.0.generation text.0.text start c → IsKeptCase shape (store_at start shape) after c
 
 -- ---- contents are written
 
@@ -162,12 +169,12 @@ IndexLaw = (shape : Shape) (start now then : Image) (generation : ℕ) (text : L
 
 -- ---- a corrupt storage is made anew
 
--- after all texts but one were taken away, copies hold less, and only that one
+-- after all texts but that of the salvage were taken away, copies hold less, and only that one
 abbrev pub GivenUpLaw : Type 0
-GivenUpLaw = (shape : Shape) (start now : Image) (generation : ℕ) (text : List ℕ) → IsClean shape start → IsCorruptAt shape start
-    → IsKeptAlone shape.place.first shape.place.copies generation text start now → Spares (IsNoSlot shape.place.first shape.place.copies) start now
+GivenUpLaw = (shape : Shape) (start now : Image) (text : FitText) → IsClean shape start → IsSalvageAt shape start text
+    → IsKeptAlone shape.place.first shape.place.copies text.0.generation text.0.text start now → Spares (IsNoSlot shape.place.first shape.place.copies) start now
     → IsGivenUp shape start now
-    × ((copy h : ℕ) (u : List ℕ) → copy < shape.place.copies → Holds now shape.place.first copy h u → (h ≡ generation) × (u ≡ text))
+    × ((copy h : ℕ) (u : List ℕ) → copy < shape.place.copies → Holds now shape.place.first copy h u → (h ≡ text.0.generation) × (u ≡ text.0.text))
 
 -- the contents that held indexes name lie in blocks of the set, and fill no more than these
 abbrev pub TakesNamed : (taken : ℕ → Bool) → Place → Image → Type 0
@@ -194,12 +201,14 @@ AnewDoneLaw = (shape : Shape) (start now then : Image) (taken : ℕ → Bool) (a
     → Keeps (IsNoArea shape.place.first shape.place.copies) (λ k. taken k ≡ true) now then → IsSettledAt then c
     → IsKeptCase shape (store_at start shape) after c
 
--- and then the index, under a generation above those that are held
+-- and then the index, under a generation above those that are held: where there is a salvage the next one, so that each copy that holds its
+-- text holds it until all have the new one
 abbrev pub AnewIndexLaw : Type 0
 AnewIndexLaw = (shape : Shape) (start now then : Image) (taken : ℕ → Bool) (generation : ℕ) (next : List ℕ) (new_index : Index)
     (view : View) (others : List View) (c : Case) → 1 ≤ shape.m
     → IsGivenUp shape start now → TakesNamed taken shape.place now
     → ((copy h : ℕ) (u : List ℕ) → copy < shape.place.copies → Holds now shape.place.first copy h u → h < generation)
+    → ((text : FitText) → IsSalvageAt shape start text → generation ≡ text.0.generation + 1)
     → Keeps (IsNoArea shape.place.first shape.place.copies) (λ k. taken k ≡ true) now then
     → fit_index shape next ≡ Some new_index → view.generation ≡ generation
     → AllZip (IsWritten shape then) new_index.entries view.entries

@@ -58,3 +58,8 @@ OtherRaised = (shape : Shape) (g h : ℕ) (was other : List ℕ) (others rest : 
 abbrev pub SalvageRaised : Type 0
 SalvageRaised = (shape : Shape) (g : ℕ) (was is : List ℕ) (others rest : List View)
     → ¬ (Kept shape [] (Opens (one g (Good was)) rest) (Corrupt (Some (one g (Bad None))) others) (Opens (one (g + 1) (Good is)) []))
+
+-- a corrupt storage blanked before it is made anew: its salvage is lost
+abbrev pub SalvageLost : Type 0
+SalvageLost = (shape : Shape) (g : ℕ) (was is : List ℕ) → 1 ≤ shape.place.copies
+    → ¬ (Kept shape [] (Corrupt None []) (Corrupt (Some (one g (Good was))) []) (Opens (one (g + 1) (Good is)) []))

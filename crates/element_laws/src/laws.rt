@@ -2,7 +2,7 @@
 
 ghost use Rattle.element_laws.specs.Phases.{OpenedLaw, CorruptLaw, DamageLaw, UntouchedLaw, AdoptLaw, KeepLaw, ContentsLaw, ContentsDoneLaw, IndexLaw, GivenUpLaw, TakenLaw, AnewContentsLaw, AnewDoneLaw, AnewIndexLaw, CleanLaw, AdoptedLaw, SoundLaw, SettledLaw, MendStartLaw, MendStepLaw, MendSyncLaw, MendLaw, InUseLaw, CarriedLaw, WholeLaw};
 ghost use Rattle.element_laws.specs.Apart.{FrameLaw, OutsideLaw, ElsewhereLaw, ElsewhereCaseLaw};
-ghost use Rattle.element_laws.specs.Refused.{IndexFirst, IndexFirstAnew, OldOverwritten, OtherValue, Planted, CopyEaten, OtherRaised, SalvageRaised};
+ghost use Rattle.element_laws.specs.Refused.{IndexFirst, IndexFirstAnew, OldOverwritten, OtherValue, Planted, CopyEaten, OtherRaised, SalvageRaised, SalvageLost};
 
 use block_files::contents_stand_aside;
 
@@ -85,7 +85,7 @@ pub fn use_is_adopted()
 {}
 
 /// What a stop may not leave: an index before its contents, an old block overwritten, another value, a text that was never
-/// synchronised, a copy lost on the way, or a text that stands only by what was mended or written beside it.
+/// synchronised, a copy lost on the way, a text that stands only by what was mended or written beside it, or a salvage given up.
 pub fn outcomes_are_refused()
     ensures index_first { IndexFirst }
     ensures index_first_anew { IndexFirstAnew }
@@ -95,4 +95,5 @@ pub fn outcomes_are_refused()
     ensures copy_eaten { CopyEaten }
     ensures other_raised { OtherRaised }
     ensures salvage_raised { SalvageRaised }
+    ensures salvage_lost { SalvageLost }
 {}

@@ -95,12 +95,41 @@ CopiesStay shape damaged (Opens w rest) (Opens v others) = SameHeadings w v → 
 CopiesStay shape damaged (Opens w rest) (Corrupt salvage others) = ⊤
 CopiesStay shape damaged (Corrupt salvage others) before = ⊤
 
+-- with enough copies left of it, in either scope, an element that was good is good with the same value
+abbrev pub KeepsEach : Shape → (damaged : List ℕ) → (left there : View) → Type 0
+KeepsEach shape damaged left there = AllZip (λ e f. (value : List ℕ) → f.content ≡ Good value → HasEnough shape damaged f.lacking → e.content ≡ Good value)
+    left.entries there.entries
+
+-- what is left of a view, also where too few copies of its text are left to open at: the same headings, each good element of which enough
+-- copies are left, and no copy was lost on the way
+pub record IsLeftAs (shape : Shape) (damaged : List ℕ) (left there : View) : Type 0 where
+  pub same : SameHeadings left there
+  pub good : KeepsEach shape damaged left there
+  pub copies : CostsNoCopy shape damaged left there
+
+-- the view is left of the one of after
+abbrev pub IsLeftAfter : Shape → (damaged : List ℕ) → (left : View) → (after : State) → Type 0
+IsLeftAfter shape damaged left (Opens v others) = IsLeftAs shape damaged left v
+IsLeftAfter shape damaged left (Corrupt salvage others) = ⊥
+
+-- some copy is spared and did not lack it
+abbrev pub HasOne : Shape → (damaged lacking : List ℕ) → Type 0
+HasOne shape damaged lacking = (copy : ℕ) × (copy < shape.place.copies) × IsSpared shape damaged lacking copy
+
+-- with one copy left of the salvage of a corrupt storage, it has this salvage, or the view of after in its place
+abbrev pub SalvageStays : Shape → (damaged : List ℕ) → (left before after : State) → Type 0
+SalvageStays shape damaged left (Opens v others) after = ⊤
+SalvageStays shape damaged left (Corrupt None others) after = ⊤
+SalvageStays shape damaged left (Corrupt (Some v) others) after = HasOne shape damaged v.lacking
+    → (w : View) × (salvage_of left ≡ Some w) × (IsLeftAs shape damaged w v ⊎ IsLeftAfter shape damaged w after)
+
 -- What a stop and damage leave of a storage that was in one state and on its way to another.
 pub record Kept (shape : Shape) (damaged : List ℕ) (left before after : State) : Type 0 where
   -- every text that fits, and not only the one that it opens at, stands for something known: later damage may bring it up
   pub known : AllByRecursion (λ w. IsFromOneOf w (all_views before ++ listed (salvage_of after))) (all_views left)
   pub stays : Stays shape damaged left before after
   pub copies : CopiesStay shape damaged left before
+  pub salvage : SalvageStays shape damaged left before after
 
 -- ---- every moment of a call
 

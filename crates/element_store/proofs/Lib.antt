@@ -16,6 +16,7 @@ pub mod Finds
 pub mod StoreViews
 pub mod Moments
 pub mod Created
+pub mod GivenUp
 mod InOrder
 mod Places
 mod Changed

@@ -1,6 +1,7 @@
 -- Plans, one content after another.
-use Rattle.std.proofs.Common.{◌≡◌, ◌≢◌, ◌⊎◌, ℕ, zero, suc, ◌<◌, ◌≤◌, List, [], ◌∷◌, ◌++◌, length, get_or, Bool, true, false, refl, sym, ap, ◌∙◌, subst, arith, ⊎_elim, inl, inr}
+use Rattle.std.proofs.Common.{◌≡◌, ◌≢◌, ◌⊎◌, ℕ, zero, suc, ◌+◌, ◌*◌, ◌<◌, ◌≤◌, List, [], ◌∷◌, ◌++◌, length, get_or, Bool, true, false, refl, sym, ap, ◌∙◌, subst, arith, ⊎_elim, inl, inr}
 use Rattle.std.specs.List.{All, AllZip, AllByRecursion}
+use Rattle.std.proofs.Math.Nat.{mul-le-mul_left}
 use Rattle.std.proofs.lemmas.Bool.{cases_Bool, cases_eq, cases_lt}
 use Rattle.std.proofs.lemmas.List.{get_or_append_left, get_or_push, length_push}
 use Rattle.std.proofs.lemmas.List.Elements.{All-push}
@@ -12,7 +13,7 @@ use Rattle.disk_model.specs.Image.{Image}
 use Rattle.block_files.specs.Parts.{blocks_for, is_changed}
 use Rattle.block_files.specs.BlockSets.{holds, AreDistinct, IsApart, AreFree, IsAdded}
 use Rattle.block_files.specs.Areas.{AllFull}
-use Rattle.block_files.proofs.PartLemmas.{same_part}
+use Rattle.block_files.proofs.PartLemmas.{same_part, changed_to-le}
 use Rattle.block_files.proofs.Partly.{length-part}
 use Rattle.block_files.proofs.Sharing.{free_distinct}
 use Rattle.index_text.specs.declared.entries.IndexEntry.{IndexEntry}
@@ -26,8 +27,8 @@ use Rattle.disk_model.proofs.Frames.{case_less}
 use Rattle.block_files.specs.Areas.{HoldsShared}
 use Rattle.block_files.proofs.Everywhere.{shared_none}
 use Rattle.element_store.specs.Spelled.{IsContentsCase}
-use Rattle.element_store.specs.Jobs.{IsRoomy, AreApart, IsDone, IsLeftBy, IsLeftByAll, HasShared, IsJobsCase}
-use Rattle.element_store.specs.Plans.{HasAll, KeepsBlocks, AreDisjoint, AreLaidApart, IsPlaced, ArePlaced, IsMade, IsPlanOf}
+use Rattle.element_store.specs.Jobs.{IsRoomy, AreApart, IsDone, IsLeftBy, IsLeftByAll, HasShared, IsJobsCase, job_cost, jobs_cost}
+use Rattle.element_store.specs.Plans.{HasAll, KeepsBlocks, AreDisjoint, AreLaidApart, IsPlaced, ArePlaced, IsMade, IsPlanOf, blocks_of_all}
 use Rattle.element_store.proofs.Fulls.{view_full}
 
 -- ---- lists, one item more
@@ -172,6 +173,7 @@ plan_none generation set = record {
   keeps = λ b is. is;
   capacity = refl;
   free = omega arith;
+  cost = omega arith;
   views = λ image place m some enough done. tt;
 }
 
@@ -192,6 +194,15 @@ plan_push generation contents start now new entries jobs f e job made free added
   keeps = λ b is. grows b (plan.keeps b is);
   capacity = added.capacity ∙ plan.capacity;
   free = omega (arith, plan.free, added.free, made.count, sum_by-append (λ (x : Fresh). blocks_for (length x.bytes)) contents (f ∷ []), sum_by-cons (λ (x : Fresh). blocks_for (length x.bytes)) f []);
+  cost = omega (
+    arith,
+    plan.cost,
+    job_few,
+    sum_by-append job_cost jobs (job ∷ []),
+    sum_by-cons job_cost job [],
+    sum_by-append (λ (x : Fresh). blocks_for (length x.bytes)) contents (f ∷ []),
+    sum_by-cons (λ (x : Fresh). blocks_for (length x.bytes)) f [],
+  );
   views = λ image place m some enough done.
       zip_push (λ (g : Fresh) (h : IndexEntry). entry_view image place m h ≡ fresh_entry generation (fresh_element g)) contents entries f e
       (plan.views image place m some enough (all_front (IsDone image place.first place.copies) jobs job done))
@@ -203,6 +214,11 @@ plan_push generation contents start now new entries jobs f e job made free added
 
     long : length job.blocks ≡ length e.blocks
     long = ap length blocks
+
+    job_few : job_cost job ≤ 256 * blocks_for (length f.bytes)
+    job_few =
+        let few = changed_to-le job.bytes.now job.was.now (blocks_for (length job.bytes.now)) in
+        subst (λ (xs : List ℕ). job_cost job ≤ 256 * blocks_for (length xs)) bytes (omega (arith, few))
 
     roomy : IsRoomy job
     roomy = record {
@@ -233,6 +249,13 @@ shared_of_whole image first copies jobs whole k d lt c few =
 pub left_of_placed : (start now : List Bool) (jobs : List Job) → ArePlaced start now jobs → (k : ℕ) → holds start k ≡ true → IsLeftByAll jobs k
 left_of_placed start now jobs placed k taken x d lt i less is e =
     both_ways (holds start k) taken (ap (holds start) e ∙ (placed.placed x d lt).written i less is)
+
+-- what is written whole is written in whole blocks
+pub written_of_plan : (copies blocks was now : ℕ) (jobs : List Job) → jobs_cost jobs ≤ 256 * blocks → now ≤ was + copies * jobs_cost jobs
+    → now ≤ was + copies * (256 * blocks)
+written_of_plan copies blocks was now jobs few written =
+    let wider : copies * jobs_cost jobs ≤ copies * (256 * blocks) = mul-le-mul_left copies few in
+    omega (arith, written, wider)
 
 pub jobs_to_contents : (first copies : ℕ) (start now : List Bool) (jobs : List Job) (old new : Medium) (done more : Type 0) → ArePlaced start now jobs → (done → more)
     → (c : Case) → IsJobsCase first copies jobs old new done c → IsContentsCase first copies start old new more c

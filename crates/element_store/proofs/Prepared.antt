@@ -21,14 +21,14 @@ use Rattle.element_state.specs.Fit.{fit_index}
 use Rattle.element_state.specs.Kept.{KeptThroughout}
 use Rattle.element_state.specs.States.{State, store_at, salvage_of}
 use Rattle.element_state.specs.Surveys.{IsFound, text_of}
-use Rattle.element_laws.proofs.Phases.{untouched, adopt as adopt_law, keep as keep_law, contents as contents_law, contents_done as contents_done_law}
+use Rattle.element_laws.proofs.Phases.{untouched, adopt as adopt_law, keep as keep_law, contents as contents_law, contents_done as contents_done_law, corrupt_found as corrupt_law}
 use Rattle.element_laws.proofs.IndexLaws.{index as index_law}
 use Rattle.element_laws.proofs.AnewLaws.{given_up, taken_named, anew_contents, anew_done, anew_index}
-use Rattle.element_laws.proofs.Refusals.{opened as opened_law, corrupt as corrupt_law}
+use Rattle.element_laws.proofs.Refusals.{opened as opened_law}
 use Rattle.element_store.specs.Plans.{HasAll}
 use Rattle.element_store.specs.Stores.{AreTaken}
 use Rattle.element_store.specs.Rebuilds.{IsGround, IsLeftWith, SettleStops, HasNext}
-use Rattle.element_store.proofs.Rebuilt.{opened_at, corrupt_at, ready_opened, ready_salvaged, ready_none, idle_kept, adopt_kept, keep_kept}
+use Rattle.element_store.proofs.Rebuilt.{opened_at, ready_opened, ready_salvaged, ready_none, idle_kept, adopt_kept, keep_kept}
 use Rattle.element_store.proofs.Taken.{fits_below, taken_area}
 use Rattle.element_store.proofs.TakenBlocks.{taken_all, taken_room}
 
@@ -45,7 +45,7 @@ module _ (shape : Shape) (is : IsShape shape) (old mid : Medium) (same : mid.ima
         → chosen old.image shape ≡ Some (opens, (seen, index))
         → EachCase (SettleStops opens shape.place.first shape.place.copies seen.generation seen.text mid.image) mid new → KeptThroughout shape state old new
     settled_kept_by true seen index state before later idle chose stops = adopt_kept shape is state untouched adopt_law opened_law old mid new (seen, index) before later idle same chose stops
-    settled_kept_by false seen index state before later idle chose stops = keep_kept shape is state untouched keep_law corrupt_law old mid new (seen, index) before later idle same chose stops
+    settled_kept_by false seen index state before later idle chose stops = keep_kept shape is state untouched keep_law old mid new (seen, index) before later idle same chose stops
 
     pub settled_kept : (found : Found) (state : State) → Elapses old mid → Elapses mid new → (Quiet old → IsIdle old mid) → Some (text_of found) ≡ chosen old.image shape
         → EachCase (SettleStops found.opens shape.place.first shape.place.copies found.seen.generation found.seen.text mid.image) mid new → KeptThroughout shape state old new
@@ -59,8 +59,8 @@ module _ (shape : Shape) (is : IsShape shape) (old mid : Medium) (same : mid.ima
         ready_opened shape old.image new.image set is (contents_law aside) (contents_done_law aside) (index_law aside) seen.generation seen.text index
         (record { clean = clean; opens = opened_at shape old.image opened_law (seen, index) chose; alone = left; areas = areas }) rules takes
     settled_ready_by false seen index set clean chose fit rules takes left areas =
-        ready_salvaged shape old.image new.image set is given_up taken_named (anew_contents aside) (anew_done aside) (anew_index aside) seen.generation seen.text index
-        clean (corrupt_at shape old.image corrupt_law (seen, index) chose) fit rules takes left areas
+        ready_salvaged shape old.image new.image set is given_up taken_named (anew_contents aside) (anew_done aside) (anew_index aside) (seen, index)
+        clean chose fit rules takes left areas
 
     module _ (found : Found) (found_is : IsFound shape found) (set : List Bool) (taken : AreTaken (area_blocks shape.allowed) found.index.entries set) where
       pub settled_ready : (next : ℕ) → HasNext (salvage_of (store_at old.image shape)) → salvage_of (store_at old.image shape) ≡ Some found.view

@@ -26,8 +26,8 @@ use Rattle.element_state.specs.Fit.{FitText, fit_index, fit_texts}
 use Rattle.element_state.specs.Kept.{heading, IsKeptCase, KeptThroughout}
 use Rattle.element_state.specs.States.{State, store_at, fresh_entry, fresh_map, fresh_view, fresh_state}
 use Rattle.element_state.specs.Views.{entry_view, qualifies}
-use Rattle.element_laws.specs.Phases.{IsOfPlace, UntouchedLaw, OpensAt, OpenedLaw, IsCorruptAt, CorruptLaw, IsAdopted, IsGivenUp, AdoptLaw, KeepLaw, ContentsLaw, ContentsDoneLaw, IndexLaw, GivenUpLaw, TakesNamed, TakenLaw, AnewContentsLaw, AnewDoneLaw, AnewIndexLaw, IsHeaded, IsWritten, IsCarried}
-use Rattle.element_laws.proofs.Lists.{In, zip_with, some_is, not_false}
+use Rattle.element_laws.specs.Phases.{IsOfPlace, UntouchedLaw, OpensAt, OpenedLaw, IsCorruptAt, CorruptLaw, IsSalvageAt, IsAdopted, IsGivenUp, AdoptLaw, KeepLaw, ContentsLaw, ContentsDoneLaw, IndexLaw, GivenUpLaw, TakesNamed, TakenLaw, AnewContentsLaw, AnewDoneLaw, AnewIndexLaw, IsHeaded, IsWritten, IsCarried}
+use Rattle.element_laws.proofs.Lists.{In, zip_with, some_is, not_false, not_none}
 use Rattle.element_laws.proofs.Fits.{fit_at, fit-In, fit-spelled}
 use Rattle.element_store.specs.Plans.{HasAll}
 use Rattle.element_store.specs.Spelled.{ShowsFresh, IsTextOf, IsContentsCase}
@@ -43,10 +43,6 @@ opened_by texts (Some t) text e = ap (λ (x : FitText). Some x) (ap (λ (p : Boo
 opened_by [] None text e = cc
 opened_by (t ∷ texts) None text e = absurd (not_false (ap (λ (p : Bool × FitText). p.0) (some_is (false, t) (true, text) e)))
 
-corrupt_by : (texts : List FitText) (o : Option FitText) (text : FitText) → or_first texts o ≡ Some (false, text) → o ≡ None
-corrupt_by texts (Some t) text e = absurd (not_false (sym (ap (λ (p : Bool × FitText). p.0) (some_is (true, t) (false, text) e))))
-corrupt_by texts None text e = refl
-
 none_by : (texts : List FitText) (o : Option FitText) → or_first texts o ≡ None → (o ≡ None) × (texts ≡ [])
 none_by texts (Some t) e = cc
 none_by [] None e = (refl, refl)
@@ -56,10 +52,6 @@ module _ (shape : Shape) (start : Image) where
   pub opened_at : OpenedLaw → (text : FitText) → chosen start shape ≡ Some (true, text) → OpensAt shape start text.0.generation text.0.text text.1
   unfolding chosen
   opened_at law text is = law shape start text (opened_by (fit_texts shape start) (find (qualifies start shape) (fit_texts shape start)) text is)
-
-  pub corrupt_at : CorruptLaw → (text : FitText) → chosen start shape ≡ Some (false, text) → IsCorruptAt shape start
-  unfolding chosen
-  corrupt_at law text is = law shape start (corrupt_by (fit_texts shape start) (find (qualifies start shape) (fit_texts shape start)) text is)
 
   pub none_at : CorruptLaw → chosen start shape ≡ None → IsCorruptAt shape start
   unfolding chosen
@@ -89,23 +81,26 @@ module _ (shape : Shape) (start now : Image) (set : List Bool) (is : IsShape sha
 
   -- beside what is held of a corrupt one
   pub ready_given_up : AnewContentsLaw → AnewDoneLaw → AnewIndexLaw → (g : ℕ) → IsGivenUp shape start now → TakesNamed (holds set) shape.place now
-      → ((copy h : ℕ) (u : List ℕ) → copy < shape.place.copies → Holds now shape.place.first copy h u → h < g) → IsGround shape start now set g
-  ready_given_up contents contents_done law g given_up takes below = record {
+      → ((copy h : ℕ) (u : List ℕ) → copy < shape.place.copies → Holds now shape.place.first copy h u → h < g)
+      → ((text : FitText) → IsSalvageAt shape start text → g ≡ text.0.generation + 1) → IsGround shape start now set g
+  ready_given_up contents contents_done law g given_up takes below next_is = record {
     during = λ after old c settled keeps. contents shape start now (holds set) after old c is.some given_up takes settled keeps;
     done = λ then after c keeps settled. contents_done shape start now then (holds set) after c is.some given_up takes keeps settled;
     index = λ then next new_index view others c keeps fit generation_is written stops.
-        law shape start now then (holds set) g next new_index view others c is.some given_up takes below keeps fit generation_is written stops;
+        law shape start now then (holds set) g next new_index view others c is.some given_up takes below next_is keeps fit generation_is written stops;
   }
 
   -- beside its salvage
-  pub ready_salvaged : GivenUpLaw → TakenLaw → AnewContentsLaw → AnewDoneLaw → AnewIndexLaw → (g : ℕ) (text : List ℕ) (index : Index) → IsClean shape start → IsCorruptAt shape start
-      → fit_index shape text ≡ Some index → IsIndex index → AllByRecursion (λ (e : IndexEntry). HasAll set e.blocks) index.entries
-      → IsKeptAlone shape.place.first shape.place.copies g text start now → Spares (IsNoSlot shape.place.first shape.place.copies) start now → IsGround shape start now set (g + 1)
-  ready_salvaged given_up taken contents contents_done law g text index clean corrupt fit rules takes alone areas =
-      let (up, only) = given_up shape start now g text clean corrupt alone areas in
-      ready_given_up contents contents_done law (g + 1) up
-      (taken shape.place now text index (holds set) (λ copy h u lt held. (only copy h u lt held).1) (fit-spelled shape text index fit) rules takes)
+  pub ready_salvaged : GivenUpLaw → TakenLaw → AnewContentsLaw → AnewDoneLaw → AnewIndexLaw → (text : FitText) → IsClean shape start → IsSalvageAt shape start text
+      → fit_index shape text.0.text ≡ Some text.1 → IsIndex text.1 → AllByRecursion (λ (e : IndexEntry). HasAll set e.blocks) text.1.entries
+      → IsKeptAlone shape.place.first shape.place.copies text.0.generation text.0.text start now → Spares (IsNoSlot shape.place.first shape.place.copies) start now
+      → IsGround shape start now set (text.0.generation + 1)
+  ready_salvaged given_up taken contents contents_done law text clean salvage fit rules takes alone areas =
+      let (up, only) = given_up shape start now text clean salvage alone areas in
+      ready_given_up contents contents_done law (text.0.generation + 1) up
+      (taken shape.place now text.0.text text.1 (holds set) (λ copy h u lt held. (only copy h u lt held).1) (fit-spelled shape text.0.text text.1 fit) rules takes)
       (λ copy h u lt held. let e = (only copy h u lt held).0 in omega (arith, e))
+      (λ other is. ap (λ (x : FitText). x.0.generation + 1) (ap (λ (p : Bool × FitText). p.1) (some_is (false, text) (false, other) (sym salvage ∙ is))))
 
 -- beside nothing
 pub ready_none : CorruptLaw → AnewContentsLaw → AnewDoneLaw → AnewIndexLaw → (shape : Shape) (start : Image) (set : List Bool) → IsShape shape → IsClean shape start
@@ -113,9 +108,16 @@ pub ready_none : CorruptLaw → AnewContentsLaw → AnewDoneLaw → AnewIndexLaw
 ready_none corrupt contents contents_done law shape start set is clean none =
     let nothing = none_held shape start clean none in
     ready_given_up shape start start set is contents contents_done law 1
-    (record { clean = clean; corrupt = none_at shape start corrupt none; less = λ copy lt h u held. held; areas = λ f out. refl })
+    (record {
+      clean = clean;
+      corrupt = none_at shape start corrupt none;
+      less = λ copy lt h u held. held;
+      salvage = λ text is copy lt spared held. held;
+      areas = λ f out. refl;
+    })
     (λ at named. absurd (nothing named.copy named.generation named.text named.inside named.held))
     (λ copy h u lt held. absurd (nothing copy h u lt held))
+    (λ text is. absurd (not_none (false, text) (sym is ∙ none)))
 
 -- ---- until it is ready
 
@@ -134,12 +136,12 @@ module _ (shape : Shape) (is : IsShape shape) (state : State) where
       (subst (λ (im : Image). PutStops shape.place.first shape.place.copies text.0.generation text.0.text im c) same (stops c past)))
 
   -- while all texts but its salvage are taken away
-  pub keep_kept : UntouchedLaw → KeepLaw → CorruptLaw → (old mid new : Medium) (text : FitText) → Elapses old mid → Elapses mid new → (Quiet old → IsIdle old mid) → mid.image ≡ old.image
+  pub keep_kept : UntouchedLaw → KeepLaw → (old mid new : Medium) (text : FitText) → Elapses old mid → Elapses mid new → (Quiet old → IsIdle old mid) → mid.image ≡ old.image
       → chosen old.image shape ≡ Some (false, text) → EachCase (KeepStops shape.place.first shape.place.copies text.0.generation text.0.text mid.image) mid new
       → KeptThroughout shape state old new
-  keep_kept untouched keep corrupt old mid new text before later idle same chose stops quiet clean =
+  keep_kept untouched keep old mid new text before later idle same chose stops quiet clean =
       goes_on (IsKeptCase shape (store_at old.image shape) state) before later (idle_kept untouched old mid idle quiet clean)
-      (λ c past. keep shape old.image text.0.generation text.0.text state c is.some clean (corrupt_at shape old.image corrupt text chose)
+      (λ c past. keep shape old.image text state c is.some clean chose
       (subst (λ (im : Image). KeepStops shape.place.first shape.place.copies text.0.generation text.0.text im c) same (stops c past)))
 
 -- ---- contents, and their index

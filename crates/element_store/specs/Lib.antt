@@ -10,3 +10,4 @@ pub mod Commits
 pub mod Changing
 pub mod Committing
 pub mod Rebuilds
+pub mod Creates

@@ -1,5 +1,5 @@
 -- Plans: entries and jobs for contents, whose blocks are chosen before anything is written.
-use Rattle.std.specs.Prelude.{◌≡◌, ◌≢◌, ℕ, ◌+◌, ◌<◌, ◌≤◌, List, [], ◌∷◌, length, slice_index, Bool, true, false, sum_by, ⊤}
+use Rattle.std.specs.Prelude.{◌≡◌, ◌≢◌, ℕ, ◌+◌, ◌*◌, ◌<◌, ◌≤◌, List, [], ◌∷◌, length, slice_index, Bool, true, false, sum_by, ⊤}
 use Rattle.std.specs.List.{All, AllZip, AllByRecursion}
 use Rattle.sha2.specs.Sha256.{sha256}
 use Rattle.per_base.specs.declared.elements.Fresh.{Fresh}
@@ -12,7 +12,7 @@ use Rattle.index_text.specs.declared.entries.IndexEntry.{IndexEntry}
 use Rattle.element_state.specs.Views.{entry_view}
 use Rattle.element_state.specs.States.{fresh_entry, fresh_element}
 use Rattle.element_store.specs.declared.jobs.Job.{Job}
-use Rattle.element_store.specs.Jobs.{IsRoomy, AreApart, IsDone}
+use Rattle.element_store.specs.Jobs.{IsRoomy, AreApart, IsDone, jobs_cost}
 
 -- the set has all of these blocks
 abbrev pub HasAll : List Bool → List ℕ → Type 0
@@ -65,6 +65,7 @@ pub record IsPlanOf (generation : ℕ) (contents : List Fresh) (start now : List
   pub keeps : KeepsBlocks start now
   pub capacity : length now ≡ length start
   pub free : free_of start ≤ free_of now + blocks_of_all contents
+  pub cost : jobs_cost jobs ≤ 256 * blocks_of_all contents
   -- once the jobs are done, the entries show the contents
   pub views : (image : Image) (place : Place) (m : ℕ) → 1 ≤ m → m ≤ place.copies → All (IsDone image place.first place.copies) jobs
       → AllZip (λ f e. entry_view image place m e ≡ fresh_entry generation (fresh_element f)) contents entries

@@ -1,15 +1,21 @@
 //! A storage made anew.
 
-ghost use Rattle.std.specs.Prelude.{◌≡◌, ◌≤◌, IsTrue, IfOk, OnOk, IsErrOf, map, length};
+ghost use Rattle.std.specs.Prelude.{◌≡◌, ◌≤◌, ◌+◌, ◌*◌, IsTrue, IfOk, OnOk, IsErrOf, map, length};
 ghost use Rattle.std.specs.List.{All};
 ghost use Rattle.per_base.specs.Causes.{Rose};
+ghost use Rattle.disk_model.specs.Damage.{IsSoundFor};
 ghost use Rattle.disk_model.specs.Frame.{Spares, IsSettledOn};
+ghost use Rattle.guarded_cell.specs.Stops.{IsSlotPiece};
+ghost use Rattle.hash_guard.specs.SealedText.{header, max_body};
+ghost use Rattle.index_text.specs.Spelling.{index_text};
 ghost use Rattle.disk_model.specs.Medium.{Quiet, EachCase, Elapses};
 ghost use Rattle.disk_model.specs.Place.{IsOutside};
-ghost use Rattle.element_state.specs.States.{fresh_element, fresh_entry, fresh_map, fresh_view};
-ghost use Rattle.element_state.specs.Clean.{IsClean};
+ghost use Rattle.element_state.specs.States.{store_at, fresh_element, fresh_entry, fresh_map, fresh_state, fresh_view};
+ghost use Rattle.element_state.specs.Clean.{IsClean, IsPiece};
 ghost use Rattle.element_state.specs.Conditions.{IsShape, AreContents};
 ghost use Rattle.element_store.specs.Committing.{index_in};
+ghost use Rattle.element_store.specs.Creates.{IsUntorn};
+ghost use Rattle.element_store.specs.Plans.{blocks_of_all};
 ghost use Rattle.element_store.specs.Stores.{IsUsed, shape_of, view_in};
 
 use crate::store::Store;
@@ -18,11 +24,12 @@ use crate::writing::{blocks_in_area, put_contents};
 use block_files::BlockSet;
 use disk_model::Disk;
 use element_state::{Shape, StoreError};
-use guarded_cell::format_cell;
+use guarded_cell::{format_cell, keep_only};
 use per_base::{Content, Entry, Fresh, Numbers};
 use std::alloc::{AllocError, Global};
 
-/// Makes a storage anew with these contents, and gives up what its place held.
+/// Makes a storage anew with these contents, and gives up what its place held. The texts of the place are taken away first, and only
+/// then are contents written: an index of before would name blocks that are being written.
 ///
 /// # Errors
 ///
@@ -36,6 +43,7 @@ pub fn create<D: Disk>(
     requires shape { IsShape shape }
     requires contents { AreContents shape contents.items }
 
+    ensures opens { IsTrue D.told → OnOk result (store_at (D.medium disk.new).image shape ≡ fresh_state 1 (fresh_map contents.items)) }
     ensures used { IfOk result (IsUsed D.told (D.medium disk.new).image) }
     ensures shape { IfOk result (λ store. shape_of store ≡ shape) }
     ensures view { IfOk result (λ store. view_in store ≡ fresh_view 1 (fresh_map contents.items)) }
@@ -46,15 +54,28 @@ pub fn create<D: Disk>(
     ensures never_corrupt { IsErrOf result StoreError.Corrupt → ⊥ }
     ensures cause { IsErrOf result StoreError.Device → Rose (D.medium disk.old).faults (D.medium disk.new).faults }
 
+    // At no moment are blocks torn under an index that names them: where no text is made by chance, no content is.
+    ensures untorn { IsTrue D.told → Quiet (D.medium disk.old) → EachCase (IsUntorn shape.place) (D.medium disk.old) (D.medium disk.new) }
+    ensures sound { IsTrue D.told → Quiet (D.medium disk.old)
+        → EachCase (λ c. IsSoundFor (IsSlotPiece shape.place.first shape.place.copies) c → IsSoundFor (IsPiece shape.place) c)
+        (D.medium disk.old) (D.medium disk.new) }
+
     // No file outside the place changes, at the end and at any moment.
     ensures elsewhere { IsTrue D.told
         → Spares (IsOutside shape.place.first shape.place.copies) (D.medium disk.old).image (D.medium disk.new).image }
     ensures outside { IsTrue D.told → Quiet (D.medium disk.old)
         → EachCase (IsSettledOn (IsOutside shape.place.first shape.place.copies) (D.medium disk.old).image)
         (D.medium disk.old) (D.medium disk.new) }
+
+    // In each copy the contents in whole blocks, the index, and four blanks; at most as much where it failed.
+    ensures written { IfOk result (λ store. (D.medium disk.new).written ≤ (D.medium disk.old).written
+        + shape.place.copies * (256 * blocks_of_all contents.items + length (index_text (index_in store)) + 5 * header)) }
+    ensures at_most { (D.medium disk.new).written
+        ≤ (D.medium disk.old).written + shape.place.copies * (256 * blocks_of_all contents.items + max_body + 5 * header) }
     ensures time { Elapses (D.medium disk.old) (D.medium disk.new) }
 {
     let mut used = BlockSet::new(alloc, blocks_in_area(&shape))?;
+    keep_only(alloc, disk, shape.place, 1, &[])?;
     let spelled = put_contents(alloc, disk, &shape, 1, &contents, &mut used)?;
     let taken = blocks_taken_by(
         alloc,

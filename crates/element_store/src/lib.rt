@@ -7,20 +7,22 @@
 //! writes each element again in the copies that lack it, and reports what was lacking or could not be read. [`Store::commit`] makes
 //! changes all at once, with contents in blocks that were free, and [`rebuild`] makes a storage anew beside what its place holds, under
 //! the next generation. In each of these the contents are durable before the index that names them takes its place. [`inspect`] and
-//! [`salvage`] look at a storage and write nothing, and [`reports_of`] gives what an opening reports of a view.
+//! [`salvage`] look at a storage and write nothing; [`reports_of`] gives what an opening reports of a view, and [`failed_report`] what it
+//! reports of a corrupt storage.
 //!
 //! The promise, on every image: the exact view, a quiet disk, a place that is clean where it was so or is made anew, and no file elsewhere changed at
 //! any moment. A stop at any moment of an opening, a commit or a rebuild leaves the storage of before or that of after. A failure of the
 //! disk comes only where its count of faults rose. What is read is a view on every disk, told or not: names ascend, and lengths are right.
 //!
 //! Limits: at most 1,024 elements, 8 copies, and 4,194,304 bytes of names and contents; one caller at a time. A creation gives up what its
-//! place held, and a stop in it may leave a corrupt storage.
+//! place held before it writes anything else, and a stop in it may leave a corrupt storage.
 #![tactic(auto)]
 
 mod changing;
 mod committing;
 mod creating;
 mod jobs;
+mod laws;
 mod mending;
 mod named;
 mod opening;
@@ -34,7 +36,8 @@ mod writing;
 
 pub use committing::CommitFault;
 pub use creating::create;
-pub use element_state::{Change, Shape, StoreError, View, inspect, salvage};
+pub use element_state::{Change, Shape, StoreError, View, failed_report, inspect, salvage};
+pub use laws::use_stays;
 pub use opening::{OpenedStore, open_store};
 pub use rebuilding::rebuild;
 pub use reporting::reports_of;

@@ -1,6 +1,6 @@
 //! Contents that are written whole, with the index that names them.
 
-ghost use Rattle.std.specs.Prelude.{◌≡◌, ◌≤◌, ◌+◌, IsTrue, IfOk, OnOk, IsErrOf, IsOk, Some, true, length};
+ghost use Rattle.std.specs.Prelude.{◌≡◌, ◌≤◌, ◌+◌, ◌*◌, IsTrue, IfOk, OnOk, IsErrOf, IsOk, Some, true, length};
 ghost use Rattle.std.specs.List.{AllZip};
 ghost use Rattle.per_base.specs.Causes.{Rose};
 ghost use Rattle.disk_model.specs.Frame.{Keeps, Spares};
@@ -61,6 +61,7 @@ pub(crate) fn put_contents<D: Disk>(
     ensures during { EachCase
         (IsContentsCase shape.now.place.first shape.now.place.copies used.old (D.medium disk.old) (D.medium disk.new) (IsOk result))
         (D.medium disk.old) (D.medium disk.new) }
+    ensures written { (D.medium disk.new).written ≤ (D.medium disk.old).written + shape.now.place.copies * (256 * blocks_of_all contents.now) }
     ensures time { Elapses (D.medium disk.old) (D.medium disk.new) }
 {
     let Plan { entries, jobs } = plan_contents(alloc, generation, contents, used)?;

@@ -6,3 +6,4 @@ pub mod Opens
 pub mod Sound
 pub mod Numbers
 pub mod Whole
+pub mod Asked

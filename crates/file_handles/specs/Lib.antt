@@ -3,3 +3,4 @@ pub mod Handling
 pub mod Opening
 pub mod Sessions
 pub mod Tables
+pub mod Whole

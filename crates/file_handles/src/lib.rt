@@ -12,6 +12,7 @@ mod by_name;
 mod changing;
 mod handle;
 mod handling;
+mod laws;
 mod map;
 mod opening;
 mod restoring;
@@ -19,5 +20,6 @@ mod storage;
 mod table;
 
 pub use handle::Handle;
+pub use laws::whole_contents_are_given;
 pub use storage::Storage;
 pub use table::{FILES, FileTable, HANDLES, STORAGE_BYTES};

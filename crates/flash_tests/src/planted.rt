@@ -119,7 +119,7 @@ pub fn crowd(flash: &mut MemFlash) -> bool {
 fn crowding(block: u32, at: u32) -> Planted {
     let sequence = 64 * block as u64 + at as u64 + 1;
     if at < COLD {
-        let page = COLD * block.min(2) + at;
+        let page = (COLD * block.min(2)).saturating_add(at);
         return Planted {
             block,
             at,
@@ -127,7 +127,7 @@ fn crowding(block: u32, at: u32) -> Planted {
             file: 2,
             page,
             len: 32_256,
-            byte: page as u8,
+            byte: (page % 256) as u8,
         };
     }
     Planted {

@@ -10,14 +10,14 @@ pub struct Step<'a> {
 }
 
 impl<'a> Step<'a> {
-    /// Reads a step. Each word that is a number counts as one; of the others the last is the step's word.
+    /// Reads a step: its first word, and behind it the words that are numbers.
     pub fn read(alloc: Global, text: &'a str) -> Result<Step<'a>, AllocError> {
-        let mut word = "";
         let mut numbers = Vec::new(alloc);
-        for part in text.split_whitespace() {
-            match part.parse::<u64>() {
-                Ok(number) => numbers.push(number)?,
-                Err(_) => word = part,
+        let mut words = text.split_whitespace();
+        let word = words.next().unwrap_or("");
+        for part in words {
+            if let Ok(number) = part.parse::<u64>() {
+                numbers.push(number)?;
             }
         }
         Ok(Step { word, numbers })
@@ -51,8 +51,8 @@ impl<'a> Step<'a> {
     /// The numbers from this place on as bytes.
     pub fn bytes(&self, alloc: Global, from: usize) -> Result<Vec<u8>, AllocError> {
         let mut bytes = Vec::new(alloc);
-        for number in self.numbers.iter().skip(from) {
-            bytes.push((*number % 256) as u8)?;
+        for place in from..self.numbers.len() {
+            bytes.push(self.byte(place))?;
         }
         Ok(bytes)
     }

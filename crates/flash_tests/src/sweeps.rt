@@ -176,16 +176,19 @@ fn fails(alloc: Global, call: u64) -> Option<Outcome> {
     plan_one(alloc, &mut flash, call)?;
     let mut disk = FlashDisk::open(alloc, flash).ok()?;
     let (failed, count) = play_on(&mut disk);
-    let good = count <= 1
+    if count == 0 {
+        return Some(Outcome::Whole);
+    }
+    let good = count == 1
         && are_with_or_without(&mut disk, WRITES, failed)
         && disk.sync().is_ok()
         && disk.own_faults() == 0;
     let mut flash = disk.into_flash();
-    let good = good && flash.faults() == count as u64;
+    let good = good && flash.faults() == 1;
     flash.restart();
     let mut disk = FlashDisk::open(alloc, flash).ok()?;
     let good = good && are_with_or_without(&mut disk, WRITES, failed);
-    Some(what_came(good, count == 0))
+    Some(what_came(good, false))
 }
 
 // Makes three writes of one byte, and says which was the last that was Ok, from 1 on, and how many failed.
@@ -207,13 +210,16 @@ fn fails_of_moves(alloc: Global, call: u64) -> Option<Outcome> {
     plan_one(alloc, &mut flash, call)?;
     let mut disk = FlashDisk::open(alloc, flash).ok()?;
     let (last, count) = bytes_on(&mut disk);
-    let good = count <= 1
+    if count == 0 {
+        return Some(Outcome::Whole);
+    }
+    let good = count == 1
         && is_crowded_with(&mut disk, last_byte(last), (last % 250) as u8)
         && disk.own_faults() == 0;
     let mut flash = disk.into_flash();
-    let good = good && flash.faults() == count as u64;
+    let good = good && flash.faults() == 1;
     flash.restart();
     let mut disk = FlashDisk::open(alloc, flash).ok()?;
     let good = good && is_crowded_with(&mut disk, last_byte(last), (last % 250) as u8);
-    Some(what_came(good, count == 0))
+    Some(what_came(good, false))
 }

@@ -1,14 +1,15 @@
 -- Slots that are right already are not chosen, and so they stay as they were.
-use Rattle.std.proofs.Common.{◌≡◌, ◌∙◌, ℕ, ◌<◌, List, Bool, Option, Some, sym, subst}
+use Rattle.std.proofs.Common.{◌≡◌, ◌∙◌, ℕ, ◌<◌, List, get_or, Bool, false, Option, Some, sym, subst, inl, inr}
+use Rattle.std.proofs.lemmas.Bool.{cases_Bool}
 use Rattle.disk_model.specs.Image.{Image}
 use Rattle.disk_model.specs.Frame.{Spares}
 use Rattle.disk_model.specs.Place.{slot}
 use Rattle.guarded_cell.specs.declared.looking.Seen.{Seen}
-use Rattle.guarded_cell.specs.Register.{own, other}
+use Rattle.guarded_cell.specs.Register.{IsAlone, own, other}
 use Rattle.guarded_cell.specs.Slots.{Tells, Picks, IsSpared}
 use Rattle.guarded_cell.specs.declared.slots.Pick.{Pick}
 use Rattle.guarded_cell.specs.declared.slots.Pick.TheVariants.{Lacking, Verifying, Others}
-use Rattle.guarded_cell.specs.Fronts.{IsChosen}
+use Rattle.guarded_cell.specs.Fronts.{IsChosen, IsNone}
 use Rattle.guarded_cell.specs.Rights.{IsRight, IsRightFor, IsClear}
 
 -- a slot that a pass spares is not chosen by it
@@ -68,3 +69,18 @@ pub right_for : (s : Option Seen) (seen : Seen) (first copies : ℕ) (old new : 
     → Spares (IsRight old first copies seen.generation seen.text) old new → Spares (IsRightFor s old first copies) old new
 right_for s seen first copies old new stands spares =
     subst (λ (x : Option Seen). Spares (IsRightFor x old first copies) old new) (sym stands) spares
+
+-- ---- where every copy holds the text alone, no slot is picked
+
+module _ (first copies generation : ℕ) (text : List ℕ) (image : Image) (alone : IsAlone image first copies generation text) (chosen : List Bool) where
+  pub none_lacking : Picks Lacking chosen image first copies (own generation) generation text → IsNone copies chosen
+  none_lacking picks copy lt = elim (cases_Bool (get_or chosen copy false)) [
+    | inl passes ↦ absurd (subst (λ (b : Bool). Tells Lacking b (image (slot first copy (own generation))) generation text) passes (picks copy lt) (alone.held copy lt))
+    | inr fails ↦ fails
+  ]
+
+  pub none_stale : Picks Verifying chosen image first copies (other generation) generation text → IsNone copies chosen
+  none_stale picks copy lt = elim (cases_Bool (get_or chosen copy false)) [
+    | inl passes ↦ absurd (subst (λ (b : Bool). Tells Verifying b (image (slot first copy (other generation))) generation text) passes (picks copy lt) (alone.blank copy lt))
+    | inr fails ↦ fails
+  ]

@@ -1,7 +1,7 @@
 -- How bytes get over the fronts of chosen slots, write by write.
 use Rattle.std.proofs.Common.{◌≡◌, ◌⊎◌, ℕ, ◌+◌, ◌*◌, ◌<◌, ◌≤◌, List, length, get_or, Bool, true, false, IsTrue, refl, sym, ap, ◌∙◌, subst, inl, inr, ⊎_elim, le_trans, add-one, arith}
 use Rattle.std.proofs.Math.Nat.{suc-mul, mul-le-mul_right}
-use Rattle.std.proofs.lemmas.Bool.{cases_eq, cases_lt}
+use Rattle.std.proofs.lemmas.Bool.{cases_eq, cases_lt, false≢true}
 use Rattle.disk_model.specs.Image.{Image, put_bytes, put_image, TornImage}
 use Rattle.disk_model.specs.Written.{put_image_here, put_image_elsewhere}
 use Rattle.disk_model.specs.Case.{Case, IsSettledAt, WriteCase, WriteOrNot, Follows}
@@ -9,7 +9,7 @@ use Rattle.disk_model.specs.Medium.{Medium, IsLawful, Elapses, WritesNothing, Ea
 use Rattle.disk_model.specs.Frame.{Spares}
 use Rattle.disk_model.specs.Place.{slot}
 use Rattle.disk_model.proofs.Moments.{elapses_none, elapses_on, cases_on, case_now}
-use Rattle.guarded_cell.specs.Fronts.{IsChosen, PutsSome, FrontsPut, FrontsCase, IsFrontsCase}
+use Rattle.guarded_cell.specs.Fronts.{IsChosen, IsNone, PutsSome, FrontsPut, FrontsCase, IsFrontsCase}
 use Rattle.guarded_cell.proofs.Texts.{put_twice}
 
 more_times : (k n : ℕ) → (k + 1) * n ≡ k * n + n
@@ -47,6 +47,7 @@ pub record IsWriting (first parity copies k : ℕ) (chosen : List Bool) (bytes :
       → now.image (slot first copy parity) ≡ put_bytes (start.image (slot first copy parity)) 0 bytes
   pub during : Follows (FrontsCase first parity copies chosen bytes) start.now (now.since start.moment)
   pub written : now.written ≤ start.written + k * length bytes
+  pub none : IsNone copies chosen → now.written ≡ start.written
   pub time : Elapses start now
 
 module _ (first parity copies : ℕ) (chosen : List Bool) (bytes : List ℕ) where
@@ -84,6 +85,9 @@ module _ (first parity copies : ℕ) (chosen : List Bool) (bytes : List ℕ) whe
       ))
       (cases_on time next c past)
 
+  some_chosen : (k : ℕ) → k < copies → get_or chosen k false ≡ true → IsNone copies chosen → ⊥
+  some_chosen k lt is_set none = false≢true (sym (none k lt) ∙ is_set)
+
   -- no turn was made
   pub writing_none : {told : Bool} {start : Medium} → IsLawful told start → IsWriting first parity copies 0 chosen bytes told start start
   writing_none {told} {start} law = record {
@@ -91,6 +95,7 @@ module _ (first parity copies : ℕ) (chosen : List Bool) (bytes : List ℕ) whe
     put = λ _ copy lt. absurd (omega (arith, lt));
     during = λ c past. (c, law.only_now c past, fronts_none c);
     written = omega arith;
+    none = λ _. refl;
     time = elapses_none law;
   }
 
@@ -105,6 +110,7 @@ module _ (first parity copies : ℕ) (chosen : List Bool) (bytes : List ℕ) whe
         (cases_lt copy k);
     during = w.during;
     written = omega (arith, w.written, more_times k (length bytes));
+    none = w.none;
     time = w.time;
   }
 
@@ -128,6 +134,7 @@ module _ (first parity copies : ℕ) (chosen : List Bool) (bytes : List ℕ) whe
             (cases_lt copy k);
         during = during_step (slot first k parity) is law w.time next w.during cases;
         written = omega (arith, more, w.written, more_times k (length bytes));
+        none = λ none. absurd (some_chosen k lt is_set none);
         time = elapses_on w.time next;
       }
 
@@ -154,6 +161,9 @@ module _ (first parity copies : ℕ) (chosen : List Bool) (bytes : List ℕ) whe
   cut_written {told} start mid new k lt w more =
       let whole : k + 1 ≤ copies = omega arith in
       omega (arith, more, w.written, more_times k (length bytes), times_within (k + 1) copies (length bytes) whole)
+
+  pub cut_none : (start new : Medium) (k : ℕ) → k < copies → get_or chosen k false ≡ true → IsNone copies chosen → new.written ≡ start.written
+  cut_none start new k lt is_set none = absurd (some_chosen k lt is_set none)
 
   -- all turns are made
   pub all_put : {told : Bool} {start new : Medium} (k : ℕ) → copies ≤ k → IsWriting first parity copies k chosen bytes told start new

@@ -13,6 +13,10 @@ pub record IsChosen (first parity copies : ℕ) (chosen : List Bool) (file : ℕ
   pub flag : get_or chosen copy false ≡ true
   pub is : file ≡ slot first copy parity
 
+-- no copy is chosen
+abbrev pub IsNone : (copies : ℕ) → (chosen : List Bool) → Type 0
+IsNone copies chosen = (copy : ℕ) → copy < copies → get_or chosen copy false ≡ false
+
 -- some of these files took the bytes at their fronts, and every other is as it was
 pub record PutsSome (Files : ℕ → Type 0) (bytes : List ℕ) (old new : Image) : Type 0 where
   pub each : (f : ℕ) → (new f ≡ old f) ⊎ (new f ≡ put_bytes (old f) 0 bytes)

@@ -45,11 +45,13 @@ pub fn adopt<D: Disk>(
     ensures never_corrupt { IsErrOf result CellError.Corrupt → ⊥ }
     ensures cause { IsErrOf result CellError.Device → Rose (D.medium disk.old).faults (D.medium disk.new).faults }
 
-    // Only slots of the place change, and none that is right already. A stop at any moment leaves every copy what it held or every copy
-    // the text.
+    // Only slots of the place change, and none that is right already; where every copy holds the text alone, nothing is written. A stop at
+    // any moment leaves every copy what it held or every copy the text.
     ensures elsewhere { IsTrue D.told → Spares (IsNoSlot place.first place.copies) (D.medium disk.old).image (D.medium disk.new).image }
     ensures right { IsTrue D.told → Spares (IsRight (D.medium disk.old).image place.first place.copies generation text.now)
         (D.medium disk.old).image (D.medium disk.new).image }
+    ensures already { IsTrue D.told → IsAlone (D.medium disk.old).image place.first place.copies generation text.now
+        → (D.medium disk.new).written ≡ (D.medium disk.old).written }
     ensures any_moment { IsTrue D.told → Quiet (D.medium disk.old)
         → EachCase (PutStops place.first place.copies generation text.now (D.medium disk.old).image)
         (D.medium disk.old) (D.medium disk.new) }
@@ -81,6 +83,8 @@ fn adopt_in<D: Disk>(
     ensures elsewhere { IsTrue D.told → Spares (IsNoSlot place.first place.copies) (D.medium disk.old).image (D.medium disk.new).image }
     ensures right { IsTrue D.told → Spares (IsRight (D.medium disk.old).image place.first place.copies generation text.now)
         (D.medium disk.old).image (D.medium disk.new).image }
+    ensures already { IsTrue D.told → IsAlone (D.medium disk.old).image place.first place.copies generation text.now
+        → (D.medium disk.new).written ≡ (D.medium disk.old).written }
     ensures any_moment { IsTrue D.told → Quiet (D.medium disk.old)
         → EachCase (PutStops place.first place.copies generation text.now (D.medium disk.old).image)
         (D.medium disk.old) (D.medium disk.new) }
@@ -117,6 +121,8 @@ pub(crate) fn settle_on<D: Disk>(
     ensures elsewhere { IsTrue D.told → Spares (IsNoSlot place.first place.copies) (D.medium disk.old).image (D.medium disk.new).image }
     ensures right { IsTrue D.told → Spares (IsRight (D.medium disk.old).image place.first place.copies generation text.now)
         (D.medium disk.old).image (D.medium disk.new).image }
+    ensures already { IsTrue D.told → IsAlone (D.medium disk.old).image place.first place.copies generation text.now
+        → (D.medium disk.new).written ≡ (D.medium disk.old).written }
     ensures any_moment { IsTrue D.told → Quiet (D.medium disk.old)
         → EachCase (PutStops place.first place.copies generation text.now (D.medium disk.old).image)
         (D.medium disk.old) (D.medium disk.new) }

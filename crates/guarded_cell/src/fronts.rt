@@ -5,7 +5,7 @@ ghost use Rattle.per_base.specs.Causes.{Rose};
 ghost use Rattle.disk_model.specs.Case.{Follows};
 ghost use Rattle.disk_model.specs.Frame.{Spares};
 ghost use Rattle.disk_model.specs.Medium.{Quiet, EachCase, Elapses};
-ghost use Rattle.guarded_cell.specs.Fronts.{IsChosen, FrontsPut, FrontsCase, IsFrontsCase};
+ghost use Rattle.guarded_cell.specs.Fronts.{IsChosen, IsNone, FrontsPut, FrontsCase, IsFrontsCase};
 
 use disk_model::{Disk, DiskFailed, Place};
 
@@ -26,6 +26,7 @@ pub(crate) fn write_fronts<D: Disk>(
     ensures during { Follows (FrontsCase place.first parity place.copies chosen.now bytes.now)
         (D.medium disk.old).now ((D.medium disk.new).since (D.medium disk.old).moment) }
     ensures written { (D.medium disk.new).written ≤ (D.medium disk.old).written + place.copies * length bytes.now }
+    ensures none { IsNone place.copies chosen.now → (D.medium disk.new).written ≡ (D.medium disk.old).written }
     ensures time { Elapses (D.medium disk.old) (D.medium disk.new) }
     ensures cause { OnErr result (Rose (D.medium disk.old).faults (D.medium disk.new).faults) }
 {
@@ -57,6 +58,7 @@ pub(crate) fn write_durably<D: Disk>(
         (IsFrontsCase place.first parity place.copies chosen.now bytes.now (D.medium disk.old) (D.medium disk.new) (IsOk result))
         (D.medium disk.old) (D.medium disk.new) }
     ensures written { (D.medium disk.new).written ≤ (D.medium disk.old).written + place.copies * length bytes.now }
+    ensures none { IsNone place.copies chosen.now → (D.medium disk.new).written ≡ (D.medium disk.old).written }
     ensures time { Elapses (D.medium disk.old) (D.medium disk.new) }
     ensures cause { OnErr result (Rose (D.medium disk.old).faults (D.medium disk.new).faults) }
 {

@@ -42,6 +42,8 @@ pub(crate) fn replace<D: Disk>(
     ensures elsewhere { IsTrue D.told → Spares (IsNoSlot place.first place.copies) (D.medium disk.old).image (D.medium disk.new).image }
     ensures right { IsTrue D.told → Spares (IsRight (D.medium disk.old).image place.first place.copies generation text.now)
         (D.medium disk.old).image (D.medium disk.new).image }
+    ensures already { IsTrue D.told → IsAlone (D.medium disk.old).image place.first place.copies generation text.now
+        → (D.medium disk.new).written ≡ (D.medium disk.old).written }
     ensures any_moment { IsTrue D.told → Quiet (D.medium disk.old)
         → EachCase (PutStops place.first place.copies generation text.now (D.medium disk.old).image)
         (D.medium disk.old) (D.medium disk.new) }

@@ -1,4 +1,4 @@
-use Rattle.element_laws.proofs.Refusals.{index_first, index_first_anew, old_overwritten, other_value, planted, copy_eaten, other_raised, salvage_raised}
+use Rattle.element_laws.proofs.Refusals.{index_first, index_first_anew, old_overwritten, other_value, planted, copy_eaten, other_raised, salvage_raised, salvage_lost}
 use Rattle.element_laws.proofs.laws.outcomes_are_refused.Goals as goal
 
 pub returns-clause-index_first : goal.returns-clause-index_first
@@ -24,3 +24,6 @@ returns-clause-other_raised c = other_raised
 
 pub returns-clause-salvage_raised : goal.returns-clause-salvage_raised
 returns-clause-salvage_raised c = salvage_raised
+
+pub returns-clause-salvage_lost : goal.returns-clause-salvage_lost
+returns-clause-salvage_lost c = salvage_lost

@@ -1,4 +1,5 @@
-use Rattle.element_laws.proofs.Refusals.{in_use, carried, whole, opened, corrupt}
+use Rattle.element_laws.proofs.Phases.{corrupt_found}
+use Rattle.element_laws.proofs.Refusals.{in_use, carried, whole, opened}
 use Rattle.element_laws.proofs.laws.use_is_adopted.Goals as goal
 
 pub returns-clause-adopted : goal.returns-clause-adopted
@@ -14,4 +15,4 @@ pub returns-clause-opened : goal.returns-clause-opened
 returns-clause-opened c = opened
 
 pub returns-clause-corrupt : goal.returns-clause-corrupt
-returns-clause-corrupt c = corrupt
+returns-clause-corrupt c = corrupt_found

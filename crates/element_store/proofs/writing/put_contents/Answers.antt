@@ -1,14 +1,14 @@
-use Rattle.std.proofs.Common.{◌≡◌, List, true, sym, subst}
+use Rattle.std.proofs.Common.{◌≡◌, ◌≤◌, ◌*◌, List, true, sym, subst}
 use Rattle.std.specs.List.{All, AllZip}
 use Rattle.disk_model.proofs.Frames.{keeps_less}
 use Rattle.index_text.specs.declared.entries.Index.{Index}
 use Rattle.index_text.specs.Rules.{IsIndex}
 use Rattle.index_text.specs.Sizes.{fits}
 use Rattle.element_store.specs.declared.jobs.Job.{Job}
-use Rattle.element_store.specs.Jobs.{HasShared, IsDone}
-use Rattle.element_store.specs.Plans.{IsMade, ArePlaced}
+use Rattle.element_store.specs.Jobs.{HasShared, IsDone, jobs_cost}
+use Rattle.element_store.specs.Plans.{IsMade, ArePlaced, blocks_of_all}
 use Rattle.element_store.specs.Spelled.{index_with, ShowsFresh}
-use Rattle.element_store.proofs.PlanSteps.{shared_of_whole, left_of_placed, jobs_to_contents}
+use Rattle.element_store.proofs.PlanSteps.{shared_of_whole, left_of_placed, jobs_to_contents, written_of_plan}
 use Rattle.element_store.proofs.Ruled.{plan_rules, plan_fits}
 use Rattle.element_store.proofs.Made.{fit_of}
 use Rattle.element_store.proofs.writing.put_contents.Goals as goal
@@ -74,3 +74,15 @@ returns-in-Ok-clause-keeps g c = λ tells. (
     (λ k taken. left_of_placed c.args.used.now c.plan_contents.new.used c.deref.result.now
     (subst (λ (js : List Job). ArePlaced c.args.used.now c.plan_contents.new.used js) (sym e) c.in_ok-entries.ensures.placed) k taken)
     (c.in-Ok.ensures.keeps tells))
+
+pub returns-in-Ok-clause-written : goal.returns-in-Ok-clause-written
+returns-in-Ok-clause-written g c =
+    let e : c.deref.result.now ≡ c.in_ok-entries.field-0.jobs.items = cc in
+    written_of_plan c.args.shape.now.place.copies (blocks_of_all c.args.contents.now) (g.D.Disk.medium c.args.disk.now).written (g.D.Disk.medium c.write_durably.new.disk).written
+    c.deref.result.now (subst (λ (js : List Job). jobs_cost js ≤ 256 * blocks_of_all c.args.contents.now) (sym e) c.in_ok-entries.ensures.cost) c.write_durably.ensures.cost
+
+pub returns-clause-written : goal.returns-clause-written
+returns-clause-written g c =
+    let e : c.deref.result.now ≡ c.in_ok-entries.field-0.jobs.items = cc in
+    written_of_plan c.args.shape.now.place.copies (blocks_of_all c.args.contents.now) (g.D.Disk.medium c.args.disk.now).written (g.D.Disk.medium c.write_durably.new.disk).written
+    c.deref.result.now (subst (λ (js : List Job). jobs_cost js ≤ 256 * blocks_of_all c.args.contents.now) (sym e) c.in_ok-entries.ensures.cost) c.write_durably.ensures.cost

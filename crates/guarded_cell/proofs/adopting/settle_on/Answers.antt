@@ -1,7 +1,8 @@
-use Rattle.std.proofs.Common.{subst}
+use Rattle.std.proofs.Common.{sym, ◌∙◌, subst}
 use Rattle.disk_model.specs.Image.{Image}
 use Rattle.disk_model.specs.Medium.{EachCase}
 use Rattle.disk_model.proofs.Moments.{reads_quiet}
+use Rattle.guarded_cell.specs.Register.{IsAlone}
 use Rattle.guarded_cell.specs.Stops.{PutStops}
 use Rattle.guarded_cell.proofs.Putting.{reads_then, reads_alone, still_stops}
 use Rattle.guarded_cell.proofs.Sparing.{right_since}
@@ -48,3 +49,13 @@ returns-clause-right g c = λ tells.
     right_since c.args.place.first c.args.place.copies c.args.generation c.args.text.now
     (g.D.Disk.medium c.args.disk.now).image (g.D.Disk.medium c.choose.new.disk).image (g.D.Disk.medium c.replace.new.disk).image
     c.choose.ensures.reads.image (c.replace.ensures.right tells)
+
+pub returns-in_err-replace-clause-already : goal.returns-in_err-replace-clause-already
+returns-in_err-replace-clause-already g c = λ tells alone.
+    c.replace.ensures.already tells (subst (λ (im : Image). IsAlone im c.args.place.first c.args.place.copies c.args.generation c.args.text.now) (sym c.choose.ensures.reads.image) alone)
+    ∙ c.choose.ensures.reads.written
+
+pub returns-clause-already : goal.returns-clause-already
+returns-clause-already g c = λ tells alone.
+    c.replace.ensures.already tells (subst (λ (im : Image). IsAlone im c.args.place.first c.args.place.copies c.args.generation c.args.text.now) (sym c.choose.ensures.reads.image) alone)
+    ∙ c.choose.ensures.reads.written

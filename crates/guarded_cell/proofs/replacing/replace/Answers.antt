@@ -6,7 +6,7 @@ use Rattle.disk_model.specs.Place.{IsNoSlot}
 use Rattle.guarded_cell.specs.Register.{own, other}
 use Rattle.guarded_cell.specs.Stops.{PutStops}
 use Rattle.guarded_cell.proofs.Putting.{first_moment, second_moment, chosen_elsewhere, spares_on, new_alone, first_written, both_written}
-use Rattle.guarded_cell.proofs.Sparing.{right_first, right_both}
+use Rattle.guarded_cell.proofs.Sparing.{right_first, right_both, none_lacking, none_stale}
 use Rattle.guarded_cell.proofs.replacing.replace.Goals as goal
 
 pub returns-in_err-write_durably-clause-elsewhere : goal.returns-in_err-write_durably-clause-elsewhere
@@ -111,3 +111,21 @@ returns-clause-right g c = λ tells.
     right_both c.args.place.first c.args.place.copies c.args.generation c.args.text.now (g.D.Disk.medium c.args.disk.now).image c.args.lacking.now c.args.stale.now
     (g.D.Disk.medium c.write_durably.new.disk).image (g.D.Disk.medium c.write_durably-2.new.disk).image (c.requires.lacking tells) (c.requires.stale tells)
     (c.write_durably.ensures.elsewhere tells) (c.write_durably-2.ensures.elsewhere tells)
+
+pub returns-in_err-write_durably-clause-already : goal.returns-in_err-write_durably-clause-already
+returns-in_err-write_durably-clause-already g c = λ tells alone. c.write_durably.ensures.none
+    (none_lacking c.args.place.first c.args.place.copies c.args.generation c.args.text.now (g.D.Disk.medium c.args.disk.now).image alone c.args.lacking.now (c.requires.lacking tells))
+
+pub returns-in_err-write_durably-2-clause-already : goal.returns-in_err-write_durably-2-clause-already
+returns-in_err-write_durably-2-clause-already g c = λ tells alone.
+    c.write_durably-2.ensures.none
+    (none_stale c.args.place.first c.args.place.copies c.args.generation c.args.text.now (g.D.Disk.medium c.args.disk.now).image alone c.args.stale.now (c.requires.stale tells))
+    ∙ c.write_durably.ensures.none
+    (none_lacking c.args.place.first c.args.place.copies c.args.generation c.args.text.now (g.D.Disk.medium c.args.disk.now).image alone c.args.lacking.now (c.requires.lacking tells))
+
+pub returns-clause-already : goal.returns-clause-already
+returns-clause-already g c = λ tells alone.
+    c.write_durably-2.ensures.none
+    (none_stale c.args.place.first c.args.place.copies c.args.generation c.args.text.now (g.D.Disk.medium c.args.disk.now).image alone c.args.stale.now (c.requires.stale tells))
+    ∙ c.write_durably.ensures.none
+    (none_lacking c.args.place.first c.args.place.copies c.args.generation c.args.text.now (g.D.Disk.medium c.args.disk.now).image alone c.args.lacking.now (c.requires.lacking tells))

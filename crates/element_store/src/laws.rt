@@ -1,0 +1,24 @@
+//! Storages in use while other files change, for the proofs of callers: the function does nothing when it runs.
+
+ghost use Rattle.std.specs.Prelude.{Bool, IsTrue};
+ghost use Rattle.disk_model.specs.declared.place.Place.{Place};
+ghost use Rattle.disk_model.specs.Image.{Image};
+ghost use Rattle.disk_model.specs.Frame.{Spares};
+ghost use Rattle.disk_model.specs.Place.{IsOutside};
+ghost use Rattle.element_laws.specs.Apart.{LieApart};
+ghost use Rattle.element_laws.specs.Phases.{IsOfPlace};
+ghost use Rattle.element_store.specs.declared.store.Store.{Store};
+ghost use Rattle.element_store.specs.Stores.{IsUsed, shape_of};
+
+use element_laws::places_stand_apart;
+
+/// A storage in use stays in use where the files of its place are as they were, as they are where only files of a place that lies apart
+/// from its own changed.
+pub fn use_stays()
+    ensures frame { (told : Bool) (store : Store) (old new : Image) → (IsTrue told → Spares (IsOfPlace (shape_of store).place) old new)
+        → IsUsed told old store → IsUsed told new store }
+    ensures elsewhere { (told : Bool) (store : Store) (one : Place) (old new : Image) → LieApart one (shape_of store).place
+        → (IsTrue told → Spares (IsOutside one.first one.copies) old new) → IsUsed told old store → IsUsed told new store }
+{
+    places_stand_apart();
+}
