@@ -2,7 +2,7 @@ use Rattle.std.proofs.Common.{◌+◌, ◌≤◌, List, length, sym, ap, subst, 
 use Rattle.per_base.specs.declared.elements.Fresh.{Fresh}
 use Rattle.element_state.specs.Conditions.{AreContents, IsFresh}
 use Rattle.storage_tests.proofs.Single.{one_content}
-use Rattle.storage_tests.proofs.usage.alone.Goals as goal
+use Rattle.storage_tests.proofs.elements.alone.Goals as goal
 
 pub returns : goal.returns
 returns c =
