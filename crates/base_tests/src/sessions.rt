@@ -1,6 +1,6 @@
 //! Sessions of a disk in memory, and of a register of three copies on it.
 
-ghost use Rattle.std.specs.Prelude.{◌≡◌, IfOk};
+ghost use Rattle.std.specs.Prelude.{IfOk};
 ghost use Rattle.base_tests.specs.Sessions.{IsRun};
 
 use case_words::{
