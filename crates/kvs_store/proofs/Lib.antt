@@ -1,5 +1,5 @@
 pub mod Handed
-pub mod Judged
+pub mod JudgedKeys
 pub mod Stored
 pub mod Synced
 pub mod Opened

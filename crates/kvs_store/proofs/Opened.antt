@@ -26,7 +26,7 @@ use Rattle.kvs_store.specs.declared.opening.OpenedKvs.{OpenedKvs}
 use Rattle.kvs_store.specs.declared.storages.Kvs.{Kvs}
 use Rattle.kvs_store.specs.Opened.{IsOpened}
 use Rattle.kvs_store.specs.Storages.{IsKvs, LiesAs, keys_in, session_of, shape_of, view_in}
-use Rattle.kvs_store.proofs.Judged.{judged_reports, judged_synchronised, mended_keys}
+use Rattle.kvs_store.proofs.JudgedKeys.{judged_reports, judged_synchronised, mended_keys}
 use Rattle.kvs_store.proofs.Stored.{key_entries, keys_fit}
 
 module _ (shape : Shape) (config : StorageData) (store : Store) (entries : List Entry) (lies : LiesAs shape config) (is : IsView shape (stores.view_in store))
