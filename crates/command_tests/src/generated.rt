@@ -1,50 +1,38 @@
-//! The first lines of generated inputs.
+//! Generated inputs.
 
-ghost use Rattle.std.specs.Prelude.{◌≤◌};
+ghost use Rattle.std.specs.Prelude.{◌<◌, ◌^◌, IfOk};
 
 use command_text::{generated_line, next_number};
 use std::alloc::Global;
-use std::test::Fail;
+use test_rows::{RowError, number};
 
-#[test]
-fn the_first_generated_lines(rt: HostRuntime) -> Result<(), Fail> {
-    let alloc = rt.alloc();
-    assert_eq!(rt; next_number(1), 1_103_527_590);
-    assert_eq!(rt;
-        generated_line(alloc, 1, 1_103_527_590, 1)?.as_slice(),
-        b"0 set g k6 u64:1103527590".as_slice()
-    );
-    assert_eq!(rt; next_number(2), 59_559_187);
-    assert_eq!(rt; next_number(59_559_187), 1_495_354_192);
-    assert_eq!(rt;
-        generated_line(alloc, 2, 59_559_187, 1)?.as_slice(),
-        b"0 set g k12 u64:59559187".as_slice()
-    );
-    assert_eq!(rt;
-        generated_line(alloc, 2, 1_495_354_192, 2)?.as_slice(),
-        b"0 set g k33 u64:1495354192".as_slice()
-    );
-    Ok(())
+/// The number behind a number.
+pub(crate) fn next(alloc: Global, row: &str) -> Result<String, RowError> {
+    let next = next_number(small(row)?);
+    Ok(format!(in alloc; "{next}")?)
 }
 
-fn is_generated(alloc: Global, i: u32, text: &[u8]) -> bool
-    requires first { 1 ≤ i }
-    requires last { i ≤ 8 }
-{
-    match generated_line(alloc, 8, 59_559_187, i) {
-        Ok(line) => line.as_slice() == text,
-        Err(_) => false,
+/// A line of the generated input: how many lines it has, the number of the line, its place.
+pub(crate) fn line(alloc: Global, row: &str) -> Result<String, RowError> {
+    let (count, rest) = row.split_once(' ').ok_or(RowError::NotARow)?;
+    let (x, place) = rest.split_once(' ').ok_or(RowError::NotARow)?;
+    let count = number(count)?;
+    let x = small(x)?;
+    let place = number(place)?;
+    if place < 1 || place > count {
+        return Err(RowError::NotARow);
     }
+    let line = generated_line(alloc, count, x, place)?;
+    String::from_utf8(line).map_err(|_| RowError::NotARow)
 }
 
-#[test]
-fn generated_lines_of_each_kind(rt: HostRuntime) -> Result<(), Fail> {
-    let alloc = rt.alloc();
-    assert!(rt; is_generated(alloc, 3, b"0 set g k12 u64:59559187"));
-    assert!(rt; is_generated(alloc, 4, b"0 get g k12"));
-    assert!(rt; is_generated(alloc, 5, b"0 set g k12 u64:59559187"));
-    assert!(rt; is_generated(alloc, 6, b"0 remove g k12"));
-    assert!(rt; is_generated(alloc, 7, b"0 exists g k12"));
-    assert!(rt; is_generated(alloc, 8, b"0 sync g"));
-    Ok(())
+/// A number of a generated input.
+fn small(word: &str) -> Result<u64, RowError>
+    ensures { IfOk result (λ x. x < 2 ^ 31) }
+{
+    let x = number(word)?;
+    if x >= 2_147_483_648 {
+        return Err(RowError::NotARow);
+    }
+    Ok(x as u64)
 }

@@ -5,3 +5,5 @@ pub mod ArgumentLaws
 pub mod Shapes
 pub mod CallLaws
 pub mod LineLaws
+pub mod Spelled
+pub mod Titles

@@ -23,9 +23,14 @@ abbrev pub generated_lines : ℕ → ℕ → ℕ → List (List ℕ)
 generated_lines zero i x = []
 generated_lines (suc count) i x = generated_line (next_number x) i ∷ generated_lines count (i + 1) (next_number x)
 
+-- the lines before these: the storage is installed and opened
+abbrev pub first_lines : List (List ℕ)
+first_lines = codes "0 install {\"version\":1,\"keyValueStorages\":[{\"name\":\"g\",\"redundancy\":{\"m\":2,\"n\":3}}]}" ∷ codes "0 open-kvs g" ∷ []
+
+-- the lines behind them
+abbrev pub last_lines : List (List ℕ)
+last_lines = codes "0 sync g" ∷ codes "0 size g" ∷ codes "0 close g" ∷ []
+
 -- the whole input of a number
 abbrev pub generated : ℕ → List (List ℕ)
-generated n =
-    codes "0 install {\"version\":1,\"keyValueStorages\":[{\"name\":\"g\",\"redundancy\":{\"m\":2,\"n\":3}}]}" ∷ codes "0 open-kvs g"
-    ∷ generated_lines n 1 n
-    ++ (codes "0 sync g" ∷ codes "0 size g" ∷ codes "0 close g" ∷ [])
+generated n = first_lines ++ generated_lines n 1 n ++ last_lines

@@ -191,3 +191,7 @@ Spells text (line.Event e) = (text ≡ line_of e) × IsEvent e
 pub record IsLine (text : List ℕ) (line : Line) : Type 0 where
   pub short : length text ≤ 262144
   pub spelled : Spells text line
+
+-- the text is the line of an event
+abbrev pub IsEventLine : List ℕ → Type 0
+IsEventLine text = (e : Event) × IsLine text (line.Event e)

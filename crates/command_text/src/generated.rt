@@ -1,9 +1,26 @@
 //! A large input that is made from a number.
 
-ghost use Rattle.std.specs.Prelude.{◌≡◌, ◌<◌, ◌≤◌, ◌^◌, IfOk, string_bytes};
-ghost use Rattle.command_text.specs.Generated.{generated_line, next_number};
+ghost use Rattle.std.specs.Prelude.{◌≡◌, ◌<◌, ◌≤◌, ◌^◌, IfOk, map, string_bytes};
+ghost use Rattle.command_text.specs.Generated.{first_lines, generated_line, last_lines, next_number};
 
 use std::alloc::{AllocError, Global};
+
+/// The two lines before the generated ones: the storage is installed and opened.
+pub fn first_lines() -> [&'static str; 2]
+    ensures { map (λ line. line.now) result ≡ first_lines }
+{
+    [
+        r#"0 install {"version":1,"keyValueStorages":[{"name":"g","redundancy":{"m":2,"n":3}}]}"#,
+        "0 open-kvs g",
+    ]
+}
+
+/// The three lines behind the generated ones: the storage is synchronised, measured and closed.
+pub fn last_lines() -> [&'static str; 3]
+    ensures { map (λ line. line.now) result ≡ last_lines }
+{
+    ["0 sync g", "0 size g", "0 close g"]
+}
 
 /// The number behind this one.
 pub fn next_number(x: u64) -> u64

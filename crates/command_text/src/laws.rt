@@ -1,9 +1,14 @@
 //! What holds of all lines. The functions do nothing: their clauses are the laws.
 
-ghost use Rattle.std.specs.Prelude.{◌≡◌, ℕ, List};
-ghost use Rattle.command_text.specs.Grammar.{IsEvent, IsLine, Spells, line_of};
+ghost use Rattle.std.specs.Prelude.{◌≡◌, ◌≢◌, ◌<◌, ◌^◌, ℕ, List};
+ghost use Rattle.std.specs.List.{AllByRecursion};
+ghost use Rattle.per_base.specs.declared.errors.PerError.{PerError};
+ghost use Rattle.command_text.specs.Generated.{generated, generated_line};
+ghost use Rattle.command_text.specs.Grammar.{IsEvent, IsEventLine, IsLine, Spells, line_of};
+ghost use Rattle.command_text.specs.Replies.{HasText};
 ghost use Rattle.command_text.specs.declared.calls.Event.{Event};
 ghost use Rattle.command_text.specs.declared.lines.Line.{Line};
+ghost use Rattle.command_text.specs.declared.replies.Answer.{Answer};
 
 /// An event has one text, and two events have two.
 pub fn one_event()
@@ -14,4 +19,15 @@ pub fn one_event()
 /// A text says one thing: nothing, the end, or one event.
 pub fn one_line()
     ensures { (text : List ℕ) (line other : Line) → IsLine text line → IsLine text other → line ≡ other }
+{}
+
+/// Each line of a generated input is the line of an event.
+pub fn generated_is_spelled()
+    ensures line { (x i : ℕ) → x < 2 ^ 31 → IsEventLine (generated_line x i) }
+    ensures whole { (n : ℕ) → n < 2 ^ 31 → AllByRecursion IsEventLine (generated n) }
+{}
+
+/// Every error has a text but want of memory.
+pub fn errors_have_texts()
+    ensures { (e : PerError) → e ≢ PerError.OutOfMemory → HasText (Answer.Error e) }
 {}

@@ -4,7 +4,7 @@
 //! grammar is one table in `specs/Grammar`: of each call its word and its arguments. An event has one line and a line one event, and
 //! every other text is refused. [`print_reply`] gives the one text of a [`Reply`]: a line for each report, and the answer's line.
 //!
-//! [`generated_line`] and [`next_number`] make a large input from a number.
+//! [`generated_line`] and [`next_number`] make a large input from a number, between [`first_lines`] and [`last_lines`].
 #![tactic(auto)]
 
 mod arguments;
@@ -22,8 +22,8 @@ mod words;
 pub use asked::AskedType;
 pub use calls::{Call, Event};
 pub use errors::LineError;
-pub use generated::{generated_line, next_number};
-pub use laws::{one_event, one_line};
+pub use generated::{first_lines, generated_line, last_lines, next_number};
+pub use laws::{errors_have_texts, generated_is_spelled, one_event, one_line};
 pub use lines::{LINE_BYTES, Line, parse_line};
 pub use printing::print_reply;
 pub use replies::{Answer, AppStatus, Reply};

@@ -116,11 +116,10 @@ module _ (shape : Shape) (start mid new : Image) (damaged : List ℕ) (after : S
 
   by_pick : (o : Option (FitText × List FitText)) → pick shape start ≡ o → Kept shape damaged (store_at new shape) (store_at start shape) after × IsClean shape new
   by_pick None e =
-      let fewer = fewer_decays shape damaged mid new d start same_fewer in
-      (
+      let fewer = fewer_decays shape damaged mid new d start same_fewer in (
         fewer_corrupt shape start new damaged positive clean fewer e after (λ text is.
-        less_keeps shape text.0.generation text.0.text damaged start new
-        (less_decays shape damaged mid new d text.0.generation text.0.text start (same_less text.0.generation text.0.text))),
+            less_keeps shape text.0.generation text.0.text damaged start new
+            (less_decays shape damaged mid new d text.0.generation text.0.text start (same_less text.0.generation text.0.text))),
         fewer_clean shape start new damaged positive clean fewer,
       )
   by_pick (Some r) e =

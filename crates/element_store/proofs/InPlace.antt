@@ -8,6 +8,7 @@ use Rattle.std.proofs.lemmas.List.{get_or_default, get_or-map}
 use Rattle.std.proofs.lemmas.List.Concat.{get_or-flat_map}
 use Rattle.std.proofs.lemmas.List.Folds.{length-flat_map-take}
 use Rattle.per_base.specs.declared.elements.Entry.{Entry}
+use Rattle.per_base.specs.declared.elements.Content.{Content}
 use Rattle.per_base.specs.declared.elements.Content.TheVariants.{Good}
 use Rattle.disk_model.specs.Image.{Image}
 use Rattle.disk_model.specs.Case.{Case, Follows}
@@ -27,8 +28,9 @@ use Rattle.index_text.specs.Rules.{IsIndex, IsEntry, blocks_of}
 use Rattle.element_state.specs.declared.shapes.Shape.{Shape}
 use Rattle.element_state.specs.Views.{entry_view, given, content_of}
 use Rattle.element_state.specs.Chosen.{HasLength, IsReadBy}
+use Rattle.element_state.specs.Conditions.{IsMended}
 use Rattle.element_laws.specs.Phases.{MendStartLaw, MendStepLaw, MendSyncLaw, IsMending, IsSparing, TakesMend, KeepsBlocks, KeepsBlocksWhole, lacked}
-use Rattle.element_store.specs.Mends.{IsWholeIn, AreShown, MendsCase, SparesOthers}
+use Rattle.element_store.specs.Mends.{IsAsBefore, IsWholeIn, AreShown, MendsCase, SparesOthers}
 use Rattle.element_store.proofs.PlanSteps.{both_ways}
 use Rattle.element_store.proofs.Shown.{content_good}
 use Rattle.element_store.proofs.Working.{full_kept}
@@ -132,7 +134,22 @@ pub record AreMended (told : Bool) (shape : Shape) (index : Index) (views : List
   pub spared : IsTrue told → SparesOthers shape index views old.image now.image
   pub here : (c : Case) → now.now c → MendsCase shape index views old.image c
   pub during : EachCase (MendsCase shape index views old.image) old now
+  pub idle : IsTrue told → AllByRecursion (λ (f : Entry). IsMended f.content f.lacking) views → IsAsBefore old now
   pub time : Elapses old now
+
+pub few_none : (n size : ℕ) → n ≡ 0 → n * size ≡ 0
+few_none n size none = let zero_times : 0 * size ≡ 0 = omega arith in ap (λ (m : ℕ). m * size) none ∙ zero_times
+
+-- writes in no copy leave all as it was
+in_none : (first n : ℕ) (lacking : List ℕ) (old mid new : Medium) → lacking ≡ [] → n ≡ 0 → IsAsBefore old mid
+    → ((f : ℕ) → IsNoneOf first lacking f → new.image f ≡ mid.image f) → new.written ≤ mid.written + n → Elapses mid new → IsAsBefore old new
+in_none first n lacking old mid new none nothing was same at_most time = record {
+  image = (λ j f. same f (none_of f) j) ∙ was.image;
+  written = (let before = was.written in let later = time.written in omega (arith, at_most, nothing, before, later));
+}
+  where
+    none_of : (f : ℕ) → IsNoneOf first lacking f
+    none_of f i lt = let long = ap length none in absurd (omega (arith, lt, long))
 
 -- what an element that is seen good on an image says of it
 seen_good : (shape : Shape) (start : Image) (e : IndexEntry) (v : List ℕ) → (entry_view start shape.place shape.m e).content ≡ Good v → voted shape.m (given start shape.place e) ≡ Some v
@@ -153,6 +170,7 @@ module _ (told : Bool) (shape : Shape) (index : Index) (views : List Entry) (rul
         spared = λ tells start shown. (starts shape start m.image index (record { base = m.image; full = m.image; left = m.image }) (record { base = refl; full = refl; left = refl })).full;
         here = settled;
         during = λ c past. settled c (law.only_now c past);
+        idle = λ tells mended. record { image = refl; written = refl };
         time = elapses_none law;
       }
 
@@ -177,6 +195,7 @@ module _ (told : Bool) (shape : Shape) (index : Index) (views : List Entry) (rul
     spared = was.spared;
     here = was.here;
     during = was.during;
+    idle = was.idle;
     time = was.time;
   }
 
@@ -236,10 +255,23 @@ module _ (told : Bool) (shape : Shape) (index : Index) (views : List Entry) (rul
           → IsTrue told → Spares (IsNoArea shape.place.first shape.place.copies) old.image new.image
       torn_areas was tore tells file none = (tore.tears tells).files file (no_area f.lacking reads.lacking file none) ∙ was.areas tells file none
 
-      pub mended_more : Wrote told (IsNoneOf shape.place.first f.lacking) (IsApart e.blocks) n mid new
+      -- an element that is mended already lacks nothing
+      nothing_lacks : AllByRecursion (λ (f : Entry). IsMended f.content f.lacking) views → f.lacking ≡ []
+      nothing_lacks mended =
+          let long = zip_long (IsReadBy shape.place.copies) index.entries views read in
+          let its : IsMended f.content f.lacking = subst (λ (g : Entry). IsMended g.content g.lacking) (sym is_f)
+          (rec_at (λ (f : Entry). IsMended f.content f.lacking) views i f mended (omega (arith, lt, long))) in
+          subst (λ (x : Content). IsMended x f.lacking) good its
+
+      pub torn_idle : AreMended told shape index views i old mid → Tore told (IsNoneOf shape.place.first f.lacking) (IsApart e.blocks) n mid new
+          → (f.lacking ≡ [] → n ≡ 0) → IsTrue told → AllByRecursion (λ (f : Entry). IsMended f.content f.lacking) views → IsAsBefore old new
+      torn_idle was tore few tells mended = in_none shape.place.first n f.lacking old mid new (nothing_lacks mended) (few (nothing_lacks mended)) (was.idle tells mended)
+          (tore.tears tells).files tore.written tore.time
+
+      pub mended_more : (f.lacking ≡ [] → n ≡ 0) → Wrote told (IsNoneOf shape.place.first f.lacking) (IsApart e.blocks) n mid new
           → (IsTrue told → NamedFull shape.place.first f.lacking e.blocks v new.image)
           → AreMended told shape index views i old mid → AreMended told shape index views (i + 1) old new
-      mended_more wrote whole was = record {
+      mended_more few wrote whole was = record {
         areas = λ tells file none. (wrote.keeps tells).files file (no_area f.lacking reads.lacking file none) ∙ was.areas tells file none;
         full = λ tells x d g less inside. ⊎_elim
             (λ here. (
@@ -269,6 +301,8 @@ module _ (told : Bool) (shape : Shape) (index : Index) (views : List Entry) (rul
             (record { base = refl; full = wrote.keeps tells; left = keeps_tears (keeps_none mid.image) })).full;
         here = λ c past start shown. (let (d, was_now, keeps) = wrote.now c past in one_step start d c shown (was.here d was_now start shown) keeps);
         during = still_during was wrote.time wrote.during;
+        idle = λ tells mended. in_none shape.place.first n f.lacking old mid new (nothing_lacks mended) (few (nothing_lacks mended)) (was.idle tells mended)
+            (wrote.keeps tells).files wrote.written wrote.time;
         time = elapses_on was.time wrote.time;
       }
         where
@@ -287,6 +321,10 @@ module _ (shape : Shape) (index : Index) (views : List Entry) (told : Bool) (old
     (during : EachCase (MendsCase shape index views old.image) old mid) (first : Elapses old mid) (next : Elapses mid new) where
   past_mid : (c : Case) → mid.now c → MendsCase shape index views old.image c
   past_mid c here = during c (law.counts_now old.moment c first.later here)
+
+  -- a sync writes nothing
+  pub idle_synced : {P : Type 0} → (P → IsAsBefore old mid) → WritesNothing mid new → P → IsAsBefore old new
+  idle_synced was nothing p = record { image = nothing.image ∙ (was p).image; written = nothing.written ∙ (was p).written }
 
   -- a sync that failed
   pub unsynced_during : OnlyReads mid new → EachCase (MendsCase shape index views old.image) old new

@@ -15,14 +15,16 @@ use Rattle.per_base.specs.declared.elements.Scope.TheVariants as scope
 use Rattle.disk_model.specs.declared.place.Place.{Place}
 use Rattle.disk_model.specs.Image.{Image}
 use Rattle.disk_model.specs.Frame.{Spares}
+use Rattle.disk_model.specs.Medium.{Medium}
 use Rattle.disk_model.specs.Orders.{named_in}
 use Rattle.disk_model.specs.Place.{area, slot, IsNoArea, IsNoSlot}
 use Rattle.m_of_n.specs.Vote.{voted}
 use Rattle.guarded_cell.specs.declared.cell.Cell.{Cell}
 use Rattle.guarded_cell.specs.Cells.{CellAt, IsCellOf}
-use Rattle.guarded_cell.specs.Register.{IsAlone, IsBlank, own, other}
+use Rattle.guarded_cell.specs.Register.{Holds, IsAlone, IsBlank, own, other}
+use Rattle.guarded_cell.specs.Rights.{IsRight}
 use Rattle.guarded_cell.specs.CopyLaws.{enough_pass, passing_enough, passing_is}
-use Rattle.guarded_cell.specs.StopLaws.{at_least_map}
+use Rattle.guarded_cell.specs.StopLaws.{at_least_map, alone_only}
 use Rattle.block_files.specs.Areas.{joined, within, IsFull, AllFull, area_of}
 use Rattle.block_files.specs.Contents.{counting, first_content, lacks, lacking}
 use Rattle.block_files.proofs.AsideLaws.{joined_kept, within_grown}
@@ -35,16 +37,16 @@ use Rattle.element_state.specs.Clean.{where_of, IsNamed, IsClean}
 use Rattle.element_state.specs.Fit.{FitText, fit_index, fit_texts}
 use Rattle.element_state.specs.Views.{entry_view, given, counts, content_of, holds_text, holds_all, supporters, qualifies, view_of}
 use Rattle.element_state.specs.States.{Opens, store_at, whole_view, mended_by, mended_entry, mended_view}
-use Rattle.element_state.specs.Chosen.{HasLength, IsReadBy}
+use Rattle.element_state.specs.Chosen.{HasLength, IsReadBy, opened_of}
 use Rattle.element_state.specs.Conditions.{IsShape, IsMended, IsInUse}
 use Rattle.element_laws.specs.Phases.{CleanLaw, AreAgreed, IsSparing, TakesMend, KeepsBlocksWhole, OpensAt, OpenedLaw}
 use Rattle.element_laws.proofs.Copies.{filtered_that, named_Contains, Contains_named, voted_given}
 use Rattle.element_laws.proofs.Lists.{In, In-Contains, map-In, false_not_true, list_all-In, In-list_all, both_true, true_both, all_by, all_in}
-use Rattle.element_laws.proofs.Fits.{fit-spelled}
+use Rattle.element_laws.proofs.Fits.{In-fit, fit-spelled}
 use Rattle.element_laws.proofs.Frames.{slot_no_area, area_no_slot}
 use Rattle.element_store.specs.declared.opening.OpeningPlan.{OpeningPlan}
 use Rattle.element_store.specs.declared.store.Store.{Store}
-use Rattle.element_store.specs.Mends.{IsWholeIn, AreShown, SparesOthers}
+use Rattle.element_store.specs.Mends.{IsAsBefore, IsWholeIn, AreShown, SparesOthers}
 use Rattle.element_store.specs.Opened.{IsOpeningPlan, IsFoundOn, OpensBy}
 use Rattle.element_store.specs.Stores.{IsUsed, view_in}
 use Rattle.element_store.proofs.Alone.{alone_text, opens_alone, supports_element, all_hold}
@@ -452,3 +454,64 @@ module _ (told : Bool) (shape : Shape) (r : OpeningPlan) (views : List Entry) wh
   pub opening_whole : (image : Image) → views ≡ r.before.entries → (IsTrue told → AllZip (IsWholeIn image shape.place.first) r.index.entries views)
       → IsTrue told → AllZip (IsWholeIn image shape.place.first) r.index.entries r.before.entries
   opening_whole image same whole tells = subst (λ (fs : List Entry). AllZip (IsWholeIn image shape.place.first) r.index.entries fs) same (whole tells)
+
+-- some copy holds the text at which it opens
+opened_text : (shape : Shape) (start : Image) (r : OpeningPlan) → IsFoundOn start shape r
+    → (copy : ℕ) × (copy < shape.place.copies) × Holds start shape.place.first copy r.seen.generation r.seen.text
+opened_text shape start r found =
+    let u = In-fit start shape (r.seen, r.index) (find_in (qualifies start shape) (fit_texts shape start) (r.seen, r.index) found.first) in
+    (u.copy, u.inside, subst (λ (x : FitText). Holds start shape.place.first u.copy x.0.generation x.0.text) u.is u.holds)
+  where
+    find_in : {X : Type 0} (p : X → Bool) (xs : List X) (x : X) → find p xs ≡ Some x → In x xs
+    find_in p [] x e = cc
+    find_in p (y ∷ xs) x e = ⊎_elim
+        (λ passes. inl (some_same y x (sym (cond-true (p y) (Some y) (find p xs) passes) ∙ e)))
+        (λ fails. inr (find_in p xs x (sym (cond-false (p y) (Some y) (find p xs) fails) ∙ e)))
+        (cases_Bool (p y))
+      where
+        some_same : {X : Type 0} (a b : X) → Some a ≡ Some b → a ≡ b
+        some_same a b e = cc
+
+-- ---- a storage that is in use as it lies
+
+module _ (shape : Shape) (old one two : Medium) (r : OpeningPlan) (text : List ℕ) (views : List Entry) (index : Index) (v : View) (is : IsShape shape)
+    (in_use : IsInUse shape old.image index v) (ready : IsOpeningPlan shape r) (found : IsFoundOn old.image shape r) (same : text ≡ r.seen.text) (viewed : views ≡ r.before.entries) where
+  before_is : r.before ≡ v
+  before_is = some_is (sym found.opens ∙ ap opened_of in_use.opens)
+    where
+      some_is : Some r.before ≡ Some v → r.before ≡ v
+      some_is e = cc
+
+  pub idle_views : AllByRecursion (λ (e : Entry). IsMended e.content e.lacking) views
+  idle_views = subst (λ (es : List Entry). AllByRecursion (λ (e : Entry). IsMended e.content e.lacking) es) (sym (viewed ∙ ap (λ (w : View). w.entries) before_is)) in_use.mended
+
+  its_text : r.seen.text ≡ index_text index
+  its_text =
+      let u = opened_text shape old.image r found in
+      (alone_only old.image shape.place.first shape.place.copies v.generation (index_text index) in_use.alone u.0 u.1 r.seen.generation r.seen.text u.2).1
+
+  pub idle_alone : (image : Image) → image ≡ old.image → IsAlone image shape.place.first shape.place.copies r.seen.generation text
+  idle_alone image e =
+      subst (λ (im : Image). IsAlone im shape.place.first shape.place.copies r.seen.generation text) (sym e)
+      (subst (λ (t : List ℕ). IsAlone old.image shape.place.first shape.place.copies r.seen.generation t) (sym (same ∙ its_text))
+      (subst (λ (g : ℕ). IsAlone old.image shape.place.first shape.place.copies g (index_text index)) (sym (ap (λ (w : View). w.generation) before_is) ∙ ready.generation) in_use.alone))
+
+  -- and while its text is adopted
+  pub idle_adopted : one.image ≡ old.image → one.written ≡ old.written
+      → Spares (IsRight one.image shape.place.first shape.place.copies r.seen.generation text) one.image two.image
+      → (IsAlone one.image shape.place.first shape.place.copies r.seen.generation text → two.written ≡ one.written) → IsAsBefore old two
+  idle_adopted image written right already =
+      let alone = idle_alone one.image image in
+      record {
+        image = (λ j f. right f (all_right alone f) j) ∙ image;
+        written = already alone ∙ written;
+      }
+    where
+      all_right : IsAlone one.image shape.place.first shape.place.copies r.seen.generation text → (f : ℕ) → IsRight one.image shape.place.first shape.place.copies r.seen.generation text f
+      all_right alone f copy lt = (
+        (λ e. subst (λ (k : ℕ). VerifiesAs (one.image k) r.seen.generation text) (sym e) (alone.held copy lt)),
+        (λ e. subst (λ (k : ℕ). IsBlank (one.image k)) (sym e) (alone.blank copy lt)),
+      )
+
+pub idle_on : (old one two : Medium) → IsAsBefore old one → IsAsBefore one two → IsAsBefore old two
+idle_on old one two a b = record { image = b.image ∙ a.image; written = b.written ∙ a.written }

@@ -6,6 +6,7 @@ use Rattle.per_base.specs.declared.reports.Report.{Report}
 use Rattle.per_base.specs.declared.reports.ReportKind.{ReportKind}
 use Rattle.disk_model.specs.Image.{Image}
 use Rattle.disk_model.specs.Case.{Case}
+use Rattle.disk_model.specs.Medium.{Medium}
 use Rattle.block_files.specs.Areas.{NamedFull}
 use Rattle.index_text.specs.declared.entries.Index.{Index}
 use Rattle.index_text.specs.declared.entries.IndexEntry.{IndexEntry}
@@ -13,6 +14,11 @@ use Rattle.element_state.specs.declared.shapes.Shape.{Shape}
 use Rattle.element_state.specs.Views.{entry_view}
 use Rattle.element_state.specs.Reports.{report_of}
 use Rattle.element_laws.specs.Phases.{IsMending, IsSparing, KeepsBlocksWhole}
+
+-- no file changed, and nothing was written
+pub record IsAsBefore (old new : Medium) : Type 0 where
+  pub image : new.image ≡ old.image
+  pub written : new.written ≡ old.written
 
 -- the copies that lacked a good element have its value
 abbrev pub IsWholeIn : Image → (first : ℕ) → IndexEntry → Entry → Type 0

@@ -6,6 +6,8 @@ use Rattle.guarded_cell.specs.declared.looking.Seen.{Seen}
 use Rattle.index_text.specs.declared.entries.Index.{Index}
 use Rattle.index_text.specs.Sizes.{area_blocks}
 use Rattle.element_state.specs.declared.shapes.Shape.{Shape}
+use Rattle.element_state.specs.declared.shapes.View.{View}
+use Rattle.element_state.specs.Conditions.{IsInUse}
 use Rattle.element_state.specs.Fit.{fit_texts}
 use Rattle.element_state.specs.Views.{qualifies, view_of}
 use Rattle.element_state.specs.States.{mended_entry, store_at}
@@ -35,3 +37,9 @@ pub record IsFoundOn (image : Image) (shape : Shape) (r : OpeningPlan) : Type 0 
 pub record OpensBy (image : Image) (shape : Shape) (index : Index) : Type 0 where
   pub seen : Seen
   pub first : find (qualifies image shape) (fit_texts shape image) ≡ Some (seen, index)
+
+-- the storage is in use as it lies: every copy holds its text and no slot another, and no element that is good lacks a copy
+pub record LacksNothing (shape : Shape) (image : Image) : Type 0 where
+  pub index : Index
+  pub view : View
+  pub in_use : IsInUse shape image index view

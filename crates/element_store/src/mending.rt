@@ -1,7 +1,7 @@
 //! Elements that are written again in the copies that lack them.
 
 ghost use Rattle.std.specs.Prelude.{◌≡◌, ◌≤◌, IsTrue, IfOk, OnOk, IfErr, map, length};
-ghost use Rattle.std.specs.List.{AllZip};
+ghost use Rattle.std.specs.List.{AllZip, AllByRecursion};
 ghost use Rattle.per_base.specs.Causes.{Rose};
 ghost use Rattle.disk_model.specs.Frame.{Spares};
 ghost use Rattle.disk_model.specs.Medium.{Quiet, EachCase, Elapses};
@@ -9,7 +9,8 @@ ghost use Rattle.disk_model.specs.Place.{IsNoArea};
 ghost use Rattle.index_text.specs.Rules.{IsIndex};
 ghost use Rattle.element_state.specs.States.{mended_entry};
 ghost use Rattle.element_state.specs.Chosen.{IsReadBy};
-ghost use Rattle.element_store.specs.Mends.{IsWholeIn, MendsCase, SparesOthers};
+ghost use Rattle.element_state.specs.Conditions.{IsMended};
+ghost use Rattle.element_store.specs.Mends.{IsAsBefore, IsWholeIn, MendsCase, SparesOthers};
 
 use block_files::{BlobError, mend};
 use disk_model::Disk;
@@ -33,6 +34,9 @@ pub(crate) fn mend_durably<D: Disk>(
     ensures whole { IsTrue D.told → OnOk result (AllZip (IsWholeIn (D.medium disk.new).image shape.now.place.first) index.now.entries views.now) }
     ensures spared { IsTrue D.told → OnOk result (SparesOthers shape.now index.now views.now (D.medium disk.old).image (D.medium disk.new).image) }
     ensures quiet { OnOk result (Quiet (D.medium disk.new)) }
+
+    // Where no good element lacks a copy, nothing is written.
+    ensures idle { IsTrue D.told → AllByRecursion (λ e. IsMended e.content e.lacking) views.now → IsAsBefore (D.medium disk.old) (D.medium disk.new) }
 
     // Only areas change, and at any moment only in the blocks of what is mended.
     ensures elsewhere { IsTrue D.told
@@ -61,6 +65,7 @@ fn mend_each<D: Disk>(
 
     ensures whole { IsTrue D.told → OnOk result (AllZip (IsWholeIn (D.medium disk.new).image shape.now.place.first) index.now.entries views.now) }
     ensures spared { IsTrue D.told → OnOk result (SparesOthers shape.now index.now views.now (D.medium disk.old).image (D.medium disk.new).image) }
+    ensures idle { IsTrue D.told → AllByRecursion (λ e. IsMended e.content e.lacking) views.now → IsAsBefore (D.medium disk.old) (D.medium disk.new) }
     ensures elsewhere { IsTrue D.told
         → Spares (IsNoArea shape.now.place.first shape.now.place.copies) (D.medium disk.old).image (D.medium disk.new).image }
     ensures during { EachCase (MendsCase shape.now index.now views.now (D.medium disk.old).image) (D.medium disk.old) (D.medium disk.new) }

@@ -12,8 +12,9 @@ ghost use Rattle.element_state.specs.Kept.{KeptThroughout};
 ghost use Rattle.element_state.specs.Read.{IsView};
 ghost use Rattle.element_state.specs.Reports.{reports};
 ghost use Rattle.element_state.specs.States.{State, store_at, mended_view};
-ghost use Rattle.element_store.specs.Opened.{IsOpeningPlan, IsFoundOn, OpensBy};
+ghost use Rattle.element_store.specs.Opened.{IsOpeningPlan, IsFoundOn, LacksNothing, OpensBy};
 ghost use Rattle.element_store.specs.Committing.{index_in};
+ghost use Rattle.element_store.specs.Mends.{IsAsBefore};
 ghost use Rattle.element_store.specs.Stores.{IsUsed, shape_of, view_in};
 
 use crate::mending::{mend_durably, mended_entries};
@@ -75,6 +76,9 @@ pub fn open_store<D: Disk>(
     ensures unwritten { IsErrOf result StoreError.Corrupt → (D.medium disk.new).written ≡ (D.medium disk.old).written }
     ensures settled { IsErrOf result StoreError.Corrupt → Quiet (D.medium disk.new) }
     ensures cause { IsErrOf result StoreError.Device → Rose (D.medium disk.old).faults (D.medium disk.new).faults }
+
+    // Where nothing lacks, nothing is written.
+    ensures idle { IsTrue D.told → LacksNothing shape (D.medium disk.old).image → IsAsBefore (D.medium disk.old) (D.medium disk.new) }
 
     // No file outside the place changes, at the end and at any moment.
     ensures elsewhere { IsTrue D.told

@@ -1,6 +1,6 @@
 -- What was asked first is not refused midway.
-use Rattle.std.proofs.Common.{◌≡◌, ℕ, ◌+◌, ◌-◌, ◌≤◌, List, [], ◌++◌, length, take, drop, min, Bool, true, false, cond, refl, sym, ◌∙◌, ap, subst, arith, length-append, length-drop}
-use Rattle.std.specs.Prelude.{Option, Some, None, Result, Ok, Err, not, ◌&&◌, ◌==◌, nat_lt, option_map}
+use Rattle.std.proofs.Common.{◌≡◌, ◌≢◌, ℕ, ◌+◌, ◌-◌, ◌≤◌, List, [], ◌++◌, length, take, drop, min, Bool, true, false, cond, refl, sym, ◌∙◌, ap, subst, arith, length-append, length-drop}
+use Rattle.std.specs.Prelude.{Option, Some, None, Result, Ok, Err, IfErr, not, ◌&&◌, ◌==◌, nat_lt, option_map}
 use Rattle.std.specs.BTreeMap.{is_at}
 use Rattle.std.specs.List.Sorted.{IsStrictlySortedBy}
 use Rattle.std.specs.Map.{keys_of}
@@ -13,7 +13,7 @@ use Rattle.per_base.specs.declared.elements.Element.{Element}
 use Rattle.per_base.specs.declared.elements.FileInfo.{FileInfo}
 use Rattle.per_base.specs.declared.errors.Limit.TheVariants.{FileBytes}
 use Rattle.per_base.specs.declared.errors.PerError.{PerError}
-use Rattle.per_base.specs.declared.errors.PerError.TheVariants.{FileNotFound, IllegalWriteAccess, InvalidOpenMode, LimitReached, OutOfStorageSpace}
+use Rattle.per_base.specs.declared.errors.PerError.TheVariants.{FileNotFound, IllegalWriteAccess, InvalidOpenMode, LimitReached, OutOfMemory, OutOfStorageSpace}
 use Rattle.per_base.specs.declared.opening.OpenKind.{OpenKind}
 use Rattle.per_base.specs.declared.opening.OpenKind.TheVariants.{Read, Write}
 use Rattle.per_base.specs.declared.opening.OpenMode.{OpenMode}
@@ -24,13 +24,13 @@ use Rattle.file_core.specs.declared.cursor.Cursor.{Cursor}
 use Rattle.file_core.specs.declared.room.Room.{Room}
 use Rattle.file_core.specs.Files.{bytes_of, changed_to, file_of, opened_at, too_long, written}
 use Rattle.file_core.specs.Places.{is_bad_mode, overwritten, placed, write_place, writes}
-use Rattle.file_core.specs.Refusals.{IsDue, refused_by}
+use Rattle.file_core.specs.Refusals.{IsDue, IsRefusal, refused_by}
 use Rattle.file_handles.specs.declared.handle.Handle.{Handle}
 use Rattle.file_handles.specs.declared.storage.Storage.{Storage}
 use Rattle.file_handles.specs.Handling.{changing, write}
 use Rattle.file_handles.specs.Opening.{can_open, file_opened, first, no_room_to_create, open_file, when, with_opened, would_fit}
 use Rattle.file_handles.specs.Sessions.{Handles, Session, free_number, handle_at, open_at, others, room_for, with_changed, with_handle}
-use Rattle.file_handles.specs.Whole.{and_then, bytes_at, cat, plain, put, released, truncating}
+use Rattle.file_handles.specs.Whole.{PutLaw, SameContentLaw, and_then, bytes_at, cat, plain, put, released, truncating}
 use Rattle.file_handles.proofs.Entries.{len_fits, size_insert, size_set}
 use Rattle.file_handles.proofs.Lookups.{handle_put}
 use Rattle.file_handles.proofs.Named.{fits_room}
@@ -136,9 +136,6 @@ same_others : (files : Map) (name : List ℕ) (info : Option FileInfo) → IsStr
     → size_of (with_element files name (file_of info [])) - 0 ≡ others files name (element_at files name)
 same_others files name info sorted = by (element_at files name) refl
   where
-    new : Element
-    new = file_of info []
-
     by : (found : Option Element) → element_at files name ≡ found → size_of (with_element files name (file_of info [])) - 0 ≡ others files name found
     by None p = let grown : size_of (with_element files name (file_of info [])) ≡ size_of files + (length name + 0) = size_insert files name (file_of info []) p in omega (arith, grown)
     by (Some old) p =
@@ -163,3 +160,34 @@ put_due storage s name bytes now sorted none fits =
     let e = emptied (element_at s.files name) now in
     rw (none, fits, writer_has_room storage s.files name (length bytes) fits, writer_allowed storage s name truncating none, e.1)
     (write_due storage s name bytes now e.0 sorted fits)
+
+-- ---- what the calls answer
+
+pub cat_given : SameContentLaw → (storage : Storage) (s mid : Session) (name : List ℕ) (now number : ℕ) (content : List ℕ) → open_file storage s name Read plain now ≡ Ok (number, mid)
+    → content ≡ bytes_at (element_at s.files name) → cat storage s name now ≡ Ok (content, released mid number)
+cat_given law storage s mid name now number content is read =
+    let step : cat storage s name now ≡ Ok (bytes_at (element_at mid.files name), released mid number) =
+    ap (λ (r : Result (ℕ × Session) PerError). and_then r (λ o. Ok (bytes_at (element_at o.1.files name), released o.1 o.0))) is in
+    step ∙ ap (λ (b : List ℕ). Ok (b, released mid number)) (law storage s name now (number, mid) is ∙ sym read)
+
+-- what was asked, written and released
+put_is : (storage : Storage) (s mid : Session) (name bytes : List ℕ) (now number : ℕ) → can_open storage s name Write truncating ≡ None → would_fit storage s.files name (length bytes) ≡ None
+    → open_file storage s name Write truncating now ≡ Ok (number, mid) → put storage s name bytes now ≡ and_then (write storage mid now number bytes) (λ after. Ok (released after number))
+put_is storage s mid name bytes now number none fits is =
+    let one : put storage s name bytes now ≡ and_then (open_file storage s name Write truncating now) (λ o. and_then (write storage o.1 now o.0 bytes) (λ after. Ok (released after o.0))) = rw (none, fits) refl in
+    one ∙ ap (λ (r : Result (ℕ × Session) PerError). and_then r (λ o. and_then (write storage o.1 now o.0 bytes) (λ after. Ok (released after o.0)))) is
+
+-- an answer that is due is no refusal
+not_refused : {A : Type 0} (r : Result A PerError) (error : PerError) → IsDue r → r ≡ Err error → ⊥
+not_refused (Ok answer) error due is = cc
+not_refused (Err other) error due is = due
+
+-- so a write that follows is refused for want of memory alone
+pub never_midway : {A : Type 0} → PutLaw → (storage : Storage) (s mid : Session) (name bytes : List ℕ) (now number : ℕ) (r : Result A PerError) (P : Type 0) → IsStrictlySortedBy name_cmp (keys_of s.files)
+    → can_open storage s name Write truncating ≡ None → would_fit storage s.files name (length bytes) ≡ None → open_file storage s name Write truncating now ≡ Ok (number, mid)
+    → IfErr r (λ error. IsRefusal (write storage mid now number bytes) error) → IfErr r (λ error. error ≢ OutOfMemory → P)
+never_midway law storage s mid name bytes now number (Ok answer) P sorted none fits opened refused = tt
+never_midway law storage s mid name bytes now number (Err error) P sorted none fits opened refused = λ other.
+    let is : put storage s name bytes now ≡ Err error =
+    put_is storage s mid name bytes now number none fits opened ∙ ap (λ (r : Result Session PerError). and_then r (λ after. Ok (released after number))) (refused other) in
+    absurd (not_refused (put storage s name bytes now) error (law storage s name bytes now sorted none fits) is)

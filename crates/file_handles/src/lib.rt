@@ -10,6 +10,7 @@
 
 mod by_name;
 mod changing;
+mod contents;
 mod handle;
 mod handling;
 mod laws;

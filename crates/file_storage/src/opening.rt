@@ -17,6 +17,8 @@ ghost use Rattle.element_state.specs.Kept.{KeptThroughout};
 ghost use Rattle.element_state.specs.Reports.{reports};
 ghost use Rattle.element_state.specs.States.{State, store_at, mended_view};
 ghost use Rattle.element_state.specs.Views.{element_of};
+ghost use Rattle.element_store.specs.Mends.{IsAsBefore};
+ghost use Rattle.element_store.specs.Opened.{LacksNothing};
 ghost use Rattle.element_store.specs.Stores.{IsUsed, shape_of, view_in};
 ghost use Rattle.file_storage.specs.FileSessions.{IsConfigured, stored_in};
 ghost use Rattle.file_storage.specs.StoredFiles.{IsStoredFile};
@@ -74,6 +76,9 @@ pub fn open_files<D: Disk>(
     ensures unwritten { IsErrOf result StoreError.Corrupt → (D.medium disk.new).written ≡ (D.medium disk.old).written }
     ensures settled { IsErrOf result StoreError.Corrupt → Quiet (D.medium disk.new) }
     ensures cause { IsErrOf result StoreError.Device → Rose (D.medium disk.old).faults (D.medium disk.new).faults }
+
+    // Where nothing lacks, nothing is written.
+    ensures idle { IsTrue D.told → LacksNothing shape (D.medium disk.old).image → IsAsBefore (D.medium disk.old) (D.medium disk.new) }
 
     // No file outside the place changes, at the end and at any moment.
     ensures elsewhere { IsTrue D.told

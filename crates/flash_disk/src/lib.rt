@@ -21,7 +21,7 @@
 //! A fresh flash can be opened and has no rivals ([`fresh_flashes_open`]).
 //!
 //! A flash has to be as the trait says: reads are stable, a page that cannot be corrected is answered with some bytes, and no block goes bad.
-//! The memory grows with the blocks, by some 110 bytes for each page that may have a record: about 30 MB at 4,096 blocks, the most that open.
+//! The memory grows with the blocks, by some 200 bytes for each page that may have a record: 52 MB at 4,096 blocks, the most that open.
 #![tactic(auto)]
 
 mod calls;

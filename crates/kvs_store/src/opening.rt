@@ -11,7 +11,8 @@ ghost use Rattle.element_state.specs.Chosen.{opened_of};
 ghost use Rattle.element_state.specs.Clean.{IsClean};
 ghost use Rattle.element_state.specs.Kept.{KeptThroughout};
 ghost use Rattle.element_state.specs.States.{State, store_at};
-ghost use Rattle.element_store.specs.Opened.{OpensBy};
+ghost use Rattle.element_store.specs.Mends.{IsAsBefore};
+ghost use Rattle.element_store.specs.Opened.{LacksNothing, OpensBy};
 ghost use Rattle.kvs_store.specs.Opened.{IsOpened};
 ghost use Rattle.kvs_store.specs.Storages.{IsKvs, LiesAs, index_in};
 
@@ -63,6 +64,9 @@ pub fn open_kvs<D: Disk>(
     ensures unwritten { IsErrOf result StoreError.Corrupt → (D.medium disk.new).written ≡ (D.medium disk.old).written }
     ensures settled { IsErrOf result StoreError.Corrupt → Quiet (D.medium disk.new) }
     ensures cause { IsErrOf result StoreError.Device → Rose (D.medium disk.old).faults (D.medium disk.new).faults }
+
+    // Where nothing lacks, nothing is written.
+    ensures idle { IsTrue D.told → LacksNothing shape (D.medium disk.old).image → IsAsBefore (D.medium disk.old) (D.medium disk.new) }
 
     // No file outside the place changes, at the end and at any moment.
     ensures elsewhere { IsTrue D.told

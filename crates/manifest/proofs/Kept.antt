@@ -291,10 +291,10 @@ keeps d h =
 -- ---- what was read
 
 -- the least rule that a text breaks, where it is short or not and stands for this
-least_of : Option Data → Bool → Option ℕ
+unfoldable pub least_of : Option Data → Bool → Option ℕ
 least_of o short = or_else (if short then (if is_some o then None else Some 2) else Some 1) (broken_in o)
 
-read_kept : (o : Option Data) (short : Bool) (said : DeploymentData) → least_of o short ≡ None → said_in o (least_of o short) ≡ Some said → IsDeployment said
+pub read_kept : (o : Option Data) (short : Bool) (said : DeploymentData) → least_of o short ≡ None → said_in o (least_of o short) ≡ Some said → IsDeployment said
 unfolding least_of
 read_kept o false said none is = absurd cc
 read_kept None true said none is = absurd cc

@@ -13,6 +13,7 @@ mod building;
 mod element_rules;
 mod errors;
 mod initials;
+mod laws;
 mod names;
 mod parts;
 mod reading;
@@ -22,4 +23,5 @@ mod whole_rules;
 mod words;
 
 pub use errors::ManifestError;
+pub use laws::said_is_kept;
 pub use reading::read_manifest;

@@ -1,6 +1,6 @@
 //! Reading a manifest.
 
-ghost use Rattle.std.specs.Prelude.{◌≡◌, None, Some, IfErr, IfOk, OnOk};
+ghost use Rattle.std.specs.Prelude.{◌≡◌, ◌≢◌, None, Some, IfErr, IfOk, OnOk};
 ghost use Rattle.serde_json.specs.View.{view};
 ghost use Rattle.deployment_model.specs.Conditions.{IsDeployment};
 ghost use Rattle.deployment_model.specs.Data.{deployment_data};
@@ -29,6 +29,7 @@ pub fn read_manifest(alloc: Global, bytes: &[u8]) -> Result<Deployment, Manifest
     ensures rejected { IfErr result (Refuses (broken_rule bytes.now)) }
     ensures accepted { OnOk result (broken_rule bytes.now ≡ None) }
     ensures read { IfOk result (λ d. deployment_in bytes.now ≡ Some (deployment_data d)) }
+    ensures unsaid { IfErr result (λ e. e ≢ ManifestError.OutOfMemory → deployment_in bytes.now ≡ None) }
 
     // what is read keeps what every deployment keeps
     ensures keeps { IfOk result (λ d. IsDeployment (deployment_data d)) }

@@ -3,3 +3,4 @@ pub mod Rules
 pub mod SameKind
 pub mod Samples
 pub mod Stored
+pub mod Widened

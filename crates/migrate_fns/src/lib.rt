@@ -7,12 +7,16 @@
 //! shortest list of 1 to 8 that lead from one type to another, one after the other, and of these the least by places; none exactly
 //! where there is none. It goes back from the wanted type, level by level: a level holds each type once, so hundreds of converters
 //! cost no exhaustive walk. A [`Chain`] is such a list, and answers what its stored functions, one after the other, may answer.
+//!
+//! [`u8_to_u16`] and its like are functions to be stored: they keep the number, in twice the bytes.
 #![tactic(auto)]
 
 mod chains;
+mod converters;
 mod migrations;
 mod search;
 
 pub use chains::Chain;
+pub use converters::{i8_to_i16, i16_to_i32, i32_to_i64, u8_to_u16, u16_to_u32, u32_to_u64};
 pub use migrations::{Converter, Migration, Migrations};
 pub use search::MAX_LINKS;

@@ -1,171 +1,123 @@
-//! A commit, an opening of a damaged place and a rebuild, each stopped after each call of the disk and restarted in five ways.
+//! A word that is stopped after each call of the disk.
 
-use crate::images::complement;
-use crate::restarts::{ENOUGH, RESTARTS, Restart, restarted};
-use crate::usage::{InUse, Plan, SMALL, rebuild_until};
+use crate::plans::{Plan, plan_of};
+use crate::runs::{restarted, run, step};
+use crate::states::state;
+use crate::usage::{disk_of, stopped};
+use case_words::{Trouble, cut, text};
 use disk_model::MemDisk;
-use element_store::open_store;
-use per_base::{Content, Entry, Scope};
 use std::alloc::Global;
-use std::test::Fail;
 
-const OLD: [u8; 2] = [1, 2];
+/// No word makes so many calls of the disk here.
+const ENOUGH: u64 = 400;
 
-const NEW: [u8; 2] = [9, 0];
-
-// By elements with each m, and by the whole storage.
-const PLANS: [Plan; 4] = [
-    Plan {
-        copies: 3,
-        m: 1,
-        ..SMALL
-    },
-    Plan {
-        copies: 3,
-        m: 2,
-        ..SMALL
-    },
-    Plan {
-        copies: 3,
-        m: 3,
-        ..SMALL
-    },
-    Plan {
-        copies: 3,
-        m: 2,
-        scope: Scope::Storage,
-        ..SMALL
-    },
+/// What a restart keeps of the writes since the last sync: all, nothing, or those that the bits of a number say: 0x5555555555555555,
+/// 0xaaaaaaaaaaaaaaaa, 6.
+const RESTARTS: [&str; 5] = [
+    "all",
+    "none",
+    "6148914691236517205",
+    "12297829382473034410",
+    "6",
 ];
 
+/// A storage, the words that come before, the word that is stopped, and what an opening may find then.
 #[derive(Clone, Copy)]
-enum Step {
-    Commit,
-    Opening,
-    Rebuild,
-}
-
-// How the one key reads after a restart.
-#[derive(Clone, Copy, PartialEq, Eq)]
-enum Reading {
-    Old,
-    New,
-    // Too few copies agree, and the salvage is the old value.
-    Salvage,
-}
-
-// The disk on which a step from the old value to the new one is stopped after so many calls, and whether it succeeded.
-fn stopped(alloc: Global, plan: Plan, step: Step, passing: u64) -> Result<(MemDisk, bool), Fail> {
-    let made = InUse::create(alloc, plan, "home", &OLD)?;
-    match step {
-        Step::Commit => made.commit_until(alloc, passing, "home", &NEW),
-        Step::Opening => open_until(alloc, plan, made.disk, passing),
-        Step::Rebuild => rebuild_until(alloc, plan, made.disk, passing, "home", &NEW),
-    }
-}
-
-// The same of an opening, after the first copy lost its content and, where others are enough, its index.
-fn open_until(
-    alloc: Global,
+struct Course<'a> {
     plan: Plan,
-    mut disk: MemDisk,
-    passing: u64,
-) -> Result<(MemDisk, bool), Fail> {
-    complement(alloc, &mut disk, 2)?;
-    if plan.m < plan.copies {
-        complement(alloc, &mut disk, 1)?;
-    }
-    let shape = plan.shape(alloc)?;
-    disk.stop_after(passing);
-    let done = open_store(alloc, &mut disk, shape).is_ok();
-    Ok((disk, done))
+    earlier: &'a str,
+    word: &'a str,
+    before: &'a str,
+    after: &'a str,
+    /// What else may be found on the way, `*` standing for any text; nothing where it is empty.
+    between: &'a str,
 }
 
-fn reading_of(generation: u64, entry: &Entry) -> Option<Reading> {
-    match &entry.content {
-        Content::Good(bytes) if bytes.as_slice() == OLD.as_slice() && generation == 1 => {
-            Some(Reading::Old)
-        }
-        Content::Good(bytes) if bytes.as_slice() == NEW.as_slice() && generation == 2 => {
-            Some(Reading::New)
-        }
-        Content::Bad(Some(bytes)) if bytes.as_slice() == OLD.as_slice() && generation == 1 => {
-            Some(Reading::Salvage)
-        }
-        _ => None,
-    }
-}
-
-fn read_after(alloc: Global, plan: Plan, disk: MemDisk) -> Result<Reading, Fail> {
-    let (opened, _reports) = InUse::open(alloc, plan, disk)?;
-    match opened.store.entries() {
-        [entry] => match reading_of(opened.store.generation(), entry) {
-            Some(reading) => Ok(reading),
-            None => Err(Fail::new("another value")),
+/// `stops PLAN WORD .. / WORD / BEFORE / AFTER`, and ` / BETWEEN`: `kept`, or where another state was found. BEFORE may be `=`, what an opening
+/// finds if the word does not come.
+pub fn stops(alloc: Global, rest: &str) -> Result<String, Trouble> {
+    let (plan, rest) = cut(rest, ' ');
+    let plan = plan_of(plan)?;
+    let (earlier, rest) = cut_part(rest);
+    let (word, rest) = cut_part(rest);
+    let (before, rest) = cut_part(rest);
+    let (after, between) = cut_part(rest);
+    let found = state_after(alloc, plan, earlier)?;
+    let course = Course {
+        plan,
+        earlier,
+        word,
+        before: if before == "=" {
+            found.as_str()
+        } else {
+            before
         },
-        _ => Err(Fail::new("not one key")),
+        after,
+        between,
+    };
+    follow_all(alloc, course)
+}
+
+fn cut_part(text: &str) -> (&str, &str) {
+    match text.split_once(" / ") {
+        Some(parts) => parts,
+        None => (text, ""),
     }
 }
 
-// How the key reads before a step, and after all of it.
-fn ends(plan: Plan, step: Step) -> (Reading, Reading) {
-    match step {
-        Step::Commit | Step::Rebuild => (Reading::Old, Reading::New),
-        Step::Opening if plan.m < plan.copies => (Reading::Old, Reading::Old),
-        Step::Opening => (Reading::Salvage, Reading::Salvage),
-    }
+// What an opening finds after these words.
+fn state_after(alloc: Global, plan: Plan, words: &str) -> Result<String, Trouble> {
+    let (kept, _said) = run(alloc, plan, words)?;
+    state(alloc, plan, disk_of(kept))
 }
 
-// Stops the step after each call. The key reads as before or as after, and as after once all calls passed. Where a restart keeps all
-// writes or none, it reads as after from one call on.
-fn follow(alloc: Global, plan: Plan, step: Step, way: Restart) -> Result<(), Fail> {
-    let (before, after) = ends(plan, step);
-    let mut last = before;
+fn follow_all(alloc: Global, course: Course<'_>) -> Result<String, Trouble> {
+    for way in RESTARTS {
+        if let Some(fault) = follow(alloc, course, way)? {
+            return Ok(fault);
+        }
+    }
+    text(alloc, "kept")
+}
+
+// Stops the word after each call, until it succeeds. Where a restart keeps all writes or none, an opening finds the state of after from one
+// call on.
+fn follow(alloc: Global, course: Course<'_>, way: &str) -> Result<Option<String>, Trouble> {
+    let is_whole = way == "all" || way == "none";
+    let mut is_over = false;
     for passing in 0..ENOUGH {
-        let (disk, done) = stopped(alloc, plan, step, passing)?;
-        let now = read_after(alloc, plan, restarted(disk, way)?)?;
-        if !is_allowed(before, after, last, now, done) {
-            return Err(Fail::new(format_args!("stopped after {passing} calls")));
+        let (disk, done) = stopped_at(alloc, course, passing)?;
+        let now = state(alloc, course.plan, restarted(disk, way)?)?;
+        if !is_allowed(course, done || is_over, now.as_str()) {
+            let fault = format!(in alloc; "restart {way} after {passing} calls: {now}")?;
+            return Ok(Some(fault));
         }
         if done {
-            return Ok(());
+            return Ok(None);
         }
-        last = match way {
-            Restart::Some(_) => before,
-            _ => now,
-        };
+        is_over = is_whole && now.as_str() == course.after;
     }
-    Err(Fail::new("the step does not end"))
+    Ok(Some(text(alloc, "the word does not end")?))
 }
 
-fn is_allowed(before: Reading, after: Reading, last: Reading, now: Reading, done: bool) -> bool {
-    if done || last == after {
-        now == after
-    } else {
-        now == before || now == after
+// The disk on which the word is stopped after so many calls, and whether it succeeded.
+fn stopped_at(alloc: Global, course: Course<'_>, passing: u64) -> Result<(MemDisk, bool), Trouble> {
+    let (kept, _said) = run(alloc, course.plan, course.earlier)?;
+    let (kept, said) = step(alloc, course.plan, stopped(kept, passing), course.word)?;
+    Ok((disk_of(kept), said.as_str() != "failed"))
+}
+
+fn is_allowed(course: Course<'_>, is_over: bool, now: &str) -> bool {
+    if now == course.after {
+        return true;
     }
+    !is_over && (now == course.before || fits(course.between, now))
 }
 
-fn follow_all(alloc: Global, step: Step) -> Result<(), Fail> {
-    for plan in PLANS {
-        for way in RESTARTS {
-            follow(alloc, plan, step, way)?;
-        }
+// Whether a text begins with what stands before the star and ends with what stands behind it.
+fn fits(pattern: &str, text: &str) -> bool {
+    match pattern.split_once('*') {
+        Some((front, back)) => text.starts_with(front) && text.ends_with(back),
+        None => false,
     }
-    Ok(())
-}
-
-#[test]
-fn stops_of_a_commit(rt: HostRuntime) -> Result<(), Fail> {
-    follow_all(rt.alloc(), Step::Commit)
-}
-
-#[test]
-fn stops_of_an_opening(rt: HostRuntime) -> Result<(), Fail> {
-    follow_all(rt.alloc(), Step::Opening)
-}
-
-#[test]
-fn stops_of_a_rebuild(rt: HostRuntime) -> Result<(), Fail> {
-    follow_all(rt.alloc(), Step::Rebuild)
 }

@@ -1,168 +1,199 @@
 //! Storages on a disk in memory, made and changed one element at a time.
 
-ghost use Rattle.std.specs.Prelude.{◌≡◌, ◌≤◌, true, IsTrue, IfOk, OnOk};
+ghost use Rattle.std.specs.Prelude.{◌≡◌, IfOk, OnOk};
 ghost use Rattle.disk_model.specs.Memory.{mem_medium};
-ghost use Rattle.element_state.specs.Conditions.{IsShape, IsFresh, AreContents, AreChanges};
-ghost use Rattle.element_store.specs.Stores.{IsUsed, shape_of, view_in};
-ghost use Rattle.storage_tests.specs.Single.{IsAddition};
+ghost use Rattle.element_state.specs.Conditions.{IsShape, AreChanges};
+ghost use Rattle.element_store.specs.Stores.{shape_of, view_in};
+ghost use Rattle.storage_tests.specs.Usage.{IsInUse, IsKept};
 
-use disk_model::{MemDisk, Place};
-use element_store::{Change, Shape, Store, View, create, inspect, open_store, rebuild, salvage};
-use per_base::{Bytes, Cause, Content, Entry, FileInfo, Fresh, Name, Report, Scope, StoreKind};
-use std::alloc::Global;
-use std::test::Fail;
-
-/// How a storage is kept; its first file is number 0.
-#[derive(Clone, Copy)]
-pub(crate) struct Plan {
-    pub(crate) copies: u32,
-    pub(crate) m: u32,
-    pub(crate) scope: Scope,
-    pub(crate) kind: StoreKind,
-    pub(crate) allowed: u64,
-}
-
-/// Keys in one copy, 64 bytes.
-pub(crate) const SMALL: Plan = Plan {
-    copies: 1,
-    m: 1,
-    scope: Scope::Element,
-    kind: StoreKind::Keys,
-    allowed: 64,
+use crate::elements::{alone, element, element_of, name_of, takes};
+use crate::plans::Plan;
+use crate::views::{fault, put_reports, store_text, view_text};
+use case_words::{Trouble, cut, number, small, text};
+use disk_model::MemDisk;
+use element_store::{
+    Change, CommitFault, OpenedStore, Shape, Store, create, inspect, open_store, rebuild, salvage,
 };
+use per_base::StoreKind;
+use std::alloc::Global;
 
-impl Plan {
-    /// The storage `fav`, kept so.
-    pub(crate) fn shape(self, alloc: Global) -> Result<Shape, Fail>
-        ensures { IfOk result IsShape }
-    {
-        if self.copies == 0
-            || self.copies > 8
-            || self.m == 0
-            || self.m > self.copies
-            || self.allowed > 4_194_304
-        {
-            return Err(Fail::new("no storage is kept so"));
-        }
-        let name = Name::new(alloc, "fav")?;
-        Ok(Shape {
-            name,
-            place: Place {
-                first: 0,
-                copies: self.copies,
-            },
-            kind: self.kind,
-            m: self.m,
-            scope: self.scope,
-            allowed: self.allowed,
-        })
-    }
-}
-
-/// An element of this name and these bytes, with an info where the kind asks for one.
-pub(crate) fn element(
-    alloc: Global,
-    kind: StoreKind,
-    name: &str,
-    bytes: &[u8],
-) -> Result<Fresh, Fail> {
-    let info = match kind {
-        StoreKind::Keys => None,
-        StoreKind::Files => Some(FileInfo {
-            created: 0,
-            modified: 0,
-            accessed: 0,
-            creation: Cause::Application,
-            modification: Cause::Application,
-        }),
-    };
-    Ok(Fresh {
-        name: Name::new(alloc, name)?,
-        info,
-        bytes: Bytes::new(Vec::from_slice(alloc, bytes)?),
-    })
-}
-
-/// Whether a storage of this kind takes the element.
-fn is_of_kind(kind: StoreKind, fresh: &Fresh) -> bool
-    ensures { IsTrue result → IsFresh kind fresh.now }
-{
-    match kind {
-        StoreKind::Keys => fresh.info.is_none() && fresh.bytes.len() <= 65_536,
-        StoreKind::Files => fresh.info.is_some() && fresh.bytes.len() <= 1_048_576,
-    }
-}
-
-/// The element alone, where the storage takes it.
-pub(crate) fn alone(alloc: Global, shape: &Shape, fresh: Fresh) -> Result<Vec<Fresh>, Fail>
-    ensures { IfOk result (λ contents. AreContents shape.now contents.items) }
-{
-    if !is_of_kind(shape.kind, &fresh) {
-        return Err(Fail::new("not of this kind"));
-    }
-    if fresh.name.as_str().len() as u64 + fresh.bytes.len() as u64 > shape.allowed {
-        return Err(Fail::new("too large"));
-    }
-    Ok(vec![in alloc; fresh]?)
-}
-
-/// A storage on a disk in memory. Its calls ask that it is in use there, and hand that on.
+/// A storage that is in use on a disk in memory.
 #[derive(Drop)]
-pub(crate) struct InUse {
-    pub(crate) disk: MemDisk,
-    pub(crate) store: Store,
-    pub(crate) shape: Shape,
+pub struct InUse {
+    pub disk: MemDisk,
+    pub store: Store,
+    pub shape: Shape,
+}
+
+/// A disk, and the storage that is in use there, if one is.
+#[derive(Drop)]
+pub enum Kept {
+    Closed(MemDisk),
+    Open(InUse),
+}
+
+/// The disk alone.
+pub fn disk_of(kept: Kept) -> MemDisk {
+    match kept {
+        Kept::Closed(disk) => disk,
+        Kept::Open(
+            InUse {
+                disk,
+                store: _,
+                shape: _,
+            },
+        ) => disk,
+    }
+}
+
+/// From now on so many calls of the disk pass.
+pub fn stopped(kept: Kept, passing: u64) -> Kept
+    requires { IsKept kept }
+    ensures { IsKept result }
+{
+    match kept {
+        Kept::Closed(mut disk) => {
+            disk.stop_after(passing);
+            Kept::Closed(disk)
+        }
+        Kept::Open(mut kept) => {
+            kept.disk.stop_after(passing);
+            Kept::Open(kept)
+        }
+    }
+}
+
+/// `create:NAME=BYTES`: makes the storage anew with one element.
+pub fn created(
+    alloc: Global,
+    plan: Plan,
+    mut disk: MemDisk,
+    word: &str,
+) -> Result<(Kept, String), Trouble>
+    ensures { IfOk result (λ next. IsKept next.0) }
+{
+    let shape = plan.shape(alloc)?;
+    let contents = alone(alloc, &shape, element_of(alloc, plan.kind, word)?)?;
+    match create(alloc, &mut disk, shape.copy()?, contents) {
+        Ok(store) => shown(alloc, InUse { disk, store, shape }),
+        Err(error) => Ok((Kept::Closed(disk), fault(alloc, error)?)),
+    }
+}
+
+/// `open`: opens the storage, with what is reported.
+pub fn opened(alloc: Global, plan: Plan, mut disk: MemDisk) -> Result<(Kept, String), Trouble>
+    ensures { IfOk result (λ next. IsKept next.0) }
+{
+    let shape = plan.shape(alloc)?;
+    match open_store(alloc, &mut disk, shape.copy()?) {
+        Ok(
+            OpenedStore {
+                store,
+                reports,
+                before: _,
+            },
+        ) => {
+            let mut said = store_text(alloc, &store)?;
+            put_reports(alloc, &mut said, &reports)?;
+            Ok((Kept::Open(InUse { disk, store, shape }), said))
+        }
+        Err(error) => Ok((Kept::Closed(disk), fault(alloc, error)?)),
+    }
+}
+
+// A storage in use, with what it shows.
+fn shown(alloc: Global, kept: InUse) -> Result<(Kept, String), Trouble>
+    requires { IsInUse kept }
+    ensures { IfOk result (λ next. IsKept next.0) }
+{
+    let said = store_text(alloc, &kept.store)?;
+    Ok((Kept::Open(kept), said))
+}
+
+/// `inspect`: what the copies stand for.
+pub fn inspected(alloc: Global, plan: Plan, kept: Kept) -> Result<(Kept, String), Trouble>
+    requires { IsKept kept }
+    ensures { IfOk result (λ next. IsKept next.0) }
+{
+    match kept {
+        Kept::Closed(mut disk) => {
+            let said = seen(alloc, &mut disk, &plan.shape(alloc)?)?;
+            Ok((Kept::Closed(disk), said))
+        }
+        Kept::Open(mut kept) => {
+            let said = kept.inspected(alloc)?;
+            Ok((Kept::Open(kept), said))
+        }
+    }
+}
+
+// What the copies stand for.
+fn seen(alloc: Global, disk: &mut MemDisk, shape: &Shape) -> Result<String, Trouble>
+    requires { IsShape shape.now }
+    ensures { (mem_medium disk.new).image ≡ (mem_medium disk.old).image }
+{
+    match inspect(alloc, disk, shape) {
+        Ok(view) => view_text(alloc, &view),
+        Err(error) => fault(alloc, error),
+    }
+}
+
+/// `salvage`: the same, or else what the first text that fits stands for.
+pub fn salvaged(alloc: Global, plan: Plan, disk: &mut MemDisk) -> Result<String, Trouble> {
+    match salvage(alloc, disk, &plan.shape(alloc)?) {
+        Ok(Some(view)) => view_text(alloc, &view),
+        Ok(None) => text(alloc, "none"),
+        Err(error) => fault(alloc, error),
+    }
+}
+
+/// `rebuild:NAME=BYTES`: makes the storage anew with one element, beside what the place holds.
+pub fn rebuilt(
+    alloc: Global,
+    plan: Plan,
+    disk: &mut MemDisk,
+    word: &str,
+) -> Result<String, Trouble> {
+    let shape = plan.shape(alloc)?;
+    let contents = alone(alloc, &shape, element_of(alloc, plan.kind, word)?)?;
+    match salvage(alloc, disk, &shape) {
+        Err(error) => return fault(alloc, error),
+        Ok(Some(view)) if view.generation == u64::MAX => return Err(Trouble::NoCase),
+        Ok(_) => {}
+    }
+    match rebuild(alloc, disk, &shape, contents) {
+        Ok(()) => text(alloc, "ok"),
+        Err(error) => fault(alloc, error),
+    }
 }
 
 impl InUse {
-    /// A storage that is made with one element, on an empty disk.
-    pub(crate) fn create(alloc: Global, plan: Plan, name: &str, bytes: &[u8]) -> Result<InUse, Fail>
-        ensures used { IfOk result (λ kept. IsUsed true (mem_medium kept.disk).image kept.store) }
-        ensures shape { IfOk result (λ kept. shape_of kept.store ≡ kept.shape) }
+    // What the copies stand for.
+    fn inspected(&mut self, alloc: Global) -> Result<String, Trouble>
+        requires { IsInUse self.old }
+        ensures { OnOk result (IsInUse self.new) }
     {
-        let shape = plan.shape(alloc)?;
-        let mut disk = MemDisk::new(alloc);
-        let contents = alone(alloc, &shape, element(alloc, plan.kind, name, bytes)?)?;
-        let store = create(alloc, &mut disk, shape.copy()?, contents)?;
-        Ok(InUse { disk, store, shape })
+        seen(alloc, &mut self.disk, &self.shape)
     }
 
-    /// Opens the storage, and hands up what is reported.
-    pub(crate) fn open(
-        alloc: Global,
-        plan: Plan,
-        mut disk: MemDisk,
-    ) -> Result<(InUse, Vec<Report>), Fail>
-        ensures used { IfOk result (λ opened. IsUsed true (mem_medium opened.0.disk).image opened.0.store) }
-        ensures shape { IfOk result (λ opened. shape_of opened.0.store ≡ opened.0.shape) }
-    {
-        let shape = plan.shape(alloc)?;
-        let opened = open_store(alloc, &mut disk, shape.copy()?)?;
-        let store = opened.store;
-        Ok((InUse { disk, store, shape }, opened.reports))
-    }
-
-    /// The change alone, where the storage can take it.
-    fn single(&self, alloc: Global, change: Change) -> Result<Vec<Change>, Fail>
-        requires used { IsUsed true (mem_medium self.now.disk).image self.now.store }
-        requires shape { shape_of self.now.store ≡ self.now.shape }
+    // The change alone, where the storage can take it.
+    fn single(&self, alloc: Global, change: Change) -> Result<Vec<Change>, Trouble>
+        requires { IsInUse self.now }
         ensures { IfOk result (λ changes. AreChanges (shape_of self.now.store) (view_in self.now.store) changes.items) }
     {
         if self.store.generation() == u64::MAX || self.store.entries().len() >= 1024 {
-            return Err(Fail::new("no generation or no room is left"));
+            return Err(Trouble::NoCase);
         }
         if !takes(&self.shape, self.store.size(), &change) {
-            return Err(Fail::new("the storage cannot take this change"));
+            return Err(Trouble::NoCase);
         }
         Ok(vec![in alloc; change]?)
     }
 
-    /// Commits one change.
-    pub(crate) fn commit(self, alloc: Global, change: Change) -> Result<InUse, Fail>
-        requires used { IsUsed true (mem_medium self.disk).image self.store }
-        requires shape { shape_of self.store ≡ self.shape }
-        ensures used { IfOk result (λ kept. IsUsed true (mem_medium kept.disk).image kept.store) }
-        ensures shape { IfOk result (λ kept. shape_of kept.store ≡ kept.shape) }
+    // Commits one change; where the disk fails, the storage is closed.
+    fn commit(self, alloc: Global, change: Change) -> Result<Kept, Trouble>
+        requires { IsInUse self }
+        ensures { IfOk result IsKept }
     {
         let changes = self.single(alloc, change)?;
         let InUse {
@@ -170,112 +201,115 @@ impl InUse {
             store,
             shape,
         } = self;
-        let store = store.commit(&mut disk, changes)?;
-        Ok(InUse { disk, store, shape })
+        match store.commit(&mut disk, changes) {
+            Ok(store) => Ok(Kept::Open(InUse { disk, store, shape })),
+            Err(CommitFault::Device) => Ok(Kept::Closed(disk)),
+            Err(CommitFault::OutOfMemory(_)) => Err(Trouble::OutOfMemory),
+        }
     }
 
-    /// Commits another content of an element.
-    pub(crate) fn put(self, alloc: Global, name: &str, bytes: &[u8]) -> Result<InUse, Fail>
-        requires used { IsUsed true (mem_medium self.disk).image self.store }
-        requires shape { shape_of self.store ≡ self.shape }
-        ensures used { IfOk result (λ kept. IsUsed true (mem_medium kept.disk).image kept.store) }
-        ensures shape { IfOk result (λ kept. shape_of kept.store ≡ kept.shape) }
+    // `put:NAME=BYTES`, `remove:NAME`: commits another content of an element, or that it goes.
+    fn changed(self, alloc: Global, verb: &str, word: &str) -> Result<Kept, Trouble>
+        requires { IsInUse self }
+        ensures { IfOk result IsKept }
     {
+        let change = change_of(alloc, self.shape.kind, verb, word)?;
+        self.commit(alloc, change)
+    }
+
+    // `within:BOUND:VERB:WORD`: the same, which is to write at most so many bytes.
+    fn within(self, alloc: Global, rest: &str) -> Result<(Kept, String), Trouble>
+        requires { IsInUse self }
+        ensures { IfOk result (λ next. IsKept next.0) }
+    {
+        let (bound, rest) = cut(rest, ':');
+        let (verb, word) = cut(rest, ':');
+        let bound = number(bound)?;
+        let before = self.disk.written();
+        let kept = in_use(self.changed(alloc, verb, word)?)?;
+        let written = kept.disk.written().saturating_sub(before);
+        if written > bound {
+            let said = format!(in alloc; "wrote:{written}")?;
+            return Ok((Kept::Open(kept), said));
+        }
+        shown(alloc, kept)
+    }
+
+    // `many:TIMES:NAME`: commits so often the number of the commit, in four bytes.
+    fn changed_often(self, alloc: Global, rest: &str) -> Result<(Kept, String), Trouble>
+        requires { IsInUse self }
+        ensures { IfOk result (λ next. IsKept next.0) }
+    {
+        let (times, name) = cut(rest, ':');
+        let mut kept = self;
+        for count in 0..small(times)? {
+            kept = kept.numbered(alloc, name, count)?;
+        }
+        shown(alloc, kept)
+    }
+
+    fn numbered(self, alloc: Global, name: &str, count: u32) -> Result<InUse, Trouble>
+        requires { IsInUse self }
+        ensures { IfOk result IsInUse }
+    {
+        let bytes = Vec::from_slice(alloc, &count.to_le_bytes())?;
         let fresh = element(alloc, self.shape.kind, name, bytes)?;
-        self.commit(alloc, Change::Put(fresh))
+        in_use(self.commit(alloc, Change::Put(fresh))?)
     }
 
-    /// Commits that an element goes.
-    pub(crate) fn remove(self, alloc: Global, name: &str) -> Result<InUse, Fail>
-        requires used { IsUsed true (mem_medium self.disk).image self.store }
-        requires shape { shape_of self.store ≡ self.shape }
-        ensures used { IfOk result (λ kept. IsUsed true (mem_medium kept.disk).image kept.store) }
-        ensures shape { IfOk result (λ kept. shape_of kept.store ≡ kept.shape) }
+    // `has:NAME`: whether there is such an element.
+    fn has(&self, alloc: Global, word: &str) -> Result<String, Trouble>
+        requires { IsInUse self.now }
     {
-        let name = Name::new(alloc, name)?;
-        self.commit(alloc, Change::Remove(name))
-    }
-
-    /// The disk on which a commit is stopped after so many calls, and whether it succeeded.
-    pub(crate) fn commit_until(
-        self,
-        alloc: Global,
-        passing: u64,
-        name: &str,
-        bytes: &[u8],
-    ) -> Result<(MemDisk, bool), Fail>
-        requires used { IsUsed true (mem_medium self.disk).image self.store }
-        requires shape { shape_of self.store ≡ self.shape }
-    {
-        let fresh = element(alloc, self.shape.kind, name, bytes)?;
-        let changes = self.single(alloc, Change::Put(fresh))?;
-        let InUse {
-            mut disk,
-            store,
-            ..
-        } = self;
-        disk.stop_after(passing);
-        let done = store.commit(&mut disk, changes).is_ok();
-        Ok((disk, done))
-    }
-
-    /// What the copies stand for.
-    pub(crate) fn view(&mut self, alloc: Global) -> Result<View, Fail>
-        requires used { IsUsed true (mem_medium self.old.disk).image self.old.store }
-        requires shape { shape_of self.old.store ≡ self.old.shape }
-        ensures used { OnOk result (IsUsed true (mem_medium self.new.disk).image self.new.store) }
-        ensures shape { OnOk result (shape_of self.new.store ≡ self.new.shape) }
-    {
-        Ok(inspect(alloc, &mut self.disk, &self.shape)?)
-    }
-
-    /// How many bytes were written so far.
-    pub(crate) fn written(&self) -> u64 {
-        self.disk.written()
+        let name = name_of(alloc, word)?;
+        let is_there = self.store.entry(&name).is_some();
+        text(alloc, if is_there { "yes" } else { "no" })
     }
 }
 
-/// Whether a storage of this size takes the change; only what is put or goes.
-fn takes(shape: &Shape, size: u64, change: &Change) -> bool
-    ensures { IsTrue result → IsAddition shape.now size change.now }
+// The storage that is still in use.
+fn in_use(kept: Kept) -> Result<InUse, Trouble>
+    requires { IsKept kept }
+    ensures { IfOk result IsInUse }
 {
-    match change {
-        Change::Put(fresh) => {
-            is_of_kind(shape.kind, fresh)
-                && size <= shape.allowed
-                && fresh.name.as_str().len() as u64 + fresh.bytes.len() as u64
-                    <= shape.allowed - size
-        }
-        Change::Remove(_) => size <= shape.allowed,
-        Change::Touch(_, _) => false,
+    match kept {
+        Kept::Open(kept) => Ok(kept),
+        Kept::Closed(_) => Err(Trouble::NoCase),
     }
 }
 
-/// The disk on which a storage is made anew with one element, stopped after so many calls, and whether that succeeded.
-pub(crate) fn rebuild_until(
-    alloc: Global,
-    plan: Plan,
-    mut disk: MemDisk,
-    passing: u64,
-    name: &str,
-    bytes: &[u8],
-) -> Result<(MemDisk, bool), Fail> {
-    let shape = plan.shape(alloc)?;
-    let contents = alone(alloc, &shape, element(alloc, plan.kind, name, bytes)?)?;
-    if let Some(view) = salvage(alloc, &mut disk, &shape)? {
-        if view.generation == u64::MAX {
-            return Err(Fail::new("no generation is left"));
-        }
+fn change_of(alloc: Global, kind: StoreKind, verb: &str, word: &str) -> Result<Change, Trouble> {
+    match verb {
+        "put" => Ok(Change::Put(element_of(alloc, kind, word)?)),
+        "remove" => Ok(Change::Remove(name_of(alloc, word)?)),
+        _ => Err(Trouble::NoCase),
     }
-    disk.stop_after(passing);
-    let done = rebuild(alloc, &mut disk, &shape, contents).is_ok();
-    Ok((disk, done))
 }
 
-/// The bytes of an element that can be read.
-pub(crate) fn value_of(entry: &Entry) -> Option<&[u8]> {
-    match &entry.content {
-        Content::Good(bytes) => Some(bytes.as_slice()),
-        Content::Bad(_) => None,
+/// A word for a storage in use.
+pub fn used(alloc: Global, kept: Kept, verb: &str, rest: &str) -> Result<(Kept, String), Trouble>
+    requires { IsKept kept }
+    ensures { IfOk result (λ next. IsKept next.0) }
+{
+    let kept = in_use(kept)?;
+    match verb {
+        "within" => kept.within(alloc, rest),
+        "many" => kept.changed_often(alloc, rest),
+        "has" => {
+            let said = kept.has(alloc, rest)?;
+            Ok((Kept::Open(kept), said))
+        }
+        _ => told(alloc, kept.changed(alloc, verb, rest)?),
+    }
+}
+
+// With what the storage shows; where it is closed, its disk failed.
+fn told(alloc: Global, kept: Kept) -> Result<(Kept, String), Trouble>
+    requires { IsKept kept }
+    ensures { IfOk result (λ next. IsKept next.0) }
+{
+    match kept {
+        Kept::Open(kept) => shown(alloc, kept),
+        Kept::Closed(disk) => Ok((Kept::Closed(disk), text(alloc, "failed")?)),
     }
 }

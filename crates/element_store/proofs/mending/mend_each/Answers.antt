@@ -5,7 +5,7 @@ use Rattle.block_files.specs.Contents.{AreCopies}
 use Rattle.block_files.specs.Writes.{Wrote, Tore, IsNoneOf}
 use Rattle.index_text.specs.declared.entries.IndexEntry.{IndexEntry}
 use Rattle.element_state.specs.Chosen.{IsReadBy}
-use Rattle.element_store.proofs.InPlace.{zip_long, mended_none, mended_skip, mended_all, mended_more, read_at, room_at, distinct_at, still_during, torn_areas}
+use Rattle.element_store.proofs.InPlace.{zip_long, mended_none, mended_skip, mended_all, mended_more, read_at, room_at, distinct_at, still_during, torn_areas, torn_idle, few_none}
 use Rattle.element_store.proofs.mending.mend_each.Goals as goal
 
 pub loop-i-init : goal.loop-i-init
@@ -64,6 +64,20 @@ returns-in_err-mend-clause-elsewhere g c =
     (g.D.Disk.medium c.args.disk.now) (g.D.Disk.medium c.loop-i.disk) (omega (arith, same)) is_e c.index-views-i.is c.in-Good.is
     (length c.index-views-i.result.lacking * (256 * length c.index-entries-i.result.blocks)) (g.D.Disk.medium c.mend.new.disk) c.loop-i.invariant tore
 
+pub returns-in_err-mend-clause-idle : goal.returns-in_err-mend-clause-idle
+returns-in_err-mend-clause-idle g c =
+    let same = ap (λ (es : List IndexEntry). length es) c.as_slice-entries.ensures in
+    let blocks_is = c.as_slice.ensures ∙ ap (λ (x : IndexEntry). x.blocks) (sym c.index-entries-i.is) in
+    let is_e = subst (λ (es : List IndexEntry). c.index-entries-i.result ≡ get_or es c.loop-i.i c.index-entries-i.result) c.as_slice-entries.ensures c.index-entries-i.is in
+    let P : List ℕ → Type 0 = λ bs. Tore g.D.Disk.told (IsNoneOf c.args.shape.now.place.first c.as_slice-in-loop-i-2.result.now) (IsApart bs)
+    (length c.as_slice-in-loop-i-2.result.now * (256 * length bs)) (g.D.Disk.medium c.loop-i.disk) (g.D.Disk.medium c.mend.new.disk) in
+    let Q : List ℕ → Type 0 = λ cs. Tore g.D.Disk.told (IsNoneOf c.args.shape.now.place.first cs) (IsApart c.index-entries-i.result.blocks)
+    (length cs * (256 * length c.index-entries-i.result.blocks)) (g.D.Disk.medium c.loop-i.disk) (g.D.Disk.medium c.mend.new.disk) in
+    let tore = subst Q c.as_slice-in-loop-i-2.ensures (subst P blocks_is c.in_err-mend.ensures.failed) in
+    torn_idle g.D.Disk.told c.args.shape.now c.args.index.now c.args.views.now c.requires.rules c.requires.read c.mending_keeps.ensures.step c.loop-i.i c.index-entries-i.result c.index-views-i.result c.in-Good.value
+    (g.D.Disk.medium c.args.disk.now) (g.D.Disk.medium c.loop-i.disk) (omega (arith, same)) is_e c.index-views-i.is c.in-Good.is
+    (length c.index-views-i.result.lacking * (256 * length c.index-entries-i.result.blocks)) (g.D.Disk.medium c.mend.new.disk) c.loop-i.invariant tore (λ none. few_none (length c.index-views-i.result.lacking) (256 * length c.index-entries-i.result.blocks) (ap (λ (xs : List ℕ). length xs) none))
+
 pub returns-in_err-mend-clause-during : goal.returns-in_err-mend-clause-during
 returns-in_err-mend-clause-during g c =
     let same = ap (λ (es : List IndexEntry). length es) c.as_slice-entries.ensures in
@@ -93,7 +107,8 @@ loop-i-preserved g c =
     let C : List ℕ → Type 0 = λ v. NamedFull c.args.shape.now.place.first c.index-views-i.result.lacking c.index-entries-i.result.blocks v (g.D.Disk.medium c.mend.new.disk).image in
     mended_more g.D.Disk.told c.args.shape.now c.args.index.now c.args.views.now c.requires.rules c.requires.read c.mending_keeps.ensures.step c.loop-i.i c.index-entries-i.result c.index-views-i.result c.in-Good.value
     (g.D.Disk.medium c.args.disk.now) (g.D.Disk.medium c.loop-i.disk) (omega (arith, same)) is_e c.index-views-i.is c.in-Good.is
-    (length c.index-views-i.result.lacking * (256 * length c.index-entries-i.result.blocks)) (g.D.Disk.medium c.mend.new.disk) wrote
+    (length c.index-views-i.result.lacking * (256 * length c.index-entries-i.result.blocks)) (g.D.Disk.medium c.mend.new.disk)
+    (λ none. few_none (length c.index-views-i.result.lacking) (256 * length c.index-entries-i.result.blocks) (ap (λ (xs : List ℕ). length xs) none)) wrote
     (λ tells. subst C c.as_slice-in-loop-i.ensures (subst B c.as_slice-in-loop-i-2.ensures (subst A blocks_is (c.in_ok-mend.ensures.whole tells)))) c.loop-i.invariant
 
 pub returns-clause-whole : goal.returns-clause-whole

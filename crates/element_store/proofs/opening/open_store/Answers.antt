@@ -1,8 +1,9 @@
 use Rattle.std.proofs.Common.{refl, ap, ◌∙◌}
 use Rattle.disk_model.specs.Image.{Image}
+use Rattle.disk_model.proofs.Moments.{elapses_on}
 use Rattle.element_store.specs.declared.store.Store.{Store}
 use Rattle.element_store.specs.Committing.{index_in}
-use Rattle.element_store.proofs.Opened.{opening_used, opening_view, opening_clean, opening_shown, opening_alone, opening_opens, opening_spared, opening_whole, opening_by}
+use Rattle.element_store.proofs.Opened.{opening_used, opening_view, opening_clean, opening_shown, opening_alone, opening_opens, opening_spared, opening_whole, opening_by, idle_adopted, idle_views, idle_on}
 use Rattle.element_store.proofs.StoreViews.{store_view_as}
 use Rattle.element_store.proofs.Moments.{first_kept, second_kept, third_kept, slots_outside, both_outside, second_outside, third_outside}
 use Rattle.element_store.proofs.opening.open_store.Goals as goal
@@ -80,3 +81,33 @@ returns-clause-clean g c = λ tells clean. opening_clean g.D.Disk.told (g.D.Disk
     (opening_spared g.D.Disk.told c.args.shape c.in_ok-seen.field-0 c.as_slice-2.result.now (g.D.Disk.medium c.adopt.new.disk).image (g.D.Disk.medium c.mend_durably.new.disk).image c.as_slice-2.ensures c.in_ok-mend_durably.ensures.spared)
     (opening_whole g.D.Disk.told c.args.shape c.in_ok-seen.field-0 c.as_slice-2.result.now (g.D.Disk.medium c.mend_durably.new.disk).image c.as_slice-2.ensures c.in_ok-mend_durably.ensures.whole)
     c.places_are_clean.ensures.alone c.use_is_adopted.ensures.opened tells clean
+
+pub returns-in_err-seen-clause-idle : goal.returns-in_err-seen-clause-idle
+returns-in_err-seen-clause-idle g c = λ tells lacks. record { image = c.in_err-seen.ensures.image; written = c.in_err-seen.ensures.written }
+
+pub returns-in_err-cell-clause-idle : goal.returns-in_err-cell-clause-idle
+returns-in_err-cell-clause-idle g c = λ tells lacks. idle_adopted c.args.shape (g.D.Disk.medium c.args.disk.now) (g.D.Disk.medium c.prepare.new.disk) (g.D.Disk.medium c.adopt.new.disk) c.in_ok-seen.field-0 c.as_slice.result.now c.in_ok-seen.field-0.before.entries lacks.index lacks.view c.requires
+    lacks.in_use c.in_ok-seen.ensures.ready (c.in_ok-seen.ensures.found tells) c.as_slice.ensures refl c.in_ok-seen.ensures.image c.in_ok-seen.ensures.written
+    (c.in_err-cell.ensures.right tells) (c.in_err-cell.ensures.already tells)
+
+pub returns-in_err-mend_durably-clause-idle : goal.returns-in_err-mend_durably-clause-idle
+returns-in_err-mend_durably-clause-idle g c = λ tells lacks. idle_on (g.D.Disk.medium c.args.disk.now) (g.D.Disk.medium c.adopt.new.disk) (g.D.Disk.medium c.mend_durably.new.disk)
+    (idle_adopted c.args.shape (g.D.Disk.medium c.args.disk.now) (g.D.Disk.medium c.prepare.new.disk) (g.D.Disk.medium c.adopt.new.disk) c.in_ok-seen.field-0 c.as_slice.result.now c.as_slice-2.result.now lacks.index lacks.view c.requires
+    lacks.in_use c.in_ok-seen.ensures.ready (c.in_ok-seen.ensures.found tells) c.as_slice.ensures c.as_slice-2.ensures c.in_ok-seen.ensures.image c.in_ok-seen.ensures.written
+    (c.in_ok-cell.ensures.right tells) (c.in_ok-cell.ensures.already tells))
+    (c.in_err-mend_durably.ensures.idle tells (idle_views c.args.shape (g.D.Disk.medium c.args.disk.now) (g.D.Disk.medium c.prepare.new.disk) (g.D.Disk.medium c.adopt.new.disk) c.in_ok-seen.field-0 c.as_slice.result.now c.as_slice-2.result.now lacks.index lacks.view c.requires
+    lacks.in_use c.in_ok-seen.ensures.ready (c.in_ok-seen.ensures.found tells) c.as_slice.ensures c.as_slice-2.ensures))
+
+pub returns-clause-idle : goal.returns-clause-idle
+returns-clause-idle g c = λ tells lacks. idle_on (g.D.Disk.medium c.args.disk.now) (g.D.Disk.medium c.adopt.new.disk) (g.D.Disk.medium c.mend_durably.new.disk)
+    (idle_adopted c.args.shape (g.D.Disk.medium c.args.disk.now) (g.D.Disk.medium c.prepare.new.disk) (g.D.Disk.medium c.adopt.new.disk) c.in_ok-seen.field-0 c.as_slice.result.now c.as_slice-2.result.now lacks.index lacks.view c.requires
+    lacks.in_use c.in_ok-seen.ensures.ready (c.in_ok-seen.ensures.found tells) c.as_slice.ensures c.as_slice-2.ensures c.in_ok-seen.ensures.image c.in_ok-seen.ensures.written
+    (c.in_ok-cell.ensures.right tells) (c.in_ok-cell.ensures.already tells))
+    (c.in_ok-mend_durably.ensures.idle tells (idle_views c.args.shape (g.D.Disk.medium c.args.disk.now) (g.D.Disk.medium c.prepare.new.disk) (g.D.Disk.medium c.adopt.new.disk) c.in_ok-seen.field-0 c.as_slice.result.now c.as_slice-2.result.now lacks.index lacks.view c.requires
+    lacks.in_use c.in_ok-seen.ensures.ready (c.in_ok-seen.ensures.found tells) c.as_slice.ensures c.as_slice-2.ensures))
+
+pub returns-in_err-mend_durably-clause-time : goal.returns-in_err-mend_durably-clause-time
+returns-in_err-mend_durably-clause-time g c = elapses_on (elapses_on c.in_ok-seen.ensures.time c.in_ok-cell.ensures.time) c.in_err-mend_durably.ensures.time
+
+pub returns-clause-time : goal.returns-clause-time
+returns-clause-time g c = elapses_on (elapses_on c.in_ok-seen.ensures.time c.in_ok-cell.ensures.time) c.in_ok-mend_durably.ensures.time

@@ -1,0 +1,45 @@
+//! Which kind of case a line is.
+
+use crate::anywhere::twice;
+use crate::contents::{content, shared};
+use crate::elements::{name, size};
+use crate::indexes::index;
+use crate::seals::{hash_of, sealed, verified};
+use crate::sessions::session;
+use crate::streams::{sink, source};
+use crate::votes::voted;
+use case_words::{Trouble, cut};
+use std::alloc::{AllocError, Global};
+
+/// What came of a line.
+pub fn answer(alloc: Global, line: &str) -> Result<String, AllocError> {
+    if line.is_empty() || line.starts_with('#') {
+        return String::from_str(alloc, line);
+    }
+    match case(alloc, line) {
+        Ok(said) => Ok(said),
+        Err(Trouble::NoCase) => String::from_str(alloc, "no case"),
+        Err(Trouble::OutOfMemory) => Err(AllocError),
+    }
+}
+
+// What came of a case.
+fn case(alloc: Global, line: &str) -> Result<String, Trouble> {
+    let (kind, rest) = cut(line, ' ');
+    match kind {
+        "name" => name(alloc, rest),
+        "size" => size(alloc, rest),
+        "source" => source(alloc, rest),
+        "sink" => sink(alloc, rest),
+        "hash" => hash_of(alloc, rest),
+        "seal" => sealed(alloc, rest),
+        "verify" => verified(alloc, rest),
+        "vote" => voted(alloc, rest),
+        "twice" => twice(alloc, rest),
+        "disk" | "register" => session(alloc, rest),
+        "content" => content(alloc, rest),
+        "shared" => shared(alloc, rest),
+        "index" => index(alloc, rest),
+        _ => Err(Trouble::NoCase),
+    }
+}

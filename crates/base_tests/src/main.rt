@@ -1,0 +1,28 @@
+//! The cases of the base layer: each line of standard input is a case in words, and one line is printed of what came of it.
+//!
+//! A case begins with its kind: names and sizes, streams in memory, hashes and sealed texts, votes, sessions of a disk in memory and of a
+//! register on it, contents in blocks, and texts of indexes. Bytes are written as hexadecimal digits, `3*07` for bytes that repeat, parts
+//! joined by `+`, and `empty`. A line that is empty or begins with `#` is printed as it stands, and one that is no case is answered by `no
+//! case`. What is wanted was worked out by hand from the formats, or comes from outside.
+#![tactic(auto)]
+
+mod anywhere;
+mod cases;
+mod contents;
+mod elements;
+mod indexes;
+mod seals;
+mod sessions;
+mod streams;
+mod votes;
+
+use std::io::{self, BufRead, BufReader};
+
+fn main(rt: HostRuntime) -> io::Result<()> {
+    let alloc = rt.alloc();
+    for line in BufReader::new(alloc, rt.reader())?.lines(alloc) {
+        let said = cases::answer(alloc, line?.as_str())?;
+        rt.println(said)?;
+    }
+    Ok(())
+}

@@ -1,0 +1,325 @@
+//! Sessions of a disk in memory, and of a register of three copies on it.
+
+ghost use Rattle.std.specs.Prelude.{IfOk};
+ghost use Rattle.base_tests.specs.Sessions.{IsRun};
+
+use case_words::{
+    Trouble, add, bytes_of, bytes_text, cut, number, numbers, numbers_text, small, text,
+};
+use disk_model::{Disk, MemDisk, Place};
+use guarded_cell::{
+    Cell, CellError, Seen, WriteFault, adopt, format_cell, keep_only, look, open_cell,
+};
+use hash_guard::{MAX_BODY, seal};
+use std::alloc::Global;
+use std::fmt::Write;
+
+/// A session: its disk, and a register in use there.
+#[derive(Drop)]
+pub struct Run {
+    pub disk: MemDisk,
+    pub cell: Option<Cell>,
+}
+
+fn place() -> Place {
+    Place {
+        first: 0,
+        copies: 3,
+    }
+}
+
+/// `disk WORD ..`, `register WORD ..`: what each word answers, from a disk of empty files on.
+pub fn session(alloc: Global, words: &str) -> Result<String, Trouble> {
+    let mut run = Run {
+        disk: MemDisk::new(alloc),
+        cell: None,
+    };
+    let mut said = String::new(alloc);
+    for word in words.split(' ') {
+        let (next, answer) = step(alloc, run, word)?;
+        add(&mut said, answer.as_str())?;
+        run = next;
+    }
+    Ok(said)
+}
+
+// One word of a session.
+fn step(alloc: Global, run: Run, word: &str) -> Result<(Run, String), Trouble>
+    requires { IsRun run }
+    ensures { IfOk result (λ next. IsRun next.0) }
+{
+    let (verb, rest) = cut(word, ':');
+    match verb {
+        "format" => format(alloc, run, rest),
+        "put" => put(alloc, run, rest),
+        "stop" => stop(alloc, run, rest),
+        "crash" => crash(alloc, run, rest),
+        _ => apart(alloc, run, verb, rest),
+    }
+}
+
+// `format:BYTES`: begins a register anew.
+fn format(alloc: Global, run: Run, word: &str) -> Result<(Run, String), Trouble>
+    ensures { IfOk result (λ next. IsRun next.0) }
+{
+    let Run { mut disk, cell: _ } = run;
+    let body = bytes_of(alloc, word)?;
+    if body.len() > MAX_BODY {
+        return Err(Trouble::NoCase);
+    }
+    match format_cell(alloc, &mut disk, place(), &body) {
+        Ok(cell) => {
+            let cell = Some(cell);
+            Ok((Run { disk, cell }, text(alloc, "ok")?))
+        }
+        Err(error) => Ok((Run { disk, cell: None }, fault(alloc, error)?)),
+    }
+}
+
+// `put:BYTES`: writes the next text of the register in use.
+fn put(alloc: Global, run: Run, word: &str) -> Result<(Run, String), Trouble>
+    requires { IsRun run }
+    ensures { IfOk result (λ next. IsRun next.0) }
+{
+    let Run { mut disk, cell } = run;
+    let Some(cell) = cell else {
+        return Err(Trouble::NoCase);
+    };
+    let body = bytes_of(alloc, word)?;
+    if body.len() > MAX_BODY || cell.generation() == u64::MAX {
+        return Err(Trouble::NoCase);
+    }
+    match cell.write(alloc, &mut disk, &body) {
+        Ok(cell) => {
+            let cell = Some(cell);
+            Ok((Run { disk, cell }, text(alloc, "ok")?))
+        }
+        Err(WriteFault::Device) => Ok((Run { disk, cell: None }, text(alloc, "failed")?)),
+        Err(WriteFault::OutOfMemory(_)) => Err(Trouble::OutOfMemory),
+    }
+}
+
+// `stop:K`: from now on K calls of the disk pass.
+fn stop(alloc: Global, run: Run, word: &str) -> Result<(Run, String), Trouble>
+    requires { IsRun run }
+    ensures { IfOk result (λ next. IsRun next.0) }
+{
+    let Run { mut disk, cell } = run;
+    disk.stop_after(number(word)?);
+    Ok((Run { disk, cell }, text(alloc, "ok")?))
+}
+
+// `crash:all`, `crash:none`, `crash:PATTERN`: a power loss that keeps all writes since the last sync, none, or those of the pattern.
+fn crash(alloc: Global, run: Run, word: &str) -> Result<(Run, String), Trouble>
+    ensures { IfOk result (λ next. IsRun next.0) }
+{
+    let Run { disk, cell: _ } = run;
+    let disk = match word {
+        "all" => disk.crash(true)?,
+        "none" => disk.crash(false)?,
+        _ => disk.crash_torn(number(word)?)?,
+    };
+    Ok((Run { disk, cell: None }, text(alloc, "ok")?))
+}
+
+// A word that takes the register out of use.
+fn apart(alloc: Global, run: Run, verb: &str, rest: &str) -> Result<(Run, String), Trouble>
+    ensures { IfOk result (λ next. IsRun next.0) }
+{
+    let Run { mut disk, cell: _ } = run;
+    let said = match verb {
+        "read" => read(alloc, &mut disk, rest)?,
+        "write" => write(alloc, &mut disk, rest)?,
+        "seal" => seal_front(alloc, &mut disk, rest)?,
+        "flip" => flip(alloc, &mut disk, rest)?,
+        "spoil" => spoil(alloc, &mut disk, rest)?,
+        "files" => files(alloc, &mut disk)?,
+        "look" => looked(alloc, &mut disk)?,
+        "open" => opened(alloc, &mut disk, rest)?,
+        "adopt" => adopted(alloc, &mut disk, rest)?,
+        "keep" => kept(alloc, &mut disk, rest)?,
+        _ => called(alloc, &mut disk, verb, rest)?,
+    };
+    Ok((Run { disk, cell: None }, said))
+}
+
+// The short calls of a disk.
+fn called(alloc: Global, disk: &mut MemDisk, verb: &str, rest: &str) -> Result<String, Trouble> {
+    match verb {
+        "size" => counted(alloc, disk.size(small(rest)?).ok()),
+        "sync" => done(alloc, disk.sync().is_ok()),
+        "written" => counted(alloc, Some(disk.written())),
+        "starved" => counted(alloc, Some(disk.starved())),
+        "fail" => {
+            disk.fail_calls(numbers(alloc, rest)?);
+            done(alloc, true)
+        }
+        _ => Err(Trouble::NoCase),
+    }
+}
+
+// A number, or that the call failed.
+fn counted(alloc: Global, count: Option<u64>) -> Result<String, Trouble> {
+    match count {
+        Some(count) => Ok(format!(in alloc; "{count}")?),
+        None => text(alloc, "failed"),
+    }
+}
+
+fn done(alloc: Global, done: bool) -> Result<String, Trouble> {
+    text(alloc, if done { "ok" } else { "failed" })
+}
+
+// Why a call on the register did not end well.
+fn fault(alloc: Global, error: CellError) -> Result<String, Trouble> {
+    match error {
+        CellError::Device => text(alloc, "failed"),
+        CellError::Corrupt => text(alloc, "corrupt"),
+        CellError::OutOfMemory => Err(Trouble::OutOfMemory),
+    }
+}
+
+// `read:FILE:AT:ROOM`: the bytes that a read gives.
+fn read(alloc: Global, disk: &mut MemDisk, rest: &str) -> Result<String, Trouble> {
+    let (file, rest) = cut(rest, ':');
+    let (at, len) = cut(rest, ':');
+    let len = small(len)?;
+    let mut room = vec![in alloc; 0; len as usize]?;
+    match disk.read(small(file)?, number(at)?, &mut room) {
+        Ok(count) => bytes_text(alloc, &room[..count]),
+        Err(_) => text(alloc, "failed"),
+    }
+}
+
+// `write:FILE:AT:BYTES`.
+fn write(alloc: Global, disk: &mut MemDisk, rest: &str) -> Result<String, Trouble> {
+    let (file, rest) = cut(rest, ':');
+    let (at, bytes) = cut(rest, ':');
+    let bytes = bytes_of(alloc, bytes)?;
+    let written = disk.write_at(small(file)?, number(at)?, &bytes);
+    done(alloc, written.is_ok())
+}
+
+// `seal:FILE:GENERATION:BYTES`: the sealed text at the front of the file.
+fn seal_front(alloc: Global, disk: &mut MemDisk, rest: &str) -> Result<String, Trouble> {
+    let (file, rest) = cut(rest, ':');
+    let (generation, body) = cut(rest, ':');
+    let generation = number(generation)?;
+    let body = bytes_of(alloc, body)?;
+    if generation == 0 || body.len() > MAX_BODY {
+        return Err(Trouble::NoCase);
+    }
+    let sealed = seal(alloc, generation, &body)?;
+    let written = disk.write_at(small(file)?, 0, &sealed);
+    done(alloc, written.is_ok())
+}
+
+// `flip:FILE`: makes each of its first 256 bytes the complement, durably.
+fn flip(alloc: Global, disk: &mut MemDisk, rest: &str) -> Result<String, Trouble> {
+    let file = small(rest)?;
+    let mut room = [0; 256];
+    let count = disk.read(file, 0, &mut room)?;
+    let mut flipped = Vec::new(alloc);
+    for byte in &room[..count] {
+        flipped.push(!*byte)?;
+    }
+    disk.write_at(file, 0, &flipped)?;
+    disk.sync()?;
+    done(alloc, true)
+}
+
+// `spoil:FILE:AT:BYTES`: after a sync, damage by the first of the bytes.
+fn spoil(alloc: Global, disk: &mut MemDisk, rest: &str) -> Result<String, Trouble> {
+    let (file, rest) = cut(rest, ':');
+    let (at, bytes) = cut(rest, ':');
+    let file = small(file)?;
+    let at = number(at)?;
+    let bytes = bytes_of(alloc, bytes)?;
+    let byte = bytes.first().copied().unwrap_or(0);
+    disk.sync()?;
+    text(
+        alloc,
+        if disk.spoil(file, at, byte) {
+            "yes"
+        } else {
+            "no"
+        },
+    )
+}
+
+// `files`: the first twelve files that are not empty.
+fn files(alloc: Global, disk: &mut MemDisk) -> Result<String, Trouble> {
+    let mut said = String::new(alloc);
+    for file in 0..12 {
+        let mut room = [0; 256];
+        let count = disk.read(file, 0, &mut room)?;
+        if count > 0 {
+            let bytes = bytes_text(alloc, &room[..count])?;
+            write!(said, "{file}={bytes};")?;
+        }
+    }
+    Ok(said)
+}
+
+// `look`: the texts that copies hold.
+fn looked(alloc: Global, disk: &mut MemDisk) -> Result<String, Trouble> {
+    match look(alloc, disk, place()) {
+        Ok(seens) => seens_text(alloc, &seens),
+        Err(error) => fault(alloc, error),
+    }
+}
+
+fn seens_text(alloc: Global, seens: &[Seen]) -> Result<String, Trouble> {
+    let mut said = String::new(alloc);
+    for seen in seens {
+        let generation = seen.generation;
+        let bytes = bytes_text(alloc, seen.text.as_slice())?;
+        let copies = numbers_text(alloc, seen.copies.as_slice())?;
+        write!(said, "{generation}={bytes}@{copies};")?;
+    }
+    if said.is_empty() {
+        return text(alloc, "none");
+    }
+    Ok(said)
+}
+
+// `open:M`: the text that stands, and the copies that lacked it.
+fn opened(alloc: Global, disk: &mut MemDisk, rest: &str) -> Result<String, Trouble> {
+    let m = small(rest)?;
+    if m == 0 {
+        return Err(Trouble::NoCase);
+    }
+    match open_cell(alloc, disk, place(), m) {
+        Ok(opened) => {
+            let generation = opened.cell.generation();
+            let bytes = bytes_text(alloc, opened.text.as_slice())?;
+            let lacking = numbers_text(alloc, opened.lacking.as_slice())?;
+            Ok(format!(in alloc; "{generation}={bytes}~{lacking}")?)
+        }
+        Err(error) => fault(alloc, error),
+    }
+}
+
+// `adopt:GENERATION:BYTES`: brings every copy to this text.
+fn adopted(alloc: Global, disk: &mut MemDisk, rest: &str) -> Result<String, Trouble> {
+    let (generation, body) = cut(rest, ':');
+    let generation = number(generation)?;
+    let body = bytes_of(alloc, body)?;
+    if generation == 0 || body.len() > MAX_BODY {
+        return Err(Trouble::NoCase);
+    }
+    match adopt(alloc, disk, place(), generation, &body) {
+        Ok(_) => done(alloc, true),
+        Err(error) => fault(alloc, error),
+    }
+}
+
+// `keep:GENERATION:BYTES`: takes every other text away.
+fn kept(alloc: Global, disk: &mut MemDisk, rest: &str) -> Result<String, Trouble> {
+    let (generation, body) = cut(rest, ':');
+    let body = bytes_of(alloc, body)?;
+    match keep_only(alloc, disk, place(), number(generation)?, &body) {
+        Ok(()) => done(alloc, true),
+        Err(error) => fault(alloc, error),
+    }
+}

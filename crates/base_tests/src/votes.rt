@@ -1,0 +1,36 @@
+//! Votes among copies.
+
+use case_words::{Trouble, bytes_of, bytes_text, cut, small, text};
+use m_of_n::vote;
+use std::alloc::Global;
+
+/// `vote M BYTES ..`: the text on which M copies agree; `-` is a copy without one.
+pub fn voted(alloc: Global, words: &str) -> Result<String, Trouble> {
+    let (m, words) = cut(words, ' ');
+    let m = small(m)?;
+    if m == 0 {
+        return Err(Trouble::NoCase);
+    }
+    match vote(m, &copies(alloc, words)?) {
+        Some(text) => bytes_text(alloc, text),
+        None => text(alloc, "none"),
+    }
+}
+
+// The copies; none where there are no words.
+fn copies(alloc: Global, words: &str) -> Result<Vec<Option<Vec<u8>>>, Trouble> {
+    let mut copies = Vec::new(alloc);
+    if !words.is_empty() {
+        for word in words.split(' ') {
+            copies.push(copy(alloc, word)?)?;
+        }
+    }
+    Ok(copies)
+}
+
+fn copy(alloc: Global, word: &str) -> Result<Option<Vec<u8>>, Trouble> {
+    if word == "-" {
+        return Ok(None);
+    }
+    Ok(Some(bytes_of(alloc, word)?))
+}

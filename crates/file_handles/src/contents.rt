@@ -1,0 +1,92 @@
+//! A whole content at once, through a handle that is closed again.
+
+ghost use Rattle.std.specs.Prelude.{◌≡◌, ◌≢◌, IfErr, IfOk, OnErr, OnOk, Ok, Err};
+ghost use Rattle.per_base.specs.Maps.{element_at};
+ghost use Rattle.file_core.specs.Refusals.{IsRefusal, NeedsMemory};
+ghost use Rattle.file_handles.specs.Whole as whole;
+ghost use Rattle.file_handles.specs.Whole.{MayBeEmptied, bytes_at, cat, put, released};
+
+use crate::laws::whole_contents_are_given;
+use crate::table::FileTable;
+use bitflags::Flags;
+use per_base::{Name, OpenKind, OpenMode, PerError};
+
+impl FileTable {
+    /// The whole content of a file.
+    ///
+    /// Errors: those of an opening for reading with no flag; `OutOfMemory`.
+    pub fn whole_content(&mut self, name: &Name, now: u64) -> Result<Vec<u8>, PerError>
+        ensures ok { IfOk result (λ content. cat self.old.storage self.old.session name.now now ≡ Ok (content.items, self.new.session)) }
+        ensures refused { IfErr result (λ error. IsRefusal (cat self.old.storage self.old.session name.now now) error) }
+        ensures memory { IfErr result (λ error. error ≡ PerError.OutOfMemory → NeedsMemory (cat self.old.storage self.old.session name.now now)) }
+        ensures unchanged { OnErr result (self.new ≡ self.old) }
+        ensures storage { self.new.storage ≡ self.old.storage }
+        ensures moment { OnOk result (self.new.moment ≡ now) }
+    {
+        whole_contents_are_given();
+        if let Err(error) = self.can_open(name, OpenKind::Read, plain()) {
+            return Err(error);
+        }
+        let content = self.content_of(name)?;
+        let number = self.open_file(name, OpenKind::Read, plain(), now)?;
+        self.release(number);
+        Ok(content)
+    }
+
+    /// Makes these bytes the content of a file, which is made where it is missing. Whether it may be opened and whether they fit is
+    /// asked first, so that a refusal changes nothing.
+    ///
+    /// Errors: those of an opening for writing with the flag that truncates; those of `would_fit`; `OutOfMemory`, which leaves all as
+    /// it was or the file emptied.
+    pub fn replace(&mut self, name: &Name, bytes: &[u8], now: u64) -> Result<(), PerError>
+        ensures ok { OnOk result (put self.old.storage self.old.session name.now bytes.now now ≡ Ok self.new.session) }
+        ensures refused { IfErr result (λ error. IsRefusal (put self.old.storage self.old.session name.now bytes.now now) error) }
+        ensures memory { IfErr result (λ error. error ≡ PerError.OutOfMemory → NeedsMemory (put self.old.storage self.old.session name.now bytes.now now)) }
+        ensures unchanged { IfErr result (λ error. error ≢ PerError.OutOfMemory → self.new ≡ self.old) }
+        ensures emptied { IfErr result (λ error. error ≡ PerError.OutOfMemory → MayBeEmptied self.old.storage self.old.session name.now now self.new.session) }
+        ensures storage { self.new.storage ≡ self.old.storage }
+        ensures moment { OnOk result (self.new.moment ≡ now) }
+    {
+        whole_contents_are_given();
+        self.holds();
+        if let Err(error) = self.can_open(name, OpenKind::Write, OpenMode::TRUNCATE) {
+            return Err(error);
+        }
+        if let Err(error) = self.would_fit(name, bytes.len() as u64) {
+            return Err(error);
+        }
+        let number = self.open_file(name, OpenKind::Write, OpenMode::TRUNCATE, now)?;
+        let written = self.write(number, bytes);
+        self.release(number);
+        written
+    }
+
+    /// A copy of the bytes of a file that is there.
+    fn content_of(&self, name: &Name) -> Result<Vec<u8>, PerError>
+        ensures ok { IfOk result (λ content. content.items ≡ bytes_at (element_at self.now.session.files name.now)) }
+        ensures memory { IfErr result (λ error. error ≡ PerError.OutOfMemory) }
+    {
+        let copy = match self.files.get(name) {
+            Some(file) => Vec::from_slice(self.alloc, file.bytes()),
+            None => Ok(Vec::new(self.alloc)),
+        };
+        match copy {
+            Ok(copy) => Ok(copy),
+            Err(_) => Err(PerError::OutOfMemory),
+        }
+    }
+
+    /// Releases the handle of this number, where it is open; nothing else changes.
+    fn release(&mut self, number: u32)
+        ensures { self.new ≡ record self.old { session = released self.old.session number } }
+    {
+        let _handle = self.handles.remove(&number);
+    }
+}
+
+/// No flag.
+fn plain() -> OpenMode
+    ensures { result ≡ whole.plain }
+{
+    OpenMode::empty()
+}

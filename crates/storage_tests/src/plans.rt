@@ -1,0 +1,80 @@
+//! How a storage is kept.
+
+ghost use Rattle.std.specs.Prelude.{IfOk};
+ghost use Rattle.element_state.specs.Conditions.{IsShape};
+
+use case_words::{Trouble, cut, number, small};
+use disk_model::Place;
+use element_store::Shape;
+use per_base::{Name, Scope, StoreKind};
+use std::alloc::Global;
+
+/// How a storage is kept.
+#[derive(Clone, Copy)]
+pub struct Plan {
+    pub first: u32,
+    pub copies: u32,
+    pub m: u32,
+    pub scope: Scope,
+    pub kind: StoreKind,
+    pub allowed: u64,
+}
+
+/// `KIND:ALLOWED:M:COPIES:SCOPE`, and behind that the first file where it is not number 0.
+pub fn plan_of(word: &str) -> Result<Plan, Trouble> {
+    let (kind, rest) = cut(word, ':');
+    let (allowed, rest) = cut(rest, ':');
+    let (m, rest) = cut(rest, ':');
+    let (copies, rest) = cut(rest, ':');
+    let (scope, first) = cut(rest, ':');
+    let kind = match kind {
+        "keys" => StoreKind::Keys,
+        "files" => StoreKind::Files,
+        _ => return Err(Trouble::NoCase),
+    };
+    let scope = match scope {
+        "element" => Scope::Element,
+        "storage" => Scope::Storage,
+        _ => return Err(Trouble::NoCase),
+    };
+    let first = if first.is_empty() { 0 } else { small(first)? };
+    Ok(Plan {
+        first,
+        copies: small(copies)?,
+        m: small(m)?,
+        scope,
+        kind,
+        allowed: number(allowed)?,
+    })
+}
+
+impl Plan {
+    /// The storage `fav`, kept so.
+    pub fn shape(self, alloc: Global) -> Result<Shape, Trouble>
+        ensures { IfOk result IsShape }
+    {
+        if self.copies == 0
+            || self.copies > 8
+            || self.m == 0
+            || self.m > self.copies
+            || self.allowed > 4_194_304
+            || self.first > 4_294_967_200
+        {
+            return Err(Trouble::NoCase);
+        }
+        let Ok(name) = Name::new(alloc, "fav") else {
+            return Err(Trouble::OutOfMemory);
+        };
+        Ok(Shape {
+            name,
+            place: Place {
+                first: self.first,
+                copies: self.copies,
+            },
+            kind: self.kind,
+            m: self.m,
+            scope: self.scope,
+            allowed: self.allowed,
+        })
+    }
+}

@@ -1,0 +1,66 @@
+//! What an opening finds.
+
+ghost use Rattle.element_state.specs.Conditions.{IsShape};
+
+use crate::plans::Plan;
+use crate::views::{fault, store_text, view_text};
+use case_words::{Trouble, numbers_text, text};
+use disk_model::{MemDisk, Place};
+use element_store::{Shape, StoreError, open_store, salvage};
+use guarded_cell::{CellError, Seen, look};
+use std::alloc::Global;
+use std::fmt::Write;
+
+/// The storage that opens, and the format and the copies of its index; or `corrupt`, with the salvage.
+pub fn state(alloc: Global, plan: Plan, mut disk: MemDisk) -> Result<String, Trouble> {
+    let shape = plan.shape(alloc)?;
+    match open_store(alloc, &mut disk, shape.copy()?) {
+        Ok(opened) => {
+            let mut said = store_text(alloc, &opened.store)?;
+            put_texts(alloc, &mut said, &mut disk, shape.place)?;
+            Ok(said)
+        }
+        Err(StoreError::Corrupt) => corrupt(alloc, &mut disk, &shape),
+        Err(error) => fault(alloc, error),
+    }
+}
+
+// Adds the format of each text, and the copies that hold it.
+fn put_texts(
+    alloc: Global,
+    said: &mut String,
+    disk: &mut MemDisk,
+    place: Place,
+) -> Result<(), Trouble> {
+    match look(alloc, disk, place) {
+        Ok(seens) => {
+            for seen in seens.iter() {
+                put_text(alloc, said, seen)?;
+            }
+            Ok(())
+        }
+        Err(CellError::OutOfMemory) => Err(Trouble::OutOfMemory),
+        Err(_) => Err(Trouble::NoCase),
+    }
+}
+
+fn put_text(alloc: Global, said: &mut String, seen: &Seen) -> Result<(), Trouble> {
+    let format = seen.text.as_slice().first().copied().unwrap_or(0);
+    let copies = numbers_text(alloc, seen.copies.as_slice())?;
+    write!(said, " format {format} in {copies}")?;
+    Ok(())
+}
+
+// What is left of a corrupt storage.
+fn corrupt(alloc: Global, disk: &mut MemDisk, shape: &Shape) -> Result<String, Trouble>
+    requires { IsShape shape.now }
+{
+    match salvage(alloc, disk, shape) {
+        Ok(Some(view)) => {
+            let salvage = view_text(alloc, &view)?;
+            Ok(format!(in alloc; "corrupt {salvage}")?)
+        }
+        Ok(None) => text(alloc, "corrupt"),
+        Err(error) => fault(alloc, error),
+    }
+}

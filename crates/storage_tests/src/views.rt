@@ -1,0 +1,113 @@
+//! What storages show, as words.
+
+use case_words::{Trouble, bytes_text, numbers_text};
+use element_store::{Store, StoreError, View};
+use guarded_cell::Seen;
+use per_base::{Content, Entry, Report, ReportKind};
+use std::alloc::Global;
+use std::fmt::Write;
+
+/// The generation, the copies that lack the storage, and the elements.
+pub fn view_text(alloc: Global, view: &View) -> Result<String, Trouble> {
+    let generation = view.generation;
+    let mut said = format!(in alloc; "{generation}")?;
+    let lacking = view.lacking.as_slice();
+    if !lacking.is_empty() {
+        let lacking = numbers_text(alloc, lacking)?;
+        write!(said, "~{lacking}")?;
+    }
+    put_entries(alloc, &mut said, view.entries.as_slice())?;
+    Ok(said)
+}
+
+/// The generation of a storage in use, and its elements.
+pub fn store_text(alloc: Global, store: &Store) -> Result<String, Trouble> {
+    let generation = store.generation();
+    let mut said = format!(in alloc; "{generation}")?;
+    put_entries(alloc, &mut said, store.entries())?;
+    Ok(said)
+}
+
+fn put_entries(alloc: Global, said: &mut String, entries: &[Entry]) -> Result<(), Trouble> {
+    for entry in entries {
+        put_entry(alloc, said, entry)?;
+    }
+    Ok(())
+}
+
+// Adds an element: behind `=` its value, behind `!` its salvage where too few copies agree; then its length,
+// its last change, and the copies that lack it.
+fn put_entry(alloc: Global, said: &mut String, entry: &Entry) -> Result<(), Trouble> {
+    let name = entry.name.as_str();
+    let content = content_text(alloc, &entry.content)?;
+    let len = entry.len;
+    let changed = entry.changed;
+    write!(said, ";{name}{content}/{len}@{changed}")?;
+    let lacking = entry.lacking.as_slice();
+    if !lacking.is_empty() {
+        let lacking = numbers_text(alloc, lacking)?;
+        write!(said, "~{lacking}")?;
+    }
+    Ok(())
+}
+
+fn content_text(alloc: Global, content: &Content) -> Result<String, Trouble> {
+    let (sign, bytes) = match content {
+        Content::Good(bytes) => ("=", bytes),
+        Content::Bad(Some(bytes)) => ("!", bytes),
+        Content::Bad(None) => return Ok(String::from_str(alloc, "!")?),
+    };
+    let bytes = bytes_text(alloc, bytes.as_slice())?;
+    Ok(format!(in alloc; "{sign}{bytes}")?)
+}
+
+/// Adds the reports of an opening, each behind `|`: the kind, the element, and the copies.
+pub fn put_reports(alloc: Global, said: &mut String, reports: &[Report]) -> Result<(), Trouble> {
+    for report in reports {
+        let kind = kind_text(report.kind);
+        let element = match &report.element {
+            Some(name) => name.as_str(),
+            None => "-",
+        };
+        let copies = numbers_text(alloc, report.copies.as_slice())?;
+        write!(said, "|{kind}:{element}~{copies}")?;
+    }
+    Ok(())
+}
+
+fn kind_text(kind: ReportKind) -> &'static str {
+    match kind {
+        ReportKind::KvsRecovered => "kvs-recovered",
+        ReportKind::KvsFailed => "kvs-failed",
+        ReportKind::KeyRecovered => "key-recovered",
+        ReportKind::KeyFailed => "key-failed",
+        ReportKind::FilesRecovered => "files-recovered",
+        ReportKind::FilesFailed => "files-failed",
+        ReportKind::FileRecovered => "file-recovered",
+        ReportKind::FileFailed => "file-failed",
+    }
+}
+
+/// The texts that copies hold: the generation, the copies, and the bytes.
+pub fn seens_text(alloc: Global, seens: &[Seen]) -> Result<String, Trouble> {
+    let mut said = String::new(alloc);
+    for seen in seens {
+        let generation = seen.generation;
+        let copies = numbers_text(alloc, seen.copies.as_slice())?;
+        let bytes = bytes_text(alloc, seen.text.as_slice())?;
+        write!(said, "{generation}@{copies}={bytes};")?;
+    }
+    if said.is_empty() {
+        said.push_str("none")?;
+    }
+    Ok(said)
+}
+
+/// Why a call on a storage did not end well.
+pub fn fault(alloc: Global, error: StoreError) -> Result<String, Trouble> {
+    match error {
+        StoreError::Device => Ok(String::from_str(alloc, "failed")?),
+        StoreError::Corrupt => Ok(String::from_str(alloc, "corrupt")?),
+        StoreError::OutOfMemory => Err(Trouble::OutOfMemory),
+    }
+}

@@ -1,0 +1,46 @@
+//! Values: their texts and encodings both ways, which nodes are values, and Rust types as values. Each row of standard input is a
+//! case, and what comes of it is printed.
+//!
+//! | row | what is printed |
+//! |---|---|
+//! | `value TEXT` | the node, the encoding and the text of the value that the text spells |
+//! | `bytes HEX` | the same of the value that the bytes encode |
+//! | `type TEXT` | the type that the text spells, and its text |
+//! | `node WORD N` | whether the node is a value, or why not |
+//! | `parts TEXT` | what a value says of its type and its node |
+//! | `thing TYPE TEXT` | the type, the value and the returned things of a thing of a Rust type |
+//! | `long TEXT` | whether a thing that is a text is a value, or why not |
+//! | any other | the row itself |
+#![tactic(auto)]
+
+mod nodes;
+mod texts;
+mod things;
+
+use std::alloc::Global;
+use std::io::{BufRead, BufReader};
+use test_rows::RowError;
+
+fn main(rt: HostRuntime) -> anyhow::Result<()> {
+    let alloc = rt.alloc();
+    for row in BufReader::new(alloc, rt.reader())?.lines(alloc) {
+        let row = row?;
+        println!(rt; "{}", shown(alloc, row.as_str())?)?;
+    }
+    Ok(())
+}
+
+/// What comes of a row.
+fn shown(alloc: Global, row: &str) -> Result<String, RowError> {
+    let (word, rest) = row.split_once(' ').unwrap_or((row, ""));
+    match word {
+        "value" => texts::value(alloc, rest),
+        "bytes" => texts::bytes(alloc, rest),
+        "type" => texts::value_type(alloc, rest),
+        "node" => nodes::node(alloc, rest),
+        "parts" => nodes::parts(alloc, rest),
+        "thing" => things::thing(alloc, rest),
+        "long" => things::long(alloc, rest),
+        _ => Ok(String::from_str(alloc, row)?),
+    }
+}
