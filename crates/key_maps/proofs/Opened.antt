@@ -15,7 +15,8 @@ use Rattle.per_base.specs.Maps.{Map, size_of}
 use Rattle.per_base.specs.Names.{name_cmp}
 use Rattle.key_maps.specs.declared.extents.Extent.{Extent}
 use Rattle.key_maps.specs.Cells.{AreCells, AreMeasured, Cells, IsCell, Measures, opened, opened_cell, synced_map, visible_map, with_cell}
-use Rattle.key_maps.specs.KeyElements.{Encodes, HasLength, IsKey, IsKeyEntry, element_of, entry_names, is_encoding, judged, judged_content, judged_map}
+use Rattle.key_maps.specs.KeyElements.{Encodes, HasLength, IsKey, IsKeyEntry, element_of, entry_names, judged, judged_content, judged_map}
+use Rattle.value_code.specs.Reading.{is_encoding}
 use Rattle.key_maps.proofs.Ordered.{AllValues, insert_last, sorted_front}
 
 pub opened_synced : (entries : List Entry) → synced_map (opened entries) ≡ judged_map entries

@@ -1,5 +1,5 @@
 -- A key: an element without an info. What lies on the disk is judged: bytes that encode no value are unreadable, and no salvage.
-use Rattle.std.specs.Prelude.{◌≡◌, ℕ, ◌≤◌, List, length, map, Bool, true, false, cond, Option, None, Some, IsTrue, is_some}
+use Rattle.std.specs.Prelude.{◌≡◌, ℕ, ◌≤◌, List, length, map, Bool, true, false, cond, Option, None, Some, IsTrue}
 use Rattle.per_base.specs.declared.elements.Content.{Content}
 use Rattle.per_base.specs.declared.elements.Content.TheVariants.{Good, Bad}
 use Rattle.per_base.specs.declared.elements.Element.{Element}
@@ -9,10 +9,7 @@ use Rattle.value_model.specs.Encoding.{encoding}
 use Rattle.value_model.specs.Trees.{Tree}
 use Rattle.value_model.specs.Validity.{IsValue}
 use Rattle.value_code.specs.Reading.{decoded}
-
--- whether the bytes encode a value
-abbrev pub is_encoding : List ℕ → Bool
-is_encoding bytes = is_some (decoded bytes)
+pub use Rattle.value_code.specs.Reading.{is_encoding}
 
 -- the bytes and the value are of each other
 pub record IsStored (bytes : List ℕ) (value : Tree) : Type 0 where

@@ -1,8 +1,7 @@
 //! A value beside its encoding.
 
 ghost use Rattle.std.specs.Prelude.{◌≡◌, ◌≤◌, IfOk, IsTrue, None, OnOk, Some, length};
-ghost use Rattle.key_maps.specs.KeyElements.{is_encoding};
-ghost use Rattle.value_code.specs.Reading.{decoded};
+ghost use Rattle.value_code.specs.Reading.{decoded, is_encoding};
 ghost use Rattle.value_model.specs.Encoding.{encoding};
 ghost use Rattle.value_model.specs.Validity.{IsValue};
 

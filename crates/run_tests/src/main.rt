@@ -1,4 +1,6 @@
-//! The rows of the program's run and of its ends: each line of standard input is a case, and gets one line.
+//! The rows of whole runs and of the ends on a system: each line of standard input is a case, a word with what it is given, and gets one
+//! line. `folder made` and `folder missing` show a disk in a folder, and `streams TEXT` a reader and a writer. Each other word is a step on
+//! one disk in memory, which stays from line to line; `Runs::shown` lists them.
 #![tactic(auto)]
 
 mod ends;

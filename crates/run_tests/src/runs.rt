@@ -1,4 +1,4 @@
-//! Whole runs over streams and a disk in memory.
+//! Whole runs over streams and a disk in memory. A run shows its status and what it wrote, with `;` at the end of each line.
 
 use disk_model::{Disk, MemDisk};
 use per_base::{MemSink, MemSource};
