@@ -1,6 +1,5 @@
 -- What is installed is stored as a storage is read.
 use Rattle.std.proofs.Common.{◌≡◌, ◌+◌, ◌<◌, ◌≤◌, ℕ, zero, suc, Bool, true, false, List, length, get_or, take, arith, [], ◌∷◌, ◌++◌, map, Some, refl, sym, ap, subst, ◌∙◌}
-use Rattle.std.specs.Prelude.{find, cond}
 use Rattle.std.proofs.lemmas.List.{take_all}
 use Rattle.std.specs.List.{AllByRecursion, AllZip}
 use Rattle.std.specs.List.Sorted.{IsStrictlySortedBy}
@@ -11,15 +10,6 @@ use Rattle.per_base.specs.Names.{name_cmp}
 use Rattle.update_plan.specs.Limits.{AreContents, IsFresh}
 use Rattle.update_plan.specs.Plans.{AreStored, IsStored}
 use Rattle.update_tests.specs.Stores.{Stores}
-
--- what holds of all holds of the one that is found
-pub of_found : {A : Type 0} (P : A → Type 0) (p : A → Bool) (xs : List A) (x : A) → AllByRecursion P xs → find p xs ≡ Some x → P x
-of_found P p [] x all found = cc
-of_found P p (y ∷ ys) x all found =
-    elim (p y) as (λ b. cond b (Some y) (find p ys) ≡ Some x → P x) [
-      | true ↦ λ e. let same : y ≡ x = cc in subst P same all.0
-      | false ↦ λ e. of_found P p ys x all.1 e
-    ] found
 
 same_names : (made : List Fresh) (es : List Entry) → AllZip Stores made es → map (λ (e : Entry). e.name) es ≡ map (λ (x : Fresh). x.name) made
 same_names [] [] h = refl

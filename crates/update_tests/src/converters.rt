@@ -1,17 +1,64 @@
-//! The six converters of the program, u8 to u16 to u32 to u64 and i8 to i16 to i32 to i64, each of which keeps the number.
+//! The converters that rows name: the six of the program, and four others.
 
 ghost use Rattle.std.specs.Prelude.{◌≡◌, IfOk};
 ghost use Rattle.std.specs.Result.{ForOk};
-ghost use Rattle.value_model.specs.Kinds.{eight, four, signed_kind, two, unsigned_kind};
+ghost use Rattle.value_model.specs.Kinds.{bool_kind, eight, four, one, signed_kind, text_kind, two, unsigned_kind};
 ghost use Rattle.value_model.specs.Trees.{type_of};
 ghost use Rattle.value_model.specs.Views.{kind_of, tree_of};
 
 use migrate_fns::{Converter, Migration};
+use per_base::Name;
 use std::alloc::AllocError;
 use typed_value::{Node, Value, ValueType};
 
+// ---- those of the program, as functions of this crate: one of another crate cannot be boxed by its name
+
+pub(crate) fn u8_to_u16(value: &Value) -> Result<Value, AllocError>
+    requires { type_of value.now ≡ unsigned_kind one }
+    ensures { IfOk result (λ wider. type_of wider ≡ unsigned_kind two) }
+{
+    migrate_fns::u8_to_u16(value)
+}
+
+pub(crate) fn u16_to_u32(value: &Value) -> Result<Value, AllocError>
+    requires { type_of value.now ≡ unsigned_kind two }
+    ensures { IfOk result (λ wider. type_of wider ≡ unsigned_kind four) }
+{
+    migrate_fns::u16_to_u32(value)
+}
+
+pub(crate) fn u32_to_u64(value: &Value) -> Result<Value, AllocError>
+    requires { type_of value.now ≡ unsigned_kind four }
+    ensures { IfOk result (λ wider. type_of wider ≡ unsigned_kind eight) }
+{
+    migrate_fns::u32_to_u64(value)
+}
+
+pub(crate) fn i8_to_i16(value: &Value) -> Result<Value, AllocError>
+    requires { type_of value.now ≡ signed_kind one }
+    ensures { IfOk result (λ wider. type_of wider ≡ signed_kind two) }
+{
+    migrate_fns::i8_to_i16(value)
+}
+
+pub(crate) fn i16_to_i32(value: &Value) -> Result<Value, AllocError>
+    requires { type_of value.now ≡ signed_kind two }
+    ensures { IfOk result (λ wider. type_of wider ≡ signed_kind four) }
+{
+    migrate_fns::i16_to_i32(value)
+}
+
+pub(crate) fn i32_to_i64(value: &Value) -> Result<Value, AllocError>
+    requires { type_of value.now ≡ signed_kind four }
+    ensures { IfOk result (λ wider. type_of wider ≡ signed_kind eight) }
+{
+    migrate_fns::i32_to_i64(value)
+}
+
+// ---- others
+
 /// The value with this node.
-pub(crate) fn value_of(node: Node) -> Result<Value, AllocError>
+fn value_of(node: Node) -> Result<Value, AllocError>
     ensures { IfOk result (λ w. w ≡ tree_of node) }
 {
     match Value::new(node) {
@@ -20,63 +67,41 @@ pub(crate) fn value_of(node: Node) -> Result<Value, AllocError>
     }
 }
 
-pub(crate) fn u8_to_u16(value: &Value) -> Result<Value, AllocError>
-    ensures { IfOk result (λ w. type_of w ≡ unsigned_kind two) }
-{
-    match value.node() {
-        Node::U8(n) => value_of(Node::U16(*n as u16)),
-        _ => Err(AllocError),
-    }
-}
-
-pub(crate) fn u16_to_u32(value: &Value) -> Result<Value, AllocError>
-    ensures { IfOk result (λ w. type_of w ≡ unsigned_kind four) }
-{
-    match value.node() {
-        Node::U16(n) => value_of(Node::U32(*n as u32)),
-        _ => Err(AllocError),
-    }
-}
-
-pub(crate) fn u32_to_u64(value: &Value) -> Result<Value, AllocError>
+/// The number of a `u8`, as a `u64`.
+pub(crate) fn u8_to_u64(value: &Value) -> Result<Value, AllocError>
     ensures { IfOk result (λ w. type_of w ≡ unsigned_kind eight) }
 {
     match value.node() {
-        Node::U32(n) => value_of(Node::U64(*n as u64)),
+        Node::U8(n) => value_of(Node::U64(*n as u64)),
         _ => Err(AllocError),
     }
 }
 
-pub(crate) fn i8_to_i16(value: &Value) -> Result<Value, AllocError>
-    ensures { IfOk result (λ w. type_of w ≡ signed_kind two) }
+/// The number 1.
+pub(crate) fn u64_to_i8(_: &Value) -> Result<Value, AllocError>
+    ensures { IfOk result (λ w. type_of w ≡ signed_kind one) }
 {
-    match value.node() {
-        Node::I8(n) => value_of(Node::I16(*n as i16)),
-        _ => Err(AllocError),
-    }
+    value_of(Node::I8(1))
 }
 
-pub(crate) fn i16_to_i32(value: &Value) -> Result<Value, AllocError>
-    ensures { IfOk result (λ w. type_of w ≡ signed_kind four) }
+/// The truth.
+pub(crate) fn i64_to_bool(_: &Value) -> Result<Value, AllocError>
+    ensures { IfOk result (λ w. type_of w ≡ bool_kind) }
 {
-    match value.node() {
-        Node::I16(n) => value_of(Node::I32(*n as i32)),
-        _ => Err(AllocError),
-    }
+    value_of(Node::Bool(true))
 }
 
-pub(crate) fn i32_to_i64(value: &Value) -> Result<Value, AllocError>
-    ensures { IfOk result (λ w. type_of w ≡ signed_kind eight) }
+/// It never answers a value.
+pub(crate) fn bool_to_text(_: &Value) -> Result<Value, AllocError>
+    ensures { IfOk result (λ w. type_of w ≡ text_kind) }
 {
-    match value.node() {
-        Node::I32(n) => value_of(Node::I64(*n as i64)),
-        _ => Err(AllocError),
-    }
+    Err(AllocError)
 }
 
-/// Adds a converter for every element.
+/// Adds a converter.
 pub(crate) fn add(
     list: &mut Vec<Migration>,
+    element: Option<Name>,
     from: ValueType,
     to: ValueType,
     convert: Converter,
@@ -85,20 +110,6 @@ pub(crate) fn add(
     requires answers { (v : _) (r : _) → type_of v.now ≡ kind_of from → Converter.post convert v r
         → ForOk r (λ w. type_of w ≡ kind_of to) }
 {
-    list.push(Migration::new(None, from, to, convert))?;
+    list.push(Migration::new(element, from, to, convert))?;
     Ok(())
 }
-
-/// Adds the six to a list.
-macro_rules! add_six {
-    ($alloc:expr, $list:expr) => {
-        add(&mut $list, ValueType::U8, ValueType::U16, Box::new($alloc, u8_to_u16)?)?;
-        add(&mut $list, ValueType::U16, ValueType::U32, Box::new($alloc, u16_to_u32)?)?;
-        add(&mut $list, ValueType::U32, ValueType::U64, Box::new($alloc, u32_to_u64)?)?;
-        add(&mut $list, ValueType::I8, ValueType::I16, Box::new($alloc, i8_to_i16)?)?;
-        add(&mut $list, ValueType::I16, ValueType::I32, Box::new($alloc, i16_to_i32)?)?;
-        add(&mut $list, ValueType::I32, ValueType::I64, Box::new($alloc, i32_to_i64)?)?;
-    };
-}
-
-pub(crate) use add_six;

@@ -14,7 +14,7 @@ use deployment_model::{Deployment, StorageConfig};
 use manifest::read_manifest;
 use per_base::{Bytes, Cause, Content, Entry, Fresh, Name, Numbers, Sequence};
 use std::alloc::{AllocError, Global};
-use std::test::Fail;
+use test_rows::RowError;
 use update_plan::{Contents, StorageContents, Stored, initial_of};
 
 /// The moment of the installations.
@@ -37,14 +37,18 @@ pub(crate) struct Damage<'a> {
 }
 
 /// The deployment that a manifest says.
-pub(crate) fn deployment(alloc: Global, manifest: &str) -> Result<Deployment, Fail>
+pub(crate) fn deployment(alloc: Global, manifest: &str) -> Result<Deployment, RowError>
     ensures { IfOk result (λ d. IsDeployment (deployment_data d)) }
 {
-    Ok(read_manifest(alloc, manifest.as_bytes())?)
+    read_manifest(alloc, manifest.as_bytes()).map_err(|_| RowError::NotARow)
 }
 
 /// What is stored once the deployment is installed and this damage is done.
-pub(crate) fn installed(alloc: Global, old: &Deployment, damage: Damage) -> Result<Contents, Fail>
+pub(crate) fn installed(
+    alloc: Global,
+    old: &Deployment,
+    damage: Damage,
+) -> Result<Contents, RowError>
     requires { IsDeployment (deployment_data old.now) }
     ensures { IfOk result (AllByRecursion (IsOf (deployment_data old.now))) }
 {
@@ -56,22 +60,19 @@ pub(crate) fn installed(alloc: Global, old: &Deployment, damage: Damage) -> Resu
 }
 
 /// The storage of this name.
-pub(crate) fn storage_of<'a>(
-    deployment: &'a Deployment,
-    name: &Name,
-) -> Result<&'a StorageConfig, &'static str>
+fn storage_of<'a>(deployment: &'a Deployment, name: &Name) -> Result<&'a StorageConfig, RowError>
     requires { IsDeployment (deployment_data deployment.now) }
     ensures named { IfOk result (λ s. storage_named (deployment_data deployment.now) name.now ≡ Some (storage_data s.now)) }
     ensures keeps { IfOk result (λ s. IsStorage (storage_data s.now)) }
 {
     match deployment.storage(name) {
         Some(storage) => Ok(storage),
-        None => Err("no such storage"),
+        None => Err(RowError::NotARow),
     }
 }
 
 /// What is stored of the storage of this name.
-fn stored(alloc: Global, old: &Deployment, name: &Name, damage: Damage) -> Result<Stored, Fail>
+fn stored(alloc: Global, old: &Deployment, name: &Name, damage: Damage) -> Result<Stored, RowError>
     requires { IsDeployment (deployment_data old.now) }
     ensures { IfOk result (IsOf (deployment_data old.now)) }
 {

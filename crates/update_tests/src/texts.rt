@@ -3,7 +3,7 @@
 use deployment_model::Deployment;
 use per_base::{FileInfo, Fresh, Limit, PerError, Sequence, StoreKind, Unit};
 use std::alloc::{AllocError, Global};
-use std::test::Fail;
+use test_rows::RowError;
 use typed_value::{decode, print_value};
 use value_text::push_hex;
 
@@ -12,7 +12,7 @@ pub(crate) fn plan_text(
     alloc: Global,
     new: &Deployment,
     plans: &[Sequence<Fresh>],
-) -> Result<String, Fail> {
+) -> Result<String, RowError> {
     let mut text = String::new(alloc);
     for (storage, contents) in new.storages.as_slice().iter().zip(plans) {
         write!(text, "[{}", storage.name.as_str())?;
@@ -23,12 +23,12 @@ pub(crate) fn plan_text(
 }
 
 /// Each element behind a space: `name=value` of a key, `name=bytes` of a file.
-pub(crate) fn push_elements(
+fn push_elements(
     alloc: Global,
     text: &mut String,
     kind: StoreKind,
     contents: &[Fresh],
-) -> Result<(), Fail> {
+) -> Result<(), RowError> {
     for fresh in contents {
         write!(text, " {}=", fresh.name.as_str())?;
         match kind {
@@ -40,8 +40,8 @@ pub(crate) fn push_elements(
     Ok(())
 }
 
-fn push_value(alloc: Global, text: &mut String, bytes: &[u8]) -> Result<(), Fail> {
-    let value = decode(alloc, bytes)?;
+fn push_value(alloc: Global, text: &mut String, bytes: &[u8]) -> Result<(), RowError> {
+    let value = decode(alloc, bytes).map_err(|_| RowError::NotARow)?;
     text.push_str(print_value(alloc, &value)?.as_str())?;
     Ok(())
 }
@@ -60,7 +60,7 @@ fn push_info(text: &mut String, info: Option<FileInfo>) -> Result<(), AllocError
 }
 
 /// A refusal, by its cause and what it carries.
-pub(crate) fn refusal_text(alloc: Global, error: &PerError) -> Result<String, Fail> {
+pub(crate) fn refusal_text(alloc: Global, error: &PerError) -> Result<String, RowError> {
     Ok(match error {
         PerError::IntegrityCorrupted {
             unit: Unit::Whole(storage),
