@@ -1,21 +1,24 @@
 -- What is read of a content.
-use Rattle.std.proofs.Common.{◌≡◌, ℕ, List, Bool, true, false, cond, not, refl}
-use Rattle.std.specs.Prelude.{Some, None, Result, Ok, Err}
+use Rattle.std.proofs.Common.{◌≡◌, ◌<◌, ◌&&◌, ◌∙◌, ℕ, List, length, Bool, true, false, cond, not, refl, sym, subst, arith}
+use Rattle.std.specs.Prelude.{Some, None, Result, Ok, Err, nat_le}
+use Rattle.std.proofs.lemmas.Bool.Decides.{nat_tests}
 use Rattle.per_base.specs.declared.elements.Content.{Content}
 use Rattle.per_base.specs.declared.elements.Content.TheVariants.{Good, Bad}
 use Rattle.per_base.specs.declared.elements.Element.{Element}
 use Rattle.per_base.specs.declared.errors.PerError.{PerError}
 use Rattle.per_base.specs.declared.errors.PerError.TheVariants.{IntegrityCorrupted}
 use Rattle.per_base.specs.declared.errors.Unit.TheVariants.{Part}
-use Rattle.per_base.specs.Maps.{Map, element_at}
+use Rattle.per_base.specs.Maps.{Map, element_at, has, with_element}
 use Rattle.value_model.specs.Kinds.{Kind}
 use Rattle.value_model.specs.Trees.{Tree, type_of}
 use Rattle.value_code.specs.Reading.{decoded}
 use Rattle.value_text.specs.Limits.{same_kind}
 use Rattle.deployment_model.specs.Data.{StorageData}
+use Rattle.deployment_model.specs.Lookups.{initial_of}
+use Rattle.key_maps.specs.KeyElements.{key_of}
 use Rattle.key_maps.specs.Shown.{stored_in}
-use Rattle.kvs_core.specs.Calls.{get_any, get_as, mismatch, read, stored_kind, unless_differ, unless_typed, with_place}
-use Rattle.kvs_core.specs.Refusals.{NeedsMemory}
+use Rattle.kvs_core.specs.Calls.{as_kind, get_any, get_as, mismatch, placed, read, stored_kind, takes_any, takes_initial, unless_differ, unless_refused, unless_typed, with_place, with_room}
+use Rattle.kvs_core.specs.Refusals.{IsTextRefusal, NeedsMemory}
 
 pub read_stored : (c : StorageData) (name : List ℕ) (content : Content) (bytes : List ℕ) (value : Tree) → Some bytes ≡ stored_in content → decoded bytes ≡ Some value → read c name content ≡ Ok value
 read_stored c name (Good there) bytes value is reads = let same : there ≡ bytes = cc in rw (same, reads) refl
@@ -49,6 +52,39 @@ needs_value c m name asked value is = rw is (needs_same (type_of value) asked va
 pub needs_kind : (content : Content) (bytes : List ℕ) (value : Tree) (asked : Kind) (m : Map) → Some bytes ≡ stored_in content → decoded bytes ≡ Some value → NeedsMemory (unless_typed (stored_kind content) asked (Ok m))
 needs_kind content bytes value asked m is reads = rw (kind_stored content bytes value is reads) (needs_same (type_of value) asked m)
 
+-- what is refused whatever its type stays refused
+pub text_kept : (asked : Kind) (due : Result Tree PerError) → IsTextRefusal due → IsTextRefusal (as_kind asked due)
+text_kept asked (Ok value) is = absurd is
+text_kept asked (Err error) is = is
+
+pub text_needs : (asked : Kind) (due : Result Tree PerError) → IsTextRefusal due → NeedsMemory (as_kind asked due)
+text_needs asked (Ok value) is = absurd is
+text_needs asked (Err error) is = is
+
 -- a name that is there has a place
 pub there : (m : Map) (name : List ℕ) (key : Element) → element_at m name ≡ Some key → with_place m name (Ok m) ≡ Ok m
 there m name key is = rw is refl
+
+-- ---- a place for a name
+
+pub few_without : (m : Map) (name : List ℕ) (full : Bool) → full ≡ (not (has m name) && nat_le 1024 (length m)) → full ≡ false → element_at m name ≡ None → length m < 1024
+few_without m name full is empty none =
+    let here : (not (has m name) && nat_le 1024 (length m)) ≡ false = sym is ∙ empty in
+    let less : nat_le 1024 (length m) ≡ false = rw none at here in
+    grind (arith, nat_tests, less)
+
+pub has_place : (m : Map) (name : List ℕ) (full : Bool) → full ≡ (not (has m name) && nat_le 1024 (length m)) → full ≡ false → with_place m name (Ok m) ≡ Ok m
+has_place m name full is empty = let here : (not (has m name) && nat_le 1024 (length m)) ≡ false = sym is ∙ empty in rw here refl
+
+pub placed_there : (c : StorageData) (m : Map) (name bytes stored : List ℕ) (full : Bool) → full ≡ (not (has m name) && nat_le 1024 (length m)) → full ≡ false → stored ≡ bytes
+    → placed c m name bytes ≡ with_room c (with_element m name (key_of stored))
+placed_there c m name bytes stored full is empty same =
+    let here : (not (has m name) && nat_le 1024 (length m)) ≡ false = sym is ∙ empty in
+    rw (← same, here) refl
+
+pub takes_place : (c : StorageData) (m : Map) (name : List ℕ) (asked : Kind) → ((rest : Result Map PerError) → unless_refused c m name asked rest ≡ rest)
+    → with_place m name (Ok m) ≡ Ok m → NeedsMemory (takes_any c m name asked)
+takes_place c m name asked passes place = subst (λ (due : Result Map PerError). NeedsMemory due) (sym (passes (with_place m name (Ok m)) ∙ place)) tt
+
+pub takes_there : (c : StorageData) (m : Map) (name bytes : List ℕ) → c.read_only ≡ false → initial_of c name ≡ Some bytes → with_place m name (Ok m) ≡ Ok m → NeedsMemory (takes_initial c m name)
+takes_there c m name bytes writes is place = rw (writes, is, place) tt

@@ -67,6 +67,7 @@ impl KeySession {
     ///
     /// Errors: those of `get_any`; `DataTypeMismatch` with the stored and the asked type where they differ; `OutOfMemory`, and this
     /// only in the place of a refusal that carries names or texts.
+    #[tactic(auto, using(crate::proofs::Contents::text_kept))]
     pub fn get_as(&self, name: &Name, asked: &ValueType) -> Result<&Value, PerError>
         requires { IsTrue (kind_fits (kind_of asked.now)) }
         ensures ok { IfOk result (λ value. calls.get_as self.now.config self.now.visible name.now (kind_of asked.now) ≡ Ok value.now) }
@@ -84,7 +85,7 @@ impl KeySession {
     /// The thing of a Rust type that a key's value is.
     ///
     /// Errors: those of `get_any`; `DataTypeMismatch` with the stored and the asked type where they differ; `OutOfMemory`.
-    #[tactic(auto, using(crate::proofs::Contents::needs_value))]
+    #[tactic(auto, using(crate::proofs::Contents::needs_value, crate::proofs::Contents::text_needs))]
     pub fn get_value<T: PerValue>(&self, name: &Name) -> Result<T, PerError>
         ensures ok { IfOk result (λ thing. calls.get_as self.now.config self.now.visible name.now T.kind ≡ Ok (T.tree thing)) }
         ensures refused { IfErr result (λ error. IsRefusal (calls.get_as self.now.config self.now.visible name.now T.kind) error) }

@@ -68,6 +68,7 @@ impl KeySession {
     ///
     /// Errors: `IllegalWriteAccess` where the storage is read-only; `InitValueNotAvailable` where there is no initial value;
     /// `LimitReached` with `Elements`; `OutOfStorageSpace`; `OutOfMemory`.
+    #[tactic(auto, using(crate::proofs::Contents::few_without, crate::proofs::Contents::has_place, crate::proofs::Contents::placed_there, crate::proofs::Contents::takes_there))]
     pub fn reset_key(&mut self, name: &Name) -> Result<(), PerError>
         ensures ok { OnOk result (calls.reset_key self.old.config self.old.visible name.now ≡ Ok self.new.visible) }
         ensures refused { IfErr result (λ error. IsRefusal (calls.reset_key self.old.config self.old.visible name.now) error) }

@@ -22,6 +22,7 @@ impl KeySession {
     /// configured one, or for a key that is not configured from that of its visible readable value; `LimitReached` with `Elements`
     /// where the name is not visible and 1,024 are; `OutOfStorageSpace` where the visible size would exceed the maximum, with both
     /// numbers; `OutOfMemory`.
+    #[tactic(auto, using(crate::proofs::Contents::takes_place))]
     pub fn set_any(&mut self, name: &Name, value: Value) -> Result<(), PerError>
         ensures ok { OnOk result (calls.set_any self.old.config self.old.visible name.now value ≡ Ok self.new.visible) }
         ensures refused { IfErr result (λ error. IsRefusal (calls.set_any self.old.config self.old.visible name.now value) error) }
@@ -93,6 +94,7 @@ impl KeySession {
     }
 
     /// Puts a value under a name, where there is a place and room for it.
+    #[tactic(auto, using(crate::proofs::Contents::few_without, crate::proofs::Contents::has_place, crate::proofs::Contents::placed_there))]
     fn write(&mut self, name: &Name, value: Value) -> Result<(), PerError>
         ensures ok { OnOk result (calls.placed self.old.config self.old.visible name.now (encoding value) ≡ Ok self.new.visible) }
         ensures refused { IfErr result (λ error. IsRefusal (calls.placed self.old.config self.old.visible name.now (encoding value)) error) }
