@@ -1,7 +1,5 @@
 //! Answers as texts, and what ends a case before its time.
 
-ghost use Rattle.std.specs.Prelude.{◌≡◌, ◌∷◌, [], IfOk};
-
 use element_state::StoreError;
 use per_base::{FileInfo, Name, PerError, Report, Unit};
 use std::alloc::{AllocError, Global};
@@ -40,13 +38,6 @@ impl From<StoreError> for CaseError {
     fn from(_: StoreError) -> CaseError {
         CaseError::Case("a call of the storage failed")
     }
-}
-
-/// A list of one.
-pub(crate) fn only<T: Drop>(alloc: Global, item: T) -> Result<Vec<T>, AllocError>
-    ensures { IfOk result (λ list. list.items ≡ item ∷ []) }
-{
-    Ok(vec![in alloc; item]?)
 }
 
 pub(crate) fn said(alloc: Global, text: &str) -> Result<String, CaseError> {

@@ -29,7 +29,8 @@ pub(crate) fn called(
     match call {
         "total" => number(alloc, Ok(files.current_size())),
         "names" => names(alloc, files.all_file_names()),
-        _ => many(alloc, files, now, count(word)),
+        "many" => many(alloc, files, now, count(word)),
+        _ => Err(CaseError::Case("no such call")),
     }
 }
 
@@ -50,25 +51,72 @@ fn by_name(
     ensures { OnOk result (files.new.store ≡ files.old.store) }
 {
     match call {
-        "open-read" => numbered(alloc, files.open_read_only(name, mode_of(word), now)),
-        "open-write" => numbered(alloc, files.open_write_only(name, mode_of(word), now)),
-        "open-both" => numbered(alloc, files.open_read_write(name, mode_of(word), now)),
+        "scope-read" => done(alloc, read_in_scope(files, name, now)),
+        "scope-write" => done(alloc, write_in_scope(files, name, now)),
+        "readers" => readers(alloc, files, name, now, count(word)),
+        "fill" => {
+            let bytes = sevens(alloc, count(word))?;
+            done(alloc, fill(files, name, now, &bytes))
+        }
+        _ => changed(alloc, files, now, call, name, word),
+    }
+}
+
+/// Deletes the file or makes it anew, or else opens it or asks of it.
+fn changed(
+    alloc: Global,
+    files: &mut Files,
+    now: u64,
+    call: &str,
+    name: &Name,
+    word: &str,
+) -> Result<String, CaseError>
+    ensures { OnOk result (files.new.store ≡ files.old.store) }
+{
+    match call {
+        "delete" => done(alloc, files.delete_file(name)),
+        "recover" => done(alloc, files.recover_file(name, now)),
+        "reset" => done(alloc, files.reset_file(name, now)),
+        _ => opened(alloc, files, now, call, name, word),
+    }
+}
+
+/// Opens the file, or else asks of it.
+fn opened(
+    alloc: Global,
+    files: &mut Files,
+    now: u64,
+    call: &str,
+    name: &Name,
+    word: &str,
+) -> Result<String, CaseError>
+    ensures { OnOk result (files.new.store ≡ files.old.store) }
+{
+    let mode = mode_of(word);
+    match call {
+        "open-read" => numbered(alloc, files.open_read_only(name, mode, now)),
+        "open-write" => numbered(alloc, files.open_write_only(name, mode, now)),
+        "open-both" => numbered(alloc, files.open_read_write(name, mode, now)),
+        _ => asked(alloc, files, call, name, word),
+    }
+}
+
+/// What a call tells of the file, and changes nothing.
+fn asked(
+    alloc: Global,
+    files: &Files,
+    call: &str,
+    name: &Name,
+    word: &str,
+) -> Result<String, CaseError> {
+    match call {
         "can-read" => done(alloc, files.can_open(name, OpenKind::Read, mode_of(word))),
         "can-write" => done(alloc, files.can_open(name, OpenKind::Write, mode_of(word))),
         "fits" => done(alloc, files.would_fit(name, count(word))),
         "exists" => flag(alloc, Ok(files.file_exists(name))),
         "size" => number(alloc, files.current_file_size(name)),
         "info" => info(alloc, files.file_info(name)),
-        "delete" => done(alloc, files.delete_file(name)),
-        "recover" => done(alloc, files.recover_file(name, now)),
-        "reset" => done(alloc, files.reset_file(name, now)),
-        "scope-read" => done(alloc, read_in_scope(files, name, now)),
-        "scope-write" => done(alloc, write_in_scope(files, name, now)),
-        "readers" => readers(alloc, files, name, now, count(word)),
-        _ => {
-            let bytes = sevens(alloc, count(word))?;
-            done(alloc, fill(files, name, now, &bytes))
-        }
+        _ => Err(CaseError::Case("no such call by name")),
     }
 }
 
@@ -171,21 +219,44 @@ fn by_handle(
 {
     match call {
         "close" => done(alloc, files.close(handle)),
-        "peek" => single(alloc, files.peek_byte(handle)),
+        "cut" => done(alloc, files.set_size(handle, count(word))),
+        "write" => write(alloc, files, handle, word),
+        "seek" => done(alloc, files.set_position(handle, count(word))),
+        "from-end" => {
+            let moved = files.move_position(handle, Origin::End, backwards(word));
+            number(alloc, moved)
+        }
+        _ => taken(alloc, files, call, handle, word),
+    }
+}
+
+/// Reads on from the position, or else asks of the handle.
+fn taken(
+    alloc: Global,
+    files: &mut Files,
+    call: &str,
+    handle: u32,
+    word: &str,
+) -> Result<String, CaseError>
+    ensures { OnOk result (files.new.store ≡ files.old.store) }
+{
+    match call {
         "byte" => single(alloc, files.get_byte(handle)),
         "read" => bytes(alloc, files.read(handle, count(word))),
         "all" => bytes(alloc, files.read_all(handle)),
         "line" => bytes(alloc, files.read_line(handle, b'\n')),
+        _ => told(alloc, files, call, handle),
+    }
+}
+
+/// What a call tells of the handle, and changes nothing.
+fn told(alloc: Global, files: &Files, call: &str, handle: u32) -> Result<String, CaseError> {
+    match call {
+        "peek" => single(alloc, files.peek_byte(handle)),
         "eof" => flag(alloc, files.is_eof(handle)),
         "size" => number(alloc, files.size(handle)),
         "position" => number(alloc, files.position(handle)),
-        "seek" => done(alloc, files.set_position(handle, count(word))),
-        "from-end" => number(
-            alloc,
-            files.move_position(handle, Origin::End, backwards(word)),
-        ),
-        "cut" => done(alloc, files.set_size(handle, count(word))),
-        _ => write(alloc, files, handle, word),
+        _ => Err(CaseError::Case("no such call by handle")),
     }
 }
 

@@ -1,6 +1,6 @@
 //! A storage of files on a disk in memory, through openings, calls, syncs, damage and stops.
 
-ghost use Rattle.std.specs.Prelude.{◌≡◌, IfOk, IsTrue, OnOk, true};
+ghost use Rattle.std.specs.Prelude.{◌≡◌, ◌∷◌, [], IfOk, IsTrue, OnOk, true};
 ghost use Rattle.disk_model.specs.Memory.{mem_medium};
 ghost use Rattle.element_state.specs.Conditions.{AreContents, IsFresh, IsShape};
 ghost use Rattle.element_store.specs.Rebuilds.{HasNext};
@@ -8,7 +8,7 @@ ghost use Rattle.element_store.specs.Stores.{IsUsed};
 ghost use Rattle.element_state.specs.States.{salvage_of, store_at};
 ghost use Rattle.file_tests.specs.Stages.{IsInUse};
 
-use crate::answers::{CaseError, only, push_answer, refused, reported, said};
+use crate::answers::{CaseError, push_answer, refused, reported, said};
 use crate::calls::{called, count, sevens};
 use crate::configs::{Plan, cal, initial, parted, shape_by, shape_of};
 use crate::images;
@@ -17,7 +17,7 @@ use element_state::{Shape, StoreError};
 use element_store::{create, rebuild, salvage};
 use file_storage::{Closed, Files, FilesOutcome, OpenedFiles, open_files};
 use per_base::{Bytes, Cause, Content, Entry, FileInfo, Fresh, Name, StoreKind};
-use std::alloc::Global;
+use std::alloc::{AllocError, Global};
 use value_text::parse_hex;
 
 /// What a storage shows: its calls, each beside its answer.
@@ -141,6 +141,13 @@ fn is_file(kind: StoreKind, fresh: &Fresh) -> bool
     }
 }
 
+/// A list of one.
+fn only(alloc: Global, fresh: Fresh) -> Result<Vec<Fresh>, AllocError>
+    ensures { IfOk result (λ list. list.items ≡ fresh ∷ []) }
+{
+    Ok(vec![in alloc; fresh]?)
+}
+
 /// The file alone, where the storage takes it.
 fn alone(alloc: Global, shape: &Shape, fresh: Fresh) -> Result<Vec<Fresh>, CaseError>
     ensures { IfOk result (λ contents. AreContents shape.now contents.items) }
@@ -236,29 +243,52 @@ fn open(alloc: Global, run: Run, call: &str) -> Result<Step, CaseError>
     ensures { IfOk result (λ step. IsInUse step.stage) }
 {
     let (word, rest) = parted(call, "=");
-    match word {
-        "stop" => return then(alloc, Stage::Closed(run.disk.crash(false)?), "ok"),
-        "close-storage" => return closing(alloc, run),
-        _ => {}
-    }
     if let Some(("sync", handle)) = word.split_once('#') {
         return synced(alloc, run, handle.parse::<u32>().unwrap_or(0));
     }
+    match word {
+        "stop" => then(alloc, Stage::Closed(run.disk.crash(false)?), "ok"),
+        "close-storage" => closing(alloc, run),
+        "now" => moved(alloc, run, count(rest)),
+        "spent" => {
+            let answer = format!(in alloc; "{}", run.spent <= count(rest))?;
+            then(alloc, Stage::Open(run), answer.as_str())
+        }
+        _ => touched(alloc, run, call),
+    }
+}
+
+fn moved(alloc: Global, run: Run, now: u64) -> Result<Step, CaseError>
+    requires { IsUsed true (mem_medium run.disk).image run.files.store }
+    ensures { IfOk result (λ step. IsInUse step.stage) }
+{
     let Run {
         disk,
         mut files,
-        mut now,
+        spent,
+        ..
+    } = run;
+    files.set_now(now);
+    let run = Run {
+        disk,
+        files,
+        now,
+        spent,
+    };
+    then(alloc, Stage::Open(run), "ok")
+}
+
+fn touched(alloc: Global, run: Run, call: &str) -> Result<Step, CaseError>
+    requires { IsUsed true (mem_medium run.disk).image run.files.store }
+    ensures { IfOk result (λ step. IsInUse step.stage) }
+{
+    let Run {
+        disk,
+        mut files,
+        now,
         spent,
     } = run;
-    let answer = match word {
-        "now" => {
-            now = count(rest);
-            files.set_now(now);
-            said(alloc, "ok")?
-        }
-        "spent" => format!(in alloc; "{}", spent <= count(rest))?,
-        _ => called(alloc, &mut files, now, call)?,
-    };
+    let answer = called(alloc, &mut files, now, call)?;
     let run = Run {
         disk,
         files,
