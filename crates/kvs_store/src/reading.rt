@@ -1,16 +1,18 @@
 //! Reading keys.
 
-ghost use Rattle.std.specs.Prelude.{◌≡◌, IfErr, IfOk};
+ghost use Rattle.std.specs.Prelude.{◌≡◌, IfErr, IfOk, IsTrue};
 ghost use Rattle.per_base.specs.Maps.{has, names_of, size_of};
+ghost use Rattle.value_model.specs.Kinds.{kind_fits};
 ghost use Rattle.value_model.specs.Validity.{IsValue};
+ghost use Rattle.value_model.specs.Views.{kind_of};
 ghost use Rattle.kvs_core.specs.Calls as calls;
-ghost use Rattle.kvs_core.specs.Refusals.{IsRefusal};
+ghost use Rattle.kvs_core.specs.Refusals.{IsRefusal, IsTextRefusal, NeedsMemory};
 ghost use Rattle.kvs_store.specs.Storages.{session_of};
 
 use crate::storages::Kvs;
 use per_base::{Name, PerError};
 use per_value::PerValue;
-use value_model::Value;
+use value_model::{Value, ValueType};
 
 impl Kvs {
     /// Whether this name is visible, readable or not. Takes no memory.
@@ -50,8 +52,30 @@ impl Kvs {
         ensures valid { IfOk result (λ value. IsValue value.now) }
         ensures refused { IfErr result (λ error.
             IsRefusal (calls.get_any (session_of self.now).config (session_of self.now).visible name.now) error) }
+        // A value takes no memory, nor does that there is none.
+        ensures memory { IfErr result (λ error. error ≡ PerError.OutOfMemory
+            → IsTextRefusal (calls.get_any (session_of self.now).config (session_of self.now).visible name.now)) }
     {
         self.session.get_any(name)
+    }
+
+    /// The value of a key, asked for by its type.
+    ///
+    /// # Errors
+    ///
+    /// Those of `get_any`; `DataTypeMismatch` with the stored and the asked type where they differ; `OutOfMemory`, and this only in
+    /// the place of a refusal that carries names or texts.
+    pub fn get_as(&self, name: &Name, asked: &ValueType) -> Result<&Value, PerError>
+        requires { IsTrue (kind_fits (kind_of asked.now)) }
+        ensures ok { IfOk result (λ value.
+            calls.get_as (session_of self.now).config (session_of self.now).visible name.now (kind_of asked.now) ≡ Ok value.now) }
+        ensures valid { IfOk result (λ value. IsValue value.now) }
+        ensures refused { IfErr result (λ error.
+            IsRefusal (calls.get_as (session_of self.now).config (session_of self.now).visible name.now (kind_of asked.now)) error) }
+        ensures memory { IfErr result (λ error. error ≡ PerError.OutOfMemory
+            → IsTextRefusal (calls.get_as (session_of self.now).config (session_of self.now).visible name.now (kind_of asked.now))) }
+    {
+        self.session.get_as(name, asked)
     }
 
     /// The thing of a Rust type that a key's value is.
@@ -64,6 +88,8 @@ impl Kvs {
             calls.get_as (session_of self.now).config (session_of self.now).visible name.now T.kind ≡ Ok (T.tree thing)) }
         ensures refused { IfErr result (λ error.
             IsRefusal (calls.get_as (session_of self.now).config (session_of self.now).visible name.now T.kind) error) }
+        ensures memory { IfErr result (λ error. error ≡ PerError.OutOfMemory
+            → NeedsMemory (calls.get_as (session_of self.now).config (session_of self.now).visible name.now T.kind)) }
     {
         self.session.get_value(name)
     }

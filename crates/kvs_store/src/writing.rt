@@ -1,8 +1,12 @@
 //! Writing, removing and restoring keys: what the calls see changes, and nothing on the disk.
 
-ghost use Rattle.std.specs.Prelude.{◌≡◌, IfErr, OnErr, OnOk};
+ghost use Rattle.std.specs.Prelude.{◌≡◌, false, IfErr, IsTrue, OnErr, OnOk, Some};
+ghost use Rattle.per_base.specs.declared.elements.Element.{Element};
+ghost use Rattle.per_base.specs.Maps.{element_at, has};
+ghost use Rattle.value_model.specs.Trees.{type_of};
+ghost use Rattle.deployment_model.specs.Lookups.{initial_of};
 ghost use Rattle.kvs_core.specs.Calls as calls;
-ghost use Rattle.kvs_core.specs.Refusals.{IsRefusal};
+ghost use Rattle.kvs_core.specs.Refusals.{IsRefusal, NeedsMemory};
 ghost use Rattle.kvs_store.specs.Storages.{StaysInUse, session_of, showing};
 
 use crate::storages::Kvs;
@@ -22,6 +26,9 @@ impl Kvs {
         ensures ok { OnOk result (calls.set_any (session_of self.old).config (session_of self.old).visible name.now value ≡ Ok (session_of self.new).visible) }
         ensures refused { IfErr result (λ error.
             IsRefusal (calls.set_any (session_of self.old).config (session_of self.old).visible name.now value) error) }
+        // Want of memory stands for want of room alone.
+        ensures memory { IfErr result (λ error. error ≡ PerError.OutOfMemory
+            → NeedsMemory (calls.takes_any (session_of self.old).config (session_of self.old).visible name.now (type_of value))) }
         ensures beside { self.new ≡ showing self.old (session_of self.new).visible }
         ensures unchanged { OnErr result (self.new ≡ self.old) }
         ensures in_use { StaysInUse self.old self.new }
@@ -85,6 +92,11 @@ impl Kvs {
         ensures ok { OnOk result (calls.recover_key (session_of self.old).config (session_of self.old).visible name.now ≡ Ok (session_of self.new).visible) }
         ensures refused { IfErr result (λ error.
             IsRefusal (calls.recover_key (session_of self.old).config (session_of self.old).visible name.now) error) }
+        // Want of memory comes only where a salvage or an initial value is taken, and stands for want of room alone.
+        ensures memory { IfErr result (λ error. error ≡ PerError.OutOfMemory
+            → ((session_of self.old).config.read_only ≡ false) × IsTrue (has (session_of self.old).visible name.now)) }
+        ensures copies { IfErr result (λ error. error ≡ PerError.OutOfMemory → (key : Element) → element_at (session_of self.old).visible name.now ≡ Some key
+            → calls.TakesCopy (initial_of (session_of self.old).config name.now) key.content) }
         ensures beside { self.new ≡ showing self.old (session_of self.new).visible }
         ensures unchanged { OnErr result (self.new ≡ self.old) }
         ensures in_use { StaysInUse self.old self.new }
@@ -102,6 +114,9 @@ impl Kvs {
         ensures ok { OnOk result (calls.reset_key (session_of self.old).config (session_of self.old).visible name.now ≡ Ok (session_of self.new).visible) }
         ensures refused { IfErr result (λ error.
             IsRefusal (calls.reset_key (session_of self.old).config (session_of self.old).visible name.now) error) }
+        // Want of memory stands for want of room alone.
+        ensures memory { IfErr result (λ error. error ≡ PerError.OutOfMemory
+            → NeedsMemory (calls.takes_initial (session_of self.old).config (session_of self.old).visible name.now)) }
         ensures beside { self.new ≡ showing self.old (session_of self.new).visible }
         ensures unchanged { OnErr result (self.new ≡ self.old) }
         ensures in_use { StaysInUse self.old self.new }

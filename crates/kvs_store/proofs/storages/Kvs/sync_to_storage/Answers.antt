@@ -1,7 +1,7 @@
-use Rattle.std.proofs.Common.{◌≡◌, ◌∙◌, [], false, arith}
+use Rattle.std.proofs.Common.{◌≡◌, ◌∙◌, [], false, sym, rules, arith}
 use Rattle.element_state.specs.States.{Opens}
 use Rattle.element_store.proofs.CommitKept.{none_kept}
-use Rattle.kvs_store.specs.Storages.{shape_of}
+use Rattle.kvs_store.specs.Storages.{session_of, shape_of, view_in}
 use Rattle.kvs_store.specs.Synced.{synced_view}
 use Rattle.kvs_store.proofs.Synced.{may_commit, next_cost, synced_in_use, synced_state, view_then, within_more}
 use Rattle.kvs_store.proofs.storages.Kvs.sync_to_storage.Goals as goal
@@ -10,6 +10,12 @@ pub returns-then-not-has_changes-clause-any_moment :
     goal.returns-then-not-has_changes-clause-any_moment
 returns-then-not-has_changes-clause-any_moment g c = λ tells. none_kept c.untouched_is_kept.ensures.untouched g.D.Disk.told (shape_of c.args.self) (Opens (synced_view c.args.self) []) (g.D.Disk.medium c.args.disk.now)
     c.requires.used.memory.shape (g.met.D.Disk.lawful c.args.disk.now)
+
+pub returns-then-not-has_changes-clause-view :
+    goal.returns-then-not-has_changes-clause-view
+returns-then-not-has_changes-clause-view g c =
+    let no : c.has_changes.result ≡ false = search rules in
+    sym (c.syncs_are_decided.ensures.stays (shape_of c.args.self) (view_in c.args.self) (session_of c.args.self).synced (session_of c.args.self).visible (c.has_changes.ensures.0 no))
 
 pub returns-then-generation-clause-any_moment : goal.returns-then-generation-clause-any_moment
 returns-then-generation-clause-any_moment g c = λ tells. none_kept c.untouched_is_kept.ensures.untouched g.D.Disk.told (shape_of c.args.self) (Opens (synced_view c.args.self) []) (g.D.Disk.medium c.args.disk.now)
