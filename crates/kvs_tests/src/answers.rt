@@ -1,7 +1,5 @@
 //! Answers as texts, and what ends a case before its time.
 
-ghost use Rattle.std.specs.Prelude.{◌≡◌, ◌∷◌, [], IfOk};
-
 use element_state::StoreError;
 use per_base::{PerError, Report, Unit};
 use std::alloc::{AllocError, Global};
@@ -46,13 +44,6 @@ impl From<DecodeError> for CaseError {
     fn from(_: DecodeError) -> CaseError {
         CaseError::Case("no value")
     }
-}
-
-/// A list of one.
-pub(crate) fn only<T: Drop>(alloc: Global, item: T) -> Result<Vec<T>, AllocError>
-    ensures { IfOk result (λ list. list.items ≡ item ∷ []) }
-{
-    Ok(vec![in alloc; item]?)
 }
 
 pub(crate) fn said(alloc: Global, text: &str) -> Result<String, CaseError> {

@@ -62,19 +62,22 @@ pub(crate) fn parted<'a>(text: &'a str, mark: &str) -> (&'a str, &'a str) {
     }
 }
 
-/// The encoding of 513.
-fn initial(alloc: Global) -> Result<Bytes, CaseError>
-    ensures { IfOk result (λ bytes. IsEncodingOf (unsigned_kind two) bytes) }
+/// The encoding of 513, where `home` starts with one.
+fn initial(alloc: Global, plan: Plan) -> Result<Option<Bytes>, CaseError>
+    ensures { IfOk result (λ initial. IfSome initial (λ bytes. IsEncodingOf (unsigned_kind two) bytes)) }
 {
+    if !plan.has_initial {
+        return Ok(None);
+    }
     let Ok(value) = Value::new(Node::U16(513)) else {
         return Err(CaseError::Case("no value"));
     };
-    Ok(Bytes::new(encode(alloc, &value)?))
+    Ok(Some(Bytes::new(encode(alloc, &value)?)))
 }
 
 /// The key `home`, as it is configured.
 fn home(alloc: Global, initial: Option<Bytes>) -> Result<ElementConfig, PerError>
-    requires { IfSome initial (IsEncodingOf (unsigned_kind two)) }
+    requires { IfSome initial (λ bytes. IsEncodingOf (unsigned_kind two) bytes) }
     ensures { IfOk result (λ key. IsElement Keys (element_data key)) }
 {
     Ok(ElementConfig {
@@ -130,13 +133,8 @@ pub(crate) fn fav(alloc: Global, plan: Plan) -> Result<StorageConfig, CaseError>
     ensures storage { IfOk result (λ config. IsStorage (storage_data config)) }
     ensures of_keys { IfOk result (λ config. config.kind ≡ Keys) }
 {
-    let initial = if plan.has_initial {
-        Some(initial(alloc)?)
-    } else {
-        None
-    };
     let name = Name::new(alloc, "fav")?;
-    let key = home(alloc, initial)?;
+    let key = home(alloc, initial(alloc, plan)?)?;
     let Some(size) = start_size(&key) else {
         return Err(CaseError::Case("a long initial value"));
     };

@@ -1,18 +1,18 @@
 //! Sessions of keys over their maps, without a disk.
 
-ghost use Rattle.std.specs.Prelude.{◌≡◌, ◌≤◌, IfOk};
+ghost use Rattle.std.specs.Prelude.{◌≡◌, ◌≤◌, ◌∷◌, [], IfOk};
 ghost use Rattle.per_base.specs.declared.elements.StoreKind.TheVariants.{Keys};
 ghost use Rattle.deployment_model.specs.Conditions.{IsStorage};
 ghost use Rattle.deployment_model.specs.Data.{storage_data};
 ghost use Rattle.key_maps.specs.KeyElements.{HasLength, IsKeyEntry};
 
-use crate::answers::{CaseError, done, only, push_answer, read, refusal, said};
+use crate::answers::{CaseError, done, push_answer, read, refusal, said};
 use crate::configs::{Plan, fav, parted};
 use deployment_model::StorageConfig;
 use kvs_core::{KEYS, KeyChange, KeySession};
 use per_base::{Content, Entry, Name, Numbers, ValueText};
 use per_value::{Favourite, PerValue};
-use std::alloc::Global;
+use std::alloc::{AllocError, Global};
 use value_text::{parse_hex, parse_value, print_value, push_hex};
 
 /// What a session shows: its calls, each beside its answer.
@@ -100,6 +100,12 @@ fn listed(alloc: Global, name: &str, content: Content, len: u32) -> Result<Entry
         content,
         lacking: Numbers::new(Vec::new(alloc)),
     })
+}
+
+fn only(alloc: Global, entry: Entry) -> Result<Vec<Entry>, AllocError>
+    ensures { IfOk result (λ list. list.items ≡ entry ∷ []) }
+{
+    Ok(vec![in alloc; entry]?)
 }
 
 #[tactic(auto, using(kvs_core::proofs::OneKey::one_ordered))]

@@ -1,6 +1,6 @@
 //! A storage of keys on a disk in memory, through openings, calls, syncs, damage and stops.
 
-ghost use Rattle.std.specs.Prelude.{◌≡◌, IfOk, IsTrue, OnOk, true};
+ghost use Rattle.std.specs.Prelude.{◌≡◌, ◌∷◌, [], IfOk, IsTrue, OnOk, true};
 ghost use Rattle.per_base.specs.declared.elements.StoreKind.TheVariants.{Keys};
 ghost use Rattle.deployment_model.specs.Conditions.{IsStorage};
 ghost use Rattle.deployment_model.specs.Data.{storage_data};
@@ -11,7 +11,7 @@ ghost use Rattle.element_state.specs.States.{salvage_of, store_at};
 ghost use Rattle.kvs_store.specs.Storages.{IsKvs, LiesAs, StaysInUse};
 ghost use Rattle.kvs_tests.specs.Stages.{IsInUse};
 
-use crate::answers::{CaseError, done, only, push_answer, read, reported, said};
+use crate::answers::{CaseError, done, push_answer, read, reported, said};
 use crate::configs::{Plan, fav, parted};
 use crate::images;
 use deployment_model::StorageConfig;
@@ -19,7 +19,7 @@ use disk_model::{MemDisk, Place};
 use element_store::{create, rebuild, salvage};
 use kvs_store::{Kvs, OpenedKvs, Shape, StoreError, SyncFault, open_kvs};
 use per_base::{Bytes, Content, Entry, Fresh, Name, StoreKind};
-use std::alloc::Global;
+use std::alloc::{AllocError, Global};
 use value_text::{parse_hex, parse_value};
 
 /// The encoding of 513.
@@ -164,6 +164,13 @@ fn is_key(kind: StoreKind, fresh: &Fresh) -> bool
     }
 }
 
+/// A list of one.
+fn only(alloc: Global, fresh: Fresh) -> Result<Vec<Fresh>, AllocError>
+    ensures { IfOk result (λ list. list.items ≡ fresh ∷ []) }
+{
+    Ok(vec![in alloc; fresh]?)
+}
+
 /// The key alone, where the storage takes it.
 fn alone(alloc: Global, shape: &Shape, fresh: Fresh) -> Result<Vec<Fresh>, CaseError>
     ensures { IfOk result (λ contents. AreContents shape.now contents.items) }
@@ -250,22 +257,46 @@ fn open(alloc: Global, disk: MemDisk, kvs: Kvs, spent: u64, call: &str) -> Resul
     requires { IsKvs true (mem_medium disk).image kvs }
     ensures { IfOk result (λ step. IsInUse step.stage) }
 {
-    match call {
-        "sync" => return synced(alloc, disk, kvs),
-        "stop" => return then(alloc, Stage::Closed(disk.crash(false)?), "ok"),
-        _ => {}
-    }
     let (word, rest) = parted(call, "=");
-    let mut disk = disk;
-    let mut kvs = kvs;
-    let answer = match word {
-        "calls" => {
-            disk.stop_after(number(rest));
-            said(alloc, "ok")?
+    match word {
+        "sync" => synced(alloc, disk, kvs),
+        "stop" => then(alloc, Stage::Closed(disk.crash(false)?), "ok"),
+        "calls" => limited(alloc, disk, kvs, spent, number(rest)),
+        "spent" => {
+            let answer = format!(in alloc; "{}", spent <= number(rest))?;
+            then(alloc, Stage::Open { disk, kvs, spent }, answer.as_str())
         }
-        "spent" => format!(in alloc; "{}", spent <= number(rest))?,
-        _ => called(alloc, &mut kvs, call)?,
-    };
+        _ => touched(alloc, disk, kvs, spent, call),
+    }
+}
+
+fn limited(
+    alloc: Global,
+    disk: MemDisk,
+    kvs: Kvs,
+    spent: u64,
+    calls: u64,
+) -> Result<Step, CaseError>
+    requires { IsKvs true (mem_medium disk).image kvs }
+    ensures { IfOk result (λ step. IsInUse step.stage) }
+{
+    let mut disk = disk;
+    disk.stop_after(calls);
+    then(alloc, Stage::Open { disk, kvs, spent }, "ok")
+}
+
+fn touched(
+    alloc: Global,
+    disk: MemDisk,
+    kvs: Kvs,
+    spent: u64,
+    call: &str,
+) -> Result<Step, CaseError>
+    requires { IsKvs true (mem_medium disk).image kvs }
+    ensures { IfOk result (λ step. IsInUse step.stage) }
+{
+    let mut kvs = kvs;
+    let answer = called(alloc, &mut kvs, call)?;
     let stage = Stage::Open { disk, kvs, spent };
     Ok(Step { stage, answer })
 }
@@ -299,7 +330,7 @@ fn called(alloc: Global, kvs: &mut Kvs, call: &str) -> Result<String, CaseError>
         return single(alloc, kvs, call, &Name::new(alloc, key)?, value);
     }
     let (_, rest) = parted(call, "=");
-    fill(alloc, kvs, number(rest))
+    fill(alloc, kvs, rest.parse::<u16>().unwrap_or(0))
 }
 
 fn single(
@@ -321,10 +352,10 @@ fn single(
     }
 }
 
-fn fill(alloc: Global, kvs: &mut Kvs, count: u64) -> Result<String, CaseError>
+fn fill(alloc: Global, kvs: &mut Kvs, count: u16) -> Result<String, CaseError>
     ensures { OnOk result (StaysInUse kvs.old kvs.new) }
 {
-    for number in 0..count.min(60_000) as u16 {
+    for number in 0..count {
         let text = format!(in alloc; "k{number:03}")?;
         let name = Name::new(alloc, &text)?;
         kvs.set_value(&name, &number)?;
