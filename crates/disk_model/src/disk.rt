@@ -6,7 +6,7 @@ ghost use Rattle.disk_model.specs.Image.{put_image, TornImage};
 ghost use Rattle.disk_model.specs.Case.{WriteCase, WriteOrNot, Follows};
 ghost use Rattle.disk_model.specs.Medium.{Medium, Quiet, IsLawful, Elapses, OnlyReads, WritesNothing};
 
-/// A call of a disk failed, and its count of faults rose.
+/// A call of a disk failed, and its count of faults rose. No other call changes that count.
 #[derive(Clone, Copy, Debug, PartialEq, Eq)]
 pub struct DiskFailed;
 
@@ -30,7 +30,8 @@ pub trait Disk {
 
         ensures reads { OnlyReads (medium self.old) (medium self.new) }
         ensures time { Elapses (medium self.old) (medium self.new) }
-        ensures cause { OnErr result (Rose (medium self.old).faults (medium self.new).faults) };
+        ensures cause { OnErr result (Rose (medium self.old).faults (medium self.new).faults) }
+        ensures passes { OnOk result ((medium self.new).faults ≡ (medium self.old).faults) };
 
     /// Writes the bytes from the byte `at` on; a gap before them reads as zeros, and no bytes change nothing. They are durable after
     /// the next `sync`. Where the call fails, the range may hold anything, as after a crash.
@@ -48,7 +49,8 @@ pub trait Disk {
         ensures written { IsTrue told → OnOk result ((medium self.new).written ≡ (medium self.old).written + length bytes.now) }
         ensures at_most { (medium self.new).written ≤ (medium self.old).written + length bytes.now }
         ensures time { Elapses (medium self.old) (medium self.new) }
-        ensures cause { OnErr result (Rose (medium self.old).faults (medium self.new).faults) };
+        ensures cause { OnErr result (Rose (medium self.old).faults (medium self.new).faults) }
+        ensures passes { OnOk result ((medium self.new).faults ≡ (medium self.old).faults) };
 
     /// How many bytes the file has.
     fn size(&mut self, file: u32) -> Result<u64, DiskFailed>
@@ -56,7 +58,8 @@ pub trait Disk {
 
         ensures reads { OnlyReads (medium self.old) (medium self.new) }
         ensures time { Elapses (medium self.old) (medium self.new) }
-        ensures cause { OnErr result (Rose (medium self.old).faults (medium self.new).faults) };
+        ensures cause { OnErr result (Rose (medium self.old).faults (medium self.new).faults) }
+        ensures passes { OnOk result ((medium self.new).faults ≡ (medium self.old).faults) };
 
     /// Makes every write so far durable, in all files: afterwards a crash leaves what reads give.
     fn sync(&mut self) -> Result<(), DiskFailed>
@@ -65,7 +68,8 @@ pub trait Disk {
 
         ensures writes_nothing { WritesNothing (medium self.old) (medium self.new) }
         ensures time { Elapses (medium self.old) (medium self.new) }
-        ensures cause { OnErr result (Rose (medium self.old).faults (medium self.new).faults) };
+        ensures cause { OnErr result (Rose (medium self.old).faults (medium self.new).faults) }
+        ensures passes { OnOk result ((medium self.new).faults ≡ (medium self.old).faults) };
 
     /// This moment counts among those since an earlier one, since now there is no other, and what reads give is what some crash leaves.
     ghost lawful: { (disk : Self) → IsLawful told (medium disk) };

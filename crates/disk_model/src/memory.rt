@@ -269,6 +269,7 @@ impl Disk for MemDisk {
         ensures reads { OnlyReads (mem_medium self.old) (mem_medium self.new) }
         ensures time { Elapses (mem_medium self.old) (mem_medium self.new) }
         ensures cause { OnErr result (Rose (mem_medium self.old).faults (mem_medium self.new).faults) }
+        ensures passes { OnOk result ((mem_medium self.new).faults ≡ (mem_medium self.old).faults) }
 
         // Which calls fail, and that they change nothing.
         ensures answers { Answers self.old self.new (is_err result) }
@@ -289,6 +290,7 @@ impl Disk for MemDisk {
         ensures at_most { (mem_medium self.new).written ≤ (mem_medium self.old).written + length bytes.now }
         ensures time { Elapses (mem_medium self.old) (mem_medium self.new) }
         ensures cause { OnErr result (Rose (mem_medium self.old).faults (mem_medium self.new).faults) }
+        ensures passes { OnOk result ((mem_medium self.new).faults ≡ (mem_medium self.old).faults) }
 
         // Every way to tear the write is a case.
         ensures tears { OnOk result (Reaches (WriteCase file at bytes.now) (mem_medium self.old).now (mem_medium self.new).now) }
@@ -310,6 +312,7 @@ impl Disk for MemDisk {
         ensures reads { OnlyReads (mem_medium self.old) (mem_medium self.new) }
         ensures time { Elapses (mem_medium self.old) (mem_medium self.new) }
         ensures cause { OnErr result (Rose (mem_medium self.old).faults (mem_medium self.new).faults) }
+        ensures passes { OnOk result ((mem_medium self.new).faults ≡ (mem_medium self.old).faults) }
 
         // Which calls fail, and that they change nothing.
         ensures answers { Answers self.old self.new (is_err result) }
@@ -326,6 +329,7 @@ impl Disk for MemDisk {
         ensures writes_nothing { WritesNothing (mem_medium self.old) (mem_medium self.new) }
         ensures time { Elapses (mem_medium self.old) (mem_medium self.new) }
         ensures cause { OnErr result (Rose (mem_medium self.old).faults (mem_medium self.new).faults) }
+        ensures passes { OnOk result ((mem_medium self.new).faults ≡ (mem_medium self.old).faults) }
 
         // Which calls fail, and that they change nothing.
         ensures answers { Answers self.old self.new (is_err result) }

@@ -15,7 +15,7 @@ pub const BLOCK_PAGES: u32 = 64;
 /// What an erased page reads as.
 pub const BLANK_PAGE: [u8; PAGE_BYTES] = [0xff; PAGE_BYTES];
 
-/// A call of a flash failed, and its count of faults rose.
+/// A call of a flash failed, and its count of faults rose. No other call changes that count.
 #[derive(Clone, Copy, Debug, PartialEq, Eq)]
 pub struct FlashFailed;
 
@@ -49,7 +49,8 @@ pub trait Flash {
         ensures state { IsTrue told → (medium self.new).state ≡ (medium self.old).state }
         ensures during { EachFlashCase (IsStill (medium self.old).state) (medium self.old) (medium self.new) }
         ensures time { FlashElapses (medium self.old) (medium self.new) }
-        ensures cause { OnErr result (Rose (medium self.old).faults (medium self.new).faults) };
+        ensures cause { OnErr result (Rose (medium self.old).faults (medium self.new).faults) }
+        ensures passes { OnOk result ((medium self.new).faults ≡ (medium self.old).faults) };
 
     /// Programs a page that is blank. Where the call fails, the page may hold anything, as after a crash; but what its front then
     /// verifies as, these bytes verify as. A blank page never verifies.
@@ -66,7 +67,8 @@ pub trait Flash {
         ensures during { EachFlashCase (λ c. IsStill (medium self.old).state c ⊎ (IsStill (medium self.new).state c
             ⊎ ProgramCase block page bytes.now (medium self.old).state c)) (medium self.old) (medium self.new) }
         ensures time { FlashElapses (medium self.old) (medium self.new) }
-        ensures cause { OnErr result (Rose (medium self.old).faults (medium self.new).faults) };
+        ensures cause { OnErr result (Rose (medium self.old).faults (medium self.new).faults) }
+        ensures passes { OnOk result ((medium self.new).faults ≡ (medium self.old).faults) };
 
     /// Makes all pages of a block blank. Where the call fails, they may hold anything, as after a crash; but what the front of a page
     /// then verifies as, it verified as before.
@@ -80,7 +82,8 @@ pub trait Flash {
         ensures during { EachFlashCase (λ c. IsStill (medium self.old).state c ⊎ (IsStill (medium self.new).state c
             ⊎ EraseCase block (medium self.old).state c)) (medium self.old) (medium self.new) }
         ensures time { FlashElapses (medium self.old) (medium self.new) }
-        ensures cause { OnErr result (Rose (medium self.old).faults (medium self.new).faults) };
+        ensures cause { OnErr result (Rose (medium self.old).faults (medium self.new).faults) }
+        ensures passes { OnOk result ((medium self.new).faults ≡ (medium self.old).faults) };
 
     /// Notes that the calls to come serve this write into a file, at the byte `at`. It changes no page; a device has nothing to do.
     fn announce(&mut self, file: u32, at: u64, bytes: &[u8]) -> Result<(), FlashFailed>
@@ -90,7 +93,8 @@ pub trait Flash {
         ensures during { EachFlashCase (λ c. IsStill (medium self.old).state c ⊎ IsStill (medium self.new).state c)
             (medium self.old) (medium self.new) }
         ensures time { FlashElapses (medium self.old) (medium self.new) }
-        ensures cause { OnErr result (Rose (medium self.old).faults (medium self.new).faults) };
+        ensures cause { OnErr result (Rose (medium self.old).faults (medium self.new).faults) }
+        ensures passes { OnOk result ((medium self.new).faults ≡ (medium self.old).faults) };
 
     /// Notes that the writes announced so far are over, and that what the pages hold is what they left. It changes no page; a device has
     /// nothing to do.
@@ -100,7 +104,8 @@ pub trait Flash {
         ensures during { EachFlashCase (λ c. IsStill (medium self.old).state c ⊎ IsStill (medium self.new).state c)
             (medium self.old) (medium self.new) }
         ensures time { FlashElapses (medium self.old) (medium self.new) }
-        ensures cause { OnErr result (Rose (medium self.old).faults (medium self.new).faults) };
+        ensures cause { OnErr result (Rose (medium self.old).faults (medium self.new).faults) }
+        ensures passes { OnOk result ((medium self.new).faults ≡ (medium self.old).faults) };
 
     /// This moment counts among those since an earlier one, and since now there is no other: a call that is over is durable.
     ghost lawful: { (flash : Self) → IsLawfulFlash told (medium flash) };

@@ -203,6 +203,7 @@ impl Flash for MemFlash {
         ensures during { EachFlashCase (IsStill (mem_flash self.old).state) (mem_flash self.old) (mem_flash self.new) }
         ensures time { FlashElapses (mem_flash self.old) (mem_flash self.new) }
         ensures cause { OnErr result (Rose (mem_flash self.old).faults (mem_flash self.new).faults) }
+        ensures passes { OnOk result ((mem_flash self.new).faults ≡ (mem_flash self.old).faults) }
 
         // Which calls fail, and that they change nothing.
         ensures answers { Answers self.old self.new (is_err result) }
@@ -223,6 +224,7 @@ impl Flash for MemFlash {
             ⊎ ProgramCase block page bytes.now (mem_flash self.old).state c)) (mem_flash self.old) (mem_flash self.new) }
         ensures time { FlashElapses (mem_flash self.old) (mem_flash self.new) }
         ensures cause { OnErr result (Rose (mem_flash self.old).faults (mem_flash self.new).faults) }
+        ensures passes { OnOk result ((mem_flash self.new).faults ≡ (mem_flash self.old).faults) }
 
         // Every way to tear the page is a case.
         ensures tears { OnOk result ((c : FlashCase) → ProgramCase block page bytes.now (mem_flash self.old).state c
@@ -247,6 +249,7 @@ impl Flash for MemFlash {
             ⊎ EraseCase block (mem_flash self.old).state c)) (mem_flash self.old) (mem_flash self.new) }
         ensures time { FlashElapses (mem_flash self.old) (mem_flash self.new) }
         ensures cause { OnErr result (Rose (mem_flash self.old).faults (mem_flash self.new).faults) }
+        ensures passes { OnOk result ((mem_flash self.new).faults ≡ (mem_flash self.old).faults) }
 
         // Every way to tear the block is a case.
         ensures tears { OnOk result ((c : FlashCase) → EraseCase block (mem_flash self.old).state c
@@ -270,6 +273,7 @@ impl Flash for MemFlash {
             (mem_flash self.old) (mem_flash self.new) }
         ensures time { FlashElapses (mem_flash self.old) (mem_flash self.new) }
         ensures cause { OnErr result (Rose (mem_flash self.old).faults (mem_flash self.new).faults) }
+        ensures passes { OnOk result ((mem_flash self.new).faults ≡ (mem_flash self.old).faults) }
 
         // Which calls fail, and that they change nothing.
         ensures answers { Answers self.old self.new (is_err result) }
@@ -289,6 +293,7 @@ impl Flash for MemFlash {
             (mem_flash self.old) (mem_flash self.new) }
         ensures time { FlashElapses (mem_flash self.old) (mem_flash self.new) }
         ensures cause { OnErr result (Rose (mem_flash self.old).faults (mem_flash self.new).faults) }
+        ensures passes { OnOk result ((mem_flash self.new).faults ≡ (mem_flash self.old).faults) }
 
         // Which calls fail, and that they change nothing.
         ensures answers { Answers self.old self.new (is_err result) }

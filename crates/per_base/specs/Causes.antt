@@ -1,5 +1,5 @@
 -- Counts of faults: when a count rose in a call, and what a failure says of it.
-use Rattle.std.specs.Prelude.{◌≤◌, ℕ, ◌+◌, ◌-◌, ◌^◌, min, Result, OnErr}
+use Rattle.std.specs.Prelude.{◌≡◌, ◌≤◌, ℕ, ◌+◌, ◌-◌, ◌^◌, min, Result, OnOk, OnErr}
 
 -- a count goes up by one, and stops at the greatest u64
 abbrev pub raised : ℕ → ℕ
@@ -13,3 +13,9 @@ Rose before now = raised before ≤ now
 pub record HasCause {T E : Type 0} (before now : ℕ) (result : Result T E) : Type 0 where
   pub later : before ≤ now
   pub failed : OnErr result (Rose before now)
+
+-- the count stays where the call succeeds, rises where it fails, and never falls
+pub record CountsFaults {T E : Type 0} (before now : ℕ) (result : Result T E) : Type 0 where
+  pub later : before ≤ now
+  pub failed : OnErr result (Rose before now)
+  pub passed : OnOk result (now ≡ before)

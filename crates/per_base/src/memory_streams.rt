@@ -60,9 +60,11 @@ impl Source for MemSource {
         ensures bytes { ReadConsumes (Some self.old.left) (Some self.new.left) result out.new }
         ensures told { is_some (Some self.new.left) ≡ is_some (Some self.old.left) }
         ensures cause { HasCause self.old.faults self.new.faults result }
-        // As much as there is, up to the piece, and a failure exactly where the plan has one. No other call counts as a fault.
+        // As much as there is, up to the piece, and a failure exactly where the plan has one, which counts once. No other call counts as
+        // a fault.
         ensures count { IfOk result (λ n. n ≡ min (min self.old.piece (length out.new)) (length self.old.left)) }
         ensures fails { is_failing self.old.failing self.old.calls ≡ is_err result }
+        ensures counted { OnErr result (self.new.faults ≡ raised self.old.faults) }
         ensures clean { IfOk result (λ n. self.new.faults ≡ self.old.faults) }
         ensures plan { (self.new.piece ≡ self.old.piece) × (self.new.failing ≡ self.old.failing) }
         ensures calls { self.new.calls ≡ raised self.old.calls }
@@ -157,6 +159,8 @@ impl Sink for MemSink {
         ensures count { IfOk result (λ n. n ≡ min self.old.piece (length bytes.now)) }
         ensures planned { IsTrue (is_failing self.old.failing self.old.calls) → IsErr result }
         ensures fails { OnErr result (FailsAsPlanned self.old self.new ⊎ FailsForWant self.old self.new) }
+        ensures counted { OnErr result (self.new.faults ≡ raised self.old.faults) }
+        ensures stuck_once { IfOk result (λ n. n ≡ 0 → 0 < length bytes.now → self.new.faults ≡ raised self.old.faults) }
         ensures fed { IfOk result (λ n. self.new.starved ≡ self.old.starved) }
         ensures clean { IfOk result (λ n. (0 < n) ⊎ (length bytes.now ≡ 0) → self.new.faults ≡ self.old.faults) }
         ensures plan { (self.new.piece ≡ self.old.piece) × (self.new.failing ≡ self.old.failing) }
