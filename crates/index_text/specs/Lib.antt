@@ -1,3 +1,4 @@
+pub mod Contents
 pub mod Samples
 pub mod Reading
 pub mod Rules

@@ -14,7 +14,7 @@ use Rattle.migrate_fns.specs.Rules.{Rule, Answers}
 use Rattle.update_plan.specs.declared.contents.Stored.{Stored}
 use Rattle.update_plan.specs.declared.contents.StorageContents.{StorageContents}
 use Rattle.update_plan.specs.declared.contents.StorageContents.TheVariants.{Missing}
-use Rattle.update_plan.specs.Limits.{AreContents}
+use Rattle.index_text.specs.Contents.{AreContents}
 use Rattle.update_plan.specs.Plans.{AllFit, AreOf, ArePresent, AreStored, IsOf, PlansAll, PlansFor, Told, contents_named, if_kind, is_kind, stored_for, with_first}
 use Rattle.update_plan.proofs.Merged.{same_name}
 

@@ -18,7 +18,7 @@ use Rattle.deployment_model.specs.Data.{ElementData, StorageData}
 use Rattle.deployment_model.specs.declared.configs.CollectionStrategy.{CollectionStrategy}
 use Rattle.deployment_model.specs.declared.configs.ElementStrategy.{ElementStrategy}
 use Rattle.deployment_model.specs.declared.configs.ElementStrategy.TheVariants as own
-use Rattle.update_plan.specs.Limits.{IsFresh, fresh_size, AreContents}
+use Rattle.index_text.specs.Contents.{AreContents, IsFresh, fresh_size}
 use Rattle.update_plan.specs.Rows.{row_by, initial_or, made_info, started, start_of, initial_contents}
 
 -- an item of a list, and what is left from there, as their images

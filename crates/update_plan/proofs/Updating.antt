@@ -21,7 +21,8 @@ use Rattle.deployment_model.specs.declared.configs.ElementStrategy.{ElementStrat
 use Rattle.deployment_model.specs.declared.configs.ElementStrategy.TheVariants as own
 use Rattle.migrate_fns.specs.Rules.{Rule, Answers}
 use Rattle.update_plan.specs.Fates.{Becomes, Fate, goes, gets, converted, refused, Refuses, by_row, fate, refusal}
-use Rattle.update_plan.specs.Limits.{AreContents, IfMade, IsFresh, fresh_size}
+use Rattle.index_text.specs.Contents.{AreContents, IsFresh, fresh_size}
+use Rattle.update_plan.specs.Limits.{IfMade}
 use Rattle.update_plan.specs.Merging.{Item, merged}
 use Rattle.update_plan.specs.Plans.{AreStored, IsStored, PlansOver, Told, Updated, entry_named, first_of, first_refusal, fresh_named, within_limits}
 use Rattle.update_plan.specs.Renewed.{BecomeAll, RenewAll, item_fate, refusals}

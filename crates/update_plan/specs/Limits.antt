@@ -1,16 +1,8 @@
--- What the contents of a storage that is to be made keep.
-use Rattle.std.specs.Prelude.{◌≡◌, ◌≤◌, ◌+◌, ℕ, List, length, map, IsTrue, sum_by, Option, None, Some, ⊤}
-use Rattle.std.specs.List.{AllByRecursion}
-use Rattle.std.specs.List.Sorted.{IsStrictlySortedBy}
+-- What an element that a plan makes is.
+use Rattle.std.specs.Prelude.{◌≡◌, ℕ, List, Option, None, Some, ⊤}
 use Rattle.per_base.specs.declared.elements.Fresh.{Fresh}
 use Rattle.per_base.specs.declared.elements.StoreKind.{StoreKind}
-use Rattle.per_base.specs.Names.{name_cmp}
-use Rattle.index_text.specs.Rules.{has_info, max_len}
-
--- an info exactly for files, and no more bytes than the kind allows
-pub record IsFresh (kind : StoreKind) (f : Fresh) : Type 0 where
-  pub info : IsTrue (has_info kind f.info)
-  pub small : length f.bytes ≤ max_len kind
+use Rattle.index_text.specs.Contents.{IsFresh}
 
 -- such an element with this name
 pub record IsMade (kind : StoreKind) (name : List ℕ) (f : Fresh) : Type 0 where
@@ -20,13 +12,3 @@ pub record IsMade (kind : StoreKind) (name : List ℕ) (f : Fresh) : Type 0 wher
 abbrev pub IfMade : StoreKind → List ℕ → Option Fresh → Type 0
 IfMade kind name None = ⊤
 IfMade kind name (Some f) = IsMade kind name f
-
-abbrev pub fresh_size : Fresh → ℕ
-fresh_size f = length f.name + length f.bytes
-
--- names that ascend, at most 1024, and together no more bytes than the maximum
-pub record AreContents (kind : StoreKind) (maximum : ℕ) (contents : List Fresh) : Type 0 where
-  pub each : AllByRecursion (IsFresh kind) contents
-  pub names_ascend : IsStrictlySortedBy name_cmp (map (λ (f : Fresh). f.name) contents)
-  pub few : length contents ≤ 1024
-  pub small : sum_by fresh_size contents ≤ maximum

@@ -23,7 +23,7 @@ use Rattle.update_plan.specs.declared.contents.Stored.{Stored}
 use Rattle.update_plan.specs.declared.contents.StorageContents.{StorageContents}
 use Rattle.update_plan.specs.declared.contents.StorageContents.TheVariants.{Missing, Damaged, Present}
 use Rattle.update_plan.specs.Fates.{Becomes, fate, refusal}
-use Rattle.update_plan.specs.Limits.{AreContents, fresh_size}
+use Rattle.index_text.specs.Contents.{AreContents, fresh_size}
 
 -- ---- what is stored
 

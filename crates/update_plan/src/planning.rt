@@ -5,7 +5,7 @@ ghost use Rattle.std.specs.List.{AllByRecursion};
 ghost use Rattle.deployment_model.specs.Conditions.{IsDeployment, IsStorage};
 ghost use Rattle.deployment_model.specs.Data.{deployment_data, element_data, storage_data};
 ghost use Rattle.migrate_fns.specs.Stored.{answers_of, rules_of};
-ghost use Rattle.update_plan.specs.Limits.{AreContents, IsFresh, fresh_size};
+ghost use Rattle.index_text.specs.Contents.{AreContents, IsFresh, fresh_size};
 ghost use Rattle.update_plan.specs.Merging.{merged};
 ghost use Rattle.update_plan.specs.Plans.{AllFit, ArePresent, AreStored, IsOf, PlansAll, PlansFor, PlansOver, Told, first_refusal, or_missing};
 ghost use Rattle.update_plan.specs.Plans as plans;

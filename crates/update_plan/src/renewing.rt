@@ -15,7 +15,8 @@ ghost use Rattle.value_model.specs.Views.{kind_of};
 ghost use Rattle.update_plan.specs.Fates.{FitsType, Keeps, Refuses, Renews, GivesOnly, by_chain, fate, initial_in, of_bytes, of_content, of_type, of_value, strategy_of, type_in, unreadable};
 ghost use Rattle.update_plan.specs.Fates as fates;
 ghost use Rattle.update_plan.specs.Items.{item_of};
-ghost use Rattle.update_plan.specs.Limits.{IfMade, IsFresh, IsMade};
+ghost use Rattle.index_text.specs.Contents.{IsFresh};
+ghost use Rattle.update_plan.specs.Limits.{IfMade, IsMade};
 ghost use Rattle.update_plan.specs.Plans.{IsStored};
 
 use crate::merging::Item;

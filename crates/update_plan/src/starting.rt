@@ -3,7 +3,7 @@
 ghost use Rattle.std.specs.Prelude.{◌≡◌, IfOk};
 ghost use Rattle.deployment_model.specs.Conditions.{IsStorage};
 ghost use Rattle.deployment_model.specs.Data.{element_data, storage_data};
-ghost use Rattle.update_plan.specs.Limits.{AreContents};
+ghost use Rattle.index_text.specs.Contents.{AreContents};
 ghost use Rattle.update_plan.specs.Rows.{initial_contents, made_info, row_by, started};
 
 use deployment_model::{ElementConfig, ElementStrategy, StorageConfig};

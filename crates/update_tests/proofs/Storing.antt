@@ -7,7 +7,7 @@ use Rattle.per_base.specs.declared.elements.Entry.{Entry}
 use Rattle.per_base.specs.declared.elements.Fresh.{Fresh}
 use Rattle.per_base.specs.declared.elements.StoreKind.{StoreKind}
 use Rattle.per_base.specs.Names.{name_cmp}
-use Rattle.update_plan.specs.Limits.{AreContents, IsFresh}
+use Rattle.index_text.specs.Contents.{AreContents, IsFresh}
 use Rattle.update_plan.specs.Plans.{AreStored, IsStored}
 use Rattle.update_tests.specs.Stores.{Stores}
 

@@ -3,7 +3,7 @@ use Rattle.std.specs.Prelude.{◌≡◌}
 use Rattle.per_base.specs.declared.elements.Entry.{Entry}
 use Rattle.per_base.specs.declared.elements.Fresh.{Fresh}
 use Rattle.per_base.specs.declared.elements.StoreKind.{StoreKind}
-use Rattle.update_plan.specs.Limits.{IsFresh}
+use Rattle.index_text.specs.Contents.{IsFresh}
 use Rattle.update_plan.specs.Plans.{IsStored}
 
 -- the entry has the name of the element, and may be stored in each storage that may have the element

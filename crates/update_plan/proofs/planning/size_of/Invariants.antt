@@ -1,5 +1,5 @@
 use Rattle.std.proofs.Common.{ℕ, ◌≡◌, ◌*◌, ◌≤◌, take, sum_by}
-use Rattle.update_plan.specs.Limits.{fresh_size}
+use Rattle.index_text.specs.Contents.{fresh_size}
 use Rattle.update_plan.proofs.planning.size_of.Given as goal
 
 pub record SumSoFar (total index sum_is : ℕ) : Type 0 where

@@ -1,7 +1,7 @@
 use Rattle.std.proofs.Common.{◌≡◌, ◌<◌, ◌≤◌, suc, drop, map, length, ap, sym, subst, ◌∙◌, ◌∷◌, rules, inl, inr}
 use Rattle.std.proofs.lemmas.List.{length-map}
 use Rattle.deployment_model.specs.Data.{element_data, storage_data}
-use Rattle.update_plan.specs.Limits.{AreContents}
+use Rattle.index_text.specs.Contents.{AreContents}
 use Rattle.update_plan.specs.Rows.{initial_contents, start_of}
 use Rattle.update_plan.proofs.Starts.{filter_done, filter_next, item_at, starts_within}
 use Rattle.update_plan.proofs.starting.initial_of.Goals.{in-Some+in_ok-push, in_default}
