@@ -148,9 +148,14 @@ within_all size blocks i left past = ap (λ xs. is_within size xs left) (drop_al
 pub record IsRead (old now : Medium) : Type 0 where
   pub reads : OnlyReads old now
   pub time : Elapses old now
+  pub passes : now.faults ≡ old.faults
 
 pub read_none : (told : Bool) (m : Medium) → IsLawful told m → IsRead m m
-read_none told m law = record { reads = reads_none law; time = elapses_none law }
+read_none told m law = record { reads = reads_none law; time = elapses_none law; passes = refl }
 
-pub read_on : (a b c : Medium) → IsRead a b → OnlyReads b c → Elapses b c → IsRead a c
-read_on a b c first reads time = record { reads = reads_on first.time first.reads time reads; time = elapses_on first.time time }
+pub read_on : (a b c : Medium) → IsRead a b → OnlyReads b c → Elapses b c → c.faults ≡ b.faults → IsRead a c
+read_on a b c first reads time passes = record {
+  reads = reads_on first.time first.reads time reads;
+  time = elapses_on first.time time;
+  passes = passes ∙ first.passes;
+}

@@ -119,10 +119,10 @@ module _ (told : Bool) (file : ℕ) (blocks bytes was : List ℕ) where
       → (IsTrue told → new.image ≡ put_image mid.image file (256 * b) sent)
       → Follows (WriteCase file (256 * b) sent) mid.now new.now
       → Follows (WriteOrNot file (256 * b) sent) mid.now (new.since mid.moment)
-      → new.written ≤ mid.written + length sent → Elapses mid new
+      → new.written ≤ mid.written + length sent → Elapses mid new → new.faults ≡ mid.faults
       → IsPartly told file blocks bytes was i old mid → IsPartly told file blocks bytes was (i + 1) old new
-  partly_write i b sent old mid new lt distinct differ block_is sent_is small image now during written time partly =
-      let one = wrote_one told file b sent small mid new image now during written time in
+  partly_write i b sent old mid new lt distinct differ block_is sent_is small image now during written time passes partly =
+      let one = wrote_one told file b sent small mid new image now during written time passes in
       let P : ℕ → Type 0 = λ k. Wrote told (λ f. f ≢ file) (λ x. x ≢ k) 256 mid new in
       partly_more i old mid new lt distinct differ (subst P block_is one)
       (λ tells. image tells ∙ ap (λ k. put_image mid.image file (256 * k) sent) block_is ∙ ap (put_image mid.image file (256 * get_or blocks i 0)) sent_is) partly

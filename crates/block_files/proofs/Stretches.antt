@@ -1,5 +1,5 @@
 -- Stretches of writes: none, one after another, a failure after some, and less said of them.
-use Rattle.std.proofs.Common.{◌≡◌, ◌≢◌, ℕ, ◌+◌, ◌*◌, ◌≤◌, List, length, Bool, IsTrue, sym, subst, arith, ⊎_elim}
+use Rattle.std.proofs.Common.{◌≡◌, ◌≢◌, ℕ, ◌+◌, ◌*◌, ◌≤◌, List, length, Bool, IsTrue, refl, sym, ◌∙◌, subst, arith, ⊎_elim}
 use Rattle.per_base.specs.Causes.{Rose}
 use Rattle.disk_model.specs.Image.{put_image, TornImage}
 use Rattle.disk_model.specs.Case.{WriteCase, WriteOrNot, Follows}
@@ -19,6 +19,7 @@ module _ (told : Bool) (spared apart : ℕ → Type 0) where
     during = λ c past. (c, law.only_now c past, case_none c);
     written = omega arith;
     time = elapses_none law;
+    passes = refl;
   }
 
   -- each case since the start of two stretches
@@ -37,6 +38,7 @@ module _ (told : Bool) (spared apart : ℕ → Type 0) where
     during = during_on a b c first.time next.time first.now first.during next.during;
     written = omega (arith, first.written, next.written);
     time = elapses_on first.time next.time;
+    passes = next.passes ∙ first.passes;
   }
 
   pub wrote_tore : (n more : ℕ) (a b c : Medium) → Wrote told spared apart n a b → Tore told spared apart more b c → Tore told spared apart (n + more) a c
@@ -58,6 +60,7 @@ module _ (told : Bool) (spared apart fewer closer : ℕ → Type 0) (files : (f 
     during = follows_less (KeepsCase spared apart) (KeepsCase fewer closer) old.now (new.since old.moment) (λ x y step. case_less files blocks step) wrote.during;
     written = omega (arith, wrote.written);
     time = wrote.time;
+    passes = wrote.passes;
   }
 
   pub tore_less : Tore told spared apart n old new → Tore told fewer closer more old new
@@ -84,14 +87,15 @@ module _ (told : Bool) (file b : ℕ) (bytes : List ℕ) (small : length bytes �
   pub wrote_one : (IsTrue told → new.image ≡ put_image old.image file (256 * b) bytes)
       → Follows (WriteCase file (256 * b) bytes) old.now new.now
       → Follows (WriteOrNot file (256 * b) bytes) old.now (new.since old.moment)
-      → new.written ≤ old.written + length bytes → Elapses old new → Wrote told (λ f. f ≢ file) (λ k. k ≢ b) 256 old new
-  wrote_one image now during written time = record {
+      → new.written ≤ old.written + length bytes → Elapses old new → new.faults ≡ old.faults → Wrote told (λ f. f ≢ file) (λ k. k ≢ b) 256 old new
+  wrote_one image now during written time passes = record {
     keeps = λ tells. subst (Keeps others apart old.image) (sym (image tells)) (keeps_put old.image file (256 * b) bytes one_block);
     now = follows_less (WriteCase file (256 * b) bytes) (KeepsCase others apart) old.now new.now (λ x y step. case_write file (256 * b) bytes one_block step) now;
     during = follows_less (WriteOrNot file (256 * b) bytes) (KeepsCase others apart) old.now (new.since old.moment)
         (λ x y step. case_or_not x y file (256 * b) bytes one_block step) during;
     written = omega arith;
     time = time;
+    passes = passes;
   }
 
   pub tore_one : (IsTrue told → TornImage file (256 * b) (length bytes) old.image new.image)

@@ -9,13 +9,14 @@ use Rattle.block_files.specs.Parts.{is_changed}
 use Rattle.block_files.specs.Areas.{area_of}
 
 -- Writes that were all done, of at most n bytes: files that are spared and blocks that are apart read as before, and so they do in each
--- case of a crash after the writes or at any moment of them, but for what a crash may leave past an old end.
+-- case of a crash after the writes or at any moment of them, but for what a crash may leave past an old end. No call failed.
 pub record Wrote (told : Bool) (spared apart : ℕ → Type 0) (n : ℕ) (old new : Medium) : Type 0 where
   pub keeps : IsTrue told → Keeps spared apart old.image new.image
   pub now : Follows (KeepsCase spared apart) old.now new.now
   pub during : Follows (KeepsCase spared apart) old.now (new.since old.moment)
   pub written : new.written ≤ old.written + n
   pub time : Elapses old new
+  pub passes : new.faults ≡ old.faults
 
 -- Writes of which one failed: spared files and blocks apart read as before, but for what lies past an old end.
 pub record Tore (told : Bool) (spared apart : ℕ → Type 0) (n : ℕ) (old new : Medium) : Type 0 where

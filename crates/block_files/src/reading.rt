@@ -1,6 +1,6 @@
 //! What the copies of a content hold.
 
-ghost use Rattle.std.specs.Prelude.{◌≡◌, ◌≤◌, ◌-◌, ◌*◌, ◌++◌, IsTrue, IfOk, IfSome, OnErr, IsErrOf, length, map, min, take, replicate};
+ghost use Rattle.std.specs.Prelude.{◌≡◌, ◌≤◌, ◌-◌, ◌*◌, ◌++◌, IsTrue, IfOk, IfSome, OnErr, IsErrOf, length, map, min, take, replicate, OnOk};
 ghost use Rattle.std.specs.List.{range_with_len};
 ghost use Rattle.std.specs.Option.{option_map};
 ghost use Rattle.per_base.specs.Causes.{Rose};
@@ -41,6 +41,8 @@ pub(crate) fn look<D: Disk>(
     ensures reads { OnlyReads (D.medium disk.old) (D.medium disk.new) }
     ensures time { Elapses (D.medium disk.old) (D.medium disk.new) }
     ensures cause { IsErrOf result BlobError.Device → Rose (D.medium disk.old).faults (D.medium disk.new).faults }
+    ensures passes { OnOk result ((D.medium disk.new).faults ≡ (D.medium disk.old).faults) }
+    ensures fed { IsErrOf result BlobError.OutOfMemory → (D.medium disk.new).faults ≡ (D.medium disk.old).faults }
 {
     let mut texts = Vec::new(alloc);
     let mut inside = Vec::new(alloc);
@@ -69,6 +71,8 @@ fn read_text<D: Disk>(
     ensures reads { OnlyReads (D.medium disk.old) (D.medium disk.new) }
     ensures time { Elapses (D.medium disk.old) (D.medium disk.new) }
     ensures cause { IsErrOf result BlobError.Device → Rose (D.medium disk.old).faults (D.medium disk.new).faults }
+    ensures passes { OnOk result ((D.medium disk.new).faults ≡ (D.medium disk.old).faults) }
+    ensures fed { IsErrOf result BlobError.OutOfMemory → (D.medium disk.new).faults ≡ (D.medium disk.old).faults }
 {
     let bytes = read_joined(alloc, disk, file, blocks, len as usize)?;
     if hash_of(&bytes) != *hash {
@@ -90,6 +94,8 @@ fn read_joined<D: Disk>(
     ensures reads { OnlyReads (D.medium disk.old) (D.medium disk.new) }
     ensures time { Elapses (D.medium disk.old) (D.medium disk.new) }
     ensures cause { IsErrOf result BlobError.Device → Rose (D.medium disk.old).faults (D.medium disk.new).faults }
+    ensures passes { OnOk result ((D.medium disk.new).faults ≡ (D.medium disk.old).faults) }
+    ensures fed { IsErrOf result BlobError.OutOfMemory → (D.medium disk.new).faults ≡ (D.medium disk.old).faults }
 {
     let mut bytes = Vec::new(alloc);
     for number in blocks {
@@ -107,6 +113,7 @@ fn read_block<D: Disk>(disk: &mut D, file: u32, number: u32) -> Result<[u8; BLOC
     ensures reads { OnlyReads (D.medium disk.old) (D.medium disk.new) }
     ensures time { Elapses (D.medium disk.old) (D.medium disk.new) }
     ensures cause { OnErr result (Rose (D.medium disk.old).faults (D.medium disk.new).faults) }
+    ensures passes { OnOk result ((D.medium disk.new).faults ≡ (D.medium disk.old).faults) }
 {
     let mut content = [0; BLOCK];
     let n = disk.read(file, BLOCK as u64 * u64::from(number), &mut content)?;

@@ -30,7 +30,7 @@ use Rattle.element_laws.proofs.Keeping.{IsFewer, KeepsAll, WasHeld}
 use Rattle.element_laws.proofs.Frames.{slot_no_area, area_no_slot, its_blocks, given_piece, fewer_decays, keeps_decays}
 use Rattle.element_laws.proofs.Phases.{fewer_kept, salvage_corrupt, one_salvage, salvage_held, room, sound_slots, decays_slots, given_then, whole_then}
 use Rattle.element_laws.proofs.NewText.{EntryStands}
-use Rattle.element_laws.proofs.TwoTexts.{SalvageKept, two_clean, corrupt_two}
+use Rattle.element_laws.proofs.TwoTexts.{SalvageKept, two_clean, two_salvage, corrupt_two}
 use Rattle.element_laws.proofs.IndexLaws.{names_it, written_stands}
 
 -- a text that is held after all but one were taken away is that one, and was held
@@ -239,11 +239,14 @@ anew_index aside shape start now then taken g next new_index view others c posit
           let there = all.whole i spells e k copy v lt spared was gave in
           whole (where_of e) copy v spared there.0 there.1;
     } in
-    salvage_kept in (
-      corrupt_two shape start image damaged positive given_up.clean g next new_index view others fit generation_is stand texts counted alike_new given_up.corrupt
-          (λ copy h u lt apart v. fewer.held copy lt h u (same_copy copy h u lt apart v)) same_gift kept,
-      two_clean shape start image damaged positive given_up.clean g next new_index view others fit generation_is stand texts counted alike_new,
-    )
+    salvage_kept in
+    record {
+      kept = corrupt_two shape start image damaged positive given_up.clean g next new_index view others fit generation_is stand texts counted alike_new given_up.corrupt
+          (λ copy h u lt apart v. fewer.held copy lt h u (same_copy copy h u lt apart v)) same_gift kept;
+      salvage = two_salvage shape start image damaged positive given_up.clean g next new_index view others fit generation_is stand texts counted alike_new given_up.corrupt
+          (λ copy h u lt apart v. fewer.held copy lt h u (same_copy copy h u lt apart v)) same_gift kept;
+      clean = two_clean shape start image damaged positive given_up.clean g next new_index view others fit generation_is stand texts counted alike_new;
+    }
 
 -- ---- places that are clean
 
@@ -289,5 +292,5 @@ settled_sound shape image c settled clean = record {
     ]
 
 pub settled_kept : SettledLaw
-settled_kept shape before after image c settled clean kept = (kept (settled_sound shape image c settled clean) [] image
-    (record { others = λ f out. ap (λ (im : Image). im f) (sym settled.left); pieces = λ x is. subst (λ (im : Image). IsPiece shape.place im x) (sym settled.left) is })).0
+settled_kept shape start image after c settled clean kept = (kept (settled_sound shape image c settled clean) [] image
+    (record { others = λ f out. ap (λ (im : Image). im f) (sym settled.left); pieces = λ x is. subst (λ (im : Image). IsPiece shape.place im x) (sym settled.left) is })).kept

@@ -20,6 +20,7 @@ use Rattle.index_text.specs.declared.entries.Index.{Index}
 use Rattle.index_text.specs.declared.entries.IndexEntry.{IndexEntry}
 use Rattle.index_text.specs.Reading.{index_of}
 use Rattle.element_state.specs.declared.shapes.Shape.{Shape}
+use Rattle.element_state.specs.States.{Opens}
 use Rattle.element_state.specs.Fit.{fit_index}
 use Rattle.element_state.specs.Views.{qualifies, supporters, entry_view, content_of}
 use Rattle.element_state.specs.Clean.{where_of, IsNamed, IsClean}
@@ -32,7 +33,7 @@ use Rattle.element_laws.proofs.Standing.{gift_of}
 use Rattle.element_laws.proofs.Left.{is_whole_at, value_at, with_values, spared_has, good_is}
 use Rattle.element_laws.proofs.Keeping.{HoldsOnly, IsLess}
 use Rattle.element_laws.proofs.Frames.{slot_no_area, area_no_slot}
-use Rattle.element_laws.proofs.Phases.{sound_slots, decays_slots, given_then, whole_then, contents_then}
+use Rattle.element_laws.proofs.Phases.{opens_pick, opened_on, sound_slots, decays_slots, given_then, whole_then, contents_then}
 use Rattle.element_laws.proofs.NewText.{EntryStands}
 use Rattle.element_laws.proofs.IndexPhase.{open_at, opened_two, opened_clean}
 
@@ -209,7 +210,8 @@ index aside shape start now then g t i taken next new_index view others c positi
     elim it.stands [
       | inl old ↦ inl (λ c lt spared. old c lt spared g t (own_next g) (held c lt))
       | inr newer ↦ inr newer
-    ] in (
-      opened_two shape start image damaged positive clean g t i opens next new_index view others fit generation_is stand texts counted alike_new whole_old stays,
-      opened_clean shape start image damaged positive clean g t i opens next new_index view others fit generation_is stand texts counted alike_new whole_old stays,
-    )
+    ] in
+    let (r, found, is) = opens_pick shape start opens.view opens.others opens.opens in
+    opened_on shape start image damaged (Opens view others) r found
+    (opened_two shape start image damaged positive clean g t i opens next new_index view others fit generation_is stand texts counted alike_new whole_old stays)
+    (opened_clean shape start image damaged positive clean g t i opens next new_index view others fit generation_is stand texts counted alike_new whole_old stays)

@@ -18,8 +18,8 @@ use Rattle.element_state.specs.Views.{qualifies, view_of}
 use Rattle.element_state.specs.States.{State, Opens, beside, picked, state_of, store_at, corrupt_state, salvage_of}
 use Rattle.element_state.specs.Clean.{where_of, IsNamed, IsClean}
 use Rattle.element_state.specs.Chosen.{chosen, first_of, or_first}
-use Rattle.element_state.specs.Kept.{IsSpared, HasEnough, HasOne, CostsNoCopy, IsLeftAs, SalvageStays, all_views, listed, Kept}
-use Rattle.element_laws.proofs.Lists.{In, append-In, some_is, not_none}
+use Rattle.element_state.specs.Kept.{IsSpared, HasEnough, HasOne, CostsNoCopy, IsLeftAs, SalvageStays, HasHolder, KeepsSalvage, all_views, listed, Kept}
+use Rattle.element_laws.proofs.Lists.{In, append-In, some_is, not_none, not_false}
 use Rattle.element_laws.proofs.Copies.{Gives, voted_given}
 use Rattle.element_laws.proofs.Fits.{fit_at, IsFit, In-fit, fit-In, fit-spelled, fit_descends, nothing_beside, pick_greatest, picked_max, picked_parts, none_passes, views-In}
 use Rattle.element_laws.proofs.Standing.{gift_of, StandsFor, one_fit, EachStands, SparesCopies, Found, same_headings, keeps_each, kept_opens, corrupt_kept}
@@ -252,7 +252,7 @@ left_as shape old new damaged positive clean new_clean copy g t i inside held fi
       copies = costs_left shape old new damaged positive clean copy g t i inside held fit counted whole;
     }
 
--- the first of the texts that fit has the greatest generation, and is held where a copy of it is left
+-- the first of the texts that fit has the greatest generation
 pub at_first : (shape : Shape) (old : Image) (x : FitText) (xs : List FitText) → fit_texts shape old ≡ x ∷ xs → IsFit old shape x
 at_first shape old x xs are = In-fit old shape x (subst (λ (ys : List FitText). In x ys) (sym are) (inl refl))
 
@@ -261,13 +261,15 @@ pub first_greatest : (shape : Shape) (old : Image) (x : FitText) (xs : List FitT
 first_greatest shape old x xs are z h = picked_max (λ (u : FitText). true) (fit_texts shape old) (x, xs) (fit_descends old shape)
     (subst (λ (ys : List FitText). picked (λ (u : FitText). true) ys ≡ Some (x, xs)) (sym are) refl) z h refl
 
-pub first_held : (shape : Shape) (old : Image) (damaged : List ℕ) (x : FitText) (xs : List FitText) (are : fit_texts shape old ≡ x ∷ xs) (one : HasOne shape damaged (view_of old shape x).lacking)
-    → IsUndamaged damaged shape.place.first one.0 × Holds old shape.place.first one.0 (at_first shape old x xs are).generation (at_first shape old x xs are).text
+-- a copy that is spared and did not lack it holds its text
+pub first_held : (shape : Shape) (old : Image) (damaged : List ℕ) (x : FitText) (xs : List FitText) (are : fit_texts shape old ≡ x ∷ xs)
+    → HasOne shape damaged (view_of old shape x).lacking → HasHolder shape old damaged x
 first_held shape old damaged x xs are one =
     let at = at_first shape old x xs are in
     let spared : IsSpared shape damaged (numbers_lacking shape old at.generation at.text at.index shape.scope) one.0 = subst (λ (ls : List ℕ). IsSpared shape damaged ls one.0)
     (ap (λ (u : FitText). (view_of old shape u).lacking) (sym at.is) ∙ lacking_view shape old at.generation at.text at.index) one.2 in
-    (spared.0, spared_holds shape old at.generation at.text at.index shape.scope one.0 one.1 spared.1)
+    let holds = spared_holds shape old at.generation at.text at.index shape.scope one.0 one.1 spared.1 in
+    (one.0, one.1, spared.0, subst (λ (u : FitText). Holds old shape.place.first one.0 u.0.generation u.0.text) at.is holds)
 
 -- the salvage is the view of the first text
 pub first_salvage : (view : FitText → View) (ts : List FitText) (r : FitText × List FitText) → picked (λ (u : FitText). true) ts ≡ Some r
@@ -287,6 +289,16 @@ pub first_chosen : (shape : Shape) (old : Image) (x : FitText) (xs : List FitTex
 unfolding chosen
 first_chosen shape old x xs are none =
     ap (or_first (fit_texts shape old)) (none_found (qualifies old shape) (fit_texts shape old) none) ∙ ap first_of are
+
+first_list : (ts : List FitText) (o : Option FitText) (text : FitText) → or_first ts o ≡ Some (false, text) → (rest : List FitText) × (ts ≡ text ∷ rest)
+first_list ts (Some x) text e = absurd (not_false (sym (ap (λ (p : Bool × FitText). p.0) (some_is (true, x) (false, text) e))))
+first_list [] None text e = absurd (not_none (false, text) (sym e))
+first_list (y ∷ ys) None text e = (ys, ap (λ (p : Bool × FitText). p.1 ∷ ys) (some_is (false, y) (false, text) e))
+
+-- the text of a salvage is the first that fits
+pub salvage_first : (shape : Shape) (old : Image) (text : FitText) → chosen old shape ≡ Some (false, text) → (rest : List FitText) × (fit_texts shape old ≡ text ∷ rest)
+unfolding chosen
+salvage_first shape old text is = first_list (fit_texts shape old) (find (qualifies old shape) (fit_texts shape old)) text is
 
 -- copies hold only texts that they held, and give only contents that they gave
 pub record IsFewer (shape : Shape) (old new : Image) : Type 0 where
@@ -334,7 +346,7 @@ module _ (shape : Shape) (old new : Image) (damaged : List ℕ) (positive : 1 �
 
     -- and the salvage is the one of before, where a copy of it is left
     module _ (x : FitText) (xs : List FitText) (are : fit_texts shape old ≡ x ∷ xs) (keeps : KeepsAll shape x.0.generation x.0.text damaged old new)
-        (one : HasOne shape damaged (view_of old shape x).lacking) where
+        (one : HasHolder shape old damaged x) where
       abbrev at_x : IsFit old shape x
       at_x = at_first shape old x xs are
 
@@ -342,7 +354,7 @@ module _ (shape : Shape) (old new : Image) (damaged : List ℕ) (positive : 1 �
       keeps_x = subst (λ (u : FitText). KeepsAll shape u.0.generation u.0.text damaged old new) (sym at_x.is) keeps
 
       still : Holds new shape.place.first one.0 at_x.generation at_x.text
-      still = keeps_x.text one.0 one.1 (first_held shape old damaged x xs are one).0 (first_held shape old damaged x xs are one).1
+      still = subst (λ (u : FitText). Holds new shape.place.first one.0 u.0.generation u.0.text) (sym at_x.is) (keeps.text one.0 one.1 one.2 one.3)
 
       abbrev y : FitText
       y = fit_at new shape at_x.generation at_x.text at_x.index
@@ -383,7 +395,15 @@ module _ (shape : Shape) (old new : Image) (damaged : List ℕ) (positive : 1 �
     salvage_stays after [] are keeps = tt
     salvage_stays after (x ∷ xs) are keeps = λ one.
         let here = keeps x (first_chosen shape old x xs are none) in
-        (view_of new shape (y x xs are here one), salvage_now x xs are here one, inl (left_x x xs are here one))
+        let holder = first_held shape old damaged x xs are one in
+        (view_of new shape (y x xs are here holder), salvage_now x xs are here holder, inl (left_x x xs are here holder))
+
+    pub fewer_salvage : (after : State) → ((text : FitText) → chosen old shape ≡ Some (false, text) → KeepsAll shape text.0.generation text.0.text damaged old new)
+        → KeepsSalvage shape old damaged (store_at new shape) after
+    fewer_salvage after keeps x is holder =
+        let (xs, are) = salvage_first shape old x is in
+        let here = keeps x is in
+        (view_of new shape (y x xs are here holder), salvage_now x xs are here holder, inl (left_x x xs are here holder))
 
     pub fewer_corrupt : (after : State) → ((text : FitText) → chosen old shape ≡ Some (false, text) → KeepsAll shape text.0.generation text.0.text damaged old new)
         → Kept shape damaged (store_at new shape) (store_at old shape) after

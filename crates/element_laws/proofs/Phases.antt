@@ -24,14 +24,14 @@ use Rattle.element_state.specs.Views.{qualifies, view_of}
 use Rattle.element_state.specs.States.{State, Opens, Corrupt, beside, picked, state_of, store_at, corrupt_state}
 use Rattle.element_state.specs.Clean.{where_of, IsNamed, IsPiece, in_slot, in_blocks, IsClean, IsSound}
 use Rattle.element_state.specs.Chosen.{chosen, or_first}
-use Rattle.element_state.specs.Kept.{Kept}
+use Rattle.element_state.specs.Kept.{Kept, IsKeptOn}
 use Rattle.element_laws.specs.Phases.{IsOfPlace, DamageLaw, UntouchedLaw, OpensAt, IsCorruptAt, CorruptLaw, IsSalvageAt, IsAdopted, AdoptLaw, KeepLaw, TakesBlocks, ContentsLaw, ContentsDoneLaw}
 use Rattle.element_laws.proofs.Lists.{In, all_in, Contains-In, In-map, not_none, not_false, some_is}
 use Rattle.element_laws.proofs.Copies.{Gives}
 use Rattle.element_laws.proofs.Fits.{fit-spelled}
 use Rattle.element_laws.proofs.Standing.{gift_of, generation_of}
 use Rattle.element_laws.proofs.Left.{is_whole_at}
-use Rattle.element_laws.proofs.Keeping.{HoldsOnly, IsLess, IsFewer, KeepsAll, less_keeps, at_first, its, its_generation, its_only, less_opens, less_clean, fewer_corrupt, fewer_clean}
+use Rattle.element_laws.proofs.Keeping.{HoldsOnly, IsLess, IsFewer, KeepsAll, less_keeps, at_first, its, its_generation, its_only, less_opens, less_clean, salvage_first, fewer_corrupt, fewer_salvage, fewer_clean}
 use Rattle.element_laws.proofs.Frames.{own_small, slot_no_area, area_no_slot, its_blocks, given_piece, given_back, whole_on, less_decays, fewer_decays}
 
 -- ---- at which text a storage opens
@@ -39,6 +39,13 @@ use Rattle.element_laws.proofs.Frames.{own_small, slot_no_area, area_no_slot, it
 pub no_open : (vs : List View) (w : View) (rest : List View) → corrupt_state vs ≡ Opens w rest → ⊥
 no_open [] w rest e = cc
 no_open (v ∷ vs) w rest e = cc
+
+none_picked : {A : Type 0} (q : A → Bool) (xs : List A) → find q xs ≡ None → picked q xs ≡ None
+none_picked q [] e = refl
+none_picked q (y ∷ ys) e = elim (q y) as (λ b. cond b (Some y) (find q ys) ≡ None → cond b (Some (y, ys)) (beside y (picked q ys)) ≡ None) [
+  | true ↦ λ e. absurd (not_none y e)
+  | false ↦ λ e. ap (beside y) (none_picked q ys e)
+] e
 
 module _ (shape : Shape) (start : Image) where
   abbrev pub pick : Option (FitText × List FitText)
@@ -63,11 +70,31 @@ module _ (shape : Shape) (start : Image) where
   unfolding store_at
   corrupt_pick is = none_pick pick refl is.0 is.1 is.2
 
+-- ---- where a storage opens, nothing is asked of a salvage
+
+not_picked : (ts : List FitText) (q : FitText → Bool) (o : Option FitText) (r : FitText × List FitText) (text : FitText) → find q ts ≡ o → picked q ts ≡ Some r
+    → or_first ts o ≡ Some (false, text) → ⊥
+not_picked ts q None r text e found is = absurd (not_none r (sym found ∙ none_picked q ts e))
+not_picked ts q (Some x) r text e found is = not_false (sym (ap (λ (p : Bool × FitText). p.0) (some_is (true, x) (false, text) is)))
+
+opens_first : (shape : Shape) (start : Image) (r : FitText × List FitText) (text : FitText) → pick shape start ≡ Some r → chosen start shape ≡ Some (false, text) → ⊥
+unfolding chosen
+opens_first shape start r text found is =
+    not_picked (fit_texts shape start) (qualifies start shape) (find (qualifies start shape) (fit_texts shape start)) r text refl found is
+
+pub opened_on : (shape : Shape) (start new : Image) (damaged : List ℕ) (after : State) (r : FitText × List FitText) → pick shape start ≡ Some r
+    → Kept shape damaged (store_at new shape) (store_at start shape) after → IsClean shape new → IsKeptOn shape damaged start new after
+opened_on shape start new damaged after r found kept clean = record {
+  kept = kept;
+  salvage = λ text is holder. absurd (opens_first shape start r text found is);
+  clean = clean;
+}
+
 -- ---- what is less is kept
 
 -- from a storage that opens at a text
 pub less_kept : (shape : Shape) (start new : Image) (damaged : List ℕ) (g : ℕ) (t : List ℕ) (i : Index) (after : State) → 1 ≤ shape.m → IsClean shape start
-    → OpensAt shape start g t i → IsLess shape g t damaged start new → Kept shape damaged (store_at new shape) (store_at start shape) after × IsClean shape new
+    → OpensAt shape start g t i → IsLess shape g t damaged start new → IsKeptOn shape damaged start new after
 less_kept shape start new damaged g t i after positive clean opens less =
     let (r, e, is) = opens_pick shape start opens.view opens.others opens.opens in
     let fit = its shape start new damaged positive clean r e in
@@ -76,14 +103,19 @@ less_kept shape start new damaged g t i after positive clean opens less =
     let text : t ≡ fit.text = its_only shape start new damaged positive clean r e g t (record { copy = opens.copy; inside = opens.inside; holds = opens.held }) gen in
     let of_it : IsLess shape fit.generation fit.text damaged start new =
     subst (λ (h : ℕ). IsLess shape h fit.text damaged start new) gen (subst (λ (u : List ℕ). IsLess shape g u damaged start new) text less) in
-    (less_opens shape start new damaged positive clean r e of_it after, less_clean shape start new damaged positive clean r e of_it)
+    opened_on shape start new damaged after r e (less_opens shape start new damaged positive clean r e of_it after) (less_clean shape start new damaged positive clean r e of_it)
 
 -- from a corrupt one
 pub fewer_kept : (shape : Shape) (start new : Image) (damaged : List ℕ) (after : State) → 1 ≤ shape.m → IsClean shape start → IsCorruptAt shape start
     → IsFewer shape start new → ((text : FitText) → IsSalvageAt shape start text → KeepsAll shape text.0.generation text.0.text damaged start new)
-    → Kept shape damaged (store_at new shape) (store_at start shape) after × IsClean shape new
+    → IsKeptOn shape damaged start new after
 fewer_kept shape start new damaged after positive clean corrupt fewer keeps =
-    (fewer_corrupt shape start new damaged positive clean fewer (corrupt_pick shape start corrupt) after keeps, fewer_clean shape start new damaged positive clean fewer)
+    let none = corrupt_pick shape start corrupt in
+    record {
+      kept = fewer_corrupt shape start new damaged positive clean fewer none after keeps;
+      salvage = fewer_salvage shape start new damaged positive clean fewer none after keeps;
+      clean = fewer_clean shape start new damaged positive clean fewer;
+    }
 
 -- ---- what nobody touched
 
@@ -114,36 +146,35 @@ module _ (shape : Shape) (start mid new : Image) (damaged : List ℕ) (after : S
   same_fewer : IsFewer shape start mid
   same_fewer = record { held = λ copy lt h u v. held_same copy h u lt v; counted = λ at is copy w lt gives. given_same at copy w lt gives }
 
-  by_pick : (o : Option (FitText × List FitText)) → pick shape start ≡ o → Kept shape damaged (store_at new shape) (store_at start shape) after × IsClean shape new
+  same_keeps : (text : FitText) → IsSalvageAt shape start text → KeepsAll shape text.0.generation text.0.text damaged start new
+  same_keeps text is = less_keeps shape text.0.generation text.0.text damaged start new
+      (less_decays shape damaged mid new d text.0.generation text.0.text start (same_less text.0.generation text.0.text))
+
+  by_pick : (o : Option (FitText × List FitText)) → pick shape start ≡ o → IsKeptOn shape damaged start new after
   by_pick None e =
-      let fewer = fewer_decays shape damaged mid new d start same_fewer in (
-        fewer_corrupt shape start new damaged positive clean fewer e after (λ text is.
-            less_keeps shape text.0.generation text.0.text damaged start new
-            (less_decays shape damaged mid new d text.0.generation text.0.text start (same_less text.0.generation text.0.text))),
-        fewer_clean shape start new damaged positive clean fewer,
-      )
+      let fewer = fewer_decays shape damaged mid new d start same_fewer in
+      record {
+        kept = fewer_corrupt shape start new damaged positive clean fewer e after same_keeps;
+        salvage = fewer_salvage shape start new damaged positive clean fewer e after same_keeps;
+        clean = fewer_clean shape start new damaged positive clean fewer;
+      }
   by_pick (Some r) e =
       let fit = its shape start new damaged positive clean r e in
       let less = less_decays shape damaged mid new d fit.generation fit.text start (same_less fit.generation fit.text) in
-      (less_opens shape start new damaged positive clean r e less after, less_clean shape start new damaged positive clean r e less)
+      opened_on shape start new damaged after r e (less_opens shape start new damaged positive clean r e less after) (less_clean shape start new damaged positive clean r e less)
 
-  pub same_kept : Kept shape damaged (store_at new shape) (store_at start shape) after × IsClean shape new
+  pub same_kept : IsKeptOn shape damaged start new after
   same_kept = by_pick (pick shape start) refl
 
 pub damage : DamageLaw
-damage shape start left damaged positive clean d = same_kept shape start start left damaged (store_at start shape) positive clean (λ f is. refl) d
+damage shape start left damaged positive clean d =
+    let on = same_kept shape start start left damaged (store_at start shape) positive clean (λ f is. refl) d in
+    (on.kept, on.clean)
 
 pub untouched : UntouchedLaw
 untouched shape start after c positive clean settled sound damaged image d = same_kept shape start c.left image damaged after positive clean (λ f is. settled.left f is) d
 
 -- ---- where none qualifies
-
-none_picked : {A : Type 0} (q : A → Bool) (xs : List A) → find q xs ≡ None → picked q xs ≡ None
-none_picked q [] e = refl
-none_picked q (y ∷ ys) e = elim (q y) as (λ b. cond b (Some y) (find q ys) ≡ None → cond b (Some (y, ys)) (beside y (picked q ys)) ≡ None) [
-  | true ↦ λ e. absurd (not_none y e)
-  | false ↦ λ e. ap (beside y) (none_picked q ys e)
-] e
 
 is_corrupt : (vs : List View) → (salvage : Option View) × (others : List View) × (corrupt_state vs ≡ Corrupt salvage others)
 is_corrupt [] = (None, [], refl)
@@ -165,17 +196,11 @@ pub salvage_corrupt : (shape : Shape) (start : Image) (text : FitText) → IsSal
 unfolding chosen
 salvage_corrupt shape start text is = corrupt_found shape start (first_false (fit_texts shape start) (find (qualifies start shape) (fit_texts shape start)) text is)
 
-first_list : (ts : List FitText) (o : Option FitText) (text : FitText) → or_first ts o ≡ Some (false, text) → (rest : List FitText) × (ts ≡ text ∷ rest)
-first_list ts (Some x) text e = absurd (not_false (sym (ap (λ (p : Bool × FitText). p.0) (some_is (true, x) (false, text) e))))
-first_list [] None text e = absurd (not_none (false, text) (sym e))
-first_list (y ∷ ys) None text e = (ys, ap (λ (p : Bool × FitText). p.1 ∷ ys) (some_is (false, y) (false, text) e))
-
 -- some copy holds it
 pub salvage_held : (shape : Shape) (start : Image) (text : FitText) → IsSalvageAt shape start text
     → (copy : ℕ) × (copy < shape.place.copies) × Holds start shape.place.first copy text.0.generation text.0.text
-unfolding chosen
 salvage_held shape start text is =
-    let list = first_list (fit_texts shape start) (find (qualifies start shape) (fit_texts shape start)) text is in
+    let list = salvage_first shape start text is in
     let at = at_first shape start text list.0 list.1 in
     (at.copy, at.inside, subst (λ (u : FitText). Holds start shape.place.first at.copy u.0.generation u.0.text) at.is at.holds)
 

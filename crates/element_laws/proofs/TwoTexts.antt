@@ -25,14 +25,14 @@ use Rattle.element_state.specs.Views.{holds_all, supporters, qualifies, view_of}
 use Rattle.element_state.specs.States.{Opens, picked, state_of, store_at, corrupt_state, salvage_of}
 use Rattle.element_state.specs.Clean.{where_of, IsNamed, IsClean}
 use Rattle.element_state.specs.Chosen.{chosen}
-use Rattle.element_state.specs.Kept.{IsSpared, HasEnough, HasOne, IsLeftAs, SalvageStays, BecomesAs, all_views, Kept}
+use Rattle.element_state.specs.Kept.{IsSpared, HasEnough, IsLeftAs, SalvageStays, HasHolder, KeepsSalvage, BecomesAs, all_views, Kept}
 use Rattle.element_laws.specs.Phases.{IsCorruptAt}
 use Rattle.element_laws.proofs.Lists.{In, Contains-In, In-map, append-In, some_is, zip_with}
 use Rattle.element_laws.proofs.Copies.{Gives, AreAlike, Backed, voted_given}
 use Rattle.element_laws.proofs.Fits.{fit_at, IsFit, In-fit, fit-In, fit-spelled, picked_parts, none_passes}
 use Rattle.element_laws.proofs.Standing.{gift_of, StandsFor, HasValue, HasEach, EachStands, one_fit, same_headings, keeps, keeps_each, corrupt_kept}
 use Rattle.element_laws.proofs.Left.{is_whole_at, value_at, named, counts_all, qualifies_back}
-use Rattle.element_laws.proofs.Keeping.{WasHeld, stood, left_as, at_first, first_greatest, first_held, first_chosen}
+use Rattle.element_laws.proofs.Keeping.{WasHeld, stood, left_as, at_first, first_greatest, first_held, first_chosen, salvage_first}
 use Rattle.element_laws.proofs.NewText.{EntryStands, new_stands, new_costs}
 use Rattle.element_laws.proofs.Phases.{no_open, corrupt_pick}
 
@@ -221,7 +221,7 @@ module _ (shape : Shape) (start new : Image) (damaged : List ℕ) (positive : 1 
         (whole : (i : Index) → index_of x.0.text ≡ Some i → (e : IndexEntry) → In e i.entries → (copy : ℕ) (v : List ℕ) → copy < shape.place.copies
         → IsUndamaged damaged shape.place.first copy → is_whole_at start shape copy (where_of e) ≡ true → Gives (gift_of start shape (where_of e)) copy v
         → (is_whole_at new shape copy (where_of e) ≡ true) × Gives (gift_of new shape (where_of e)) copy v)
-        (one : HasOne shape damaged (view_of start shape x).lacking) where
+        (one : HasHolder shape start damaged x) where
       abbrev at_x : IsFit start shape x
       at_x = at_first shape start x xs are
 
@@ -246,13 +246,10 @@ module _ (shape : Shape) (start new : Image) (damaged : List ℕ) (positive : 1 
 
       -- one of the two is held
       held_one : Holds new shape.place.first one.0 at_x.generation at_x.text ⊎ Holds new shape.place.first one.0 g next
-      held_one =
-          let was = first_held shape start damaged x xs are one in
-          elim keeps [
-            | inl old ↦ inl (subst (λ (u : FitText). Holds start shape.place.first one.0 u.0.generation u.0.text → Holds new shape.place.first one.0 u.0.generation u.0.text) (sym at_x.is)
-                (old one.0 one.1 was.0) was.1)
-            | inr newer ↦ inr (newer one.0 one.1 was.0)
-          ]
+      held_one = elim keeps [
+        | inl old ↦ inl (subst (λ (u : FitText). Holds new shape.place.first one.0 u.0.generation u.0.text) (sym at_x.is) (old one.0 one.1 one.2 one.3))
+        | inr newer ↦ inr (newer one.0 one.1 one.2)
+      ]
 
       -- what the first text is
       module _ (z : FitText) (zs : List FitText) (be : fit_texts shape new ≡ z ∷ zs) where
@@ -312,7 +309,13 @@ module _ (shape : Shape) (start new : Image) (damaged : List ℕ) (positive : 1 
       salvage_stays [] are = tt
       salvage_stays (x ∷ xs) are = λ one.
           let it = kept x (first_chosen shape start x xs are (corrupt_pick shape start corrupt)) in
-          salvage_two x xs are it.below it.held it.whole one
+          salvage_two x xs are it.below it.held it.whole (first_held shape start damaged x xs are one)
+
+      pub two_salvage : KeepsSalvage shape start damaged (store_at new shape) (Opens view others)
+      two_salvage x is holder =
+          let (xs, are) = salvage_first shape start x is in
+          let it = kept x is in
+          salvage_two x xs are it.below it.held it.whole holder
 
       pub corrupt_two : Kept shape damaged (store_at new shape) (store_at start shape) (Opens view others)
       corrupt_two = subst (λ s. Kept shape damaged (store_at new shape) s (Opens view others)) (sym corrupt_is)

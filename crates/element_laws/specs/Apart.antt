@@ -44,4 +44,4 @@ ElsewhereLaw = (one : Place) (shape : Shape) (old new : Image) → LieApart one 
 -- a case in which all files outside one place are settled keeps a storage at the other, whatever its next state is to be
 abbrev pub ElsewhereCaseLaw : Type 0
 ElsewhereCaseLaw = (one : Place) (shape : Shape) (start : Image) (after : State) (c : Case) → 1 ≤ shape.m → LieApart one shape.place → IsClean shape start
-    → IsSettledOn (IsOutside one.first one.copies) start c → IsKeptCase shape (store_at start shape) after c
+    → IsSettledOn (IsOutside one.first one.copies) start c → IsKeptCase shape start after c

@@ -50,7 +50,7 @@ DamageLaw = (shape : Shape) (start left : Image) (damaged : List ℕ) → 1 ≤ 
 -- and so it is kept while others call, whatever its next state is to be
 abbrev pub UntouchedLaw : Type 0
 UntouchedLaw = (shape : Shape) (start : Image) (after : State) (c : Case) → 1 ≤ shape.m → IsClean shape start → IsSettledOn (IsOfPlace shape.place) start c
-    → IsKeptCase shape (store_at start shape) after c
+    → IsKeptCase shape start after c
 
 -- ---- where a storage stands
 
@@ -104,12 +104,12 @@ pub record IsGivenUp (shape : Shape) (start now : Image) : Type 0 where
 abbrev pub AdoptLaw : Type 0
 AdoptLaw = (shape : Shape) (start : Image) (generation : ℕ) (text : List ℕ) (index : Index) (after : State) (c : Case) → 1 ≤ shape.m → IsClean shape start
     → OpensAt shape start generation text index → PutStops shape.place.first shape.place.copies generation text start c
-    → IsKeptCase shape (store_at start shape) after c
+    → IsKeptCase shape start after c
 
 -- taking every text away but that of the salvage of a corrupt storage
 abbrev pub KeepLaw : Type 0
 KeepLaw = (shape : Shape) (start : Image) (text : FitText) (after : State) (c : Case) → 1 ≤ shape.m → IsClean shape start → IsSalvageAt shape start text
-    → KeepStops shape.place.first shape.place.copies text.0.generation text.0.text start c → IsKeptCase shape (store_at start shape) after c
+    → KeepStops shape.place.first shape.place.copies text.0.generation text.0.text start c → IsKeptCase shape start after c
 
 -- ---- contents are written
 
@@ -122,14 +122,14 @@ abbrev pub ContentsLaw : Type 0
 ContentsLaw = (shape : Shape) (start now : Image) (generation : ℕ) (text : List ℕ) (index : Index) (taken : ℕ → Bool) (after : State) (old c : Case) → 1 ≤ shape.m
     → IsAdopted shape start now generation text index → IsIndex index → TakesBlocks taken index
     → IsSettledAt now old → KeepsCase (IsNoArea shape.place.first shape.place.copies) (λ k. taken k ≡ true) old c
-    → IsKeptCase shape (store_at start shape) after c
+    → IsKeptCase shape start after c
 
 -- and after they were made durable
 abbrev pub ContentsDoneLaw : Type 0
 ContentsDoneLaw = (shape : Shape) (start now then : Image) (generation : ℕ) (text : List ℕ) (index : Index) (taken : ℕ → Bool) (after : State) (c : Case) → 1 ≤ shape.m
     → IsAdopted shape start now generation text index → IsIndex index → TakesBlocks taken index
     → Keeps (IsNoArea shape.place.first shape.place.copies) (λ k. taken k ≡ true) now then → IsSettledAt then c
-    → IsKeptCase shape (store_at start shape) after c
+    → IsKeptCase shape start after c
 
 -- ---- the index is written
 
@@ -165,7 +165,7 @@ IndexLaw = (shape : Shape) (start now then : Image) (generation : ℕ) (text : L
     → fit_index shape next ≡ Some new_index → view.generation ≡ generation + 1
     → AllZip (λ e f. IsWritten shape then e f ⊎ IsCarried shape start index e f) new_index.entries view.entries
     → PutStops shape.place.first shape.place.copies (generation + 1) next then c
-    → IsKeptCase shape (store_at start shape) (Opens view others) c
+    → IsKeptCase shape start (Opens view others) c
 
 -- ---- a corrupt storage is made anew
 
@@ -192,14 +192,14 @@ abbrev pub AnewContentsLaw : Type 0
 AnewContentsLaw = (shape : Shape) (start now : Image) (taken : ℕ → Bool) (after : State) (old c : Case) → 1 ≤ shape.m
     → IsGivenUp shape start now → TakesNamed taken shape.place now
     → IsSettledAt now old → KeepsCase (IsNoArea shape.place.first shape.place.copies) (λ k. taken k ≡ true) old c
-    → IsKeptCase shape (store_at start shape) after c
+    → IsKeptCase shape start after c
 
 -- and after they were made durable
 abbrev pub AnewDoneLaw : Type 0
 AnewDoneLaw = (shape : Shape) (start now then : Image) (taken : ℕ → Bool) (after : State) (c : Case) → 1 ≤ shape.m
     → IsGivenUp shape start now → TakesNamed taken shape.place now
     → Keeps (IsNoArea shape.place.first shape.place.copies) (λ k. taken k ≡ true) now then → IsSettledAt then c
-    → IsKeptCase shape (store_at start shape) after c
+    → IsKeptCase shape start after c
 
 -- and then the index, under a generation above those that are held: where there is a salvage the next one, so that each copy that holds its
 -- text holds it until all have the new one
@@ -213,7 +213,7 @@ AnewIndexLaw = (shape : Shape) (start now then : Image) (taken : ℕ → Bool) (
     → fit_index shape next ≡ Some new_index → view.generation ≡ generation
     → AllZip (IsWritten shape then) new_index.entries view.entries
     → PutStops shape.place.first shape.place.copies generation next then c
-    → IsKeptCase shape (store_at start shape) (Opens view others) c
+    → IsKeptCase shape start (Opens view others) c
 
 -- ---- places that are clean
 
@@ -238,8 +238,8 @@ SoundLaw = (shape : Shape) (image : Image) (c : Case) → IsSettledAt image c �
 
 -- and so the storage is kept on the image at the end of a phase
 abbrev pub SettledLaw : Type 0
-SettledLaw = (shape : Shape) (before after : State) (image : Image) (c : Case) → IsSettledAt image c → IsClean shape image
-    → IsKeptCase shape before after c → Kept shape [] (store_at image shape) before after
+SettledLaw = (shape : Shape) (start image : Image) (after : State) (c : Case) → IsSettledAt image c → IsClean shape image
+    → IsKeptCase shape start after c → Kept shape [] (store_at image shape) (store_at start shape) after
 
 -- ---- contents are mended in place
 
@@ -302,7 +302,7 @@ MendSyncLaw = (shape : Shape) (start now : Image) (index : Index) (old new : Cas
 abbrev pub MendLaw : Type 0
 MendLaw = (shape : Shape) (start now : Image) (generation : ℕ) (text : List ℕ) (index : Index) (after : State) (c : Case) → 1 ≤ shape.m
     → IsAdopted shape start now generation text index → IsIndex index → IsMending shape start now index c
-    → IsKeptCase shape (store_at start shape) after c
+    → IsKeptCase shape start after c
 
 -- ---- a storage in use
 

@@ -23,12 +23,17 @@ use Rattle.disk_model.proofs.Moments.{reads_none, reads_on, elapses_none, elapse
 pub record IsRead (old now : Medium) : Type 0 where
   pub reads : OnlyReads old now
   pub time : Elapses old now
+  pub passes : now.faults ≡ old.faults
 
 pub read_none : {told : Bool} {m : Medium} → IsLawful told m → IsRead m m
-read_none law = record { reads = reads_none law; time = elapses_none law }
+read_none law = record { reads = reads_none law; time = elapses_none law; passes = refl }
 
-pub read_on : {a b c : Medium} → IsRead a b → OnlyReads b c → Elapses b c → IsRead a c
-read_on first reads time = record { reads = reads_on first.time first.reads time reads; time = elapses_on first.time time }
+pub read_on : {a b c : Medium} → IsRead a b → OnlyReads b c → Elapses b c → c.faults ≡ b.faults → IsRead a c
+read_on first reads time passes = record {
+  reads = reads_on first.time first.reads time reads;
+  time = elapses_on first.time time;
+  passes = passes ∙ first.passes;
+}
 
 -- ---- place by place
 

@@ -2,18 +2,16 @@
 use Rattle.std.specs.Prelude.{◌≡◌, ◌≤◌, ◌<◌, ◌+◌, ℕ, List, [], length, map, true, Option, Some, None, IsTrue, ⊤, sum_by}
 use Rattle.std.specs.List.{AllByRecursion, IsDistinct}
 use Rattle.std.specs.Str.{bytes_eq}
-use Rattle.std.specs.List.Sorted.{IsStrictlySortedBy}
 use Rattle.per_base.specs.declared.elements.StoreKind.{StoreKind}
 use Rattle.per_base.specs.declared.elements.StoreKind.TheVariants.{Files}
 use Rattle.per_base.specs.declared.elements.Content.{Content}
 use Rattle.per_base.specs.declared.elements.Content.TheVariants.{Good, Bad}
 use Rattle.per_base.specs.declared.elements.Entry.{Entry}
 use Rattle.per_base.specs.declared.elements.Fresh.{Fresh}
-use Rattle.per_base.specs.Names.{name_cmp}
 use Rattle.disk_model.specs.Image.{Image}
 use Rattle.guarded_cell.specs.Register.{IsAlone}
 use Rattle.index_text.specs.declared.entries.Index.{Index}
-use Rattle.index_text.specs.Rules.{has_info, max_len}
+use Rattle.index_text.specs.Contents.{IsFresh}
 use Rattle.index_text.specs.Spelling.{index_text}
 use Rattle.element_state.specs.declared.shapes.Shape.{Shape}
 use Rattle.element_state.specs.declared.shapes.View.{View}
@@ -30,21 +28,9 @@ pub record IsShape (shape : Shape) : Type 0 where
   pub enough : shape.m ≤ shape.place.copies
   pub small : shape.allowed ≤ 4194304
 
--- an info exactly for files, and no more bytes than the kind allows
-pub record IsFresh (kind : StoreKind) (f : Fresh) : Type 0 where
-  pub info : IsTrue (has_info kind f.info)
-  pub small : length f.bytes ≤ max_len kind
-
 -- names and contents, in bytes
 abbrev pub size_of : List Entry → ℕ
 size_of entries = sum_by (λ (e : Entry). length e.name + e.len) entries
-
--- the contents of a storage that is to be made: names that ascend, at most 1024, and together within what is allowed
-pub record AreContents (shape : Shape) (contents : List Fresh) : Type 0 where
-  pub each : AllByRecursion (IsFresh shape.kind) contents
-  pub names_ascend : IsStrictlySortedBy name_cmp (map (λ (f : Fresh). f.name) contents)
-  pub few : length contents ≤ 1024
-  pub small : sum_by (λ (f : Fresh). length f.name + length f.bytes) contents ≤ shape.allowed
 
 abbrev pub changed_name : Change → List ℕ
 changed_name (Put f) = f.name

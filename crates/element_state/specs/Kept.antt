@@ -1,5 +1,5 @@
 -- What a stop and damage may leave of a storage, beside its states before and after the call in progress.
-use Rattle.std.specs.Prelude.{◌≡◌, ◌⊎◌, ℕ, ◌+◌, ◌<◌, List, [], ◌∷◌, ◌++◌, map, Option, Some, None, ⊤}
+use Rattle.std.specs.Prelude.{◌≡◌, ◌⊎◌, ℕ, ◌+◌, ◌<◌, List, [], ◌∷◌, ◌++◌, map, false, Option, Some, None, ⊤}
 use Rattle.std.specs.List.{AllZip, AllByRecursion, Contains}
 use Rattle.per_base.specs.declared.elements.Scope.TheVariants as scope
 use Rattle.per_base.specs.declared.elements.FileInfo.{FileInfo}
@@ -10,10 +10,14 @@ use Rattle.disk_model.specs.Image.{Image}
 use Rattle.disk_model.specs.Case.{Case}
 use Rattle.disk_model.specs.Damage.{DecaysFor, IsUndamaged, AtLeast}
 use Rattle.disk_model.specs.Medium.{Medium, Quiet, EachCase}
+use Rattle.guarded_cell.specs.Register.{Holds}
 use Rattle.element_state.specs.declared.shapes.Shape.{Shape}
 use Rattle.element_state.specs.declared.shapes.View.{View}
 use Rattle.element_state.specs.States.{State, Opens, Corrupt, store_at, salvage_of, others_of}
+use Rattle.element_state.specs.Fit.{FitText}
+use Rattle.element_state.specs.Views.{view_of}
 use Rattle.element_state.specs.Clean.{IsPiece, IsClean, IsSound}
+use Rattle.element_state.specs.Chosen.{chosen}
 
 -- ---- views beside one another
 
@@ -116,7 +120,8 @@ IsLeftAfter shape damaged left (Corrupt salvage others) = ⊥
 abbrev pub HasOne : Shape → (damaged lacking : List ℕ) → Type 0
 HasOne shape damaged lacking = (copy : ℕ) × (copy < shape.place.copies) × IsSpared shape damaged lacking copy
 
--- with one copy left of the salvage of a corrupt storage, it has this salvage, or the view of after in its place
+-- with one copy left of the salvage of a corrupt storage, it has this salvage, or the view of after in its place; by who holds its text
+-- this is said of images below
 abbrev pub SalvageStays : Shape → (damaged : List ℕ) → (left before after : State) → Type 0
 SalvageStays shape damaged left (Opens v others) after = ⊤
 SalvageStays shape damaged left (Corrupt None others) after = ⊤
@@ -131,14 +136,32 @@ pub record Kept (shape : Shape) (damaged : List ℕ) (left before after : State)
   pub copies : CopiesStay shape damaged left before
   pub salvage : SalvageStays shape damaged left before after
 
+-- ---- what is left on an image, of a storage as it was on another
+
+-- a copy held this text at the start, and the damage spares it, whatever contents it lacked
+abbrev pub HasHolder : Shape → (start : Image) → (damaged : List ℕ) → FitText → Type 0
+HasHolder shape start damaged text = (copy : ℕ) × (copy < shape.place.copies) × IsUndamaged damaged shape.place.first copy
+    × Holds start shape.place.first copy text.0.generation text.0.text
+
+-- with one copy left that holds the text of the salvage of a corrupt storage, it has this salvage, or the view of after in its place
+abbrev pub KeepsSalvage : Shape → (start : Image) → (damaged : List ℕ) → (left after : State) → Type 0
+KeepsSalvage shape start damaged left after = (text : FitText) → chosen start shape ≡ Some (false, text) → HasHolder shape start damaged text
+    → (w : View) × (salvage_of left ≡ Some w) × (IsLeftAs shape damaged w (view_of start shape text) ⊎ IsLeftAfter shape damaged w after)
+
+-- What a stop and damage leave on an image of a storage that was on its way to another state: it is kept, and the place stays clean.
+pub record IsKeptOn (shape : Shape) (damaged : List ℕ) (start image : Image) (after : State) : Type 0 where
+  pub kept : Kept shape damaged (store_at image shape) (store_at start shape) after
+  pub salvage : KeepsSalvage shape start damaged (store_at image shape) after
+  pub clean : IsClean shape image
+
 -- ---- every moment of a call
 
--- so it is of each sound case, after each damage, and the place stays clean
-abbrev pub IsKeptCase : Shape → (before after : State) → Case → Type 0
-IsKeptCase shape before after c = IsSound shape.place c → (damaged : List ℕ) (image : Image)
-    → DecaysFor (IsPiece shape.place) damaged c.left image → Kept shape damaged (store_at image shape) before after × IsClean shape image
+-- so it is of each sound case, after each damage
+abbrev pub IsKeptCase : Shape → (start : Image) → (after : State) → Case → Type 0
+IsKeptCase shape start after c = IsSound shape.place c → (damaged : List ℕ) (image : Image)
+    → DecaysFor (IsPiece shape.place) damaged c.left image → IsKeptOn shape damaged start image after
 
 -- so it is of every moment since a start at which nothing was pending and the place was clean
 abbrev pub KeptThroughout : Shape → (after : State) → (old new : Medium) → Type 0
 KeptThroughout shape after old new = Quiet old → IsClean shape old.image
-    → EachCase (IsKeptCase shape (store_at old.image shape) after) old new
+    → EachCase (IsKeptCase shape old.image after) old new

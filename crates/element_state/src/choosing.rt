@@ -1,6 +1,6 @@
 //! Which of the texts that fit a storage opens at, and its view.
 
-ghost use Rattle.std.specs.Prelude.{◌≡◌, ◌≤◌, ◌+◌, IsTrue, IfOk, IfSome, IsErrOf, length, not, slice_index_or, ◌<◌};
+ghost use Rattle.std.specs.Prelude.{◌≡◌, ◌≤◌, ◌+◌, IsTrue, IfOk, IfSome, IsErrOf, length, not, slice_index_or, ◌<◌, OnOk};
 ghost use Rattle.std.specs.List.{AllByRecursion, AllZip};
 ghost use Rattle.std.specs.Option.{option_map};
 ghost use Rattle.per_base.specs.Causes.{Rose};
@@ -41,6 +41,8 @@ pub(crate) fn choose<D: Disk>(
     ensures time { Elapses (D.medium disk.old) (D.medium disk.new) }
     ensures never_corrupt { IsErrOf result StoreError.Corrupt → ⊥ }
     ensures cause { IsErrOf result StoreError.Device → Rose (D.medium disk.old).faults (D.medium disk.new).faults }
+    ensures passes { OnOk result ((D.medium disk.new).faults ≡ (D.medium disk.old).faults) }
+    ensures fed { IsErrOf result StoreError.OutOfMemory → (D.medium disk.new).faults ≡ (D.medium disk.old).faults }
 {
     let settled = texts.len() <= 1;
     if let Some((at, entries)) = first_qualifying(alloc, disk, shape, &texts)? {
@@ -111,6 +113,8 @@ fn first_qualifying<D: Disk>(
     ensures time { Elapses (D.medium disk.old) (D.medium disk.new) }
     ensures never_corrupt { IsErrOf result StoreError.Corrupt → ⊥ }
     ensures cause { IsErrOf result StoreError.Device → Rose (D.medium disk.old).faults (D.medium disk.new).faults }
+    ensures passes { OnOk result ((D.medium disk.new).faults ≡ (D.medium disk.old).faults) }
+    ensures fed { IsErrOf result StoreError.OutOfMemory → (D.medium disk.new).faults ≡ (D.medium disk.old).faults }
 {
     for at in 0..texts.len() {
         let tried = try_text(alloc, disk, shape, &texts[at])?;
@@ -137,6 +141,8 @@ fn try_text<D: Disk>(
     ensures time { Elapses (D.medium disk.old) (D.medium disk.new) }
     ensures never_corrupt { IsErrOf result StoreError.Corrupt → ⊥ }
     ensures cause { IsErrOf result StoreError.Device → Rose (D.medium disk.old).faults (D.medium disk.new).faults }
+    ensures passes { OnOk result ((D.medium disk.new).faults ≡ (D.medium disk.old).faults) }
+    ensures fed { IsErrOf result StoreError.OutOfMemory → (D.medium disk.new).faults ≡ (D.medium disk.old).faults }
 {
     let (seen, index) = text;
     if seen.copies.as_slice().len() < shape.m as usize {
@@ -167,6 +173,8 @@ fn is_supported<D: Disk>(
     ensures time { Elapses (D.medium disk.old) (D.medium disk.new) }
     ensures never_corrupt { IsErrOf result StoreError.Corrupt → ⊥ }
     ensures cause { IsErrOf result StoreError.Device → Rose (D.medium disk.old).faults (D.medium disk.new).faults }
+    ensures passes { OnOk result ((D.medium disk.new).faults ≡ (D.medium disk.old).faults) }
+    ensures fed { IsErrOf result StoreError.OutOfMemory → (D.medium disk.new).faults ≡ (D.medium disk.old).faults }
 {
     match shape.scope {
         Scope::Element => Ok(true),

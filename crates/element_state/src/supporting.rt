@@ -1,6 +1,6 @@
 //! Which copies support a text where the whole storage must agree: those that hold the text, and in which every content counts.
 
-ghost use Rattle.std.specs.Prelude.{◌≡◌, ◌≤◌, ◌<◌, IsTrue, IfOk, IsErrOf, length};
+ghost use Rattle.std.specs.Prelude.{◌≡◌, ◌≤◌, ◌<◌, IsTrue, IfOk, IsErrOf, length, OnOk};
 ghost use Rattle.std.specs.List.{AllZip, list_all};
 ghost use Rattle.per_base.specs.Causes.{Rose};
 ghost use Rattle.disk_model.specs.Medium.{Elapses, OnlyReads};
@@ -32,6 +32,8 @@ pub(crate) fn count_whole<D: Disk>(
     ensures time { Elapses (D.medium disk.old) (D.medium disk.new) }
     ensures never_corrupt { IsErrOf result StoreError.Corrupt → ⊥ }
     ensures cause { IsErrOf result StoreError.Device → Rose (D.medium disk.old).faults (D.medium disk.new).faults }
+    ensures passes { OnOk result ((D.medium disk.new).faults ≡ (D.medium disk.old).faults) }
+    ensures fed { IsErrOf result StoreError.OutOfMemory → (D.medium disk.new).faults ≡ (D.medium disk.old).faults }
 {
     let mut count = 0;
     for copy in 0..place.copies {
@@ -60,6 +62,8 @@ fn is_whole<D: Disk>(
     ensures time { Elapses (D.medium disk.old) (D.medium disk.new) }
     ensures never_corrupt { IsErrOf result StoreError.Corrupt → ⊥ }
     ensures cause { IsErrOf result StoreError.Device → Rose (D.medium disk.old).faults (D.medium disk.new).faults }
+    ensures passes { OnOk result ((D.medium disk.new).faults ≡ (D.medium disk.old).faults) }
+    ensures fed { IsErrOf result StoreError.OutOfMemory → (D.medium disk.new).faults ≡ (D.medium disk.old).faults }
 {
     if !holders.as_slice().contains(&(copy + 1)) {
         return Ok(false);
@@ -85,6 +89,8 @@ fn have_contents<D: Disk>(
     ensures time { Elapses (D.medium disk.old) (D.medium disk.new) }
     ensures never_corrupt { IsErrOf result StoreError.Corrupt → ⊥ }
     ensures cause { IsErrOf result StoreError.Device → Rose (D.medium disk.old).faults (D.medium disk.new).faults }
+    ensures passes { OnOk result ((D.medium disk.new).faults ≡ (D.medium disk.old).faults) }
+    ensures fed { IsErrOf result StoreError.OutOfMemory → (D.medium disk.new).faults ≡ (D.medium disk.old).faults }
 {
     for i in 0..entries.len() {
         if !has_content(alloc, disk, place, copy, &entries[i], &views[i])? {
@@ -110,6 +116,8 @@ fn has_content<D: Disk>(
     ensures time { Elapses (D.medium disk.old) (D.medium disk.new) }
     ensures never_corrupt { IsErrOf result StoreError.Corrupt → ⊥ }
     ensures cause { IsErrOf result StoreError.Device → Rose (D.medium disk.old).faults (D.medium disk.new).faults }
+    ensures passes { OnOk result ((D.medium disk.new).faults ≡ (D.medium disk.old).faults) }
+    ensures fed { IsErrOf result StoreError.OutOfMemory → (D.medium disk.new).faults ≡ (D.medium disk.old).faults }
 {
     if !view.lacking.as_slice().contains(&(copy + 1)) {
         return Ok(true);
@@ -132,6 +140,8 @@ fn read_counted<D: Disk>(
     ensures time { Elapses (D.medium disk.old) (D.medium disk.new) }
     ensures never_corrupt { IsErrOf result StoreError.Corrupt → ⊥ }
     ensures cause { IsErrOf result StoreError.Device → Rose (D.medium disk.old).faults (D.medium disk.new).faults }
+    ensures passes { OnOk result ((D.medium disk.new).faults ≡ (D.medium disk.old).faults) }
+    ensures fed { IsErrOf result StoreError.OutOfMemory → (D.medium disk.new).faults ≡ (D.medium disk.old).faults }
 {
     let alone = Place {
         first: place.first + 4 * copy,

@@ -61,7 +61,7 @@ use Rattle.element_store.proofs.Committed.{IsPut, IsStill, IsPutOrStill, entries
 -- ---- where nothing is written
 
 pub none_kept : UntouchedLaw → (told : Bool) (shape : Shape) (state : State) (old : Medium) → IsShape shape → IsLawful told old → KeptThroughout shape state old old
-none_kept untouched told shape state old is law quiet clean = goes_none (IsKeptCase shape (store_at old.image shape) state) law
+none_kept untouched told shape state old is law quiet clean = goes_none (IsKeptCase shape old.image state) law
     (λ c here. untouched shape old.image state c is.some clean (settled_on (IsOfPlace shape.place) (quiet c here)))
 
 pub none_around : (told : Bool) (first copies : ℕ) (old : Medium) → IsLawful told old → Quiet old → EachCase (IsSettledOn (IsOutside first copies) old.image) old old
@@ -118,7 +118,7 @@ module _ (in_use : InUseLaw) (shape : Shape) (set now : List Bool) (index : Inde
     pub index_kept : IndexLaw → (new : Medium) → fit_index shape (index_text next) ≡ Some next
         → Keeps (IsNoArea shape.place.first shape.place.copies) (IsLeftByAll jobs) old.image mid.image → IsClean shape old.image
         → EachCase (PutStops shape.place.first shape.place.copies (v.generation + 1) (index_text next) mid.image) mid new
-        → EachCase (IsKeptCase shape (store_at old.image shape) (Opens (whole_view shape (v.generation + 1) entries) [])) mid new
+        → EachCase (IsKeptCase shape old.image (Opens (whole_view shape (v.generation + 1) entries) [])) mid new
     index_kept law new fit keeps clean stops c past =
         law shape old.image old.image mid.image v.generation (index_text index) index (holds set) (index_text next) next
         (whole_view shape (v.generation + 1) entries) [] c is.some (adopted clean) rules takes (keeps_set mid keeps) fit refl of_laws (stops c past)
@@ -194,7 +194,7 @@ module _ (told : Bool) (store : Store) (changes : List Change) (now : List Bool)
       pub commit_keeps : InUseLaw → ContentsLaw → ContentsDoneLaw → CarriedLaw → IndexLaw → KeptThroughout shape (Opens (committed_by shape v changes) []) old new
       commit_keeps in_use contents contents_done carried law quiet clean c past = ⊎_elim
           (λ first. commit_keeps_jobs mid in_use contents contents_done all (Opens (committed_by shape v changes) []) (λ d. keeps) each quiet clean c first)
-          (λ second. subst (λ (w : View). IsKeptCase shape (store_at old.image shape) (Opens w []) c) (sym (committed_is shape v changes))
+          (λ second. subst (λ (w : View). IsKeptCase shape old.image (Opens w []) c) (sym (committed_is shape v changes))
           (index_kept in_use shape set now store.index v jobs is rules takes plan.placed old in_use_now carried mid next after zip law new plan.text.fit keeps clean stops_here c second))
           (cases_on before later c past)
 

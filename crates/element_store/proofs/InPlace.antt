@@ -136,6 +136,7 @@ pub record AreMended (told : Bool) (shape : Shape) (index : Index) (views : List
   pub during : EachCase (MendsCase shape index views old.image) old now
   pub idle : IsTrue told → AllByRecursion (λ (f : Entry). IsMended f.content f.lacking) views → IsAsBefore old now
   pub time : Elapses old now
+  pub passes : now.faults ≡ old.faults
 
 pub few_none : (n size : ℕ) → n ≡ 0 → n * size ≡ 0
 few_none n size none = let zero_times : 0 * size ≡ 0 = omega arith in ap (λ (m : ℕ). m * size) none ∙ zero_times
@@ -172,6 +173,7 @@ module _ (told : Bool) (shape : Shape) (index : Index) (views : List Entry) (rul
         during = λ c past. settled c (law.only_now c past);
         idle = λ tells mended. record { image = refl; written = refl };
         time = elapses_none law;
+        passes = refl;
       }
 
   -- areas of copies
@@ -197,6 +199,7 @@ module _ (told : Bool) (shape : Shape) (index : Index) (views : List Entry) (rul
     during = was.during;
     idle = was.idle;
     time = was.time;
+    passes = was.passes;
   }
 
   pub mended_all : (i : ℕ) (old now : Medium) → length index.entries ≤ i → AreMended told shape index views i old now
@@ -304,6 +307,7 @@ module _ (told : Bool) (shape : Shape) (index : Index) (views : List Entry) (rul
         idle = λ tells mended. in_none shape.place.first n f.lacking old mid new (nothing_lacks mended) (few (nothing_lacks mended)) (was.idle tells mended)
             (wrote.keeps tells).files wrote.written wrote.time;
         time = elapses_on was.time wrote.time;
+        passes = wrote.passes ∙ was.passes;
       }
         where
           same_value : (a b : List ℕ) → Good a ≡ Good b → a ≡ b

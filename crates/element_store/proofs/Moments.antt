@@ -24,12 +24,12 @@ use Rattle.element_store.specs.Mends.{AreShown, MendsCase}
 -- ---- the storage is kept
 
 module _ (shape : Shape) (old one : Medium) (is : IsShape shape) (clean : IsClean shape old.image) (idle : IsIdle old one) (untouched : UntouchedLaw) (after : State) where
-  pub first_kept : (c : Case) → one.since old.moment c → IsKeptCase shape (store_at old.image shape) after c
+  pub first_kept : (c : Case) → one.since old.moment c → IsKeptCase shape old.image after c
   first_kept c past = untouched shape old.image after c is.some clean (settled_on (IsOfPlace shape.place) (idle.during c past))
 
   module _ (two : Medium) (adopt : AdoptLaw) (g : ℕ) (text : List ℕ) (index : Index) (opens : OpensAt shape old.image g text index) (t1 : Elapses old one) (t2 : Elapses one two)
       (puts : EachCase (PutStops shape.place.first shape.place.copies g text one.image) one two) where
-    pub second_kept : (c : Case) → two.since old.moment c → IsKeptCase shape (store_at old.image shape) after c
+    pub second_kept : (c : Case) → two.since old.moment c → IsKeptCase shape old.image after c
     second_kept c past = ⊎_elim (first_kept c)
         (λ later. adopt shape old.image g text index after c is.some clean opens
         (subst (λ (i : Image). PutStops shape.place.first shape.place.copies g text i c) idle.image (puts c later)))
@@ -38,7 +38,7 @@ module _ (shape : Shape) (old one : Medium) (is : IsShape shape) (clean : IsClea
     module _ (three : Medium) (mend : MendLaw) (views : List Entry) (rules : IsIndex index) (shown : AreShown shape index views old.image)
         (alone : IsAlone two.image shape.place.first shape.place.copies g text) (areas : Spares (IsNoSlot shape.place.first shape.place.copies) one.image two.image)
         (t3 : Elapses two three) (during : EachCase (MendsCase shape index views two.image) two three) where
-      pub third_kept : (c : Case) → three.since old.moment c → IsKeptCase shape (store_at old.image shape) after c
+      pub third_kept : (c : Case) → three.since old.moment c → IsKeptCase shape old.image after c
       third_kept c past = ⊎_elim (second_kept c)
           (λ later. mend shape old.image two.image g text index after c is.some
           (record {

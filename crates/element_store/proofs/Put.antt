@@ -21,7 +21,7 @@ use Rattle.index_text.specs.declared.entries.IndexEntry.{IndexEntry}
 use Rattle.index_text.specs.Rules.{IsEntry, has_info}
 use Rattle.element_state.specs.Changes.{insert_item, without_item, entry_name}
 use Rattle.element_state.specs.Chosen.{HasLength}
-use Rattle.element_state.specs.Conditions.{IsFresh}
+use Rattle.index_text.specs.Contents.{IsFresh}
 use Rattle.element_state.specs.States.{fresh_entry, fresh_element}
 use Rattle.element_store.specs.declared.jobs.Job.{Job}
 use Rattle.element_store.specs.Plans.{HasAll, KeepsBlocks, AreDisjoint, ArePlaced, IsMade}

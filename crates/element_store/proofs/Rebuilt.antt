@@ -131,7 +131,7 @@ module _ (shape : Shape) (is : IsShape shape) (state : State) where
       → chosen old.image shape ≡ Some (true, text) → EachCase (PutStops shape.place.first shape.place.copies text.0.generation text.0.text mid.image) mid new
       → KeptThroughout shape state old new
   adopt_kept untouched adopt opened old mid new text before later idle same chose stops quiet clean =
-      goes_on (IsKeptCase shape (store_at old.image shape) state) before later (idle_kept untouched old mid idle quiet clean)
+      goes_on (IsKeptCase shape old.image state) before later (idle_kept untouched old mid idle quiet clean)
       (λ c past. adopt shape old.image text.0.generation text.0.text text.1 state c is.some clean (opened_at shape old.image opened text chose)
       (subst (λ (im : Image). PutStops shape.place.first shape.place.copies text.0.generation text.0.text im c) same (stops c past)))
 
@@ -140,7 +140,7 @@ module _ (shape : Shape) (is : IsShape shape) (state : State) where
       → chosen old.image shape ≡ Some (false, text) → EachCase (KeepStops shape.place.first shape.place.copies text.0.generation text.0.text mid.image) mid new
       → KeptThroughout shape state old new
   keep_kept untouched keep old mid new text before later idle same chose stops quiet clean =
-      goes_on (IsKeptCase shape (store_at old.image shape) state) before later (idle_kept untouched old mid idle quiet clean)
+      goes_on (IsKeptCase shape old.image state) before later (idle_kept untouched old mid idle quiet clean)
       (λ c past. keep shape old.image text state c is.some clean chose
       (subst (λ (im : Image). KeepStops shape.place.first shape.place.copies text.0.generation text.0.text im c) same (stops c past)))
 
@@ -168,7 +168,7 @@ written_fresh shape then g (f ∷ fs) (e ∷ es) zip = (
 
 module _ (shape : Shape) (start : Image) (set : List Bool) (g : ℕ) (contents : List Fresh) (old mid : Medium) (ready : IsGround shape start old.image set g) (quiet : Quiet old) where
   pub contents_kept : (state : State) (done : Type 0) → (done → Keeps (IsNoArea shape.place.first shape.place.copies) (λ k. holds set k ≡ true) old.image mid.image)
-      → EachCase (IsContentsCase shape.place.first shape.place.copies set old mid done) old mid → EachCase (IsKeptCase shape (store_at start shape) state) old mid
+      → EachCase (IsContentsCase shape.place.first shape.place.copies set old mid done) old mid → EachCase (IsKeptCase shape start state) old mid
   contents_kept state done keeps each c past = ⊎_elim
       (λ some. let (d, was, step) = some in ready.during state d c (quiet d was) step)
       (λ all. ready.done mid.image state c (keeps all.0) all.1)
@@ -176,7 +176,7 @@ module _ (shape : Shape) (start : Image) (set : List Bool) (g : ℕ) (contents :
 
   pub anew_kept : (new : Medium) (text : List ℕ) (index : Index) → IsTextOf shape text index → Keeps (IsNoArea shape.place.first shape.place.copies) (λ k. holds set k ≡ true) old.image mid.image
       → ShowsFresh mid.image shape.place shape.m g contents index.entries → EachCase (PutStops shape.place.first shape.place.copies g text mid.image) mid new
-      → EachCase (IsKeptCase shape (store_at start shape) (fresh_state g (fresh_map contents))) mid new
+      → EachCase (IsKeptCase shape start (fresh_state g (fresh_map contents))) mid new
   unfolding fresh_state
   anew_kept new text index spelled keeps shown stops c past =
       ready.index mid.image text index (fresh_view g (fresh_map contents)) [] c keeps spelled.fit refl (written_fresh shape mid.image g contents index.entries shown) (stops c past)

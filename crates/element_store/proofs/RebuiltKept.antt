@@ -33,7 +33,7 @@ module _ (shape : Shape) (set : List Bool) (g : ℕ) (contents : List Fresh) (st
   -- until the contents are there
   pub contents_anew : (state : State) (done : Type 0) → (done → Keeps (IsNoArea shape.place.first shape.place.copies) (λ k. holds set k ≡ true) ready_at.image mid.image)
       → EachCase (IsContentsCase shape.place.first shape.place.copies set ready_at mid done) ready_at mid → KeptThroughout shape state start mid
-  contents_anew state done keeps each quiet clean = goes_on (IsKeptCase shape (store_at start.image shape) state) before then (prepared state quiet clean)
+  contents_anew state done keeps each quiet clean = goes_on (IsKeptCase shape start.image state) before then (prepared state quiet clean)
       (contents_kept shape start.image set g contents ready_at mid (ready clean) quiet_now state done keeps each)
 
   -- until the index is there
@@ -45,7 +45,7 @@ module _ (shape : Shape) (set : List Bool) (g : ℕ) (contents : List Fresh) (st
       → KeptThroughout shape (fresh_state (next_generation (salvage_of (store_at start.image shape))) (fresh_map contents)) start new
   index_anew new text index done later generation_is spelled keeps shown each stops =
       subst (λ (n : ℕ). KeptThroughout shape (fresh_state n (fresh_map contents)) start new) generation_is
-      (λ quiet clean. goes_on (IsKeptCase shape (store_at start.image shape) (fresh_state g (fresh_map contents))) (elapses_on before then) later
+      (λ quiet clean. goes_on (IsKeptCase shape start.image (fresh_state g (fresh_map contents))) (elapses_on before then) later
       (contents_anew (fresh_state g (fresh_map contents)) done (λ d. keeps) each quiet clean)
       (anew_kept shape start.image set g contents ready_at mid (ready clean) quiet_now new text index spelled keeps shown stops))
 

@@ -19,7 +19,7 @@ use Rattle.index_text.specs.Rules.{IsEntry, IsIndex, blocks_of, names_of, max_le
 use Rattle.index_text.specs.Sizes.{size_of, area_blocks, fits}
 use Rattle.index_text.specs.Spelling.{kind_code}
 use Rattle.element_state.specs.declared.shapes.Shape.{Shape}
-use Rattle.element_state.specs.Conditions.{IsFresh, AreContents}
+use Rattle.index_text.specs.Contents.{AreContents, IsFresh}
 use Rattle.element_store.specs.declared.jobs.Job.{Job}
 use Rattle.element_store.specs.Plans.{HasAll, AreDisjoint, AreLaidApart, IsMade, IsPlanOf, blocks_of_all}
 use Rattle.element_store.specs.Spelled.{index_with}
@@ -141,7 +141,7 @@ module _ (generation : ℕ) (kind : StoreKind) where
       omega (arith, a, b, rest, l, r)
 
 module _ (shape : Shape) (generation : ℕ) (contents : List Fresh) (start now : List Bool) (entries : List IndexEntry) (jobs : List Job)
-    (are : AreContents shape contents) (plan : IsPlanOf generation contents start now entries jobs) where
+    (are : AreContents shape.kind shape.allowed contents) (plan : IsPlanOf generation contents start now entries jobs) where
   pub plan_rules : IsIndex (index_with shape.kind entries)
   plan_rules = record {
     known_format = refl;
@@ -173,7 +173,7 @@ blocks_few (f ∷ fs) =
     few : (n b s k x y t : ℕ) → y ≡ (b + 255) / 256 + x → t ≡ n + b + s → x ≤ s / 256 + k → y ≤ t / 256 + suc k
     few n b s k x y t l r rest = omega (arith, l, r, rest)
 
-pub blocks_enough : (shape : Shape) (contents : List Fresh) → AreContents shape contents → blocks_of_all contents ≤ shape.allowed / 256 + 1024
+pub blocks_enough : (shape : Shape) (contents : List Fresh) → AreContents shape.kind shape.allowed contents → blocks_of_all contents ≤ shape.allowed / 256 + 1024
 blocks_enough shape contents are =
     let few = blocks_few contents in
     let a = are.few in

@@ -93,6 +93,7 @@ impl Store {
         // A want of memory hands the storage back, and then nothing happened. Only a disk that failed closes it.
         ensures memory { IfErr result (λ fault. HandsBack self fault (disk.new ≡ disk.old)) }
         ensures cause { IfErr result (λ fault. IsDeviceFault fault → Rose (D.medium disk.old).faults (D.medium disk.new).faults) }
+        ensures passes { OnOk result ((D.medium disk.new).faults ≡ (D.medium disk.old).faults) }
 
         // No file outside the place changes, and a stop at any moment leaves the storage of before or that of after.
         ensures elsewhere { IsTrue D.told → Spares (IsOutside (shape_of self).place.first (shape_of self).place.copies)
@@ -168,6 +169,7 @@ impl Store {
         ensures memory { IsErrOf result StoreError.OutOfMemory → disk.new ≡ disk.old }
         ensures never_corrupt { IsErrOf result StoreError.Corrupt → ⊥ }
         ensures cause { IsErrOf result StoreError.Device → Rose (D.medium disk.old).faults (D.medium disk.new).faults }
+        ensures passes { OnOk result ((D.medium disk.new).faults ≡ (D.medium disk.old).faults) }
         ensures elsewhere { IsTrue D.told → Spares (IsOutside (shape_of self.now).place.first (shape_of self.now).place.copies)
             (D.medium disk.old).image (D.medium disk.new).image }
         ensures outside { IsTrue D.told → Quiet (D.medium disk.old)

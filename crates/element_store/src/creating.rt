@@ -12,7 +12,8 @@ ghost use Rattle.disk_model.specs.Medium.{Quiet, EachCase, Elapses};
 ghost use Rattle.disk_model.specs.Place.{IsOutside};
 ghost use Rattle.element_state.specs.States.{store_at, fresh_element, fresh_entry, fresh_map, fresh_state, fresh_view};
 ghost use Rattle.element_state.specs.Clean.{IsClean, IsPiece};
-ghost use Rattle.element_state.specs.Conditions.{IsShape, AreContents};
+ghost use Rattle.index_text.specs.Contents.{AreContents};
+ghost use Rattle.element_state.specs.Conditions.{IsShape};
 ghost use Rattle.element_store.specs.Committing.{index_in};
 ghost use Rattle.element_store.specs.Creates.{IsUntorn};
 ghost use Rattle.element_store.specs.Plans.{blocks_of_all};
@@ -41,7 +42,7 @@ pub fn create<D: Disk>(
     contents: Vec<Fresh>,
 ) -> Result<Store, StoreError>
     requires shape { IsShape shape }
-    requires contents { AreContents shape contents.items }
+    requires contents { AreContents shape.kind shape.allowed contents.items }
 
     ensures opens { IsTrue D.told → OnOk result (store_at (D.medium disk.new).image shape ≡ fresh_state 1 (fresh_map contents.items)) }
     ensures used { IfOk result (IsUsed D.told (D.medium disk.new).image) }
@@ -53,6 +54,8 @@ pub fn create<D: Disk>(
 
     ensures never_corrupt { IsErrOf result StoreError.Corrupt → ⊥ }
     ensures cause { IsErrOf result StoreError.Device → Rose (D.medium disk.old).faults (D.medium disk.new).faults }
+    ensures passes { OnOk result ((D.medium disk.new).faults ≡ (D.medium disk.old).faults) }
+    ensures fed { IsErrOf result StoreError.OutOfMemory → (D.medium disk.new).faults ≡ (D.medium disk.old).faults }
 
     // At no moment are blocks torn under an index that names them: where no text is made by chance, no content is.
     ensures untorn { IsTrue D.told → Quiet (D.medium disk.old) → EachCase (IsUntorn shape.place) (D.medium disk.old) (D.medium disk.new) }

@@ -42,6 +42,7 @@ pub(crate) fn write_durably<D: Disk>(
     ensures cost { (D.medium disk.new).written ≤ (D.medium disk.old).written + place.copies * jobs_cost jobs.now }
     ensures time { Elapses (D.medium disk.old) (D.medium disk.new) }
     ensures cause { OnErr result (Rose (D.medium disk.old).faults (D.medium disk.new).faults) }
+    ensures passes { OnOk result ((D.medium disk.new).faults ≡ (D.medium disk.old).faults) }
 {
     write_jobs(disk, place, jobs)?;
     disk.sync()?;

@@ -44,6 +44,7 @@ pub(crate) fn mend_durably<D: Disk>(
     ensures during { IsTrue D.told → EachCase (MendsCase shape.now index.now views.now (D.medium disk.old).image) (D.medium disk.old) (D.medium disk.new) }
     ensures device { IfErr result (λ error. error ≡ BlobError.Device) }
     ensures cause { IfErr result (λ error. Rose (D.medium disk.old).faults (D.medium disk.new).faults) }
+    ensures passes { OnOk result ((D.medium disk.new).faults ≡ (D.medium disk.old).faults) }
     ensures time { Elapses (D.medium disk.old) (D.medium disk.new) }
 {
     mending_keeps();
@@ -71,6 +72,7 @@ fn mend_each<D: Disk>(
     ensures during { EachCase (MendsCase shape.now index.now views.now (D.medium disk.old).image) (D.medium disk.old) (D.medium disk.new) }
     ensures device { IfErr result (λ error. error ≡ BlobError.Device) }
     ensures cause { IfErr result (λ error. Rose (D.medium disk.old).faults (D.medium disk.new).faults) }
+    ensures passes { OnOk result ((D.medium disk.new).faults ≡ (D.medium disk.old).faults) }
     ensures time { Elapses (D.medium disk.old) (D.medium disk.new) }
 {
     mending_keeps();

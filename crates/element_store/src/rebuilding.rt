@@ -10,7 +10,8 @@ ghost use Rattle.block_files.specs.BlockSets.{free_of};
 ghost use Rattle.index_text.specs.Sizes.{area_blocks};
 ghost use Rattle.element_state.specs.States.{State, store_at, salvage_of, next_generation, fresh_map, fresh_state, fresh_view};
 ghost use Rattle.element_state.specs.Clean.{IsClean};
-ghost use Rattle.element_state.specs.Conditions.{IsShape, AreContents};
+ghost use Rattle.index_text.specs.Contents.{AreContents};
+ghost use Rattle.element_state.specs.Conditions.{IsShape};
 ghost use Rattle.element_state.specs.Kept.{KeptThroughout};
 ghost use Rattle.element_store.specs.Rebuilds.{IsGround, IsMadeAnew, IsLeftWith, SettleStops, HasNext};
 
@@ -36,7 +37,7 @@ pub fn rebuild<D: Disk>(
     contents: Vec<Fresh>,
 ) -> Result<(), StoreError>
     requires shape { IsShape shape.now }
-    requires contents { AreContents shape.now contents.items }
+    requires contents { AreContents shape.now.kind shape.now.allowed contents.items }
     requires not_worn { IsTrue D.told → HasNext (salvage_of (store_at (D.medium disk.old).image shape.now)) }
 
     ensures opens { IsTrue D.told → OnOk result (store_at (D.medium disk.new).image shape.now
@@ -48,9 +49,11 @@ pub fn rebuild<D: Disk>(
 
     ensures never_corrupt { IsErrOf result StoreError.Corrupt → ⊥ }
     ensures cause { IsErrOf result StoreError.Device → Rose (D.medium disk.old).faults (D.medium disk.new).faults }
+    ensures passes { OnOk result ((D.medium disk.new).faults ≡ (D.medium disk.old).faults) }
+    ensures fed { IsErrOf result StoreError.OutOfMemory → (D.medium disk.new).faults ≡ (D.medium disk.old).faults }
 
     // At any moment the storage is as it was or has the new contents, and no file outside the place changes.
-    ensures kept { IsTrue D.told → KeptThroughout shape.now
+    ensures any_moment { IsTrue D.told → KeptThroughout shape.now
         (fresh_state (next_generation (salvage_of (store_at (D.medium disk.old).image shape.now))) (fresh_map contents.items))
         (D.medium disk.old) (D.medium disk.new) }
     ensures elsewhere { IsTrue D.told
@@ -97,6 +100,8 @@ fn prepare<D: Disk>(alloc: Global, disk: &mut D, shape: &Shape) -> Result<Ground
     ensures quiet { OnOk result (Quiet (D.medium disk.new)) }
     ensures never_corrupt { IsErrOf result StoreError.Corrupt → ⊥ }
     ensures cause { IsErrOf result StoreError.Device → Rose (D.medium disk.old).faults (D.medium disk.new).faults }
+    ensures passes { OnOk result ((D.medium disk.new).faults ≡ (D.medium disk.old).faults) }
+    ensures fed { IsErrOf result StoreError.OutOfMemory → (D.medium disk.new).faults ≡ (D.medium disk.old).faults }
 
     // Only slots change, and at any moment the storage stands.
     ensures kept { IsTrue D.told → (state : State) → KeptThroughout shape.now state (D.medium disk.old) (D.medium disk.new) }
@@ -138,6 +143,8 @@ fn settle<D: Disk>(
     ensures quiet { OnOk result (Quiet (D.medium disk.new)) }
     ensures never_corrupt { IsErrOf result StoreError.Corrupt → ⊥ }
     ensures cause { IsErrOf result StoreError.Device → Rose (D.medium disk.old).faults (D.medium disk.new).faults }
+    ensures passes { OnOk result ((D.medium disk.new).faults ≡ (D.medium disk.old).faults) }
+    ensures fed { IsErrOf result StoreError.OutOfMemory → (D.medium disk.new).faults ≡ (D.medium disk.old).faults }
     ensures elsewhere { IsTrue D.told → Spares (IsNoSlot place.first place.copies) (D.medium disk.old).image (D.medium disk.new).image }
     ensures any_moment { IsTrue D.told → Quiet (D.medium disk.old)
         → EachCase (SettleStops found.now.opens place.first place.copies found.now.seen.generation found.now.seen.text (D.medium disk.old).image)

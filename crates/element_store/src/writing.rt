@@ -9,7 +9,8 @@ ghost use Rattle.disk_model.specs.Place.{IsNoArea};
 ghost use Rattle.block_files.specs.BlockSets.{holds, free_of};
 ghost use Rattle.index_text.specs.Sizes.{area_blocks};
 ghost use Rattle.index_text.specs.Spelling.{index_text};
-ghost use Rattle.element_state.specs.Conditions.{IsShape, AreContents};
+ghost use Rattle.index_text.specs.Contents.{AreContents};
+ghost use Rattle.element_state.specs.Conditions.{IsShape};
 ghost use Rattle.element_store.specs.Plans.{IsMade, blocks_of_all};
 ghost use Rattle.element_store.specs.Spelled.{ShowsFresh, IsContentsCase, IsTextOf};
 
@@ -40,7 +41,7 @@ pub(crate) fn put_contents<D: Disk>(
     used: &mut BlockSet,
 ) -> Result<Spelled, StoreError>
     requires shape { IsShape shape.now }
-    requires contents { AreContents shape.now contents.now }
+    requires contents { AreContents shape.now.kind shape.now.allowed contents.now }
     requires capacity { length used.old ≡ area_blocks shape.now.allowed }
     requires free { blocks_of_all contents.now ≤ free_of used.old }
 
@@ -54,6 +55,8 @@ pub(crate) fn put_contents<D: Disk>(
     ensures quiet { OnOk result (Quiet (D.medium disk.new)) }
     ensures never_corrupt { IsErrOf result StoreError.Corrupt → ⊥ }
     ensures cause { IsErrOf result StoreError.Device → Rose (D.medium disk.old).faults (D.medium disk.new).faults }
+    ensures passes { OnOk result ((D.medium disk.new).faults ≡ (D.medium disk.old).faults) }
+    ensures fed { IsErrOf result StoreError.OutOfMemory → (D.medium disk.new).faults ≡ (D.medium disk.old).faults }
 
     // Only areas change, and at any moment a crash leaves the blocks of the set alone.
     ensures elsewhere { IsTrue D.told

@@ -83,6 +83,7 @@ pub record IsChoosing (pick : Pick) (chosen : List Bool) (told : Bool) (start no
   pub picks : IsTrue told → (copy : ℕ) → copy < k → Tells pick (get_or chosen copy false) (start.image (slot first copy parity)) generation text
   pub reads : OnlyReads start now
   pub time : Elapses start now
+  pub passes : now.faults ≡ start.faults
 
 chooses : (pick : Pick) (chosen : List Bool) (image start : Image) (first parity k generation : ℕ) (text : List ℕ) (found : Found)
     → length chosen ≡ 8 → k < 8 → image ≡ start
@@ -104,13 +105,14 @@ chooses pick chosen image start first parity k generation text found long lt sam
 pub chooses_on : {told : Bool} {start mid new : Medium} (pick : Pick) (chosen : List Bool) (first parity k generation : ℕ) (text : List ℕ) (found : Found) (b : Bool) (file : ℕ)
     → k < 8 → b ≡ picked pick found → file ≡ slot first k parity
     → IsChoosing pick chosen told start mid first parity k generation text
-    → (IsTrue told → IsFound found (mid.image file) generation text) → OnlyReads mid new → Elapses mid new
+    → (IsTrue told → IsFound found (mid.image file) generation text) → OnlyReads mid new → Elapses mid new → new.faults ≡ mid.faults
     → IsChoosing pick (set chosen k b) told start new first parity (k + 1) generation text
-chooses_on {told} {start} {mid} {new} pick chosen first parity k generation text found b file lt flag is w here reads time = record {
+chooses_on {told} {start} {mid} {new} pick chosen first parity k generation text found b file lt flag is w here reads time passed = record {
   long = length-set chosen k b ∙ w.long;
   picks = λ tells. subst (λ (x : Bool). (copy : ℕ) → copy < k + 1 → Tells pick (get_or (set chosen k x) copy false) (start.image (slot first copy parity)) generation text) (sym flag)
       (chooses pick chosen mid.image start.image first parity k generation text found w.long lt w.reads.image (w.picks tells)
       (subst (λ (f : ℕ). IsFound found (mid.image f) generation text) is (here tells)));
   reads = reads_on w.time w.reads time reads;
   time = elapses_on w.time time;
+  passes = passed ∙ w.passes;
 }

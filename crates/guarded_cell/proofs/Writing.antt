@@ -49,6 +49,7 @@ pub record IsWriting (first parity copies k : ℕ) (chosen : List Bool) (bytes :
   pub written : now.written ≤ start.written + k * length bytes
   pub none : IsNone copies chosen → now.written ≡ start.written
   pub time : Elapses start now
+  pub passes : now.faults ≡ start.faults
 
 module _ (first parity copies : ℕ) (chosen : List Bool) (bytes : List ℕ) where
   abbrev Chosen : ℕ → Type 0
@@ -97,6 +98,7 @@ module _ (first parity copies : ℕ) (chosen : List Bool) (bytes : List ℕ) whe
     written = omega arith;
     none = λ _. refl;
     time = elapses_none law;
+    passes = refl;
   }
 
   -- a copy is passed
@@ -112,6 +114,7 @@ module _ (first parity copies : ℕ) (chosen : List Bool) (bytes : List ℕ) whe
     written = omega (arith, w.written, more_times k (length bytes));
     none = w.none;
     time = w.time;
+    passes = w.passes;
   }
 
   -- a copy is written
@@ -119,9 +122,9 @@ module _ (first parity copies : ℕ) (chosen : List Bool) (bytes : List ℕ) whe
       → IsWriting first parity copies k chosen bytes told start mid
       → (IsTrue told → new.image ≡ put_image mid.image (slot first k parity) 0 bytes)
       → Follows (WriteOrNot (slot first k parity) 0 bytes) mid.now (new.since mid.moment)
-      → new.written ≤ mid.written + length bytes → Elapses mid new
+      → new.written ≤ mid.written + length bytes → Elapses mid new → new.faults ≡ mid.faults
       → IsWriting first parity copies (k + 1) chosen bytes told start new
-  writing_writes {told} {start} {mid} {new} k lt is_set law w whole cases more next =
+  writing_writes {told} {start} {mid} {new} k lt is_set law w whole cases more next passed =
       let is : Chosen (slot first k parity) = record { copy = k; within = lt; flag = is_set; is = refl } in
       record {
         some = λ tells. subst (λ (image : Image). PutsSome Chosen bytes start.image image) (sym (whole tells))
@@ -136,6 +139,7 @@ module _ (first parity copies : ℕ) (chosen : List Bool) (bytes : List ℕ) whe
         written = omega (arith, more, w.written, more_times k (length bytes));
         none = λ none. absurd (some_chosen k lt is_set none);
         time = elapses_on w.time next;
+        passes = passed ∙ w.passes;
       }
 
   -- a write that fails

@@ -8,7 +8,7 @@ use Rattle.disk_model.specs.Case.{Case}
 use Rattle.disk_model.specs.Frame.{IsSettledOn}
 use Rattle.disk_model.specs.Place.{slot, IsNoSlot}
 use Rattle.guarded_cell.specs.declared.looking.Seen.{Seen}
-use Rattle.guarded_cell.specs.Register.{Holds, IsAlone, own, other}
+use Rattle.guarded_cell.specs.Register.{IsAlone, own, other}
 use Rattle.guarded_cell.specs.Held.{Text, of_parity, text_in, is_seen, holds, copies_that, lacking, with_copy, with_slot, held, standing}
 use Rattle.guarded_cell.specs.SeenLaws.{is_alike, seen_more}
 use Rattle.guarded_cell.specs.HeldLaws.{is_holds}

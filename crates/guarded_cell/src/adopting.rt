@@ -44,6 +44,7 @@ pub fn adopt<D: Disk>(
     ensures memory { IsErrOf result CellError.OutOfMemory → disk.new ≡ disk.old }
     ensures never_corrupt { IsErrOf result CellError.Corrupt → ⊥ }
     ensures cause { IsErrOf result CellError.Device → Rose (D.medium disk.old).faults (D.medium disk.new).faults }
+    ensures passes { OnOk result ((D.medium disk.new).faults ≡ (D.medium disk.old).faults) }
 
     // Only slots of the place change, and none that is right already; where every copy holds the text alone, nothing is written. A stop at
     // any moment leaves every copy what it held or every copy the text.
@@ -91,6 +92,7 @@ fn adopt_in<D: Disk>(
     ensures written { (D.medium disk.new).written ≤ (D.medium disk.old).written + place.copies * (header + length text.now + header) }
     ensures time { Elapses (D.medium disk.old) (D.medium disk.new) }
     ensures cause { OnErr result (Rose (D.medium disk.old).faults (D.medium disk.new).faults) }
+    ensures passes { OnOk result ((D.medium disk.new).faults ≡ (D.medium disk.old).faults) }
 {
     let parity = (generation % 2) as u32;
     let lacking = choose(disk, place, parity, Pick::Lacking, generation, text, room)?;
@@ -129,6 +131,7 @@ pub(crate) fn settle_on<D: Disk>(
     ensures written { (D.medium disk.new).written ≤ (D.medium disk.old).written + place.copies * (header + length text.now + header) }
     ensures time { Elapses (D.medium disk.old) (D.medium disk.new) }
     ensures cause { OnErr result (Rose (D.medium disk.old).faults (D.medium disk.new).faults) }
+    ensures passes { OnOk result ((D.medium disk.new).faults ≡ (D.medium disk.old).faults) }
 {
     let parity = (generation % 2) as u32;
     let stale = choose(

@@ -71,6 +71,7 @@ impl Cell {
         // A want of memory hands the cell back, and then nothing happened. Only a disk that failed closes the cell.
         ensures memory { IfErr result (λ fault. HandsBack self fault (disk.new ≡ disk.old)) }
         ensures cause { IfErr result (λ fault. IsDeviceFault fault → Rose (D.medium disk.old).faults (D.medium disk.new).faults) }
+        ensures passes { OnOk result ((D.medium disk.new).faults ≡ (D.medium disk.old).faults) }
 
         // Only slots of the place change, and a stop at any moment leaves the old text or the new one.
         ensures elsewhere { IsTrue D.told
@@ -108,6 +109,7 @@ impl Cell {
         ensures held { IsTrue D.told → IfOk result (λ cell. CellAt (D.medium disk.new).image cell text.now) }
         ensures quiet { OnOk result (Quiet (D.medium disk.new)) }
         ensures cause { OnErr result (Rose (D.medium disk.old).faults (D.medium disk.new).faults) }
+        ensures passes { OnOk result ((D.medium disk.new).faults ≡ (D.medium disk.old).faults) }
 
         // Only slots of the place change, and a stop at any moment leaves the old text or the new one.
         ensures elsewhere { IsTrue D.told

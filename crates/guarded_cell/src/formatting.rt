@@ -38,6 +38,7 @@ pub fn format_cell<D: Disk>(
     ensures memory { IsErrOf result CellError.OutOfMemory → disk.new ≡ disk.old }
     ensures never_corrupt { IsErrOf result CellError.Corrupt → ⊥ }
     ensures cause { IsErrOf result CellError.Device → Rose (D.medium disk.old).faults (D.medium disk.new).faults }
+    ensures passes { OnOk result ((D.medium disk.new).faults ≡ (D.medium disk.old).faults) }
 
     // Only slots of the place change, and a stop at any moment leaves only what was held or only the new text.
     ensures elsewhere { IsTrue D.told → Spares (IsNoSlot place.first place.copies) (D.medium disk.old).image (D.medium disk.new).image }
@@ -71,6 +72,7 @@ fn format_in<D: Disk>(
         ≤ (D.medium disk.old).written + place.copies * (header + header + (header + length text.now)) }
     ensures time { Elapses (D.medium disk.old) (D.medium disk.new) }
     ensures cause { OnErr result (Rose (D.medium disk.old).faults (D.medium disk.new).faults) }
+    ensures passes { OnOk result ((D.medium disk.new).faults ≡ (D.medium disk.old).faults) }
 {
     let all = [true; MAX_COPIES];
     write_fronts(disk, place, 0, &all, &BLANK)?;

@@ -29,6 +29,7 @@ pub(crate) fn write_fronts<D: Disk>(
     ensures none { IsNone place.copies chosen.now → (D.medium disk.new).written ≡ (D.medium disk.old).written }
     ensures time { Elapses (D.medium disk.old) (D.medium disk.new) }
     ensures cause { OnErr result (Rose (D.medium disk.old).faults (D.medium disk.new).faults) }
+    ensures passes { OnOk result ((D.medium disk.new).faults ≡ (D.medium disk.old).faults) }
 {
     for copy in 0..place.copies {
         if !chosen[copy as usize] {
@@ -61,6 +62,7 @@ pub(crate) fn write_durably<D: Disk>(
     ensures none { IsNone place.copies chosen.now → (D.medium disk.new).written ≡ (D.medium disk.old).written }
     ensures time { Elapses (D.medium disk.old) (D.medium disk.new) }
     ensures cause { OnErr result (Rose (D.medium disk.old).faults (D.medium disk.new).faults) }
+    ensures passes { OnOk result ((D.medium disk.new).faults ≡ (D.medium disk.old).faults) }
 {
     write_fronts(disk, place, parity, chosen, bytes)?;
     disk.sync()?;

@@ -39,6 +39,7 @@ pub fn keep_only<D: Disk>(
     ensures memory { IsErrOf result CellError.OutOfMemory → disk.new ≡ disk.old }
     ensures never_corrupt { IsErrOf result CellError.Corrupt → ⊥ }
     ensures cause { IsErrOf result CellError.Device → Rose (D.medium disk.old).faults (D.medium disk.new).faults }
+    ensures passes { OnOk result ((D.medium disk.new).faults ≡ (D.medium disk.old).faults) }
 
     // Only slots of the place change, and none that is clear already. At any moment the copies that held the text hold it.
     ensures elsewhere { IsTrue D.told → Spares (IsNoSlot place.first place.copies) (D.medium disk.old).image (D.medium disk.new).image }
@@ -77,6 +78,7 @@ fn keep_in<D: Disk>(
     ensures written { (D.medium disk.new).written ≤ (D.medium disk.old).written + place.copies * (header + header) }
     ensures time { Elapses (D.medium disk.old) (D.medium disk.new) }
     ensures cause { OnErr result (Rose (D.medium disk.old).faults (D.medium disk.new).faults) }
+    ensures passes { OnOk result ((D.medium disk.new).faults ≡ (D.medium disk.old).faults) }
 {
     let parity = (generation % 2) as u32;
     let others = choose(disk, place, parity, Pick::Others, generation, text, room)?;
@@ -121,6 +123,7 @@ fn blank_both<D: Disk>(
     ensures written { (D.medium disk.new).written ≤ (D.medium disk.old).written + place.copies * (header + header) }
     ensures time { Elapses (D.medium disk.old) (D.medium disk.new) }
     ensures cause { OnErr result (Rose (D.medium disk.old).faults (D.medium disk.new).faults) }
+    ensures passes { OnOk result ((D.medium disk.new).faults ≡ (D.medium disk.old).faults) }
 {
     let parity = (generation % 2) as u32;
     write_fronts(disk, place, parity, others, &BLANK)?;

@@ -65,6 +65,9 @@ pub fn open_cell<D: Disk>(
     ensures memory { IsErrOf result CellError.OutOfMemory
         → ((D.medium disk.new).image ≡ (D.medium disk.old).image) × ((D.medium disk.new).written ≡ (D.medium disk.old).written) }
     ensures cause { IsErrOf result CellError.Device → Rose (D.medium disk.old).faults (D.medium disk.new).faults }
+    ensures passes { OnOk result ((D.medium disk.new).faults ≡ (D.medium disk.old).faults) }
+    ensures fed { IsErrOf result CellError.OutOfMemory → (D.medium disk.new).faults ≡ (D.medium disk.old).faults }
+    ensures unfailed { IsErrOf result CellError.Corrupt → (D.medium disk.new).faults ≡ (D.medium disk.old).faults }
 
     // Only slots of the place change, and none that is right already. A stop at any moment leaves every copy what it held or every copy
     // the text that stood.
@@ -122,6 +125,8 @@ fn open_at<D: Disk>(
     ensures memory { IsErrOf result CellError.OutOfMemory
         → ((D.medium disk.new).image ≡ (D.medium disk.old).image) × ((D.medium disk.new).written ≡ (D.medium disk.old).written) }
     ensures cause { IsErrOf result CellError.Device → Rose (D.medium disk.old).faults (D.medium disk.new).faults }
+    ensures passes { OnOk result ((D.medium disk.new).faults ≡ (D.medium disk.old).faults) }
+    ensures fed { IsErrOf result CellError.OutOfMemory → (D.medium disk.new).faults ≡ (D.medium disk.old).faults }
     ensures elsewhere { IsTrue D.told → Spares (IsNoSlot place.first place.copies) (D.medium disk.old).image (D.medium disk.new).image }
     ensures right { IsTrue D.told → Spares (IsRight (D.medium disk.old).image place.first place.copies seen.generation seen.text)
         (D.medium disk.old).image (D.medium disk.new).image }
@@ -162,6 +167,8 @@ fn open_text<D: Disk>(
     ensures memory { IsErrOf result CellError.OutOfMemory
         → ((D.medium disk.new).image ≡ (D.medium disk.old).image) × ((D.medium disk.new).written ≡ (D.medium disk.old).written) }
     ensures cause { IsErrOf result CellError.Device → Rose (D.medium disk.old).faults (D.medium disk.new).faults }
+    ensures passes { OnOk result ((D.medium disk.new).faults ≡ (D.medium disk.old).faults) }
+    ensures fed { IsErrOf result CellError.OutOfMemory → (D.medium disk.new).faults ≡ (D.medium disk.old).faults }
     ensures elsewhere { IsTrue D.told → Spares (IsNoSlot place.first place.copies) (D.medium disk.old).image (D.medium disk.new).image }
     ensures right { IsTrue D.told → Spares (IsRight (D.medium disk.old).image place.first place.copies generation text.now)
         (D.medium disk.old).image (D.medium disk.new).image }

@@ -50,6 +50,7 @@ pub(crate) fn replace<D: Disk>(
     ensures written { (D.medium disk.new).written ≤ (D.medium disk.old).written + place.copies * (header + length text.now + header) }
     ensures time { Elapses (D.medium disk.old) (D.medium disk.new) }
     ensures cause { OnErr result (Rose (D.medium disk.old).faults (D.medium disk.new).faults) }
+    ensures passes { OnOk result ((D.medium disk.new).faults ≡ (D.medium disk.old).faults) }
 {
     let parity = (generation % 2) as u32;
     write_durably(disk, place, parity, lacking, sealed_text)?;

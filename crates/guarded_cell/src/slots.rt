@@ -55,6 +55,7 @@ pub(crate) fn settle<D: Disk>(disk: &mut D) -> Result<(), DiskFailed>
     ensures written { (D.medium disk.new).written ≡ (D.medium disk.old).written }
     ensures time { Elapses (D.medium disk.old) (D.medium disk.new) }
     ensures cause { OnErr result (Rose (D.medium disk.old).faults (D.medium disk.new).faults) }
+    ensures passes { OnOk result ((D.medium disk.new).faults ≡ (D.medium disk.old).faults) }
 {
     disk.sync()?;
     Ok(())
@@ -72,6 +73,7 @@ pub(crate) fn read_front<D: Disk>(
     ensures reads { OnlyReads (D.medium disk.old) (D.medium disk.new) }
     ensures time { Elapses (D.medium disk.old) (D.medium disk.new) }
     ensures cause { OnErr result (Rose (D.medium disk.old).faults (D.medium disk.new).faults) }
+    ensures passes { OnOk result ((D.medium disk.new).faults ≡ (D.medium disk.old).faults) }
 {
     let count = disk.read(file, 0, room)?;
     Ok(count)
@@ -113,6 +115,7 @@ fn look_at<D: Disk>(
     ensures reads { OnlyReads (D.medium disk.old) (D.medium disk.new) }
     ensures time { Elapses (D.medium disk.old) (D.medium disk.new) }
     ensures cause { OnErr result (Rose (D.medium disk.old).faults (D.medium disk.new).faults) }
+    ensures passes { OnOk result ((D.medium disk.new).faults ≡ (D.medium disk.old).faults) }
 {
     let count = read_front(disk, file, room)?;
     let found = find_text(&room[..count], generation, text);
@@ -156,6 +159,7 @@ pub(crate) fn choose<D: Disk>(
     ensures reads { OnlyReads (D.medium disk.old) (D.medium disk.new) }
     ensures time { Elapses (D.medium disk.old) (D.medium disk.new) }
     ensures cause { OnErr result (Rose (D.medium disk.old).faults (D.medium disk.new).faults) }
+    ensures passes { OnOk result ((D.medium disk.new).faults ≡ (D.medium disk.old).faults) }
 {
     let mut chosen = [false; MAX_COPIES];
     for copy in 0..place.copies {

@@ -15,7 +15,8 @@ use Rattle.element_state.specs.declared.shapes.View.{View}
 use Rattle.element_state.specs.declared.shapes.Change.{Change}
 use Rattle.element_state.specs.declared.shapes.Change.TheVariants.{Put, Remove, Touch}
 use Rattle.element_state.specs.Changes.{insert_item, without_item, entry_name}
-use Rattle.element_state.specs.Conditions.{AreChanges, AreContents, IsFresh, size_of}
+use Rattle.index_text.specs.Contents.{AreContents, IsFresh}
+use Rattle.element_state.specs.Conditions.{AreChanges, size_of}
 use Rattle.element_state.specs.States.{fresh_entry, fresh_element, greatest_generation}
 use Rattle.storage_tests.specs.Single.{IsAddition}
 
@@ -83,7 +84,7 @@ one_change shape v (Remove name) fits few not_worn =
 one_change shape v (Touch name info) fits few not_worn = absurd fits
 
 -- one element that fits is all that a storage is made with
-pub one_content : (shape : Shape) (f : Fresh) → IsFresh shape.kind f → length f.name + length f.bytes ≤ shape.allowed → AreContents shape (f ∷ [])
+pub one_content : (shape : Shape) (f : Fresh) → IsFresh shape.kind f → length f.name + length f.bytes ≤ shape.allowed → AreContents shape.kind shape.allowed (f ∷ [])
 one_content shape f fresh small = let sum = sum_by-cons (λ (f : Fresh). length f.name + length f.bytes) f [] in record {
   each = (fresh, tt);
   names_ascend = sorted_from_ascends (f.name ∷ []) refl;

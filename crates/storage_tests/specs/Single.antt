@@ -3,7 +3,7 @@ use Rattle.std.specs.Prelude.{◌≤◌, ◌+◌, ℕ, length, ⊤}
 use Rattle.element_state.specs.declared.shapes.Shape.{Shape}
 use Rattle.element_state.specs.declared.shapes.Change.{Change}
 use Rattle.element_state.specs.declared.shapes.Change.TheVariants.{Put, Remove, Touch}
-use Rattle.element_state.specs.Conditions.{IsFresh}
+use Rattle.index_text.specs.Contents.{IsFresh}
 
 -- an element of the right kind that fits beside all that a storage of this size has, or one that goes
 abbrev pub IsAddition : Shape → (size : ℕ) → Change → Type 0

@@ -1,7 +1,7 @@
 //! Elements that are to be written.
 
 ghost use Rattle.std.specs.Prelude.{IsTrue, IfOk};
-ghost use Rattle.element_state.specs.Conditions.{IsFresh, AreContents};
+ghost use Rattle.index_text.specs.Contents.{AreContents, IsFresh};
 ghost use Rattle.storage_tests.specs.Single.{IsAddition};
 
 use case_words::{Trouble, bytes_of, cut};
@@ -60,7 +60,7 @@ fn is_of_kind(kind: StoreKind, fresh: &Fresh) -> bool
 
 /// The element alone, where the storage takes it.
 pub fn alone(alloc: Global, shape: &Shape, fresh: Fresh) -> Result<Vec<Fresh>, Trouble>
-    ensures { IfOk result (λ contents. AreContents shape.now contents.items) }
+    ensures { IfOk result (λ contents. AreContents shape.now.kind shape.now.allowed contents.items) }
 {
     if !is_of_kind(shape.kind, &fresh) {
         return Err(Trouble::NoCase);

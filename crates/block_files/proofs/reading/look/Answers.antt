@@ -27,9 +27,9 @@ loop-copy-preserved g c =
     let size = c.in_ok-size.ensures in
     let i = c.loop-copy.copy in
     let blocks = c.args.blocks.now in
-    let read = read_on old (g.D.Disk.medium c.loop-copy.disk) mid c.loop-copy.invariant.read text.reads text.time in
+    let read = read_on old (g.D.Disk.medium c.loop-copy.disk) mid c.loop-copy.invariant.read text.reads text.time text.passes in
     record {
-      read = read_on old mid (g.D.Disk.medium c.size.new.self) read size.reads size.time;
+      read = read_on old mid (g.D.Disk.medium c.size.new.self) read size.reads size.time size.passes;
       texts = λ tells. (
           let same = ap (λ im. im c.area-file.result) c.loop-copy.invariant.read.reads.image ∙ ap old.image c.area-file.ensures in
           ap texts_of c.in_ok-push.ensures.items

@@ -19,7 +19,7 @@ loop-number-preserved g c =
     let left : c.min.result ≡ min (c.args.len - length c.loop-number.bytes.items) 256 =
     omega (arith, c.min.ensures, c.saturating_sub-left.ensures, c.len.ensures, c.loop-number.bytes.ok) in
     record {
-      read = read_on old mid (g.D.Disk.medium c.read_block.new.disk) c.loop-number.invariant.read h.reads h.time;
+      read = read_on old mid (g.D.Disk.medium c.read_block.new.disk) c.loop-number.invariant.read h.reads h.time h.passes;
       bytes = λ tells. (
           let same = ap (λ im. im c.args.file) c.loop-number.invariant.read.reads.image in
           let content = h.bytes tells ∙ ap (λ xs. block xs (get_or c.args.blocks.now c.loop-number.number-index 0)) same in

@@ -22,7 +22,7 @@ loop-i-preserved g c =
           (partly_write g.D.Disk.told c.args.file c.args.blocks.now c.args.bytes.now c.args.was.now c.loop-i.i w.from.result w.part_at.result.now
           old (g.D.Disk.medium c.loop-i.disk) (g.D.Disk.medium w.write_at.new.self)
           (omega (arith, c.requires.room)) c.requires.distinct differ w.from.ensures w.part_at.ensures.value w.part_at.ensures.short
-          h.image h.now h.during h.at_most h.time c.loop-i.invariant))
+          h.image h.now h.during h.at_most h.time h.passes c.loop-i.invariant))
       | else-differs w ↦ (
           let same : is_changed c.args.bytes.now c.args.was.now c.loop-i.i ≡ false = sym c.differs.ensures ∙ w.if-differs.false in
           subst P (sym w.disk-is)

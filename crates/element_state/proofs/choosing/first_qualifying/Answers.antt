@@ -55,7 +55,7 @@ loop-at-preserved g c =
     let mid = (g.D.Disk.medium c.loop-at.disk).image in
     let x = c.index-texts-at.result in
     record {
-      disk = read_on c.loop-at.invariant.disk c.try_text.ensures.reads c.try_text.ensures.time;
+      disk = read_on c.loop-at.invariant.disk c.try_text.ensures.reads c.try_text.ensures.time c.in_ok-tried.ensures.passes;
       none = λ tells. (
           let none = subst (λ (o : Option (Sequence Entry)). IsTried mid shape x o) c.in_default.is (c.in_ok-tried.ensures.tried tells) in
           let fails = subst (λ (image : Image). IsTried image shape x None) c.loop-at.invariant.disk.reads.image none in

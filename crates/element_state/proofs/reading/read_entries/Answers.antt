@@ -1,5 +1,6 @@
 use Rattle.std.proofs.Common.{◌<◌, length, take, [], ◌+◌, ap, sym, subst, ◌∙◌, arith}
 use Rattle.std.specs.List.{AllZip}
+use Rattle.disk_model.proofs.Moments.{reads_on, elapses_on}
 use Rattle.element_state.specs.Views.{entry_view}
 use Rattle.element_state.specs.Chosen.{IsReadBy, HasBlocks}
 use Rattle.element_state.proofs.Entrywise.{read_none, read_on, all_at, zip_more, map_push}
@@ -13,16 +14,16 @@ loop-entry-init g c = record {
 }
 
 pub returns-in_err-view-clause-reads : goal.returns-in_err-view-clause-reads
-returns-in_err-view-clause-reads g c = (read_on c.loop-entry.invariant.disk c.read_entry.ensures.reads c.read_entry.ensures.time).reads
+returns-in_err-view-clause-reads g c = reads_on c.loop-entry.invariant.disk.time c.loop-entry.invariant.disk.reads c.read_entry.ensures.time c.read_entry.ensures.reads
 
 pub returns-in_err-view-clause-time : goal.returns-in_err-view-clause-time
-returns-in_err-view-clause-time g c = (read_on c.loop-entry.invariant.disk c.read_entry.ensures.reads c.read_entry.ensures.time).time
+returns-in_err-view-clause-time g c = elapses_on c.loop-entry.invariant.disk.time c.read_entry.ensures.time
 
 pub returns-in_err-push-clause-reads : goal.returns-in_err-push-clause-reads
-returns-in_err-push-clause-reads g c = (read_on c.loop-entry.invariant.disk c.read_entry.ensures.reads c.read_entry.ensures.time).reads
+returns-in_err-push-clause-reads g c = reads_on c.loop-entry.invariant.disk.time c.loop-entry.invariant.disk.reads c.read_entry.ensures.time c.read_entry.ensures.reads
 
 pub returns-in_err-push-clause-time : goal.returns-in_err-push-clause-time
-returns-in_err-push-clause-time g c = (read_on c.loop-entry.invariant.disk c.read_entry.ensures.reads c.read_entry.ensures.time).time
+returns-in_err-push-clause-time g c = elapses_on c.loop-entry.invariant.disk.time c.read_entry.ensures.time
 
 pub loop-entry-preserved : goal.loop-entry-preserved
 loop-entry-preserved g c =
@@ -31,7 +32,7 @@ loop-entry-preserved g c =
     let i = c.loop-entry.entry-index in
     let here : i < length entries = omega (arith, c.loop-entry-test.true) in
     record {
-      disk = read_on c.loop-entry.invariant.disk c.read_entry.ensures.reads c.read_entry.ensures.time;
+      disk = read_on c.loop-entry.invariant.disk c.read_entry.ensures.reads c.read_entry.ensures.time c.in_ok-view.ensures.passes;
       views = λ tells.
           c.in_ok-push.ensures.items
           ∙ map_push (entry_view old.image c.args.place c.args.m) entries c.loop-entry.views.items i c.entry-item.result c.in_ok-view.view here c.entry-item.is

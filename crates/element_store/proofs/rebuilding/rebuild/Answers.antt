@@ -12,8 +12,8 @@ use Rattle.element_store.proofs.Ruled.{blocks_enough}
 use Rattle.element_store.proofs.RebuiltKept.{contents_anew, index_anew, contents_elsewhere, index_elsewhere, contents_outside, index_outside, anew_in_use, anew_opens}
 use Rattle.element_store.proofs.rebuilding.rebuild.Goals as goal
 
-pub returns-in_err-used-clause-kept : goal.returns-in_err-used-clause-kept
-returns-in_err-used-clause-kept g c = λ tells. c.in_err-used.ensures.kept tells (fresh_state (next_generation (salvage_of (store_at (g.D.Disk.medium c.args.disk.now).image c.args.shape.now))) (fresh_map c.args.contents.items))
+pub returns-in_err-used-clause-any_moment : goal.returns-in_err-used-clause-any_moment
+returns-in_err-used-clause-any_moment g c = λ tells. c.in_err-used.ensures.kept tells (fresh_state (next_generation (salvage_of (store_at (g.D.Disk.medium c.args.disk.now).image c.args.shape.now))) (fresh_map c.args.contents.items))
 
 pub returns-in_err-used-clause-elsewhere : goal.returns-in_err-used-clause-elsewhere
 returns-in_err-used-clause-elsewhere g c = λ tells f out. c.in_err-used.ensures.elsewhere tells f (outside_no_slot c.args.shape.now.place.first c.args.shape.now.place.copies f out)
@@ -29,8 +29,8 @@ put_contents-requires-clause-free g c =
     let free = c.in_ok-used.ensures.free in
     omega (arith, enough, e, free)
 
-pub returns-in_err-spelled-clause-kept : goal.returns-in_err-spelled-clause-kept
-returns-in_err-spelled-clause-kept g c = λ tells. contents_anew c.args.shape.now c.in_ok-used.field-0.used c.in_ok-used.field-0.generation c.args.contents.items (g.D.Disk.medium c.args.disk.now) (g.D.Disk.medium c.prepare.new.disk) c.in_ok-used.ensures.time (c.in_ok-used.ensures.kept tells) (c.in_ok-used.ensures.ready tells) c.in_ok-used.ensures.quiet (g.D.Disk.medium c.put_contents.new.disk) c.in_err-spelled.ensures.time
+pub returns-in_err-spelled-clause-any_moment : goal.returns-in_err-spelled-clause-any_moment
+returns-in_err-spelled-clause-any_moment g c = λ tells. contents_anew c.args.shape.now c.in_ok-used.field-0.used c.in_ok-used.field-0.generation c.args.contents.items (g.D.Disk.medium c.args.disk.now) (g.D.Disk.medium c.prepare.new.disk) c.in_ok-used.ensures.time (c.in_ok-used.ensures.kept tells) (c.in_ok-used.ensures.ready tells) c.in_ok-used.ensures.quiet (g.D.Disk.medium c.put_contents.new.disk) c.in_err-spelled.ensures.time
     (fresh_state (next_generation (salvage_of (store_at (g.D.Disk.medium c.args.disk.now).image c.args.shape.now))) (fresh_map c.args.contents.items)) (false ≡ true) (λ no. absurd (not_false no)) c.in_err-spelled.ensures.during
 
 pub returns-in_err-spelled-clause-elsewhere : goal.returns-in_err-spelled-clause-elsewhere
@@ -48,8 +48,8 @@ adopt-requires-clause-short g c =
     let b = ap length fit.spelled in
     omega (arith, short, a, b)
 
-pub returns-in_err-adopt-clause-kept : goal.returns-in_err-adopt-clause-kept
-returns-in_err-adopt-clause-kept g c = λ tells. index_anew c.args.shape.now c.in_ok-used.field-0.used c.in_ok-used.field-0.generation c.args.contents.items (g.D.Disk.medium c.args.disk.now) (g.D.Disk.medium c.prepare.new.disk) c.in_ok-used.ensures.time (c.in_ok-used.ensures.kept tells) (c.in_ok-used.ensures.ready tells) c.in_ok-used.ensures.quiet (g.D.Disk.medium c.put_contents.new.disk) c.in_ok-spelled.ensures.time
+pub returns-in_err-adopt-clause-any_moment : goal.returns-in_err-adopt-clause-any_moment
+returns-in_err-adopt-clause-any_moment g c = λ tells. index_anew c.args.shape.now c.in_ok-used.field-0.used c.in_ok-used.field-0.generation c.args.contents.items (g.D.Disk.medium c.args.disk.now) (g.D.Disk.medium c.prepare.new.disk) c.in_ok-used.ensures.time (c.in_ok-used.ensures.kept tells) (c.in_ok-used.ensures.ready tells) c.in_ok-used.ensures.quiet (g.D.Disk.medium c.put_contents.new.disk) c.in_ok-spelled.ensures.time
     (g.D.Disk.medium c.adopt.new.disk) c.as_slice.result.now c.in_ok-spelled.spelled.index _ c.in_err-adopt.ensures.time (c.in_ok-used.ensures.generation tells)
     (subst (λ (t : List ℕ). IsTextOf c.args.shape.now t c.in_ok-spelled.spelled.index) (sym c.as_slice.ensures) c.in_ok-spelled.ensures.fit)
     (c.in_ok-spelled.ensures.keeps tells)
@@ -64,8 +64,8 @@ returns-in_err-adopt-clause-outside g c = λ tells quiet. index_outside c.args.s
     (c.in_ok-used.ensures.any_moment tells quiet) c.in_ok-used.ensures.quiet _ c.in_ok-spelled.ensures.during (g.D.Disk.medium c.adopt.new.disk) c.in_ok-used.field-0.generation c.as_slice.result.now
     c.in_err-adopt.ensures.time (c.in_err-adopt.ensures.any_moment tells c.in_ok-spelled.ensures.quiet)
 
-pub returns-clause-kept : goal.returns-clause-kept
-returns-clause-kept g c = λ tells. index_anew c.args.shape.now c.in_ok-used.field-0.used c.in_ok-used.field-0.generation c.args.contents.items (g.D.Disk.medium c.args.disk.now) (g.D.Disk.medium c.prepare.new.disk) c.in_ok-used.ensures.time (c.in_ok-used.ensures.kept tells) (c.in_ok-used.ensures.ready tells) c.in_ok-used.ensures.quiet (g.D.Disk.medium c.put_contents.new.disk) c.in_ok-spelled.ensures.time
+pub returns-clause-any_moment : goal.returns-clause-any_moment
+returns-clause-any_moment g c = λ tells. index_anew c.args.shape.now c.in_ok-used.field-0.used c.in_ok-used.field-0.generation c.args.contents.items (g.D.Disk.medium c.args.disk.now) (g.D.Disk.medium c.prepare.new.disk) c.in_ok-used.ensures.time (c.in_ok-used.ensures.kept tells) (c.in_ok-used.ensures.ready tells) c.in_ok-used.ensures.quiet (g.D.Disk.medium c.put_contents.new.disk) c.in_ok-spelled.ensures.time
     (g.D.Disk.medium c.adopt.new.disk) c.as_slice.result.now c.in_ok-spelled.spelled.index _ c.in_ok-adopt.ensures.time (c.in_ok-used.ensures.generation tells)
     (subst (λ (t : List ℕ). IsTextOf c.args.shape.now t c.in_ok-spelled.spelled.index) (sym c.as_slice.ensures) c.in_ok-spelled.ensures.fit)
     (c.in_ok-spelled.ensures.keeps tells)

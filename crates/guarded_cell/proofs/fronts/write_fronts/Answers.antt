@@ -28,4 +28,4 @@ loop-copy-preserved g c =
     writing_writes c.args.place.first c.args.parity c.args.place.copies c.args.chosen.now c.args.bytes.now c.loop-copy.copy (omega arith) flag
     (g.met.D.Disk.lawful c.loop-copy.disk) c.loop-copy.invariant
     (λ tells. c.in_ok-write_at.ensures.image tells ∙ ap (λ (f : ℕ). put_image mid.image f 0 c.args.bytes.now) c.slot.ensures)
-    write c.write_at.ensures.at_most c.write_at.ensures.time
+    write c.write_at.ensures.at_most c.write_at.ensures.time c.in_ok-write_at.ensures.passes

@@ -1,4 +1,4 @@
-use Rattle.std.proofs.Common.{◌∙◌, sym, arith}
+use Rattle.std.proofs.Common.{◌∙◌, refl, sym, arith}
 use Rattle.disk_model.proofs.Moments.{reads_none, reads_on, elapses_none, elapses_on}
 use Rattle.guarded_cell.proofs.Seeing.{held_none, held_more}
 use Rattle.guarded_cell.proofs.looking.see_all.Goals as goal
@@ -9,6 +9,7 @@ loop-copy-init g c = record {
   sealable = λ k d lt. absurd (omega (arith, lt, c.new-seens.ensures.len));
   reads = reads_none (g.met.D.Disk.lawful c.args.disk.now);
   time = elapses_none (g.met.D.Disk.lawful c.args.disk.now);
+  passes = refl;
 }
 
 pub loop-copy-preserved : goal.loop-copy-preserved
@@ -24,4 +25,5 @@ loop-copy-preserved g c =
       sealable = c.in_ok-see_slot-2.ensures.sealable;
       reads = reads_on first_time first_reads c.see_slot-in-loop-copy.ensures.time c.see_slot-in-loop-copy.ensures.reads;
       time = elapses_on first_time c.see_slot-in-loop-copy.ensures.time;
+      passes = c.in_ok-see_slot-2.ensures.passes ∙ c.in_ok-see_slot.ensures.passes ∙ c.loop-copy.invariant.passes;
     }

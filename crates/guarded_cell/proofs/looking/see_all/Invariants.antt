@@ -10,4 +10,5 @@ invariant-loop-copy g l = record {
   sealable : All IsSealable l.seens.items;
   reads : OnlyReads (g.D.Disk.medium l.initial.disk) (g.D.Disk.medium l.disk);
   time : Elapses (g.D.Disk.medium l.initial.disk) (g.D.Disk.medium l.disk);
+  passes : (g.D.Disk.medium l.disk).faults ≡ (g.D.Disk.medium l.initial.disk).faults;
 }

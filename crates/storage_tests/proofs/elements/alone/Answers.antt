@@ -1,6 +1,6 @@
 use Rattle.std.proofs.Common.{◌+◌, ◌≤◌, List, length, sym, ap, subst, arith}
 use Rattle.per_base.specs.declared.elements.Fresh.{Fresh}
-use Rattle.element_state.specs.Conditions.{AreContents, IsFresh}
+use Rattle.index_text.specs.Contents.{AreContents, IsFresh}
 use Rattle.storage_tests.proofs.Single.{one_content}
 use Rattle.storage_tests.proofs.elements.alone.Goals as goal
 
@@ -9,4 +9,4 @@ returns c =
     let fresh : IsFresh c.args.shape.now.kind c.args.fresh = c.is_of_kind.ensures c.if-not-is_of_kind.false in
     let small : length c.args.fresh.name + length c.args.fresh.bytes ≤ c.args.shape.now.allowed =
     let name = ap length c.as_str.ensures.text in omega (arith, name, c.len.ensures) in
-    subst (λ (fs : List Fresh). AreContents c.args.shape.now fs) (sym c.in_ok-vec.ensures.items) (one_content c.args.shape.now c.args.fresh fresh small)
+    subst (λ (fs : List Fresh). AreContents c.args.shape.now.kind c.args.shape.now.allowed fs) (sym c.in_ok-vec.ensures.items) (one_content c.args.shape.now c.args.fresh fresh small)

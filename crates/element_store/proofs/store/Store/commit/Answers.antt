@@ -164,6 +164,9 @@ returns-clause-shape g c = ap (λ (st : Store). st.shape) c.new.ensures
 pub returns-clause-view : goal.returns-clause-view
 returns-clause-view g c = finished_view g.D.Disk.told c.args.self c.new.result c.args.changes.items _ c.in-Ok-write_in.cell c.in-Ok.ready.index c.changed-entries.result c.release_replaced.new.taken c.new.ensures c.requires.used.memory c.in-Ok-write_in.ensures.next (c.changed-entries.ensures ∙ ap (λ (n : ℕ). after_changes n c.moved.result.items c.args.changes.items) c.generation.ensures ∙ ap (λ (es : List Entry). after_changes c.in-Ok-write_in.cell.generation es c.args.changes.items) c.moved.ensures.items)
 
+pub returns-clause-passes : goal.returns-clause-passes
+returns-clause-passes g c = c.in-Ok-write_in.ensures.passes ∙ c.in-Ok.ensures.passes
+
 pub returns-clause-quiet : goal.returns-clause-quiet
 returns-clause-quiet g c = c.in-Ok-write_in.ensures.quiet
 
