@@ -1,37 +1,32 @@
 -- What was asked first is not refused midway.
-use Rattle.std.proofs.Common.{◌≡◌, ◌≢◌, ℕ, ◌+◌, ◌-◌, ◌≤◌, List, [], ◌++◌, length, take, drop, min, Bool, true, false, cond, refl, sym, ◌∙◌, ap, subst, arith, length-append, length-drop}
-use Rattle.std.specs.Prelude.{Option, Some, None, Result, Ok, Err, IfErr, not, ◌&&◌, ◌==◌, nat_lt, option_map}
+use Rattle.std.proofs.Common.{◌≡◌, ℕ, ◌+◌, ◌-◌, ◌≤◌, List, [], length, min, Bool, true, false, cond, refl, sym, ◌∙◌, ap, subst, arith, length-append, length-drop}
+use Rattle.std.specs.Prelude.{Option, Some, None, Result, Ok, Err, not, ◌&&◌, ◌==◌, nat_lt}
 use Rattle.std.specs.BTreeMap.{is_at}
 use Rattle.std.specs.List.Sorted.{IsStrictlySortedBy}
 use Rattle.std.specs.Map.{keys_of}
 use Rattle.std.specs.Ordering.{nat_cmp}
 use Rattle.std.proofs.lemmas.Bool.Decides.{nat_tests}
 use Rattle.std.proofs.lemmas.Cmp.{eq_by_cmp_equiv, nat_cmp_total}
-use Rattle.per_base.specs.declared.elements.Cause.TheVariants.{Application}
-use Rattle.per_base.specs.declared.elements.Content.TheVariants.{Good}
 use Rattle.per_base.specs.declared.elements.Element.{Element}
 use Rattle.per_base.specs.declared.elements.FileInfo.{FileInfo}
-use Rattle.per_base.specs.declared.errors.Limit.TheVariants.{FileBytes}
 use Rattle.per_base.specs.declared.errors.PerError.{PerError}
-use Rattle.per_base.specs.declared.errors.PerError.TheVariants.{FileNotFound, IllegalWriteAccess, InvalidOpenMode, LimitReached, OutOfMemory, OutOfStorageSpace}
-use Rattle.per_base.specs.declared.opening.OpenKind.{OpenKind}
+use Rattle.per_base.specs.declared.errors.PerError.TheVariants.{FileNotFound, IllegalWriteAccess, InvalidOpenMode}
 use Rattle.per_base.specs.declared.opening.OpenKind.TheVariants.{Read, Write}
 use Rattle.per_base.specs.declared.opening.OpenMode.{OpenMode}
 use Rattle.per_base.specs.Maps.{Map, element_at, has, size_of, with_element}
-use Rattle.per_base.specs.Modes.{truncates}
 use Rattle.per_base.specs.Names.{name_cmp}
 use Rattle.file_core.specs.declared.cursor.Cursor.{Cursor}
 use Rattle.file_core.specs.declared.room.Room.{Room}
-use Rattle.file_core.specs.Files.{bytes_of, changed_to, file_of, opened_at, too_long, written}
+use Rattle.file_core.specs.Files.{bytes_of, file_of, too_long, written}
 use Rattle.file_core.specs.Places.{is_bad_mode, overwritten, placed, write_place, writes}
-use Rattle.file_core.specs.Refusals.{IsDue, IsRefusal, refused_by}
+use Rattle.file_core.specs.Refusals.{IsDue, refused_by}
 use Rattle.file_handles.specs.declared.handle.Handle.{Handle}
 use Rattle.file_handles.specs.declared.storage.Storage.{Storage}
 use Rattle.file_handles.specs.Handling.{changing, write}
-use Rattle.file_handles.specs.Opening.{can_open, file_opened, first, no_room_to_create, open_file, when, with_opened, would_fit}
+use Rattle.file_handles.specs.Opening.{can_open, file_opened, no_room_to_create, open_file, when, with_opened, would_fit}
 use Rattle.file_handles.specs.Sessions.{Handles, Session, free_number, handle_at, open_at, others, room_for, with_changed, with_handle}
-use Rattle.file_handles.specs.Whole.{PutLaw, SameContentLaw, and_then, bytes_at, cat, plain, put, released, truncating}
-use Rattle.file_handles.proofs.Entries.{len_fits, size_insert, size_set}
+use Rattle.file_handles.specs.Whole.{SameContentLaw, and_then, bytes_at, cat, plain, put, released, truncating}
+use Rattle.file_handles.proofs.Entries.{size_insert, size_set}
 use Rattle.file_handles.proofs.Lookups.{handle_put}
 use Rattle.file_handles.proofs.Named.{fits_room}
 use Rattle.file_handles.proofs.Opens.{first_none, put_there, when_none}
@@ -50,7 +45,7 @@ reader_has_room : (storage : Storage) (s : Session) (name : List ℕ) (mode : Op
 reader_has_room storage s name mode none = rw (reader_there storage s name mode none) refl
 
 -- a storage in which a file may be written is not read-only
-writer_allowed : (storage : Storage) (s : Session) (name : List ℕ) (mode : OpenMode) → can_open storage s name Write mode ≡ None → storage.read_only ≡ false
+pub writer_allowed : (storage : Storage) (s : Session) (name : List ℕ) (mode : OpenMode) → can_open storage s name Write mode ≡ None → storage.read_only ≡ false
 writer_allowed storage s name mode none =
     let one = first_none (when (is_bad_mode Write mode) InvalidOpenMode) _ none in
     let two = first_none (when (writes Write && storage.read_only) IllegalWriteAccess) _ one.1 in
@@ -75,7 +70,7 @@ writer_has_room storage files name len fits = by (element_at files name) refl
 pub cat_due : (storage : Storage) (s : Session) (name : List ℕ) (now : ℕ) → can_open storage s name Read plain ≡ None → IsDue (cat storage s name now)
 cat_due storage s name now none = rw (none, reader_has_room storage s name plain none) tt
 
-refused_ok : {A : Type 0} (error : Option PerError) (rest : Result A PerError) (answer : A) → refused_by error rest ≡ Ok answer → rest ≡ Ok answer
+pub refused_ok : {A : Type 0} (error : Option PerError) (rest : Result A PerError) (answer : A) → refused_by error rest ≡ Ok answer → rest ≡ Ok answer
 refused_ok None rest answer is = is
 refused_ok (Some error) rest answer is = absurd (cc)
 
@@ -101,7 +96,7 @@ emptied : (found : Option Element) (now : ℕ) → (info : Option FileInfo) × (
 emptied None now = (_, refl)
 emptied (Some file) now = (_, refl)
 
-no_place : (cursor : Cursor) → write_place cursor [] ≡ 0
+pub no_place : (cursor : Cursor) → write_place cursor [] ≡ 0
 no_place cursor = by cursor.append
   where
     by : (appends : Bool) → cond appends 0 (min cursor.position 0) ≡ 0
@@ -126,13 +121,13 @@ changing_due : (s : Session) (number : ℕ) (handle : Handle) (files : Map) (nam
 changing_due s number handle files name (Ok new) due = tt
 changing_due s number handle files name (Err error) due = due
 
-handle_there : (handles : Handles) (number : ℕ) (handle : Handle) → handle_at (with_handle handles number handle) number ≡ Some handle
+pub handle_there : (handles : Handles) (number : ℕ) (handle : Handle) → handle_at (with_handle handles number handle) number ≡ Some handle
 handle_there handles number handle =
     let itself : is_at (nat_cmp number) number ≡ true = (eq_by_cmp_equiv nat_cmp_total).refl number in
     rw handle_put (rw itself refl)
 
 -- all else takes as much as before
-same_others : (files : Map) (name : List ℕ) (info : Option FileInfo) → IsStrictlySortedBy name_cmp (keys_of files)
+pub same_others : (files : Map) (name : List ℕ) (info : Option FileInfo) → IsStrictlySortedBy name_cmp (keys_of files)
     → size_of (with_element files name (file_of info [])) - 0 ≡ others files name (element_at files name)
 same_others files name info sorted = by (element_at files name) refl
   where
@@ -171,23 +166,8 @@ cat_given law storage s mid name now number content is read =
     step ∙ ap (λ (b : List ℕ). Ok (b, released mid number)) (law storage s name now (number, mid) is ∙ sym read)
 
 -- what was asked, written and released
-put_is : (storage : Storage) (s mid : Session) (name bytes : List ℕ) (now number : ℕ) → can_open storage s name Write truncating ≡ None → would_fit storage s.files name (length bytes) ≡ None
+pub put_is : (storage : Storage) (s mid : Session) (name bytes : List ℕ) (now number : ℕ) → can_open storage s name Write truncating ≡ None → would_fit storage s.files name (length bytes) ≡ None
     → open_file storage s name Write truncating now ≡ Ok (number, mid) → put storage s name bytes now ≡ and_then (write storage mid now number bytes) (λ after. Ok (released after number))
 put_is storage s mid name bytes now number none fits is =
     let one : put storage s name bytes now ≡ and_then (open_file storage s name Write truncating now) (λ o. and_then (write storage o.1 now o.0 bytes) (λ after. Ok (released after o.0))) = rw (none, fits) refl in
     one ∙ ap (λ (r : Result (ℕ × Session) PerError). and_then r (λ o. and_then (write storage o.1 now o.0 bytes) (λ after. Ok (released after o.0)))) is
-
--- an answer that is due is no refusal
-not_refused : {A : Type 0} (r : Result A PerError) (error : PerError) → IsDue r → r ≡ Err error → ⊥
-not_refused (Ok answer) error due is = cc
-not_refused (Err other) error due is = due
-
--- so a write that follows is refused for want of memory alone
-pub never_midway : {A : Type 0} → PutLaw → (storage : Storage) (s mid : Session) (name bytes : List ℕ) (now number : ℕ) (r : Result A PerError) (P : Type 0) → IsStrictlySortedBy name_cmp (keys_of s.files)
-    → can_open storage s name Write truncating ≡ None → would_fit storage s.files name (length bytes) ≡ None → open_file storage s name Write truncating now ≡ Ok (number, mid)
-    → IfErr r (λ error. IsRefusal (write storage mid now number bytes) error) → IfErr r (λ error. error ≢ OutOfMemory → P)
-never_midway law storage s mid name bytes now number (Ok answer) P sorted none fits opened refused = tt
-never_midway law storage s mid name bytes now number (Err error) P sorted none fits opened refused = λ other.
-    let is : put storage s name bytes now ≡ Err error =
-    put_is storage s mid name bytes now number none fits opened ∙ ap (λ (r : Result Session PerError). and_then r (λ after. Ok (released after number))) (refused other) in
-    absurd (not_refused (put storage s name bytes now) error (law storage s name bytes now sorted none fits) is)

@@ -7,3 +7,4 @@ pub mod Sound
 pub mod Numbers
 pub mod Whole
 pub mod Asked
+pub mod Filled

@@ -1,5 +1,5 @@
 -- A whole content at once, through a handle that is closed again.
-use Rattle.std.specs.Prelude.{◌≡◌, ◌⊎◌, ℕ, List, [], length, Option, None, Some, Result, Ok, Err}
+use Rattle.std.specs.Prelude.{◌≡◌, ℕ, List, [], length, Option, None, Some, Result, Ok, Err}
 use Rattle.std.specs.List.Sorted.{IsStrictlySortedBy}
 use Rattle.std.specs.Map.{keys_of}
 use Rattle.per_base.specs.declared.elements.Element.{Element}
@@ -46,11 +46,6 @@ put storage s name bytes now =
     refused_by (can_open storage s name Write truncating)
     (refused_by (would_fit storage s.files name (length bytes))
     (and_then (open_file storage s name Write truncating now) (λ o. and_then (write storage o.1 now o.0 bytes) (λ after. Ok (released after o.0)))))
-
--- nothing happened, or the file was opened to be written and its handle is closed again
-abbrev pub MayBeEmptied : Storage → Session → List ℕ → ℕ → Session → Type 0
-MayBeEmptied storage s name now later =
-    (later ≡ s) ⊎ ((o : ℕ × Session) × (open_file storage s name Write truncating now ≡ Ok o) × (later ≡ released o.1 o.0))
 
 -- ---- what was asked first is not refused midway
 

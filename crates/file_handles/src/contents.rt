@@ -1,15 +1,16 @@
 //! A whole content at once, through a handle that is closed again.
 
-ghost use Rattle.std.specs.Prelude.{◌≡◌, ◌≢◌, IfErr, IfOk, OnErr, OnOk, Ok, Err};
+ghost use Rattle.std.specs.Prelude.{◌≡◌, IfErr, IfOk, OnErr, OnOk, Ok, Err};
 ghost use Rattle.per_base.specs.Maps.{element_at};
 ghost use Rattle.file_core.specs.Refusals.{IsRefusal, NeedsMemory};
 ghost use Rattle.file_handles.specs.Whole as whole;
-ghost use Rattle.file_handles.specs.Whole.{MayBeEmptied, bytes_at, cat, put, released};
+ghost use Rattle.file_handles.specs.Whole.{bytes_at, cat, put, released};
 
 use crate::laws::whole_contents_are_given;
 use crate::table::FileTable;
 use bitflags::Flags;
-use per_base::{Name, OpenKind, OpenMode, PerError};
+use per_base::{Bytes, Cause, Name, OpenKind, OpenMode, PerError};
+use std::alloc::Global;
 
 impl FileTable {
     /// The whole content of a file.
@@ -34,16 +35,14 @@ impl FileTable {
     }
 
     /// Makes these bytes the content of a file, which is made where it is missing. Whether it may be opened and whether they fit is
-    /// asked first, so that a refusal changes nothing.
+    /// asked first, and they are copied before anything changes.
     ///
-    /// Errors: those of an opening for writing with the flag that truncates; those of `would_fit`; `OutOfMemory`, which leaves all as
-    /// it was or the file emptied.
+    /// Errors: those of an opening for writing with the flag that truncates; those of `would_fit`; `OutOfMemory`.
     pub fn replace(&mut self, name: &Name, bytes: &[u8], now: u64) -> Result<(), PerError>
         ensures ok { OnOk result (put self.old.storage self.old.session name.now bytes.now now ≡ Ok self.new.session) }
         ensures refused { IfErr result (λ error. IsRefusal (put self.old.storage self.old.session name.now bytes.now now) error) }
         ensures memory { IfErr result (λ error. error ≡ PerError.OutOfMemory → NeedsMemory (put self.old.storage self.old.session name.now bytes.now now)) }
-        ensures unchanged { IfErr result (λ error. error ≢ PerError.OutOfMemory → self.new ≡ self.old) }
-        ensures emptied { IfErr result (λ error. error ≡ PerError.OutOfMemory → MayBeEmptied self.old.storage self.old.session name.now now self.new.session) }
+        ensures unchanged { OnErr result (self.new ≡ self.old) }
         ensures storage { self.new.storage ≡ self.old.storage }
         ensures moment { OnOk result (self.new.moment ≡ now) }
     {
@@ -55,10 +54,11 @@ impl FileTable {
         if let Err(error) = self.would_fit(name, bytes.len() as u64) {
             return Err(error);
         }
+        let copy = copied(self.alloc, bytes)?;
         let number = self.open_file(name, OpenKind::Write, OpenMode::TRUNCATE, now)?;
-        let written = self.write(number, bytes);
         self.release(number);
-        written
+        self.give(name, Bytes::new(copy), now, Cause::Application);
+        Ok(())
     }
 
     /// A copy of the bytes of a file that is there.
@@ -66,13 +66,9 @@ impl FileTable {
         ensures ok { IfOk result (λ content. content.items ≡ bytes_at (element_at self.now.session.files name.now)) }
         ensures memory { IfErr result (λ error. error ≡ PerError.OutOfMemory) }
     {
-        let copy = match self.files.get(name) {
-            Some(file) => Vec::from_slice(self.alloc, file.bytes()),
+        match self.files.get(name) {
+            Some(file) => copied(self.alloc, file.bytes()),
             None => Ok(Vec::new(self.alloc)),
-        };
-        match copy {
-            Ok(copy) => Ok(copy),
-            Err(_) => Err(PerError::OutOfMemory),
         }
     }
 
@@ -89,4 +85,14 @@ fn plain() -> OpenMode
     ensures { result ≡ whole.plain }
 {
     OpenMode::empty()
+}
+
+fn copied(alloc: Global, bytes: &[u8]) -> Result<Vec<u8>, PerError>
+    ensures ok { IfOk result (λ copy. copy.items ≡ bytes.now) }
+    ensures memory { IfErr result (λ error. error ≡ PerError.OutOfMemory) }
+{
+    match Vec::from_slice(alloc, bytes) {
+        Ok(copy) => Ok(copy),
+        Err(_) => Err(PerError::OutOfMemory),
+    }
 }

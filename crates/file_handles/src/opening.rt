@@ -54,59 +54,8 @@ impl FileTable {
         Ok(())
     }
 
-    /// Opens a file for reading, and gives the number of the handle, the lowest free one.
-    ///
-    /// Errors: those of `can_open`, then `OutOfStorageSpace` where an empty file of a missing name would exceed the maximum.
-    pub fn open_read_only(&mut self, name: &Name, mode: OpenMode, now: u64) -> Result<u32, PerError>
-        ensures ok { IfOk result (λ number. opening.open_file self.old.storage self.old.session name.now OpenKind.Read mode now ≡ Ok (number, self.new.session)) }
-        ensures refused { IfErr result (λ error. IsRefusal (opening.open_file self.old.storage self.old.session name.now OpenKind.Read mode now) error) }
-        ensures memory { IfErr result (λ error. error ≡ PerError.OutOfMemory → NeedsMemory (opening.open_file self.old.storage self.old.session name.now OpenKind.Read mode now)) }
-        ensures unchanged { OnErr result (self.new ≡ self.old) }
-        ensures storage { self.new.storage ≡ self.old.storage }
-        ensures moment { OnOk result (self.new.moment ≡ now) }
-    {
-        self.open_file(name, OpenKind::Read, mode, now)
-    }
-
-    /// Opens a file for writing; a missing file is created empty, and gives the number of the handle, the lowest free one.
-    ///
-    /// Errors: those of `can_open`, then `OutOfStorageSpace` where an empty file of a missing name would exceed the maximum.
-    pub fn open_write_only(
-        &mut self,
-        name: &Name,
-        mode: OpenMode,
-        now: u64,
-    ) -> Result<u32, PerError>
-        ensures ok { IfOk result (λ number. opening.open_file self.old.storage self.old.session name.now OpenKind.Write mode now ≡ Ok (number, self.new.session)) }
-        ensures refused { IfErr result (λ error. IsRefusal (opening.open_file self.old.storage self.old.session name.now OpenKind.Write mode now) error) }
-        ensures memory { IfErr result (λ error. error ≡ PerError.OutOfMemory → NeedsMemory (opening.open_file self.old.storage self.old.session name.now OpenKind.Write mode now)) }
-        ensures unchanged { OnErr result (self.new ≡ self.old) }
-        ensures storage { self.new.storage ≡ self.old.storage }
-        ensures moment { OnOk result (self.new.moment ≡ now) }
-    {
-        self.open_file(name, OpenKind::Write, mode, now)
-    }
-
-    /// Opens a file for reading and writing; a missing file is created empty, and gives the number of the handle, the lowest free one.
-    ///
-    /// Errors: those of `can_open`, then `OutOfStorageSpace` where an empty file of a missing name would exceed the maximum.
-    pub fn open_read_write(
-        &mut self,
-        name: &Name,
-        mode: OpenMode,
-        now: u64,
-    ) -> Result<u32, PerError>
-        ensures ok { IfOk result (λ number. opening.open_file self.old.storage self.old.session name.now OpenKind.ReadWrite mode now ≡ Ok (number, self.new.session)) }
-        ensures refused { IfErr result (λ error. IsRefusal (opening.open_file self.old.storage self.old.session name.now OpenKind.ReadWrite mode now) error) }
-        ensures memory { IfErr result (λ error. error ≡ PerError.OutOfMemory → NeedsMemory (opening.open_file self.old.storage self.old.session name.now OpenKind.ReadWrite mode now)) }
-        ensures unchanged { OnErr result (self.new ≡ self.old) }
-        ensures storage { self.new.storage ≡ self.old.storage }
-        ensures moment { OnOk result (self.new.moment ≡ now) }
-    {
-        self.open_file(name, OpenKind::ReadWrite, mode, now)
-    }
-
-    /// Opens a file with this kind.
+    /// Opens a file with this kind, and gives the number of the handle, the lowest free one. A missing file that is to be written is created
+    /// empty.
     ///
     /// Errors: those of `can_open`, then `OutOfStorageSpace` where an empty file of a missing name would exceed the maximum.
     #[tactic(auto, using(crate::proofs::Opens::refused_first, crate::proofs::Opens::refused_space))]

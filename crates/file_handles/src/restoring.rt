@@ -167,7 +167,7 @@ impl FileTable {
     }
 
     /// Gives a file without a handle other bytes, for which there is room.
-    fn give(&mut self, name: &Name, bytes: Bytes, now: u64, cause: Cause)
+    pub(crate) fn give(&mut self, name: &Name, bytes: Bytes, now: u64, cause: Cause)
         requires free { opening.busy (blocking OpenKind.Write name.now self.old.session.handles) ≡ None }
         requires there { IsTrue (has self.old.session.files name.now) }
         requires small { length bytes ≤ 1048576 }

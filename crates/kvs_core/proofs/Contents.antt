@@ -17,7 +17,7 @@ use Rattle.deployment_model.specs.Data.{StorageData}
 use Rattle.deployment_model.specs.Lookups.{initial_of}
 use Rattle.key_maps.specs.KeyElements.{key_of}
 use Rattle.key_maps.specs.Shown.{stored_in}
-use Rattle.kvs_core.specs.Calls.{as_kind, get_any, get_as, mismatch, placed, read, stored_kind, takes_any, takes_initial, unless_differ, unless_refused, unless_typed, with_place, with_room}
+use Rattle.kvs_core.specs.Calls.{as_kind, get_any, get_as, mismatch, placed, read, reset_key, stored_kind, takes_any, unless_differ, unless_refused, unless_typed, with_place, with_room}
 use Rattle.kvs_core.specs.Refusals.{IsTextRefusal, NeedsMemory}
 
 pub read_stored : (c : StorageData) (name : List ℕ) (content : Content) (bytes : List ℕ) (value : Tree) → Some bytes ≡ stored_in content → decoded bytes ≡ Some value → read c name content ≡ Ok value
@@ -86,5 +86,7 @@ pub takes_place : (c : StorageData) (m : Map) (name : List ℕ) (asked : Kind) �
     → with_place m name (Ok m) ≡ Ok m → NeedsMemory (takes_any c m name asked)
 takes_place c m name asked passes place = subst (λ (due : Result Map PerError). NeedsMemory due) (sym (passes (with_place m name (Ok m)) ∙ place)) tt
 
-pub takes_there : (c : StorageData) (m : Map) (name bytes : List ℕ) → c.read_only ≡ false → initial_of c name ≡ Some bytes → with_place m name (Ok m) ≡ Ok m → NeedsMemory (takes_initial c m name)
-takes_there c m name bytes writes is place = rw (writes, is, place) tt
+-- what a reset needs memory for, where there is an initial value and a place for it
+pub reset_there : (c : StorageData) (m : Map) (name bytes : List ℕ) (full : Bool) → c.read_only ≡ false → initial_of c name ≡ Some bytes → full ≡ (not (has m name) && nat_le 1024 (length m)) → full ≡ false
+    → NeedsMemory (with_room c (with_element m name (key_of bytes))) → NeedsMemory (reset_key c m name)
+reset_there c m name bytes full writes is fills empty needs = rw (writes, is, placed_there c m name bytes bytes full fills empty refl) needs

@@ -1,15 +1,16 @@
 -- The test whether two types are the same answers what it says.
-use Rattle.std.proofs.Common.{◌≡◌, Bool, true, false, List, [], ◌∷◌, ℕ, refl, sym, ap, subst, ◌∙◌}
-use Rattle.std.specs.Prelude.{IsTrue, ◌↔◌, Option, Some, find}
+use Rattle.std.proofs.Common.{◌≡◌, ◌≤◌, length, Bool, true, false, List, [], ◌∷◌, ℕ, refl, sym, ap, subst, ◌∙◌}
+use Rattle.std.specs.Prelude.{IsTrue, ◌↔◌, Option, Some, None, find}
 use Rattle.std.specs.List.{AllByRecursion}
 use Rattle.std.specs.Str.{bytes_eq}
 use Rattle.per_base.specs.declared.elements.StoreKind.{StoreKind}
 use Rattle.per_base.specs.declared.elements.StoreKind.TheVariants.{Keys}
 use Rattle.value_model.specs.Kinds.{Kind, kind_fits}
+use Rattle.value_model.specs.Encoding.{encoding}
 use Rattle.value_text.specs.Limits.{same_kind}
-use Rattle.deployment_model.specs.Conditions.{HasTypeFor, IsElement, IsStorage}
+use Rattle.deployment_model.specs.Conditions.{HasTypeFor, IsElement, IsStorage, StartsAs}
 use Rattle.deployment_model.specs.Data.{ElementData, StorageData}
-use Rattle.deployment_model.specs.Lookups.{element_named}
+use Rattle.deployment_model.specs.Lookups.{element_named, initial_of}
 use Rattle.value_text.proofs.LimitLaws.{same_kind-true, same_kind-self}
 
 pub has_kind : (answer : Bool) (j k : Kind) → (IsTrue answer ↔ (j ≡ k)) → answer ≡ same_kind j k
@@ -46,3 +47,23 @@ configured_kind s name e k storage keys is typed =
     let one : HasTypeFor Keys e.value_type = subst (λ (kind : StoreKind). HasTypeFor kind e.value_type) keys element.typed in
     let two : HasTypeFor Keys (Some k) = subst (λ (t : Option Kind). HasTypeFor Keys t) typed one in
     two.groups
+
+-- ---- the initial value of a key
+
+short_start : (t : Option Kind) (initial : Option (List ℕ)) (bytes : List ℕ) → initial ≡ Some bytes → StartsAs Keys t initial → length bytes ≤ 65536
+short_start t None bytes is starts = absurd (cc)
+short_start None (Some there) bytes is starts = absurd starts
+short_start (Some k) (Some there) bytes is starts =
+    let same : there ≡ bytes = cc in
+    let short : length (encoding starts.value) ≤ 65536 = starts.is_value.short in
+    rw (← same, starts.encoded) short
+
+pub initial_short : (s : StorageData) (name bytes : List ℕ) → IsStorage s → s.kind ≡ Keys → Some bytes ≡ initial_of s name → length bytes ≤ 65536
+initial_short s name bytes storage keys is = by (element_named s name) refl
+  where
+    by : (found : Option ElementData) → element_named s name ≡ found → length bytes ≤ 65536
+    by None p = absurd (cc (rw p at is))
+    by (Some e) p =
+        let element : IsElement s.kind e = found_holds (IsElement s.kind) (λ (x : ElementData). bytes_eq x.name name) s.elements e storage.each p in
+        let starts : StartsAs Keys e.value_type e.initial = subst (λ (kind : StoreKind). StartsAs kind e.value_type e.initial) keys element.initial in
+        short_start e.value_type e.initial bytes (sym (rw p at is)) starts

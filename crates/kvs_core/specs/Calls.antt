@@ -136,7 +136,3 @@ with_initial (Some bytes) call = call bytes
 
 abbrev pub reset_key : StorageData → Map → List ℕ → Result Map PerError
 reset_key c m name = refuse c.read_only IllegalWriteAccess (with_initial (initial_of c name) (λ bytes. placed c m name bytes))
-
--- what refuses a reset before the initial value is copied: all but want of room
-abbrev pub takes_initial : StorageData → Map → List ℕ → Result Map PerError
-takes_initial c m name = refuse c.read_only IllegalWriteAccess (with_initial (initial_of c name) (λ bytes. with_place m name (Ok m)))

@@ -1,7 +1,11 @@
 -- Answers of calls: refusals in their order, and an answer that may be want of memory.
 use Rattle.std.specs.Prelude.{◌≡◌, ◌≢◌, Bool, cond, Result, Ok, Err}
+use Rattle.per_base.specs.declared.errors.Holder.{Holder}
+use Rattle.per_base.specs.declared.errors.Holder.TheVariants as holder
 use Rattle.per_base.specs.declared.errors.PerError.{PerError}
-use Rattle.per_base.specs.declared.errors.PerError.TheVariants.{DataTypeMismatch, IntegrityCorrupted, OutOfMemory}
+use Rattle.per_base.specs.declared.errors.PerError.TheVariants.{DataTypeMismatch, IntegrityCorrupted, OutOfMemory, ResourceBusy}
+use Rattle.per_base.specs.declared.errors.Unit as damaged
+use Rattle.per_base.specs.declared.errors.Unit.TheVariants as unit
 
 -- refused where the test holds, and otherwise the rest
 abbrev pub refuse : {A : Type 0} → Bool → PerError → Result A PerError → Result A PerError
@@ -11,10 +15,22 @@ refuse test error rest = cond test (Err error) rest
 abbrev pub IsRefusal : {A : Type 0} → Result A PerError → PerError → Type 0
 IsRefusal due error = error ≢ OutOfMemory → due ≡ Err error
 
+-- what is damaged, or who is in the way, is said by a name, which has to be copied
+abbrev pub IsNamedUnit : damaged.Unit → Type 0
+IsNamedUnit unit.Root = ⊥
+IsNamedUnit (unit.Whole storage) = Unit {0}
+IsNamedUnit (unit.Part storage element) = Unit {0}
+
+abbrev pub IsNamedHolder : Holder → Type 0
+IsNamedHolder (holder.Storage name) = Unit {0}
+IsNamedHolder (holder.Handle number) = ⊥
+IsNamedHolder (holder.Update version) = ⊥
+
 -- the error carries names or texts, which have to be copied
 abbrev pub CarriesText : PerError → Type 0
-CarriesText (IntegrityCorrupted unit) = Unit {0}
+CarriesText (IntegrityCorrupted unit) = IsNamedUnit unit
 CarriesText (DataTypeMismatch stored asked) = Unit {0}
+CarriesText (ResourceBusy holder) = IsNamedHolder holder
 CarriesText other = ⊥
 
 -- an answer is due, or a refusal that carries names or texts: memory may be wanting for it

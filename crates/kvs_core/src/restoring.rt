@@ -1,9 +1,10 @@
 //! Recovering and resetting keys.
 
-ghost use Rattle.std.specs.Prelude.{◌≡◌, false, IfErr, IsSome, IsTrue, OnErr, OnOk, Some};
+ghost use Rattle.std.specs.Prelude.{◌≡◌, ◌≤◌, IfErr, IfOk, IsSome, IsTrue, OnErr, OnOk, Some, length};
 ghost use Rattle.per_base.specs.declared.elements.Element.{Element};
-ghost use Rattle.per_base.specs.Maps.{element_at, has};
+ghost use Rattle.per_base.specs.Maps.{element_at, has, size_of, with_element};
 ghost use Rattle.deployment_model.specs.Lookups.{initial_of};
+ghost use Rattle.key_maps.specs.KeyElements.{key_of};
 ghost use Rattle.kvs_core.specs.Calls as calls;
 ghost use Rattle.kvs_core.specs.Refusals.{IsRefusal, NeedsMemory};
 
@@ -20,8 +21,8 @@ impl KeySession {
     pub fn recover_key(&mut self, name: &Name) -> Result<(), PerError>
         ensures ok { OnOk result (calls.recover_key self.old.config self.old.visible name.now ≡ Ok self.new.visible) }
         ensures refused { IfErr result (λ error. IsRefusal (calls.recover_key self.old.config self.old.visible name.now) error) }
-        // Want of memory comes only where a salvage or an initial value is taken, and stands for want of room alone.
-        ensures memory { IfErr result (λ error. error ≡ PerError.OutOfMemory → (self.old.config.read_only ≡ false) × IsTrue (has self.old.visible name.now)) }
+        // Want of memory stands for no refusal, and comes only where a salvage or an initial value is taken.
+        ensures memory { IfErr result (λ error. error ≡ PerError.OutOfMemory → NeedsMemory (calls.recover_key self.old.config self.old.visible name.now)) }
         ensures copies { IfErr result (λ error. error ≡ PerError.OutOfMemory → (key : Element) → element_at self.old.visible name.now ≡ Some key → calls.TakesCopy (initial_of self.old.config name.now) key.content) }
         ensures beside { self.new ≡ record self.old { visible = self.new.visible } }
         ensures unchanged { OnErr result (self.new ≡ self.old) }
@@ -50,7 +51,8 @@ impl KeySession {
         requires { IsTrue (has self.old.visible name.now) }
         ensures ok { OnOk result (calls.restored self.old.config self.old.visible name.now (initial_of self.old.config name.now) ≡ Ok self.new.visible) }
         ensures refused { IfErr result (λ error. IsRefusal (calls.restored self.old.config self.old.visible name.now (initial_of self.old.config name.now)) error) }
-        ensures memory { IfErr result (λ error. error ≡ PerError.OutOfMemory → IsSome (initial_of self.old.config name.now)) }
+        ensures memory { IfErr result (λ error. error ≡ PerError.OutOfMemory → NeedsMemory (calls.restored self.old.config self.old.visible name.now (initial_of self.old.config name.now))) }
+        ensures copies { IfErr result (λ error. error ≡ PerError.OutOfMemory → IsSome (initial_of self.old.config name.now)) }
         ensures beside { self.new ≡ record self.old { visible = self.new.visible } }
         ensures unchanged { OnErr result (self.new ≡ self.old) }
     {
@@ -58,8 +60,21 @@ impl KeySession {
             let _was = self.maps.remove(name);
             return Ok(());
         };
-        match Stored::read(self.alloc, initial.as_slice()) {
-            Ok(stored) => self.fit(name, stored),
+        let stored = self.start(name, initial.as_slice())?;
+        self.put(name, KeyElement::new(stored))
+    }
+
+    /// A copy of the initial value of a key, where there is room for it under this name.
+    fn start(&self, name: &Name, initial: &[u8]) -> Result<Stored, PerError>
+        requires { length initial.now ≤ 65536 }
+        ensures ok { IfOk result (λ stored. stored ≡ initial.now) }
+        ensures room { IfOk result (λ stored. size_of (with_element self.now.visible name.now (key_of stored)) ≤ self.now.config.maximum) }
+        ensures refused { IfErr result (λ error. IsRefusal (calls.with_room self.now.config (with_element self.now.visible name.now (key_of initial.now))) error) }
+        ensures memory { IfErr result (λ error. error ≡ PerError.OutOfMemory → NeedsMemory (calls.with_room self.now.config (with_element self.now.visible name.now (key_of initial.now)))) }
+    {
+        self.has_room(name, initial.len() as u32)?;
+        match Stored::read(self.alloc, initial) {
+            Ok(stored) => Ok(stored),
             Err(_) => Err(PerError::OutOfMemory),
         }
     }
@@ -68,12 +83,12 @@ impl KeySession {
     ///
     /// Errors: `IllegalWriteAccess` where the storage is read-only; `InitValueNotAvailable` where there is no initial value;
     /// `LimitReached` with `Elements`; `OutOfStorageSpace`; `OutOfMemory`.
-    #[tactic(auto, using(crate::proofs::Contents::few_without, crate::proofs::Contents::has_place, crate::proofs::Contents::placed_there, crate::proofs::Contents::takes_there))]
+    #[tactic(auto, using(crate::proofs::Contents::few_without, crate::proofs::Contents::placed_there, crate::proofs::Contents::reset_there))]
     pub fn reset_key(&mut self, name: &Name) -> Result<(), PerError>
         ensures ok { OnOk result (calls.reset_key self.old.config self.old.visible name.now ≡ Ok self.new.visible) }
         ensures refused { IfErr result (λ error. IsRefusal (calls.reset_key self.old.config self.old.visible name.now) error) }
-        // Want of memory stands for want of room alone.
-        ensures memory { IfErr result (λ error. error ≡ PerError.OutOfMemory → NeedsMemory (calls.takes_initial self.old.config self.old.visible name.now)) }
+        // Want of memory stands for no refusal.
+        ensures memory { IfErr result (λ error. error ≡ PerError.OutOfMemory → NeedsMemory (calls.reset_key self.old.config self.old.visible name.now)) }
         ensures beside { self.new ≡ record self.old { visible = self.new.visible } }
         ensures unchanged { OnErr result (self.new ≡ self.old) }
     {
@@ -88,9 +103,7 @@ impl KeySession {
                 which: Limit::Elements,
             });
         }
-        match Stored::read(self.alloc, initial.as_slice()) {
-            Ok(stored) => self.fit(name, stored),
-            Err(_) => Err(PerError::OutOfMemory),
-        }
+        let stored = self.start(name, initial.as_slice())?;
+        self.put(name, KeyElement::new(stored))
     }
 }

@@ -75,11 +75,4 @@ impl KeySession {
     {
         self.maps.holds();
     }
-
-    /// The configuration of the storage.
-    pub fn config(&self) -> &StorageConfig
-        ensures { storage_data result.now ≡ self.now.config }
-    {
-        &self.config
-    }
 }

@@ -1,9 +1,11 @@
 //! Writing and removing keys.
 
-ghost use Rattle.std.specs.Prelude.{◌≡◌, ◌<◌, ◌≤◌, ◌&&◌, nat_le, not, IfErr, IsTrue, None, Ok, OnErr, OnOk, length};
+ghost use Rattle.std.specs.Prelude.{◌≡◌, ◌≢◌, ◌<◌, ◌≤◌, ◌⊎◌, ◌&&◌, nat_le, not, IfErr, IsTrue, None, Ok, OnErr, OnOk, length};
+ghost use Rattle.per_base.specs.declared.elements.Element.{Element};
 ghost use Rattle.per_base.specs.Maps.{element_at, has, size_of, with_element};
 ghost use Rattle.value_model.specs.Encoding.{encoding};
 ghost use Rattle.value_model.specs.Trees.{type_of};
+ghost use Rattle.per_value.specs.Memory.{TakesMemory};
 ghost use Rattle.key_maps.specs.KeyElements.{is_readable, key_of};
 ghost use Rattle.kvs_core.specs.Calls as calls;
 ghost use Rattle.kvs_core.specs.Refusals.{IsRefusal, NeedsMemory};
@@ -44,6 +46,8 @@ impl KeySession {
     pub fn set_value<T: PerValue>(&mut self, name: &Name, value: &T) -> Result<(), PerError>
         ensures ok { OnOk result (calls.set_value self.old.config self.old.visible name.now (T.tree value.now) ≡ Ok self.new.visible) }
         ensures refused { IfErr result (λ error. IsRefusal (calls.set_value self.old.config self.old.visible name.now (T.tree value.now)) error) }
+        // Want of memory stands for want of room alone, but where the value itself takes memory, which is made first.
+        ensures memory { IfErr result (λ error. error ≡ PerError.OutOfMemory → TakesMemory T.kind ⊎ NeedsMemory (calls.takes_any self.old.config self.old.visible name.now (type_of (T.tree value.now)))) }
         ensures beside { self.new ≡ record self.old { visible = self.new.visible } }
         ensures unchanged { OnErr result (self.new ≡ self.old) }
     {
@@ -130,14 +134,24 @@ impl KeySession {
         ensures unchanged { OnErr result (self.new ≡ self.old) }
     {
         let key = KeyElement::new(stored);
-        let needed = self.maps.size_with(name, key.len());
+        self.has_room(name, key.len())?;
+        self.put(name, key)
+    }
+
+    /// Whether there is room for a key whose encoding has this length. Takes no memory.
+    pub(crate) fn has_room(&self, name: &Name, len: u32) -> Result<(), PerError>
+        ensures ok { OnOk result ((key : Element) → key.len ≡ len → size_of (with_element self.now.visible name.now key) ≤ self.now.config.maximum) }
+        ensures refused { IfErr result (λ error. (key : Element) → key.len ≡ len → calls.with_room self.now.config (with_element self.now.visible name.now key) ≡ Err error) }
+        ensures space { IfErr result (λ error. error ≢ PerError.OutOfMemory) }
+    {
+        let needed = self.maps.size_with(name, len);
         if needed > self.config.maximum {
             return Err(PerError::OutOfStorageSpace {
                 needed,
                 allowed: self.config.maximum,
             });
         }
-        self.put(name, key)
+        Ok(())
     }
 
     /// Puts a readable key for which there is a place and room.

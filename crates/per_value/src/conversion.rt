@@ -1,11 +1,12 @@
 //! The trait of types whose things are values.
 
-ghost use Rattle.std.specs.Prelude.{◌≡◌, ◌≢◌, ◌<◌, ◌≤◌, IfOk, IsTrue, length};
+ghost use Rattle.std.specs.Prelude.{◌≡◌, ◌≢◌, ◌<◌, ◌≤◌, IfOk, IsTrue, OnErr, length};
 ghost use Rattle.value_model.specs.Encoding.{encoding};
 ghost use Rattle.value_model.specs.Kinds.{Kind, kind_depth, kind_fits};
 ghost use Rattle.value_model.specs.Trees.{Tree, type_of};
 ghost use Rattle.value_model.specs.Validity.{IsTyped, IsValue, max_depth, max_length};
 ghost use Rattle.value_model.specs.Views.{kind_of, tree_of};
+ghost use Rattle.per_value.specs.Memory.{TakesMemory};
 
 use std::alloc::{AllocError, Global};
 use value_model::{Node, Value, ValueError, ValueType};
@@ -28,9 +29,10 @@ pub trait PerValue: Sized {
     fn type_of(alloc: Global) -> Result<ValueType, AllocError>
         ensures { IfOk result (λ t. kind_of t ≡ kind) };
 
-    /// The node that this thing is.
+    /// The node that this thing is. Takes no memory for a truth value or a number.
     fn to_node(&self, alloc: Global) -> Result<Node, AllocError>
-        ensures { IfOk result (λ node. tree_of node ≡ tree self.now) };
+        ensures node { IfOk result (λ node. tree_of node ≡ tree self.now) }
+        ensures memory { OnErr result (TakesMemory kind) };
 
     /// The thing that this node is, which must be well typed and have this type.
     fn from_node(alloc: Global, node: &Node) -> Result<Self, AllocError>
@@ -41,7 +43,7 @@ pub trait PerValue: Sized {
     /// The value that this thing is.
     ///
     /// Errors, the first that fits: `TooDeep` where its type nests more than 8 deep; `TooLong` where its encoding has more than
-    /// 65,536 bytes; `OutOfMemory`. It is never `IllTyped`.
+    /// 65,536 bytes; `OutOfMemory`, but for a truth value or a number. It is never `IllTyped`.
     final fn to_value(&self, alloc: Global) -> Result<Value, ValueError>
         ensures value { IfOk result (λ value. value ≡ tree self.now) }
         ensures of_type { IfOk result (λ value. type_of value ≡ kind) }
@@ -52,6 +54,7 @@ pub trait PerValue: Sized {
         ensures too_long { result ≡ Err ValueError.TooLong
             → (kind_depth (type_of (tree self.now)) ≤ max_depth) × (max_length < length (encoding (tree self.now))) }
         ensures well_typed { result ≢ Err ValueError.IllTyped }
+        ensures memory { result ≡ Err ValueError.OutOfMemory → TakesMemory kind }
     {
         Value::new(self.to_node(alloc)?)
     }
