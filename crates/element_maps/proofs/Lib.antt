@@ -6,3 +6,4 @@ pub mod Points
 pub mod Copies
 pub mod Synced
 pub mod Costs
+pub mod Unnamed

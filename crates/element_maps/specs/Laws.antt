@@ -1,21 +1,22 @@
 -- What comes of the changes that make one map into another.
 use Rattle.std.specs.Prelude.{◌≡◌, ◌≢◌, ◌↔◌, ◌≤◌, ◌<◌, ◌+◌, ℕ, List, [], Bool, true, IsTrue, ⊤}
-use Rattle.std.specs.List.{AllByRecursion}
+use Rattle.std.specs.List.{All, AllByRecursion}
 use Rattle.per_base.specs.declared.elements.StoreKind.{StoreKind}
 use Rattle.per_base.specs.declared.elements.StoreKind.TheVariants.{Keys, Files}
 use Rattle.per_base.specs.declared.elements.Element.{Element}
 use Rattle.per_base.specs.Maps as maps
-use Rattle.per_base.specs.Maps.{Map, names_of}
+use Rattle.per_base.specs.Maps.{Map, element_at, names_of}
 use Rattle.per_base.specs.Names.{IsName}
 use Rattle.element_state.specs.declared.shapes.Change.{Change}
 use Rattle.element_state.specs.declared.shapes.Shape.{Shape}
 use Rattle.element_state.specs.declared.shapes.View.{View}
 use Rattle.element_state.specs.States.{greatest_generation}
 use Rattle.element_state.specs.Changes.{after_changes, committed_by, committed, same_element}
-use Rattle.element_state.specs.Conditions.{AreChanges, size_of}
+use Rattle.element_state.specs.Conditions.{AreChanges, changed_name, size_of}
 use Rattle.element_state.specs.Read.{IsView}
 use Rattle.element_state.specs.Views.{map_of}
 use Rattle.element_state.specs.Written.{commit_cost, map_cost}
+use Rattle.element_maps.specs.Differences.{MakeInto}
 use Rattle.element_maps.specs.Sessions.{IsNext, IsSync, Passes, same_map, synced_view, synchronised}
 
 -- they may be committed
@@ -61,6 +62,11 @@ ExactCostLaw = (shape : Shape) (test : List ℕ → Bool) (v : View) (synced new
 abbrev pub NothingLaw : Type 0
 NothingLaw = (shape : Shape) (test : List ℕ → Bool) (v : View) (synced new : Map) (changes : List Change) → IsSync shape test v synced new changes
     → (changes ≡ []) ↔ (synced ≡ new)
+
+-- no change has a name at which both maps are alike
+abbrev pub OthersLaw : Type 0
+OthersLaw = (synced new : Map) (changes : List Change) → MakeInto changes synced new
+    → (name : List ℕ) → element_at synced name ≡ element_at new name → All (λ change. changed_name change ≢ name) changes
 
 -- ---- the map of a view
 

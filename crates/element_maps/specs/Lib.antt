@@ -1,3 +1,4 @@
 pub mod Differences
 pub mod Sessions
 pub mod Laws
+pub mod Storages

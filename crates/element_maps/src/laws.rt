@@ -1,9 +1,9 @@
 //! The laws, for the proofs of callers: none of these functions does anything when it runs.
 
-ghost use Rattle.element_maps.specs.Laws.{CommittedLaw, CostLaw, DecidesLaw, ExactCostLaw, HeldLaw, NextLaw, NothingLaw, ReadLaw, SameLaw, SizeLaw, StaysLaw, SynchronisedLaw, TakenLaw, UntestedLaw};
+ghost use Rattle.element_maps.specs.Laws.{CommittedLaw, CostLaw, DecidesLaw, ExactCostLaw, HeldLaw, NextLaw, NothingLaw, OthersLaw, ReadLaw, SameLaw, SizeLaw, StaysLaw, SynchronisedLaw, TakenLaw, UntestedLaw};
 
 /// The changes that make the map that a storage holds into another may be committed; the storage then holds the other, and only what
-/// differs is written, nothing where both are equal.
+/// differs is written, nothing where both are equal, and no element that both have alike is named.
 pub fn changes_make_maps()
     ensures taken { TakenLaw }
     ensures committed { CommittedLaw }
@@ -13,6 +13,7 @@ pub fn changes_make_maps()
     ensures cost { CostLaw }
     ensures exact_cost { ExactCostLaw }
     ensures nothing { NothingLaw }
+    ensures others { OthersLaw }
 {}
 
 /// What a view stands for is a map as a session owes it; with no test of contents it is the view's own. Elements that are the same by

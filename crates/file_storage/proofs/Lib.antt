@@ -5,3 +5,4 @@ pub mod Others
 pub mod Stored
 pub mod Synced
 pub mod Walked
+pub mod Wholes

@@ -14,9 +14,11 @@ use Rattle.per_base.specs.declared.elements.Element.{Element}
 use Rattle.per_base.specs.declared.elements.Entry.{Entry}
 use Rattle.per_base.specs.declared.elements.StoreKind.{StoreKind}
 use Rattle.per_base.specs.declared.elements.StoreKind.TheVariants as kinds
+use Rattle.per_base.specs.declared.reports.Report.{Report}
 use Rattle.per_base.specs.Maps as maps
 use Rattle.per_base.specs.Maps.{Map, element_at, names_of, with_element}
 use Rattle.per_base.specs.Names.{name_cmp}
+use Rattle.disk_model.specs.Image.{Image}
 use Rattle.file_core.specs.Files as core
 use Rattle.file_core.specs.Files.{IsFile}
 use Rattle.file_handles.specs.Sessions.{IsFileAt}
@@ -24,17 +26,21 @@ use Rattle.file_handles.specs.Tables.{AreFiles}
 use Rattle.index_text.specs.Rules.{has_info, max_len}
 use Rattle.element_state.specs.declared.shapes.Shape.{Shape}
 use Rattle.element_state.specs.Chosen as chosen
+use Rattle.element_state.specs.Chosen.{opened_of}
 use Rattle.element_state.specs.Conditions as conditions
 use Rattle.deployment_model.specs.Conditions.{IsStorage}
 use Rattle.deployment_model.specs.Data.{StorageData}
 use Rattle.element_state.specs.declared.shapes.View.{View}
 use Rattle.element_state.specs.Conditions.{IsShape}
 use Rattle.element_state.specs.Read.{IsEntryOf, IsView}
-use Rattle.element_state.specs.States.{mended_by, mended_entry, mended_view}
+use Rattle.element_state.specs.Reports.{reports}
+use Rattle.element_state.specs.States.{mended_by, mended_entry, mended_view, store_at}
 use Rattle.element_state.specs.Views.{element_of, map_of}
 use Rattle.element_store.specs.declared.store.Store.{Store}
-use Rattle.element_store.specs.Stores.{entries_of, view_in}
-use Rattle.file_storage.specs.FileSessions.{IsConfigured, stored_in}
+use Rattle.element_store.specs.Stores.{entries_of, shape_of, view_in}
+use Rattle.element_maps.specs.Laws.{UntestedLaw}
+use Rattle.element_maps.specs.Storages.{IsConfigured, IsOpened}
+use Rattle.file_storage.specs.FileSessions.{stored_in}
 use Rattle.element_maps.proofs.InOrder.{Above}
 use Rattle.file_storage.specs.StoredFiles.{IsStoredFile}
 
@@ -112,7 +118,7 @@ filled m later e more all sorted parts is =
 
 -- ---- what was opened
 
-pub is_shape : (config : StorageData) (shape : Shape) → IsStorage config → IsConfigured config shape → IsShape shape
+pub is_shape : (config : StorageData) (shape : Shape) → IsStorage config → IsConfigured kinds.Files config shape → IsShape shape
 is_shape config shape valid configured = record {
   some = subst (λ n. 1 ≤ n) (sym configured.m) valid.some_agree;
   enough = subst (λ n. n ≤ shape.place.copies) (sym configured.m) (subst (λ n. config.m ≤ n) (sym configured.copies) valid.enough_copies);
@@ -124,9 +130,22 @@ pub opened_map : (shape : Shape) (store : Store) (before : View) → view_in sto
 unfolding mended_view
 opened_map shape store before view = ap map_of view ∙ mended_map before.entries
 
+-- what an opening gives
+pub opened_is : UntestedLaw → (told : Bool) (image : Image) (shape : Shape) (store : Store) (before : View) (all : List Report)
+    → (IsTrue told → opened_of (store_at image shape) ≡ Some before) → view_in store ≡ mended_view shape before → shape_of store ≡ shape → all ≡ reports (λ bytes. true) shape before
+    → IsOpened told image shape (λ bytes. true) (record { shape = shape_of store; view = view_in store; synced = stored_in store; reports = all })
+opened_is untested told image shape store before all found view placed reported = record {
+  before = before;
+  seen = found;
+  place = placed;
+  view = view;
+  synced = opened_map shape store before view ∙ sym (untested before);
+  reports = reported;
+}
+
 pub opened_size : (shape : Shape) (store : Store) (before : View) → view_in store ≡ mended_view shape before → conditions.size_of (entries_of store) ≡ maps.size_of (map element_of before.entries)
 opened_size shape store before view = sym (size_is (entries_of store)) ∙ ap maps.size_of (opened_map shape store before view)
 
-pub opened_room : (config : StorageData) (shape : Shape) (before : View) → IsConfigured config shape → IsView shape before → maps.size_of (map element_of before.entries) ≤ config.maximum
+pub opened_room : (config : StorageData) (shape : Shape) (before : View) → IsConfigured kinds.Files config shape → IsView shape before → maps.size_of (map element_of before.entries) ≤ config.maximum
 opened_room config shape before configured view =
     subst (λ n. n ≤ config.maximum) (sym (size_is before.entries)) (subst (λ n. conditions.size_of before.entries ≤ n) configured.allowed view.small)

@@ -34,22 +34,23 @@ use Rattle.element_state.specs.Clean.{IsClean}
 use Rattle.element_state.specs.Kept.{KeptThroughout}
 use Rattle.element_state.specs.Conditions.{IsShape}
 use Rattle.element_state.specs.Read.{IsView}
-use Rattle.element_state.specs.States.{Opens, greatest_generation, is_worn}
+use Rattle.element_state.specs.States.{Opens, State, greatest_generation, is_worn}
 use Rattle.element_state.specs.Views.{map_of}
 use Rattle.element_state.specs.Written.{IsWithin, commit_cost, map_cost}
 use Rattle.element_laws.specs.Phases.{UntouchedLaw}
 use Rattle.element_maps.specs.Differences.{MakeInto}
-use Rattle.element_maps.specs.Laws.{CommittedLaw, CostLaw, DecidesLaw, HeldLaw, UntestedLaw}
+use Rattle.element_maps.specs.Laws.{CommittedLaw, CostLaw, DecidesLaw, HeldLaw, OthersLaw, UntestedLaw}
 use Rattle.element_maps.specs.Sessions.{IsHeld, IsSync, Passes}
+use Rattle.element_maps.specs.Storages.{IsConfigured, IsDurable, IsStoring, KeepsEqual}
 use Rattle.element_maps.proofs.Names.{same_names}
 use Rattle.element_maps.proofs.Same.{both, same_is}
 use Rattle.element_store.specs.declared.store.Store.{Store}
-use Rattle.element_store.specs.Committing.{index_in}
+use Rattle.element_store.specs.Changing.{KeepsOthers}
+use Rattle.element_store.specs.Committing.{index_in, index_length}
 use Rattle.element_store.specs.Stores.{IsUsed, entries_of, shape_of, view_in}
 use Rattle.element_store.proofs.CommitKept.{none_around, none_kept}
-use Rattle.file_storage.specs.Durable.{IsDurable, IsSyncing}
-use Rattle.file_storage.specs.FileSessions.{AreAsStored, FileSession, IsConfigured, IsOpen, storage_of, stored_in}
-use Rattle.file_storage.specs.Syncs.{is_synced, synced_view, worn}
+use Rattle.file_storage.specs.FileSessions.{AreAsStored, FileSession, IsOpen, storage_of, stored_in}
+use Rattle.file_storage.specs.Syncs.{IsSynced, WritesAtMost, is_synced, synced_view, worn}
 use Rattle.file_storage.specs.Walks.{walked}
 use Rattle.file_storage.proofs.Making.{walk_makes}
 use Rattle.file_storage.proofs.Stored.{keys_are}
@@ -62,25 +63,50 @@ same_view s is = rw is refl
 pub differ_view : (s : FileSession) → is_synced s ≡ false → synced_view s ≡ committed (shape_of s.store) (view_in s.store) (stored_in s.store) s.session.files
 differ_view s is = rw is refl
 
-pub none_syncing : UntouchedLaw → (told : Bool) (s : FileSession) (m : Medium) → IsShape (shape_of s.store) → IsLawful told m → IsSyncing told s m m
-none_syncing untouched told s m is law = record {
+pub none_storing : UntouchedLaw → (told : Bool) (shape : Shape) (after : State) (m : Medium) → IsShape shape → IsLawful told m → IsStoring told shape after m m
+none_storing untouched told shape after m is law = record {
   elsewhere = λ tells file spared. refl;
-  outside = λ tells quiet. none_around told (shape_of s.store).place.first (shape_of s.store).place.copies m law quiet;
-  any_moment = λ tells. none_kept untouched told (shape_of s.store) (Opens (synced_view s) []) m is law;
+  outside = λ tells quiet. none_around told shape.place.first shape.place.copies m law quiet;
+  any_moment = λ tells. none_kept untouched told shape after m is law;
   time = elapses_none law;
 }
 
-pub none_durable : DecidesLaw → (told : Bool) (s : FileSession) (m : Medium) → IsUsed told m.image s.store → is_synced s ≡ true → IsDurable told s s m m
-none_durable decides told s m used is = record {
+-- an opening, whatever the next state is to be
+pub opened_storing : (told : Bool) (shape : Shape) (old new : Medium)
+    → (IsTrue told → Spares (IsOutside shape.place.first shape.place.copies) old.image new.image)
+    → (IsTrue told → Quiet old → EachCase (IsSettledOn (IsOutside shape.place.first shape.place.copies) old.image) old new)
+    → (IsTrue told → (after : State) → KeptThroughout shape after old new) → Elapses old new → (after : State) → IsStoring told shape after old new
+opened_storing told shape old new elsewhere outside any_moment time after = record {
+  elsewhere = elsewhere;
+  outside = outside;
+  any_moment = λ tells. any_moment tells after;
+  time = time;
+}
+
+within_none : (copies contents index written : ℕ) → IsWithin copies contents index written written
+within_none copies contents index written = omega arith
+
+pub none_written : (s : FileSession) (m : Medium) → WritesAtMost s m m
+none_written s m = within_none (shape_of s.store).place.copies (map_cost (shape_of s.store).kind (stored_in s.store) s.session.files)
+    (index_length (shape_of s.store).kind (synced_view s).entries) m.written
+
+pub none_synced : DecidesLaw → (told : Bool) (s : FileSession) (m : Medium) → IsUsed told m.image s.store → is_synced s ≡ true → IsSynced told s s m m
+none_synced decides told s m used is = record {
   stored = (decides (stored_in s.store) s.session.files).0 is;
   view = sym (same_view s is);
   beside = refl;
   shape = refl;
   used = used;
-  clean = λ tells clean. clean;
-  durable = λ differ. absurd (cc);
-  quiet = λ quiet. quiet;
-  written = λ differ. absurd (cc);
+  durable = record {
+    durable = λ differ. absurd (cc);
+    quiet = λ quiet. quiet;
+    clean = λ tells clean. clean;
+    written = within_none (shape_of s.store).place.copies (map_cost (shape_of s.store).kind (stored_in s.store) s.session.files) (length (index_text (index_in s.store))) m.written;
+    passes = refl;
+  };
+  carried = λ name same. refl;
+  format = λ differ. absurd (cc);
+  text = λ differ. absurd (cc);
 }
 
 -- ---- what a commit needs
@@ -93,7 +119,7 @@ held kind stored file (Good bytes) of_files is whole unreadable = record {
 }
 held kind stored file (Bad salvage) of_files is whole unreadable = unreadable refl
 
-pub is_sync : UntestedLaw → (config : StorageData) (store : Store) (files : Map) (handles : Handles) (changes : List Change) → IsTable (storage_of config) files handles → IsConfigured config (shape_of store) → AreAsStored (stored_in store) files
+pub is_sync : UntestedLaw → (config : StorageData) (store : Store) (files : Map) (handles : Handles) (changes : List Change) → IsTable (storage_of config) files handles → IsConfigured kinds.Files config (shape_of store) → AreAsStored (stored_in store) files
     → IsView (shape_of store) (view_in store) → changes ≡ walked files (stored_in store) → IsSync (shape_of store) (λ bytes. true) (view_in store) (stored_in store) files changes
 is_sync untested config store files handles changes table configured unreadable view made = record {
   read = view;
@@ -144,7 +170,7 @@ stored_then made held untested store later files changes sync view =
 pub open_later : (config : StorageData) (store later : Store) (storage : Storage) (files : Map) → IsOpen config store storage files → shape_of later ≡ shape_of store → stored_in later ≡ files → IsOpen config later storage files
 open_later config store later storage files is shape stored = record {
   valid = is.valid;
-  configured = subst (λ (sh : Shape). IsConfigured config sh) (sym shape) is.configured;
+  configured = subst (λ (sh : Shape). IsConfigured kinds.Files config sh) (sym shape) is.configured;
   same_storage = is.same_storage;
   unreadable = λ name file at bad. subst (λ (m : Map). element_at m name ≡ Some file) (sym stored) at;
 }
@@ -154,37 +180,58 @@ view_then : CommittedLaw → (s : FileSession) (changes : List Change) → IsSyn
 view_then made s changes sync differ =
     made (shape_of s.store) (λ bytes. true) (view_in s.store) (stored_in s.store) s.session.files changes sync ∙ sym (differ_view s differ)
 
-pub commit_durable : CommittedLaw → HeldLaw → UntestedLaw → CostLaw → (told : Bool) (s : FileSession) (later : Store) (changes : List Change) (old new : Medium)
-    → IsSync (shape_of s.store) (λ bytes. true) (view_in s.store) (stored_in s.store) s.session.files changes → is_synced s ≡ false → (shape_of s.store).kind ≡ kinds.Files
-    → view_in later ≡ committed_by (shape_of s.store) (view_in s.store) changes → shape_of later ≡ shape_of s.store → IsUsed told new.image later
-    → (IsTrue told → IsClean (shape_of s.store) old.image → IsClean (shape_of s.store) new.image) → Quiet new
-    → IsWithin (shape_of s.store).place.copies (commit_cost (shape_of s.store).kind (entries_of s.store) changes) (length (index_text (index_in later))) old.written new.written
-    → IsDurable told s (record s { store = later }) old new
-commit_durable made held untested cost told s later changes old new sync differ of_files view shape used clean quiet written = record {
-  stored = stored_then made held untested s.store later s.session.files changes sync view;
-  view = view ∙ view_then made s changes sync differ;
-  beside = refl;
-  shape = shape;
-  used = used;
-  clean = clean;
-  durable = λ differs. quiet;
-  quiet = λ before. quiet;
-  written = λ differs.
-      let most : commit_cost (shape_of s.store).kind (entries_of s.store) changes ≤ map_cost (shape_of s.store).kind (stored_in s.store) s.session.files =
-      cost (shape_of s.store) (λ bytes. true) (view_in s.store) (stored_in s.store) s.session.files changes sync in
-      within_more (shape_of s.store).place.copies (commit_cost (shape_of s.store).kind (entries_of s.store) changes) (map_cost kinds.Files (stored_in s.store) s.session.files) (length (index_text (index_in later))) old.written new.written
-      (subst (λ (k : StoreKind). commit_cost (shape_of s.store).kind (entries_of s.store) changes ≤ map_cost k (stored_in s.store) s.session.files) of_files most) written;
-}
+module _ (s : FileSession) (changes : List Change) (sync : IsSync (shape_of s.store) (λ bytes. true) (view_in s.store) (stored_in s.store) s.session.files changes)
+    (differ : is_synced s ≡ false) (made : CommittedLaw) where
+  abbrev pub cost_then : ℕ
+  cost_then = commit_cost (shape_of s.store).kind (entries_of s.store) changes
 
-pub commit_syncing : CommittedLaw → (told : Bool) (s : FileSession) (changes : List Change) (old new : Medium)
-    → IsSync (shape_of s.store) (λ bytes. true) (view_in s.store) (stored_in s.store) s.session.files changes → is_synced s ≡ false
-    → (IsTrue told → Spares (IsOutside (shape_of s.store).place.first (shape_of s.store).place.copies) old.image new.image)
-    → (IsTrue told → Quiet old → EachCase (IsSettledOn (IsOutside (shape_of s.store).place.first (shape_of s.store).place.copies) old.image) old new)
-    → (IsTrue told → KeptThroughout (shape_of s.store) (Opens (committed_by (shape_of s.store) (view_in s.store) changes) []) old new)
-    → Elapses old new → IsSyncing told s old new
-commit_syncing made told s changes old new sync differ elsewhere outside any_moment time = record {
-  elsewhere = elsewhere;
-  outside = outside;
-  any_moment = λ tells. subst (λ (v : View). KeptThroughout (shape_of s.store) (Opens v []) old new) (view_then made s changes sync differ) (any_moment tells);
-  time = time;
-}
+  abbrev pub cost_between : ℕ
+  cost_between = map_cost (shape_of s.store).kind (stored_in s.store) s.session.files
+
+  costs : CostLaw → cost_then ≤ cost_between
+  costs cost = cost (shape_of s.store) (λ bytes. true) (view_in s.store) (stored_in s.store) s.session.files changes sync
+
+  pub commit_at_most : CostLaw → (old new : Medium)
+      → IsWithin (shape_of s.store).place.copies cost_then (index_length (shape_of s.store).kind (committed_by (shape_of s.store) (view_in s.store) changes).entries) old.written new.written
+      → WritesAtMost s old new
+  commit_at_most cost old new within = subst (λ (v : View). IsWithin (shape_of s.store).place.copies cost_between (index_length (shape_of s.store).kind v.entries) old.written new.written)
+      (view_then made s changes sync differ)
+      (within_more (shape_of s.store).place.copies cost_then cost_between (index_length (shape_of s.store).kind (committed_by (shape_of s.store) (view_in s.store) changes).entries)
+      old.written new.written (costs cost) within)
+
+  pub commit_synced : HeldLaw → UntestedLaw → CostLaw → OthersLaw → (told : Bool) (later : Store) (old new : Medium)
+      → view_in later ≡ committed_by (shape_of s.store) (view_in s.store) changes → shape_of later ≡ shape_of s.store → IsUsed told new.image later
+      → (IsTrue told → IsClean (shape_of s.store) old.image → IsClean (shape_of s.store) new.image) → Quiet new
+      → IsWithin (shape_of s.store).place.copies cost_then (length (index_text (index_in later))) old.written new.written
+      → KeepsOthers changes (index_in s.store).entries (index_in later).entries → (index_in later).format ≡ 2
+      → length (index_text (index_in later)) ≡ index_length (shape_of s.store).kind (entries_of later) → new.faults ≡ old.faults
+      → IsSynced told s (record s { store = later }) old new
+  commit_synced held untested cost others told later old new view shape used clean quiet written carried format text passes = record {
+    stored = stored_then made held untested s.store later s.session.files changes sync view;
+    view = view ∙ view_then made s changes sync differ;
+    beside = refl;
+    shape = shape;
+    used = used;
+    durable = record {
+      durable = λ differs. quiet;
+      quiet = λ before. quiet;
+      clean = clean;
+      written = within_more (shape_of s.store).place.copies cost_then cost_between (length (index_text (index_in later))) old.written new.written (costs cost) written;
+      passes = passes;
+    };
+    carried = λ name same. carried name (others (stored_in s.store) s.session.files changes sync.made name same);
+    format = λ differs. format;
+    text = λ differs. text;
+  }
+
+  pub commit_storing : (told : Bool) (old new : Medium)
+      → (IsTrue told → Spares (IsOutside (shape_of s.store).place.first (shape_of s.store).place.copies) old.image new.image)
+      → (IsTrue told → Quiet old → EachCase (IsSettledOn (IsOutside (shape_of s.store).place.first (shape_of s.store).place.copies) old.image) old new)
+      → (IsTrue told → KeptThroughout (shape_of s.store) (Opens (committed_by (shape_of s.store) (view_in s.store) changes) []) old new)
+      → Elapses old new → IsStoring told (shape_of s.store) (Opens (synced_view s) []) old new
+  commit_storing told old new elsewhere outside any_moment time = record {
+    elsewhere = elsewhere;
+    outside = outside;
+    any_moment = λ tells. subst (λ (v : View). KeptThroughout (shape_of s.store) (Opens v []) old new) (view_then made s changes sync differ) (any_moment tells);
+    time = time;
+  }

@@ -1,15 +1,15 @@
 -- An open file storage, and what always holds of it.
 use Rattle.std.specs.Prelude.{◌≡◌, ℕ, List, false, Some}
 use Rattle.per_base.specs.declared.elements.Element.{Element}
-use Rattle.per_base.specs.declared.elements.StoreKind.TheVariants as kinds
+use Rattle.per_base.specs.declared.elements.StoreKind.TheVariants.{Files}
 use Rattle.per_base.specs.Maps.{Map, element_at}
 use Rattle.file_core.specs.Files.{is_good}
 use Rattle.file_handles.specs.declared.storage.Storage.{Storage}
 use Rattle.file_handles.specs.Sessions.{Session}
 use Rattle.deployment_model.specs.Data.{StorageData}
 use Rattle.deployment_model.specs.Conditions.{IsStorage}
-use Rattle.element_state.specs.declared.shapes.Shape.{Shape}
 use Rattle.element_state.specs.Views.{map_of}
+use Rattle.element_maps.specs.Storages.{IsConfigured}
 use Rattle.element_store.specs.declared.store.Store.{Store}
 use Rattle.element_store.specs.Stores.{shape_of, view_in}
 
@@ -28,22 +28,12 @@ storage_of config = record { name = config.name; read_only = config.read_only; m
 abbrev pub stored_in : Store → Map
 stored_in store = map_of (view_in store)
 
--- a storage of files that lies where the shape says, as it is configured
-pub record IsConfigured (config : StorageData) (shape : Shape) : Type 0 where
-  pub of_files : config.kind ≡ kinds.Files
-  pub kind : shape.kind ≡ kinds.Files
-  pub name : shape.name ≡ config.name
-  pub m : shape.m ≡ config.m
-  pub copies : shape.place.copies ≡ config.n
-  pub scope : shape.scope ≡ config.scope
-  pub allowed : shape.allowed ≡ config.maximum
-
 -- a working file that cannot be read is the very one that is synchronised
 abbrev pub AreAsStored : (stored files : Map) → Type 0
 AreAsStored stored files = (name : List ℕ) (file : Element) → element_at files name ≡ Some file → is_good file.content ≡ false → element_at stored name ≡ Some file
 
 pub record IsOpen (config : StorageData) (store : Store) (storage : Storage) (files : Map) : Type 0 where
   pub valid : IsStorage config
-  pub configured : IsConfigured config (shape_of store)
+  pub configured : IsConfigured Files config (shape_of store)
   pub same_storage : storage ≡ storage_of config
   pub unreadable : AreAsStored (stored_in store) files

@@ -1,6 +1,6 @@
 pub mod Closes
-pub mod Durable
 pub mod FileSessions
+pub mod Opened
 pub mod Scopes
 pub mod StoredFiles
 pub mod Syncs

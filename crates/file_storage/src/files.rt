@@ -1,10 +1,11 @@
 //! An open file storage.
 
 ghost use Rattle.std.specs.Prelude.{◌≡◌, ◌≤◌, ℕ, IsTrue, ◌↔◌, length};
-ghost use Rattle.deployment_model.specs.Data.{storage_data};
+ghost use Rattle.per_base.specs.declared.elements.StoreKind.TheVariants as kinds;
+ghost use Rattle.element_maps.specs.Storages.{IsConfigured};
 ghost use Rattle.element_store.specs.Stores.{shape_of};
 ghost use Rattle.file_handles.specs.Tables.{IsTable};
-ghost use Rattle.file_storage.specs.FileSessions.{AreAsStored, IsConfigured, storage_of, stored_in};
+ghost use Rattle.file_storage.specs.FileSessions.{AreAsStored, storage_of, stored_in};
 
 use deployment_model::StorageConfig;
 use element_store::Store;
@@ -44,16 +45,9 @@ impl Files {
     /// What always holds of an open storage.
     pub fn holds(&self)
         ensures table { IsTable (storage_of self.now.config) self.now.session.files self.now.session.handles }
-        ensures configured { IsConfigured self.now.config (shape_of self.now.store) }
+        ensures configured { IsConfigured kinds.Files self.now.config (shape_of self.now.store) }
         ensures unreadable { AreAsStored (stored_in self.now.store) self.now.session.files }
     {
         self.table.holds();
-    }
-
-    /// The configuration of the storage.
-    pub fn config(&self) -> &StorageConfig
-        ensures { storage_data result.now ≡ self.now.config }
-    {
-        &self.config
     }
 }

@@ -20,6 +20,7 @@ mod opening;
 mod opening_files;
 mod scoped;
 mod syncing;
+mod whole;
 
 pub use files::Files;
 pub use opening::{OpenedFiles, open_files};

@@ -1,32 +1,33 @@
 //! The opening of a storage of files.
 
-ghost use Rattle.std.specs.Prelude.{◌≡◌, [], IsTrue, IfOk, OnOk, IsErrOf, Some, None, true, option_map, map};
+ghost use Rattle.std.specs.Prelude.{◌≡◌, [], IsTrue, IfOk, OnOk, IsErrOf, None, true, map};
 ghost use Rattle.std.specs.List.{AllByRecursion};
 ghost use Rattle.std.specs.List.Sorted.{IsStrictlySortedBy};
+ghost use Rattle.per_base.specs.declared.elements.StoreKind.TheVariants as kinds;
 ghost use Rattle.per_base.specs.Causes.{Rose};
 ghost use Rattle.per_base.specs.Maps.{with_element};
 ghost use Rattle.per_base.specs.Names.{name_cmp};
-ghost use Rattle.disk_model.specs.Frame.{Spares, IsSettledOn};
-ghost use Rattle.disk_model.specs.Medium.{Quiet, EachCase, Elapses};
-ghost use Rattle.disk_model.specs.Place.{IsOutside};
+ghost use Rattle.disk_model.specs.Medium.{Quiet};
 ghost use Rattle.deployment_model.specs.Conditions.{IsStorage};
 ghost use Rattle.deployment_model.specs.Data.{storage_data};
 ghost use Rattle.element_state.specs.Chosen.{opened_of};
 ghost use Rattle.element_state.specs.Clean.{IsClean};
-ghost use Rattle.element_state.specs.Kept.{KeptThroughout};
-ghost use Rattle.element_state.specs.Reports.{reports};
-ghost use Rattle.element_state.specs.States.{State, store_at, mended_view};
+ghost use Rattle.element_state.specs.States.{State, store_at};
 ghost use Rattle.element_state.specs.Views.{element_of};
+ghost use Rattle.element_store.specs.Committing.{index_in};
 ghost use Rattle.element_store.specs.Mends.{IsAsBefore};
-ghost use Rattle.element_store.specs.Opened.{LacksNothing};
-ghost use Rattle.element_store.specs.Stores.{IsUsed, shape_of, view_in};
-ghost use Rattle.file_storage.specs.FileSessions.{IsConfigured, stored_in};
+ghost use Rattle.element_store.specs.Opened.{LacksNothing, OpensBy};
+ghost use Rattle.element_store.specs.Stores.{IsUsed};
+ghost use Rattle.element_maps.specs.Storages.{IsConfigured, IsOpened, IsStoring};
+ghost use Rattle.file_storage.specs.FileSessions.{stored_in};
+ghost use Rattle.file_storage.specs.Opened.{given};
 ghost use Rattle.file_storage.specs.StoredFiles.{IsStoredFile};
 
 use crate::files::Files;
 use deployment_model::StorageConfig;
 use disk_model::Disk;
 use element_laws::untouched_is_kept;
+use element_maps::views_are_maps;
 use element_state::{Shape, StoreError};
 use element_store::{OpenedStore, open_store};
 use file_core::File;
@@ -56,16 +57,14 @@ pub fn open_files<D: Disk>(
     config: &StorageConfig,
 ) -> Result<OpenedFiles, StoreError>
     requires valid { IsStorage (storage_data config.now) }
-    requires configured { IsConfigured (storage_data config.now) shape }
+    requires configured { IsConfigured kinds.Files (storage_data config.now) shape }
 
-    ensures view { IsTrue D.told → IfOk result (λ o.
-        option_map (mended_view shape) (opened_of (store_at (D.medium disk.old).image shape)) ≡ Some (view_in o.files.store)) }
-    ensures reports { IsTrue D.told → IfOk result (λ o.
-        option_map (reports (λ bytes. true) shape) (opened_of (store_at (D.medium disk.old).image shape)) ≡ Some o.reports.items) }
+    // The storage in use, by the index that was found; the working files are those that it shows.
+    ensures opened { IfOk result (λ o. IsOpened D.told (D.medium disk.old).image shape (λ bytes. true) (given o)) }
+    ensures adopted { IsTrue D.told → IfOk result (λ o. OpensBy (D.medium disk.old).image shape (index_in o.files.store)) }
     ensures session { IfOk result (λ o. o.files.session ≡ record { files = stored_in o.files.store; handles = [] }) }
     ensures moment { IfOk result (λ o. o.files.moment ≡ 0) }
     ensures config { IfOk result (λ o. o.files.config ≡ storage_data config.now) }
-    ensures shape { IfOk result (λ o. shape_of o.files.store ≡ shape) }
     ensures used { IfOk result (λ o. IsUsed D.told (D.medium disk.new).image o.files.store) }
     ensures clean { IsTrue D.told → IsClean shape (D.medium disk.old).image → OnOk result (IsClean shape (D.medium disk.new).image) }
     ensures quiet { OnOk result (Quiet (D.medium disk.new)) }
@@ -75,23 +74,21 @@ pub fn open_files<D: Disk>(
     ensures untouched { IsErrOf result StoreError.Corrupt → (D.medium disk.new).image ≡ (D.medium disk.old).image }
     ensures unwritten { IsErrOf result StoreError.Corrupt → (D.medium disk.new).written ≡ (D.medium disk.old).written }
     ensures settled { IsErrOf result StoreError.Corrupt → Quiet (D.medium disk.new) }
+
+    // A failure is that of a call of the disk, and nothing else stands for one.
     ensures cause { IsErrOf result StoreError.Device → Rose (D.medium disk.old).faults (D.medium disk.new).faults }
+    ensures passes { OnOk result ((D.medium disk.new).faults ≡ (D.medium disk.old).faults) }
+    ensures fed { IsErrOf result StoreError.OutOfMemory → (D.medium disk.new).faults ≡ (D.medium disk.old).faults }
+    ensures unfailed { IsErrOf result StoreError.Corrupt → (D.medium disk.new).faults ≡ (D.medium disk.old).faults }
 
     // Where nothing lacks, nothing is written.
     ensures idle { IsTrue D.told → LacksNothing shape (D.medium disk.old).image → IsAsBefore (D.medium disk.old) (D.medium disk.new) }
 
-    // No file outside the place changes, at the end and at any moment.
-    ensures elsewhere { IsTrue D.told
-        → Spares (IsOutside shape.place.first shape.place.copies) (D.medium disk.old).image (D.medium disk.new).image }
-    ensures outside { IsTrue D.told → Quiet (D.medium disk.old)
-        → EachCase (IsSettledOn (IsOutside shape.place.first shape.place.copies) (D.medium disk.old).image)
-        (D.medium disk.old) (D.medium disk.new) }
-
-    // A stop at any moment keeps the storage, whatever its next state is to be.
-    ensures any_moment { IsTrue D.told → (after : State) → KeptThroughout shape after (D.medium disk.old) (D.medium disk.new) }
-    ensures time { Elapses (D.medium disk.old) (D.medium disk.new) }
+    // No file outside the place changes, and a stop at any moment keeps the storage, whatever its next state is to be.
+    ensures storing { (after : State) → IsStoring D.told shape after (D.medium disk.old) (D.medium disk.new) }
 {
     untouched_is_kept();
+    views_are_maps();
     let name = config.name.copy()?;
     let storage = Storage {
         name,

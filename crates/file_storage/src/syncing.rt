@@ -1,25 +1,18 @@
 //! Making the working files durable.
 
-ghost use Rattle.std.specs.Prelude.{◌≡◌, [], IsTrue, IfOk, IfErr, OnOk, Some, None, IsSome, true, false, length, List, ℕ, ◌<◌, ⊤};
-ghost use Rattle.per_base.specs.declared.elements.StoreKind.TheVariants as kinds;
+ghost use Rattle.std.specs.Prelude.{◌≡◌, [], IsTrue, IfOk, IfErr, Some, None, IsSome, true, false, length, List, ℕ, ◌<◌};
 ghost use Rattle.per_base.specs.Causes.{Rose};
-ghost use Rattle.disk_model.specs.Frame.{Spares, IsSettledOn};
-ghost use Rattle.disk_model.specs.Medium.{Quiet, EachCase, Elapses};
-ghost use Rattle.disk_model.specs.Place.{IsOutside};
 ghost use Rattle.guarded_cell.specs.Register.{IsAlone};
 ghost use Rattle.index_text.specs.Spelling.{index_text};
-ghost use Rattle.element_state.specs.Clean.{IsClean};
-ghost use Rattle.element_state.specs.Kept.{KeptThroughout};
 ghost use Rattle.element_state.specs.States.{Opens, greatest_generation, store_at};
 ghost use Rattle.element_state.specs.Views.{map_of};
-ghost use Rattle.element_state.specs.Written.{IsWithin, map_cost};
 ghost use Rattle.element_maps.specs.Sessions.{IsSync};
-ghost use Rattle.element_store.specs.Committing.{index_in};
+ghost use Rattle.element_maps.specs.Storages.{IsDurable, IsStoring, KeepsEqual};
+ghost use Rattle.element_store.specs.Committing.{index_in, index_length};
 ghost use Rattle.element_store.specs.Stores.{IsStore, IsUsed, shape_of, view_in};
 ghost use Rattle.file_storage.specs.Closes.{HandsBack, IsDeviceFault, MatchClosed, OnDone};
-ghost use Rattle.file_storage.specs.Durable.{IsDurable, IsSyncing};
 ghost use Rattle.file_storage.specs.FileSessions.{stored_in};
-ghost use Rattle.file_storage.specs.Syncs.{close_refused, is_synced, sync_refused, synced_view, worn};
+ghost use Rattle.file_storage.specs.Syncs.{IsSynced, WritesAtMost, close_refused, is_synced, sync_refused, synced_view, worn};
 
 use crate::differences::{are_same, differences};
 use crate::files::Files;
@@ -89,29 +82,25 @@ impl Files {
         ensures beside { IfOk result (λ o. o.files ≡ record self { store = o.files.store }) }
         ensures shape { IfOk result (λ o. shape_of o.files.store ≡ shape_of self.store) }
         ensures used { IfOk result (λ o. IsUsed D.told (D.medium disk.new).image o.files.store) }
-        ensures clean { IsTrue D.told → IsClean (shape_of self.store) (D.medium disk.old).image
-            → OnOk result (IsClean (shape_of self.store) (D.medium disk.new).image) }
-        // What differed is durable, also on a disk that was not quiet before.
-        ensures durable { is_synced self ≡ false → IfOk result (λ o. o.refused ≡ None → Quiet (D.medium disk.new)) }
-        ensures quiet { Quiet (D.medium disk.old) → OnOk result (Quiet (D.medium disk.new)) }
 
-        // In each copy the contents that differ, and the index.
-        ensures written { is_synced self ≡ false → IfOk result (λ o. o.refused ≡ None → IsWithin (shape_of self.store).place.copies
-            (map_cost kinds.Files (stored_in self.store) self.session.files) (length (index_text (index_in o.files.store)))
-            (D.medium disk.old).written (D.medium disk.new).written) }
+        // What differed is durable: in each copy the contents that do, and the index.
+        ensures durable { IfOk result (λ o. o.refused ≡ None → IsDurable D.told (shape_of self.store) (stored_in self.store) self.session.files
+            (length (index_text (index_in o.files.store))) (D.medium disk.old) (D.medium disk.new)) }
+        ensures at_most { WritesAtMost self (D.medium disk.old) (D.medium disk.new) }
+
+        // The next index lists what the view shows, in format 2, and each file that does not differ as it was listed.
+        ensures carried { IfOk result (λ o. KeepsEqual (stored_in self.store) self.session.files
+            (index_in self.store).entries (index_in o.files.store).entries) }
+        ensures format { is_synced self ≡ false → IfOk result (λ o. o.refused ≡ None → (index_in o.files.store).format ≡ 2) }
+        ensures text { is_synced self ≡ false → IfOk result (λ o. o.refused ≡ None → length (index_text (index_in o.files.store))
+            ≡ index_length (shape_of self.store).kind (view_in o.files.store).entries) }
 
         // A want of memory hands the storage back, and then nothing happened. Only a disk that failed closes it.
         ensures memory { IfErr result (λ fault. HandsBack self fault (disk.new ≡ disk.old)) }
         ensures cause { IfErr result (λ fault. IsDeviceFault fault → Rose (D.medium disk.old).faults (D.medium disk.new).faults) }
 
         // No file outside the place changes, and a stop at any moment leaves the storage of before or that of after.
-        ensures elsewhere { IsTrue D.told → Spares (IsOutside (shape_of self.store).place.first (shape_of self.store).place.copies)
-            (D.medium disk.old).image (D.medium disk.new).image }
-        ensures outside { IsTrue D.told → Quiet (D.medium disk.old)
-            → EachCase (IsSettledOn (IsOutside (shape_of self.store).place.first (shape_of self.store).place.copies) (D.medium disk.old).image)
-            (D.medium disk.old) (D.medium disk.new) }
-        ensures any_moment { IsTrue D.told → KeptThroughout (shape_of self.store) (Opens (synced_view self) []) (D.medium disk.old) (D.medium disk.new) }
-        ensures time { Elapses (D.medium disk.old) (D.medium disk.new) }
+        ensures storing { IsStoring D.told (shape_of self.store) (Opens (synced_view self) []) (D.medium disk.old) (D.medium disk.new) }
     {
         untouched_is_kept();
         if let Some(error) = self.refuses_sync(handle) {
@@ -151,30 +140,18 @@ impl Files {
         ensures opens { IsTrue D.told → IfOk result (λ closed. OnDone closed
             (store_at (D.medium disk.new).image (shape_of self.store) ≡ Opens (synced_view self) [])) }
         ensures stored { IfOk result (λ closed. OnDone closed (map_of (synced_view self) ≡ self.session.files)) }
-        ensures clean { IsTrue D.told → IsClean (shape_of self.store) (D.medium disk.old).image
-            → OnOk result (IsClean (shape_of self.store) (D.medium disk.new).image) }
-        // What differed is durable, also on a disk that was not quiet before.
-        ensures durable { is_synced self ≡ false → IfOk result (λ closed. OnDone closed (Quiet (D.medium disk.new))) }
-        ensures quiet { Quiet (D.medium disk.old) → OnOk result (Quiet (D.medium disk.new)) }
-
-        // In each copy the contents that differ, and the index that stands.
-        ensures written { is_synced self ≡ false → IfOk result (λ closed. OnDone closed ((text : List ℕ)
+        // What differed is durable: in each copy the contents that do, and the index that stands.
+        ensures durable { IfOk result (λ closed. OnDone closed ((text : List ℕ)
             × (IsTrue D.told → IsAlone (D.medium disk.new).image (shape_of self.store).place.first (shape_of self.store).place.copies (synced_view self).generation text)
-            × IsWithin (shape_of self.store).place.copies (map_cost kinds.Files (stored_in self.store) self.session.files) (length text)
-            (D.medium disk.old).written (D.medium disk.new).written)) }
+            × IsDurable D.told (shape_of self.store) (stored_in self.store) self.session.files (length text) (D.medium disk.old) (D.medium disk.new))) }
+        ensures at_most { WritesAtMost self (D.medium disk.old) (D.medium disk.new) }
 
         // A want of memory hands the storage back, and then nothing happened. Only a disk that failed closes it.
         ensures memory { IfErr result (λ fault. HandsBack self fault (disk.new ≡ disk.old)) }
         ensures cause { IfErr result (λ fault. IsDeviceFault fault → Rose (D.medium disk.old).faults (D.medium disk.new).faults) }
 
         // No file outside the place changes, and a stop at any moment leaves the storage of before or that of after.
-        ensures elsewhere { IsTrue D.told → Spares (IsOutside (shape_of self.store).place.first (shape_of self.store).place.copies)
-            (D.medium disk.old).image (D.medium disk.new).image }
-        ensures outside { IsTrue D.told → Quiet (D.medium disk.old)
-            → EachCase (IsSettledOn (IsOutside (shape_of self.store).place.first (shape_of self.store).place.copies) (D.medium disk.old).image)
-            (D.medium disk.old) (D.medium disk.new) }
-        ensures any_moment { IsTrue D.told → KeptThroughout (shape_of self.store) (Opens (synced_view self) []) (D.medium disk.old) (D.medium disk.new) }
-        ensures time { Elapses (D.medium disk.old) (D.medium disk.new) }
+        ensures storing { IsStoring D.told (shape_of self.store) (Opens (synced_view self) []) (D.medium disk.old) (D.medium disk.new) }
     {
         untouched_is_kept();
         if let Some(error) = self.refuses_close() {
@@ -190,11 +167,12 @@ impl Files {
     fn made_durable<D: Disk>(self, disk: &mut D) -> Result<Files, FilesFault>
         requires used { IsUsed D.told (D.medium disk.old).image self.store }
         requires not_worn { worn self ≡ None }
-        ensures durable { IfOk result (λ files. IsDurable D.told self files (D.medium disk.old) (D.medium disk.new)) }
+        ensures synced { IfOk result (λ files. IsSynced D.told self files (D.medium disk.old) (D.medium disk.new)) }
+        ensures at_most { WritesAtMost self (D.medium disk.old) (D.medium disk.new) }
         ensures unchanged { is_synced self ≡ true → (result ≡ Ok self) × (disk.new ≡ disk.old) }
         ensures memory { IfErr result (λ fault. HandsBack self fault (disk.new ≡ disk.old)) }
         ensures cause { IfErr result (λ fault. IsDeviceFault fault → Rose (D.medium disk.old).faults (D.medium disk.new).faults) }
-        ensures syncing { IsSyncing D.told self (D.medium disk.old) (D.medium disk.new) }
+        ensures storing { IsStoring D.told (shape_of self.store) (Opens (synced_view self) []) (D.medium disk.old) (D.medium disk.new) }
     {
         untouched_is_kept();
         syncs_are_decided();
@@ -213,10 +191,11 @@ impl Files {
         requires changes { IsSync (shape_of self.store) (λ bytes. true) (view_in self.store) (stored_in self.store) self.session.files changes.items }
         requires differ { is_synced self ≡ false }
         requires not_worn { (view_in self.store).generation < greatest_generation }
-        ensures durable { IfOk result (λ files. IsDurable D.told self files (D.medium disk.old) (D.medium disk.new)) }
+        ensures synced { IfOk result (λ files. IsSynced D.told self files (D.medium disk.old) (D.medium disk.new)) }
+        ensures at_most { WritesAtMost self (D.medium disk.old) (D.medium disk.new) }
         ensures memory { IfErr result (λ fault. HandsBack self fault (disk.new ≡ disk.old)) }
         ensures cause { IfErr result (λ fault. IsDeviceFault fault → Rose (D.medium disk.old).faults (D.medium disk.new).faults) }
-        ensures syncing { IsSyncing D.told self (D.medium disk.old) (D.medium disk.new) }
+        ensures storing { IsStoring D.told (shape_of self.store) (Opens (synced_view self) []) (D.medium disk.old) (D.medium disk.new) }
     {
         changes_make_maps();
         views_are_maps();
@@ -292,7 +271,7 @@ impl Files {
     fn worn(&self) -> Option<PerError>
         ensures { result ≡ worn self.now }
     {
-        if !self.is_synced() && self.store.generation() == u64::MAX {
+        if self.store.generation() == u64::MAX && !self.is_synced() {
             return Some(PerError::LimitReached {
                 which: Limit::Generations,
             });

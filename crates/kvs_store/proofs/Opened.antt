@@ -4,6 +4,8 @@ use Rattle.std.specs.Prelude.{Some, IsTrue}
 use Rattle.std.specs.List.{All}
 use Rattle.std.specs.List.Sorted.{IsStrictlySortedBy}
 use Rattle.per_base.specs.declared.elements.Entry.{Entry}
+use Rattle.per_base.specs.declared.elements.StoreKind.TheVariants.{Keys}
+use Rattle.per_base.specs.declared.reports.Report.{Report}
 use Rattle.per_base.specs.Maps.{Map, size_of}
 use Rattle.per_base.specs.Names.{name_cmp}
 use Rattle.disk_model.specs.Image.{Image}
@@ -17,22 +19,19 @@ use Rattle.element_state.specs.Read.{IsView}
 use Rattle.element_state.specs.Reports.{reports}
 use Rattle.element_state.specs.States.{store_at, mended_view}
 use Rattle.element_state.specs.Views.{judged_view}
+use Rattle.element_maps.specs.Storages.{IsConfigured, IsOpened, Opened}
 use Rattle.element_store.specs.declared.store.Store.{Store}
 use Rattle.element_store.specs.Stores as stores
-use Rattle.element_store.specs.Stores.{IsUsed}
 use Rattle.key_maps.specs.KeyElements.{IsKeyEntry, entry_names, is_encoding, judged_map}
 use Rattle.kvs_core.specs.Sessions.{Session}
-use Rattle.kvs_store.specs.declared.opening.OpenedKvs.{OpenedKvs}
-use Rattle.kvs_store.specs.declared.storages.Kvs.{Kvs}
-use Rattle.kvs_store.specs.Opened.{IsOpened}
-use Rattle.kvs_store.specs.Storages.{IsKvs, LiesAs, keys_in, session_of, shape_of, view_in}
+use Rattle.kvs_store.specs.Storages.{IsOpen, keys_in}
 use Rattle.kvs_store.proofs.JudgedKeys.{judged_reports, judged_synchronised, mended_keys}
 use Rattle.kvs_store.proofs.Stored.{key_entries, keys_fit}
 
-module _ (shape : Shape) (config : StorageData) (store : Store) (entries : List Entry) (lies : LiesAs shape config) (is : IsView shape (stores.view_in store))
+module _ (shape : Shape) (config : StorageData) (store : Store) (entries : List Entry) (lies : IsConfigured Keys config shape) (is : IsView shape (stores.view_in store))
     (shown : entries ≡ stores.entries_of store) where
   pub entries_are_keys : All IsKeyEntry entries
-  entries_are_keys = subst (λ (es : List Entry). All IsKeyEntry es) (sym shown) (key_entries shape (stores.view_in store) lies.of_keys is)
+  entries_are_keys = subst (λ (es : List Entry). All IsKeyEntry es) (sym shown) (key_entries shape (stores.view_in store) lies.kind is)
 
   pub entries_ascend : IsStrictlySortedBy name_cmp (entry_names entries)
   entries_ascend = subst (λ (es : List Entry). IsStrictlySortedBy name_cmp (entry_names es)) (sym shown) is.names_ascend
@@ -42,37 +41,34 @@ module _ (shape : Shape) (config : StorageData) (store : Store) (entries : List 
 
   pub entries_have_room : size_of (judged_map entries) ≤ config.maximum
   entries_have_room = subst (λ (es : List Entry). size_of (judged_map es) ≤ config.maximum) (sym shown)
-      (keys_fit shape (stores.view_in store) lies.of_keys is config.maximum lies.allowed)
+      (keys_fit shape (stores.view_in store) lies.kind is config.maximum lies.allowed)
 
 -- what is read from these entries
 abbrev pub read_session : StorageData → List Entry → Session
 read_session config entries = record { config = config; synced = judged_map entries; visible = judged_map entries }
 
-pub opened_in_use : (told : Bool) (image : Image) (shape : Shape) (config : StorageData) (entries : List Entry) (kvs : Kvs) → LiesAs shape config
-    → IsUsed told image kvs.store → shape_of kvs ≡ shape → entries ≡ stores.entries_of kvs.store → session_of kvs ≡ read_session config entries → IsKvs told image kvs
-opened_in_use told image shape config entries kvs lies used placed shown session = record {
-  used = used;
-  synced = ap (λ (s : Session). s.synced) session ∙ (ap judged_map shown ∙ judged_synchronised (view_in kvs));
-  lies = subst (λ (s : Shape). LiesAs s (session_of kvs).config) (sym placed) (subst (λ (s : Session). LiesAs shape s.config) (sym session) lies);
+pub opened_is_open : (shape : Shape) (config : StorageData) (store : Store) (entries : List Entry) (session : Session) → IsConfigured Keys config shape → stores.shape_of store ≡ shape
+    → entries ≡ stores.entries_of store → session ≡ read_session config entries → IsOpen store session
+opened_is_open shape config store entries session lies placed shown is = record {
+  configured = subst (λ (s : Shape). IsConfigured Keys session.config s) (sym placed) (subst (λ (s : Session). IsConfigured Keys s.config shape) (sym is) lies);
+  synced = ap (λ (s : Session). s.synced) is ∙ (ap judged_map shown ∙ judged_synchronised (stores.view_in store));
 }
 
-pub opened_is : (told : Bool) (image : Image) (shape : Shape) (config : StorageData) (entries : List Entry) (before : View) (copy : Shape) (seen : View) (opened : OpenedKvs)
-    → (IsTrue told → opened_of (store_at image shape) ≡ Some before) → view_in opened.kvs ≡ mended_view shape before → shape_of opened.kvs ≡ shape
-    → entries ≡ stores.entries_of opened.kvs.store → session_of opened.kvs ≡ read_session config entries
-    → copy ≡ shape → seen ≡ judged_view is_encoding before → opened.reports.items ≡ reports (λ bytes. true) copy seen → IsOpened told image shape config opened
-opened_is told image shape config entries before copy seen opened found view placed shown session same judged reported = record {
+pub opened_is : (told : Bool) (image : Image) (shape : Shape) (entries : List Entry) (before : View) (copy : Shape) (seen : View) (store : Store) (synced : Map) (all : List Report)
+    → (IsTrue told → opened_of (store_at image shape) ≡ Some before) → stores.view_in store ≡ mended_view shape before → stores.shape_of store ≡ shape
+    → entries ≡ stores.entries_of store → synced ≡ judged_map entries → copy ≡ shape → seen ≡ judged_view is_encoding before
+    → all ≡ reports (λ bytes. true) copy seen
+    → IsOpened told image shape is_encoding (record { shape = stores.shape_of store; view = stores.view_in store; synced = synced; reports = all })
+opened_is told image shape entries before copy seen store synced all found view placed shown read same judged reported = record {
   before = before;
   seen = found;
-  session = session ∙ ap (λ (m : Map). record { config = config; synced = m; visible = m }) keys;
-  view = view;
   place = placed;
+  view = view;
+  synced = read ∙ (ap judged_map shown ∙ (judged_synchronised (stores.view_in store) ∙ (ap keys_in view ∙ mended_keys shape before)));
   reports = reported ∙ (ap (λ (s : Shape). reports (λ bytes. true) s seen) same ∙ (ap (λ (v : View). reports (λ bytes. true) shape v) judged ∙ judged_reports is_encoding shape before));
 }
-  where
-    keys : judged_map entries ≡ keys_in before
-    keys = ap judged_map shown ∙ (judged_synchronised (view_in opened.kvs) ∙ (ap keys_in view ∙ mended_keys shape before))
 
-pub shape_is : (shape : Shape) (config : StorageData) → IsStorage config → LiesAs shape config → IsShape shape
+pub shape_is : (shape : Shape) (config : StorageData) → IsStorage config → IsConfigured Keys config shape → IsShape shape
 shape_is shape config is lies = record {
   some = omega (arith, is.some_agree, lies.m);
   enough = omega (arith, is.enough_copies, lies.m, lies.copies);

@@ -1,6 +1,6 @@
 -- A sync: what is handed down may be committed, and what the commit makes.
-use Rattle.std.proofs.Common.{◌≡◌, ◌≢◌, ℕ, ◌+◌, ◌*◌, ◌≤◌, ◌<◌, List, [], Bool, false, refl, sym, ◌∙◌, ap, subst, arith}
-use Rattle.std.specs.Prelude.{Option, Some}
+use Rattle.std.proofs.Common.{◌≡◌, ◌≢◌, ℕ, ◌+◌, ◌*◌, ◌≤◌, ◌<◌, List, [], length, Bool, true, false, refl, sym, ◌∙◌, ap, subst, arith}
+use Rattle.std.specs.Prelude.{Option, Some, IsTrue, not, ◌↔◌}
 use Rattle.std.proofs.Math.Nat.{mul-le-mul_left}
 use Rattle.per_base.specs.declared.elements.Content.{Content}
 use Rattle.per_base.specs.declared.elements.Content.TheVariants.{Good, Bad}
@@ -8,27 +8,91 @@ use Rattle.per_base.specs.declared.elements.Element.{Element}
 use Rattle.per_base.specs.declared.elements.StoreKind.{StoreKind}
 use Rattle.per_base.specs.declared.elements.StoreKind.TheVariants.{Keys}
 use Rattle.per_base.specs.Maps.{Map, element_at, size_of}
-use Rattle.disk_model.specs.Image.{Image}
-use Rattle.disk_model.specs.Medium.{Medium}
+use Rattle.disk_model.specs.Frame.{IsSettledOn, Spares}
+use Rattle.disk_model.specs.Medium.{EachCase, Elapses, Medium, Quiet, IsLawful}
+use Rattle.disk_model.specs.Place.{IsOutside}
+use Rattle.disk_model.proofs.Moments.{elapses_none}
+use Rattle.index_text.specs.Spelling.{index_text}
 use Rattle.element_state.specs.declared.shapes.Change.{Change}
 use Rattle.element_state.specs.declared.shapes.Shape.{Shape}
 use Rattle.element_state.specs.declared.shapes.View.{View}
 use Rattle.element_state.specs.Changes.{committed, committed_by}
-use Rattle.element_state.specs.Conditions.{AreChanges}
+use Rattle.element_state.specs.Clean.{IsClean}
+use Rattle.element_state.specs.Conditions.{IsShape}
 use Rattle.element_state.specs.Kept.{KeptThroughout}
 use Rattle.element_state.specs.Read.{IsView}
-use Rattle.element_state.specs.States.{Opens, greatest_generation}
+use Rattle.element_state.specs.States.{State, Opens}
 use Rattle.element_state.specs.Written.{IsWithin, commit_cost, map_cost}
-use Rattle.element_store.specs.Stores.{IsUsed}
+use Rattle.element_laws.specs.Phases.{UntouchedLaw}
 use Rattle.element_maps.specs.Differences.{MakeInto}
-use Rattle.element_maps.specs.Laws.{CommittedLaw, CostLaw, HeldLaw, NextLaw, TakenLaw}
-use Rattle.element_maps.specs.Sessions.{IsHeld, IsNext, IsSync, IsWritable, Passes, synchronised}
+use Rattle.element_maps.specs.Laws.{CommittedLaw, CostLaw, HeldLaw, OthersLaw}
+use Rattle.element_maps.specs.Sessions.{IsHeld, IsNext, IsSync, IsWritable, Passes, same_map, synchronised}
+use Rattle.element_maps.specs.Storages.{IsConfigured, IsDurable, IsStoring, KeepsEqual}
+use Rattle.element_store.specs.declared.store.Store.{Store}
+use Rattle.element_store.specs.Changing.{KeepsOthers}
+use Rattle.element_store.specs.Committing.{index_in, index_length}
+use Rattle.element_store.specs.Stores.{IsUsed, entries_of, shape_of, view_in}
+use Rattle.element_store.proofs.CommitKept.{none_around, none_kept}
 use Rattle.key_maps.specs.KeyElements.{Encodes, IsKey, is_encoding, is_readable}
 use Rattle.key_maps.specs.TwoMaps.{AreTwoMaps}
-use Rattle.kvs_core.specs.Sessions.{HasRoom, Session}
-use Rattle.kvs_store.specs.declared.storages.Kvs.{Kvs}
-use Rattle.kvs_store.specs.Storages.{IsKvs, LiesAs, keys_in, session_of, shape_of, view_in}
-use Rattle.kvs_store.specs.Synced.{settled, synced_view}
+use Rattle.kvs_core.specs.Sessions.{HasRoom}
+use Rattle.kvs_store.specs.Storages.{IsOpen, KvsSession, keys_in, session_of}
+use Rattle.kvs_store.specs.Synced.{IsSynced, WritesAtMost, is_synced, settled, synced_view}
+
+-- ---- where nothing is called
+
+pub none_storing : UntouchedLaw → (told : Bool) (shape : Shape) (after : State) (m : Medium) → IsShape shape → IsLawful told m → IsStoring told shape after m m
+none_storing untouched told shape after m is law = record {
+  elsewhere = λ tells file spared. refl;
+  outside = λ tells quiet. none_around told shape.place.first shape.place.copies m law quiet;
+  any_moment = λ tells. none_kept untouched told shape after m is law;
+  time = elapses_none law;
+}
+
+-- an opening, whatever the next state is to be
+pub opened_storing : (told : Bool) (shape : Shape) (old new : Medium)
+    → (IsTrue told → Spares (IsOutside shape.place.first shape.place.copies) old.image new.image)
+    → (IsTrue told → Quiet old → EachCase (IsSettledOn (IsOutside shape.place.first shape.place.copies) old.image) old new)
+    → (IsTrue told → (after : State) → KeptThroughout shape after old new) → Elapses old new → (after : State) → IsStoring told shape after old new
+opened_storing told shape old new elsewhere outside any_moment time after = record {
+  elsewhere = elsewhere;
+  outside = outside;
+  any_moment = λ tells. any_moment tells after;
+  time = time;
+}
+
+pub same_view : (kvs : KvsSession) → is_synced kvs ≡ true → synced_view kvs ≡ view_in kvs.store
+same_view kvs is = rw is refl
+
+pub within_none : (copies contents index written : ℕ) → IsWithin copies contents index written written
+within_none copies contents index written = omega arith
+
+pub none_written : (kvs : KvsSession) (m : Medium) → WritesAtMost kvs m m
+none_written kvs m = within_none (shape_of kvs.store).place.copies (map_cost (shape_of kvs.store).kind kvs.session.synced kvs.session.visible)
+    (index_length (shape_of kvs.store).kind (synced_view kvs).entries) m.written
+
+-- both maps are then as they were
+pub none_settled : (kvs : KvsSession) → kvs.session.synced ≡ kvs.session.visible → kvs ≡ record kvs { store = kvs.store; session = settled kvs.session }
+none_settled kvs same = ap (λ (m : Map). let later : KvsSession = record kvs { session = record kvs.session { synced = m } } in later) same
+
+pub none_durable : (told : Bool) (kvs : KvsSession) (index : ℕ) (m : Medium) → is_synced kvs ≡ true
+    → IsDurable told (shape_of kvs.store) kvs.session.synced kvs.session.visible index m m
+none_durable told kvs index m same = record {
+  durable = λ differ. absurd (cc);
+  quiet = λ quiet. quiet;
+  clean = λ tells clean. clean;
+  written = within_none (shape_of kvs.store).place.copies (map_cost (shape_of kvs.store).kind kvs.session.synced kvs.session.visible) index m.written;
+  passes = refl;
+}
+
+-- a test that is false just where both are equal, beside one that is true just there
+pub decided : (differs same : Bool) (P : Type 0) → (differs ≡ false) ↔ P → (same ≡ true) ↔ P → not differs ≡ same
+decided true true P one two = let no : true ≡ false = one.1 (two.0 refl) in absurd (cc)
+decided true false P one two = refl
+decided false true P one two = refl
+decided false false P one two = let no : false ≡ true = two.1 (one.0 refl) in absurd (cc)
+
+-- ---- what is handed down
 
 -- a key is as a storage of keys asks
 writable : (kind : StoreKind) → kind ≡ Keys → (key : Element) (bytes : List ℕ) → key.content ≡ Good bytes → IsKey key → IsWritable kind key bytes
@@ -43,66 +107,97 @@ held_as : (kind : StoreKind) → kind ≡ Keys → (synced : Option Element) (ke
 held_as kind keys synced key (Good bytes) p is unreadable = writable kind keys key bytes p is
 held_as kind keys synced key (Bad salvage) p is unreadable = unreadable refl
 
-module _ (shape : Shape) (v : View) (synced visible : Map) (keys : shape.kind ≡ Keys) (maximum : ℕ) (allows : shape.allowed ≡ maximum)
-    (maps : AreTwoMaps (record { synced = synced; visible = visible })) (room : size_of visible ≤ maximum) where
-  next_map : IsNext shape synced visible
+module _ (kvs : KvsSession) (is : IsOpen kvs.store (session_of kvs)) (read : IsView (shape_of kvs.store) (view_in kvs.store)) (maps : AreTwoMaps kvs.session)
+    (room : HasRoom kvs.config kvs.session) (changes : List Change) (made : MakeInto changes kvs.session.synced kvs.session.visible) where
+  next_map : IsNext (shape_of kvs.store) kvs.session.synced kvs.session.visible
   next_map = record {
     names_ascend = maps.visible.ordered;
     few = maps.visible.few;
-    small = omega (arith, room, allows);
-    each = λ name key at. held_as shape.kind keys (element_at synced name) key key.content refl (maps.visible.keys name key at) (maps.unreadable name key at);
+    small = omega (arith, room.visible, is.configured.allowed);
+    each = λ name key at. held_as (shape_of kvs.store).kind is.configured.kind (element_at kvs.session.synced name) key key.content refl
+        (maps.visible.keys name key at) (maps.unreadable name key at);
   }
 
-  pub visible_passes : Passes is_encoding visible
+  pub is_sync : IsSync (shape_of kvs.store) is_encoding (view_in kvs.store) kvs.session.synced kvs.session.visible changes
+  is_sync = record { read = read; held = is.synced; next = next_map; made = made }
+
+  visible_passes : Passes is_encoding kvs.session.visible
   visible_passes name key bytes at good = (subst (λ (c : Content). Encodes c key.len) good (maps.visible.keys name key at).measured).0
 
-  pub syncs : IsView shape v → synced ≡ synchronised is_encoding v → (changes : List Change) → MakeInto changes synced visible
-      → IsSync shape is_encoding v synced visible changes
-  syncs read held changes made = record { read = read; held = held; next = next_map; made = made }
+  next_keys : HeldLaw → keys_in (committed (shape_of kvs.store) (view_in kvs.store) kvs.session.synced kvs.session.visible) ≡ kvs.session.visible
+  next_keys held = held (shape_of kvs.store) is_encoding (view_in kvs.store) kvs.session.synced kvs.session.visible changes is_sync visible_passes
 
--- a bound on what was written grows with the cost of the contents
-pub within_more : (copies contents more index before after : ℕ) → contents ≤ more → IsWithin copies contents index before after → IsWithin copies more index before after
+  -- the storage after the commit keeps what always holds
+  pub open_later : CommittedLaw → HeldLaw → (later : Store) → shape_of later ≡ shape_of kvs.store → view_in later ≡ committed_by (shape_of kvs.store) (view_in kvs.store) changes
+      → IsOpen later (record (session_of kvs) { synced = kvs.session.visible })
+  open_later law held later shape view = record {
+    configured = subst (λ (s : Shape). IsConfigured Keys kvs.config s) (sym shape) is.configured;
+    synced = sym (ap keys_in (view ∙ law (shape_of kvs.store) is_encoding (view_in kvs.store) kvs.session.synced kvs.session.visible changes is_sync) ∙ next_keys held);
+  }
+
+-- ---- what a commit makes
+
+differ_view : (kvs : KvsSession) → is_synced kvs ≡ false → synced_view kvs ≡ committed (shape_of kvs.store) (view_in kvs.store) kvs.session.synced kvs.session.visible
+differ_view kvs differ = rw differ refl
+
+within_more : (copies contents more index before after : ℕ) → contents ≤ more → IsWithin copies contents index before after → IsWithin copies more index before after
 within_more copies contents more index before after less within =
     let grows : copies * (contents + index + 88) ≤ copies * (more + index + 88) = mul-le-mul_left copies (omega arith) in
     omega (arith, within, grows)
 
--- ---- a storage that hands down these changes
+module _ (kvs : KvsSession) (changes : List Change) (sync : IsSync (shape_of kvs.store) is_encoding (view_in kvs.store) kvs.session.synced kvs.session.visible changes)
+    (differ : is_synced kvs ≡ false) (law : CommittedLaw) where
+  view_then : committed_by (shape_of kvs.store) (view_in kvs.store) changes ≡ synced_view kvs
+  view_then = law (shape_of kvs.store) is_encoding (view_in kvs.store) kvs.session.synced kvs.session.visible changes sync ∙ sym (differ_view kvs differ)
 
-module _ (told : Bool) (image : Image) (kvs : Kvs) (is : IsKvs told image kvs) (read : IsView (shape_of kvs) (view_in kvs))
-    (maps : AreTwoMaps (record { synced = (session_of kvs).synced; visible = (session_of kvs).visible }))
-    (room : HasRoom (session_of kvs).config (record { synced = (session_of kvs).synced; visible = (session_of kvs).visible }))
-    (changes : List Change) (made : MakeInto changes (session_of kvs).synced (session_of kvs).visible) where
-  sync : IsSync (shape_of kvs) is_encoding (view_in kvs) (session_of kvs).synced (session_of kvs).visible changes
-  sync = syncs (shape_of kvs) (view_in kvs) (session_of kvs).synced (session_of kvs).visible is.lies.of_keys (session_of kvs).config.maximum is.lies.allowed maps room.visible
-      read is.synced changes made
+  abbrev pub cost_then : ℕ
+  cost_then = commit_cost (shape_of kvs.store).kind (entries_of kvs.store) changes
 
-  pub may_commit : TakenLaw → (view_in kvs).generation < greatest_generation → AreChanges (shape_of kvs) (view_in kvs) changes
-  may_commit taken less = taken (shape_of kvs) is_encoding (view_in kvs) (session_of kvs).synced (session_of kvs).visible changes sync less
+  abbrev pub cost_between : ℕ
+  cost_between = map_cost (shape_of kvs.store).kind kvs.session.synced kvs.session.visible
 
-  pub next_view : CommittedLaw → committed_by (shape_of kvs) (view_in kvs) changes ≡ committed (shape_of kvs) (view_in kvs) (session_of kvs).synced (session_of kvs).visible
-  next_view law = law (shape_of kvs) is_encoding (view_in kvs) (session_of kvs).synced (session_of kvs).visible changes sync
+  costs : CostLaw → cost_then ≤ cost_between
+  costs cost = cost (shape_of kvs.store) is_encoding (view_in kvs.store) kvs.session.synced kvs.session.visible changes sync
 
-  next_keys : HeldLaw → keys_in (committed (shape_of kvs) (view_in kvs) (session_of kvs).synced (session_of kvs).visible) ≡ (session_of kvs).visible
-  next_keys held = held (shape_of kvs) is_encoding (view_in kvs) (session_of kvs).synced (session_of kvs).visible changes sync
-      (visible_passes (shape_of kvs) (view_in kvs) (session_of kvs).synced (session_of kvs).visible is.lies.of_keys (session_of kvs).config.maximum is.lies.allowed maps room.visible)
+  pub commit_at_most : CostLaw → (old new : Medium)
+      → IsWithin (shape_of kvs.store).place.copies cost_then (index_length (shape_of kvs.store).kind (committed_by (shape_of kvs.store) (view_in kvs.store) changes).entries) old.written new.written
+      → WritesAtMost kvs old new
+  commit_at_most cost old new within = subst (λ (v : View). IsWithin (shape_of kvs.store).place.copies cost_between (index_length (shape_of kvs.store).kind v.entries) old.written new.written) view_then
+      (within_more (shape_of kvs.store).place.copies cost_then cost_between (index_length (shape_of kvs.store).kind (committed_by (shape_of kvs.store) (view_in kvs.store) changes).entries)
+      old.written new.written (costs cost) within)
 
-  pub next_cost : CostLaw → commit_cost (shape_of kvs).kind (view_in kvs).entries changes ≤ map_cost Keys (session_of kvs).synced (session_of kvs).visible
-  next_cost cost = subst (λ (k : StoreKind). commit_cost (shape_of kvs).kind (view_in kvs).entries changes ≤ map_cost k (session_of kvs).synced (session_of kvs).visible) is.lies.of_keys
-      (cost (shape_of kvs) is_encoding (view_in kvs) (session_of kvs).synced (session_of kvs).visible changes sync)
-
-  pub view_then : CommittedLaw → NextLaw → (session_of kvs).synced ≢ (session_of kvs).visible → committed_by (shape_of kvs) (view_in kvs) changes ≡ synced_view kvs
-  view_then law next differ = next_view law ∙ sym (next (shape_of kvs) (view_in kvs) (session_of kvs).synced (session_of kvs).visible differ)
-
-  pub synced_state : CommittedLaw → NextLaw → (session_of kvs).synced ≢ (session_of kvs).visible → (old new : Medium)
-      → KeptThroughout (shape_of kvs) (Opens (committed_by (shape_of kvs) (view_in kvs) changes) []) old new
-      → KeptThroughout (shape_of kvs) (Opens (synced_view kvs) []) old new
-  synced_state law next differ old new kept = subst (λ (v : View). KeptThroughout (shape_of kvs) (Opens v []) old new) (view_then law next differ) kept
-
-  pub synced_in_use : CommittedLaw → HeldLaw → (now : Image) (next : Kvs) → IsUsed told now next.store → shape_of next ≡ shape_of kvs
-      → view_in next ≡ committed_by (shape_of kvs) (view_in kvs) changes → session_of next ≡ settled (session_of kvs) → IsKvs told now next
-  synced_in_use law held now next used shape view session = record {
+  pub commit_synced : CostLaw → OthersLaw → (told : Bool) (later : Store) (old new : Medium)
+      → view_in later ≡ committed_by (shape_of kvs.store) (view_in kvs.store) changes → shape_of later ≡ shape_of kvs.store → IsUsed told new.image later
+      → (IsTrue told → IsClean (shape_of kvs.store) old.image → IsClean (shape_of kvs.store) new.image) → Quiet new
+      → IsWithin (shape_of kvs.store).place.copies cost_then (length (index_text (index_in later))) old.written new.written
+      → KeepsOthers changes (index_in kvs.store).entries (index_in later).entries → (index_in later).format ≡ 2
+      → length (index_text (index_in later)) ≡ index_length (shape_of kvs.store).kind (entries_of later) → new.faults ≡ old.faults
+      → IsSynced told kvs (record kvs { store = later; session = settled kvs.session }) old new
+  commit_synced cost others told later old new view shape used clean quiet written carried format text passes = record {
+    session = refl;
+    shape = shape;
+    view = view ∙ view_then;
     used = used;
-    synced = ap (λ (s : Session). s.synced) session ∙ sym (ap keys_in (view ∙ next_view law) ∙ next_keys held);
-    lies = subst (λ (s : Shape). LiesAs s (session_of next).config) (sym shape)
-        (subst (λ (s : Session). LiesAs (shape_of kvs) s.config) (sym session) is.lies);
+    durable = record {
+      durable = λ differs. quiet;
+      quiet = λ before. quiet;
+      clean = clean;
+      written = within_more (shape_of kvs.store).place.copies cost_then cost_between (length (index_text (index_in later))) old.written new.written (costs cost) written;
+      passes = passes;
+    };
+    carried = λ name same. carried name (others kvs.session.synced kvs.session.visible changes sync.made name same);
+    format = λ differs. format;
+    text = λ differs. text;
+  }
+
+  pub commit_storing : (told : Bool) (old new : Medium)
+      → (IsTrue told → Spares (IsOutside (shape_of kvs.store).place.first (shape_of kvs.store).place.copies) old.image new.image)
+      → (IsTrue told → Quiet old → EachCase (IsSettledOn (IsOutside (shape_of kvs.store).place.first (shape_of kvs.store).place.copies) old.image) old new)
+      → (IsTrue told → KeptThroughout (shape_of kvs.store) (Opens (committed_by (shape_of kvs.store) (view_in kvs.store) changes) []) old new)
+      → Elapses old new → IsStoring told (shape_of kvs.store) (Opens (synced_view kvs) []) old new
+  commit_storing told old new elsewhere outside any_moment time = record {
+    elsewhere = elsewhere;
+    outside = outside;
+    any_moment = λ tells. subst (λ (v : View). KeptThroughout (shape_of kvs.store) (Opens v []) old new) view_then (any_moment tells);
+    time = time;
   }

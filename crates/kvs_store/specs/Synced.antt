@@ -1,23 +1,49 @@
 -- What a sync makes, and how it fails.
-use Rattle.std.specs.Prelude.{◌≡◌}
+use Rattle.std.specs.Prelude.{◌≡◌, Bool, false, length}
+use Rattle.disk_model.specs.Medium.{Medium}
+use Rattle.index_text.specs.Spelling.{index_text}
 use Rattle.element_state.specs.declared.shapes.View.{View}
+use Rattle.element_state.specs.Written.{IsWithin, map_cost}
+use Rattle.element_store.specs.Committing.{index_in, index_length}
+use Rattle.element_store.specs.Stores.{IsUsed, shape_of, view_in}
 use Rattle.element_maps.specs.Sessions as maps
-use Rattle.kvs_core.specs.Sessions.{Session}
-use Rattle.kvs_store.specs.declared.storages.Kvs.{Kvs}
+use Rattle.element_maps.specs.Storages.{IsDurable, KeepsEqual}
+use Rattle.key_maps.specs.TwoMaps.{TwoMaps}
 use Rattle.kvs_store.specs.declared.syncing.SyncFault.{SyncFault}
 use Rattle.kvs_store.specs.declared.syncing.SyncFault.TheVariants.{Device, WornOut, OutOfMemory}
-use Rattle.kvs_store.specs.Storages.{session_of, shape_of, view_in}
+use Rattle.kvs_store.specs.Storages.{KvsSession}
 
--- the session after a sync
-abbrev pub settled : Session → Session
-settled s = record s { synced = s.visible }
+-- what the calls see is what is synchronised
+abbrev pub is_synced : KvsSession → Bool
+is_synced kvs = maps.same_map kvs.session.synced kvs.session.visible
+
+-- both maps after a sync
+abbrev pub settled : TwoMaps → TwoMaps
+settled session = record session { synced = session.visible }
 
 -- the view after a sync: that of before where nothing differs
-abbrev pub synced_view : Kvs → View
-synced_view kvs = maps.synced_view (shape_of kvs) (view_in kvs) (session_of kvs).synced (session_of kvs).visible
+abbrev pub synced_view : KvsSession → View
+synced_view kvs = maps.synced_view (shape_of kvs.store) (view_in kvs.store) kvs.session.synced kvs.session.visible
+
+-- in each copy at most the keys that differ, and the next index
+abbrev pub WritesAtMost : KvsSession → (old new : Medium) → Type 0
+WritesAtMost kvs old new = IsWithin (shape_of kvs.store).place.copies (map_cost (shape_of kvs.store).kind kvs.session.synced kvs.session.visible)
+    (index_length (shape_of kvs.store).kind (synced_view kvs).entries) old.written new.written
+
+-- what the calls see is durable in a later storage, and all else of it stays
+pub record IsSynced (told : Bool) (kvs later : KvsSession) (old new : Medium) : Type 0 where
+  pub session : later ≡ record kvs { store = later.store; session = settled kvs.session }
+  pub shape : shape_of later.store ≡ shape_of kvs.store
+  pub view : view_in later.store ≡ synced_view kvs
+  pub used : IsUsed told new.image later.store
+  pub durable : IsDurable told (shape_of kvs.store) kvs.session.synced kvs.session.visible (length (index_text (index_in later.store))) old new
+  -- its index
+  pub carried : KeepsEqual kvs.session.synced kvs.session.visible (index_in kvs.store).entries (index_in later.store).entries
+  pub format : is_synced kvs ≡ false → (index_in later.store).format ≡ 2
+  pub text : is_synced kvs ≡ false → length (index_text (index_in later.store)) ≡ index_length (shape_of kvs.store).kind (view_in later.store).entries
 
 -- all but a failure of the device hands the storage back, and then this holds
-abbrev pub HandsBack : Kvs → SyncFault → Type 0 → Type 0
+abbrev pub HandsBack : KvsSession → SyncFault → Type 0 → Type 0
 HandsBack kvs Device P = Unit {0}
 HandsBack kvs (WornOut same) P = (same ≡ kvs) × P
 HandsBack kvs (OutOfMemory same) P = (same ≡ kvs) × P

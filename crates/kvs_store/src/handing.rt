@@ -4,7 +4,6 @@ ghost use Rattle.std.specs.Prelude.{◌≡◌, IfOk, map};
 ghost use Rattle.key_maps.specs.declared.changes.KeyChange.{KeyChange};
 ghost use Rattle.element_maps.specs.Differences.{MakeInto};
 ghost use Rattle.kvs_store.specs.Handed.{handed};
-ghost use Rattle.kvs_store.specs.Storages.{session_of};
 
 use crate::storages::Kvs;
 use element_state::Change;
@@ -15,7 +14,7 @@ use std::alloc::{AllocError, Global};
 impl Kvs {
     // The changes that make what is synchronised into what the calls see, exactly where the two differ.
     pub(crate) fn changes(&self) -> Result<Vec<Change>, AllocError>
-        ensures { IfOk result (λ changes. MakeInto changes.items (session_of self.now).synced (session_of self.now).visible) }
+        ensures { IfOk result (λ changes. MakeInto changes.items self.now.session.synced self.now.session.visible) }
     {
         self.session.holds();
         let Ok(changes) = self.session.changes() else {

@@ -5,10 +5,9 @@ ghost use Rattle.element_state.specs.Views.{judged_entry, judged_view};
 ghost use Rattle.key_maps.specs.KeyElements.{is_encoding};
 
 use element_state::View;
-use per_base::{Bytes, Content, Entry, Sequence};
+use per_base::{Content, Entry, Sequence};
 use std::alloc::{AllocError, Global};
-use value_code::decode;
-use value_model::DecodeError;
+use value_code::encodes;
 
 /// The view with each of its keys judged: bytes that encode no value are unreadable, and no salvage.
 pub fn judged(alloc: Global, view: View) -> Result<View, AllocError>
@@ -43,8 +42,8 @@ fn judge(alloc: Global, entry: Entry) -> Result<Entry, AllocError>
     ensures { IfOk result (λ judged. judged ≡ judged_entry is_encoding entry) }
 {
     let keeps = match &entry.content {
-        Content::Good(bytes) => encodes(alloc, bytes)?,
-        Content::Bad(Some(salvage)) => encodes(alloc, salvage)?,
+        Content::Good(bytes) => encodes(alloc, bytes.as_slice())?,
+        Content::Bad(Some(salvage)) => encodes(alloc, salvage.as_slice())?,
         Content::Bad(None) => true,
     };
     let mut entry = entry;
@@ -52,15 +51,4 @@ fn judge(alloc: Global, entry: Entry) -> Result<Entry, AllocError>
         entry.content = Content::Bad(None);
     }
     Ok(entry)
-}
-
-// Whether some value encodes to the bytes.
-fn encodes(alloc: Global, bytes: &Bytes) -> Result<bool, AllocError>
-    ensures { IfOk result (λ answer. answer ≡ is_encoding bytes.now) }
-{
-    match decode(alloc, bytes.as_slice()) {
-        Ok(_) => Ok(true),
-        Err(DecodeError::NotAValue) => Ok(false),
-        Err(DecodeError::OutOfMemory) => Err(AllocError),
-    }
 }

@@ -1,20 +1,21 @@
 //! The opening of a key-value storage.
 
 ghost use Rattle.std.specs.Prelude.{◌≡◌, IsTrue, IfOk, OnOk, IsErrOf, None};
+ghost use Rattle.per_base.specs.declared.elements.StoreKind.TheVariants.{Keys};
 ghost use Rattle.per_base.specs.Causes.{Rose};
-ghost use Rattle.disk_model.specs.Frame.{Spares, IsSettledOn};
-ghost use Rattle.disk_model.specs.Medium.{Quiet, EachCase, Elapses};
-ghost use Rattle.disk_model.specs.Place.{IsOutside};
+ghost use Rattle.disk_model.specs.Medium.{Quiet};
 ghost use Rattle.deployment_model.specs.Conditions.{IsStorage};
 ghost use Rattle.deployment_model.specs.Data.{storage_data};
 ghost use Rattle.element_state.specs.Chosen.{opened_of};
 ghost use Rattle.element_state.specs.Clean.{IsClean};
-ghost use Rattle.element_state.specs.Kept.{KeptThroughout};
 ghost use Rattle.element_state.specs.States.{State, store_at};
+ghost use Rattle.element_store.specs.Committing.{index_in};
 ghost use Rattle.element_store.specs.Mends.{IsAsBefore};
 ghost use Rattle.element_store.specs.Opened.{LacksNothing, OpensBy};
-ghost use Rattle.kvs_store.specs.Opened.{IsOpened};
-ghost use Rattle.kvs_store.specs.Storages.{IsKvs, LiesAs, index_in};
+ghost use Rattle.element_store.specs.Stores.{IsUsed};
+ghost use Rattle.element_maps.specs.Storages.{IsConfigured, IsOpened, IsStoring};
+ghost use Rattle.key_maps.specs.KeyElements.{is_encoding};
+ghost use Rattle.kvs_store.specs.Opened.{given};
 
 use crate::judging::judged;
 use crate::storages::Kvs;
@@ -47,14 +48,15 @@ pub fn open_kvs<D: Disk>(
     shape: Shape,
     config: &StorageConfig,
 ) -> Result<OpenedKvs, StoreError>
-    requires configured { IsStorage (storage_data config.now) }
-    requires lies { LiesAs shape (storage_data config.now) }
+    requires valid { IsStorage (storage_data config.now) }
+    requires configured { IsConfigured Keys (storage_data config.now) shape }
 
-    // Both maps are the keys that the storage shows, and the reports are exact.
-    ensures opened { IfOk result (IsOpened D.told (D.medium disk.old).image shape (storage_data config.now)) }
-    ensures in_use { IfOk result (λ o. IsKvs D.told (D.medium disk.new).image o.kvs) }
-    // Its index is the one that was found.
-    ensures adopted { IsTrue D.told → IfOk result (λ o. OpensBy (D.medium disk.old).image shape (index_in o.kvs)) }
+    // The storage in use, by the index that was found; what is synchronised is the keys that it shows, and nothing is pending.
+    ensures opened { IfOk result (λ o. IsOpened D.told (D.medium disk.old).image shape is_encoding (given o)) }
+    ensures adopted { IsTrue D.told → IfOk result (λ o. OpensBy (D.medium disk.old).image shape (index_in o.kvs.store)) }
+    ensures session { IfOk result (λ o. o.kvs.session.visible ≡ o.kvs.session.synced) }
+    ensures config { IfOk result (λ o. o.kvs.config ≡ storage_data config.now) }
+    ensures used { IfOk result (λ o. IsUsed D.told (D.medium disk.new).image o.kvs.store) }
     ensures clean { IsTrue D.told → IsClean shape (D.medium disk.old).image → OnOk result (IsClean shape (D.medium disk.new).image) }
     ensures quiet { OnOk result (Quiet (D.medium disk.new)) }
 
@@ -63,21 +65,18 @@ pub fn open_kvs<D: Disk>(
     ensures untouched { IsErrOf result StoreError.Corrupt → (D.medium disk.new).image ≡ (D.medium disk.old).image }
     ensures unwritten { IsErrOf result StoreError.Corrupt → (D.medium disk.new).written ≡ (D.medium disk.old).written }
     ensures settled { IsErrOf result StoreError.Corrupt → Quiet (D.medium disk.new) }
+
+    // A failure is that of a call of the disk, and nothing else stands for one.
     ensures cause { IsErrOf result StoreError.Device → Rose (D.medium disk.old).faults (D.medium disk.new).faults }
+    ensures passes { OnOk result ((D.medium disk.new).faults ≡ (D.medium disk.old).faults) }
+    ensures fed { IsErrOf result StoreError.OutOfMemory → (D.medium disk.new).faults ≡ (D.medium disk.old).faults }
+    ensures unfailed { IsErrOf result StoreError.Corrupt → (D.medium disk.new).faults ≡ (D.medium disk.old).faults }
 
     // Where nothing lacks, nothing is written.
     ensures idle { IsTrue D.told → LacksNothing shape (D.medium disk.old).image → IsAsBefore (D.medium disk.old) (D.medium disk.new) }
 
-    // No file outside the place changes, at the end and at any moment.
-    ensures elsewhere { IsTrue D.told
-        → Spares (IsOutside shape.place.first shape.place.copies) (D.medium disk.old).image (D.medium disk.new).image }
-    ensures outside { IsTrue D.told → Quiet (D.medium disk.old)
-        → EachCase (IsSettledOn (IsOutside shape.place.first shape.place.copies) (D.medium disk.old).image)
-        (D.medium disk.old) (D.medium disk.new) }
-
-    // A stop at any moment keeps the storage, whatever its next state is to be.
-    ensures any_moment { IsTrue D.told → (after : State) → KeptThroughout shape after (D.medium disk.old) (D.medium disk.new) }
-    ensures time { Elapses (D.medium disk.old) (D.medium disk.new) }
+    // No file outside the place changes, and a stop at any moment keeps the storage, whatever its next state is to be.
+    ensures storing { (after : State) → IsStoring D.told shape after (D.medium disk.old) (D.medium disk.new) }
 {
     untouched_is_kept();
     let copy = shape.copy()?;

@@ -1,15 +1,20 @@
 //! A key-value storage in use.
 
 ghost use Rattle.std.specs.Prelude.{◌≡◌};
+ghost use Rattle.per_base.specs.declared.elements.StoreKind.TheVariants.{Keys};
+ghost use Rattle.element_maps.specs.Storages.{IsConfigured};
+ghost use Rattle.element_store.specs.Stores.{shape_of, view_in};
 ghost use Rattle.key_maps.specs.TwoMaps.{AreTwoMaps};
 ghost use Rattle.kvs_core.specs.Sessions.{HasRoom};
-ghost use Rattle.kvs_store.specs.Storages.{session_of};
+ghost use Rattle.kvs_store.specs.Storages.{keys_in};
 
 use element_store::Store;
 use kvs_core::KeySession;
 use std::alloc::Global;
+use std::marker::Model;
 
-/// An open key-value storage. It is used with the disk of its opening, and dropping it drops its pending changes.
+/// An open key-value storage. It is used with the disk of its opening, and dropping it drops its pending changes. Contracts see it as
+/// a `KvsSession`.
 #[derive(Drop)]
 pub struct Kvs {
     pub(crate) alloc: Global,
@@ -19,12 +24,29 @@ pub struct Kvs {
     pub(crate) session: KeySession,
 }
 
+impl Model for Kvs {
+    ghost use Rattle.std.specs.Coded.{codes};
+    ghost use Rattle.value_model.specs.Codes.{kind_code};
+    ghost use Rattle.kvs_store.specs.Storages.{KvsSession};
+
+    ghost Value = { KvsSession };
+
+    ghost coded = { Prim.hlevel (codes, kind_code) };
+
+    ghost use Rattle.kvs_store.specs.Storages.{IsOpen};
+
+    ghost view = { λ k. record { config = k.session.config; store = k.store; session = record { synced = k.session.synced; visible = k.session.visible } } };
+
+    ghost invariant = { λ k. IsOpen k.store k.session };
+}
+
 impl Kvs {
-    /// What always holds of the two maps.
+    /// What always holds of an open storage.
     pub fn holds(&self)
-        ensures maps { AreTwoMaps (record { synced = (session_of self.now).synced; visible = (session_of self.now).visible }) }
-        ensures room { HasRoom (session_of self.now).config
-            (record { synced = (session_of self.now).synced; visible = (session_of self.now).visible }) }
+        ensures maps { AreTwoMaps self.now.session }
+        ensures room { HasRoom self.now.config self.now.session }
+        ensures configured { IsConfigured Keys self.now.config (shape_of self.now.store) }
+        ensures synced { self.now.session.synced ≡ keys_in (view_in self.now.store) }
     {
         self.session.holds();
     }

@@ -1,23 +1,20 @@
 //! The sync: what the calls see becomes what lies on the disk.
 
-ghost use Rattle.std.specs.Prelude.{◌≡◌, ◌≢◌, ◌↔◌, [], IsTrue, IfOk, IfErr, OnOk, length};
-ghost use Rattle.per_base.specs.declared.elements.StoreKind.TheVariants.{Keys};
+ghost use Rattle.std.specs.Prelude.{◌≡◌, ◌≢◌, ◌↔◌, ◌<◌, [], true, false, IsTrue, IfOk, IfErr, length};
 ghost use Rattle.per_base.specs.Causes.{Rose};
-ghost use Rattle.disk_model.specs.Frame.{Spares, IsSettledOn};
-ghost use Rattle.disk_model.specs.Medium.{Quiet, EachCase, Elapses};
-ghost use Rattle.disk_model.specs.Place.{IsOutside};
 ghost use Rattle.index_text.specs.Spelling.{index_text};
-ghost use Rattle.element_state.specs.Clean.{IsClean};
-ghost use Rattle.element_state.specs.Kept.{KeptThroughout};
-ghost use Rattle.element_state.specs.States.{Opens, is_worn};
-ghost use Rattle.element_state.specs.Written.{IsWithin, map_cost};
-ghost use Rattle.kvs_store.specs.Storages.{IsKvs, index_in, session_of, shape_of, view_in};
-ghost use Rattle.kvs_store.specs.Synced.{HandsBack, IsDeviceFault, settled, synced_view};
+ghost use Rattle.element_state.specs.States.{Opens, greatest_generation, is_worn};
+ghost use Rattle.element_store.specs.Committing.{index_in, index_length};
+ghost use Rattle.element_store.specs.Stores.{IsUsed, shape_of, view_in};
+ghost use Rattle.element_maps.specs.Differences.{MakeInto};
+ghost use Rattle.element_maps.specs.Storages.{IsDurable, IsStoring, KeepsEqual};
+ghost use Rattle.kvs_store.specs.Synced.{HandsBack, IsDeviceFault, IsSynced, WritesAtMost, is_synced, settled, synced_view};
 
 use crate::storages::Kvs;
 use disk_model::Disk;
 use element_laws::untouched_is_kept;
 use element_maps::{changes_make_maps, syncs_are_decided};
+use element_state::Change;
 use element_store::CommitFault;
 
 /// Why a sync gave up.
@@ -40,58 +37,75 @@ impl Kvs {
     /// `WornOut` exactly where the maps differ and the generation is the greatest, and `OutOfMemory`, hand the storage back with its
     /// pending changes before any call of the disk. `Device` closes it.
     pub fn sync_to_storage<D: Disk>(self, disk: &mut D) -> Result<Kvs, SyncFault>
-        requires { IsKvs D.told (D.medium disk.old).image self }
+        requires { IsUsed D.told (D.medium disk.old).image self.store }
 
-        // The storage on the disk, and both maps.
-        ensures in_use { IfOk result (IsKvs D.told (D.medium disk.new).image) }
-        ensures session { IfOk result (λ kvs. session_of kvs ≡ settled (session_of self)) }
-        ensures shape { IfOk result (λ kvs. shape_of kvs ≡ shape_of self) }
-        ensures view { IfOk result (λ kvs. view_in kvs ≡ synced_view self) }
+        // What the calls see is then what is synchronised and what the storage shows, and all else stays.
+        ensures session { IfOk result (λ kvs. kvs ≡ record self { store = kvs.store; session = settled self.session }) }
+        ensures shape { IfOk result (λ kvs. shape_of kvs.store ≡ shape_of self.store) }
+        ensures view { IfOk result (λ kvs. view_in kvs.store ≡ synced_view self) }
+        ensures used { IfOk result (λ kvs. IsUsed D.told (D.medium disk.new).image kvs.store) }
 
-        // Where the maps are equal nothing happens.
-        ensures unchanged { (session_of self).synced ≡ (session_of self).visible → (result ≡ Ok self) × (disk.new ≡ disk.old) }
+        // Where nothing differs nothing happens.
+        ensures unchanged { is_synced self ≡ true → (result ≡ Ok self) × (disk.new ≡ disk.old) }
 
-        // What is handed back is unchanged, and so is the disk.
+        // What is handed back is unchanged, and so is the disk. Only a disk that failed closes the storage.
         ensures handed_back { IfErr result (λ fault. HandsBack self fault (disk.new ≡ disk.old)) }
-        ensures worn_out { (result ≡ Err (SyncFault.WornOut self))
-            ↔ (((session_of self).synced ≢ (session_of self).visible) × IsTrue (is_worn (view_in self))) }
+        ensures worn_out { (result ≡ Err (SyncFault.WornOut self)) ↔ ((is_synced self ≡ false) × IsTrue (is_worn (view_in self.store))) }
         ensures cause { IfErr result (λ fault. IsDeviceFault fault → Rose (D.medium disk.old).faults (D.medium disk.new).faults) }
 
-        // What is synchronised is durable, and the place stays clean.
-        ensures durable { (session_of self).synced ≢ (session_of self).visible → OnOk result (Quiet (D.medium disk.new)) }
-        ensures quiet { Quiet (D.medium disk.old) → OnOk result (Quiet (D.medium disk.new)) }
-        ensures clean { IsTrue D.told → IsClean (shape_of self) (D.medium disk.old).image
-            → OnOk result (IsClean (shape_of self) (D.medium disk.new).image) }
+        // What differed is durable: in each copy the keys that do, and the index.
+        ensures durable { IfOk result (λ kvs. IsDurable D.told (shape_of self.store) self.session.synced self.session.visible
+            (length (index_text (index_in kvs.store))) (D.medium disk.old) (D.medium disk.new)) }
+        ensures at_most { WritesAtMost self (D.medium disk.old) (D.medium disk.new) }
+
+        // The next index lists what the view shows, in format 2, and each key that does not differ as it was listed.
+        ensures carried { IfOk result (λ kvs. KeepsEqual self.session.synced self.session.visible
+            (index_in self.store).entries (index_in kvs.store).entries) }
+        ensures format { is_synced self ≡ false → IfOk result (λ kvs. (index_in kvs.store).format ≡ 2) }
+        ensures text { is_synced self ≡ false → IfOk result (λ kvs. length (index_text (index_in kvs.store))
+            ≡ index_length (shape_of self.store).kind (view_in kvs.store).entries) }
 
         // No file outside the place changes, and a stop at any moment leaves the storage of before or that of after.
-        ensures elsewhere { IsTrue D.told → Spares (IsOutside (shape_of self).place.first (shape_of self).place.copies)
-            (D.medium disk.old).image (D.medium disk.new).image }
-        ensures outside { IsTrue D.told → Quiet (D.medium disk.old)
-            → EachCase (IsSettledOn (IsOutside (shape_of self).place.first (shape_of self).place.copies) (D.medium disk.old).image)
-            (D.medium disk.old) (D.medium disk.new) }
-        ensures any_moment { IsTrue D.told
-            → KeptThroughout (shape_of self) (Opens (synced_view self) []) (D.medium disk.old) (D.medium disk.new) }
-
-        // In each copy the keys that differ, and the index.
-        ensures written { IfOk result (λ kvs. IsWithin (shape_of self).place.copies
-            (map_cost Keys (session_of self).synced (session_of self).visible) (length (index_text (index_in kvs)))
-            (D.medium disk.old).written (D.medium disk.new).written) }
-        ensures time { Elapses (D.medium disk.old) (D.medium disk.new) }
+        ensures storing { IsStoring D.told (shape_of self.store) (Opens (synced_view self) []) (D.medium disk.old) (D.medium disk.new) }
     {
         untouched_is_kept();
-        changes_make_maps();
         syncs_are_decided();
-        self.store.holds();
-        self.session.holds();
-        if !self.session.has_changes() {
+        if self.is_synced() {
             return Ok(self);
         }
         if self.store.generation() == u64::MAX {
             return Err(SyncFault::WornOut(self));
         }
-        let Ok(changes) = self.changes() else {
-            return Err(SyncFault::OutOfMemory(self));
-        };
+        match self.changes() {
+            Ok(changes) => self.commit(disk, changes),
+            Err(_) => Err(SyncFault::OutOfMemory(self)),
+        }
+    }
+
+    // Whether what the calls see is what is synchronised. Takes no memory.
+    fn is_synced(&self) -> bool
+        ensures { result ≡ is_synced self.now }
+    {
+        syncs_are_decided();
+        !self.session.has_changes()
+    }
+
+    // Commits these changes, which make what is synchronised into what the calls see.
+    fn commit<D: Disk>(self, disk: &mut D, changes: Vec<Change>) -> Result<Kvs, SyncFault>
+        requires used { IsUsed D.told (D.medium disk.old).image self.store }
+        requires changes { MakeInto changes.items self.session.synced self.session.visible }
+        requires differ { is_synced self ≡ false }
+        requires not_worn { (view_in self.store).generation < greatest_generation }
+        ensures synced { IfOk result (λ kvs. IsSynced D.told self kvs (D.medium disk.old) (D.medium disk.new)) }
+        ensures handed_back { IfErr result (λ fault. HandsBack self fault (disk.new ≡ disk.old)) }
+        ensures not_worn_out { result ≢ Err (SyncFault.WornOut self) }
+        ensures cause { IfErr result (λ fault. IsDeviceFault fault → Rose (D.medium disk.old).faults (D.medium disk.new).faults) }
+        ensures at_most { WritesAtMost self (D.medium disk.old) (D.medium disk.new) }
+        ensures storing { IsStoring D.told (shape_of self.store) (Opens (synced_view self) []) (D.medium disk.old) (D.medium disk.new) }
+    {
+        changes_make_maps();
+        self.holds();
+        self.store.holds();
         let Kvs {
             alloc,
             store,
@@ -106,12 +120,12 @@ impl Kvs {
                     session,
                 })
             }
+            Err(CommitFault::Device) => Err(SyncFault::Device),
             Err(CommitFault::OutOfMemory(store)) => Err(SyncFault::OutOfMemory(Kvs {
                 alloc,
                 store,
                 session,
             })),
-            Err(CommitFault::Device) => Err(SyncFault::Device),
         }
     }
 }

@@ -1,13 +1,14 @@
 //! Writing, removing and restoring keys: what the calls see changes, and nothing on the disk.
 
-ghost use Rattle.std.specs.Prelude.{◌≡◌, false, IfErr, IsTrue, OnErr, OnOk, Some};
+ghost use Rattle.std.specs.Prelude.{◌≡◌, ◌⊎◌, IfErr, OnErr, OnOk, Some};
 ghost use Rattle.per_base.specs.declared.elements.Element.{Element};
-ghost use Rattle.per_base.specs.Maps.{element_at, has};
+ghost use Rattle.per_base.specs.Maps.{element_at};
 ghost use Rattle.value_model.specs.Trees.{type_of};
+ghost use Rattle.per_value.specs.Memory.{TakesMemory};
 ghost use Rattle.deployment_model.specs.Lookups.{initial_of};
 ghost use Rattle.kvs_core.specs.Calls as calls;
 ghost use Rattle.kvs_core.specs.Refusals.{IsRefusal, NeedsMemory};
-ghost use Rattle.kvs_store.specs.Storages.{StaysInUse, session_of, showing};
+ghost use Rattle.kvs_store.specs.Storages.{session_of, showing};
 
 use crate::storages::Kvs;
 use per_base::{Name, PerError};
@@ -31,7 +32,6 @@ impl Kvs {
             → NeedsMemory (calls.takes_any (session_of self.old).config (session_of self.old).visible name.now (type_of value))) }
         ensures beside { self.new ≡ showing self.old (session_of self.new).visible }
         ensures unchanged { OnErr result (self.new ≡ self.old) }
-        ensures in_use { StaysInUse self.old self.new }
     {
         self.session.set_any(name, value)
     }
@@ -45,9 +45,11 @@ impl Kvs {
         ensures ok { OnOk result (calls.set_value (session_of self.old).config (session_of self.old).visible name.now (T.tree value.now) ≡ Ok (session_of self.new).visible) }
         ensures refused { IfErr result (λ error.
             IsRefusal (calls.set_value (session_of self.old).config (session_of self.old).visible name.now (T.tree value.now)) error) }
+        // Want of memory stands for want of room alone, but where the value itself takes memory, which is made first.
+        ensures memory { IfErr result (λ error. error ≡ PerError.OutOfMemory → TakesMemory T.kind
+            ⊎ NeedsMemory (calls.takes_any (session_of self.old).config (session_of self.old).visible name.now (type_of (T.tree value.now)))) }
         ensures beside { self.new ≡ showing self.old (session_of self.new).visible }
         ensures unchanged { OnErr result (self.new ≡ self.old) }
-        ensures in_use { StaysInUse self.old self.new }
     {
         self.session.set_value(name, value)
     }
@@ -62,7 +64,6 @@ impl Kvs {
         ensures refused { IfErr result (λ error. calls.remove_key (session_of self.old).config (session_of self.old).visible name.now ≡ Err error) }
         ensures beside { self.new ≡ showing self.old (session_of self.new).visible }
         ensures unchanged { OnErr result (self.new ≡ self.old) }
-        ensures in_use { StaysInUse self.old self.new }
     {
         self.session.remove_key(name)
     }
@@ -77,7 +78,6 @@ impl Kvs {
         ensures refused { IfErr result (λ error. calls.remove_all_keys (session_of self.old).config (session_of self.old).visible ≡ Err error) }
         ensures beside { self.new ≡ showing self.old (session_of self.new).visible }
         ensures unchanged { OnErr result (self.new ≡ self.old) }
-        ensures in_use { StaysInUse self.old self.new }
     {
         self.session.remove_all_keys()
     }
@@ -92,14 +92,13 @@ impl Kvs {
         ensures ok { OnOk result (calls.recover_key (session_of self.old).config (session_of self.old).visible name.now ≡ Ok (session_of self.new).visible) }
         ensures refused { IfErr result (λ error.
             IsRefusal (calls.recover_key (session_of self.old).config (session_of self.old).visible name.now) error) }
-        // Want of memory comes only where a salvage or an initial value is taken, and stands for want of room alone.
+        // Want of memory stands for no refusal, and comes only where a salvage or an initial value is taken.
         ensures memory { IfErr result (λ error. error ≡ PerError.OutOfMemory
-            → ((session_of self.old).config.read_only ≡ false) × IsTrue (has (session_of self.old).visible name.now)) }
+            → NeedsMemory (calls.recover_key (session_of self.old).config (session_of self.old).visible name.now)) }
         ensures copies { IfErr result (λ error. error ≡ PerError.OutOfMemory → (key : Element) → element_at (session_of self.old).visible name.now ≡ Some key
             → calls.TakesCopy (initial_of (session_of self.old).config name.now) key.content) }
         ensures beside { self.new ≡ showing self.old (session_of self.new).visible }
         ensures unchanged { OnErr result (self.new ≡ self.old) }
-        ensures in_use { StaysInUse self.old self.new }
     {
         self.session.recover_key(name)
     }
@@ -114,12 +113,11 @@ impl Kvs {
         ensures ok { OnOk result (calls.reset_key (session_of self.old).config (session_of self.old).visible name.now ≡ Ok (session_of self.new).visible) }
         ensures refused { IfErr result (λ error.
             IsRefusal (calls.reset_key (session_of self.old).config (session_of self.old).visible name.now) error) }
-        // Want of memory stands for want of room alone.
+        // Want of memory stands for no refusal.
         ensures memory { IfErr result (λ error. error ≡ PerError.OutOfMemory
-            → NeedsMemory (calls.takes_initial (session_of self.old).config (session_of self.old).visible name.now)) }
+            → NeedsMemory (calls.reset_key (session_of self.old).config (session_of self.old).visible name.now)) }
         ensures beside { self.new ≡ showing self.old (session_of self.new).visible }
         ensures unchanged { OnErr result (self.new ≡ self.old) }
-        ensures in_use { StaysInUse self.old self.new }
     {
         self.session.reset_key(name)
     }
@@ -127,7 +125,6 @@ impl Kvs {
     /// Makes visible what is synchronised: the pending changes are gone. Takes no memory.
     pub fn discard_pending_changes(&mut self)
         ensures discarded { self.new ≡ showing self.old (session_of self.old).synced }
-        ensures in_use { StaysInUse self.old self.new }
     {
         self.session.discard_pending_changes();
     }

@@ -1,5 +1,6 @@
 use Rattle.element_maps.proofs.Synced.{taken, committed_is, held_next, committed_read, size_is, nothing}
 use Rattle.element_maps.proofs.Costs.{cost_le, cost_is}
+use Rattle.element_maps.proofs.Unnamed.{others_unnamed}
 use Rattle.element_maps.proofs.laws.changes_make_maps.Goals as goal
 
 pub returns-clause-taken : goal.returns-clause-taken
@@ -25,3 +26,6 @@ returns-clause-nothing c = nothing
 
 pub returns-clause-exact_cost : goal.returns-clause-exact_cost
 returns-clause-exact_cost c = cost_is
+
+pub returns-clause-others : goal.returns-clause-others
+returns-clause-others c = others_unnamed

@@ -1,0 +1,8 @@
+-- What an opening of files gives.
+use Rattle.element_store.specs.Stores.{shape_of, view_in}
+use Rattle.element_maps.specs.Storages.{Opened}
+use Rattle.file_storage.specs.declared.opening.OpenedFiles.{OpenedFiles}
+use Rattle.file_storage.specs.FileSessions.{stored_in}
+
+abbrev pub given : OpenedFiles → Opened
+given o = record { shape = shape_of o.files.store; view = view_in o.files.store; synced = stored_in o.files.store; reports = o.reports.items }

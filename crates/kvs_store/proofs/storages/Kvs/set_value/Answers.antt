@@ -1,0 +1,9 @@
+use Rattle.std.proofs.Common.{subst}
+use Rattle.std.specs.Prelude.{IfErr}
+use Rattle.kvs_core.specs.Calls as calls
+use Rattle.kvs_core.specs.Refusals.{IsRefusal}
+use Rattle.kvs_store.specs.Storages.{KvsSession}
+use Rattle.kvs_store.proofs.storages.Kvs.set_value.Goals as goal
+
+pub returns-clause-refused : goal.returns-clause-refused
+returns-clause-refused g c = subst (λ (s : KvsSession). IfErr c.set_value.result (λ error. IsRefusal (calls.set_value s.config s.session.visible c.args.name.now (g.T.PerValue.tree c.args.value.now)) error)) c.self.view_is c.set_value.ensures.refused
