@@ -7,7 +7,7 @@ use Rattle.flash_model.specs.State.{FlashState}
 use Rattle.flash_model.specs.FlashMedium.{FlashMedium}
 use Rattle.flash_disk.specs.declared.layer.LayerState.{LayerState}
 use Rattle.flash_disk.specs.Newest.{places, page_count, page_limit}
-use Rattle.flash_disk.specs.Standing.{HasRivals}
+use Rattle.flash_disk.specs.Standing.{IsAgreed, HasRivals}
 use Rattle.flash_disk.specs.Sound.{IsSound}
 use Rattle.flash_disk.specs.Known.{page_len, limit_of}
 use Rattle.flash_disk.specs.Counted.{missing}
@@ -87,3 +87,26 @@ fails_alone a b s t file at n state blocks sound disputed why =
     other))
     why in
     subst (λ k. Fails a.state.pages k t file at n) blocks (subst (λ (q : FlashState). Fails q.pages b.blocks t file at n) state here)
+
+-- what holds of pages that calls only looked at holds of them before those calls, and the other way round
+module _ (a b : FlashMedium) (state : b.state ≡ a.state) (blocks : b.blocks ≡ a.blocks) where
+  pub seen_before : (P : Pages → ℕ → Type 0) → P b.state.pages b.blocks → P a.state.pages a.blocks
+  seen_before P holds = subst (P a.state.pages) blocks (subst (λ (q : FlashState). P q.pages b.blocks) state holds)
+
+  pub allowed_before : (file at n : ℕ) → IsAllowed b file at n → IsAllowed a file at n
+  allowed_before file at n allowed = record {
+    ends = allowed.ends;
+    fits = seen_before (λ p k. page_count p (places k) + lacking p (places k) file (at / 256) (div_ceil (at + n) 256 - at / 256) ≤ page_limit k) allowed.fits;
+    agreed = seen_before (λ p k. IsAgreed p (places k)) allowed.agreed;
+  }
+
+  pub takes_before : (d : FlashMedium) (file at n : ℕ) → TakesPages b d file at n → TakesPages a d file at n
+  takes_before d file at n takes =
+      seen_before (λ p k. page_count d.state.pages (places d.blocks) ≤ page_count p (places k) + lacking p (places k) file (at / 256) (div_ceil (at + n) 256 - at / 256)) takes
+
+  -- a write that is refused changes no page
+  pub refused_before : (d : FlashMedium) (file at n : ℕ) → (EndsTooLate at n ⊎ WantsTooMany b file at n → d.state ≡ b.state)
+      → EndsTooLate at n ⊎ WantsTooMany a file at n → d.state ≡ a.state
+  refused_before d file at n refused = seen_before
+      (λ p k. EndsTooLate at n ⊎ (page_limit k < page_count p (places k) + lacking p (places k) file (at / 256) (div_ceil (at + n) 256 - at / 256)) → d.state ≡ a.state)
+      (λ why. refused why ∙ state)

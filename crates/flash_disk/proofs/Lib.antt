@@ -26,6 +26,7 @@ pub mod Moving
 pub mod Moved
 mod Looking
 pub mod Entries
+pub mod Accounting
 pub mod Affording
 pub mod PageCount
 pub mod Throughout

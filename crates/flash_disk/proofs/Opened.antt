@@ -18,9 +18,10 @@ use Rattle.flash_disk.specs.Looks.{Opens}
 use Rattle.flash_disk.specs.FlashFilesLaws.{one_len}
 use Rattle.disk_model.specs.Medium.{Quiet}
 use Rattle.flash_model.specs.State.{FlashState, FlashCase, settle_pages}
-use Rattle.flash_model.specs.FlashMedium.{FlashMedium}
+use Rattle.flash_model.specs.FlashMedium.{FlashMedium, IsLawfulFlash}
 use Rattle.flash_disk.specs.FlashFiles.{flash_files}
-use Rattle.flash_disk.specs.FlashDiskMedium.{put_announced, files_told, flash_disk_medium}
+use Rattle.flash_disk.specs.FlashDiskMedium.{put_announced, files_told, flash_disk_medium, Begins}
+use Rattle.flash_disk.specs.FlashDiskLaws.{opens_now, agrees_now}
 use Rattle.flash_disk.proofs.DiskCases.{told_files}
 use Rattle.flash_disk.proofs.Leading.{measured}
 use Rattle.flash_disk.proofs.Leaving.{leads_at_last, left_out, agreed_at_last, rivals_at_last, strayless_at_last}
@@ -103,6 +104,18 @@ module _ (told : Bool) (old new : FlashMedium) (t : IsTrue told) (pages : new.st
   opens_agreed = record {
     now = λ agreed. subst (λ p. IsAgreed p (places old.blocks)) (sym pages) agreed;
     during = λ c past plain agreed. subst (λ p. IsAgreed p (places old.blocks)) (sym (left_same c past)) agreed;
+  }
+
+-- and the disk begins with it
+module _ (told : Bool) (old new : FlashMedium) (lawful : IsLawfulFlash told new) (pages : IsTrue told → new.state.pages ≡ old.state.pages)
+    (blocks : new.blocks ≡ old.blocks) where
+  still_so : (P : Pages → ℕ → Type 0) → (IsTrue told → P old.state.pages old.blocks) → IsTrue told → P new.state.pages new.blocks
+  still_so P holds t = subst (λ b. P new.state.pages b) (sym blocks) (subst (λ p. P p old.blocks) (sym (pages t)) (holds t))
+
+  pub begins : (own : ℕ) → (IsTrue told → IsUsable old.state.pages old.blocks) → Begins told old (flash_disk_medium told new own 0)
+  begins own usable = record {
+    opens = opens_now told new own 0 lawful (still_so IsUsable usable);
+    agrees = λ agreed. agrees_now told new own 0 lawful (still_so (λ p b. IsAgreed p (places b)) agreed);
   }
 
 -- a flash that was settled makes a disk on which nothing is pending

@@ -9,6 +9,8 @@ use Rattle.flash_model.specs.State.{Announced, FlashState, FlashCase}
 use Rattle.flash_model.specs.FlashMedium.{FlashMedium}
 use Rattle.flash_disk.specs.FlashFiles.{flash_files}
 use Rattle.flash_disk.specs.FlashView.{FlashView}
+use Rattle.flash_disk.specs.Newest.{places}
+use Rattle.flash_disk.specs.Standing.{IsAgreed}
 use Rattle.flash_disk.specs.Throughout.{UsableSince, AgreedSince}
 
 -- the files after these writes
@@ -58,3 +60,9 @@ flash_disk_medium told m own written = record {
 -- what is said of a disk that is seen so
 abbrev pub disk_seen : {F : Type 0} → (told : Bool) → (F → FlashMedium) → FlashView F → Medium
 disk_seen told medium v = flash_disk_medium told (medium v.flash) v.own v.written
+
+-- A disk that was just opened over this flash: from now on what a stop leaves at any moment can be opened again, and if the flash had no
+-- rivals it goes on taking writes.
+pub record Begins (told : Bool) (m : FlashMedium) (disk : Medium) : Type 0 where
+  pub opens : disk.opens disk.moment
+  pub agrees : (IsTrue told → IsAgreed m.state.pages (places m.blocks)) → disk.agrees disk.moment

@@ -18,4 +18,5 @@ pub mod Writes
 pub mod Moving
 pub mod FlashDiskLaws
 pub mod Looks
+pub mod Accounts
 pub mod Fresh

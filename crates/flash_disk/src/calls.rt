@@ -31,6 +31,7 @@ impl<F: Flash> Disk for FlashDisk<F> {
         ensures reads { OnlyReads (disk_seen F.told F.medium self.old) (disk_seen F.told F.medium self.new) }
         ensures time { Elapses (disk_seen F.told F.medium self.old) (disk_seen F.told F.medium self.new) }
         ensures cause { OnErr result (Rose (disk_seen F.told F.medium self.old).faults (disk_seen F.told F.medium self.new).faults) }
+        ensures passes { OnOk result ((disk_seen F.told F.medium self.new).faults ≡ (disk_seen F.told F.medium self.old).faults) }
 
         // No fault is its own, no number is used, no page changes, no rivals come, and a crash meanwhile leaves what can be opened.
         ensures own { self.new.own ≡ self.old.own }
@@ -56,6 +57,7 @@ impl<F: Flash> Disk for FlashDisk<F> {
         ensures at_most { (disk_seen F.told F.medium self.new).written ≤ (disk_seen F.told F.medium self.old).written + length bytes.now }
         ensures time { Elapses (disk_seen F.told F.medium self.old) (disk_seen F.told F.medium self.new) }
         ensures cause { OnErr result (Rose (disk_seen F.told F.medium self.old).faults (disk_seen F.told F.medium self.new).faults) }
+        ensures passes { OnOk result ((disk_seen F.told F.medium self.new).faults ≡ (disk_seen F.told F.medium self.old).faults) }
 
         // When a fault is its own: one at most, and only of a call that fails.
         ensures own { IsTrue F.told → (self.new.own ≡ self.old.own)
@@ -98,6 +100,7 @@ impl<F: Flash> Disk for FlashDisk<F> {
         ensures reads { OnlyReads (disk_seen F.told F.medium self.old) (disk_seen F.told F.medium self.new) }
         ensures time { Elapses (disk_seen F.told F.medium self.old) (disk_seen F.told F.medium self.new) }
         ensures cause { OnErr result (Rose (disk_seen F.told F.medium self.old).faults (disk_seen F.told F.medium self.new).faults) }
+        ensures passes { OnOk result ((disk_seen F.told F.medium self.new).faults ≡ (disk_seen F.told F.medium self.old).faults) }
 
         // No fault is its own, no number is used, no page changes, no rivals come, and a crash meanwhile leaves what can be opened.
         ensures own { self.new.own ≡ self.old.own }
@@ -116,6 +119,7 @@ impl<F: Flash> Disk for FlashDisk<F> {
         ensures writes_nothing { WritesNothing (disk_seen F.told F.medium self.old) (disk_seen F.told F.medium self.new) }
         ensures time { Elapses (disk_seen F.told F.medium self.old) (disk_seen F.told F.medium self.new) }
         ensures cause { OnErr result (Rose (disk_seen F.told F.medium self.old).faults (disk_seen F.told F.medium self.new).faults) }
+        ensures passes { OnOk result ((disk_seen F.told F.medium self.new).faults ≡ (disk_seen F.told F.medium self.old).faults) }
 
         // No fault is its own, no number is used, no page changes, no rivals come, and a crash meanwhile leaves what can be opened.
         ensures own { self.new.own ≡ self.old.own }

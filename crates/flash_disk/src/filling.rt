@@ -13,7 +13,7 @@ ghost use Rattle.flash_disk.specs.Does.{Does};
 ghost use Rattle.flash_disk.specs.PutPart.{PutPart};
 ghost use Rattle.flash_disk.specs.Newest.{places};
 ghost use Rattle.flash_disk.specs.Standing.{Keeps, StandsFor};
-ghost use Rattle.per_base.specs.Causes.{HasCause};
+ghost use Rattle.flash_disk.specs.Accounts.{Accounts};
 
 use crate::layer::Layer;
 use crate::opening::newest_at;
@@ -38,8 +38,7 @@ impl<F: Flash> Layer<F> {
         ensures during { EachFlashCase (IsStill (F.medium self.old.flash).state) (F.medium self.old.flash) (F.medium self.new.flash) }
         ensures time { IsTrue F.told → FlashElapses (F.medium self.old.flash) (F.medium self.new.flash) }
         ensures own { self.new.own ≡ self.old.own }
-        ensures cause { HasCause ((F.medium self.old.flash).faults + self.old.own) ((F.medium self.new.flash).faults + self.new.own) result }
-        ensures disputed { self.new.state.disputed ≡ self.old.state.disputed }
+        ensures accounts { Accounts F.medium 0 self.old self.new result }
     {
         let Some(place) = self.state.unsure else {
             return Ok(());
@@ -60,11 +59,8 @@ impl<F: Flash> Layer<F> {
         ensures next { IfOk result (λ sequence. (sequence ≡ self.old.state.sequence + 1)
             × (self.new ≡ record self.old { state = record self.old.state { sequence = sequence } })) }
         ensures none { OnErr result (self.new.state ≡ self.old.state) }
-        ensures cause { HasCause ((F.medium self.old.flash).faults + self.old.own) ((F.medium self.new.flash).faults + self.new.own) result }
+        ensures accounts { Accounts F.medium 1 self.old self.new result }
         ensures last { OnErr result (self.old.state.sequence ≡ 18446744073709551615) }
-        ensures kept { OnOk result (self.new.own ≡ self.old.own) }
-        ensures one { self.new.own ≤ self.old.own + 1 }
-        ensures no_less { self.old.own ≤ self.new.own }
     {
         if self.state.sequence == u64::MAX {
             return Err(self.fault());
@@ -93,15 +89,9 @@ impl<F: Flash> Layer<F> {
         ensures does { IsTrue F.told → Does (LeavesPut file (256 * page) bytes.now len (F.medium self.old.flash))
             (F.medium self.old.flash) (F.medium self.new.flash) }
         ensures rises { OnOk result (self.old.state.sequence < self.new.state.sequence) }
-        ensures later { self.old.state.sequence ≤ self.new.state.sequence }
         ensures time { IsTrue F.told → FlashElapses (F.medium self.old.flash) (F.medium self.new.flash) }
-        ensures cause { HasCause ((F.medium self.old.flash).faults + self.old.own) ((F.medium self.new.flash).faults + self.new.own) result }
+        ensures accounts { Accounts F.medium 1 self.old self.new result }
         ensures own { IsTrue F.told → (self.new.own ≡ self.old.own) ⊎ StopsAdding self.new.state }
-        ensures kept { OnOk result (self.new.own ≡ self.old.own) }
-        ensures one { self.new.own ≤ self.old.own + 1 }
-        ensures no_less { self.old.own ≤ self.new.own }
-        ensures disputed { self.new.state.disputed ≡ self.old.state.disputed }
-        ensures steps { self.new.state.sequence ≤ self.old.state.sequence + 1 }
         ensures entries { IsTrue F.told → OnOk result (Occupies self.old.state.table self.new.state.table (record { file = file; page = page })) }
         ensures calm { IsTrue F.told → OnOk result (IsFalse self.old.state.disputed) }
     {
@@ -125,15 +115,9 @@ impl<F: Flash> Layer<F> {
         ensures does { IsTrue F.told → Does (LeavesPut file (256 * page) bytes.now len (F.medium self.old.flash))
             (F.medium self.old.flash) (F.medium self.new.flash) }
         ensures rises { OnOk result (self.old.state.sequence < self.new.state.sequence) }
-        ensures later { self.old.state.sequence ≤ self.new.state.sequence }
         ensures time { IsTrue F.told → FlashElapses (F.medium self.old.flash) (F.medium self.new.flash) }
-        ensures cause { HasCause ((F.medium self.old.flash).faults + self.old.own) ((F.medium self.new.flash).faults + self.new.own) result }
+        ensures accounts { Accounts F.medium 1 self.old self.new result }
         ensures own { IsTrue F.told → (self.new.own ≡ self.old.own) ⊎ (self.new.state.sequence ≡ 18446744073709551615) }
-        ensures kept { OnOk result (self.new.own ≡ self.old.own) }
-        ensures one { self.new.own ≤ self.old.own + 1 }
-        ensures no_less { self.old.own ≤ self.new.own }
-        ensures disputed { self.new.state.disputed ≡ self.old.state.disputed }
-        ensures steps { self.new.state.sequence ≤ self.old.state.sequence + 1 }
         ensures entries { IsTrue F.told → OnOk result (Occupies self.old.state.table self.new.state.table (record { file = file; page = page })) }
         ensures calm { IsTrue F.told → OnOk result (IsFalse self.old.state.disputed) }
     {
@@ -198,12 +182,8 @@ impl<F: Flash> Layer<F> {
         ensures shown { IsTrue F.told → OnOk result (ShowsSame (F.medium self.old.flash) (F.medium self.new.flash)) }
         ensures sequence { self.new.state.sequence ≡ self.old.state.sequence }
         ensures time { IsTrue F.told → FlashElapses (F.medium self.old.flash) (F.medium self.new.flash) }
-        ensures cause { HasCause ((F.medium self.old.flash).faults + self.old.own) ((F.medium self.new.flash).faults + self.new.own) result }
+        ensures accounts { Accounts F.medium 0 self.old self.new result }
         ensures own { IsTrue F.told → IsFalse self.old.state.disputed → self.new.own ≡ self.old.own }
-        ensures kept { OnOk result (self.new.own ≡ self.old.own) }
-        ensures one { self.new.own ≤ self.old.own + 1 }
-        ensures no_less { self.old.own ≤ self.new.own }
-        ensures disputed { self.new.state.disputed ≡ self.old.state.disputed }
         ensures entries { IsTrue F.told → OnOk result (SameEntries self.old.state.table self.new.state.table) }
     {
         if self.state.fill < BLOCK_PAGES {
@@ -230,13 +210,9 @@ impl<F: Flash> Layer<F> {
         ensures shown { IsTrue F.told → OnOk result (ShowsSame (F.medium self.old.flash) (F.medium self.new.flash)) }
         ensures sequence { self.new.state.sequence ≡ self.old.state.sequence }
         ensures time { IsTrue F.told → FlashElapses (F.medium self.old.flash) (F.medium self.new.flash) }
-        ensures cause { HasCause ((F.medium self.old.flash).faults + self.old.own) ((F.medium self.new.flash).faults + self.new.own) result }
+        ensures accounts { Accounts F.medium 0 self.old self.new result }
         ensures light { IsTrue F.told → OnOk result (self.new.state.fill < 64) }
         ensures own { IsTrue F.told → IsFalse self.old.state.disputed → self.new.own ≡ self.old.own }
-        ensures kept { OnOk result (self.new.own ≡ self.old.own) }
-        ensures one { self.new.own ≤ self.old.own + 1 }
-        ensures no_less { self.old.own ≤ self.new.own }
-        ensures disputed { self.new.state.disputed ≡ self.old.state.disputed }
         ensures entries { IsTrue F.told → OnOk result (SameEntries self.old.state.table self.new.state.table) }
     {
         let target = self.state.spare;
@@ -266,12 +242,9 @@ impl<F: Flash> Layer<F> {
         ensures does { IsTrue F.told → Does (StandsFor (F.medium self.old.flash))
             (F.medium self.old.flash) (F.medium self.new.flash) }
         ensures time { IsTrue F.told → FlashElapses (F.medium self.old.flash) (F.medium self.new.flash) }
-        ensures cause { HasCause ((F.medium self.old.flash).faults + self.old.own) ((F.medium self.new.flash).faults + self.new.own) result }
+        ensures accounts { Accounts F.medium 0 self.old self.new result }
         ensures few { vec_len self.new.state.moved ≤ entries_in self.old.state.table from }
         ensures own { IsTrue F.told → self.new.own ≡ self.old.own }
-        ensures kept { OnOk result (self.new.own ≡ self.old.own) }
-        ensures one { self.new.own ≤ self.old.own + 1 }
-        ensures no_less { self.old.own ≤ self.new.own }
     {
         for page in 0..BLOCK_PAGES {
             self.copy_one(Place { block: from, page }, to)?;
@@ -294,13 +267,10 @@ impl<F: Flash> Layer<F> {
         ensures does { IsTrue F.told → Does (StandsFor (F.medium self.old.flash))
             (F.medium self.old.flash) (F.medium self.new.flash) }
         ensures time { IsTrue F.told → FlashElapses (F.medium self.old.flash) (F.medium self.new.flash) }
-        ensures cause { HasCause ((F.medium self.old.flash).faults + self.old.own) ((F.medium self.new.flash).faults + self.new.own) result }
+        ensures accounts { Accounts F.medium 0 self.old self.new result }
         ensures few { vec_len self.old.state.moved ≤ copied_below self.old.state.table from.block from.page
             → vec_len self.new.state.moved ≤ copied_below self.old.state.table from.block (from.page + 1) }
         ensures own { IsTrue F.told → self.new.own ≡ self.old.own }
-        ensures kept { OnOk result (self.new.own ≡ self.old.own) }
-        ensures one { self.new.own ≤ self.old.own + 1 }
-        ensures no_less { self.old.own ≤ self.new.own }
     {
         let mut page = BLANK_PAGE;
         self.read_page(from, &mut page)?;

@@ -1,10 +1,12 @@
 //! What lies between the files of a disk and the pages of its flash, and the calls of the flash that it makes.
 
 ghost use Rattle.std.specs.Prelude.{◌≡◌, ◌⊎◌, ◌↔◌, ◌≤◌, ◌<◌, ◌+◌, IsTrue, IsFalse, OnOk, OnErr};
-ghost use Rattle.per_base.specs.Causes.{HasCause, Rose};
+ghost use Rattle.per_base.specs.Causes.{CountsFaults, Rose};
 ghost use Rattle.flash_model.specs.Pages.{blank_page};
 ghost use Rattle.flash_model.specs.State.{IsStill, ProgramCase, EraseCase, FailsToProgram, FailsToErase, programmed, erased};
 ghost use Rattle.flash_model.specs.FlashMedium.{FlashElapses, EachFlashCase};
+ghost use Rattle.flash_disk.specs.Accounts.{Accounts};
+ghost use Rattle.flash_disk.specs.Looks.{Looks};
 
 use crate::table::{FilePage, Newest, Place, Table};
 use disk_model::DiskFailed;
@@ -61,15 +63,14 @@ impl<F: Flash> Layer<F> {
     ) -> Result<(), DiskFailed>
         ensures bytes { IsTrue F.told → OnOk result (place.block < (F.medium self.old.flash).blocks → place.page < 64
             → out.new ≡ (F.medium self.old.flash).state.pages place.block place.page) }
-        ensures unchanged { IsTrue F.told → (F.medium self.new.flash).state ≡ (F.medium self.old.flash).state }
+        ensures looks { Looks F.told (F.medium self.old.flash) (F.medium self.new.flash) }
         ensures during { EachFlashCase (IsStill (F.medium self.old.flash).state) (F.medium self.old.flash) (F.medium self.new.flash) }
-        ensures time { IsTrue F.told → FlashElapses (F.medium self.old.flash) (F.medium self.new.flash) }
-        ensures flash { HasCause (F.medium self.old.flash).faults (F.medium self.new.flash).faults result }
+        ensures flash { CountsFaults (F.medium self.old.flash).faults (F.medium self.new.flash).faults result }
         ensures pages { IsTrue F.told → (F.medium self.new.flash).state.pages ≡ (F.medium self.old.flash).state.pages }
         ensures blocks { (F.medium self.new.flash).blocks ≡ (F.medium self.old.flash).blocks }
         ensures state { self.new.state ≡ self.old.state }
         ensures own { self.new.own ≡ self.old.own }
-        ensures cause { HasCause ((F.medium self.old.flash).faults + self.old.own) ((F.medium self.new.flash).faults + self.new.own) result }
+        ensures accounts { Accounts F.medium 0 self.old self.new result }
     {
         if !self.has(place) {
             *out = BLANK_PAGE;
@@ -98,10 +99,7 @@ impl<F: Flash> Layer<F> {
         ensures time { IsTrue F.told → FlashElapses (F.medium self.old.flash) (F.medium self.new.flash) }
         ensures state { self.new.state ≡ self.old.state }
         ensures own { IsTrue F.told → self.new.own ≡ self.old.own }
-        ensures kept { OnOk result (self.new.own ≡ self.old.own) }
-        ensures one { self.new.own ≤ self.old.own + 1 }
-        ensures no_less { self.old.own ≤ self.new.own }
-        ensures cause { HasCause ((F.medium self.old.flash).faults + self.old.own) ((F.medium self.new.flash).faults + self.new.own) result }
+        ensures accounts { Accounts F.medium 0 self.old self.new result }
     {
         if !self.has(place) {
             return Err(self.fault());
@@ -123,10 +121,7 @@ impl<F: Flash> Layer<F> {
         ensures time { IsTrue F.told → FlashElapses (F.medium self.old.flash) (F.medium self.new.flash) }
         ensures state { self.new.state ≡ self.old.state }
         ensures own { IsTrue F.told → self.new.own ≡ self.old.own }
-        ensures kept { OnOk result (self.new.own ≡ self.old.own) }
-        ensures one { self.new.own ≤ self.old.own + 1 }
-        ensures no_less { self.old.own ≤ self.new.own }
-        ensures cause { HasCause ((F.medium self.old.flash).faults + self.old.own) ((F.medium self.new.flash).faults + self.new.own) result }
+        ensures accounts { Accounts F.medium 0 self.old self.new result }
     {
         if block >= self.flash.blocks() {
             return Err(self.fault());

@@ -8,7 +8,7 @@ ghost use Rattle.flash_disk.specs.Known.{known, limit_of, page_len, page_of, IsE
 ghost use Rattle.flash_disk.specs.Counted.{IsCounted};
 ghost use Rattle.flash_disk.specs.Learnt.{number, HasLearnt, LearnsNext, LearnsAll, SaysTheSame, TwinAt, RivalledAt, IsTop, LeavesBlock};
 ghost use Rattle.flash_model.specs.State.{settle_pages};
-ghost use Rattle.per_base.specs.Causes.{HasCause, Rose};
+ghost use Rattle.per_base.specs.Causes.{CountsFaults, Rose};
 
 use crate::disk::{FlashDisk, FlashOpenError, FlashRefused};
 use crate::layer::{Layer, LayerState};
@@ -19,7 +19,7 @@ use flash_record::{Record, read_record};
 use std::alloc::{AllocError, Global};
 
 impl<F: Flash> FlashDisk<F> {
-    ghost use Rattle.flash_disk.specs.FlashDiskMedium.{flash_disk_medium};
+    ghost use Rattle.flash_disk.specs.FlashDiskMedium.{disk_seen, Begins};
     ghost use Rattle.flash_disk.specs.Looks.{Looks, Opens};
     ghost use Rattle.flash_disk.specs.Throughout.{KeepsUsable, KeepsAgreed};
     ghost use Rattle.disk_model.specs.Medium.{Quiet};
@@ -32,8 +32,8 @@ impl<F: Flash> FlashDisk<F> {
         ensures device { IfErr result (λ refused. refused.error ≡ FlashOpenError.Device
             → Rose (F.medium flash).faults (F.medium refused.flash).faults) }
 
-        // No count falls, and the disk's begins at that of its flash.
-        ensures faults { MatchResult result (λ disk. (F.medium flash).faults ≤ (F.medium disk.flash).faults)
+        // No count falls, and the disk's begins at that of its flash, which rose nowhere.
+        ensures faults { MatchResult result (λ disk. (F.medium disk.flash).faults ≡ (F.medium flash).faults)
             (λ refused. (F.medium flash).faults ≤ (F.medium refused.flash).faults) }
 
         // A flash that opens is usable; one that is refused as unusable is not.
@@ -49,7 +49,8 @@ impl<F: Flash> FlashDisk<F> {
         ensures own { IfOk result (λ disk. (disk.own ≡ 0) × (disk.written ≡ 0)) }
         ensures sequence { IsTrue F.told → IfOk result (λ disk. IsTop (F.medium flash).state.pages (places (F.medium flash).blocks) disk.sequence) }
         ensures settled { IsTrue F.told → IfOk result (λ disk. (F.medium disk.flash).state ≡ settle_pages (F.medium flash).state) }
-        ensures quiet { IfOk result (λ disk. Quiet (flash_disk_medium F.told (F.medium disk.flash) disk.own disk.written)) }
+        ensures quiet { IfOk result (λ disk. Quiet (disk_seen F.told F.medium disk)) }
+        ensures begins { IfOk result (λ disk. Begins F.told (F.medium flash) (disk_seen F.told F.medium disk)) }
         ensures opens { MatchResult result (λ disk. Opens F.told (F.medium flash) (F.medium disk.flash))
             (λ refused. Looks F.told (F.medium flash) (F.medium refused.flash)) }
         ensures returned { IsTrue F.told → IfErr result (λ refused. (F.medium refused.flash).state ≡ (F.medium flash).state) }
@@ -125,7 +126,7 @@ impl<F: Flash> Layer<F> {
         requires counted { IsCounted blocks self.old.state.table }
         requires moved { 64 ≤ vec_capacity self.old.state.moved }
         requires sequence { self.old.state.sequence ≡ 0 }
-        ensures flash { HasCause (F.medium self.old.flash).faults (F.medium self.new.flash).faults result }
+        ensures flash { CountsFaults (F.medium self.old.flash).faults (F.medium self.new.flash).faults result }
         ensures pages { IsTrue F.told → (F.medium self.new.flash).state.pages ≡ (F.medium self.old.flash).state.pages }
         ensures blocks { (F.medium self.new.flash).blocks ≡ (F.medium self.old.flash).blocks }
         ensures opens { Opens F.told (F.medium self.old.flash) (F.medium self.new.flash) }
@@ -161,7 +162,7 @@ impl<F: Flash> Layer<F> {
     fn learn_blocks(&mut self, blocks: u32) -> Result<bool, DiskFailed>
         requires blocks { blocks ≡ (F.medium self.old.flash).blocks }
         requires empty { IsEmptyTable self.old.state.table }
-        ensures flash { HasCause (F.medium self.old.flash).faults (F.medium self.new.flash).faults result }
+        ensures flash { CountsFaults (F.medium self.old.flash).faults (F.medium self.new.flash).faults result }
         ensures pages { IsTrue F.told → (F.medium self.new.flash).state.pages ≡ (F.medium self.old.flash).state.pages }
         ensures blocks { (F.medium self.new.flash).blocks ≡ (F.medium self.old.flash).blocks }
         ensures looks { Looks F.told (F.medium self.old.flash) (F.medium self.new.flash) }
@@ -187,7 +188,7 @@ impl<F: Flash> Layer<F> {
     // Learns what one block holds; `false` where there is no room for it.
     fn learn_block(&mut self, block: u32) -> Result<bool, DiskFailed>
         requires { block < (F.medium self.old.flash).blocks }
-        ensures flash { HasCause (F.medium self.old.flash).faults (F.medium self.new.flash).faults result }
+        ensures flash { CountsFaults (F.medium self.old.flash).faults (F.medium self.new.flash).faults result }
         ensures pages { IsTrue F.told → (F.medium self.new.flash).state.pages ≡ (F.medium self.old.flash).state.pages }
         ensures blocks { (F.medium self.new.flash).blocks ≡ (F.medium self.old.flash).blocks }
         ensures looks { Looks F.told (F.medium self.old.flash) (F.medium self.new.flash) }
@@ -213,7 +214,7 @@ impl<F: Flash> Layer<F> {
     // Finds a block that is spare; `false` where there is none.
     fn find_spare(&mut self, blocks: u32) -> Result<bool, DiskFailed>
         requires blocks { blocks ≡ (F.medium self.old.flash).blocks }
-        ensures flash { HasCause (F.medium self.old.flash).faults (F.medium self.new.flash).faults result }
+        ensures flash { CountsFaults (F.medium self.old.flash).faults (F.medium self.new.flash).faults result }
         ensures pages { IsTrue F.told → (F.medium self.new.flash).state.pages ≡ (F.medium self.old.flash).state.pages }
         ensures blocks { (F.medium self.new.flash).blocks ≡ (F.medium self.old.flash).blocks }
         ensures looks { Looks F.told (F.medium self.old.flash) (F.medium self.new.flash) }
@@ -235,7 +236,7 @@ impl<F: Flash> Layer<F> {
 
     // Leads from the newest records in the spare block to the equal ones in other blocks.
     fn leave_spare(&mut self) -> Result<(), DiskFailed>
-        ensures flash { HasCause (F.medium self.old.flash).faults (F.medium self.new.flash).faults result }
+        ensures flash { CountsFaults (F.medium self.old.flash).faults (F.medium self.new.flash).faults result }
         ensures pages { IsTrue F.told → (F.medium self.new.flash).state.pages ≡ (F.medium self.old.flash).state.pages }
         ensures blocks { (F.medium self.new.flash).blocks ≡ (F.medium self.old.flash).blocks }
         ensures looks { Looks F.told (F.medium self.old.flash) (F.medium self.new.flash) }
@@ -261,7 +262,7 @@ impl<F: Flash> Layer<F> {
 
     // Leads from the record in a page, if it is a newest one, to the equal one in another block.
     fn leave_page(&mut self, place: Place) -> Result<(), DiskFailed>
-        ensures flash { HasCause (F.medium self.old.flash).faults (F.medium self.new.flash).faults result }
+        ensures flash { CountsFaults (F.medium self.old.flash).faults (F.medium self.new.flash).faults result }
         ensures pages { IsTrue F.told → (F.medium self.new.flash).state.pages ≡ (F.medium self.old.flash).state.pages }
         ensures blocks { (F.medium self.new.flash).blocks ≡ (F.medium self.old.flash).blocks }
         ensures looks { Looks F.told (F.medium self.old.flash) (F.medium self.new.flash) }
@@ -297,7 +298,7 @@ impl<F: Flash> Layer<F> {
     // Whether a block has no record that is needed.
     fn is_spare(&mut self, block: u32) -> Result<bool, DiskFailed>
         requires { block < (F.medium self.old.flash).blocks }
-        ensures flash { HasCause (F.medium self.old.flash).faults (F.medium self.new.flash).faults result }
+        ensures flash { CountsFaults (F.medium self.old.flash).faults (F.medium self.new.flash).faults result }
         ensures pages { IsTrue F.told → (F.medium self.new.flash).state.pages ≡ (F.medium self.old.flash).state.pages }
         ensures blocks { (F.medium self.new.flash).blocks ≡ (F.medium self.old.flash).blocks }
         ensures looks { Looks F.told (F.medium self.old.flash) (F.medium self.new.flash) }
@@ -320,7 +321,7 @@ impl<F: Flash> Layer<F> {
     fn is_needed(&mut self, place: Place) -> Result<bool, DiskFailed>
         requires block { place.block < (F.medium self.old.flash).blocks }
         requires page { place.page < 64 }
-        ensures flash { HasCause (F.medium self.old.flash).faults (F.medium self.new.flash).faults result }
+        ensures flash { CountsFaults (F.medium self.old.flash).faults (F.medium self.new.flash).faults result }
         ensures pages { IsTrue F.told → (F.medium self.new.flash).state.pages ≡ (F.medium self.old.flash).state.pages }
         ensures blocks { (F.medium self.new.flash).blocks ≡ (F.medium self.old.flash).blocks }
         ensures looks { Looks F.told (F.medium self.old.flash) (F.medium self.new.flash) }
@@ -353,7 +354,7 @@ impl<F: Flash> Layer<F> {
     fn learn_page(&mut self, place: Place) -> Result<bool, DiskFailed>
         requires block { place.block < (F.medium self.old.flash).blocks }
         requires page { place.page < 64 }
-        ensures flash { HasCause (F.medium self.old.flash).faults (F.medium self.new.flash).faults result }
+        ensures flash { CountsFaults (F.medium self.old.flash).faults (F.medium self.new.flash).faults result }
         ensures pages { IsTrue F.told → (F.medium self.new.flash).state.pages ≡ (F.medium self.old.flash).state.pages }
         ensures blocks { (F.medium self.new.flash).blocks ≡ (F.medium self.old.flash).blocks }
         ensures looks { Looks F.told (F.medium self.old.flash) (F.medium self.new.flash) }
@@ -374,20 +375,43 @@ impl<F: Flash> Layer<F> {
             return Ok(true);
         };
         self.state.sequence = self.state.sequence.max(record.sequence);
+        self.learn_record(place, record)
+    }
+
+    // Learns of a record that was found in this place; `false` where there is no room for it.
+    fn learn_record(&mut self, place: Place, found: Record<'_>) -> Result<bool, DiskFailed>
+        requires block { place.block < (F.medium self.old.flash).blocks }
+        requires page { place.page < 64 }
+        requires long { length found.bytes.now ≡ 256 }
+        ensures flash { CountsFaults (F.medium self.old.flash).faults (F.medium self.new.flash).faults result }
+        ensures pages { IsTrue F.told → (F.medium self.new.flash).state.pages ≡ (F.medium self.old.flash).state.pages }
+        ensures blocks { (F.medium self.new.flash).blocks ≡ (F.medium self.old.flash).blocks }
+        ensures looks { Looks F.told (F.medium self.old.flash) (F.medium self.new.flash) }
+        ensures own { self.new.own ≡ self.old.own }
+        ensures fill { SameFill self.old.state self.new.state }
+        ensures sequence { self.new.state.sequence ≡ self.old.state.sequence }
+        ensures limit { limit_of self.new.state.table ≡ limit_of self.old.state.table }
+        ensures lens { self.new.state.table.lens ≡ self.old.state.table.lens }
+        ensures learns { IsTrue F.told → HasLearnt (F.medium self.old.flash).state.pages (number place) self.old.state.table
+            → record_at (F.medium self.old.flash).state.pages (number place) ≡ Some (stated found.entry)
+            → IfOk result (LearnsNext (F.medium self.old.flash).state.pages (number place + 1) self.old.state.table self.new.state.table) }
+        ensures counted { IsCounted (F.medium self.old.flash).blocks self.old.state.table
+            → IsCounted (F.medium self.old.flash).blocks self.new.state.table }
+    {
         let key = FilePage {
-            file: record.file,
-            page: record.page as u64,
+            file: found.file,
+            page: found.page as u64,
         };
         let Some(old) = self.state.table.find(key) else {
-            return Ok(self.state.table.put(key, newest_at(place, record)));
+            return Ok(self.state.table.put(key, newest_at(place, found)));
         };
-        if old.sequence < record.sequence {
-            return Ok(self.state.table.put(key, newest_at(place, record)));
+        if old.sequence < found.sequence {
+            return Ok(self.state.table.put(key, newest_at(place, found)));
         }
-        if old.sequence > record.sequence {
+        if old.sequence > found.sequence {
             return Ok(true);
         }
-        self.learn_equal(key, old, place, record)
+        self.learn_equal(key, old, place, found)
     }
 
     // Learns of a record with the number of an earlier one, which stays the newest.
@@ -403,7 +427,7 @@ impl<F: Flash> Layer<F> {
         requires key { key ≡ page_of (stated found) }
         requires old { known self.old.state.table key ≡ Some old }
         requires sequence { old.sequence ≡ found.sequence }
-        ensures flash { HasCause (F.medium self.old.flash).faults (F.medium self.new.flash).faults result }
+        ensures flash { CountsFaults (F.medium self.old.flash).faults (F.medium self.new.flash).faults result }
         ensures pages { IsTrue F.told → (F.medium self.new.flash).state.pages ≡ (F.medium self.old.flash).state.pages }
         ensures blocks { (F.medium self.new.flash).blocks ≡ (F.medium self.old.flash).blocks }
         ensures looks { Looks F.told (F.medium self.old.flash) (F.medium self.new.flash) }

@@ -1,7 +1,8 @@
 //! Reads and writes of the bytes of files, page by page.
 
 ghost use Rattle.std.specs.Prelude.{◌≡◌, ◌⊎◌, ◌↔◌, ◌+◌, ◌-◌, ◌*◌, ◌/◌, ◌≤◌, ◌<◌, ◌^◌, ℕ, IsTrue, IsFalse, IfOk, OnOk, OnErr, None, length, min, max, take, drop, nat_lt, slice_index, if◌then◌else◌};
-ghost use Rattle.per_base.specs.Causes.{HasCause};
+ghost use Rattle.flash_disk.specs.Accounts.{Accounts};
+ghost use Rattle.flash_disk.specs.Looks.{Looks};
 ghost use Rattle.disk_model.specs.Image.{put_image};
 ghost use Rattle.flash_model.specs.State.{IsStill};
 ghost use Rattle.flash_model.specs.FlashMedium.{FlashElapses, EachFlashCase};
@@ -38,13 +39,11 @@ impl<F: Flash> Layer<F> {
     fn content(&mut self, key: FilePage) -> Result<[u8; RECORD_BYTES], DiskFailed>
         ensures bytes { IsTrue F.told → Knows (F.medium self.old.flash).state.pages (places (F.medium self.old.flash).blocks) self.old.state.table
             → IfOk result (IsContent (F.medium self.old.flash).state.pages (places (F.medium self.old.flash).blocks) key) }
-        ensures unchanged { IsTrue F.told → (F.medium self.new.flash).state ≡ (F.medium self.old.flash).state }
-        ensures during { IsTrue F.told → EachFlashCase (IsStill (F.medium self.old.flash).state) (F.medium self.old.flash) (F.medium self.new.flash) }
-        ensures time { IsTrue F.told → FlashElapses (F.medium self.old.flash) (F.medium self.new.flash) }
+        ensures looks { Looks F.told (F.medium self.old.flash) (F.medium self.new.flash) }
         ensures blocks { (F.medium self.new.flash).blocks ≡ (F.medium self.old.flash).blocks }
         ensures state { self.new.state ≡ self.old.state }
         ensures own { self.new.own ≡ self.old.own }
-        ensures cause { HasCause ((F.medium self.old.flash).faults + self.old.own) ((F.medium self.new.flash).faults + self.new.own) result }
+        ensures accounts { Accounts F.medium 0 self.old self.new result }
     {
         let Some(newest) = self.state.table.find(key) else {
             return Ok(zeros());
@@ -80,15 +79,9 @@ impl<F: Flash> Layer<F> {
         ensures does { IsTrue F.told → Does (LeavesPut file (256 * page + from) bytes.now len (F.medium self.old.flash))
             (F.medium self.old.flash) (F.medium self.new.flash) }
         ensures rises { OnOk result (self.old.state.sequence < self.new.state.sequence) }
-        ensures later { self.old.state.sequence ≤ self.new.state.sequence }
         ensures time { IsTrue F.told → FlashElapses (F.medium self.old.flash) (F.medium self.new.flash) }
-        ensures cause { HasCause ((F.medium self.old.flash).faults + self.old.own) ((F.medium self.new.flash).faults + self.new.own) result }
+        ensures accounts { Accounts F.medium 1 self.old self.new result }
         ensures own { IsTrue F.told → (self.new.own ≡ self.old.own) ⊎ StopsAdding self.new.state }
-        ensures kept { OnOk result (self.new.own ≡ self.old.own) }
-        ensures one { self.new.own ≤ self.old.own + 1 }
-        ensures no_less { self.old.own ≤ self.new.own }
-        ensures disputed { self.new.state.disputed ≡ self.old.state.disputed }
-        ensures steps { self.new.state.sequence ≤ self.old.state.sequence + 1 }
         ensures entries { IsTrue F.told → OnOk result (Occupies self.old.state.table self.new.state.table (record { file = file; page = page })) }
         ensures calm { IsTrue F.told → OnOk result (IsFalse self.old.state.disputed) }
     {
@@ -113,15 +106,9 @@ impl<F: Flash> Layer<F> {
         ensures failed { IsTrue F.told → OnErr result (Holds (F.medium self.new.flash) self.new.state) }
         ensures does { IsTrue F.told → Does (StandsFor (F.medium self.old.flash))
             (F.medium self.old.flash) (F.medium self.new.flash) }
-        ensures later { self.old.state.sequence ≤ self.new.state.sequence }
         ensures time { IsTrue F.told → FlashElapses (F.medium self.old.flash) (F.medium self.new.flash) }
-        ensures cause { HasCause ((F.medium self.old.flash).faults + self.old.own) ((F.medium self.new.flash).faults + self.new.own) result }
+        ensures accounts { Accounts F.medium (div_ceil until 256) self.old self.new result }
         ensures own { IsTrue F.told → (self.new.own ≡ self.old.own) ⊎ StopsAdding self.new.state }
-        ensures kept { OnOk result (self.new.own ≡ self.old.own) }
-        ensures one { self.new.own ≤ self.old.own + 1 }
-        ensures no_less { self.old.own ≤ self.new.own }
-        ensures disputed { self.new.state.disputed ≡ self.old.state.disputed }
-        ensures steps { self.new.state.sequence ≤ self.old.state.sequence + div_ceil until 256 }
         ensures entries { IsTrue F.told → OnOk result (SameEntries self.old.state.table self.new.state.table) }
     {
         let len = self.state.table.len_of(file);
@@ -146,15 +133,9 @@ impl<F: Flash> Layer<F> {
         ensures failed { IsTrue F.told → OnErr result (Holds (F.medium self.new.flash) self.new.state) }
         ensures does { IsTrue F.told → Does (StandsFor (F.medium self.old.flash))
             (F.medium self.old.flash) (F.medium self.new.flash) }
-        ensures later { self.old.state.sequence ≤ self.new.state.sequence }
         ensures time { IsTrue F.told → FlashElapses (F.medium self.old.flash) (F.medium self.new.flash) }
-        ensures cause { HasCause ((F.medium self.old.flash).faults + self.old.own) ((F.medium self.new.flash).faults + self.new.own) result }
+        ensures accounts { Accounts F.medium 1 self.old self.new result }
         ensures own { IsTrue F.told → (self.new.own ≡ self.old.own) ⊎ StopsAdding self.new.state }
-        ensures kept { OnOk result (self.new.own ≡ self.old.own) }
-        ensures one { self.new.own ≤ self.old.own + 1 }
-        ensures no_less { self.old.own ≤ self.new.own }
-        ensures disputed { self.new.state.disputed ≡ self.old.state.disputed }
-        ensures steps { self.new.state.sequence ≤ self.old.state.sequence + 1 }
         ensures entries { IsTrue F.told → OnOk result (SameEntries self.old.state.table self.new.state.table) }
     {
         let key = FilePage {
@@ -205,15 +186,9 @@ impl<F: Flash> Layer<F> {
         ensures does { IsTrue F.told → Does (LeavesTorn file at (length bytes.now) (F.medium self.old.flash))
             (F.medium self.old.flash) (F.medium self.new.flash) }
         ensures rises { OnOk result (length bytes.now + 256 * self.old.state.sequence ≤ 256 * self.new.state.sequence) }
-        ensures later { self.old.state.sequence ≤ self.new.state.sequence }
         ensures time { IsTrue F.told → FlashElapses (F.medium self.old.flash) (F.medium self.new.flash) }
-        ensures cause { HasCause ((F.medium self.old.flash).faults + self.old.own) ((F.medium self.new.flash).faults + self.new.own) result }
+        ensures accounts { Accounts F.medium (length bytes.now) self.old self.new result }
         ensures own { IsTrue F.told → (self.new.own ≡ self.old.own) ⊎ StopsAdding self.new.state }
-        ensures kept { OnOk result (self.new.own ≡ self.old.own) }
-        ensures one { self.new.own ≤ self.old.own + 1 }
-        ensures no_less { self.old.own ≤ self.new.own }
-        ensures disputed { self.new.state.disputed ≡ self.old.state.disputed }
-        ensures steps { self.new.state.sequence ≤ self.old.state.sequence + length bytes.now }
         ensures calm { IsTrue F.told → OnOk result (0 < length bytes.now → IsFalse self.old.state.disputed) }
         ensures takes { IsTrue F.told → OnOk result (page_len self.new.state.table
             ≤ page_len self.old.state.table + missing self.old.state.table file (at / 256) (div_ceil (at + length bytes.now) 256 - at / 256)) }
@@ -243,18 +218,12 @@ impl<F: Flash> Layer<F> {
         ensures holds { IsTrue F.told → Holds (F.medium self.new.flash) self.new.state }
         ensures put { IsTrue F.told → OnOk result (files_of (F.medium self.new.flash) ≡ put_image (files_of (F.medium self.old.flash)) file at bytes.now) }
         ensures rises { OnOk result (length bytes.now + 256 * self.old.state.sequence ≤ 256 * self.new.state.sequence) }
-        ensures later { self.old.state.sequence ≤ self.new.state.sequence }
         ensures writes { IsTrue F.told → WritesInto file at bytes.now (F.medium self.old.flash) (F.medium self.new.flash) }
         ensures announced { IsTrue F.told → OnOk result ((F.medium self.new.flash).state.announced ≡ with_write (F.medium self.old.flash).state file at bytes.now) }
         ensures time { IsTrue F.told → FlashElapses (F.medium self.old.flash) (F.medium self.new.flash) }
-        ensures cause { HasCause ((F.medium self.old.flash).faults + self.old.own) ((F.medium self.new.flash).faults + self.new.own) result }
+        ensures accounts { Accounts F.medium (length bytes.now + div_ceil (at + length bytes.now) 256) self.old self.new result }
         ensures own { IsTrue F.told → (self.new.own ≡ self.old.own) ⊎ (EndsTooLate at (length bytes.now)
             ⊎ (WantsTooMany (F.medium self.old.flash) file at (length bytes.now) ⊎ StopsAdding self.new.state)) }
-        ensures kept { OnOk result (self.new.own ≡ self.old.own) }
-        ensures one { self.new.own ≤ self.old.own + 1 }
-        ensures no_less { self.old.own ≤ self.new.own }
-        ensures disputed { self.new.state.disputed ≡ self.old.state.disputed }
-        ensures steps { self.new.state.sequence ≤ self.old.state.sequence + length bytes.now + div_ceil (at + length bytes.now) 256 }
         ensures allowed { IsTrue F.told → OnOk result (IsAllowed (F.medium self.old.flash) file at (length bytes.now)) }
         ensures takes { IsTrue F.told → OnOk result (TakesPages (F.medium self.old.flash) (F.medium self.new.flash) file at (length bytes.now)) }
         ensures refused { IsTrue F.told → EndsTooLate at (length bytes.now) ⊎ WantsTooMany (F.medium self.old.flash) file at (length bytes.now)
@@ -267,6 +236,29 @@ impl<F: Flash> Layer<F> {
         if !self.has_room(file, at, end) {
             return Err(self.fault());
         }
+        self.write_within(file, at, bytes, end)
+    }
+
+    // Writes bytes that end within the greatest file and for whose pages there is room.
+    fn write_within(&mut self, file: u32, at: u64, bytes: &[u8], end: u64) -> Result<(), DiskFailed>
+        requires some { 0 < length bytes.now }
+        requires end { end ≡ at + length bytes.now }
+        requires least { end ≤ 1099511627776 }
+        requires sure { self.old.state.unsure ≡ None }
+        requires sound { IsTrue F.told → IsSound (F.medium self.old.flash) self.old.state }
+        requires room { missing self.old.state.table file (at / 256) (div_ceil end 256 - at / 256)
+            ≤ limit_of self.old.state.table - page_len self.old.state.table }
+        ensures holds { IsTrue F.told → Holds (F.medium self.new.flash) self.new.state }
+        ensures put { IsTrue F.told → OnOk result (files_of (F.medium self.new.flash) ≡ put_image (files_of (F.medium self.old.flash)) file at bytes.now) }
+        ensures rises { OnOk result (length bytes.now + 256 * self.old.state.sequence ≤ 256 * self.new.state.sequence) }
+        ensures writes { IsTrue F.told → WritesInto file at bytes.now (F.medium self.old.flash) (F.medium self.new.flash) }
+        ensures announced { IsTrue F.told → OnOk result ((F.medium self.new.flash).state.announced ≡ with_write (F.medium self.old.flash).state file at bytes.now) }
+        ensures time { IsTrue F.told → FlashElapses (F.medium self.old.flash) (F.medium self.new.flash) }
+        ensures accounts { Accounts F.medium (length bytes.now + div_ceil (at + length bytes.now) 256) self.old self.new result }
+        ensures own { IsTrue F.told → (self.new.own ≡ self.old.own) ⊎ StopsAdding self.new.state }
+        ensures allowed { IsTrue F.told → OnOk result (IsAllowed (F.medium self.old.flash) file at (length bytes.now)) }
+        ensures takes { IsTrue F.told → OnOk result (TakesPages (F.medium self.old.flash) (F.medium self.new.flash) file at (length bytes.now)) }
+    {
         if self.flash.announce(file, at, bytes).is_err() {
             return Err(DiskFailed);
         }
@@ -286,18 +278,26 @@ impl<F: Flash> Layer<F> {
         ensures bytes { IsTrue F.told → Knows (F.medium self.old.flash).state.pages (places (F.medium self.old.flash).blocks) self.old.state.table
             → IfOk result (λ n. (n ≡ min (length out.old) (length (flash_files (F.medium self.old.flash).state.pages (F.medium self.old.flash).blocks file) - at))
             × (take n out.new ≡ take n (drop at (flash_files (F.medium self.old.flash).state.pages (F.medium self.old.flash).blocks file)))) }
-        ensures unchanged { IsTrue F.told → (F.medium self.new.flash).state ≡ (F.medium self.old.flash).state }
-        ensures during { IsTrue F.told → EachFlashCase (IsStill (F.medium self.old.flash).state) (F.medium self.old.flash) (F.medium self.new.flash) }
-        ensures time { IsTrue F.told → FlashElapses (F.medium self.old.flash) (F.medium self.new.flash) }
+        ensures looks { Looks F.told (F.medium self.old.flash) (F.medium self.new.flash) }
         ensures blocks { (F.medium self.new.flash).blocks ≡ (F.medium self.old.flash).blocks }
         ensures state { self.new.state ≡ self.old.state }
         ensures own { self.new.own ≡ self.old.own }
-        ensures cause { HasCause ((F.medium self.old.flash).faults + self.old.own) ((F.medium self.new.flash).faults + self.new.own) result }
+        ensures accounts { Accounts F.medium 0 self.old self.new result }
     {
-        let len = self.file_size(file);
-        let count = len.saturating_sub(at).min(out.len() as u64) as usize;
+        let count = self.bytes_from(file, at, out.len());
         self.read_pages(file, at, &mut out[..count])?;
         Ok(count)
+    }
+
+    // How many bytes a file has from the byte `at` on, but at most so many.
+    fn bytes_from(&self, file: u32, at: u64, most: usize) -> usize
+        ensures few { result ≤ most }
+        ensures end { at + result < 2 ^ 64 }
+        ensures is { IsTrue F.told → Knows (F.medium self.now.flash).state.pages (places (F.medium self.now.flash).blocks) self.now.state.table
+            → result ≡ min most (length (flash_files (F.medium self.now.flash).state.pages (F.medium self.now.flash).blocks file) - at) }
+    {
+        let there = self.file_size(file).saturating_sub(at);
+        there.min(most as u64) as usize
     }
 
     // How many bytes a file has.
@@ -315,13 +315,11 @@ impl<F: Flash> Layer<F> {
             → OnOk result (at + length out.old ≤ file_len (F.medium self.old.flash).state.pages (places (F.medium self.old.flash).blocks) file
             → (k : ℕ) → k < length out.old
             → slice_index out.new k ≡ file_byte (F.medium self.old.flash).state.pages (places (F.medium self.old.flash).blocks) file (at + k)) }
-        ensures unchanged { IsTrue F.told → (F.medium self.new.flash).state ≡ (F.medium self.old.flash).state }
-        ensures during { IsTrue F.told → EachFlashCase (IsStill (F.medium self.old.flash).state) (F.medium self.old.flash) (F.medium self.new.flash) }
-        ensures time { IsTrue F.told → FlashElapses (F.medium self.old.flash) (F.medium self.new.flash) }
+        ensures looks { Looks F.told (F.medium self.old.flash) (F.medium self.new.flash) }
         ensures blocks { (F.medium self.new.flash).blocks ≡ (F.medium self.old.flash).blocks }
         ensures state { self.new.state ≡ self.old.state }
         ensures own { self.new.own ≡ self.old.own }
-        ensures cause { HasCause ((F.medium self.old.flash).faults + self.old.own) ((F.medium self.new.flash).faults + self.new.own) result }
+        ensures accounts { Accounts F.medium 0 self.old self.new result }
     {
         let mut done = 0;
         while done < out.len() {

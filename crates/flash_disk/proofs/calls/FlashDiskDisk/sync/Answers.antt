@@ -34,7 +34,7 @@ returns-in_err-make_sure-clause-time g c =
     let m1 = g.F.Flash.medium c.make_sure.new.self.flash in
     let e = c.make_sure.ensures in
     subst (λ v. Elapses (disk_seen told g.F.Flash.medium v) (flash_disk_medium told m1 c.make_sure.new.self.own c.self.inside.written)) c.self.view_is
-    (look_time told m0 m1 c.self.inside.layer.own c.make_sure.new.self.own c.self.inside.written c.self.inside.layer.state c.self.invariant.holds e.time e.cause.later
+    (look_time told m0 m1 c.self.inside.layer.own c.make_sure.new.self.own c.self.inside.written c.self.inside.layer.state c.self.invariant.holds e.time e.accounts.cause.later
     e.unchanged (λ t. e.during))
 
 pub returns-clause-time : goal.returns-clause-time
@@ -49,7 +49,7 @@ returns-clause-time g c =
     let later = n.time.faults in
     subst (λ v. Elapses (disk_seen told g.F.Flash.medium v) (flash_disk_medium told m2 own c.self.inside.written)) c.self.view_is
     (elapses_on
-    (look_time told m0 m1 c.self.inside.layer.own c.make_sure.new.self.own c.self.inside.written c.self.inside.layer.state c.self.invariant.holds e.time e.cause.later
+    (look_time told m0 m1 c.self.inside.layer.own c.make_sure.new.self.own c.self.inside.written c.self.inside.layer.state c.self.invariant.holds e.time e.accounts.cause.later
     e.unchanged (λ t. e.during))
     (settle_time told m1 m2 own own c.self.inside.written c.make_sure.new.self.state e.holds (λ t. n.time) (omega (arith, later))
     (λ t. settle_stays m1 m2 c.settle.result (n.state t) (n.failed t)) n.during))

@@ -1,4 +1,4 @@
-use Rattle.std.proofs.Common.{◌≡◌, Bool, ◌⊎◌, ◌<◌, length, inl, inr, ⊎_elim, subst, ◌∙◌, le_refl, arith}
+use Rattle.std.proofs.Common.{◌≡◌, Bool, ◌⊎◌, ◌<◌, ◌≤◌, ◌+◌, length, inl, inr, ⊎_elim, subst, ◌∙◌, le_refl, arith}
 use Rattle.disk_model.specs.Case.{Follows, WriteCase, WriteOrNot}
 use Rattle.disk_model.specs.Medium.{Medium, Elapses}
 use Rattle.disk_model.specs.Laws.{elapses_on}
@@ -10,8 +10,10 @@ use Rattle.flash_disk.proofs.DiskCases.{disk_rests, disk_write_nothing}
 use Rattle.flash_disk.proofs.DiskWrites.{write_during, write_now}
 use Rattle.flash_disk.proofs.Throughout.{holds_usable, look_usable, rest_usable, write_usable, usable_then, look_agreed, write_agreed, agreed_then}
 use Rattle.flash_disk.proofs.Times.{look_time, write_time}
-use Rattle.flash_disk.specs.OwnFaults.{FailsAlone}
-use Rattle.flash_disk.proofs.Failing.{fails_alone}
+use Rattle.flash_disk.specs.OwnFaults.{FailsAlone, IsAllowed, EndsTooLate, WantsTooMany, TakesPages}
+use Rattle.flash_disk.proofs.Failing.{fails_alone, allowed_before, takes_before, refused_before}
+use Rattle.flash_disk.proofs.Accounting.{accounts_on}
+use Rattle.std.specs.Int.{div_ceil}
 use Rattle.flash_disk.proofs.calls.FlashDiskDisk.write_at.Goals as goal
 
 abbrev medium_of : {F : Type 0} → Bool → (F → FlashMedium) → FlashView F → Medium
@@ -141,7 +143,7 @@ returns-in_err-write_file-clause-own g c told =
     (λ why. inr (
       some,
       fails_alone m0 m1 c.make_sure.new.self.state state c.args.file c.args.at n (c.make_sure.ensures.unchanged told) time.blocks
-          (c.in_ok-make_sure.ensures.sound told) c.write_file.ensures.disputed why,
+          (c.in_ok-make_sure.ensures.sound told) c.write_file.ensures.accounts.disputed why,
     ))
     (c.write_file.ensures.own told))
 
@@ -152,7 +154,7 @@ returns-in_err-make_sure-clause-time g c =
     let m1 = g.F.Flash.medium c.make_sure.new.self.flash in
     let e = c.make_sure.ensures in
     subst (λ v. Elapses (medium_of told g.F.Flash.medium v) (flash_disk_medium told m1 c.make_sure.new.self.own c.self.inside.written)) c.self.view_is
-    (look_time told m0 m1 c.self.inside.layer.own c.make_sure.new.self.own c.self.inside.written c.self.inside.layer.state c.self.invariant.holds e.time e.cause.later
+    (look_time told m0 m1 c.self.inside.layer.own c.make_sure.new.self.own c.self.inside.written c.self.inside.layer.state c.self.invariant.holds e.time e.accounts.cause.later
     e.unchanged (λ t. e.during))
 
 pub returns-in_err-write_file-clause-time : goal.returns-in_err-write_file-clause-time
@@ -165,9 +167,9 @@ returns-in_err-write_file-clause-time g c =
     let w = c.write_file.ensures in
     subst (λ v. Elapses (medium_of told g.F.Flash.medium v) (flash_disk_medium told m2 c.write_file.new.self.own c.self.inside.written)) c.self.view_is
     (elapses_on
-    (look_time told m0 m1 c.self.inside.layer.own c.make_sure.new.self.own c.self.inside.written c.self.inside.layer.state c.self.invariant.holds e.time e.cause.later
+    (look_time told m0 m1 c.self.inside.layer.own c.make_sure.new.self.own c.self.inside.written c.self.inside.layer.state c.self.invariant.holds e.time e.accounts.cause.later
     e.unchanged (λ t. e.during))
-    (write_time told m1 m2 c.make_sure.new.self.own c.write_file.new.self.own c.self.inside.written c.make_sure.new.self.state e.holds w.time w.cause.later
+    (write_time told m1 m2 c.make_sure.new.self.own c.write_file.new.self.own c.self.inside.written c.make_sure.new.self.state e.holds w.time w.accounts.cause.later
     c.self.inside.written c.args.file c.args.at c.args.bytes.now (le_refl _) w.writes))
 
 pub returns-clause-time : goal.returns-clause-time
@@ -180,7 +182,102 @@ returns-clause-time g c =
     let w = c.write_file.ensures in
     subst (λ v. Elapses (medium_of told g.F.Flash.medium v) (flash_disk_medium told m2 c.write_file.new.self.own c.with_more-self-inside.result)) c.self.view_is
     (elapses_on
-    (look_time told m0 m1 c.self.inside.layer.own c.make_sure.new.self.own c.self.inside.written c.self.inside.layer.state c.self.invariant.holds e.time e.cause.later
+    (look_time told m0 m1 c.self.inside.layer.own c.make_sure.new.self.own c.self.inside.written c.self.inside.layer.state c.self.invariant.holds e.time e.accounts.cause.later
     e.unchanged (λ t. e.during))
-    (write_time told m1 m2 c.make_sure.new.self.own c.write_file.new.self.own c.self.inside.written c.make_sure.new.self.state e.holds w.time w.cause.later
+    (write_time told m1 m2 c.make_sure.new.self.own c.write_file.new.self.own c.self.inside.written c.make_sure.new.self.state e.holds w.time w.accounts.cause.later
     c.with_more-self-inside.result c.args.file c.args.at c.args.bytes.now (let sum = c.with_more-self-inside.ensures in omega (arith, sum)) w.writes))
+
+pub returns-clause-kept : goal.returns-clause-kept
+returns-clause-kept g c =
+    let n = length c.args.bytes.now + div_ceil (c.args.at + length c.args.bytes.now) 256 in
+    let on = accounts_on g.F.Flash.medium 0 n n (omega arith) c.in_ok-make_sure.ensures.accounts c.in_ok-write_file.ensures.accounts in
+    subst (λ v. c.write_file.new.self.own ≡ v.own) c.self.view_is on.kept
+
+pub returns-clause-passes : goal.returns-clause-passes
+returns-clause-passes g c =
+    let n = length c.args.bytes.now + div_ceil (c.args.at + length c.args.bytes.now) 256 in
+    let on = accounts_on g.F.Flash.medium 0 n n (omega arith) c.in_ok-make_sure.ensures.accounts c.in_ok-write_file.ensures.accounts in
+    subst (λ v. (g.F.Flash.medium c.write_file.new.self.flash).faults + c.write_file.new.self.own ≡ (g.F.Flash.medium v.flash).faults + v.own) c.self.view_is on.cause.passed
+
+pub returns-clause-one : goal.returns-clause-one
+returns-clause-one g c =
+    let n = length c.args.bytes.now + div_ceil (c.args.at + length c.args.bytes.now) 256 in
+    let on = accounts_on g.F.Flash.medium 0 n n (omega arith) c.in_ok-make_sure.ensures.accounts c.write_file.ensures.accounts in
+    subst (λ v. c.write_file.new.self.own ≤ v.own + 1) c.self.view_is on.one
+
+pub returns-clause-no_less : goal.returns-clause-no_less
+returns-clause-no_less g c =
+    let n = length c.args.bytes.now + div_ceil (c.args.at + length c.args.bytes.now) 256 in
+    let on = accounts_on g.F.Flash.medium 0 n n (omega arith) c.in_ok-make_sure.ensures.accounts c.write_file.ensures.accounts in
+    subst (λ v. v.own ≤ c.write_file.new.self.own) c.self.view_is on.no_less
+
+pub returns-clause-later : goal.returns-clause-later
+returns-clause-later g c =
+    let n = length c.args.bytes.now + div_ceil (c.args.at + length c.args.bytes.now) 256 in
+    let on = accounts_on g.F.Flash.medium 0 n n (omega arith) c.in_ok-make_sure.ensures.accounts c.write_file.ensures.accounts in
+    subst (λ v. v.sequence ≤ c.write_file.new.self.state.sequence) c.self.view_is on.later
+
+pub returns-clause-steps : goal.returns-clause-steps
+returns-clause-steps g c =
+    let n = length c.args.bytes.now + div_ceil (c.args.at + length c.args.bytes.now) 256 in
+    let on = accounts_on g.F.Flash.medium 0 n n (omega arith) c.in_ok-make_sure.ensures.accounts c.write_file.ensures.accounts in
+    subst (λ v. c.write_file.new.self.state.sequence ≤ v.sequence + length c.args.bytes.now + div_ceil (c.args.at + length c.args.bytes.now) 256) c.self.view_is (let steps = on.steps in omega (arith, steps))
+
+pub returns-clause-refused : goal.returns-clause-refused
+returns-clause-refused g c told =
+    let m0 = g.F.Flash.medium c.self.inside.layer.flash in
+    let m1 = g.F.Flash.medium c.make_sure.new.self.flash in
+    let m2 = (g.F.Flash.medium c.write_file.new.self.flash) in
+    let n = length c.args.bytes.now in
+    subst (λ v. EndsTooLate c.args.at n ⊎ WantsTooMany (g.F.Flash.medium v.flash) c.args.file c.args.at n → m2.state ≡ (g.F.Flash.medium v.flash).state) c.self.view_is
+    (refused_before m0 m1 (c.make_sure.ensures.unchanged told) (c.make_sure.ensures.time told).blocks m2 c.args.file c.args.at n (c.write_file.ensures.refused told))
+
+pub returns-in_err-write_file-clause-one : goal.returns-in_err-write_file-clause-one
+returns-in_err-write_file-clause-one g c =
+    let n = length c.args.bytes.now + div_ceil (c.args.at + length c.args.bytes.now) 256 in
+    let on = accounts_on g.F.Flash.medium 0 n n (omega arith) c.in_ok-make_sure.ensures.accounts c.write_file.ensures.accounts in
+    subst (λ v. c.write_file.new.self.own ≤ v.own + 1) c.self.view_is on.one
+
+pub returns-in_err-write_file-clause-no_less : goal.returns-in_err-write_file-clause-no_less
+returns-in_err-write_file-clause-no_less g c =
+    let n = length c.args.bytes.now + div_ceil (c.args.at + length c.args.bytes.now) 256 in
+    let on = accounts_on g.F.Flash.medium 0 n n (omega arith) c.in_ok-make_sure.ensures.accounts c.write_file.ensures.accounts in
+    subst (λ v. v.own ≤ c.write_file.new.self.own) c.self.view_is on.no_less
+
+pub returns-in_err-write_file-clause-later : goal.returns-in_err-write_file-clause-later
+returns-in_err-write_file-clause-later g c =
+    let n = length c.args.bytes.now + div_ceil (c.args.at + length c.args.bytes.now) 256 in
+    let on = accounts_on g.F.Flash.medium 0 n n (omega arith) c.in_ok-make_sure.ensures.accounts c.write_file.ensures.accounts in
+    subst (λ v. v.sequence ≤ c.write_file.new.self.state.sequence) c.self.view_is on.later
+
+pub returns-in_err-write_file-clause-steps : goal.returns-in_err-write_file-clause-steps
+returns-in_err-write_file-clause-steps g c =
+    let n = length c.args.bytes.now + div_ceil (c.args.at + length c.args.bytes.now) 256 in
+    let on = accounts_on g.F.Flash.medium 0 n n (omega arith) c.in_ok-make_sure.ensures.accounts c.write_file.ensures.accounts in
+    subst (λ v. c.write_file.new.self.state.sequence ≤ v.sequence + length c.args.bytes.now + div_ceil (c.args.at + length c.args.bytes.now) 256) c.self.view_is (let steps = on.steps in omega (arith, steps))
+
+pub returns-in_err-write_file-clause-refused : goal.returns-in_err-write_file-clause-refused
+returns-in_err-write_file-clause-refused g c told =
+    let m0 = g.F.Flash.medium c.self.inside.layer.flash in
+    let m1 = g.F.Flash.medium c.make_sure.new.self.flash in
+    let m2 = (g.F.Flash.medium c.write_file.new.self.flash) in
+    let n = length c.args.bytes.now in
+    subst (λ v. EndsTooLate c.args.at n ⊎ WantsTooMany (g.F.Flash.medium v.flash) c.args.file c.args.at n → m2.state ≡ (g.F.Flash.medium v.flash).state) c.self.view_is
+    (refused_before m0 m1 (c.make_sure.ensures.unchanged told) (c.make_sure.ensures.time told).blocks m2 c.args.file c.args.at n (c.write_file.ensures.refused told))
+
+pub returns-clause-allowed : goal.returns-clause-allowed
+returns-clause-allowed g c told some =
+    let m0 = g.F.Flash.medium c.self.inside.layer.flash in
+    let m1 = g.F.Flash.medium c.make_sure.new.self.flash in
+    let n = length c.args.bytes.now in
+    subst (λ v. IsAllowed (g.F.Flash.medium v.flash) c.args.file c.args.at n) c.self.view_is
+    (allowed_before m0 m1 (c.make_sure.ensures.unchanged told) (c.make_sure.ensures.time told).blocks c.args.file c.args.at n (c.in_ok-write_file.ensures.allowed told))
+
+pub returns-clause-takes : goal.returns-clause-takes
+returns-clause-takes g c told =
+    let m0 = g.F.Flash.medium c.self.inside.layer.flash in
+    let m1 = g.F.Flash.medium c.make_sure.new.self.flash in
+    let m2 = (g.F.Flash.medium c.write_file.new.self.flash) in
+    let n = length c.args.bytes.now in
+    subst (λ v. TakesPages (g.F.Flash.medium v.flash) m2 c.args.file c.args.at n) c.self.view_is
+    (takes_before m0 m1 (c.make_sure.ensures.unchanged told) (c.make_sure.ensures.time told).blocks m2 c.args.file c.args.at n (c.in_ok-write_file.ensures.takes told))

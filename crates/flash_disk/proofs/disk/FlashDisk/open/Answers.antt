@@ -1,7 +1,7 @@
 use Rattle.std.proofs.Common.{sym, ◌∙◌, subst, arith}
 use Rattle.flash_disk.specs.Newest.{IsUsable, IsUnusable, SaysUsable}
 use Rattle.flash_disk.specs.Sound.{Sound}
-use Rattle.flash_disk.proofs.Opened.{holds_all, opens_usable, opens_agreed, settled_is_quiet}
+use Rattle.flash_disk.proofs.Opened.{holds_all, opens_usable, opens_agreed, begins, settled_is_quiet}
 use Rattle.flash_disk.proofs.disk.FlashDisk.open.Goals as goal
 
 pub returns-in-Ok-false-clause-unusable : goal.returns-in-Ok-false-clause-unusable
@@ -36,3 +36,11 @@ pub returns-in-Ok-true-clause-agreed : goal.returns-in-Ok-true-clause-agreed
 returns-in-Ok-true-clause-agreed g c told =
     let e = c.in-Ok-true.ensures in
     opens_agreed g.F.Flash.told (g.F.Flash.medium c.args.flash) (g.F.Flash.medium c.learn.new.self.flash) told (e.pages told) e.opens
+
+pub returns-in-Ok-true-clause-begins : goal.returns-in-Ok-true-clause-begins
+returns-in-Ok-true-clause-begins g c =
+    let old = g.F.Flash.medium c.args.flash in
+    let e = c.in-Ok-true.ensures in
+    begins g.F.Flash.told old (g.F.Flash.medium c.learn.new.self.flash) (g.met.F.Flash.lawful c.learn.new.self.flash) e.pages e.blocks c.learn.new.self.own
+    (λ told. subst (IsUsable old.state.pages) c.blocks-blocks.ensures
+    (subst (SaysUsable old.state.pages c.blocks-blocks.result) c.in-Ok-true.field-0-test (e.usable told)))

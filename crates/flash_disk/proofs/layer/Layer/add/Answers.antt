@@ -6,6 +6,7 @@ use Rattle.flash_disk.specs.Does.{Does}
 use Rattle.flash_disk.specs.PutPart.{PutPart}
 use Rattle.flash_disk.specs.Sound.{files_of, IsSound, FitsIn, LeavesPut, ShowsPage}
 use Rattle.flash_disk.proofs.Adding.{puts_nothing, added_sound, added_entries, added_put, added_shown, failed_holds, add_does}
+use Rattle.flash_model.specs.FlashMedium.{FlashElapses}
 use Rattle.flash_disk.proofs.layer.Layer.add.Goals as goal
 
 pub returns-in_err-sequence-clause-does : goal.returns-in_err-sequence-clause-does
@@ -171,3 +172,12 @@ returns-in-Ok-clause-entries g c told =
     let at = ap (λ (q : LayerState). let p : Place = record { block = q.current; page = q.fill } in p) state in
     added_entries m now s u place r c.page_with.result sound c.requires.room fits c.requires.bytes at next.0 on c.page_with.ensures
     c.enter.new.self.state c.enter.ensures.entries
+
+pub returns-in-Ok-clause-time : goal.returns-in-Ok-clause-time
+returns-in-Ok-clause-time g c told =
+    subst (λ f. FlashElapses (g.F.Flash.medium f) (g.F.Flash.medium c.enter.new.self.flash)) c.next_sequence.ensures.flash
+    (subst (λ f. FlashElapses (g.F.Flash.medium c.next_sequence.new.self.flash) (g.F.Flash.medium f)) (sym c.enter.ensures.flash) (c.program_page.ensures.time told))
+
+pub returns-in-Err-clause-time : goal.returns-in-Err-clause-time
+returns-in-Err-clause-time g c told =
+    subst (λ f. FlashElapses (g.F.Flash.medium f) (g.F.Flash.medium c.program_page.new.self.flash)) c.next_sequence.ensures.flash (c.program_page.ensures.time told)

@@ -1,9 +1,11 @@
-use Rattle.std.proofs.Common.{◌*◌, inl, inr, ⊎_elim, ◌∙◌}
+use Rattle.std.proofs.Common.{◌*◌, inl, inr, ⊎_elim, ◌∙◌, arith}
 use Rattle.std.proofs.lemmas.Bool.{cases_Bool}
 use Rattle.std.proofs.lemmas.Result.{on_ok_weaker}
 use Rattle.flash_disk.specs.declared.table.FilePage.{FilePage}
 use Rattle.flash_disk.proofs.Entries.{occupies_after}
 use Rattle.flash_disk.proofs.Adding.{puts_then, puts_not, shown_after}
+use Rattle.flash_disk.proofs.Stretches.{elapses_then}
+use Rattle.flash_disk.proofs.Accounting.{accounts_on}
 use Rattle.flash_disk.proofs.layer.Layer.append.Goals as goal
 
 pub returns-in_err-make_room-clause-does : goal.returns-in_err-make_room-clause-does
@@ -33,13 +35,13 @@ add-requires-clause-fits g c told =
 
 pub returns-in_err-make_room-clause-own : goal.returns-in_err-make_room-clause-own
 returns-in_err-make_room-clause-own g c told = ⊎_elim
-    (λ disputed. inr (inr (c.make_room.ensures.disputed ∙ disputed)))
+    (λ disputed. inr (inr (c.make_room.ensures.accounts.disputed ∙ disputed)))
     (λ calm. inl (c.make_room.ensures.own told calm))
     (cases_Bool c.args.self.now.state.disputed)
 
 pub returns-clause-own : goal.returns-clause-own
 returns-clause-own g c told = ⊎_elim
-    (λ disputed. inr (inr (c.add.ensures.disputed ∙ (c.make_room.ensures.disputed ∙ disputed))))
+    (λ disputed. inr (inr (c.add.ensures.accounts.disputed ∙ (c.make_room.ensures.accounts.disputed ∙ disputed))))
     (λ calm. ⊎_elim
     (λ same. inl (same ∙ c.make_room.ensures.own told calm))
     (λ last. inr (inl last))
@@ -52,3 +54,10 @@ returns-clause-entries g c told =
     on_ok_weaker c.add.result
     (occupies_after c.args.self.now.state.table c.make_room.new.self.state.table c.add.new.self.state.table key (c.in_ok-make_room.ensures.entries told))
     (c.add.ensures.entries told)
+
+pub returns-clause-time : goal.returns-clause-time
+returns-clause-time g c told =
+    elapses_then (g.F.Flash.medium c.args.self.now.flash) (g.F.Flash.medium c.make_room.new.self.flash) (g.F.Flash.medium c.add.new.self.flash) (c.make_room.ensures.time told) (c.add.ensures.time told)
+
+pub returns-clause-accounts : goal.returns-clause-accounts
+returns-clause-accounts g c = accounts_on g.F.Flash.medium 0 1 1 (omega arith) c.in_ok-make_room.ensures.accounts c.add.ensures.accounts

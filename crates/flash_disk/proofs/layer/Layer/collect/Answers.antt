@@ -11,7 +11,7 @@ use Rattle.flash_disk.specs.Sound.{IsSound}
 use Rattle.flash_disk.specs.Moving.{IsMoving}
 use Rattle.flash_disk.specs.Counted.{IsInside, entries_in}
 use Rattle.flash_disk.proofs.Spreading.{light_enough}
-use Rattle.flash_disk.proofs.Stretches.{does_nothing}
+use Rattle.flash_disk.proofs.Stretches.{does_nothing, elapses_then}
 use Rattle.flash_disk.specs.Entries.{SameEntries}
 use Rattle.flash_disk.proofs.Moved.{all_known, finished, places_stay, entries_stay}
 use Rattle.flash_disk.proofs.Moving.{erase_stands, erase_failed, erase_failed_keeps, erase_keeps_all, moving_none, stands_then, keeps_on, fits_kept, shows_same, stands_now}
@@ -242,3 +242,11 @@ returns-clause-entries g c told =
     let puts = subst (PutsAll t.table c.put_all.new.self) items (p.put known_all room) in
     subst (λ was. SameEntries was c.put_all.new.self) same_table
     (entries_stay now t from to moving c.put_all.new.self puts (p.len known_all room) (p.room known_all room) p.limit p.lens (p.stays known_all room))
+
+pub returns-in_err-copy_needed-clause-time : goal.returns-in_err-copy_needed-clause-time
+returns-in_err-copy_needed-clause-time g c told =
+    elapses_then (g.F.Flash.medium c.args.self.now.flash) (g.F.Flash.medium c.erase_block.new.self.flash) (g.F.Flash.medium c.copy_needed.new.self.flash) (c.erase_block.ensures.time told) (c.copy_needed.ensures.time told)
+
+pub returns-clause-time : goal.returns-clause-time
+returns-clause-time g c told =
+    elapses_then (g.F.Flash.medium c.args.self.now.flash) (g.F.Flash.medium c.erase_block.new.self.flash) (g.F.Flash.medium c.copy_needed.new.self.flash) (c.erase_block.ensures.time told) (c.copy_needed.ensures.time told)

@@ -6,6 +6,7 @@ use Rattle.flash_disk.specs.declared.layer.LayerState.{LayerState}
 use Rattle.flash_disk.specs.Known.{known, len_known}
 use Rattle.flash_disk.specs.FlashFiles.{record_byte}
 use Rattle.flash_disk.proofs.Reading.{no_content, is_there, content}
+use Rattle.flash_disk.proofs.Looking.{looks_none}
 use Rattle.flash_disk.proofs.layer.Layer.content.Goals as goal
 
 pub returns-in_default-clause-bytes : goal.returns-in_default-clause-bytes
@@ -27,3 +28,6 @@ returns-clause-bytes g c told knows =
     content pages (places blocks) table knows key e is c.read_page.new.out c.cut.result (c.in_ok-read_page.ensures.bytes told block there.0)
     (λ j small. c.cut.ensures j small ∙ ap (λ w. cond (nat_lt j w) (record_byte (record_in c.read_page.new.out) j) 0)
     (let w : c.saturating_sub.result ≡ len_known table key.file - 256 * key.page = omega (arith, len) in w))
+
+pub returns-in_default-clause-looks : goal.returns-in_default-clause-looks
+returns-in_default-clause-looks g c = looks_none g.F.Flash.told (g.F.Flash.medium c.args.self.now.flash) (g.met.F.Flash.lawful c.args.self.now.flash)

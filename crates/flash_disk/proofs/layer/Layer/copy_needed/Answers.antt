@@ -6,15 +6,15 @@ use Rattle.flash_disk.proofs.Standing.{keeps_refl}
 use Rattle.flash_disk.proofs.Stretches.{does_nothing, elapses_refl, elapses_then}
 use Rattle.flash_disk.proofs.Spreading.{copied_in, fewer_copied}
 use Rattle.flash_disk.proofs.Moving.{stands_now, stands_then, keeps_on}
+use Rattle.flash_disk.proofs.Accounting.{counted_none, counted_on}
 use Rattle.flash_disk.proofs.layer.Layer.copy_needed.Goals as goal
 
 pub loop-page-init : goal.loop-page-init
 loop-page-init g c =
     let m = g.F.Flash.medium c.args.self.now.flash in
     let lawful = g.met.F.Flash.lawful c.args.self.now.flash in record {
-      later = omega arith;
+      counts = counted_none g.F.Flash.medium 0 c.args.self.now;
       few = (let none = c.requires.none in omega (arith, none));
-      kept = refl;
       count = (let none = c.requires.none in omega (arith, none));
       state = refl;
       moving = c.requires.moving;
@@ -47,9 +47,8 @@ loop-page-preserved g c =
     let now = g.F.Flash.medium c.copy_one.new.self.flash in
     let i = c.loop-page.invariant in
     let e = c.copy_one.ensures in record {
-      later = (let was = i.later in let on = e.cause.later in omega (arith, was, on));
+      counts = counted_on g.F.Flash.medium 0 0 0 (omega arith) i.counts c.in_ok-copy_one.ensures.accounts;
       few = fewer_copied c.args.self.now.state c.loop-page.self.state c.copy_one.new.self.state c.args.from c.loop-page.page (ap (λ (q : LayerState). q.table) i.state) i.few e.few;
-      kept = c.in_ok-copy_one.ensures.kept ∙ i.kept;
       count = (let was = i.count in let one = e.count in omega (arith, was, one));
       state = e.state ∙ ap (λ (q : LayerState). let z : LayerState = record q { moved = c.copy_one.new.self.state.moved } in z) i.state;
       moving = λ told. c.in_ok-copy_one.ensures.moving told;
@@ -72,16 +71,11 @@ returns-in_err-copy_one-clause-few g c =
 pub returns-in_err-copy_one-clause-own : goal.returns-in_err-copy_one-clause-own
 returns-in_err-copy_one-clause-own g c told =
     let i = c.loop-page.invariant in
-    c.copy_one.ensures.own told ∙ i.kept
+    c.copy_one.ensures.own told ∙ i.counts.kept
 
 pub returns-clause-own : goal.returns-clause-own
-returns-clause-own g c told = c.loop-page.invariant.kept
+returns-clause-own g c told = c.loop-page.invariant.counts.kept
 
-pub returns-clause-kept : goal.returns-clause-kept
-returns-clause-kept g c = c.loop-page.invariant.kept
-
-pub returns-clause-one : goal.returns-clause-one
-returns-clause-one g c = let kept = c.loop-page.invariant.kept in omega (arith, kept)
-
-pub returns-in_err-copy_one-clause-one : goal.returns-in_err-copy_one-clause-one
-returns-in_err-copy_one-clause-one g c = let kept = c.loop-page.invariant.kept in let one = c.copy_one.ensures.one in omega (arith, kept, one)
+pub returns-in_err-copy_one-clause-time : goal.returns-in_err-copy_one-clause-time
+returns-in_err-copy_one-clause-time g c told =
+    elapses_then (g.F.Flash.medium c.args.self.now.flash) (g.F.Flash.medium c.loop-page.self.flash) (g.F.Flash.medium c.copy_one.new.self.flash) (c.loop-page.invariant.time told) (c.copy_one.ensures.time told)

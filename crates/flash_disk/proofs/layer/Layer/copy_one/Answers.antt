@@ -13,6 +13,9 @@ use Rattle.flash_disk.specs.Sound.{IsSound}
 use Rattle.flash_disk.proofs.Entering.{as_said}
 use Rattle.flash_disk.specs.Moving.{IsMoving}
 use Rattle.flash_disk.proofs.Moving.{differ, same_places, found_same, on_err, stands_then, looked_up, passed_over, copy_failed_keeps, copy_failed_sound, copy_keeps_all, copy_sound, copy_does, copied, looked, look_keeps, keeps_since, look_stands}
+use Rattle.flash_disk.proofs.Stretches.{elapses_then}
+use Rattle.flash_model.specs.FlashMedium.{FlashElapses}
+use Rattle.flash_disk.proofs.Accounting.{accounts_on}
 use Rattle.flash_disk.proofs.layer.Layer.copy_one.Goals as goal
 
 pub returns-in_err-read_page-clause-keeps : goal.returns-in_err-read_page-clause-keeps
@@ -20,42 +23,42 @@ returns-in_err-read_page-clause-keeps g c told =
     let m = g.F.Flash.medium c.args.self.now.flash in
     let look = g.F.Flash.medium c.read_page.new.self.flash in
     let e = c.read_page.ensures in
-    look_keeps m look (e.unchanged told) e.blocks
+    look_keeps m look (e.looks.state told) e.blocks
 
 pub returns-in_err-read_page-clause-does : goal.returns-in_err-read_page-clause-does
 returns-in_err-read_page-clause-does g c told =
     let m = g.F.Flash.medium c.args.self.now.flash in
     let look = g.F.Flash.medium c.read_page.new.self.flash in
     let e = c.read_page.ensures in
-    look_stands m look (e.unchanged told) e.blocks e.during c.args.self.now.state (c.requires.moving told).sound
+    look_stands m look (e.looks.state told) e.blocks e.during c.args.self.now.state (c.requires.moving told).sound
 
 pub returns-in_default-clause-keeps : goal.returns-in_default-clause-keeps
 returns-in_default-clause-keeps g c told =
     let m = g.F.Flash.medium c.args.self.now.flash in
     let look = g.F.Flash.medium c.read_page.new.self.flash in
     let e = c.read_page.ensures in
-    look_keeps m look (e.unchanged told) e.blocks
+    look_keeps m look (e.looks.state told) e.blocks
 
 pub returns-in_default-clause-does : goal.returns-in_default-clause-does
 returns-in_default-clause-does g c told =
     let m = g.F.Flash.medium c.args.self.now.flash in
     let look = g.F.Flash.medium c.read_page.new.self.flash in
     let e = c.read_page.ensures in
-    look_stands m look (e.unchanged told) e.blocks e.during c.args.self.now.state (c.requires.moving told).sound
+    look_stands m look (e.looks.state told) e.blocks e.during c.args.self.now.state (c.requires.moving told).sound
 
 pub returns-then-ne-clause-keeps : goal.returns-then-ne-clause-keeps
 returns-then-ne-clause-keeps g c told =
     let m = g.F.Flash.medium c.args.self.now.flash in
     let look = g.F.Flash.medium c.read_page.new.self.flash in
     let e = c.read_page.ensures in
-    look_keeps m look (e.unchanged told) e.blocks
+    look_keeps m look (e.looks.state told) e.blocks
 
 pub returns-then-ne-clause-does : goal.returns-then-ne-clause-does
 returns-then-ne-clause-does g c told =
     let m = g.F.Flash.medium c.args.self.now.flash in
     let look = g.F.Flash.medium c.read_page.new.self.flash in
     let e = c.read_page.ensures in
-    look_stands m look (e.unchanged told) e.blocks e.during c.args.self.now.state (c.requires.moving told).sound
+    look_stands m look (e.looks.state told) e.blocks e.during c.args.self.now.state (c.requires.moving told).sound
 
 pub returns-in_default-clause-moving : goal.returns-in_default-clause-moving
 returns-in_default-clause-moving g c told =
@@ -64,8 +67,8 @@ returns-in_default-clause-moving g c told =
     let e = c.read_page.ensures in
     let s = c.read_page.new.self.state in
     let moving : IsMoving look.state.pages look.blocks s c.args.from.block c.args.to c.args.from.page =
-    looked m look (e.unchanged told) e.blocks c.args.self.now.state s e.state c.args.from.block c.args.to c.args.from.page (c.requires.moving told) in
-    let read = c.in_ok-read_page.ensures.bytes told (c.requires.moving told).within c.requires.page ∙ ap (λ z. z.pages c.args.from.block c.args.from.page) (sym (e.unchanged told)) in
+    looked m look (e.looks.state told) e.blocks c.args.self.now.state s e.state c.args.from.block c.args.to c.args.from.page (c.requires.moving told) in
+    let read = c.in_ok-read_page.ensures.bytes told (c.requires.moving told).within c.requires.page ∙ ap (λ z. z.pages c.args.from.block c.args.from.page) (sym (e.looks.state told)) in
     passed_over look s c.args.from.block c.args.to c.args.from.page moving c.requires.page c.read_page.new.out read
     (λ key entry is block page. c.in_default.not-Some (key, entry) (looked_up look s c.args.from.block c.args.to c.args.from.page moving c.requires.page c.read_page.new.out read
     c.newest_in.result c.newest_in.ensures.found key entry is block page))
@@ -77,8 +80,8 @@ returns-then-ne-clause-moving g c told =
     let e = c.read_page.ensures in
     let s = c.read_page.new.self.state in
     let moving : IsMoving look.state.pages look.blocks s c.args.from.block c.args.to c.args.from.page =
-    looked m look (e.unchanged told) e.blocks c.args.self.now.state s e.state c.args.from.block c.args.to c.args.from.page (c.requires.moving told) in
-    let read = c.in_ok-read_page.ensures.bytes told (c.requires.moving told).within c.requires.page ∙ ap (λ z. z.pages c.args.from.block c.args.from.page) (sym (e.unchanged told)) in
+    looked m look (e.looks.state told) e.blocks c.args.self.now.state s e.state c.args.from.block c.args.to c.args.from.page (c.requires.moving told) in
+    let read = c.in_ok-read_page.ensures.bytes told (c.requires.moving told).within c.requires.page ∙ ap (λ z. z.pages c.args.from.block c.args.from.page) (sym (e.looks.state told)) in
     passed_over look s c.args.from.block c.args.to c.args.from.page moving c.requires.page c.read_page.new.out read
     (λ key entry is block page. let found = looked_up look s c.args.from.block c.args.to c.args.from.page moving c.requires.page c.read_page.new.out read
     c.newest_in.result c.newest_in.ensures.found key entry is block page in
@@ -93,8 +96,8 @@ returns-in_err-program_page-clause-keeps g c told =
     let e = c.read_page.ensures in
     let s = c.read_page.new.self.state in
     let moving : IsMoving look.state.pages look.blocks s c.args.from.block c.args.to c.args.from.page =
-    looked m look (e.unchanged told) e.blocks c.args.self.now.state s e.state c.args.from.block c.args.to c.args.from.page (c.requires.moving told) in
-    let read = c.in_ok-read_page.ensures.bytes told (c.requires.moving told).within c.requires.page ∙ ap (λ z. z.pages c.args.from.block c.args.from.page) (sym (e.unchanged told)) in
+    looked m look (e.looks.state told) e.blocks c.args.self.now.state s e.state c.args.from.block c.args.to c.args.from.page (c.requires.moving told) in
+    let read = c.in_ok-read_page.ensures.bytes told (c.requires.moving told).within c.requires.page ∙ ap (λ z. z.pages c.args.from.block c.args.from.page) (sym (e.looks.state told)) in
     let key = c.in-Some.key in
     let old = c.in-Some.old in
     let is : known s.table key ≡ Some old = c.in-Some.ensures.known in
@@ -102,7 +105,7 @@ returns-in_err-program_page-clause-keeps g c told =
     let now = g.F.Flash.medium c.program_page.new.self.flash in
     let long : c.len.result ≡ length s.moved.items = c.len.ensures ∙ s.moved.ok.0 in
     let p = c.program_page.ensures in
-    keeps_since m look (e.unchanged told) e.blocks now.state.pages (copy_failed_keeps look s c.args.from.block c.args.to c.args.from.page moving c.requires.page c.read_page.new.out read key old is at.0 at.1 c.len.result long now (c.in_err-program_page.ensures.failed told))
+    keeps_since m look (e.looks.state told) e.blocks now.state.pages (copy_failed_keeps look s c.args.from.block c.args.to c.args.from.page moving c.requires.page c.read_page.new.out read key old is at.0 at.1 c.len.result long now (c.in_err-program_page.ensures.failed told))
 
 pub returns-in_err-program_page-clause-failed : goal.returns-in_err-program_page-clause-failed
 returns-in_err-program_page-clause-failed g c told =
@@ -111,8 +114,8 @@ returns-in_err-program_page-clause-failed g c told =
     let e = c.read_page.ensures in
     let s = c.read_page.new.self.state in
     let moving : IsMoving look.state.pages look.blocks s c.args.from.block c.args.to c.args.from.page =
-    looked m look (e.unchanged told) e.blocks c.args.self.now.state s e.state c.args.from.block c.args.to c.args.from.page (c.requires.moving told) in
-    let read = c.in_ok-read_page.ensures.bytes told (c.requires.moving told).within c.requires.page ∙ ap (λ z. z.pages c.args.from.block c.args.from.page) (sym (e.unchanged told)) in
+    looked m look (e.looks.state told) e.blocks c.args.self.now.state s e.state c.args.from.block c.args.to c.args.from.page (c.requires.moving told) in
+    let read = c.in_ok-read_page.ensures.bytes told (c.requires.moving told).within c.requires.page ∙ ap (λ z. z.pages c.args.from.block c.args.from.page) (sym (e.looks.state told)) in
     let key = c.in-Some.key in
     let old = c.in-Some.old in
     let is : known s.table key ≡ Some old = c.in-Some.ensures.known in
@@ -129,8 +132,8 @@ returns-in_err-program_page-clause-does g c told =
     let e = c.read_page.ensures in
     let s = c.read_page.new.self.state in
     let moving : IsMoving look.state.pages look.blocks s c.args.from.block c.args.to c.args.from.page =
-    looked m look (e.unchanged told) e.blocks c.args.self.now.state s e.state c.args.from.block c.args.to c.args.from.page (c.requires.moving told) in
-    let read = c.in_ok-read_page.ensures.bytes told (c.requires.moving told).within c.requires.page ∙ ap (λ z. z.pages c.args.from.block c.args.from.page) (sym (e.unchanged told)) in
+    looked m look (e.looks.state told) e.blocks c.args.self.now.state s e.state c.args.from.block c.args.to c.args.from.page (c.requires.moving told) in
+    let read = c.in_ok-read_page.ensures.bytes told (c.requires.moving told).within c.requires.page ∙ ap (λ z. z.pages c.args.from.block c.args.from.page) (sym (e.looks.state told)) in
     let key = c.in-Some.key in
     let old = c.in-Some.old in
     let is : known s.table key ≡ Some old = c.in-Some.ensures.known in
@@ -138,8 +141,8 @@ returns-in_err-program_page-clause-does g c told =
     let now = g.F.Flash.medium c.program_page.new.self.flash in
     let long : c.len.result ≡ length s.moved.items = c.len.ensures ∙ s.moved.ok.0 in
     let p = c.program_page.ensures in
-    stands_then m look now (e.time told) (p.time told)
-    (look_stands m look (e.unchanged told) e.blocks e.during c.args.self.now.state (c.requires.moving told).sound)
+    stands_then m look now (e.looks.time told) (p.time told)
+    (look_stands m look (e.looks.state told) e.blocks e.during c.args.self.now.state (c.requires.moving told).sound)
     (copy_does look s c.args.from.block c.args.to c.args.from.page moving c.requires.page c.read_page.new.out read key old is at.0 at.1 c.len.result long now c.program_page.result (p.done told) (p.failed told) (p.during told))
 
 pub returns-then-is_err-clause-does : goal.returns-then-is_err-clause-does
@@ -149,8 +152,8 @@ returns-then-is_err-clause-does g c told =
     let e = c.read_page.ensures in
     let s = c.read_page.new.self.state in
     let moving : IsMoving look.state.pages look.blocks s c.args.from.block c.args.to c.args.from.page =
-    looked m look (e.unchanged told) e.blocks c.args.self.now.state s e.state c.args.from.block c.args.to c.args.from.page (c.requires.moving told) in
-    let read = c.in_ok-read_page.ensures.bytes told (c.requires.moving told).within c.requires.page ∙ ap (λ z. z.pages c.args.from.block c.args.from.page) (sym (e.unchanged told)) in
+    looked m look (e.looks.state told) e.blocks c.args.self.now.state s e.state c.args.from.block c.args.to c.args.from.page (c.requires.moving told) in
+    let read = c.in_ok-read_page.ensures.bytes told (c.requires.moving told).within c.requires.page ∙ ap (λ z. z.pages c.args.from.block c.args.from.page) (sym (e.looks.state told)) in
     let key = c.in-Some.key in
     let old = c.in-Some.old in
     let is : known s.table key ≡ Some old = c.in-Some.ensures.known in
@@ -159,8 +162,8 @@ returns-then-is_err-clause-does g c told =
     let long : c.len.result ≡ length s.moved.items = c.len.ensures ∙ s.moved.ok.0 in
     let p = c.program_page.ensures in
     subst (λ f. Does (StandsFor m) m (g.F.Flash.medium f)) (sym c.fault.ensures.flash) (
-    stands_then m look now (e.time told) (p.time told)
-    (look_stands m look (e.unchanged told) e.blocks e.during c.args.self.now.state (c.requires.moving told).sound)
+    stands_then m look now (e.looks.time told) (p.time told)
+    (look_stands m look (e.looks.state told) e.blocks e.during c.args.self.now.state (c.requires.moving told).sound)
     (copy_does look s c.args.from.block c.args.to c.args.from.page moving c.requires.page c.read_page.new.out read key old is at.0 at.1 c.len.result long now c.program_page.result (p.done told) (p.failed told) (p.during told)))
 
 pub returns-clause-does : goal.returns-clause-does
@@ -170,8 +173,8 @@ returns-clause-does g c told =
     let e = c.read_page.ensures in
     let s = c.read_page.new.self.state in
     let moving : IsMoving look.state.pages look.blocks s c.args.from.block c.args.to c.args.from.page =
-    looked m look (e.unchanged told) e.blocks c.args.self.now.state s e.state c.args.from.block c.args.to c.args.from.page (c.requires.moving told) in
-    let read = c.in_ok-read_page.ensures.bytes told (c.requires.moving told).within c.requires.page ∙ ap (λ z. z.pages c.args.from.block c.args.from.page) (sym (e.unchanged told)) in
+    looked m look (e.looks.state told) e.blocks c.args.self.now.state s e.state c.args.from.block c.args.to c.args.from.page (c.requires.moving told) in
+    let read = c.in_ok-read_page.ensures.bytes told (c.requires.moving told).within c.requires.page ∙ ap (λ z. z.pages c.args.from.block c.args.from.page) (sym (e.looks.state told)) in
     let key = c.in-Some.key in
     let old = c.in-Some.old in
     let is : known s.table key ≡ Some old = c.in-Some.ensures.known in
@@ -179,8 +182,8 @@ returns-clause-does g c told =
     let now = g.F.Flash.medium c.program_page.new.self.flash in
     let long : c.len.result ≡ length s.moved.items = c.len.ensures ∙ s.moved.ok.0 in
     let p = c.program_page.ensures in
-    stands_then m look now (e.time told) (p.time told)
-    (look_stands m look (e.unchanged told) e.blocks e.during c.args.self.now.state (c.requires.moving told).sound)
+    stands_then m look now (e.looks.time told) (p.time told)
+    (look_stands m look (e.looks.state told) e.blocks e.during c.args.self.now.state (c.requires.moving told).sound)
     (copy_does look s c.args.from.block c.args.to c.args.from.page moving c.requires.page c.read_page.new.out read key old is at.0 at.1 c.len.result long now c.program_page.result (p.done told) (p.failed told) (p.during told))
 
 pub returns-clause-keeps : goal.returns-clause-keeps
@@ -190,8 +193,8 @@ returns-clause-keeps g c told =
     let e = c.read_page.ensures in
     let s = c.read_page.new.self.state in
     let moving : IsMoving look.state.pages look.blocks s c.args.from.block c.args.to c.args.from.page =
-    looked m look (e.unchanged told) e.blocks c.args.self.now.state s e.state c.args.from.block c.args.to c.args.from.page (c.requires.moving told) in
-    let read = c.in_ok-read_page.ensures.bytes told (c.requires.moving told).within c.requires.page ∙ ap (λ z. z.pages c.args.from.block c.args.from.page) (sym (e.unchanged told)) in
+    looked m look (e.looks.state told) e.blocks c.args.self.now.state s e.state c.args.from.block c.args.to c.args.from.page (c.requires.moving told) in
+    let read = c.in_ok-read_page.ensures.bytes told (c.requires.moving told).within c.requires.page ∙ ap (λ z. z.pages c.args.from.block c.args.from.page) (sym (e.looks.state told)) in
     let key = c.in-Some.key in
     let old = c.in-Some.old in
     let is : known s.table key ≡ Some old = c.in-Some.ensures.known in
@@ -199,7 +202,7 @@ returns-clause-keeps g c told =
     let now = g.F.Flash.medium c.program_page.new.self.flash in
     let long : c.len.result ≡ length s.moved.items = c.len.ensures ∙ s.moved.ok.0 in
     let p = c.program_page.ensures in
-    keeps_since m look (e.unchanged told) e.blocks now.state.pages (copy_keeps_all look s c.args.from.block c.args.to c.args.from.page moving c.requires.page c.read_page.new.out read key old is at.0 at.1 c.len.result long now (c.in_ok-program_page.ensures.done told))
+    keeps_since m look (e.looks.state told) e.blocks now.state.pages (copy_keeps_all look s c.args.from.block c.args.to c.args.from.page moving c.requires.page c.read_page.new.out read key old is at.0 at.1 c.len.result long now (c.in_ok-program_page.ensures.done told))
 
 pub returns-then-is_err-clause-keeps : goal.returns-then-is_err-clause-keeps
 returns-then-is_err-clause-keeps g c told =
@@ -208,8 +211,8 @@ returns-then-is_err-clause-keeps g c told =
     let e = c.read_page.ensures in
     let s = c.read_page.new.self.state in
     let moving : IsMoving look.state.pages look.blocks s c.args.from.block c.args.to c.args.from.page =
-    looked m look (e.unchanged told) e.blocks c.args.self.now.state s e.state c.args.from.block c.args.to c.args.from.page (c.requires.moving told) in
-    let read = c.in_ok-read_page.ensures.bytes told (c.requires.moving told).within c.requires.page ∙ ap (λ z. z.pages c.args.from.block c.args.from.page) (sym (e.unchanged told)) in
+    looked m look (e.looks.state told) e.blocks c.args.self.now.state s e.state c.args.from.block c.args.to c.args.from.page (c.requires.moving told) in
+    let read = c.in_ok-read_page.ensures.bytes told (c.requires.moving told).within c.requires.page ∙ ap (λ z. z.pages c.args.from.block c.args.from.page) (sym (e.looks.state told)) in
     let key = c.in-Some.key in
     let old = c.in-Some.old in
     let is : known s.table key ≡ Some old = c.in-Some.ensures.known in
@@ -218,7 +221,7 @@ returns-then-is_err-clause-keeps g c told =
     let long : c.len.result ≡ length s.moved.items = c.len.ensures ∙ s.moved.ok.0 in
     let p = c.program_page.ensures in
     subst (λ f. Keeps m.state.pages (g.F.Flash.medium f).state.pages (places m.blocks)) (sym c.fault.ensures.flash)
-    (keeps_since m look (e.unchanged told) e.blocks now.state.pages (copy_keeps_all look s c.args.from.block c.args.to c.args.from.page moving c.requires.page c.read_page.new.out read key old is at.0 at.1 c.len.result long now (c.in_ok-program_page.ensures.done told)))
+    (keeps_since m look (e.looks.state told) e.blocks now.state.pages (copy_keeps_all look s c.args.from.block c.args.to c.args.from.page moving c.requires.page c.read_page.new.out read key old is at.0 at.1 c.len.result long now (c.in_ok-program_page.ensures.done told)))
 
 pub returns-then-is_err-clause-failed : goal.returns-then-is_err-clause-failed
 returns-then-is_err-clause-failed g c told =
@@ -227,8 +230,8 @@ returns-then-is_err-clause-failed g c told =
     let e = c.read_page.ensures in
     let s = c.read_page.new.self.state in
     let moving : IsMoving look.state.pages look.blocks s c.args.from.block c.args.to c.args.from.page =
-    looked m look (e.unchanged told) e.blocks c.args.self.now.state s e.state c.args.from.block c.args.to c.args.from.page (c.requires.moving told) in
-    let read = c.in_ok-read_page.ensures.bytes told (c.requires.moving told).within c.requires.page ∙ ap (λ z. z.pages c.args.from.block c.args.from.page) (sym (e.unchanged told)) in
+    looked m look (e.looks.state told) e.blocks c.args.self.now.state s e.state c.args.from.block c.args.to c.args.from.page (c.requires.moving told) in
+    let read = c.in_ok-read_page.ensures.bytes told (c.requires.moving told).within c.requires.page ∙ ap (λ z. z.pages c.args.from.block c.args.from.page) (sym (e.looks.state told)) in
     let key = c.in-Some.key in
     let old = c.in-Some.old in
     let is : known s.table key ≡ Some old = c.in-Some.ensures.known in
@@ -251,8 +254,8 @@ returns-clause-moving g c told =
     let e = c.read_page.ensures in
     let s = c.read_page.new.self.state in
     let moving : IsMoving look.state.pages look.blocks s c.args.from.block c.args.to c.args.from.page =
-    looked m look (e.unchanged told) e.blocks c.args.self.now.state s e.state c.args.from.block c.args.to c.args.from.page (c.requires.moving told) in
-    let read = c.in_ok-read_page.ensures.bytes told (c.requires.moving told).within c.requires.page ∙ ap (λ z. z.pages c.args.from.block c.args.from.page) (sym (e.unchanged told)) in
+    looked m look (e.looks.state told) e.blocks c.args.self.now.state s e.state c.args.from.block c.args.to c.args.from.page (c.requires.moving told) in
+    let read = c.in_ok-read_page.ensures.bytes told (c.requires.moving told).within c.requires.page ∙ ap (λ z. z.pages c.args.from.block c.args.from.page) (sym (e.looks.state told)) in
     let key = c.in-Some.key in
     let old = c.in-Some.old in
     let is : known s.table key ≡ Some old = c.in-Some.ensures.known in
@@ -337,3 +340,21 @@ returns-clause-few g c few =
     let now : vec_len (let u : LayerState = record c.program_page.new.self.state { moved = c.push.new.self } in u).moved ≡ vec_len c.push.new.self = refl in
     few_more start.table c.args.from.block c.args.from.page key old is at.0 at.1 (vec_len start.moved) (vec_len (let u : LayerState = record c.program_page.new.self.state { moved = c.push.new.self } in u).moved) few
     (let up = c.push.ensures.upper_bound in omega (arith, moved, now, up))
+
+pub returns-in_err-program_page-clause-time : goal.returns-in_err-program_page-clause-time
+returns-in_err-program_page-clause-time g c told =
+    elapses_then (g.F.Flash.medium c.args.self.now.flash) (g.F.Flash.medium c.read_page.new.self.flash) (g.F.Flash.medium c.program_page.new.self.flash) (c.read_page.ensures.looks.time told) (c.program_page.ensures.time told)
+
+pub returns-clause-time : goal.returns-clause-time
+returns-clause-time g c told =
+    elapses_then (g.F.Flash.medium c.args.self.now.flash) (g.F.Flash.medium c.read_page.new.self.flash) (g.F.Flash.medium c.program_page.new.self.flash) (c.read_page.ensures.looks.time told) (c.program_page.ensures.time told)
+
+pub returns-then-is_err-clause-time : goal.returns-then-is_err-clause-time
+returns-then-is_err-clause-time g c told =
+    subst (λ f. FlashElapses (g.F.Flash.medium c.args.self.now.flash) (g.F.Flash.medium f)) (sym c.fault.ensures.flash)
+    (elapses_then (g.F.Flash.medium c.args.self.now.flash) (g.F.Flash.medium c.read_page.new.self.flash) (g.F.Flash.medium c.program_page.new.self.flash) (c.read_page.ensures.looks.time told) (c.program_page.ensures.time told))
+
+pub returns-clause-accounts : goal.returns-clause-accounts
+returns-clause-accounts g c =
+    let on = accounts_on g.F.Flash.medium 0 0 0 (omega arith) c.in_ok-read_page.ensures.accounts c.in_ok-program_page.ensures.accounts in
+    record { cause = on.cause; kept = on.kept; one = on.one; no_less = on.no_less; later = on.later; steps = on.steps; disputed = on.disputed }

@@ -6,7 +6,7 @@ use Rattle.flash_disk.proofs.layer.Layer.is_spare.Goals as goal
 
 pub loop-page-preserved : goal.loop-page-preserved
 loop-page-preserved g c = let i = c.loop-page.invariant in let e = c.in_ok-is_needed.ensures in (
-  (let later = i.0 in let on = e.flash in omega (arith, later, on)),
+  e.flash.passed ∙ i.0,
   (λ told. e.pages told ∙ i.1 told),
   e.blocks ∙ i.2,
   e.state ∙ i.3,
@@ -20,3 +20,11 @@ loop-page-preserved g c = let i = c.loop-page.invariant in let e = c.in_ok-is_ne
 pub returns-clause-spare : goal.returns-clause-spare
 returns-clause-spare g c told learnt = let i = c.loop-page.invariant in let past = c.loop-page-test.false in
     ((λ yes. spare_block (g.F.Flash.medium c.args.self.now.flash).state.pages (places (g.F.Flash.medium c.args.self.now.flash).blocks) c.args.block (λ p small. i.4 told learnt p (omega (arith, past, small)))), (λ spare. refl))
+
+pub returns-in_err-is_needed-clause-looks : goal.returns-in_err-is_needed-clause-looks
+returns-in_err-is_needed-clause-looks g c =
+    looks_then g.F.Flash.told (g.F.Flash.medium c.args.self.now.flash) (g.F.Flash.medium c.loop-page.self.flash) (g.F.Flash.medium c.is_needed.new.self.flash) c.loop-page.invariant.6 c.is_needed.ensures.looks
+
+pub returns-then-branch-clause-looks : goal.returns-then-branch-clause-looks
+returns-then-branch-clause-looks g c =
+    looks_then g.F.Flash.told (g.F.Flash.medium c.args.self.now.flash) (g.F.Flash.medium c.loop-page.self.flash) (g.F.Flash.medium c.is_needed.new.self.flash) c.loop-page.invariant.6 c.is_needed.ensures.looks

@@ -1,6 +1,6 @@
 use Rattle.std.specs.Prelude.{vec_capacity}
 use Rattle.flash_disk.specs.Counted.{IsCounted}
-use Rattle.std.proofs.Common.{◌≡◌, ◌<◌, ◌≤◌, true, false, sym, ap, inr, ◌∙◌, subst, arith}
+use Rattle.std.proofs.Common.{◌≡◌, ◌<◌, ◌≤◌, true, false, sym, ap, inl, inr, ◌∙◌, subst, arith}
 use Rattle.std.specs.HashMap.{spare}
 use Rattle.flash_disk.specs.Newest.{FindsSpare, IsSpare, places}
 use Rattle.flash_disk.specs.Known.{limit_of, page_len, len_in}
@@ -9,6 +9,8 @@ use Rattle.flash_disk.proofs.Usable.{usable}
 use Rattle.flash_disk.proofs.Leaving.{starts_leaving, leaves_there}
 use Rattle.flash_disk.proofs.Opened.{opened}
 use Rattle.flash_disk.proofs.Topmost.{top_of_none}
+use Rattle.flash_disk.proofs.Looking.{looks_then, looks_open, settle_opens}
+use Rattle.flash_disk.proofs.Moving.{on_err}
 use Rattle.flash_disk.proofs.layer.Layer.learn.Goals as goal
 
 pub returns-in-Ok-clause-usable : goal.returns-in-Ok-clause-usable
@@ -84,3 +86,52 @@ returns-in-Ok-clause-sound g c told usable_now =
     (let same : vec_capacity c.leave_spare.new.self.state.moved ≡ vec_capacity c.args.self.now.state.moved = ap (λ q. vec_capacity q) (l.fill.2 ∙ (f.fill.2 ∙ e.fill.2)) in
     let enough = c.requires.moved in omega (arith, same, enough))
     (l.len ∙ (ap page_len f.table ∙ learnt.count))
+
+pub returns-in_err-learn_blocks-clause-opens : goal.returns-in_err-learn_blocks-clause-opens
+returns-in_err-learn_blocks-clause-opens g c =
+    looks_open g.F.Flash.told (g.F.Flash.medium c.args.self.now.flash) (g.F.Flash.medium c.learn_blocks.new.self.flash) c.learn_blocks.ensures.looks
+
+pub returns-then-not-branch-clause-opens : goal.returns-then-not-branch-clause-opens
+returns-then-not-branch-clause-opens g c =
+    looks_open g.F.Flash.told (g.F.Flash.medium c.args.self.now.flash) (g.F.Flash.medium c.learn_blocks.new.self.flash) c.learn_blocks.ensures.looks
+
+pub returns-in_err-find_spare-clause-opens : goal.returns-in_err-find_spare-clause-opens
+returns-in_err-find_spare-clause-opens g c =
+    looks_open g.F.Flash.told (g.F.Flash.medium c.args.self.now.flash) (g.F.Flash.medium c.find_spare.new.self.flash)
+    (looks_then g.F.Flash.told (g.F.Flash.medium c.args.self.now.flash) (g.F.Flash.medium c.learn_blocks.new.self.flash) (g.F.Flash.medium c.find_spare.new.self.flash) c.learn_blocks.ensures.looks c.find_spare.ensures.looks)
+
+pub returns-then-not-branch-2-clause-opens : goal.returns-then-not-branch-2-clause-opens
+returns-then-not-branch-2-clause-opens g c =
+    looks_open g.F.Flash.told (g.F.Flash.medium c.args.self.now.flash) (g.F.Flash.medium c.find_spare.new.self.flash)
+    (looks_then g.F.Flash.told (g.F.Flash.medium c.args.self.now.flash) (g.F.Flash.medium c.learn_blocks.new.self.flash) (g.F.Flash.medium c.find_spare.new.self.flash) c.learn_blocks.ensures.looks c.find_spare.ensures.looks)
+
+pub returns-in_err-leave_spare-clause-opens : goal.returns-in_err-leave_spare-clause-opens
+returns-in_err-leave_spare-clause-opens g c =
+    looks_open g.F.Flash.told (g.F.Flash.medium c.args.self.now.flash) (g.F.Flash.medium c.leave_spare.new.self.flash)
+    (looks_then g.F.Flash.told (g.F.Flash.medium c.args.self.now.flash) (g.F.Flash.medium c.find_spare.new.self.flash) (g.F.Flash.medium c.leave_spare.new.self.flash) (looks_then g.F.Flash.told (g.F.Flash.medium c.args.self.now.flash) (g.F.Flash.medium c.learn_blocks.new.self.flash) (g.F.Flash.medium c.find_spare.new.self.flash) c.learn_blocks.ensures.looks c.find_spare.ensures.looks) c.leave_spare.ensures.looks)
+
+pub returns-then-not-branch-2-clause-unusable : goal.returns-then-not-branch-2-clause-unusable
+returns-then-not-branch-2-clause-unusable g c =
+    λ unusable. looks_then g.F.Flash.told (g.F.Flash.medium c.args.self.now.flash) (g.F.Flash.medium c.learn_blocks.new.self.flash) (g.F.Flash.medium c.find_spare.new.self.flash) c.learn_blocks.ensures.looks c.find_spare.ensures.looks
+
+pub returns-in-Ok-clause-opens : goal.returns-in-Ok-clause-opens
+returns-in-Ok-clause-opens g c =
+    settle_opens g.F.Flash.told (g.F.Flash.medium c.args.self.now.flash) (g.F.Flash.medium c.leave_spare.new.self.flash) (g.F.Flash.medium c.settle.new.self)
+    (looks_then g.F.Flash.told (g.F.Flash.medium c.args.self.now.flash) (g.F.Flash.medium c.find_spare.new.self.flash) (g.F.Flash.medium c.leave_spare.new.self.flash) (looks_then g.F.Flash.told (g.F.Flash.medium c.args.self.now.flash) (g.F.Flash.medium c.learn_blocks.new.self.flash) (g.F.Flash.medium c.find_spare.new.self.flash) c.learn_blocks.ensures.looks c.find_spare.ensures.looks) c.leave_spare.ensures.looks)
+    c.settle.ensures.time c.settle.ensures.during (λ told. inl (c.in-Ok.ensures.state told))
+
+pub returns-in-Err-clause-opens : goal.returns-in-Err-clause-opens
+returns-in-Err-clause-opens g c =
+    settle_opens g.F.Flash.told (g.F.Flash.medium c.args.self.now.flash) (g.F.Flash.medium c.leave_spare.new.self.flash) (g.F.Flash.medium c.settle.new.self)
+    (looks_then g.F.Flash.told (g.F.Flash.medium c.args.self.now.flash) (g.F.Flash.medium c.find_spare.new.self.flash) (g.F.Flash.medium c.leave_spare.new.self.flash) (looks_then g.F.Flash.told (g.F.Flash.medium c.args.self.now.flash) (g.F.Flash.medium c.learn_blocks.new.self.flash) (g.F.Flash.medium c.find_spare.new.self.flash) c.learn_blocks.ensures.looks c.find_spare.ensures.looks) c.leave_spare.ensures.looks)
+    c.settle.ensures.time c.settle.ensures.during (λ told. inr (c.in-Err.ensures.failed told))
+
+pub returns-in_err-find_spare-clause-failed : goal.returns-in_err-find_spare-clause-failed
+returns-in_err-find_spare-clause-failed g c =
+    on_err c.from_residual-in_err-find_spare.result
+    (looks_then g.F.Flash.told (g.F.Flash.medium c.args.self.now.flash) (g.F.Flash.medium c.learn_blocks.new.self.flash) (g.F.Flash.medium c.find_spare.new.self.flash) c.learn_blocks.ensures.looks c.find_spare.ensures.looks)
+
+pub returns-in_err-leave_spare-clause-failed : goal.returns-in_err-leave_spare-clause-failed
+returns-in_err-leave_spare-clause-failed g c =
+    on_err c.from_residual-in_err-leave_spare.result
+    (looks_then g.F.Flash.told (g.F.Flash.medium c.args.self.now.flash) (g.F.Flash.medium c.find_spare.new.self.flash) (g.F.Flash.medium c.leave_spare.new.self.flash) (looks_then g.F.Flash.told (g.F.Flash.medium c.args.self.now.flash) (g.F.Flash.medium c.learn_blocks.new.self.flash) (g.F.Flash.medium c.find_spare.new.self.flash) c.learn_blocks.ensures.looks c.find_spare.ensures.looks) c.leave_spare.ensures.looks)

@@ -27,7 +27,7 @@ loop-block-preserved g c =
     let table = c.learn_block.new.self.state.table in
     let top = c.learn_block.new.self.state.sequence in
     let next : 64 * block + 64 ≡ 64 * (block + 1) = omega arith in (
-      (let later = i.0 in let on = e.flash in omega (arith, later, on)),
+      e.flash.passed ∙ i.0,
       (λ told. e.pages told ∙ i.1 told),
       e.blocks ∙ i.2,
       e.limit ∙ i.3,
@@ -44,3 +44,11 @@ loop-block-preserved g c =
       (λ start. subst (λ b. IsCounted b table) i.2 (e.counted (subst (λ b. IsCounted b was) (sym i.2) (i.9 start)))),
       looks_then g.F.Flash.told (g.F.Flash.medium c.args.self.now.flash) (g.F.Flash.medium c.loop-block.self.flash) (g.F.Flash.medium c.learn_block.new.self.flash) i.10 e.looks,
     )
+
+pub returns-in_err-learn_block-clause-looks : goal.returns-in_err-learn_block-clause-looks
+returns-in_err-learn_block-clause-looks g c =
+    looks_then g.F.Flash.told (g.F.Flash.medium c.args.self.now.flash) (g.F.Flash.medium c.loop-block.self.flash) (g.F.Flash.medium c.learn_block.new.self.flash) c.loop-block.invariant.10 c.learn_block.ensures.looks
+
+pub returns-then-not-branch-clause-looks : goal.returns-then-not-branch-clause-looks
+returns-then-not-branch-clause-looks g c =
+    looks_then g.F.Flash.told (g.F.Flash.medium c.args.self.now.flash) (g.F.Flash.medium c.loop-block.self.flash) (g.F.Flash.medium c.learn_block.new.self.flash) c.loop-block.invariant.10 c.learn_block.ensures.looks

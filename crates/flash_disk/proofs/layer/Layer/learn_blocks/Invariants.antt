@@ -1,4 +1,4 @@
-use Rattle.std.proofs.Common.{◌≡◌, ◌≤◌, ◌*◌, true}
+use Rattle.std.proofs.Common.{◌≡◌, ◌*◌, true}
 use Rattle.flash_disk.specs.Known.{limit_of}
 use Rattle.flash_disk.specs.Learnt.{HasLearnt, IsTop}
 use Rattle.flash_disk.specs.Counted.{IsCounted}
@@ -7,7 +7,7 @@ use Rattle.flash_disk.specs.Looks.{Looks}
 use Rattle.flash_disk.proofs.layer.Layer.learn_blocks.Given as goal
 
 abbrev pub invariant-loop-block : goal.invariant-loop-block
-invariant-loop-block g l = ((g.F.Flash.medium l.initial.self.flash).faults ≤ (g.F.Flash.medium l.self.flash).faults)
+invariant-loop-block g l = ((g.F.Flash.medium l.self.flash).faults ≡ (g.F.Flash.medium l.initial.self.flash).faults)
     × (g.F.Flash.told ≡ true → (g.F.Flash.medium l.self.flash).state.pages ≡ (g.F.Flash.medium l.initial.self.flash).state.pages)
     × ((g.F.Flash.medium l.self.flash).blocks ≡ (g.F.Flash.medium l.initial.self.flash).blocks)
     × (limit_of l.self.state.table ≡ limit_of l.initial.self.state.table)

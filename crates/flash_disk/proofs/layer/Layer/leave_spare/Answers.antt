@@ -6,7 +6,7 @@ use Rattle.flash_disk.proofs.layer.Layer.leave_spare.Goals as goal
 
 pub loop-page-preserved : goal.loop-page-preserved
 loop-page-preserved g c = let i = c.loop-page.invariant in let e = c.in_ok-leave_page.ensures in (
-  (let later = i.0 in let on = e.flash in omega (arith, later, on)),
+  e.flash.passed ∙ i.0,
   (λ told. e.pages told ∙ i.1 told),
   e.blocks ∙ i.2,
   e.limit ∙ i.3,
@@ -23,3 +23,7 @@ loop-page-preserved g c = let i = c.loop-page.invariant in let e = c.in_ok-leave
   looks_then g.F.Flash.told (g.F.Flash.medium c.args.self.now.flash) (g.F.Flash.medium c.loop-page.self.flash) (g.F.Flash.medium c.leave_page.new.self.flash) i.11 e.looks,
   e.len ∙ i.12,
 )
+
+pub returns-in_err-leave_page-clause-looks : goal.returns-in_err-leave_page-clause-looks
+returns-in_err-leave_page-clause-looks g c =
+    looks_then g.F.Flash.told (g.F.Flash.medium c.args.self.now.flash) (g.F.Flash.medium c.loop-page.self.flash) (g.F.Flash.medium c.leave_page.new.self.flash) c.loop-page.invariant.11 c.leave_page.ensures.looks

@@ -1,4 +1,4 @@
-use Rattle.std.proofs.Common.{◌≡◌, ◌<◌, ◌≤◌, true}
+use Rattle.std.proofs.Common.{◌≡◌, ◌<◌, true}
 use Rattle.flash_disk.specs.Newest.{places}
 use Rattle.flash_disk.specs.Known.{limit_of, page_len}
 use Rattle.flash_disk.specs.Learnt.{LeavesBlock}
@@ -8,7 +8,7 @@ use Rattle.flash_disk.specs.Looks.{Looks}
 use Rattle.flash_disk.proofs.layer.Layer.leave_spare.Given as goal
 
 abbrev pub invariant-loop-page : goal.invariant-loop-page
-invariant-loop-page g l = ((g.F.Flash.medium l.initial.self.flash).faults ≤ (g.F.Flash.medium l.self.flash).faults)
+invariant-loop-page g l = ((g.F.Flash.medium l.self.flash).faults ≡ (g.F.Flash.medium l.initial.self.flash).faults)
     × (g.F.Flash.told ≡ true → (g.F.Flash.medium l.self.flash).state.pages ≡ (g.F.Flash.medium l.initial.self.flash).state.pages)
     × ((g.F.Flash.medium l.self.flash).blocks ≡ (g.F.Flash.medium l.initial.self.flash).blocks)
     × (limit_of l.self.state.table ≡ limit_of l.initial.self.state.table)

@@ -5,7 +5,8 @@ use Rattle.flash_disk.specs.declared.layer.LayerState.{LayerState}
 use Rattle.flash_disk.specs.Newest.{places}
 use Rattle.flash_disk.specs.FlashFiles.{file_byte}
 use Rattle.flash_disk.proofs.Reading.{knows_there, content_here, page_more}
-use Rattle.flash_disk.proofs.Stretches.{elapses_refl, elapses_then, still_then}
+use Rattle.flash_disk.proofs.Looking.{looks_none, looks_then}
+use Rattle.flash_disk.proofs.Accounting.{counted_none, counted_on}
 use Rattle.flash_disk.proofs.layer.Layer.read_pages.Goals as goal
 
 pub loop-done-init : goal.loop-done-init
@@ -13,13 +14,10 @@ loop-done-init g c =
     let m = g.F.Flash.medium c.args.self.now.flash in
     let lawful = g.met.F.Flash.lawful c.args.self.now.flash in record {
       within = omega arith;
-      later = omega arith;
-      unchanged = λ told. refl;
-      still = λ told x past. lawful.only_now x past;
-      time = λ told. elapses_refl g.F.Flash.told m lawful told;
+      counts = counted_none g.F.Flash.medium 0 c.args.self.now;
+      looks = looks_none g.F.Flash.told m lawful;
       blocks = refl;
       known = refl;
-      owned = refl;
       read = λ told knows fits k below. absurd (omega arith);
     }
 
@@ -37,17 +35,14 @@ loop-done-preserved g c =
     let start = c.args.at + done in
     let from = start % 256 in record {
       within = omega arith;
-      later = (let before = i.later in let on = e.cause in omega (arith, before, on));
-      unchanged = λ told. e.unchanged told ∙ i.unchanged told;
-      still = λ told. still_then first mid last (i.time told) (e.time told) (i.unchanged told) (i.still told) (e.during told);
-      time = λ told. elapses_then first mid last (i.time told) (e.time told);
+      counts = counted_on g.F.Flash.medium 0 0 0 (omega arith) i.counts e.accounts;
+      looks = looks_then g.F.Flash.told first mid last i.looks e.looks;
       blocks = e.blocks ∙ i.blocks;
       known = e.state ∙ i.known;
-      owned = e.own ∙ i.owned;
       read = λ told knows fits k below. ⊎_elim
           (λ early. c.copy_part.ensures.before k early ∙ i.read told knows (omega (arith, fits)) k early)
           (λ late. let j = k - done in
-          let same : seen ≡ pages = ap (λ (s : FlashState). s.pages) (i.unchanged told) in
+          let same : seen ≡ pages = ap (λ (s : FlashState). s.pages) (i.looks.state told) in
           let table = ap (λ (s : LayerState). s.table) i.known in
           let at : done + j ≡ k = omega (arith, late) in
           let inside : j < c.min-count.result = omega (arith, late, below) in
@@ -60,3 +55,8 @@ loop-done-preserved g c =
           (byte ∙ (more ∙ ap (file_byte pages (places first.blocks) file) there)))
           (cases_lt k done);
     }
+
+pub returns-in_err-content-clause-looks : goal.returns-in_err-content-clause-looks
+returns-in_err-content-clause-looks g c =
+    looks_then g.F.Flash.told (g.F.Flash.medium c.args.self.now.flash) (g.F.Flash.medium c.loop-done.self.flash) (g.F.Flash.medium c.content.new.self.flash)
+    c.loop-done.invariant.looks c.content.ensures.looks

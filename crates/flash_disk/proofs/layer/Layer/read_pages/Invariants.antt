@@ -1,9 +1,9 @@
 use Rattle.std.proofs.Common.{◌≡◌, ℕ, ◌<◌, ◌≤◌, ◌+◌, ◌-◌, length, get_or, true}
-use Rattle.flash_model.specs.State.{IsStill}
-use Rattle.flash_model.specs.FlashMedium.{FlashElapses, EachFlashCase}
 use Rattle.flash_disk.specs.Newest.{places}
 use Rattle.flash_disk.specs.FlashFiles.{file_byte, file_len}
 use Rattle.flash_disk.specs.Learnt.{Knows}
+use Rattle.flash_disk.specs.Looks.{Looks}
+use Rattle.flash_disk.proofs.Accounting.{Counted}
 use Rattle.flash_disk.proofs.layer.Layer.read_pages.Given as goal
 
 abbrev pub decreases-loop-done : goal.decreases-loop-done
@@ -12,13 +12,10 @@ decreases-loop-done g l = length l.out - l.done
 abbrev pub invariant-loop-done : goal.invariant-loop-done
 invariant-loop-done g l = record {
   within : l.done ≤ length l.out;
-  later : (g.F.Flash.medium l.initial.self.flash).faults + l.initial.self.own ≤ (g.F.Flash.medium l.self.flash).faults + l.self.own;
-  unchanged : g.F.Flash.told ≡ true → (g.F.Flash.medium l.self.flash).state ≡ (g.F.Flash.medium l.initial.self.flash).state;
-  still : g.F.Flash.told ≡ true → EachFlashCase (IsStill (g.F.Flash.medium l.initial.self.flash).state) (g.F.Flash.medium l.initial.self.flash) (g.F.Flash.medium l.self.flash);
-  time : g.F.Flash.told ≡ true → FlashElapses (g.F.Flash.medium l.initial.self.flash) (g.F.Flash.medium l.self.flash);
+  counts : Counted g.F.Flash.medium 0 l.initial.self l.self;
+  looks : Looks g.F.Flash.told (g.F.Flash.medium l.initial.self.flash) (g.F.Flash.medium l.self.flash);
   blocks : (g.F.Flash.medium l.self.flash).blocks ≡ (g.F.Flash.medium l.initial.self.flash).blocks;
   known : l.self.state ≡ l.initial.self.state;
-  owned : l.self.own ≡ l.initial.self.own;
   read : g.F.Flash.told ≡ true → Knows (g.F.Flash.medium l.initial.self.flash).state.pages (places (g.F.Flash.medium l.initial.self.flash).blocks) l.initial.self.state.table
       → l.at + length l.out ≤ file_len (g.F.Flash.medium l.initial.self.flash).state.pages (places (g.F.Flash.medium l.initial.self.flash).blocks) l.file
       → (k : ℕ) → k < l.done

@@ -3,7 +3,8 @@ use Rattle.flash_disk.specs.PutPart.{PutPart}
 use Rattle.flash_disk.specs.Standing.{StandsFor}
 use Rattle.flash_disk.specs.Sound.{files_of}
 use Rattle.flash_disk.proofs.Writing.{on_ok_both, stands, does_none, files_seen, fits_seen, shown_seen, does_after_look, wiped_none, wiped_within, stray_fits, stands_still, wiped_by}
-use Rattle.flash_disk.proofs.Stretches.{does_nothing}
+use Rattle.flash_disk.proofs.Stretches.{does_nothing, elapses_then}
+use Rattle.flash_disk.proofs.Accounting.{accounts_on}
 use Rattle.flash_disk.proofs.layer.Layer.wipe_stray.Goals as goal
 
 pub returns-in_default-clause-wiped : goal.returns-in_default-clause-wiped
@@ -34,7 +35,7 @@ returns-in_err-content-clause-does g c told =
     let a = g.F.Flash.medium c.args.self.now.flash in
     let b = g.F.Flash.medium c.content.new.self.flash in
     let e = c.in_err-content.ensures in
-    does_nothing a b (StandsFor a) (e.unchanged told) (e.during told) (stands a c.args.self.now.state (c.requires.sound told))
+    does_nothing a b (StandsFor a) (e.looks.state told) (e.looks.during told) (stands a c.args.self.now.state (c.requires.sound told))
 
 pub append-requires-clause-fits : goal.append-requires-clause-fits
 append-requires-clause-fits g c told =
@@ -43,7 +44,7 @@ append-requires-clause-fits g c told =
     let s = c.args.self.now.state in
     let e = c.in_ok-content.ensures in
     let sound = c.requires.sound told in
-    fits_seen a b (e.unchanged told) e.blocks s c.content.new.self.state e.state c.args.file c.args.page c.args.len c.in_ok-content.content
+    fits_seen a b (e.looks.state told) e.blocks s c.content.new.self.state e.state c.args.file c.args.page c.args.len c.in_ok-content.content
     (stray_fits a s sound c.args.file c.args.page c.args.len (c.requires.len told) c.in_ok-content.content (e.bytes told sound.knows)
     c.in-Some.newest (sym c.find.ensures ∙ c.in-Some.is))
 
@@ -59,8 +60,8 @@ returns-clause-wiped g c told =
     let full : length was ≡ 256 = omega arith in
     on_ok_both c.append.result
     (λ part shown. wiped_by a s sound c.args.file c.args.page c.args.len (c.requires.len told) was (e.bytes told sound.knows) d full
-    (subst (λ f. PutPart c.args.file (256 * c.args.page) was c.args.len f (files_of d)) (files_seen a b (e.unchanged told) e.blocks) part)
-    (shown_seen a b (e.unchanged told) e.blocks d c.args.file c.args.page was shown))
+    (subst (λ f. PutPart c.args.file (256 * c.args.page) was c.args.len f (files_of d)) (files_seen a b (e.looks.state told) e.blocks) part)
+    (shown_seen a b (e.looks.state told) e.blocks d c.args.file c.args.page was shown))
     (c.append.ensures.put told) (c.append.ensures.shown told)
 
 pub returns-clause-does : goal.returns-clause-does
@@ -73,6 +74,13 @@ returns-clause-does g c told =
     let sound = c.requires.sound told in
     let was = c.in_ok-content.content in
     let full : length was ≡ 256 = omega arith in
-    does_after_look a b (e.unchanged told) e.blocks StandsFor c.args.file (256 * c.args.page) was c.args.len d
+    does_after_look a b (e.looks.state told) e.blocks StandsFor c.args.file (256 * c.args.page) was c.args.len d
     (stands_still a s sound c.args.file c.args.page c.args.len (c.requires.len told) was (e.bytes told sound.knows) full)
-    (stands a s sound) (e.time told) (c.append.ensures.time told) (e.during told) (c.append.ensures.does told)
+    (stands a s sound) (e.looks.time told) (c.append.ensures.time told) (e.looks.during told) (c.append.ensures.does told)
+
+pub returns-clause-time : goal.returns-clause-time
+returns-clause-time g c told =
+    elapses_then (g.F.Flash.medium c.args.self.now.flash) (g.F.Flash.medium c.content.new.self.flash) (g.F.Flash.medium c.append.new.self.flash) (c.content.ensures.looks.time told) (c.append.ensures.time told)
+
+pub returns-clause-accounts : goal.returns-clause-accounts
+returns-clause-accounts g c = accounts_on g.F.Flash.medium 0 1 1 (omega arith) c.in_ok-content.ensures.accounts c.append.ensures.accounts

@@ -1,8 +1,9 @@
-use Rattle.std.proofs.Common.{◌/◌, ◌∙◌, refl, arith}
+use Rattle.std.proofs.Common.{◌+◌, ◌/◌, ◌∙◌, arith}
 use Rattle.flash_disk.specs.Standing.{StandsFor}
 use Rattle.flash_disk.proofs.Writing.{stands, does_none, stands_then, wiped_start, wiped_more, wiped_nowhere, len_still}
 use Rattle.flash_disk.proofs.Stretches.{elapses_refl, elapses_then}
 use Rattle.flash_disk.proofs.Entries.{same_entries, same_entries_then}
+use Rattle.flash_disk.proofs.Accounting.{counted_none, counted_on}
 use Rattle.flash_disk.proofs.layer.Layer.wipe_strays.Goals as goal
 
 pub returns-then-end-len-clause-wiped : goal.returns-then-end-len-clause-wiped
@@ -28,11 +29,7 @@ loop-page-init g c =
       wiped = λ told. wiped_start a s (c.requires.sound told) c.args.file (c.len_of-len.result / 256) (let len = c.len_of-len.ensures in omega (arith, len));
       does = λ told. does_none g.F.Flash.told a lawful (StandsFor a) (stands a s (c.requires.sound told));
       time = λ told. elapses_refl g.F.Flash.told a lawful told;
-      numbered = omega arith;
-      counted = omega arith;
-      own = refl;
-      disputed = refl;
-      steps = omega arith;
+      counts = counted_none g.F.Flash.medium (c.len_of-len.result / 256) c.args.self.now;
       entries = λ told. same_entries s.table;
     }
 
@@ -65,10 +62,10 @@ loop-page-preserved g c =
       wiped = λ told. wiped_more a b c.args.file c.loop-page.page c.args.self.now.state.stray_end (i.wiped told) d (e.wiped told);
       does = λ told. stands_then a b (i.time told) d (e.time told) (i.does told) (e.does told);
       time = λ told. elapses_then a b d (i.time told) (e.time told);
-      numbered = (let before = i.numbered in let on = e.later in omega (arith, before, on));
-      counted = (let before = i.counted in let on = e.cause.later in omega (arith, before, on));
-      own = e.kept ∙ i.own;
-      disputed = e.disputed ∙ i.disputed;
-      steps = (let before = i.steps in let on = e.steps in omega (arith, before, on));
+      counts = counted_on g.F.Flash.medium c.loop-page.page 1 (c.loop-page.page + 1) (omega arith) i.counts e.accounts;
       entries = λ told. same_entries_then c.args.self.now.state.table c.loop-page.self.state.table c.wipe_stray.new.self.state.table (i.entries told) (e.entries told);
     }
+
+pub returns-in_err-wipe_stray-clause-time : goal.returns-in_err-wipe_stray-clause-time
+returns-in_err-wipe_stray-clause-time g c told =
+    elapses_then (g.F.Flash.medium c.args.self.now.flash) (g.F.Flash.medium c.loop-page.self.flash) (g.F.Flash.medium c.wipe_stray.new.self.flash) (c.loop-page.invariant.time told) (c.wipe_stray.ensures.time told)

@@ -1,4 +1,4 @@
-use Rattle.std.proofs.Common.{◌≡◌, ◌≤◌, ◌+◌, true}
+use Rattle.std.proofs.Common.{◌≡◌, true}
 use Rattle.std.specs.Prelude.{None}
 use Rattle.flash_model.specs.FlashMedium.{FlashElapses}
 use Rattle.flash_disk.specs.Does.{Does}
@@ -6,6 +6,7 @@ use Rattle.flash_disk.specs.Standing.{StandsFor}
 use Rattle.flash_disk.specs.Sound.{IsSound}
 use Rattle.flash_disk.specs.Entries.{SameEntries}
 use Rattle.flash_disk.proofs.Writing.{Wiped}
+use Rattle.flash_disk.proofs.Accounting.{Counted}
 use Rattle.flash_disk.proofs.layer.Layer.wipe_strays.Given as goal
 
 abbrev pub invariant-loop-page : goal.invariant-loop-page
@@ -16,10 +17,6 @@ invariant-loop-page g l = record {
   does : g.F.Flash.told ≡ true → Does (StandsFor (g.F.Flash.medium l.initial.self.flash))
       (g.F.Flash.medium l.initial.self.flash) (g.F.Flash.medium l.self.flash);
   time : g.F.Flash.told ≡ true → FlashElapses (g.F.Flash.medium l.initial.self.flash) (g.F.Flash.medium l.self.flash);
-  numbered : l.initial.self.state.sequence ≤ l.self.state.sequence;
-  counted : (g.F.Flash.medium l.initial.self.flash).faults + l.initial.self.own ≤ (g.F.Flash.medium l.self.flash).faults + l.self.own;
-  own : l.self.own ≡ l.initial.self.own;
-  disputed : l.self.state.disputed ≡ l.initial.self.state.disputed;
-  steps : l.self.state.sequence ≤ l.initial.self.state.sequence + l.page;
+  counts : Counted g.F.Flash.medium l.page l.initial.self l.self;
   entries : g.F.Flash.told ≡ true → SameEntries l.initial.self.state.table l.self.state.table;
 }

@@ -1,62 +1,6 @@
-use Rattle.std.proofs.Common.{length, sym, inl, inr, ◌∙◌, arith, true≢false}
-use Rattle.std.proofs.lemmas.Result.{on_ok_weaker}
-use Rattle.flash_disk.proofs.Writing.{on_ok_both, no_error, wipes_torn, wipes_then, len_wiped, grows_wiped, sound_announced, writes_into}
-use Rattle.flash_disk.proofs.Stretches.{elapses_then}
-use Rattle.flash_disk.proofs.Failing.{wants_too_many, not_begun, allowed, takes_pages}
+use Rattle.std.proofs.Common.{length, sym, inl, inr, ◌∙◌, ⊎_elim, arith, true≢false}
+use Rattle.flash_disk.proofs.Failing.{wants_too_many, not_begun}
 use Rattle.flash_disk.proofs.layer.Layer.write_file.Goals as goal
-
-pub returns-in_err-wipe_strays-clause-writes : goal.returns-in_err-wipe_strays-clause-writes
-returns-in_err-wipe_strays-clause-writes g c told =
-    let a = g.F.Flash.medium c.args.self.now.flash in
-    let b = g.F.Flash.medium c.announce.new.self in
-    let w = g.F.Flash.medium c.wipe_strays.new.self.flash in
-    let s = c.args.self.now.state in
-    let e = c.wipe_strays.ensures in
-    let announced = no_error c.announce.result (sym c.is_err.ensures.value ∙ c.if-is_err.false) (c.announce.ensures.state told) in
-    writes_into c.args.file c.args.at c.args.bytes.now a b announced c.announce.ensures.time s (c.requires.sound told) c.announce.ensures.during w (e.time told)
-    (wipes_torn c.args.file c.args.at c.args.bytes.now b w (e.time told) (e.does told))
-
-pub write_pages-requires-clause-grows : goal.write_pages-requires-clause-grows
-write_pages-requires-clause-grows g c told =
-    let a = g.F.Flash.medium c.args.self.now.flash in
-    let b = g.F.Flash.medium c.announce.new.self in
-    let w = g.F.Flash.medium c.wipe_strays.new.self.flash in
-    let s = c.args.self.now.state in
-    let e = c.in_ok-wipe_strays.ensures in
-    let announced = no_error c.announce.result (sym c.is_err.ensures.value ∙ c.if-is_err.false) (c.announce.ensures.state told) in
-    let sound = sound_announced c.args.file c.args.at c.args.bytes.now a b announced c.announce.ensures.time s (c.requires.sound told) in
-    let len = c.len_of.ensures in
-    let greater = c.max-len.ensures in
-    grows_wiped c.args.file c.args.at c.args.bytes.now b w (e.time told) (e.does told) s sound c.in-Some.end c.max-len.result (omega (arith, len, greater)) (e.wiped told)
-
-pub write_pages-requires-clause-len : goal.write_pages-requires-clause-len
-write_pages-requires-clause-len g c told =
-    let a = g.F.Flash.medium c.args.self.now.flash in
-    let b = g.F.Flash.medium c.announce.new.self in
-    let w = g.F.Flash.medium c.wipe_strays.new.self.flash in
-    let s = c.args.self.now.state in
-    let e = c.in_ok-wipe_strays.ensures in
-    let announced = no_error c.announce.result (sym c.is_err.ensures.value ∙ c.if-is_err.false) (c.announce.ensures.state told) in
-    let sound = sound_announced c.args.file c.args.at c.args.bytes.now a b announced c.announce.ensures.time s (c.requires.sound told) in
-    let known_is = len_wiped c.args.file c.args.at c.args.bytes.now b w (e.time told) (e.does told) s sound in
-    let len = c.len_of.ensures in
-    let greater = c.max-len.ensures in
-    let end = c.in-Some.ensures.1 in
-    omega (arith, len, greater, known_is, end)
-
-pub returns-clause-writes : goal.returns-clause-writes
-returns-clause-writes g c told =
-    let a = g.F.Flash.medium c.args.self.now.flash in
-    let b = g.F.Flash.medium c.announce.new.self in
-    let w = g.F.Flash.medium c.wipe_strays.new.self.flash in
-    let d = g.F.Flash.medium c.write_pages.new.self.flash in
-    let s = c.args.self.now.state in
-    let e = c.in_ok-wipe_strays.ensures in
-    let f = c.write_pages.ensures in
-    let announced = no_error c.announce.result (sym c.is_err.ensures.value ∙ c.if-is_err.false) (c.announce.ensures.state told) in
-    writes_into c.args.file c.args.at c.args.bytes.now a b announced c.announce.ensures.time s (c.requires.sound told) c.announce.ensures.during d
-    (elapses_then b w d (e.time told) (f.time told))
-    (wipes_then c.args.file c.args.at c.args.bytes.now b w (e.time told) (e.does told) d (f.time told) (f.does told))
 
 pub returns-then-not-has_room-clause-own : goal.returns-then-not-has_room-clause-own
 returns-then-not-has_room-clause-own g c told =
@@ -65,31 +9,10 @@ returns-then-not-has_room-clause-own g c told =
     c.in-Some.ensures.1
     (λ fits. true≢false (sym (c.has_room.ensures.1 fits) ∙ c.if-not-has_room.true)))))
 
-pub returns-clause-allowed : goal.returns-clause-allowed
-returns-clause-allowed g c told =
-    let a = g.F.Flash.medium c.args.self.now.flash in
-    let s = c.args.self.now.state in
-    on_ok_weaker c.write_pages.result
-    (λ calm. allowed a s c.args.file c.args.at (length c.args.bytes.now) c.in-Some.end (c.requires.sound told) c.in-Some.ensures.1 (omega arith)
-    (c.has_room.ensures.0 c.if-not-has_room.false) (sym c.in_ok-wipe_strays.ensures.disputed ∙ calm c.requires.some))
-    (c.write_pages.ensures.calm told)
-
-pub returns-clause-takes : goal.returns-clause-takes
-returns-clause-takes g c told =
-    let a = g.F.Flash.medium c.args.self.now.flash in
-    let d = g.F.Flash.medium c.write_pages.new.self.flash in
-    let f = c.write_pages.ensures in
-    on_ok_both c.write_pages.result
-    (λ sound takes. takes_pages a d c.args.self.now.state c.wipe_strays.new.self.state c.write_pages.new.self.state c.args.file c.args.at (length c.args.bytes.now)
-    (c.requires.sound told) sound (c.in_ok-wipe_strays.ensures.entries told) takes)
-    (f.sound told) (f.takes told)
-
-pub returns-in_err-wipe_strays-clause-refused : goal.returns-in_err-wipe_strays-clause-refused
-returns-in_err-wipe_strays-clause-refused g c told why =
-    absurd (not_begun (g.F.Flash.medium c.args.self.now.flash) c.args.self.now.state c.args.file c.args.at (length c.args.bytes.now) c.in-Some.end (c.requires.sound told)
-    c.in-Some.ensures.1 (omega arith) (c.has_room.ensures.0 c.if-not-has_room.false) why)
-
 pub returns-clause-refused : goal.returns-clause-refused
 returns-clause-refused g c told why =
     absurd (not_begun (g.F.Flash.medium c.args.self.now.flash) c.args.self.now.state c.args.file c.args.at (length c.args.bytes.now) c.in-Some.end (c.requires.sound told)
     c.in-Some.ensures.1 (omega arith) (c.has_room.ensures.0 c.if-not-has_room.false) why)
+
+pub returns-clause-own : goal.returns-clause-own
+returns-clause-own g c told = ⊎_elim inl (λ stops. inr (inr (inr stops))) (c.write_within.ensures.own told)

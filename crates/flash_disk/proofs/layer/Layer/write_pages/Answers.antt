@@ -7,6 +7,7 @@ use Rattle.flash_disk.specs.Writes.{LeavesTorn}
 use Rattle.flash_disk.proofs.Writing.{does_none, torn_nothing, wrote_nothing, wrote_more, torn_then, moved_there, wrote_all}
 use Rattle.flash_disk.proofs.Stretches.{elapses_refl, elapses_then}
 use Rattle.flash_disk.proofs.Affording.{affords_place, affords_more, as_many}
+use Rattle.flash_disk.proofs.Accounting.{counted_none, counted_on}
 use Rattle.flash_disk.proofs.layer.Layer.write_pages.Goals as goal
 
 pub loop-done-init : goal.loop-done-init
@@ -23,10 +24,7 @@ loop-done-init g c =
           (torn_nothing a s (r.sound told) c.args.file c.args.at (length c.args.bytes.now));
       time = λ told. elapses_refl g.F.Flash.told a lawful told;
       numbered = omega arith;
-      counted = omega arith;
-      own = refl;
-      disputed = refl;
-      steps = omega arith;
+      counts = counted_none g.F.Flash.medium 0 c.args.self.now;
       calm = λ told some. absurd (omega (arith, some));
       affords = r.affords;
       as_many = λ told. refl;
@@ -66,14 +64,11 @@ loop-done-preserved g c =
           (moved_there (λ p k. Does (LeavesPut c.args.file p (take k (drop done c.args.bytes.now)) c.args.len b) b d) start done count (e.does told));
       time = λ told. elapses_then a b d (i.time told) (e.time told);
       numbered = (let before = i.numbered in let on = e.rises in let few = c.min-count.ensures in omega (arith, before, on, few));
-      counted = (let before = i.counted in let on = e.cause.later in omega (arith, before, on));
-      own = e.kept ∙ i.own;
-      disputed = e.disputed ∙ i.disputed;
-      steps = (let before = i.steps in let on = e.steps in let few = c.min-count.ensures in omega (arith, before, on, few));
+      counts = counted_on g.F.Flash.medium done 1 (done + count) (let few = c.min-count.ensures in omega (arith, few)) i.counts e.accounts;
       affords = λ told. affords_more c.args.file (c.args.at / 256) c.loop-done.self.state.table c.write_page.new.self.state.table
           (div_ceil (c.args.at + length c.args.bytes.now) 256 - c.args.at / 256) (start / 256 - c.args.at / 256) (start / 256) (omega arith) (omega arith)
           (e.entries told) (i.affords told);
-      calm = λ told some. sym i.disputed ∙ e.calm told;
+      calm = λ told some. sym i.counts.disputed ∙ e.calm told;
       as_many = λ told. as_many c.args.file (c.args.at / 256) c.loop-done.self.state.table c.write_page.new.self.state.table
           (div_ceil (c.args.at + length c.args.bytes.now) 256 - c.args.at / 256) (start / 256 - c.args.at / 256) (start / 256) (omega arith) (omega arith)
           (e.entries told) ∙ i.as_many told;
@@ -93,3 +88,7 @@ write_page-requires-clause-place g c told =
     let start = c.args.at + c.loop-done.done in
     affords_place c.args.file (c.args.at / 256) c.loop-done.self.state.table (div_ceil (c.args.at + length c.args.bytes.now) 256 - c.args.at / 256)
     (start / 256 - c.args.at / 256) (start / 256) (c.loop-done.invariant.affords told) (omega arith) (omega arith)
+
+pub returns-in_err-write_page-clause-time : goal.returns-in_err-write_page-clause-time
+returns-in_err-write_page-clause-time g c told =
+    elapses_then (g.F.Flash.medium c.args.self.now.flash) (g.F.Flash.medium c.loop-done.self.flash) (g.F.Flash.medium c.write_page.new.self.flash) (c.loop-done.invariant.time told) (c.write_page.ensures.time told)

@@ -9,6 +9,7 @@ use Rattle.flash_disk.specs.Known.{page_len}
 use Rattle.flash_disk.specs.Counted.{missing}
 use Rattle.flash_disk.specs.Entries.{Affords}
 use Rattle.flash_disk.proofs.Writing.{WroteSoFar}
+use Rattle.flash_disk.proofs.Accounting.{Counted}
 use Rattle.flash_disk.proofs.layer.Layer.write_pages.Given as goal
 
 abbrev pub decreases-loop-done : goal.decreases-loop-done
@@ -24,10 +25,7 @@ invariant-loop-done g l = record {
       (g.F.Flash.medium l.initial.self.flash) (g.F.Flash.medium l.self.flash);
   time : g.F.Flash.told ≡ true → FlashElapses (g.F.Flash.medium l.initial.self.flash) (g.F.Flash.medium l.self.flash);
   numbered : l.done + 256 * l.initial.self.state.sequence ≤ 256 * l.self.state.sequence;
-  counted : (g.F.Flash.medium l.initial.self.flash).faults + l.initial.self.own ≤ (g.F.Flash.medium l.self.flash).faults + l.self.own;
-  own : l.self.own ≡ l.initial.self.own;
-  disputed : l.self.state.disputed ≡ l.initial.self.state.disputed;
-  steps : l.self.state.sequence ≤ l.initial.self.state.sequence + l.done;
+  counts : Counted g.F.Flash.medium l.done l.initial.self l.self;
   calm : g.F.Flash.told ≡ true → 0 < l.done → IsFalse l.initial.self.state.disputed;
   affords : g.F.Flash.told ≡ true → Affords l.self.state.table l.file (l.at / 256) (div_ceil (l.at + length l.bytes) 256 - l.at / 256);
   as_many : g.F.Flash.told ≡ true
