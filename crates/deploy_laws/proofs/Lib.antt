@@ -1,0 +1,15 @@
+pub mod Named
+pub mod Copies
+pub mod Said
+pub mod Files
+pub mod Covered
+pub mod Kept
+pub mod Standing
+pub mod Untouched
+pub mod Still
+pub mod Formatting
+pub mod Frames
+pub mod Phases
+pub mod Clean
+pub mod Storing
+pub mod Refusals

@@ -1,0 +1,124 @@
+-- What a disk's image says of an application.
+use Rattle.std.specs.Prelude.{◌≡◌, ◌<◌, ◌≤◌, ℕ, ◌-◌, List, [], ◌++◌, map, length, nat_le, Bool, Option, Some, None, option_map, ⊤}
+use Rattle.std.specs.List.{AllByRecursion}
+use Rattle.disk_model.specs.Image.{Image}
+use Rattle.deployment_model.specs.Conditions.{IsDeployment}
+use Rattle.guarded_cell.specs.declared.looking.Seen.{Seen}
+use Rattle.guarded_cell.specs.Register.{Holds, IsOneEach}
+use Rattle.guarded_cell.specs.Held.{held, standing, lacking}
+use Rattle.element_state.specs.declared.shapes.Shape.{Shape}
+use Rattle.element_state.specs.States.{State, store_at}
+use Rattle.element_state.specs.Clean.{IsClean}
+use Rattle.root_text.specs.RootText.{Root, Version, root_of}
+use Rattle.root_text.specs.RootText as text
+use Rattle.deploy_laws.specs.Places.{Named, root_place, shapes_in, shapes_if}
+
+-- what the root of an application says: nothing that counts; that nothing is installed; or the active version and the previous one, with
+-- the generation of its text
+pub data Says : Type 0 where
+  nothing : Says
+  absent : (generation : ℕ) → Says
+  installed : (generation : ℕ) (active : Named) (previous : Option Named) → Says
+
+-- the storages that it names: those of the active version by their numbers, and then those of the previous one
+unfoldable pub shapes_named : ℕ → Says → List Shape
+shapes_named app nothing = []
+shapes_named app (absent g) = []
+shapes_named app (installed g active previous) = shapes_in app active ++ shapes_if app previous
+
+-- an application: what its root says, the copies that lack the root, counted from 1, and the state of each storage that the root names
+pub record App : Type 0 where
+  pub says : Says
+  pub lacking : List ℕ
+  pub states : List State
+
+-- a root that says nothing has none
+abbrev pub generation_of : Says → ℕ
+generation_of nothing = 0
+generation_of (absent g) = g
+generation_of (installed g active previous) = g
+
+-- ---- reading an image
+
+abbrev pub named : ℕ → Version → Named
+named bank v = record { bank = bank; deployment = v.deployment }
+
+abbrev pub says_by : ℕ → Option Root → Says
+says_by g None = nothing
+says_by g (Some text.absent) = absent g
+says_by g (Some (text.installed bank active previous)) = installed g (named bank active) (option_map (named (1 - bank)) previous)
+
+abbrev pub says_in : Option Seen → Says
+says_in None = nothing
+says_in (Some seen) = says_by seen.generation (root_of seen.text)
+
+-- what two of the three copies of a root say
+unfoldable pub says_at : Image → ℕ → Says
+says_at image app = says_in (standing image (root_place app).first 3 2)
+
+-- the copies that lack the text that stands, of a root that says something
+abbrev pub lacking_in : Image → ℕ → Says → Option Seen → List ℕ
+lacking_in image app nothing seen = []
+lacking_in image app (absent g) None = []
+lacking_in image app (absent g) (Some seen) = lacking image (root_place app).first 3 seen.generation seen.text
+lacking_in image app (installed g active previous) None = []
+lacking_in image app (installed g active previous) (Some seen) = lacking image (root_place app).first 3 seen.generation seen.text
+
+-- the application, on every image
+unfoldable pub app_at : Image → ℕ → App
+app_at image app = record {
+  says = says_at image app;
+  lacking = lacking_in image app (says_at image app) (standing image (root_place app).first 3 2);
+  states = map (store_at image) (shapes_named app (says_at image app));
+}
+
+-- no text is held in the root's place beside the one that stands
+abbrev pub root_settled : Image → ℕ → Bool
+root_settled image app = nat_le (length (held image (root_place app).first 3)) 1
+
+-- ---- versions
+
+-- the version lies in a bank and keeps what every deployment keeps
+pub record IsPlaced (v : Named) : Type 0 where
+  pub in_bank : v.bank ≤ 1
+  pub keeps : IsDeployment v.deployment
+
+-- the version before it lies in the other bank
+pub record ArePlaced (active previous : Named) : Type 0 where
+  pub of_active : IsPlaced active
+  pub of_previous : IsPlaced previous
+  pub apart : previous.bank ≡ 1 - active.bank
+
+abbrev pub AreVersions : Says → Type 0
+AreVersions nothing = ⊤
+AreVersions (absent g) = ⊤
+AreVersions (installed g active None) = IsPlaced active
+AreVersions (installed g active (Some previous)) = ArePlaced active previous
+
+-- no version that it names lies in this bank
+abbrev pub IsFree : (bank : ℕ) → Says → Type 0
+IsFree bank nothing = ⊤
+IsFree bank (absent g) = ⊤
+IsFree bank (installed g active None) = ¬ (active.bank ≡ bank)
+IsFree bank (installed g active (Some previous)) = ¬ (active.bank ≡ bank) × ¬ (previous.bank ≡ bank)
+
+-- ---- places that are clean
+
+-- every text that is held in the root's place is a root's, and no two have one generation
+pub record IsCleanRoot (app : ℕ) (image : Image) : Type 0 where
+  pub one_each : IsOneEach image (root_place app).first 3
+  pub root : (copy generation : ℕ) (text : List ℕ) → copy < 3 → Holds image (root_place app).first copy generation text
+      → (root : Root) × (root_of text ≡ Some root)
+
+abbrev pub AreClean : Image → List Shape → Type 0
+AreClean image shapes = AllByRecursion (λ shape. IsClean shape image) shapes
+
+-- the places of an application: its root's, and those that its root names
+pub record IsCleanApp (app : ℕ) (image : Image) : Type 0 where
+  pub root : IsCleanRoot app image
+  pub storages : AreClean image (shapes_named app (says_at image app))
+
+-- storages whose places are clean and whose states are these
+pub record AreOn (image : Image) (shapes : List Shape) (states : List State) : Type 0 where
+  pub clean : AreClean image shapes
+  pub states_are : map (store_at image) shapes ≡ states

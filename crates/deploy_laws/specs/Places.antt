@@ -1,0 +1,98 @@
+-- Where the root and the storages of an application lie.
+use Rattle.std.specs.Prelude.{◌⊎◌, ℕ, suc, ◌+◌, ◌*◌, ◌<◌, ◌≤◌, min, max, List, [], ◌∷◌, Option, Some, None}
+use Rattle.std.proofs.Common.{arith}
+use Rattle.disk_model.specs.declared.place.Place.{Place}
+use Rattle.element_state.specs.declared.shapes.Shape.{Shape}
+use Rattle.deployment_model.specs.Data.{DeploymentData, StorageData}
+
+-- ---- places
+
+-- A place has from 1 to 8 copies, and its files have numbers below 2^32. What goes beyond is cut off; nothing that a deployment gives does.
+abbrev pub cut_first : ℕ → ℕ
+cut_first first = min first 4294967263
+
+abbrev pub cut_copies : ℕ → ℕ
+cut_copies copies = min 8 (max 1 copies)
+
+pub some_copies : (copies : ℕ) → 1 ≤ cut_copies copies
+some_copies copies = omega arith
+
+pub few_copies : (copies : ℕ) → cut_copies copies ≤ 8
+few_copies copies = omega arith
+
+pub has_room : (first copies : ℕ) → cut_first first + 4 * cut_copies copies ≤ 4294967295
+has_room first copies = omega arith
+
+abbrev pub place_at : (first copies : ℕ) → Place
+place_at first copies = record {
+  first = cut_first first;
+  copies = cut_copies copies;
+  some = some_copies copies;
+  few = few_copies copies;
+  room = has_room first copies;
+}
+
+-- the files of an application are 4096 from here on
+abbrev pub first_file : ℕ → ℕ
+first_file app = 4096 * app
+
+abbrev pub root_place : ℕ → Place
+root_place app = place_at (first_file app) 3
+
+-- the first file of storage `number` of a bank
+abbrev pub storage_file : (app bank number : ℕ) → ℕ
+storage_file app bank number = first_file app + 1024 + 512 * bank + 32 * number
+
+-- ---- shapes
+
+unfoldable pub shape_of : (app bank number : ℕ) → StorageData → Shape
+shape_of app bank number s = record {
+  name = s.name;
+  place = place_at (storage_file app bank number) s.n;
+  kind = s.kind;
+  m = s.m;
+  scope = s.scope;
+  allowed = s.maximum;
+}
+
+abbrev pub shapes_from : (app bank number : ℕ) → List StorageData → List Shape
+shapes_from app bank number [] = []
+shapes_from app bank number (s ∷ ss) = shape_of app bank number s ∷ shapes_from app bank (suc number) ss
+
+-- a version, in its bank
+pub record Named : Type 0 where
+  pub bank : ℕ
+  pub deployment : DeploymentData
+
+abbrev pub shapes_in : ℕ → Named → List Shape
+shapes_in app v = shapes_from app v.bank 0 v.deployment.storages
+
+abbrev pub shapes_if : ℕ → Option Named → List Shape
+shapes_if app None = []
+shapes_if app (Some v) = shapes_in app v
+
+-- ---- the files of an application
+
+-- one of the files of the application
+abbrev pub IsFileOf : ℕ → ℕ → Type 0
+IsFileOf app file = (first_file app ≤ file) × (file < first_file app + 4096)
+
+-- the file is none of the application's
+abbrev pub IsNoFileOf : ℕ → ℕ → Type 0
+IsNoFileOf app file = (file < first_file app) ⊎ (first_file app + 4096 ≤ file)
+
+-- the file is not one of the 32 of a storage
+abbrev pub IsBeside : (app bank number : ℕ) → ℕ → Type 0
+IsBeside app bank number file = (file < storage_file app bank number) ⊎ (storage_file app bank number + 32 ≤ file)
+
+-- the file is not one of the 512 of a bank
+abbrev pub IsOutsideBank : (app bank : ℕ) → ℕ → Type 0
+IsOutsideBank app bank file = (file < storage_file app bank 0) ⊎ (storage_file app bank 0 + 512 ≤ file)
+
+-- the file is not one of the root's
+abbrev pub IsNoRootFile : ℕ → ℕ → Type 0
+IsNoRootFile app file = (file < first_file app) ⊎ (first_file app + 12 ≤ file)
+
+-- the file is none that an install or an update in this bank writes: no file of the root, and none of the bank
+abbrev pub IsBesideNew : (app bank : ℕ) → ℕ → Type 0
+IsBesideNew app bank file = IsNoRootFile app file × IsOutsideBank app bank file

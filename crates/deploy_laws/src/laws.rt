@@ -1,0 +1,119 @@
+//! The laws, for the proofs of callers: none of these functions does anything when it runs.
+
+ghost use Rattle.std.specs.Prelude.{◌≡◌, ◌<◌, ◌≤◌, ℕ, List, Some, slice_get};
+ghost use Rattle.disk_model.specs.Damage.{AtLeast};
+ghost use Rattle.disk_model.specs.Frame.{Spares};
+ghost use Rattle.disk_model.specs.Image.{Image};
+ghost use Rattle.element_state.specs.declared.shapes.Shape.{Shape};
+ghost use Rattle.element_state.specs.Kept.{Kept};
+ghost use Rattle.element_state.specs.States.{State, store_at};
+ghost use Rattle.deploy_laws.specs.Places.{IsOutsideBank};
+ghost use Rattle.deploy_laws.specs.Apps.{App, IsCleanApp, IsFree, app_at, nothing, says_at, shapes_named};
+ghost use Rattle.deploy_laws.specs.Stands.{IsRootSpared, Stands};
+ghost use Rattle.deploy_laws.specs.Laws.{VersionsLaw, SaysFrameLaw, AloneFrameLaw, NumberLaw, AloneLaw, AloneCleanLaw, RootFilesLaw, StorageFilesLaw, ApartLaw, AppFrameLaw, StoredLaw, OthersLaw, OthersCaseLaw, CoveredLaw, RootStandsLaw, StandsCleanLaw, RootMendLaw, UntouchedAppLaw, StillAppLaw, OpeningLaw, FormattingLaw, CreatingLaw, WritingLaw, StoringLaw};
+ghost use Rattle.deploy_laws.specs.Refused.{OldVersionLost, OtherRoot, RootRaised, RootTooEarly, StorageStrays};
+
+use element_laws::{places_stand_apart, untouched_is_kept};
+use guarded_cell::held_is_lawful;
+use manifest::said_is_kept;
+use root_text::one_root;
+
+/// What a root says, on every image: versions that lie in their banks and keep what deployments keep, told by the root's own files alone.
+/// Where a root's text is held alone the application is what it says, and clean where its storages are.
+pub fn roots_say()
+    ensures versions { VersionsLaw }
+    ensures says { SaysFrameLaw }
+    ensures numbers { NumberLaw }
+    ensures alone { AloneLaw }
+    ensures held { AloneFrameLaw }
+    ensures clean { AloneCleanLaw }
+{
+    said_is_kept();
+    one_root();
+    held_is_lawful();
+}
+
+/// The files of a root, of the storages in both banks, and of other applications lie apart.
+pub fn files_lie_apart()
+    ensures root { RootFilesLaw }
+    ensures storage { StorageFilesLaw }
+    ensures apart { ApartLaw }
+{}
+
+/// What leaves the files of an application alone leaves the application as it was, and so does what writes in a bank in which no version
+/// lies. What writes the files of one storage changes the state of that storage alone.
+pub fn others_stand()
+    ensures frame { AppFrameLaw }
+    ensures free_bank { (app bank : ℕ) (old new : Image) → app < 8 → bank ≤ 1 → IsFree bank (says_at old app)
+        → Spares (IsOutsideBank app bank) old new
+        → (app_at new app ≡ app_at old app) × (IsCleanApp app old → IsCleanApp app new) }
+    ensures stored { StoredLaw }
+    ensures others { OthersLaw }
+    ensures cases { OthersCaseLaw }
+{
+    said_is_kept();
+    one_root();
+    held_is_lawful();
+    places_stand_apart();
+}
+
+/// What is granted of chance and damage covers every storage that a root names afterwards. A root that is read stands while nothing is
+/// damaged, and then what stands has clean places; copies that lack the root do not matter beside two that hold it.
+pub fn roots_stay()
+    ensures covered { CoveredLaw }
+    ensures root { RootStandsLaw }
+    ensures clean { StandsCleanLaw }
+    ensures mended { RootMendLaw }
+{}
+
+/// An application that nobody touches stands as it was, also on its way to whatever may come of it.
+pub fn untouched_stands()
+    ensures untouched { UntouchedAppLaw }
+    ensures still { StillAppLaw }
+{
+    said_is_kept();
+    one_root();
+    untouched_is_kept();
+}
+
+/// A stop while the root is brought to every copy, while a bad root is made anew, while storages are made in a bank in which no version
+/// lies, and while the root is written, leaves the application as before or as after.
+pub fn deploying_stands()
+    ensures opening { OpeningLaw }
+    ensures formatting { FormattingLaw }
+    ensures creating { CreatingLaw }
+    ensures writing { WritingLaw }
+{
+    said_is_kept();
+    one_root();
+    untouched_is_kept();
+}
+
+/// A stop while one storage is on its way to another state leaves the application so.
+pub fn storing_stands()
+    ensures { StoringLaw }
+{
+    said_is_kept();
+    one_root();
+    untouched_is_kept();
+}
+
+/// What a stop may not leave: a root that two spared copies held and that is gone, or is another one; a bad root that says what no call
+/// gave it; an old version whose bank was touched; a next version that is not built; a storage that went another way.
+pub fn outcomes_are_refused()
+    ensures root_gone { (app : ℕ) (image : Image) (damaged : List ℕ) (before after : App)
+        → ¬ (before.says ≡ nothing) → ¬ (after.says ≡ nothing)
+        → AtLeast (IsRootSpared app damaged before.lacking) 3 2
+        → says_at image app ≡ nothing → ¬ (Stands app image damaged before after) }
+    ensures other_root { OtherRoot }
+    ensures root_raised { RootRaised }
+
+    // The root is that of before, and a storage of the old version is not as it was.
+    ensures old_bank_touched { (app number : ℕ) (image : Image) (damaged : List ℕ) (before after : App) (shape : Shape) (state : State)
+        → slice_get (shapes_named app before.says) number ≡ Some shape → slice_get before.states number ≡ Some state
+        → ¬ (Kept shape damaged (store_at image shape) state state)
+        → says_at image app ≡ before.says → ¬ (after.says ≡ before.says) → ¬ (Stands app image damaged before after) }
+    ensures old_version_lost { OldVersionLost }
+    ensures root_too_early { RootTooEarly }
+    ensures storage_strays { StorageStrays }
+{}

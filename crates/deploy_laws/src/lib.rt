@@ -1,0 +1,9 @@
+//! What a disk says of an application, and what a stop at any moment of a call, and then damage, leave of it.
+#![tactic(auto)]
+
+mod laws;
+
+pub use laws::{
+    deploying_stands, files_lie_apart, others_stand, outcomes_are_refused, roots_say, roots_stay,
+    storing_stands, untouched_stands,
+};

@@ -1,0 +1,43 @@
+-- What the rows of all calls have in common: the statements of the laws.
+use Rattle.std.specs.Prelude.{◌≡◌, ℕ, List, Option, Some, Result, Ok, Err}
+use Rattle.per_base.specs.declared.errors.PerError.{PerError}
+use Rattle.per_base.specs.declared.errors.PerError.TheVariants as error
+use Rattle.manifest.specs.Reading.{broken_rule}
+use Rattle.deploy_laws.specs.Apps.{App}
+use Rattle.deploy_laws.specs.Stands.{IsLater}
+use Rattle.deploy_rows.specs.Rows.{InProgress, deployment_of, installing, finishing, rolling_back, wiping, updated_app, reopened, after}
+
+-- ---- what a row leads to comes later: it has a greater generation, or nothing changed but the copies of the root
+
+abbrev pub InstallLaterLaw : Type 0
+InstallLaterLaw = (now : ℕ) (text : List ℕ) (a b : App) → installing now text a ≡ Ok b → IsLater a b
+
+abbrev pub FinishLaterLaw : Type 0
+FinishLaterLaw = (a b : App) → finishing a ≡ Ok b → IsLater a b
+
+abbrev pub RollbackLaterLaw : Type 0
+RollbackLaterLaw = (busy : Option (List ℕ)) (a b : App) → rolling_back busy a ≡ Ok b → IsLater a b
+
+abbrev pub WipeLaterLaw : Type 0
+WipeLaterLaw = (busy : Option (List ℕ)) (a b : App) → wiping busy a ≡ Ok b → IsLater a b
+
+abbrev pub UpdateLaterLaw : Type 0
+UpdateLaterLaw = (p : InProgress) (a : App) → IsLater a (updated_app p a)
+
+abbrev pub ReopenedLaterLaw : Type 0
+ReopenedLaterLaw = (a : App) → IsLater a (reopened a)
+
+-- ---- manifests
+
+-- a manifest that is rejected breaks a rule, and is rejected with the least
+abbrev pub RejectedLaw : Type 0
+RejectedLaw = (text : List ℕ) (e : PerError) → deployment_of text ≡ Err e → (rule : ℕ) × (broken_rule text ≡ Some rule) × (e ≡ error.ManifestRejected rule)
+
+-- ---- a row refuses by what the root says alone: what is in memory of a root decides it
+
+abbrev pub RefusesAlike : {A : Type 0} → (App → Result A PerError) → Type 0
+RefusesAlike row = (a b : App) (e : PerError) → a.says ≡ b.says → row a ≡ Err e → row b ≡ Err e
+
+-- and so does what the next root says
+abbrev pub SaysAlike : (App → Result App PerError) → Type 0
+SaysAlike row = (a b : App) → a.says ≡ b.says → (after a (row a)).says ≡ (after b (row b)).says

@@ -1,0 +1,217 @@
+-- What a call makes of an application: the application after it, or the refusal.
+use Rattle.std.specs.Prelude.{◌≡◌, ◌⊎◌, ℕ, ◌+◌, ◌-◌, List, [], ◌∷◌, ◌++◌, length, map, take, drop, nat_le, cond, Option, Some, None, Result, Ok, Err, ⊤}
+use Rattle.per_base.specs.declared.elements.Cause.TheVariants as cause
+use Rattle.per_base.specs.declared.elements.Fresh.{Fresh}
+use Rattle.per_base.specs.declared.errors.PerError.{PerError}
+use Rattle.per_base.specs.declared.errors.PerError.TheVariants as error
+use Rattle.per_base.specs.declared.errors.Unit.TheVariants as unit
+use Rattle.per_base.specs.declared.errors.Holder.TheVariants as holder
+use Rattle.per_base.specs.declared.errors.Limit.TheVariants as limit
+use Rattle.deployment_model.specs.Data.{DeploymentData, StorageData}
+use Rattle.element_state.specs.States.{State, Opens, Corrupt, fresh_map, fresh_state, greatest_generation}
+use Rattle.manifest.specs.Reading.{broken_rule, deployment_in}
+use Rattle.migrate_fns.specs.Rules.{Rule}
+use Rattle.migrate_fns.specs.Rules as fns
+use Rattle.update_plan.specs.declared.contents.Stored.{Stored}
+use Rattle.update_plan.specs.declared.contents.StorageContents.{StorageContents}
+use Rattle.update_plan.specs.declared.contents.StorageContents.TheVariants.{Damaged, Present}
+use Rattle.update_plan.specs.Plans.{PlansAll, stored_for}
+use Rattle.update_plan.specs.Rows.{initial_contents}
+use Rattle.deploy_laws.specs.Places.{Named}
+use Rattle.deploy_laws.specs.Apps.{nothing, absent, installed, App}
+
+infixl 10 ◌>>=◌
+abbrev pub ◌>>=◌ : {A B E : Type 0} → Result A E → (A → Result B E) → Result B E
+(Ok x) >>= f = f x
+(Err e) >>= f = Err e
+
+-- ---- refusals
+
+-- no storage is open
+abbrev pub not_busy : {A : Type 0} → Option (List ℕ) → Result A PerError → Result A PerError
+not_busy None x = x
+not_busy (Some name) x = Err (error.ResourceBusy (holder.Storage name))
+
+-- a generation is left
+abbrev pub not_worn : {A : Type 0} → ℕ → Result A PerError → Result A PerError
+not_worn g x = cond (nat_le greatest_generation g) (Err (error.LimitReached limit.Generations)) x
+
+-- a text that says nothing breaks a rule, so that 0 never comes
+abbrev pub said_or_broken : Option DeploymentData → Option ℕ → Result DeploymentData PerError
+said_or_broken (Some d) rule = Ok d
+said_or_broken None None = Err (error.ManifestRejected 0)
+said_or_broken None (Some rule) = Err (error.ManifestRejected rule)
+
+-- the deployment that a manifest says, or the least rule that it breaks
+unfoldable pub deployment_of : List ℕ → Result DeploymentData PerError
+deployment_of text = said_or_broken (deployment_in text) (broken_rule text)
+
+-- ---- states of storages that are made
+
+abbrev pub made_states : List (List Fresh) → List State
+made_states contents = map (λ fs. fresh_state 1 (fresh_map fs)) contents
+
+abbrev pub initial_all : ℕ → DeploymentData → List (List Fresh)
+initial_all now d = map (λ (s : StorageData). initial_contents s cause.Installation now) d.storages
+
+-- ---- install
+
+-- bank 0, with the initial contents of each storage
+unfoldable pub installed_app : (generation now : ℕ) → DeploymentData → App
+installed_app g now d = record {
+  says = installed (g + 1) (record { bank = 0; deployment = d }) None;
+  lacking = [];
+  states = made_states (initial_all now d);
+}
+
+unfoldable pub installing : (now : ℕ) → List ℕ → App → Result App PerError
+installing now text a = elim a.says [
+  | nothing ↦ Err (error.IntegrityCorrupted unit.Root)
+  | absent g ↦ deployment_of text >>= (λ d. not_worn g (Ok (installed_app g now d)))
+  | installed g active previous ↦ Err error.AlreadyInstalled
+]
+
+-- ---- finish, rollback and wipe
+
+abbrev pub storage_count : Named → ℕ
+storage_count v = length v.deployment.storages
+
+-- the previous version is forgotten
+abbrev pub finish_with : App → ℕ → Named → Option Named → Result App PerError
+finish_with a g active None = Err error.NoPreviousVersion
+finish_with a g active (Some previous) = not_worn g (Ok (record {
+  says = installed (g + 1) active None;
+  lacking = [];
+  states = take (storage_count active) a.states;
+}))
+
+unfoldable pub finishing : App → Result App PerError
+finishing a = elim a.says [
+  | nothing ↦ Err (error.IntegrityCorrupted unit.Root)
+  | absent g ↦ Err error.NotInstalled
+  | installed g active previous ↦ finish_with a g active previous
+]
+
+-- the previous version is active again
+abbrev pub rollback_with : (busy : Option (List ℕ)) → App → ℕ → Named → Option Named → Result App PerError
+rollback_with busy a g active None = Err error.NoPreviousVersion
+rollback_with busy a g active (Some previous) = not_busy busy (not_worn g (Ok (record {
+  says = installed (g + 1) previous None;
+  lacking = [];
+  states = drop (storage_count active) a.states;
+})))
+
+unfoldable pub rolling_back : (busy : Option (List ℕ)) → App → Result App PerError
+rolling_back busy a = elim a.says [
+  | nothing ↦ Err (error.IntegrityCorrupted unit.Root)
+  | absent g ↦ Err error.NotInstalled
+  | installed g active previous ↦ rollback_with busy a g active previous
+]
+
+abbrev pub empty_app : ℕ → App
+empty_app g = record { says = absent g; lacking = []; states = [] }
+
+-- a bad root begins anew
+unfoldable pub wiping : (busy : Option (List ℕ)) → App → Result App PerError
+wiping busy a = not_busy busy (elim a.says [
+  | nothing ↦ Ok (empty_app 1)
+  | absent g ↦ not_worn g (Ok (empty_app (g + 1)))
+  | installed g active previous ↦ not_worn g (Ok (empty_app (g + 1)))
+])
+
+-- ---- update
+
+-- what is stored in a storage
+abbrev pub contents_of : State → StorageContents
+contents_of (Opens v others) = Present v.entries
+contents_of (Corrupt salvage others) = Damaged
+
+-- what is stored in the storages of a version; the states of further storages do not matter
+abbrev pub stored_in : List StorageData → List State → List Stored
+stored_in [] states = []
+stored_in (s ∷ ss) [] = []
+stored_in (s ∷ ss) (state ∷ states) = record { name = s.name; contents = contents_of state } ∷ stored_in ss states
+
+-- what an update starts from
+pub record Offer : Type 0 where
+  pub generation : ℕ
+  pub active : Named
+  pub deployment : DeploymentData
+
+abbrev pub newer : Named → ℕ → DeploymentData → Result Offer PerError
+newer active g d = cond (nat_le d.version active.deployment.version)
+    (Err (error.VersionNotNewer active.deployment.version d.version))
+    (Ok (record { generation = g; active = active; deployment = d }))
+
+abbrev pub offer_over : (busy : Option (List ℕ)) → List ℕ → ℕ → Named → Option Named → Result Offer PerError
+offer_over busy text g active (Some previous) = Err (error.UpdateNotFinished previous.deployment.version)
+offer_over busy text g active None = not_busy busy (deployment_of text >>= newer active g)
+
+-- the refusals before the plan
+unfoldable pub offered : (busy : Option (List ℕ)) → List ℕ → App → Result Offer PerError
+offered busy text a = elim a.says [
+  | nothing ↦ Err (error.IntegrityCorrupted unit.Root)
+  | absent g ↦ Err error.NotInstalled
+  | installed g active previous ↦ offer_over busy text g active previous
+]
+
+-- an update in progress: the new deployment, the contents of its storages, and how many of them are built
+pub record InProgress : Type 0 where
+  pub deployment : DeploymentData
+  pub contents : List (List Fresh)
+  pub built : ℕ
+
+abbrev pub begun : Offer → Result (List (List Fresh)) PerError → Result InProgress PerError
+begun o plan = plan >>= (λ contents. not_worn o.generation (Ok (record { deployment = o.deployment; contents = contents; built = 0 })))
+
+abbrev pub BeginsWith : List Rule → fns.Answers → (now : ℕ) → List State → Result Offer PerError → Result InProgress PerError → Type 0
+BeginsWith rules answers now states (Err e) result = result ≡ Err e
+BeginsWith rules answers now states (Ok o) result = (plan : Result (List (List Fresh)) PerError)
+    × PlansAll rules answers now (stored_for o.active.deployment (stored_in o.active.deployment.storages states)) o.deployment.storages plan
+    × (result ≡ begun o plan)
+
+-- an update begins: a refusal, or the contents of one plan
+abbrev pub Begins : List Rule → fns.Answers → (now : ℕ) → (busy : Option (List ℕ)) → List ℕ → App → Result InProgress PerError → Type 0
+Begins rules answers now busy text a result = BeginsWith rules answers now a.states (offered busy text a) result
+
+-- the application once an update in progress is committed: the new version in the other bank, and the old one behind it as it was
+unfoldable pub updated_app : InProgress → App → App
+updated_app p a = elim a.says [
+  | nothing ↦ a
+  | absent g ↦ a
+  | installed g active previous ↦ record {
+    says = installed (g + 1) (record { bank = 1 - active.bank; deployment = p.deployment }) (Some active);
+    lacking = [];
+    states = made_states p.contents ++ take (storage_count active) a.states;
+  }
+]
+
+-- the row of an update in one call
+abbrev pub updated : App → Result InProgress PerError → Result App PerError
+updated a (Ok p) = Ok (updated_app p a)
+updated a (Err e) = Err e
+
+-- ---- answers
+
+-- a call answered a refusal exactly where the row has one
+abbrev pub Answers : {A : Type 0} → Option PerError → Result A PerError → Type 0
+Answers None (Ok x) = ⊤
+Answers None (Err e) = ⊥
+Answers (Some e) (Ok x) = ⊥
+Answers (Some e) (Err f) = f ≡ e
+
+-- the application after a call: that of the row, or the same where it is refused
+abbrev pub after : App → Result App PerError → App
+after a (Ok b) = b
+after a (Err e) = a
+
+-- ---- what a call may lead to
+
+-- after an opening no copy lacks the root
+abbrev pub reopened : App → App
+reopened a = record a { lacking = [] }
+
+-- an application to which an update may lead, or the same
+abbrev pub MayLead : List Rule → fns.Answers → (now : ℕ) → (busy : Option (List ℕ)) → List ℕ → (before after : App) → Type 0
+MayLead rules answers now busy manifest before next = (next ≡ before)
+    ⊎ ((row : Result InProgress PerError) × Begins rules answers now busy manifest before row × (next ≡ after before (updated before row)))

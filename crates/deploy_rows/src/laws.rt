@@ -1,0 +1,33 @@
+//! The laws of the rows, for the proofs of callers: none of these functions does anything when it runs.
+
+ghost use Rattle.std.specs.Prelude.{ℕ, List, Option};
+ghost use Rattle.deploy_rows.specs.Laws.{FinishLaterLaw, InstallLaterLaw, RefusesAlike, RejectedLaw, ReopenedLaterLaw, RollbackLaterLaw, SaysAlike, UpdateLaterLaw, WipeLaterLaw};
+ghost use Rattle.deploy_rows.specs.Rows.{finishing, installing, offered, rolling_back, wiping};
+
+/// What a call leads to comes later than what was: under the next generation, or with the same root and as many storages.
+pub fn rows_lead_on()
+    ensures install { InstallLaterLaw }
+    ensures finish { FinishLaterLaw }
+    ensures rollback { RollbackLaterLaw }
+    ensures wipe { WipeLaterLaw }
+    ensures update { UpdateLaterLaw }
+    ensures open { ReopenedLaterLaw }
+{}
+
+/// A manifest that is rejected breaks a rule, and is rejected with the least.
+pub fn manifests_are_judged()
+    ensures { RejectedLaw }
+{}
+
+/// Whether a call is refused, and what the next root says, depends on what the root says alone: it is known in memory.
+pub fn rows_read_the_root()
+    ensures install { (now : ℕ) (text : List ℕ) → RefusesAlike (installing now text) }
+    ensures finish { RefusesAlike finishing }
+    ensures rollback { (busy : Option (List ℕ)) → RefusesAlike (rolling_back busy) }
+    ensures wipe { (busy : Option (List ℕ)) → RefusesAlike (wiping busy) }
+    ensures offer { (busy : Option (List ℕ)) (text : List ℕ) → RefusesAlike (offered busy text) }
+    ensures installed { (now : ℕ) (text : List ℕ) → SaysAlike (installing now text) }
+    ensures finished { SaysAlike finishing }
+    ensures rolled_back { (busy : Option (List ℕ)) → SaysAlike (rolling_back busy) }
+    ensures wiped { (busy : Option (List ℕ)) → SaysAlike (wiping busy) }
+{}

@@ -1,0 +1,2 @@
+pub mod RootText
+pub mod Views

@@ -1,0 +1,22 @@
+//! What holds of all texts of roots. The function does nothing: its contract is the law.
+
+ghost use Rattle.std.specs.Prelude.{◌≡◌, ◌≤◌, ℕ, List, Some, length};
+ghost use Rattle.per_base.specs.FieldLaws.{IsBytes};
+ghost use Rattle.root_text.specs.RootText.{IsRoot, Root, root_of, root_text};
+
+use manifest::said_is_kept;
+
+/// A text says one root, and a root has one text.
+pub fn one_root()
+    // bytes that say a root are its text, and a root is said by its text
+    ensures taken { (text : List ℕ) (r : Root) → IsBytes text → root_of text ≡ Some r → text ≡ root_text r }
+    ensures again { (r : Root) → IsRoot r → root_of (root_text r) ≡ Some r }
+
+    // what is said lies in bank 0 or 1, and its texts are manifests
+    ensures is_root { (text : List ℕ) (r : Root) → root_of text ≡ Some r → IsRoot r }
+
+    // and a text is short enough for a register
+    ensures short { (r : Root) → IsRoot r → length (root_text r) ≤ 131084 }
+{
+    said_is_kept();
+}
