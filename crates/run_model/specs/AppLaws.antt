@@ -1,0 +1,42 @@
+-- What is known of applications, and what may come of each command, as the laws of a run take it.
+use Rattle.std.specs.Prelude.{◌≡◌, ℕ}
+use Rattle.disk_model.specs.Frame.{Spares, IsSettledOn}
+use Rattle.disk_model.specs.Medium.{Medium, Quiet, EachCase, Elapses}
+use Rattle.deploy_laws.specs.Places.{IsNoFileOf}
+use Rattle.deploy_laws.specs.Apps.{App, app_at, IsCleanApp}
+use Rattle.deploy_laws.specs.Stands.{StandsCase, IsLater}
+use Rattle.deploy_laws.specs.Laws.{UntouchedAppLaw, StillAppLaw, OthersLaw, OthersCaseLaw, StandsCleanLaw, RootMendLaw}
+use Rattle.deploy_rows.specs.Rows.{reopened}
+use Rattle.run_model.specs.Worlds.{Disks, disk_at}
+
+-- the laws of applications on which a run stands
+pub record AppLaws : Type 0 where
+  pub untouched : UntouchedAppLaw
+  pub still : StillAppLaw
+  pub others : OthersLaw
+  pub others_case : OthersCaseLaw
+  pub clean : StandsCleanLaw
+  pub mend : RootMendLaw
+
+-- the image stands for what the world says of an application
+abbrev pub IsDiskOf : ℕ → Disks → Medium → Type 0
+IsDiskOf app ds m = app_at m.image app ≡ disk_at ds app
+
+-- What a call on application a promises of the files of all: each moment stands between what was and what the call leads to, and no file of
+-- another application changes, at the end and at any moment.
+pub record Calls (a : ℕ) (after : Disks) (old new : Medium) : Type 0 where
+  pub any_moment : Quiet old → IsCleanApp a old.image → EachCase (StandsCase a (app_at old.image a) (disk_at after a)) old new
+  pub outside : Quiet old → EachCase (IsSettledOn (IsNoFileOf a) old.image) old new
+  pub elsewhere : Spares (IsNoFileOf a) old.image new.image
+
+-- What the opening of a root promises: the application is the one with its root mended, and at every moment it stands on its way to whatever
+-- may come of it.
+pub record OpensRoot (a : ℕ) (old new : Medium) : Type 0 where
+  pub app : app_at new.image a ≡ reopened (app_at old.image a)
+  pub any_moment : Quiet old → IsCleanApp a old.image → (after : App) → IsLater (app_at old.image a) after
+      → EachCase (StandsCase a (app_at old.image a) after) old new
+  pub outside : Quiet old → EachCase (IsSettledOn (IsNoFileOf a) old.image) old new
+  pub elsewhere : Spares (IsNoFileOf a) old.image new.image
+  pub clean : IsCleanApp a old.image → IsCleanApp a new.image
+  pub quiet : Quiet new
+  pub time : Elapses old new

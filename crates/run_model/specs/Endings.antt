@@ -1,0 +1,126 @@
+-- How a run ends, by which status, and what it has then written.
+use Rattle.std.specs.Prelude.{◌≡◌, ◌⊎◌, ◌<◌, ◌+◌, ℕ, List, [], ◌∷◌, ◌++◌, length, take, Option, Bool, IsTrue, IsFalse, codes, ⊤}
+use Rattle.std.specs.Fmt.{decimal}
+use Rattle.std.specs.Io.KnownBytes.{Appends}
+use Rattle.per_base.specs.Causes.{Rose}
+use Rattle.command_text.specs.Replies.{reply_text}
+use Rattle.run_model.specs.Lines.{IsBad}
+use Rattle.run_model.specs.Turns.{Turn, text_of}
+
+-- all lines are handled; the next is `end`; the next is outside the grammar; the start failed at the device; memory ran out; the source
+-- failed; the sink failed; the input is too long
+pub data Ending : Type 0 where
+  all_read : Ending
+  end_line : Ending
+  bad_line : Ending
+  device : Ending
+  memory : Ending
+  source : Ending
+  sink : Ending
+  too_long : Ending
+
+-- status 1 is that of refused words
+abbrev pub status_of : Ending → ℕ
+status_of all_read = 0
+status_of end_line = 0
+status_of bad_line = 2
+status_of device = 3
+status_of memory = 4
+status_of source = 5
+status_of sink = 6
+status_of too_long = 7
+
+-- every command that was begun has ended
+abbrev pub HasEnded : Ending → Type 0
+HasEnded device = ⊥
+HasEnded memory = ⊥
+HasEnded other = ⊤
+
+abbrev pub bad_line_text : ℕ → List ℕ
+bad_line_text n = codes "bad-line " ++ (decimal n ++ codes "\n")
+
+-- ---- why
+
+-- how many calls of the disk, of the source and of the sink have failed
+pub record Failed : Type 0 where
+  pub disk : ℕ
+  pub source : ℕ
+  pub sink : ℕ
+
+-- a run ends for one of the three only where its count rose in that run
+abbrev pub HasCauseOf : Ending → (before now : Failed) → Type 0
+HasCauseOf device before now = Rose before.disk now.disk
+HasCauseOf source before now = Rose before.source now.source
+HasCauseOf sink before now = Rose before.sink now.sink
+HasCauseOf other before now = ⊤
+
+-- ---- what is written: `lines` were handled, of the lines `all`; `before` and `now` are the bytes written
+
+-- all lines are handled
+pub record AtTheEnd (lines all : List (List ℕ)) (turns : List Turn) (before now : Option (List ℕ)) : Type 0 where
+  pub next : all ≡ lines
+  pub wrote : Appends before now (text_of turns)
+
+-- the next line is `end`
+pub record AtEndLine (lines all : List (List ℕ)) (turns : List Turn) (before now : Option (List ℕ)) : Type 0 where
+  pub others : List (List ℕ)
+  pub next : all ≡ lines ++ codes "end" ∷ others
+  pub wrote : Appends before now (text_of turns)
+
+-- the next line is outside the grammar, and was answered with its number, counted from 1
+pub record AtBadLine (lines all : List (List ℕ)) (turns : List Turn) (before now : Option (List ℕ)) : Type 0 where
+  pub text : List ℕ
+  pub others : List (List ℕ)
+  pub next : all ≡ lines ++ text ∷ others
+  pub bad : IsBad text
+  pub wrote : Appends before now (text_of turns ++ bad_line_text (length lines + 1))
+
+-- the start did not end: nothing was handled and nothing written
+pub record AtTheStart (lines : List (List ℕ)) (turns : List Turn) (before now : Option (List ℕ)) : Type 0 where
+  pub no_line : lines ≡ []
+  pub no_turn : turns ≡ []
+  pub wrote : Appends before now []
+
+-- the run was interrupted behind some line
+pub record AfterSome (lines all : List (List ℕ)) (turns : List Turn) (before now : Option (List ℕ)) : Type 0 where
+  pub others : List (List ℕ)
+  pub next : all ≡ lines ++ others
+  pub wrote : Appends before now (text_of turns)
+
+-- the sink took so many bytes of the last reply, and fewer than all
+pub record InReply (count : ℕ) (lines all : List (List ℕ)) (turns : List Turn) (before now : Option (List ℕ)) : Type 0 where
+  pub others : List (List ℕ)
+  pub next : all ≡ lines ++ others
+  pub earlier : List Turn
+  pub last : Turn
+  pub turns_are : turns ≡ earlier ++ last ∷ []
+  pub short : count < length (reply_text last.reply)
+  pub wrote : Appends before now (text_of earlier ++ take count (reply_text last.reply))
+
+-- so many of the answer to a line outside the grammar
+pub record InBadLine (count : ℕ) (lines all : List (List ℕ)) (turns : List Turn) (before now : Option (List ℕ)) : Type 0 where
+  pub text : List ℕ
+  pub others : List (List ℕ)
+  pub next : all ≡ lines ++ text ∷ others
+  pub bad : IsBad text
+  pub short : count < length (bad_line_text (length lines + 1))
+  pub wrote : Appends before now (text_of turns ++ take count (bad_line_text (length lines + 1)))
+
+abbrev pub EndsBy : Ending → (lines all : List (List ℕ)) → List Turn → (before now : Option (List ℕ)) → Type 0
+EndsBy all_read lines all turns before now = AtTheEnd lines all turns before now
+EndsBy end_line lines all turns before now = AtEndLine lines all turns before now
+EndsBy bad_line lines all turns before now = AtBadLine lines all turns before now
+EndsBy device lines all turns before now = AtTheStart lines turns before now
+-- where memory ran out, all replies are written or all but the last
+EndsBy memory lines all turns before now = AfterSome lines all turns before now ⊎ InReply 0 lines all turns before now
+EndsBy source lines all turns before now = AtTheEnd lines all turns before now
+EndsBy sink lines all turns before now = (count : ℕ) × (InReply count lines all turns before now ⊎ InBadLine count lines all turns before now)
+EndsBy too_long lines all turns before now = AtTheEnd lines all turns before now
+
+-- whether the end of the input was seen, and how many bytes were taken
+abbrev pub IsInput : Ending → (ended : Bool) → (count : ℕ) → Type 0
+IsInput all_read ended count = IsTrue ended
+IsInput device ended count = IsFalse ended × (count ≡ 0)
+IsInput source ended count = IsFalse ended × (count < 67108864)
+IsInput too_long ended count = IsFalse ended × (count ≡ 67108864)
+IsInput other ended count = ⊤

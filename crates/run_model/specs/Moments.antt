@@ -1,0 +1,94 @@
+-- What a stop at some moment leaves of an application, in one command and in a whole run.
+use Rattle.std.specs.Prelude.{◌≡◌, ◌⊎◌, ℕ, List, [], ◌∷◌, Option, Some, None}
+use Rattle.std.specs.List.{AllByRecursion}
+use Rattle.disk_model.specs.Case.{Case}
+use Rattle.disk_model.specs.Medium.{Medium, Quiet, EachCase}
+use Rattle.deploy_laws.specs.Apps.{IsCleanApp}
+use Rattle.deploy_laws.specs.Pieces.{IsSoundApp}
+use Rattle.deploy_laws.specs.Stands.{StandsCase}
+use Rattle.run_model.specs.Worlds.{Disks, Doubt, World, disks, disk_at}
+
+-- ---- one moment
+
+-- in this case, where it is sound, the application stands after each damage between what lies on the disk before and after
+abbrev pub Between : ℕ → (before after : Disks) → Case → Type 0
+Between app before after c = StandsCase app (disk_at before app) (disk_at after app) c
+
+-- or between the two sides of a doubt
+abbrev pub InDoubt : ℕ → Option Doubt → Case → Type 0
+InDoubt app None c = ⊥
+InDoubt app (Some d) c = Between app d.before d.after c
+
+abbrev pub IsInDoubt : Option Doubt → Type 0
+IsInDoubt None = ⊥
+IsInDoubt (Some d) = Unit {0}
+
+-- what reads gave behind a command that failed has nothing of the application that passes its hash by chance
+abbrev pub IsSoundDoubt : ℕ → Option Doubt → Type 0
+IsSoundDoubt app None = Unit {0}
+IsSoundDoubt app (Some d) = IsSoundApp app d.case
+
+-- what reads gave behind a command that failed stands between the two sides of its doubt
+abbrev pub IsDecided : ℕ → Option Doubt → Type 0
+IsDecided app None = Unit {0}
+IsDecided app (Some d) = Between app d.before d.after d.case
+
+-- ---- one command
+
+-- all is well with an application between two commands: its places are clean, and without a doubt nothing is pending
+pub record IsReady (app : ℕ) (w : World) (m : Medium) : Type 0 where
+  pub clean : IsCleanApp app m.image
+  pub quiet : w.doubt ≡ None → Quiet m
+
+-- a crash at some moment of a command: between what lay there before it and after it; where its device failed, between the sides of the doubt
+abbrev pub AtMoment : ℕ → (before after : Disks) → (doubt : Option Doubt) → Case → Type 0
+AtMoment app before after None c = Between app before after c
+AtMoment app before after (Some d) c = Between app d.before d.after c
+
+-- in a doubt it may also be one that might have come before the command
+abbrev pub IsMoment : ℕ → (w : World) → (after : Disks) → (doubt : Option Doubt) → Medium → Case → Type 0
+IsMoment app w after doubt old c = (IsInDoubt w.doubt × old.now c) ⊎ AtMoment app (disks w) after doubt c
+
+-- A command that was answered, for an application with which all was well before it.
+pub record Keeps (app : ℕ) (w w' : World) (old new : Medium) : Type 0 where
+  pub any_moment : EachCase (IsMoment app w (disks w') w'.doubt old) old new
+  pub clean : IsSoundDoubt app w'.doubt → IsCleanApp app new.image
+  -- behind it, in a doubt: one that stays has no new crash, and in one that is new each stands between its two sides
+  pub calm : IsInDoubt w'.doubt → (c : Case) → new.now c → ((w'.doubt ≡ w.doubt) × old.now c) ⊎ InDoubt app w'.doubt c
+
+abbrev pub StepKeeps : ℕ → (w w' : World) → (old new : Medium) → Type 0
+StepKeeps app w w' old new = IsReady app w old → Keeps app w w' old new
+
+-- A command that was not answered: it is in progress, and leads to one world for every moment and every application.
+abbrev pub StopKeeps : ℕ → (w : World) → (after : Disks) → (old new : Medium) → Type 0
+StopKeeps app w after old new = IsReady app w old → EachCase (IsMoment app w after None old) old new
+
+-- ---- a run
+
+-- A crash at some moment of a run through these worlds, from w on, with `next` in progress behind the last: the application stands between
+-- two worlds that follow each other, or in the doubt of one of them.
+abbrev pub IsMomentOf : ℕ → (w : World) → List World → (next : Disks) → Case → Type 0
+IsMomentOf app w [] next c = Between app (disks w) next c ⊎ InDoubt app w.doubt c
+IsMomentOf app w (v ∷ vs) next c = AtMoment app (disks w) (disks v) v.doubt c ⊎ IsMomentOf app v vs next c
+
+-- the same of the commands that were answered, with none in progress behind them
+abbrev pub IsPast : ℕ → (w : World) → List World → Case → Type 0
+IsPast app w [] c = ⊥
+IsPast app w (v ∷ vs) c = AtMoment app (disks w) (disks v) v.doubt c ⊎ IsPast app v vs c
+
+abbrev pub last_of : World → List World → World
+last_of w [] = w
+last_of w (v ∷ vs) = last_of v vs
+
+abbrev pub AreSoundDoubts : ℕ → List World → Type 0
+AreSoundDoubts app worlds = AllByRecursion (λ (w : World). IsSoundDoubt app w.doubt) worlds
+
+abbrev pub AreDecided : ℕ → List World → Type 0
+AreDecided app worlds = AllByRecursion (λ (w : World). IsDecided app w.doubt) worlds
+
+-- The run so far, from a start that led from one world to another: each moment is one of the start, or one of the commands; and all is well now.
+pub record Stayed (app : ℕ) (entry w : World) (worlds : List World) (old new : Medium) : Type 0 where
+  pub any_moment : EachCase (λ c. Between app (disks entry) (disks w) c ⊎ IsPast app w worlds c) old new
+  pub ready : IsReady app (last_of w worlds) new
+  pub calm : IsInDoubt (last_of w worlds).doubt → (c : Case) → new.now c → InDoubt app (last_of w worlds).doubt c
+  pub decided : AreDecided app worlds

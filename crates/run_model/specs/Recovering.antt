@@ -1,0 +1,62 @@
+-- What a recovery and a reset make of a closed storage.
+use Rattle.std.specs.Prelude.{ℕ, List, filter_map, sum_by, Bool, true, false, cond, nat_lt, Option, Some, None, option_map, Result, Ok, Err, is_some}
+use Rattle.per_base.specs.declared.elements.Cause.TheVariants as cause
+use Rattle.per_base.specs.declared.elements.Content.{Content}
+use Rattle.per_base.specs.declared.elements.Content.TheVariants.{Good, Bad}
+use Rattle.per_base.specs.declared.elements.Entry.{Entry}
+use Rattle.per_base.specs.declared.elements.Fresh.{Fresh}
+use Rattle.per_base.specs.declared.elements.StoreKind.{StoreKind}
+use Rattle.per_base.specs.declared.elements.StoreKind.TheVariants.{Keys, Files}
+use Rattle.per_base.specs.declared.errors.PerError.{PerError}
+use Rattle.per_base.specs.declared.errors.PerError.TheVariants as error
+use Rattle.per_base.specs.declared.errors.Limit.TheVariants as limit
+use Rattle.value_code.specs.Reading.{decoded}
+use Rattle.file_core.specs.Infos.{changed}
+use Rattle.deployment_model.specs.Data.{StorageData}
+use Rattle.deployment_model.specs.Lookups.{initial_of}
+use Rattle.element_state.specs.declared.shapes.View.{View}
+use Rattle.element_state.specs.States.{State, salvage_of, next_generation, is_worn, fresh_map, fresh_state}
+use Rattle.element_state.specs.Views.{judged_content}
+use Rattle.index_text.specs.Contents.{fresh_size}
+use Rattle.update_plan.specs.Rows.{initial_contents}
+
+-- the bytes are a content of this kind: for a key they encode a value
+abbrev pub is_content : StoreKind → List ℕ → Bool
+is_content Keys bytes = is_some (decoded bytes)
+is_content Files bytes = true
+
+abbrev pub rescued_as : StorageData → ℕ → Entry → List ℕ → Fresh
+rescued_as s now e bytes = record { name = e.name; info = option_map (changed now cause.Recovery) e.info; bytes = bytes }
+
+-- what is readable stays; else its salvage, else what it starts with, else nothing
+abbrev pub rescued : StorageData → ℕ → Entry → Content → Option Fresh
+rescued s now e (Good bytes) = Some (record { name = e.name; info = e.info; bytes = bytes })
+rescued s now e (Bad (Some bytes)) = Some (rescued_as s now e bytes)
+rescued s now e (Bad None) = option_map (rescued_as s now e) (initial_of s e.name)
+
+-- what a storage is recovered to: all of its elements, or its initial contents where there is no view of it
+abbrev pub recovered_contents : StorageData → ℕ → Option View → List Fresh
+recovered_contents s now None = initial_contents s cause.Recovery now
+recovered_contents s now (Some v) = filter_map (λ (e : Entry). rescued s now e (judged_content (is_content s.kind) e.content)) v.entries
+
+-- a generation is left after the text that was chosen
+abbrev pub is_worn_out : Option View → Bool
+is_worn_out None = false
+is_worn_out (Some v) = is_worn v
+
+abbrev pub rebuilding : State → List Fresh → Result State PerError
+rebuilding state contents = cond (is_worn_out (salvage_of state)) (Err (error.LimitReached limit.Generations)) (Ok (fresh_state (next_generation (salvage_of state)) (fresh_map contents)))
+
+abbrev pub if_fits : StorageData → State → List Fresh → Result State PerError
+if_fits s state contents = cond (nat_lt s.maximum (sum_by fresh_size contents)) (Err (error.OutOfStorageSpace (sum_by fresh_size contents) s.maximum)) (rebuilding state contents)
+
+unfoldable pub recovering : StorageData → ℕ → State → Result State PerError
+recovering s now state = if_fits s state (recovered_contents s now (salvage_of state))
+
+unfoldable pub resetting : StorageData → ℕ → State → Result State PerError
+resetting s now state = rebuilding state (initial_contents s cause.Reset now)
+
+-- the state after a call
+abbrev pub after_state : State → Result State PerError → State
+after_state state (Ok next) = next
+after_state state (Err e) = state

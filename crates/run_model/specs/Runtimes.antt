@@ -1,0 +1,159 @@
+-- The runtime in memory, the world that it makes with what lies on the disk, and what its start and each of its commands promise.
+use Rattle.std.specs.Prelude.{◌≡◌, ◌⊎◌, ◌<◌, ◌+◌, ◌||◌, ◌&&◌, ℕ, List, [], ◌∷◌, length, not, Bool, true, false, Option, Some, None, Ok, is_some, ⊤}
+use Rattle.per_base.specs.declared.errors.PerError.TheVariants as error
+use Rattle.disk_model.specs.Frame.{Spares, IsSettledOn}
+use Rattle.disk_model.specs.Image.{Image}
+use Rattle.disk_model.specs.Medium.{Medium, Quiet, OnlyReads, EachCase}
+use Rattle.element_state.specs.declared.shapes.View.{View}
+use Rattle.element_state.specs.States.{Opens}
+use Rattle.element_state.specs.Written.{IsWithin, map_cost}
+use Rattle.element_maps.specs.Sessions.{same_map, synced_view}
+use Rattle.element_store.specs.Committing.{index_length}
+use Rattle.migrate_fns.specs.Rules.{Rule, Answers}
+use Rattle.command_text.specs.declared.calls.Call.{Call}
+use Rattle.command_text.specs.declared.calls.Call.TheVariants as call
+use Rattle.command_text.specs.declared.calls.Event.{Event}
+use Rattle.command_text.specs.declared.calls.Event.TheVariants as event
+use Rattle.command_text.specs.declared.replies.Answer.{Answer}
+use Rattle.command_text.specs.declared.replies.Answer.TheVariants as answer
+use Rattle.command_text.specs.declared.replies.Reply.{Reply}
+use Rattle.deploy_laws.specs.Apps.{App, app_at, IsCleanApp}
+use Rattle.deploy_laws.specs.Places.{IsNoFileOf}
+use Rattle.run_model.specs.Calls.{session_at}
+use Rattle.run_model.specs.Found.{Found, shape_in}
+use Rattle.run_model.specs.Lasting.{IsWorld}
+use Rattle.run_model.specs.Sessions.{Session, synced_of, seen_of}
+use Rattle.run_model.specs.Worlds.{Application, Stage, is_to_open, Sessions, Disks, Doubt, World, app_of, disks, world_at, started}
+use Rattle.run_model.specs.Steps.{Step, SyncFails, Fails, Leads, calls_device, found_named}
+use Rattle.run_model.specs.Moments.{Between, StepKeeps, StopKeeps}
+use Rattle.run_model.specs.Turns.{IsBlamed}
+
+-- ---- what is kept in memory
+
+-- of an application: its stage, and its sessions
+pub record Running : Type 0 where
+  pub stage : Stage
+  pub sessions : Sessions
+
+-- the moment, the eight applications, and whether a command failed since the last sync
+pub record Memory : Type 0 where
+  pub now : ℕ
+  pub apps : List Running
+  pub in_doubt : Bool
+
+-- ---- the world
+
+abbrev pub with_disk : (ℕ → App) → ℕ → List Running → List Application
+with_disk disk app [] = []
+with_disk disk app (r ∷ rs) = record { disk = disk app; stage = r.stage; sessions = r.sessions } ∷ with_disk disk (app + 1) rs
+
+-- what lies on the disk is what its image stands for, and all else is in memory; only the sides of a doubt are in neither
+abbrev pub world_of : Image → Memory → Option Doubt → World
+world_of image memory doubt = record { now = memory.now; apps = with_disk (app_at image) 0 memory.apps; doubt = doubt }
+
+-- there is one where the memory says so
+abbrev pub IsDoubt : Memory → Option Doubt → Type 0
+IsDoubt memory doubt = is_some doubt ≡ memory.in_doubt
+
+-- ---- the start
+
+-- at each moment each application stands between what it was and itself with its root mended, also where the start does not end
+abbrev pub StartKeeps : (old new : Medium) → Type 0
+StartKeeps old new = Quiet old → (app : ℕ) → app < 8 → IsCleanApp app old.image
+    → EachCase (Between app (disks (world_at old.image)) (disks (started (world_at old.image)))) old new
+
+-- a start that ended well
+pub record Starts (memory : Memory) (old new : Medium) : Type 0 where
+  pub eight : length memory.apps ≡ 8
+  pub sure : memory.in_doubt ≡ false
+  pub world : world_of new.image memory None ≡ started (world_at old.image)
+  pub quiet : Quiet new
+  pub clean : (app : ℕ) → app < 8 → IsCleanApp app old.image → IsCleanApp app new.image
+  pub keeps : StartKeeps old new
+
+-- ---- what one command may touch
+
+-- a file of any other application than the command's, or of none; where the moment alone is set, any file
+abbrev pub IsElsewhere : Event → ℕ → Type 0
+IsElsewhere (event.Now t) file = ⊤
+IsElsewhere (event.App app c) file = IsNoFileOf app file
+
+-- No file of another application changes, whatever its places hold: at the end, and in each case since the start, which leaves them as they
+-- were. In a doubt, where something may still be pending, a case may also be one that might have come before the command.
+pub record StaysAside (e : Event) (doubt : Option Doubt) (old new : Medium) : Type 0 where
+  pub elsewhere : Spares (IsElsewhere e) old.image new.image
+  pub elsewhere_always : (doubt ≡ None → Quiet old) → EachCase (λ c. old.now c ⊎ IsSettledOn (IsElsewhere e) old.image c) old new
+
+-- no byte is written, and reads give what they gave
+abbrev pub IsUnwritten : (old new : Medium) → Type 0
+IsUnwritten old new = (new.image ≡ old.image) × (new.written ≡ old.written)
+
+abbrev pub calls_none : World → Event → Bool
+calls_none w (event.Now t) = true
+calls_none w (event.App app c) = not (calls_device (app_of w app) c)
+
+-- refused, and not for a device that failed
+abbrev pub is_refusal : Answer → Bool
+is_refusal (answer.Error error.PhysicalStorageFailure) = false
+is_refusal (answer.Error e) = true
+is_refusal other = false
+
+abbrev pub opens_root : World → Event → Bool
+opens_root w (event.Now t) = false
+opens_root w (event.App app c) = is_to_open (app_of w app).stage
+
+-- a command that calls no device; and one that is refused, where no root is to be opened before
+abbrev pub writes_none : World → Event → Reply → Bool
+writes_none w e reply = calls_none w e || (is_refusal reply.answer && not (opens_root w e))
+
+-- the calls that make a session durable
+abbrev pub is_durable : Call → Bool
+is_durable (call.Sync n) = true
+is_durable (call.Flush n h) = true
+is_durable (call.Close n) = true
+is_durable other = false
+
+-- nothing where both maps are the same; and never more, in each copy, than the contents that are new or differ and the next index
+pub record WritesWithin (app : ℕ) (f : Found) (s : Session) (old new : Medium) : Type 0 where
+  pub same : same_map (synced_of s) (seen_of s) ≡ true → new.written ≡ old.written
+  pub at_most : (v : View) (others : List View) → f.state ≡ Opens v others
+      → IsWithin (shape_in app f).place.copies (map_cost f.config.kind (synced_of s) (seen_of s))
+      (index_length f.config.kind (synced_view (shape_in app f) v (synced_of s) (seen_of s)).entries) old.written new.written
+
+-- however a call ends that is to make an open storage durable
+abbrev pub WrittenBy : World → Event → (old new : Medium) → Type 0
+WrittenBy w (event.Now t) old new = ⊤
+WrittenBy w (event.App app c) old new = is_durable c ≡ true → (f : Found) (s : Session) → found_named (app_of w app) c ≡ Some (Ok f)
+    → session_at (app_of w app) f.number ≡ Some s → WritesWithin app f s old new
+
+-- ---- one command
+
+-- A step on this stretch of the disk: in a doubt no byte is written before the sync that is to end it, so one that failed only read.
+abbrev pub StepsOn : List Rule → Answers → World → Event → Reply → World → (old new : Medium) → Type 0
+StepsOn rules answers w e reply w' old new = Step rules answers w e reply w' ⊎ ((SyncFails w e reply w' × OnlyReads old new) ⊎ Fails rules answers w e reply w')
+
+-- A command that was answered: it leads from the world before it to one after it, and keeps each application at every moment. A doubt that is
+-- new has a case of the disk, whose image is what reads now give.
+pub record Stepped (rules : List Rule) (answers : Answers) (e : Event) (reply : Reply) (old_memory new_memory : Memory) (doubt : Option Doubt) (old new : Medium) : Type 0 where
+  pub eight : length new_memory.apps ≡ 8
+  pub doubt' : Option Doubt
+  pub is_doubt : IsDoubt new_memory doubt'
+  pub step : StepsOn rules answers (world_of old.image old_memory doubt) e reply (world_of new.image new_memory doubt') old new
+  pub world : IsWorld (world_of new.image new_memory doubt')
+  pub keeps : (app : ℕ) → app < 8 → StepKeeps app (world_of old.image old_memory doubt) (world_of new.image new_memory doubt') old new
+  pub case : (d : Doubt) → doubt' ≡ Some d → (doubt ≡ Some d) ⊎ (new.now d.case × (d.case.left ≡ new.image))
+  pub quiet : doubt' ≡ None → Quiet new
+  pub aside : StaysAside e doubt old new
+  pub unwritten : writes_none (world_of old.image old_memory doubt) e reply ≡ true → IsUnwritten old new
+  pub written : WrittenBy (world_of old.image old_memory doubt) e old new
+  -- the reply that the device failed has its cause in this command
+  pub blamed : IsBlamed old.faults new.faults reply
+
+-- A command for which memory ran out: it is in progress.
+pub record Stopped (rules : List Rule) (answers : Answers) (e : Event) (memory : Memory) (doubt : Option Doubt) (old new : Medium) : Type 0 where
+  pub after : Disks
+  pub leads : Leads rules answers (world_of old.image memory doubt) e after
+  pub keeps : (app : ℕ) → app < 8 → StopKeeps app (world_of old.image memory doubt) after old new
+  pub aside : StaysAside e doubt old new
+  pub unwritten : calls_none (world_of old.image memory doubt) e ≡ true → IsUnwritten old new
+  pub written : WrittenBy (world_of old.image memory doubt) e old new

@@ -1,0 +1,46 @@
+-- The commands of a run that were answered, with their replies and the worlds after them.
+use Rattle.std.specs.Prelude.{◌≡◌, ◌≤◌, ℕ, List, [], ◌∷◌, map, ⊤}
+use Rattle.std.specs.List.{flat_map}
+use Rattle.per_base.specs.Causes.{Rose}
+use Rattle.per_base.specs.declared.errors.PerError.TheVariants as error
+use Rattle.migrate_fns.specs.Rules.{Rule, Answers}
+use Rattle.command_text.specs.declared.calls.Event.{Event}
+use Rattle.command_text.specs.declared.replies.Answer.TheVariants as answer
+use Rattle.command_text.specs.declared.replies.Reply.{Reply}
+use Rattle.command_text.specs.Replies.{reply_text}
+use Rattle.run_model.specs.Steps.{StepsTo}
+use Rattle.run_model.specs.Worlds.{World}
+
+-- a command that was answered: its reply, and the world after it
+pub record Turn : Type 0 where
+  pub event : Event
+  pub reply : Reply
+  -- the disk's count of failures behind it
+  pub faults : ℕ
+  pub world : World
+
+abbrev pub events_of : List Turn → List Event
+events_of turns = map (λ (t : Turn). t.event) turns
+
+abbrev pub replies_of : List Turn → List Reply
+replies_of turns = map (λ (t : Turn). t.reply) turns
+
+abbrev pub worlds_of : List Turn → List World
+worlds_of turns = map (λ (t : Turn). t.world) turns
+
+-- the texts of all replies, in order
+abbrev pub text_of : List Turn → List ℕ
+text_of turns = flat_map reply_text (replies_of turns)
+
+-- each command leads from the world before it to the world after it
+abbrev pub Follow : List Rule → Answers → World → List Turn → Type 0
+Follow rules answers w [] = ⊤
+Follow rules answers w (t ∷ ts) = StepsTo rules answers w t.event t.reply t.world × Follow rules answers t.world ts
+
+-- a reply that the device failed has its cause in that very command: the count rose from the command before to it
+abbrev pub IsBlamed : (before now : ℕ) → Reply → Type 0
+IsBlamed before now reply = (before ≤ now) × (reply.answer ≡ answer.Error error.PhysicalStorageFailure → Rose before now)
+
+abbrev pub AreBlamed : (before : ℕ) → List Turn → (after : ℕ) → Type 0
+AreBlamed before [] after = before ≤ after
+AreBlamed before (t ∷ ts) after = IsBlamed before t.faults t.reply × AreBlamed t.faults ts after

@@ -1,0 +1,102 @@
+//! The laws, for the proofs of callers: none of these functions does anything when it runs.
+
+ghost use Rattle.std.specs.Prelude.{IsTrue};
+ghost use Rattle.migrate_fns.specs.Stored.{answers_of, rules_of};
+ghost use Rattle.run_model.specs.AppLaws.{AppLaws};
+ghost use Rattle.run_model.specs.Laws.{AlikeLaw, AllOpenedLaw, BlamedLaw, CallFailsLaw, CallKeepsLaw, DoubtStaysLaw, FailedSyncKeepsLaw, FailureKeepsLaw, IdleKeepsLaw, NoneOpenedLaw, NotFurtherBackLaw, OnTheWayLaw, OneOpenedLaw, OpensAsEitherLaw, OthersStayLaw, RootKeepsLaw, RootThenLaw, RunBeginsLaw, RunEndsLaw, RunGoesOnLaw, RunStopsLaw, SessionEndsLaw, StartStopsLaw, StorageLaterLaw, SyncedKeepsLaw};
+
+use deploy_laws::{others_stand, roots_stay, untouched_stands};
+use disk_model::Disk;
+use migrate_fns::Migrations;
+
+/// The laws of applications on which a run stands.
+pub fn applications_stand()
+    ensures { AppLaws }
+{
+    untouched_stands();
+    others_stand();
+    roots_stay();
+}
+
+/// Two worlds that agree on an application and on the moment answer its commands alike where no device fails, and lead it to the same; and
+/// every other application stays as it was, however a command is answered.
+pub fn answers_are_alike(migrations: &Migrations)
+    ensures alike { AlikeLaw (rules_of migrations.now) (answers_of migrations.now) }
+    ensures others { OthersStayLaw (rules_of migrations.now) (answers_of migrations.now) }
+{}
+
+/// Nothing but a sync ends a doubt, and a command on a storage that failed at the device ends its session.
+pub fn failures_end_sessions(migrations: &Migrations)
+    ensures doubt { DoubtStaysLaw (rules_of migrations.now) (answers_of migrations.now) }
+    ensures session { SessionEndsLaw (rules_of migrations.now) (answers_of migrations.now) }
+{}
+
+/// A storage in another state comes later, so that a root may be opened before the command that makes it.
+pub fn storages_lead_on()
+    ensures { StorageLaterLaw }
+{}
+
+/// A moment behind the last command has no root from further back, and a storage whose command failed at the device is not emptied.
+pub fn moments_are_bounded()
+    ensures back { NotFurtherBackLaw }
+    ensures either { OpensAsEitherLaw }
+{}
+
+/// How a command keeps each application at every moment: one that calls no disk, one whose sync of a doubt failed, one that was answered,
+/// and one whose device failed.
+pub fn a_command_keeps<D: Disk>(old: &D, new: &D)
+    ensures idle { IdleKeepsLaw (D.medium new.now) }
+    ensures failed_sync { FailedSyncKeepsLaw (D.medium old.now) (D.medium new.now) }
+    ensures on_the_way { OnTheWayLaw (D.medium old.now) (D.medium new.now) }
+    ensures answered { CallKeepsLaw (D.medium old.now) (D.medium new.now) }
+    ensures failed { CallFailsLaw (D.medium old.now) (D.medium new.now) }
+    ensures failure { FailureKeepsLaw (D.medium old.now) (D.medium new.now) }
+{
+    applications_stand();
+}
+
+/// The same of two stretches: the sync of a doubt and then the command, and the opening of its application's root and then the command.
+pub fn a_command_follows<D: Disk>(old: &D, now: &D, new: &D)
+    ensures synced { SyncedKeepsLaw (D.medium old.now) (D.medium now.now) (D.medium new.now) }
+    ensures root { RootKeepsLaw (D.medium old.now) (D.medium now.now) (D.medium new.now) }
+    ensures moments { RootThenLaw (D.medium old.now) (D.medium now.now) (D.medium new.now) }
+{
+    applications_stand();
+}
+
+/// The start opens eight roots, one after another, and keeps each application at every moment.
+pub fn a_start_keeps<D: Disk>(old: &D, now: &D, new: &D)
+    ensures none { NoneOpenedLaw (D.medium old.now) (D.medium new.now) }
+    ensures one { OneOpenedLaw (D.medium old.now) (D.medium now.now) (D.medium new.now) }
+    ensures all { AllOpenedLaw (D.medium old.now) (D.medium new.now) }
+{
+    applications_stand();
+}
+
+/// A reply that the device failed has its cause in its own command, also in a run with one command more.
+pub fn causes_add_up()
+    ensures { BlamedLaw }
+{}
+
+/// A start that ended is a run without a command, and one that did not is a run that ended there.
+pub fn a_run_begins<D: Disk>(migrations: &Migrations, old: &D, new: &D)
+    ensures begins { RunBeginsLaw (rules_of migrations.now) (answers_of migrations.now) (D.medium old.now) (D.medium new.now) }
+    ensures stops { StartStopsLaw (rules_of migrations.now) (answers_of migrations.now) (D.medium old.now) (D.medium new.now) }
+{}
+
+/// A command that was answered is one turn more of a run, on a disk that tells its bytes.
+pub fn a_run_goes_on<D: Disk>(migrations: &Migrations, old: &D, now: &D, new: &D)
+    ensures { IsTrue D.told → RunGoesOnLaw (rules_of migrations.now) (answers_of migrations.now) (D.medium old.now) (D.medium now.now) (D.medium new.now) }
+{}
+
+/// Where every command has ended, a run promises of the disk all that it has to.
+pub fn a_run_ends<D: Disk>(migrations: &Migrations, old: &D, now: &D)
+    ensures { RunEndsLaw (rules_of migrations.now) (answers_of migrations.now) (D.medium old.now) (D.medium now.now) }
+{
+    applications_stand();
+}
+
+/// And so it does where a command is in progress.
+pub fn a_run_stops<D: Disk>(migrations: &Migrations, old: &D, now: &D, new: &D)
+    ensures { RunStopsLaw (rules_of migrations.now) (answers_of migrations.now) (D.medium old.now) (D.medium now.now) (D.medium new.now) }
+{}

@@ -1,0 +1,15 @@
+//! The world of eight applications, what a command makes of it, and what a run promises.
+//!
+//! The world is a function of what the disk's image stands for and of what the runtime keeps in memory. `specs/Steps` says what one command
+//! answers and where it leads, also where the device fails; `specs/Moments` what a stop at any moment leaves; `specs/Runtimes` what the
+//! runtime promises of its start and of each command; `specs/Runs` what a whole run promises. The laws lead from the one to the other: they
+//! are contracts of functions with nothing to do, which a caller calls to cite them, or are cited as lemmas of `specs/`.
+#![tactic(auto)]
+
+mod laws;
+
+pub use laws::{
+    a_command_follows, a_command_keeps, a_run_begins, a_run_ends, a_run_goes_on, a_run_stops,
+    a_start_keeps, answers_are_alike, applications_stand, causes_add_up, failures_end_sessions,
+    moments_are_bounded, storages_lead_on,
+};
