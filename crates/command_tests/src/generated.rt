@@ -2,9 +2,29 @@
 
 ghost use Rattle.std.specs.Prelude.{◌<◌, ◌^◌, IfOk};
 
-use command_text::{generated_line, next_number};
+use command_text::{first_lines, generated_line, last_lines, next_number};
 use std::alloc::Global;
 use test_rows::{RowError, number};
+
+/// The lines before the generated ones.
+pub(crate) fn first(alloc: Global) -> Result<String, RowError> {
+    joined(alloc, &first_lines())
+}
+
+/// The lines behind the generated ones.
+pub(crate) fn last(alloc: Global) -> Result<String, RowError> {
+    joined(alloc, &last_lines())
+}
+
+/// Lines, each before ` / `.
+fn joined(alloc: Global, lines: &[&str]) -> Result<String, RowError> {
+    let mut text = String::new(alloc);
+    for line in lines {
+        text.push_str(line)?;
+        text.push_str(" / ")?;
+    }
+    Ok(text)
+}
 
 /// The number behind a number.
 pub(crate) fn next(alloc: Global, row: &str) -> Result<String, RowError> {

@@ -8,6 +8,7 @@
 //! | `reply REPLY` | the text of the reply |
 //! | `next X` | the number behind a number |
 //! | `generated N X I` | a line of the generated input |
+//! | `first-lines`, `last-lines` | the lines before the generated ones and behind them |
 //! | any other | the row itself |
 #![tactic(auto)]
 
@@ -39,6 +40,8 @@ fn shown(alloc: Global, row: &str) -> Result<String, RowError> {
         "reply" => replies::text(alloc, rest),
         "next" => generated::next(alloc, rest),
         "generated" => generated::line(alloc, rest),
+        "first-lines" => generated::first(alloc),
+        "last-lines" => generated::last(alloc),
         _ => Ok(String::from_str(alloc, row)?),
     }
 }

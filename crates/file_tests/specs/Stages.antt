@@ -7,5 +7,5 @@ use Rattle.file_tests.specs.declared.storages.Stage.TheVariants.{Closed, Open}
 
 -- an open storage is in use on its disk
 abbrev pub IsInUse : Stage → Type 0
-IsInUse (Closed disk) = ⊤
+IsInUse (Closed disk spent) = ⊤
 IsInUse (Open run) = IsUsed true (mem_medium run.disk).image run.files.store

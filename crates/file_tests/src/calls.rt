@@ -62,7 +62,7 @@ fn by_name(
     }
 }
 
-/// Deletes the file or makes it anew, or else opens it or asks of it.
+/// Deletes the file, makes it anew, or reads or replaces it whole, or else opens it or asks of it.
 fn changed(
     alloc: Global,
     files: &mut Files,
@@ -77,8 +77,24 @@ fn changed(
         "delete" => done(alloc, files.delete_file(name)),
         "recover" => done(alloc, files.recover_file(name, now)),
         "reset" => done(alloc, files.reset_file(name, now)),
+        "cat" => bytes(alloc, files.whole_content(name, now)),
+        "put" => put(alloc, files, name, now, word),
         _ => opened(alloc, files, now, call, name, word),
     }
+}
+
+/// Makes these bytes the content of the file.
+fn put(
+    alloc: Global,
+    files: &mut Files,
+    name: &Name,
+    now: u64,
+    hex: &str,
+) -> Result<String, CaseError>
+    ensures { OnOk result (files.new.store ≡ files.old.store) }
+{
+    let bytes = parse_hex(alloc, hex.as_bytes())?;
+    done(alloc, files.replace(name, bytes.as_slice(), now))
 }
 
 /// Opens the file, or else asks of it.

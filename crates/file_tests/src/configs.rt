@@ -5,7 +5,7 @@ ghost use Rattle.per_base.specs.declared.elements.StoreKind.TheVariants as kinds
 ghost use Rattle.deployment_model.specs.Conditions.{IsElement, IsStorage, initial_size};
 ghost use Rattle.deployment_model.specs.Data.{element_data, storage_data};
 ghost use Rattle.element_state.specs.Conditions.{IsShape};
-ghost use Rattle.file_storage.specs.FileSessions.{IsConfigured};
+ghost use Rattle.element_maps.specs.Storages.{IsConfigured};
 
 use crate::answers::CaseError;
 use deployment_model::{CollectionStrategy, ElementConfig, StorageConfig};
@@ -145,7 +145,7 @@ pub(crate) fn cal(alloc: Global, plan: Plan) -> Result<StorageConfig, CaseError>
 pub(crate) fn shape_of(config: &StorageConfig) -> Result<Shape, CaseError>
     requires storage { IsStorage (storage_data config.now) }
     requires of_files { config.now.kind ≡ kinds.Files }
-    ensures configured { IfOk result (λ shape. IsConfigured (storage_data config.now) shape) }
+    ensures configured { IfOk result (λ shape. IsConfigured kinds.Files (storage_data config.now) shape) }
     ensures shape { IfOk result IsShape }
 {
     Ok(Shape {

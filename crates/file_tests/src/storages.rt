@@ -2,7 +2,8 @@
 
 ghost use Rattle.std.specs.Prelude.{◌≡◌, ◌∷◌, [], IfOk, IsTrue, OnOk, true};
 ghost use Rattle.disk_model.specs.Memory.{mem_medium};
-ghost use Rattle.element_state.specs.Conditions.{AreContents, IsFresh, IsShape};
+ghost use Rattle.index_text.specs.Contents.{AreContents, IsFresh};
+ghost use Rattle.element_state.specs.Conditions.{IsShape};
 ghost use Rattle.element_store.specs.Rebuilds.{HasNext};
 ghost use Rattle.element_store.specs.Stores.{IsUsed};
 ghost use Rattle.element_state.specs.States.{salvage_of, store_at};
@@ -13,17 +14,20 @@ use crate::calls::{called, count, sevens};
 use crate::configs::{Plan, cal, initial, parted, shape_by, shape_of};
 use crate::images;
 use disk_model::MemDisk;
-use element_state::{Shape, StoreError};
+use element_state::{Shape, StoreError, failed_report};
 use element_store::{create, rebuild, salvage};
 use file_storage::{Closed, Files, FilesOutcome, OpenedFiles, open_files};
-use per_base::{Bytes, Cause, Content, Entry, FileInfo, Fresh, Name, StoreKind};
+use per_base::{Bytes, Cause, Content, Entry, FileInfo, Fresh, Name, Report, StoreKind};
 use std::alloc::{AllocError, Global};
 use value_text::parse_hex;
 
 /// What a storage shows: its calls, each beside its answer.
 pub(crate) fn shown(alloc: Global, setting: &str, calls: &str) -> Result<String, CaseError> {
     let plan = Plan::of(setting);
-    let mut stage = Stage::Closed(MemDisk::new(alloc));
+    let mut stage = Stage::Closed {
+        disk: MemDisk::new(alloc),
+        spent: 0,
+    };
     let mut line = String::new(alloc);
     for call in calls.split_whitespace() {
         let step = stepped(alloc, plan, stage, call)?;
@@ -36,7 +40,11 @@ pub(crate) fn shown(alloc: Global, setting: &str, calls: &str) -> Result<String,
 /// Where a case stands: with no open storage, or with one in use on its disk.
 #[derive(Drop)]
 pub(crate) enum Stage {
-    Closed(MemDisk),
+    Closed {
+        disk: MemDisk,
+        /// How many bytes the last opening wrote.
+        spent: u64,
+    },
     Open(Run),
 }
 
@@ -47,7 +55,7 @@ pub(crate) struct Run {
     files: Files,
     /// The moment of its calls.
     now: u64,
-    /// How many bytes the last sync wrote.
+    /// How many bytes the last opening or sync wrote.
     spent: u64,
 }
 
@@ -64,7 +72,7 @@ fn stepped(alloc: Global, plan: Plan, stage: Stage, call: &str) -> Result<Step, 
     ensures { IfOk result (λ step. IsInUse step.stage) }
 {
     match stage {
-        Stage::Closed(disk) => closed(alloc, plan, disk, call),
+        Stage::Closed { disk, spent } => closed(alloc, plan, disk, spent, call),
         Stage::Open(run) => open(alloc, run, call),
     }
 }
@@ -81,14 +89,56 @@ fn then(alloc: Global, stage: Stage, answer: &str) -> Result<Step, CaseError>
 
 /// `new.NAME=HEX` makes the storage with a file of this name and these bytes, installed at moment 3, `large.NAME` with one of 1,048,576
 /// bytes, `worn` a disk with one under the greatest generation; `damage=FILES` damages files, `rebuild` makes the storage anew with the
-/// first file of its salvage, or as it starts; `stop` cuts the power; `open` opens it and answers its reports.
-fn closed(alloc: Global, plan: Plan, mut disk: MemDisk, call: &str) -> Result<Step, CaseError>
+/// first file of its salvage, or as it starts; `stop` cuts the power; `open` opens it and answers its reports; `spent=N` answers whether
+/// the last opening wrote at most so many bytes, and `failed-report` what is reported of a storage that is corrupt.
+fn closed(
+    alloc: Global,
+    plan: Plan,
+    disk: MemDisk,
+    spent: u64,
+    call: &str,
+) -> Result<Step, CaseError>
     ensures { IfOk result (λ step. IsInUse step.stage) }
 {
     let (word, rest) = parted(call, "=");
+    match word {
+        "open" => opened(alloc, plan, disk),
+        "spent" => {
+            let answer = format!(in alloc; "{}", spent <= count(rest))?;
+            then(alloc, Stage::Closed { disk, spent }, answer.as_str())
+        }
+        "failed-report" => {
+            let answer = failed(alloc, plan)?;
+            then(alloc, Stage::Closed { disk, spent }, answer.as_str())
+        }
+        _ => {
+            let disk = prepared(alloc, plan, disk, word, rest)?;
+            then(alloc, Stage::Closed { disk, spent: 0 }, "ok")
+        }
+    }
+}
+
+/// What is reported of a storage that is corrupt.
+fn failed(alloc: Global, plan: Plan) -> Result<String, CaseError> {
+    let reports = failure(alloc, &shape_by(alloc, plan)?)?;
+    reported(alloc, &reports)
+}
+
+/// A list of one.
+fn failure(alloc: Global, shape: &Shape) -> Result<Vec<Report>, AllocError> {
+    Ok(vec![in alloc; failed_report(alloc, shape)?]?)
+}
+
+/// The disk, as the word leaves it.
+fn prepared(
+    alloc: Global,
+    plan: Plan,
+    mut disk: MemDisk,
+    word: &str,
+    rest: &str,
+) -> Result<MemDisk, CaseError> {
     let (word, name) = parted(word, ".");
     match word {
-        "open" => return opened(alloc, plan, disk),
         "new" => disk = holding(alloc, plan, name, parse_hex(alloc, rest.as_bytes())?)?,
         "large" => disk = holding(alloc, plan, name, Bytes::new(sevens(alloc, 1_048_576)?))?,
         "worn" => disk = images::worn(alloc)?,
@@ -97,7 +147,7 @@ fn closed(alloc: Global, plan: Plan, mut disk: MemDisk, call: &str) -> Result<St
         "stop" => disk = disk.crash(false)?,
         _ => return Err(CaseError::Case("no such call of a closed storage")),
     }
-    then(alloc, Stage::Closed(disk), "ok")
+    Ok(disk)
 }
 
 fn opened(alloc: Global, plan: Plan, mut disk: MemDisk) -> Result<Step, CaseError>
@@ -105,21 +155,24 @@ fn opened(alloc: Global, plan: Plan, mut disk: MemDisk) -> Result<Step, CaseErro
 {
     let config = cal(alloc, plan)?;
     let shape = shape_of(&config)?;
-    match open_files(alloc, &mut disk, shape, &config) {
+    let before = disk.written();
+    let opened = open_files(alloc, &mut disk, shape, &config);
+    let spent = disk.written().saturating_sub(before);
+    match opened {
         Ok(OpenedFiles { files, reports }) => {
             let answer = reported(alloc, reports.as_slice())?;
             let run = Run {
                 disk,
                 files,
                 now: 7,
-                spent: 0,
+                spent,
             };
             Ok(Step {
                 stage: Stage::Open(run),
                 answer,
             })
         }
-        Err(error) => then(alloc, Stage::Closed(disk), error_name(&error)),
+        Err(error) => then(alloc, Stage::Closed { disk, spent }, error_name(&error)),
     }
 }
 
@@ -150,7 +203,7 @@ fn only(alloc: Global, fresh: Fresh) -> Result<Vec<Fresh>, AllocError>
 
 /// The file alone, where the storage takes it.
 fn alone(alloc: Global, shape: &Shape, fresh: Fresh) -> Result<Vec<Fresh>, CaseError>
-    ensures { IfOk result (λ contents. AreContents shape.now contents.items) }
+    ensures { IfOk result (λ contents. AreContents shape.now.kind shape.now.allowed contents.items) }
 {
     if !is_file(shape.kind, &fresh) {
         return Err(CaseError::Case("no file"));
@@ -236,7 +289,7 @@ fn rebuilt(alloc: Global, plan: Plan, disk: &mut MemDisk) -> Result<(), CaseErro
 // ---- with an open storage
 
 /// `now=N` is the moment of the next calls, which is 7 at first; `sync#HANDLE` makes the files durable by a handle; `spent=N` answers
-/// whether the last sync wrote at most so many bytes; `close-storage` closes the storage; `stop` cuts the power, so that what no sync made
+/// whether the last opening or sync wrote at most so many bytes; `close-storage` closes the storage; `stop` cuts the power, so that what no sync made
 /// durable is gone. All else is a call on the open storage.
 fn open(alloc: Global, run: Run, call: &str) -> Result<Step, CaseError>
     requires { IsUsed true (mem_medium run.disk).image run.files.store }
@@ -247,7 +300,10 @@ fn open(alloc: Global, run: Run, call: &str) -> Result<Step, CaseError>
         return synced(alloc, run, handle.parse::<u32>().unwrap_or(0));
     }
     match word {
-        "stop" => then(alloc, Stage::Closed(run.disk.crash(false)?), "ok"),
+        "stop" => {
+            let disk = run.disk.crash(false)?;
+            then(alloc, Stage::Closed { disk, spent: 0 }, "ok")
+        }
         "close-storage" => closing(alloc, run),
         "now" => moved(alloc, run, count(rest)),
         "spent" => {
@@ -347,7 +403,7 @@ fn closing(alloc: Global, run: Run) -> Result<Step, CaseError>
         spent,
     } = run;
     match files.close_storage(&mut disk) {
-        Ok(Closed::Done) => then(alloc, Stage::Closed(disk), "ok"),
+        Ok(Closed::Done) => then(alloc, Stage::Closed { disk, spent }, "ok"),
         Ok(Closed::Refused(files, error)) => {
             let answer = refused(alloc, Some(error))?;
             let run = Run {

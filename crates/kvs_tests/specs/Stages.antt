@@ -1,11 +1,11 @@
 -- Where a case stands.
 use Rattle.std.specs.Prelude.{true, ⊤}
 use Rattle.disk_model.specs.Memory.{mem_medium}
-use Rattle.kvs_store.specs.Storages.{IsKvs}
+use Rattle.element_store.specs.Stores.{IsUsed}
 use Rattle.kvs_tests.specs.declared.storages.Stage.{Stage}
 use Rattle.kvs_tests.specs.declared.storages.Stage.TheVariants.{Closed, Open}
 
 -- an open storage is in use on its disk
 abbrev pub IsInUse : Stage → Type 0
 IsInUse (Closed disk) = ⊤
-IsInUse (Open disk kvs spent) = IsKvs true (mem_medium disk).image kvs
+IsInUse (Open disk kvs spent) = IsUsed true (mem_medium disk).image kvs.store

@@ -1,7 +1,8 @@
 //! Answers as texts, and what ends a case before its time.
 
 use element_state::StoreError;
-use per_base::{PerError, Report, Unit};
+use per_base::{Name, PerError, Report, Unit};
+use per_value::PerValue;
 use std::alloc::{AllocError, Global};
 use thiserror::Error;
 use value_model::{DecodeError, Value, ValueError};
@@ -50,7 +51,7 @@ pub(crate) fn said(alloc: Global, text: &str) -> Result<String, CaseError> {
     Ok(String::from_str(alloc, text)?)
 }
 
-pub(crate) fn refusal(alloc: Global, error: &PerError) -> Result<String, CaseError> {
+fn refusal(alloc: Global, error: &PerError) -> Result<String, CaseError> {
     let text = match error {
         PerError::IntegrityCorrupted {
             unit: Unit::Part(storage, key),
@@ -79,6 +80,27 @@ pub(crate) fn read(alloc: Global, outcome: Result<&Value, PerError>) -> Result<S
         Ok(value) => Ok(print_value(alloc, value)?),
         Err(error) => refusal(alloc, &error),
     }
+}
+
+/// The thing that was asked for by its Rust type, as a value.
+pub(crate) fn thing<T: PerValue + Drop>(
+    alloc: Global,
+    outcome: Result<T, PerError>,
+) -> Result<String, CaseError> {
+    match outcome {
+        Ok(thing) => Ok(print_value(alloc, &thing.to_value(alloc)?)?),
+        Err(error) => refusal(alloc, &error),
+    }
+}
+
+/// The names, each before a comma.
+pub(crate) fn listed(alloc: Global, names: &[Name]) -> Result<String, CaseError> {
+    let mut text = String::new(alloc);
+    for name in names {
+        text.push_str(name.as_str())?;
+        text.push(',')?;
+    }
+    Ok(text)
 }
 
 /// The reports, each as `KIND(ELEMENT COPY COPY)` before a comma.

@@ -6,14 +6,15 @@ ghost use Rattle.deployment_model.specs.Conditions.{IsStorage};
 ghost use Rattle.deployment_model.specs.Data.{storage_data};
 ghost use Rattle.key_maps.specs.KeyElements.{HasLength, IsKeyEntry};
 
-use crate::answers::{CaseError, done, push_answer, read, refusal, said};
+use crate::answers::{CaseError, done, listed, push_answer, read, said, thing};
 use crate::configs::{Plan, fav, parted};
 use deployment_model::StorageConfig;
 use kvs_core::{KEYS, KeyChange, KeySession};
 use per_base::{Content, Entry, Name, Numbers, ValueText};
-use per_value::{Favourite, PerValue};
+use per_value::Favourite;
 use std::alloc::{AllocError, Global};
-use value_text::{parse_hex, parse_value, print_value, push_hex};
+use value_model::ValueType;
+use value_text::{parse_hex, parse_value, push_hex};
 
 /// What a session shows: its calls, each beside its answer.
 pub(crate) fn shown(alloc: Global, setting: &str, calls: &str) -> Result<String, CaseError> {
@@ -63,7 +64,7 @@ fn readable(alloc: Global, name: &str, hex: &str) -> Result<Entry, CaseError>
     if length > 65_536 {
         return Err(CaseError::Case("a long key"));
     }
-    listed(alloc, name, Content::Good(bytes), length as u32)
+    key(alloc, name, Content::Good(bytes), length as u32)
 }
 
 fn salvaged(alloc: Global, name: &str, hex: &str) -> Result<Entry, CaseError>
@@ -74,20 +75,20 @@ fn salvaged(alloc: Global, name: &str, hex: &str) -> Result<Entry, CaseError>
     if length > 65_536 {
         return Err(CaseError::Case("a long key"));
     }
-    listed(alloc, name, Content::Bad(Some(bytes)), length as u32)
+    key(alloc, name, Content::Bad(Some(bytes)), length as u32)
 }
 
 fn lost(alloc: Global, name: &str, length: &str) -> Result<Entry, CaseError>
     ensures { IfOk result IsKeyEntry }
 {
     match length.parse::<u32>() {
-        Ok(length) if length <= 65_536 => listed(alloc, name, Content::Bad(None), length),
+        Ok(length) if length <= 65_536 => key(alloc, name, Content::Bad(None), length),
         _ => Err(CaseError::Case("no length")),
     }
 }
 
 /// A key as it lies on the disk.
-fn listed(alloc: Global, name: &str, content: Content, len: u32) -> Result<Entry, CaseError>
+fn key(alloc: Global, name: &str, content: Content, len: u32) -> Result<Entry, CaseError>
     requires measured { HasLength content len }
     requires small { len ≤ 65536 }
     ensures { IfOk result IsKeyEntry }
@@ -152,7 +153,7 @@ fn answer(alloc: Global, session: &mut KeySession, call: &str) -> Result<String,
 /// The answer of a call on the whole storage.
 fn whole(alloc: Global, session: &mut KeySession, call: &str) -> Result<String, CaseError> {
     match call {
-        "keys" => names(alloc, session),
+        "keys" => listed(alloc, &session.all_keys()?),
         "size" => Ok(format!(in alloc; "{}", session.current_size())?),
         "remove-all" => done(alloc, session.remove_all_keys()),
         "changes" => changes(alloc, session),
@@ -178,38 +179,25 @@ fn single(
     key: &Name,
 ) -> Result<String, CaseError> {
     match call {
-        "exists" => Ok(format!(in alloc; "{}", session.key_exists(key))?),
-        "get" => read(alloc, session.get_any(key)),
-        "get-u8" => typed::<u8>(alloc, session, key),
-        "get-u16" => typed::<u16>(alloc, session, key),
         "favourite" => favourite(alloc, session, key),
         "remove" => done(alloc, session.remove_key(key)),
         "recover" => done(alloc, session.recover_key(key)),
         "reset" => done(alloc, session.reset_key(key)),
+        _ => asked(alloc, session, call, key),
+    }
+}
+
+/// What a call tells of a key, and changes nothing.
+fn asked(alloc: Global, session: &KeySession, call: &str, key: &Name) -> Result<String, CaseError> {
+    match call {
+        "exists" => Ok(format!(in alloc; "{}", session.key_exists(key))?),
+        "get" => read(alloc, session.get_any(key)),
+        "get-u8" => thing(alloc, session.get_value::<u8>(key)),
+        "get-u16" => thing(alloc, session.get_value::<u16>(key)),
+        "as-u8" => read(alloc, session.get_as(key, &ValueType::U8)),
+        "as-u16" => read(alloc, session.get_as(key, &ValueType::U16)),
         _ => Err(CaseError::Case("no such call")),
     }
-}
-
-/// The answer of `get_value` at this type.
-fn typed<T: PerValue + Drop>(
-    alloc: Global,
-    session: &KeySession,
-    key: &Name,
-) -> Result<String, CaseError> {
-    match session.get_value::<T>(key) {
-        Ok(thing) => Ok(print_value(alloc, &thing.to_value(alloc)?)?),
-        Err(error) => refusal(alloc, &error),
-    }
-}
-
-/// The names, each before a comma.
-fn names(alloc: Global, session: &KeySession) -> Result<String, CaseError> {
-    let mut text = String::new(alloc);
-    for name in &session.all_keys()? {
-        text.push_str(name.as_str())?;
-        text.push(',')?;
-    }
-    Ok(text)
 }
 
 /// What a sync hands down: each name with its bytes or a dash, before a comma.

@@ -5,21 +5,25 @@ ghost use Rattle.per_base.specs.declared.elements.StoreKind.TheVariants.{Keys};
 ghost use Rattle.deployment_model.specs.Conditions.{IsStorage};
 ghost use Rattle.deployment_model.specs.Data.{storage_data};
 ghost use Rattle.disk_model.specs.Memory.{mem_medium};
-ghost use Rattle.element_state.specs.Conditions.{AreContents, IsFresh, IsShape};
+ghost use Rattle.index_text.specs.Contents.{AreContents, IsFresh};
+ghost use Rattle.element_state.specs.Conditions.{IsShape};
+ghost use Rattle.element_maps.specs.Storages.{IsConfigured};
 ghost use Rattle.element_store.specs.Rebuilds.{HasNext};
+ghost use Rattle.element_store.specs.Stores.{IsUsed};
 ghost use Rattle.element_state.specs.States.{salvage_of, store_at};
-ghost use Rattle.kvs_store.specs.Storages.{IsKvs, LiesAs, StaysInUse};
 ghost use Rattle.kvs_tests.specs.Stages.{IsInUse};
 
-use crate::answers::{CaseError, done, push_answer, read, reported, said};
+use crate::answers::{CaseError, done, listed, push_answer, read, reported, said, thing};
 use crate::configs::{Plan, fav, parted};
 use crate::images;
 use deployment_model::StorageConfig;
 use disk_model::{MemDisk, Place};
+use element_state::failed_report;
 use element_store::{create, rebuild, salvage};
 use kvs_store::{Kvs, OpenedKvs, Shape, StoreError, SyncFault, open_kvs};
-use per_base::{Bytes, Content, Entry, Fresh, Name, StoreKind};
+use per_base::{Bytes, Content, Entry, Fresh, Name, Report, StoreKind};
 use std::alloc::{AllocError, Global};
+use value_model::ValueType;
 use value_text::{parse_hex, parse_value};
 
 /// The encoding of 513.
@@ -80,13 +84,18 @@ fn then(alloc: Global, stage: Stage, answer: &str) -> Result<Step, CaseError>
 
 /// `new=HEX` makes the storage with these bytes under `home`, `worn` a disk with an empty one under the greatest generation,
 /// `damage=FILES` damages files, `rebuild` makes the storage anew with what its salvage has under `home` or the initial value,
-/// `calls=N` lets so many calls of the disk pass, and `open` opens it and answers its reports.
+/// `calls=N` lets so many calls of the disk pass, `open` opens it and answers its reports, and `failed-report` answers what is reported
+/// of a storage that is corrupt.
 fn closed(alloc: Global, plan: Plan, mut disk: MemDisk, call: &str) -> Result<Step, CaseError>
     ensures { IfOk result (λ step. IsInUse step.stage) }
 {
     let (word, rest) = parted(call, "=");
     match word {
         "open" => return opened(alloc, plan, disk),
+        "failed-report" => {
+            let answer = failed(alloc, plan)?;
+            return then(alloc, Stage::Closed(disk), answer.as_str());
+        }
         "new" => disk = holding(alloc, plan, rest)?,
         "worn" => disk = images::worn(alloc)?,
         "damage" => images::damage(alloc, &mut disk, rest)?,
@@ -95,6 +104,17 @@ fn closed(alloc: Global, plan: Plan, mut disk: MemDisk, call: &str) -> Result<St
         _ => return Err(CaseError::Case("no such call of a closed storage")),
     }
     then(alloc, Stage::Closed(disk), "ok")
+}
+
+/// What is reported of a storage that is corrupt.
+fn failed(alloc: Global, plan: Plan) -> Result<String, CaseError> {
+    let reports = failure(alloc, &shape_by(alloc, plan)?)?;
+    reported(alloc, &reports)
+}
+
+/// A list of one.
+fn failure(alloc: Global, shape: &Shape) -> Result<Vec<Report>, AllocError> {
+    Ok(vec![in alloc; failed_report(alloc, shape)?]?)
 }
 
 fn number(text: &str) -> u64 {
@@ -132,7 +152,7 @@ fn error_name(error: &StoreError) -> &'static str {
 fn shape_of(config: &StorageConfig) -> Result<Shape, CaseError>
     requires storage { IsStorage (storage_data config.now) }
     requires of_keys { config.now.kind ≡ Keys }
-    ensures lies { IfOk result (λ shape. LiesAs shape (storage_data config.now)) }
+    ensures configured { IfOk result (λ shape. IsConfigured Keys (storage_data config.now) shape) }
     ensures shape { IfOk result IsShape }
 {
     Ok(Shape {
@@ -173,7 +193,7 @@ fn only(alloc: Global, fresh: Fresh) -> Result<Vec<Fresh>, AllocError>
 
 /// The key alone, where the storage takes it.
 fn alone(alloc: Global, shape: &Shape, fresh: Fresh) -> Result<Vec<Fresh>, CaseError>
-    ensures { IfOk result (λ contents. AreContents shape.now contents.items) }
+    ensures { IfOk result (λ contents. AreContents shape.now.kind shape.now.allowed contents.items) }
 {
     if !is_key(shape.kind, &fresh) {
         return Err(CaseError::Case("no key"));
@@ -186,7 +206,7 @@ fn alone(alloc: Global, shape: &Shape, fresh: Fresh) -> Result<Vec<Fresh>, CaseE
 
 /// These bytes alone, under `home`.
 fn contents(alloc: Global, shape: &Shape, bytes: Bytes) -> Result<Vec<Fresh>, CaseError>
-    ensures { IfOk result (λ contents. AreContents shape.now contents.items) }
+    ensures { IfOk result (λ contents. AreContents shape.now.kind shape.now.allowed contents.items) }
 {
     let home = Fresh {
         name: Name::new(alloc, "home")?,
@@ -251,10 +271,10 @@ fn rebuilt(alloc: Global, plan: Plan, disk: &mut MemDisk) -> Result<(), CaseErro
 
 // ---- with an open storage
 
-/// `get.KEY`, `set.KEY=VALUE`, `recover.KEY`; `fill=N` sets the keys k000 and on, so many; `sync`; `calls=N` lets so many calls of the
-/// disk pass; `spent=N` answers whether the last sync wrote at most so many bytes; `stop` cuts the power, so that what no sync made durable is gone.
+/// `sync`; `calls=N` lets so many calls of the disk pass; `spent=N` answers whether the last sync wrote at most so many bytes; `stop` cuts
+/// the power, so that what no sync made durable is gone; `fill=N` sets the keys k000 and on, so many; all else is a call of a session.
 fn open(alloc: Global, disk: MemDisk, kvs: Kvs, spent: u64, call: &str) -> Result<Step, CaseError>
-    requires { IsKvs true (mem_medium disk).image kvs }
+    requires { IsUsed true (mem_medium disk).image kvs.store }
     ensures { IfOk result (λ step. IsInUse step.stage) }
 {
     let (word, rest) = parted(call, "=");
@@ -277,7 +297,7 @@ fn limited(
     spent: u64,
     calls: u64,
 ) -> Result<Step, CaseError>
-    requires { IsKvs true (mem_medium disk).image kvs }
+    requires { IsUsed true (mem_medium disk).image kvs.store }
     ensures { IfOk result (λ step. IsInUse step.stage) }
 {
     let mut disk = disk;
@@ -292,7 +312,7 @@ fn touched(
     spent: u64,
     call: &str,
 ) -> Result<Step, CaseError>
-    requires { IsKvs true (mem_medium disk).image kvs }
+    requires { IsUsed true (mem_medium disk).image kvs.store }
     ensures { IfOk result (λ step. IsInUse step.stage) }
 {
     let mut kvs = kvs;
@@ -302,7 +322,7 @@ fn touched(
 }
 
 fn synced(alloc: Global, disk: MemDisk, kvs: Kvs) -> Result<Step, CaseError>
-    requires { IsKvs true (mem_medium disk).image kvs }
+    requires { IsUsed true (mem_medium disk).image kvs.store }
     ensures { IfOk result (λ step. IsInUse step.stage) }
 {
     let mut disk = disk;
@@ -323,16 +343,34 @@ fn synced(alloc: Global, disk: MemDisk, kvs: Kvs) -> Result<Step, CaseError>
 
 /// The answer of a call that touches no disk.
 fn called(alloc: Global, kvs: &mut Kvs, call: &str) -> Result<String, CaseError>
-    ensures { OnOk result (StaysInUse kvs.old kvs.new) }
+    ensures { OnOk result (kvs.new.store ≡ kvs.old.store) }
 {
     if let Some((call, key)) = call.split_once('.') {
         let (key, value) = parted(key, "=");
         return single(alloc, kvs, call, &Name::new(alloc, key)?, value);
     }
-    let (_, rest) = parted(call, "=");
-    fill(alloc, kvs, rest.parse::<u16>().unwrap_or(0))
+    let (word, rest) = parted(call, "=");
+    whole(alloc, kvs, word, rest)
 }
 
+/// The answer of a call on the whole storage.
+fn whole(alloc: Global, kvs: &mut Kvs, call: &str, rest: &str) -> Result<String, CaseError>
+    ensures { OnOk result (kvs.new.store ≡ kvs.old.store) }
+{
+    match call {
+        "fill" => fill(alloc, kvs, rest.parse::<u16>().unwrap_or(0)),
+        "keys" => listed(alloc, &kvs.all_keys()?),
+        "size" => Ok(format!(in alloc; "{}", kvs.current_size())?),
+        "remove-all" => done(alloc, kvs.remove_all_keys()),
+        "discard" => {
+            kvs.discard_pending_changes();
+            said(alloc, "ok")
+        }
+        _ => Err(CaseError::Case("no such call")),
+    }
+}
+
+/// The answer of a call on a key.
 fn single(
     alloc: Global,
     kvs: &mut Kvs,
@@ -340,20 +378,34 @@ fn single(
     key: &Name,
     value: &str,
 ) -> Result<String, CaseError>
-    ensures { OnOk result (StaysInUse kvs.old kvs.new) }
+    ensures { OnOk result (kvs.new.store ≡ kvs.old.store) }
 {
     match call {
-        "get" => read(alloc, kvs.get_any(key)),
         "set" => {
             let value = parse_value(alloc, value.as_bytes())?;
             done(alloc, kvs.set_any(key, value))
         }
-        _ => done(alloc, kvs.recover_key(key)),
+        "remove" => done(alloc, kvs.remove_key(key)),
+        "recover" => done(alloc, kvs.recover_key(key)),
+        "reset" => done(alloc, kvs.reset_key(key)),
+        _ => asked(alloc, kvs, call, key),
+    }
+}
+
+/// What a call tells of a key, and changes nothing.
+fn asked(alloc: Global, kvs: &Kvs, call: &str, key: &Name) -> Result<String, CaseError> {
+    match call {
+        "exists" => Ok(format!(in alloc; "{}", kvs.key_exists(key))?),
+        "get" => read(alloc, kvs.get_any(key)),
+        "get-u16" => thing(alloc, kvs.get_value::<u16>(key)),
+        "as-u8" => read(alloc, kvs.get_as(key, &ValueType::U8)),
+        "as-u16" => read(alloc, kvs.get_as(key, &ValueType::U16)),
+        _ => Err(CaseError::Case("no such call")),
     }
 }
 
 fn fill(alloc: Global, kvs: &mut Kvs, count: u16) -> Result<String, CaseError>
-    ensures { OnOk result (StaysInUse kvs.old kvs.new) }
+    ensures { OnOk result (kvs.new.store ≡ kvs.old.store) }
 {
     for number in 0..count {
         let text = format!(in alloc; "k{number:03}")?;
