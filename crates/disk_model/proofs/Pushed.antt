@@ -55,9 +55,9 @@ module _ (image start : Image) (calls : List Call) where
     keeps = λ t c earlier past. past;
     adds = λ t c earlier past. record { k = past.k; from = le_trans earlier past.from; to = past.to; case = past.case };
     gave = record {
-      nothing_else = λ t i earlier past. inl past;
-      keeps = λ t i earlier past. past;
-      adds = λ t i earlier past. record { k = past.k; from = le_trans earlier past.from; to = past.to; image = past.image };
+      nothing_else = λ t c earlier past. inl past;
+      keeps = λ t c earlier past. past;
+      adds = λ t c earlier past. record { k = past.k; from = le_trans earlier past.from; to = past.to; case = past.case; image = past.image };
     };
     opens = λ t earlier was. was;
     agrees = λ t earlier was. was;
@@ -83,12 +83,19 @@ module _ (image start : Image) (calls : List Call) where
 
   gave_more : (call : Call) → Grows (length calls) (GaveSince start calls) (GaveSince start (calls ++ call ∷ []))
   gave_more call = record {
-    nothing_else = λ t i earlier past. ⊎_elim
-        (λ before. let to : past.k ≤ length calls = omega arith in inl (record { k = past.k; from = past.from; to = to; image = past.image ∙ same_then call past.k to }))
-        (λ after. inr (record { k = past.k; from = omega arith; to = past.to; image = past.image }))
+    nothing_else = λ t c earlier past. ⊎_elim
+        (λ before. let to : past.k ≤ length calls = omega arith in
+        inl (record { k = past.k; from = past.from; to = to; case = stood call past.k c to past.case; image = past.image ∙ same_then call past.k to }))
+        (λ after. inr (record { k = past.k; from = omega arith; to = past.to; case = past.case; image = past.image }))
         (cases_lt past.k (length calls + 1));
-    keeps = λ t i earlier past. record { k = past.k; from = past.from; to = omega (arith, longer call, past.to); image = past.image ∙ sym (same_then call past.k past.to) };
-    adds = λ t i earlier past. record { k = past.k; from = le_trans earlier past.from; to = past.to; image = past.image };
+    keeps = λ t c earlier past. record {
+      k = past.k;
+      from = past.from;
+      to = omega (arith, longer call, past.to);
+      case = stays call past.k c past.to past.case;
+      image = past.image ∙ sym (same_then call past.k past.to);
+    };
+    adds = λ t c earlier past. record { k = past.k; from = le_trans earlier past.from; to = past.to; case = past.case; image = past.image };
   }
 
   -- a call was added

@@ -58,12 +58,13 @@ pub record CaseSince (start : Image) (calls : List Call) (t : ℕ) (c : Case) : 
   pub to : k ≤ length calls
   pub case : cases_after (take k calls) (IsSettledAt start) c
 
--- what reads gave after at least t of the calls
-pub record GaveSince (start : Image) (calls : List Call) (t : ℕ) (i : Image) : Type 0 where
+-- the case that leaves what reads gave after at least t of the calls
+pub record GaveSince (start : Image) (calls : List Call) (t : ℕ) (c : Case) : Type 0 where
   pub k : ℕ
   pub from : t ≤ k
   pub to : k ≤ length calls
-  pub image : i ≡ image_after (take k calls) start
+  pub case : cases_after (take k calls) (IsSettledAt start) c
+  pub image : c.left ≡ image_after (take k calls) start
 
 -- a disk with this record, which reads as this image; whatever a stop leaves of its files is a disk again
 abbrev pub recorded : (image start : Image) → List Call → (faults written : ℕ) → Medium

@@ -66,12 +66,17 @@ record_is_lawful image start calls faults written tied = record {
   only_now = λ c past. subst (λ xs. cases_after xs (IsSettledAt start) c) (take_all past.k calls past.from) past.case;
   reads_one = λ told. let whole = all_stand calls (IsSettledAt start) start (settled start) in
       (whole.case, whole.possible, whole.left ∙ sym tied);
-  gives = λ told. record {
+  gives = λ told c now left. record {
     k = length calls;
     from = le_refl _;
     to = le_refl _;
-    image = tied ∙ ap (λ xs. image_after xs start) (sym (take_all (length calls) calls (le_refl _)));
+    case = subst (λ xs. cases_after xs (IsSettledAt start) c) (sym (take_all (length calls) calls (le_refl _))) now;
+    image = left ∙ tied ∙ ap (λ xs. image_after xs start) (sym (take_all (length calls) calls (le_refl _)));
   };
-  gave_counts = λ t i le gave. record { k = gave.k; from = le_trans le gave.from; to = gave.to; image = gave.image };
-  gives_only = λ i gave. gave.image ∙ ap (λ xs. image_after xs start) (take_all gave.k calls gave.from) ∙ sym tied;
+  gave_counts = λ t c le gave. record { k = gave.k; from = le_trans le gave.from; to = gave.to; case = gave.case; image = gave.image };
+  gives_only = λ c gave. (
+    subst (λ xs. cases_after xs (IsSettledAt start) c) (take_all gave.k calls gave.from) gave.case,
+    gave.image ∙ ap (λ xs. image_after xs start) (take_all gave.k calls gave.from) ∙ sym tied,
+  );
+  gave_left = λ t c gave. record { k = gave.k; from = gave.from; to = gave.to; case = gave.case };
 }

@@ -13,8 +13,8 @@ pub record Medium : Type 1 where
   pub moment : ℕ
   -- what a crash at this or at some later moment might have left
   pub since : ℕ → Case → Type 0
-  -- what reads gave at this or at some later moment
-  pub gave : ℕ → Image → Type 0
+  -- what reads gave at this or at some later moment: the cases then possible that leave it
+  pub gave : ℕ → Case → Type 0
   -- since this moment a stop at any time, and the present, left what can be opened again
   pub opens : ℕ → Type 0
   -- and what goes on taking writes once it is opened: nothing there contradicts itself
@@ -40,10 +40,12 @@ pub record IsLawful (told : Bool) (m : Medium) : Type 0 where
   pub only_now : (c : Case) → m.since m.moment c → m.now c
   -- what reads give is what some crash now leaves
   pub reads_one : IsTrue told → IsOutcome m m.image
-  -- reads give this image now, which counts among those since an earlier moment, and since this one no other
-  pub gives : IsTrue told → m.gave m.moment m.image
-  pub gave_counts : (t : ℕ) (i : Image) → t ≤ m.moment → m.gave m.moment i → m.gave t i
-  pub gives_only : (i : Image) → m.gave m.moment i → i ≡ m.image
+  -- a case that leaves what reads give now counts among those that reads gave since an earlier moment, and since this one no other does
+  pub gives : IsTrue told → (c : Case) → m.now c → c.left ≡ m.image → m.gave m.moment c
+  pub gave_counts : (t : ℕ) (c : Case) → t ≤ m.moment → m.gave m.moment c → m.gave t c
+  pub gives_only : (c : Case) → m.gave m.moment c → m.now c × (c.left ≡ m.image)
+  -- what reads gave is what a crash might have left
+  pub gave_left : (t : ℕ) (c : Case) → m.gave t c → m.since t c
 
 -- What came since each moment t up to this one is what came before, and what came since this moment.
 pub record Grows {X : Type 0} (moment : ℕ) (old new : ℕ → X → Type 0) : Type 0 where
@@ -51,7 +53,7 @@ pub record Grows {X : Type 0} (moment : ℕ) (old new : ℕ → X → Type 0) : 
   pub keeps : (t : ℕ) (x : X) → t ≤ moment → old t x → new t x
   pub adds : (t : ℕ) (x : X) → t ≤ moment → new moment x → new t x
 
--- Time goes on: the cases since t are those from before and those since the start of the call, and so are the images that reads gave;
+-- Time goes on: the cases since t are those from before and those since the start of the call, and so are those that reads gave;
 -- what could be opened again at every moment since t can be so at each of the call and at its end; and no count falls.
 pub record Elapses (old new : Medium) : Type 0 where
   pub later : old.moment ≤ new.moment

@@ -56,7 +56,7 @@ pub record IsUnchanged (old new : Medium) : Type 0 where
   pub now : (c : Case) → new.now c ↔ old.now c
   pub moment : new.moment ≡ old.moment
   pub since : (t : ℕ) (c : Case) → new.since t c ↔ old.since t c
-  pub gave : (t : ℕ) (i : Image) → new.gave t i ↔ old.gave t i
+  pub gave : (t : ℕ) (c : Case) → new.gave t c ↔ old.gave t c
   pub written : new.written ≡ old.written
 
 -- the counts of faults and of want stay

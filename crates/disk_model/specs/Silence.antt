@@ -8,4 +8,12 @@ abbrev pub silent_medium : ℕ → Medium
 silent_medium faults = record { image = λ _. []; now = λ _. ⊥; moment = 0; since = λ _ _. ⊥; gave = λ _ _. ⊥; opens = λ _. Unit {0}; agrees = λ _. Unit {0}; faults = faults; written = 0 }
 
 pub silent_is_lawful : (faults : ℕ) → IsLawful false (silent_medium faults)
-silent_is_lawful faults = record { counts_now = λ t c le now. now; only_now = λ c past. past; reads_one = λ told. absurd (true≢false (sym told)); gives = λ told. absurd (true≢false (sym told)); gave_counts = λ t i le gave. gave; gives_only = λ i gave. absurd gave }
+silent_is_lawful faults = record {
+  counts_now = λ t c le now. now;
+  only_now = λ c past. past;
+  reads_one = λ told. absurd (true≢false (sym told));
+  gives = λ told. absurd (true≢false (sym told));
+  gave_counts = λ t c le gave. gave;
+  gives_only = λ c gave. absurd gave;
+  gave_left = λ t c gave. gave;
+}

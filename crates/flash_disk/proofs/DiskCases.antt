@@ -39,19 +39,21 @@ module _ (told : Bool) (m m' : FlashMedium) (own own' written written' : ℕ) wh
   case_since : (c : Case) → end.since start.moment c → (f : FlashCase) × m'.since m.moment f × IsCaseOf m'.blocks f c
   case_since c past = (past.1.0, subst (λ k. m'.since k past.1.0) (told_moment told m.moment past.0) past.1.1, past.1.2)
 
-  -- the files of a moment are those of one before the call, or of one since its start
+  -- what reads gave at a moment is of one before the call, or of one since its start
   files_since : (time : IsTrue told → FlashElapses m m') → Grows start.moment start.gave end.gave
   files_since time = record {
-    nothing_else = λ t i le past.
+    nothing_else = λ t c le past.
         let on = time past.0 in
         ⊎_elim
-        (λ before. inl (past.0, (past.1.0, before, past.1.2 ∙ ap (flash_files past.1.0.pages) on.blocks)))
+        (λ before. inl (past.0, (past.1.0, before, subst (λ n. c ≡ disk_case n (still_case past.1.0)) on.blocks past.1.2)))
         (λ since. inr (past.0, (past.1.0, subst (λ k. m'.since k (still_case past.1.0)) (sym (told_moment told m.moment past.0)) since, past.1.2)))
         (on.nothing_else t (still_case past.1.0) (le_of t past.0 le) past.1.1);
-    keeps = λ t i le past.
-        let on = time past.0 in
-        (past.0, (past.1.0, on.keeps t (still_case past.1.0) (le_of t past.0 le) past.1.1, past.1.2 ∙ ap (flash_files past.1.0.pages) (sym on.blocks)));
-    adds = λ t i le past.
+    keeps = λ t c le past.
+        let on = time past.0 in (
+          past.0,
+          (past.1.0, on.keeps t (still_case past.1.0) (le_of t past.0 le) past.1.1, subst (λ n. c ≡ disk_case n (still_case past.1.0)) (sym on.blocks) past.1.2),
+        );
+    adds = λ t c le past.
         let on = time past.0 in
         (past.0, (past.1.0, on.adds t (still_case past.1.0) (le_of t past.0 le) (subst (λ k. m'.since k (still_case past.1.0)) (told_moment told m.moment past.0) past.1.1), past.1.2));
   }

@@ -1,6 +1,7 @@
 -- That a disk over a lawful flash meets the laws of a disk.
 use Rattle.std.specs.Prelude.{◌≡◌, ℕ, ◌≤◌, Bool, true, false, cond, IsTrue}
 use Rattle.std.proofs.Common.{sym, refl, ap, ◌∙◌, subst, inl, le_refl, true≢false}
+use Rattle.disk_model.specs.Case.{Case}
 use Rattle.disk_model.specs.Medium.{Medium, IsLawful}
 use Rattle.flash_model.specs.State.{FlashState, FlashCase, IsStill}
 use Rattle.flash_model.specs.FlashMedium.{FlashMedium, IsLawfulFlash}
@@ -58,9 +59,12 @@ module _ (told : Bool) (m : FlashMedium) (own written : ℕ) where
         let since : m.since m.moment f = subst (λ k. m.since k f) (told_moment told m.moment past.0) past.1.1 in
         (past.0, past.1.2.1 ∙ same_case m.state m.blocks m.blocks f refl (lawful.only_now f since));
     reads_one = λ t. (disk_case m.blocks (still_case m.state), (t, refl), sym (told_files told m t));
-    gives = λ t. (t, (m.state, counts m.state t disk.moment (le_refl _) (still_is m.state), told_files told m t));
-    gave_counts = λ t i le past. (past.0, (past.1.0, counts past.1.0 past.0 t le (still past.1.0 past.0 past.1.1), past.1.2));
-    gives_only = λ i past. past.1.2 ∙ ap (λ p. flash_files p m.blocks) (still past.1.0 past.0 past.1.1).left ∙ sym (told_files told m past.0);
+    gives = λ t c now left. (t, (m.state, counts m.state t disk.moment (le_refl _) (still_is m.state), now.1));
+    gave_counts = λ t c le past. (past.0, (past.1.0, counts past.1.0 past.0 t le (still past.1.0 past.0 past.1.1), past.1.2));
+    gives_only = λ c past.
+        let is = past.1.2 ∙ same_case m.state m.blocks m.blocks (still_case past.1.0) refl (still past.1.0 past.0 past.1.1) in
+        ((past.0, is), ap (λ (d : Case). d.left) is ∙ sym (told_files told m past.0));
+    gave_left = λ t c past. (past.0, (still_case past.1.0, past.1.1, ((λ b p generation body verifies. inl verifies), past.1.2)));
   }
     where
       counts : (s : FlashState) → IsTrue told → (t : ℕ) → t ≤ disk.moment → IsStill m.state (still_case s) → m.since t (still_case s)

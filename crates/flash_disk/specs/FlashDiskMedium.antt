@@ -34,9 +34,9 @@ still_case s = record { before = s.pages; whole = s.pages; left = s.pages; settl
 abbrev pub IsCaseOf : ℕ → FlashCase → Case → Type 0
 IsCaseOf blocks f c = IsPlain f.before f.whole f.left × (c ≡ disk_case blocks f)
 
--- the files after at least t of the flash's calls
-abbrev pub GaveFiles : FlashMedium → ℕ → Image → Type 0
-GaveFiles m t i = (s : FlashState) × m.since t (still_case s) × (i ≡ flash_files s.pages m.blocks)
+-- the case that leaves what reads gave after at least t of the flash's calls
+abbrev pub GaveFiles : FlashMedium → ℕ → Case → Type 0
+GaveFiles m t c = (s : FlashState) × m.since t (still_case s) × (c ≡ disk_case m.blocks (still_case s))
 
 -- what reads give; an untold flash says nothing of its pages, not even that a read leaves them alone
 abbrev pub files_told : (told : Bool) → FlashMedium → Image
@@ -50,7 +50,7 @@ flash_disk_medium told m own written = record {
   now = λ c. IsTrue told × (c ≡ disk_case m.blocks (still_case m.state));
   moment = if told then m.moment else 0;
   since = λ t c. IsTrue told × ((f : FlashCase) × m.since t f × IsCaseOf m.blocks f c);
-  gave = λ t i. IsTrue told × GaveFiles m t i;
+  gave = λ t c. IsTrue told × GaveFiles m t c;
   opens = λ t. IsTrue told → UsableSince m t;
   agrees = λ t. IsTrue told → AgreedSince m t;
   faults = m.faults + own;
