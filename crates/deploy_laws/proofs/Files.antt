@@ -5,13 +5,13 @@ use Rattle.std.proofs.lemmas.Bool.{cases_lt}
 use Rattle.disk_model.specs.Image.{Image}
 use Rattle.disk_model.specs.Case.{Case}
 use Rattle.disk_model.specs.Frame.{Spares, IsSettledOn}
-use Rattle.disk_model.specs.Place.{IsNoSlot}
+use Rattle.disk_model.specs.Place.{IsNoSlot, IsOutside}
 use Rattle.disk_model.proofs.Frames.{settled_less}
 use Rattle.deployment_model.specs.Data.{StorageData}
 use Rattle.deployment_model.specs.Conditions.{IsStorage}
 use Rattle.element_state.specs.declared.shapes.Shape.{Shape}
 use Rattle.element_laws.specs.Phases.{IsOfPlace}
-use Rattle.deploy_laws.specs.Places.{Named, root_place, first_file, storage_file, shape_of, shapes_from, shapes_in, IsFileOf, IsNoFileOf, IsBeside, IsOutsideBank}
+use Rattle.deploy_laws.specs.Places.{Named, root_place, first_file, storage_file, shape_of, shapes_from, shapes_in, IsFileOf, IsNoFileOf, IsNoRootFile, IsBeside, IsOutsideBank}
 use Rattle.deploy_laws.specs.Apps.{Says, nothing, absent, installed, shapes_named, IsPlaced, AreVersions, IsFree}
 
 abbrev pub first_of : ℕ → ℕ
@@ -45,6 +45,9 @@ root_outside app bank f lt of = let files = root_files app f lt of in let below 
 
 pub root_beside : (app bank number f : ℕ) → app < 8 → IsOfPlace (root_place app) f → IsBeside app bank number f
 root_beside app bank number f lt of = let files = root_files app f lt of in let below = files.1 in inl (omega (arith, below))
+
+pub root_no_slot : (app f : ℕ) → app < 8 → IsNoRootFile app f → IsNoSlot (first_of app) 3 f
+root_no_slot app f lt aside copy parity ltc ltp e = ⊎_elim (λ below. absurd (omega (arith, lt, below, ltc, ltp, e))) (λ above. absurd (omega (arith, lt, above, ltc, ltp, e))) aside
 
 -- ---- a storage
 
@@ -80,6 +83,16 @@ module _ (app bank number : ℕ) (s : StorageData) (lt : app < 8) (ltb : bank �
 
   pub storage_no_slot : (f : ℕ) → IsOfPlace (shape_of app bank number s).place f → IsNoSlot (first_of app) 3 f
   storage_no_slot f of copy parity ltc ltp e = let files = storage_files f of in let low = files.0 in absurd (omega (arith, lt, low, ltc, ltp, e))
+
+  pub storage_no_root : (f : ℕ) → IsOfPlace (shape_of app bank number s).place f → IsNoRootFile app f
+  storage_no_root f of = let low = (storage_files f of).0 in inr (omega (arith, low))
+
+  pub beside_outside : (f : ℕ) → IsBeside app bank number f → IsOutside (shape_of app bank number s).place.first (shape_of app bank number s).place.copies f
+  beside_outside f beside copy k ltc ltk e =
+      let files = storage_files f (record { copy = copy; kind = k; inside = ltc; small = ltk; is = e }) in
+      let low = files.0 in
+      let high = files.1 in
+      ⊎_elim (λ below. absurd (omega (arith, low, below))) (λ above. absurd (omega (arith, high, above))) beside
 
   pub storage_fit : IsStorage s → IsFit (shape_of app bank number s)
   unfolding shape_of
@@ -143,6 +156,10 @@ module _ (app : ℕ) (lt : app < 8) (says : Says) (versions : AreVersions says) 
   pub beside_untouched : (start : Image) (c : Case) → IsSettledOn (IsNoSlot (first_of app) 3) start c → AreUntouched start c (shapes_named app says)
   beside_untouched start c settled = all_named app (λ shape. IsSettledOn (IsOfPlace shape.place) start c)
       (λ bank number s ltb ltn keeps. settled_less (λ f of. storage_no_slot app bank number s lt ltb ltn f of) settled) says versions
+
+  pub root_spared : (old new : Image) → Spares (IsNoRootFile app) old new → AreSpared old new (shapes_named app says)
+  root_spared old new spared = all_named app (λ shape. Spares (IsOfPlace shape.place) old new)
+      (λ bank number s ltb ltn keeps f of. spared f (storage_no_root app bank number s lt ltb ltn f of)) says versions
 
   -- and of all files but those of a bank in which none lies
   module _ (other : ℕ) (le : other ≤ 1) (free : IsFree other says) where

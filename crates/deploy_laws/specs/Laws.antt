@@ -4,6 +4,7 @@ use Rattle.disk_model.specs.Image.{Image}
 use Rattle.disk_model.specs.Case.{Case}
 use Rattle.disk_model.specs.Damage.{AtLeast, DecaysFor}
 use Rattle.disk_model.specs.Frame.{IsSettledOn, Spares}
+use Rattle.disk_model.specs.Place.{IsNoSlot, IsOutside}
 use Rattle.guarded_cell.specs.declared.looking.Seen.{Seen}
 use Rattle.guarded_cell.specs.Held.{standing}
 use Rattle.guarded_cell.specs.Register.{IsAlone}
@@ -16,8 +17,8 @@ use Rattle.element_state.specs.States.{State, store_at}
 use Rattle.element_laws.specs.Phases.{IsOfPlace}
 use Rattle.root_text.specs.RootText.{Root, root_of}
 use Rattle.root_text.specs.RootText as text
-use Rattle.deploy_laws.specs.Places.{Named, root_place, first_file, storage_file, shape_of, shapes_in, IsFileOf, IsNoFileOf, IsBeside, IsOutsideBank}
-use Rattle.deploy_laws.specs.Apps.{nothing, absent, installed, App, says_by, says_at, app_at, shapes_named, AreVersions, IsFree, AreClean, AreOn, IsCleanApp}
+use Rattle.deploy_laws.specs.Places.{Named, root_place, first_file, storage_file, shape_of, shapes_in, IsFileOf, IsNoFileOf, IsNoRootFile, IsBeside, IsOutsideBank}
+use Rattle.deploy_laws.specs.Apps.{Says, nothing, absent, installed, App, says_by, says_at, app_at, shapes_named, AreVersions, IsFree, AreClean, AreOn, IsCleanApp}
 use Rattle.deploy_laws.specs.Pieces.{IsSoundApp, DecaysApp}
 use Rattle.deploy_laws.specs.Stands.{Stands, StandsCase, IsRootSpared, IsLater}
 
@@ -64,6 +65,21 @@ RootFilesLaw = (app file : ℕ) → app < 8 → IsOfPlace (root_place app) file 
 abbrev pub StorageFilesLaw : Type 0
 StorageFilesLaw = (app bank number file : ℕ) (s : StorageData) → app < 8 → bank ≤ 1 → number < 16 → IsOfPlace (shape_of app bank number s).place file
     → (storage_file app bank number ≤ file) × (file < storage_file app bank number + 32)
+
+-- a file that is not among the root's is no slot of it
+abbrev pub RootSlotsLaw : Type 0
+RootSlotsLaw = (app file : ℕ) → app < 8 → IsNoRootFile app file → IsNoSlot (root_place app).first 3 file
+
+-- a file beside those of a storage lies outside its place
+abbrev pub BesideLaw : Type 0
+BesideLaw = (app bank number file : ℕ) (s : StorageData) → app < 8 → bank ≤ 1 → number < 16 → IsBeside app bank number file
+    → IsOutside (shape_of app bank number s).place.first (shape_of app bank number s).place.copies file
+
+-- where files of the root alone change, each storage that a root may name is as it was
+abbrev pub RootAloneLaw : Type 0
+RootAloneLaw = (app : ℕ) (says : Says) (old new : Image) → app < 8 → AreVersions says → Spares (IsNoRootFile app) old new
+    → (map (store_at new) (shapes_named app says) ≡ map (store_at old) (shapes_named app says))
+    × (AreClean old (shapes_named app says) → AreClean new (shapes_named app says))
 
 -- only its own files tell what an application is
 abbrev pub AppFrameLaw : Type 0

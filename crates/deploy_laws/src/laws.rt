@@ -10,7 +10,7 @@ ghost use Rattle.element_state.specs.States.{State, store_at};
 ghost use Rattle.deploy_laws.specs.Places.{IsOutsideBank};
 ghost use Rattle.deploy_laws.specs.Apps.{App, IsCleanApp, IsFree, app_at, nothing, says_at, shapes_named};
 ghost use Rattle.deploy_laws.specs.Stands.{IsRootSpared, Stands};
-ghost use Rattle.deploy_laws.specs.Laws.{VersionsLaw, SaysFrameLaw, AloneFrameLaw, NumberLaw, AloneLaw, AloneCleanLaw, RootFilesLaw, StorageFilesLaw, ApartLaw, AppFrameLaw, StoredLaw, OthersLaw, OthersCaseLaw, CoveredLaw, RootStandsLaw, StandsCleanLaw, RootMendLaw, UntouchedAppLaw, StillAppLaw, OpeningLaw, FormattingLaw, CreatingLaw, WritingLaw, StoringLaw};
+ghost use Rattle.deploy_laws.specs.Laws.{VersionsLaw, SaysFrameLaw, AloneFrameLaw, NumberLaw, AloneLaw, AloneCleanLaw, RootFilesLaw, RootSlotsLaw, StorageFilesLaw, BesideLaw, ApartLaw, RootAloneLaw, AppFrameLaw, StoredLaw, OthersLaw, OthersCaseLaw, CoveredLaw, RootStandsLaw, StandsCleanLaw, RootMendLaw, UntouchedAppLaw, StillAppLaw, OpeningLaw, FormattingLaw, CreatingLaw, WritingLaw, StoringLaw};
 ghost use Rattle.deploy_laws.specs.Refused.{OldVersionLost, OtherRoot, RootRaised, RootTooEarly, StorageStrays};
 
 use element_laws::{places_stand_apart, untouched_is_kept};
@@ -33,21 +33,24 @@ pub fn roots_say()
     held_is_lawful();
 }
 
-/// The files of a root, of the storages in both banks, and of other applications lie apart.
+/// The files of a root, of the storages in both banks, and of other applications lie apart, and hold all slots and areas.
 pub fn files_lie_apart()
     ensures root { RootFilesLaw }
     ensures storage { StorageFilesLaw }
     ensures apart { ApartLaw }
+    ensures slots { RootSlotsLaw }
+    ensures beside { BesideLaw }
 {}
 
 /// What leaves the files of an application alone leaves the application as it was, and so does what writes in a bank in which no version
-/// lies. What writes the files of one storage changes the state of that storage alone.
+/// lies. What writes the files of one storage changes the state of that storage alone, and what writes those of the root that of none.
 pub fn others_stand()
     ensures frame { AppFrameLaw }
     ensures free_bank { (app bank : ℕ) (old new : Image) → app < 8 → bank ≤ 1 → IsFree bank (says_at old app)
         → Spares (IsOutsideBank app bank) old new
         → (app_at new app ≡ app_at old app) × (IsCleanApp app old → IsCleanApp app new) }
     ensures stored { StoredLaw }
+    ensures root { RootAloneLaw }
     ensures others { OthersLaw }
     ensures cases { OthersCaseLaw }
 {

@@ -1,3 +1,4 @@
 pub mod Rows
+pub mod Recovering
 pub mod Laws
 pub mod Samples

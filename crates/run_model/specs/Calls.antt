@@ -25,7 +25,7 @@ use Rattle.command_text.specs.declared.replies.Reply.{Reply}
 use Rattle.deploy_laws.specs.Places.{Named}
 use Rattle.deploy_laws.specs.Apps.{Says, nothing, absent, installed, App}
 use Rattle.deploy_rows.specs.Rows.{◌>>=◌, InProgress, Begins, installing, finishing, rolling_back, wiping, updated_app}
-use Rattle.run_model.specs.Recovering.{is_content, recovering, resetting}
+use Rattle.deploy_rows.specs.Recovering.{is_content, recovering, resetting}
 use Rattle.run_model.specs.Found.{Found, storage_in, shape_in, with_state}
 use Rattle.run_model.specs.Sessions.{Session, keys, files, in_session, session_of, synced_of, seen_of, made_durable}
 use Rattle.run_model.specs.Worlds.{Application, Sessions, at_rest, updating, update_in}

@@ -7,13 +7,14 @@ use Rattle.command_text.specs.Replies.{reply_text}
 use Rattle.run_model.specs.Lines.{IsBad}
 use Rattle.run_model.specs.Turns.{Turn, text_of}
 
--- all lines are handled; the next is `end`; the next is outside the grammar; the start failed at the device; memory ran out; the source
--- failed; the sink failed; the input is too long
+-- all lines are handled; the next is `end`; the next is outside the grammar; the start failed at the device; memory ran out in the start;
+-- memory ran out behind a start that ended; the source failed; the sink failed; the input is too long
 pub data Ending : Type 0 where
   all_read : Ending
   end_line : Ending
   bad_line : Ending
   device : Ending
+  start_memory : Ending
   memory : Ending
   source : Ending
   sink : Ending
@@ -25,16 +26,30 @@ status_of all_read = 0
 status_of end_line = 0
 status_of bad_line = 2
 status_of device = 3
+status_of start_memory = 4
 status_of memory = 4
 status_of source = 5
 status_of sink = 6
 status_of too_long = 7
 
--- every command that was begun has ended
+-- the start has ended: no ending is common to a run that came to its lines and one that did not
+abbrev pub HasStarted : Ending → Type 0
+HasStarted device = ⊥
+HasStarted start_memory = ⊥
+HasStarted other = ⊤
+
+-- the start has ended, and so has every command that was begun
 abbrev pub HasEnded : Ending → Type 0
 HasEnded device = ⊥
+HasEnded start_memory = ⊥
 HasEnded memory = ⊥
 HasEnded other = ⊤
+
+pub has_started : (ending : Ending) → HasEnded ending → HasStarted ending
+has_started device over = absurd over
+has_started start_memory over = absurd over
+has_started memory over = absurd over
+has_started other over = over
 
 abbrev pub bad_line_text : ℕ → List ℕ
 bad_line_text n = codes "bad-line " ++ (decimal n ++ codes "\n")
@@ -111,7 +126,8 @@ EndsBy all_read lines all turns before now = AtTheEnd lines all turns before now
 EndsBy end_line lines all turns before now = AtEndLine lines all turns before now
 EndsBy bad_line lines all turns before now = AtBadLine lines all turns before now
 EndsBy device lines all turns before now = AtTheStart lines turns before now
--- where memory ran out, all replies are written or all but the last
+EndsBy start_memory lines all turns before now = AtTheStart lines turns before now
+-- where memory ran out behind the start, all replies are written or all but the last
 EndsBy memory lines all turns before now = AfterSome lines all turns before now ⊎ InReply 0 lines all turns before now
 EndsBy source lines all turns before now = AtTheEnd lines all turns before now
 EndsBy sink lines all turns before now = (count : ℕ) × (InReply count lines all turns before now ⊎ InBadLine count lines all turns before now)
@@ -121,6 +137,7 @@ EndsBy too_long lines all turns before now = AtTheEnd lines all turns before now
 abbrev pub IsInput : Ending → (ended : Bool) → (count : ℕ) → Type 0
 IsInput all_read ended count = IsTrue ended
 IsInput device ended count = IsFalse ended × (count ≡ 0)
+IsInput start_memory ended count = IsFalse ended × (count ≡ 0)
 IsInput source ended count = IsFalse ended × (count < 67108864)
 IsInput too_long ended count = IsFalse ended × (count ≡ 67108864)
 IsInput other ended count = ⊤

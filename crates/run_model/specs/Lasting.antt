@@ -36,6 +36,8 @@ IsStageOn (updating p) (installed g active None) ss = (ss ≡ none_open) × (len
 IsStageOn (updating p) says ss = ⊥
 
 pub record IsApplication (a : Application) : Type 0 where
+  -- there is room for sixteen
+  pub room : length a.sessions ≡ 16
   pub sessions : AreSessionsOn a.sessions (active_storages a.disk.says) a.disk.states
   pub stage : IsStageOn a.stage a.disk.says a.sessions
 
@@ -45,14 +47,14 @@ pub record IsWorld (w : World) : Type 0 where
 
 -- ---- the world in which a run starts
 
-none_on : (count : ℕ) (storages : List StorageData) (states : List State) → AreSessionsOn (replicate {A = Option Session} count None) storages states
+pub none_on : (count : ℕ) (storages : List StorageData) (states : List State) → AreSessionsOn (replicate {A = Option Session} count None) storages states
 none_on zero storages states = tt
 none_on (suc count) [] states = (refl, none_on count [] states)
 none_on (suc count) (c ∷ cs) [] = (refl, none_on count cs [])
 none_on (suc count) (c ∷ cs) (state ∷ states) = (tt, none_on count cs states)
 
-rests_so : (a : App) → IsApplication (resting a)
-rests_so a = record { sessions = none_on 16 (active_storages a.says) a.states; stage = tt }
+pub rests_so : (a : App) → IsApplication (resting a)
+rests_so a = record { room = refl; sessions = none_on 16 (active_storages a.says) a.states; stage = tt }
 
 all_rest_so : (disk : ℕ → App) (app count : ℕ)
     → AllByRecursion IsApplication (map (λ (a : Application). record a { disk = reopened a.disk }) (all_resting disk app count))

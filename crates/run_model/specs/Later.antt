@@ -6,7 +6,7 @@ use Rattle.deploy_laws.specs.Apps.{App}
 use Rattle.deploy_laws.specs.Stands.{IsLater, same_root}
 use Rattle.run_model.specs.Found.{Found, with_state}
 
-set_length : {A : Type 0} → (xs : List A) (n : ℕ) (x : A) → length (slice_set xs n x) ≡ length xs
+pub set_length : {A : Type 0} → (xs : List A) (n : ℕ) (x : A) → length (slice_set xs n x) ≡ length xs
 set_length [] n x = refl
 set_length (y ∷ ys) zero x = refl
 set_length (y ∷ ys) (suc n) x = ap suc (set_length ys n x)

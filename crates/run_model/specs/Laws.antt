@@ -1,5 +1,5 @@
 -- The statements of the laws.
-use Rattle.std.specs.Prelude.{◌≡◌, ◌≢◌, ◌⊎◌, ◌<◌, ◌+◌, ℕ, List, [], ◌∷◌, ◌++◌, length, false, Option, Some, None, Ok}
+use Rattle.std.specs.Prelude.{◌≡◌, ◌≢◌, ◌⊎◌, ◌<◌, ◌+◌, ℕ, List, [], ◌∷◌, ◌++◌, length, true, false, Option, Some, None, Ok}
 use Rattle.std.specs.Io.KnownBytes.{Appends}
 use Rattle.disk_model.specs.Case.{Case}
 use Rattle.disk_model.specs.Medium.{Medium, Quiet, Elapses, OnlyReads, WritesNothing, IsIdle, EachCase}
@@ -15,7 +15,7 @@ use Rattle.command_text.specs.declared.lines.Line.TheVariants as line
 use Rattle.command_text.specs.declared.replies.Reply.{Reply}
 use Rattle.command_text.specs.Grammar.{IsLine}
 use Rattle.deploy_laws.specs.Places.{shape_of}
-use Rattle.deploy_laws.specs.Apps.{nothing, App, says_at, IsCleanApp}
+use Rattle.deploy_laws.specs.Apps.{nothing, App, app_at, says_at, IsCleanApp}
 use Rattle.deploy_laws.specs.Pieces.{IsSoundApp}
 use Rattle.deploy_laws.specs.Stands.{IsLater}
 use Rattle.deploy_rows.specs.Rows.{reopened}
@@ -27,9 +27,11 @@ use Rattle.run_model.specs.Starting.{Opened}
 use Rattle.run_model.specs.Found.{Found, storage_in, with_state}
 use Rattle.run_model.specs.Calls.{session_at}
 use Rattle.run_model.specs.Worlds.{Disks, Doubt, World, disks, disk_at, app_of, world_at, started, without_doubt}
-use Rattle.run_model.specs.Steps.{Step, StepsTo, Fails, calls_device, storage_named}
+use Rattle.run_model.specs.Steps.{Step, StepsTo, SyncFails, Fails, calls_device, root_opened, storage_named}
+use Rattle.run_model.specs.Lasting.{IsWorld}
+use Rattle.run_model.specs.LastingLaws.{AreSeenAgain, synchronises, IsReadBeside}
 use Rattle.run_model.specs.Runtimes.{Memory, world_of, Stepped, Stopped, Starts, StartKeeps}
-use Rattle.run_model.specs.Endings.{Ending, HasEnded}
+use Rattle.run_model.specs.Endings.{Ending, HasStarted, HasEnded}
 use Rattle.run_model.specs.Turns.{Turn, text_of, IsBlamed, AreBlamed}
 use Rattle.run_model.specs.Runs.{DiskSide}
 use Rattle.run_model.specs.RunLaws.{Going}
@@ -59,6 +61,31 @@ SessionEndsLaw rules answers = (w w' : World) (app : ℕ) (c : Call) (reply : Re
 -- A storage in another state comes later, as each row of a deployment does.
 abbrev pub StorageLaterLaw : Type 0
 StorageLaterLaw = (a : App) (f : Found) (state : State) → IsLater a (with_state a f state)
+
+-- ---- what is so of every world
+
+-- The clock keeps it.
+abbrev pub NowLastsLaw : List Rule → Answers → Type 0
+NowLastsLaw rules answers = (w w' : World) (t : ℕ) (reply : Reply) → IsWorld w → StepsTo rules answers w (event.Now t) reply w' → IsWorld w'
+
+-- A command that was answered keeps it. Of one that makes a session durable it takes that the session shows, once it lies on the disk, what it shows now.
+abbrev pub AnswersLastLaw : List Rule → Answers → Type 0
+AnswersLastLaw rules answers = (w w' : World) (app : ℕ) (c : Call) (reply : Reply) → (synchronises c ≡ true → AreSeenAgain app (root_opened (app_of w app))) → IsWorld w
+    → Step rules answers w (event.App app c) reply w' → IsWorld w'
+
+-- So does a sync of a doubt that failed;
+abbrev pub FailedSyncLastsLaw : Type 0
+FailedSyncLastsLaw = (w w' : World) (app : ℕ) (c : Call) (reply : Reply) → IsWorld w → SyncFails w (event.App app c) reply w' → IsWorld w'
+
+-- a command that names no storage and whose device failed, whatever was read then;
+abbrev pub FailureLastsLaw : List Rule → Answers → Type 0
+FailureLastsLaw rules answers = (w w' : World) (app : ℕ) (c : Call) (reply : Reply) → storage_named c ≡ None → IsWorld w → Fails rules answers w (event.App app c) reply w' → IsWorld w'
+
+-- and one on a storage, where what was read is what lay there but for that storage.
+abbrev pub StorageFailureLastsLaw : List Rule → Answers → Type 0
+StorageFailureLastsLaw rules answers = (w w' : World) (app : ℕ) (c : Call) (reply : Reply) (name : List ℕ) (f : Found) → storage_named c ≡ Some name
+    → storage_in (root_opened (app_of w app)).disk name None ≡ Ok f → (fails : Fails rules answers w (event.App app c) reply w')
+    → IsReadBeside (root_opened (app_of w app)) f (app_at fails.2.left app) → IsWorld w → IsWorld w'
 
 -- ---- moments
 
@@ -150,7 +177,7 @@ RunBeginsLaw rules answers old new = (memory : Memory) → Elapses old new → S
 
 -- and one that did not is a run that ended there, before any line was taken
 abbrev pub StartStopsLaw : List Rule → Answers → (old new : Medium) → Type 0
-StartStopsLaw rules answers old new = (ending : Ending) (before after : Option (List ℕ)) → Elapses old new → (HasEnded ending → ⊥) → StartKeeps old new
+StartStopsLaw rules answers old new = (ending : Ending) (before after : Option (List ℕ)) → Elapses old new → (HasStarted ending → ⊥) → StartKeeps old new
     → DiskSide rules answers ending [] [] [] before after old new
 
 -- a command that was answered is one turn more
@@ -163,11 +190,12 @@ RunGoesOnLaw rules answers old now new = (turns : List Turn) (e : Event) (reply 
 -- where every command has ended, all that is promised follows
 abbrev pub RunEndsLaw : List Rule → Answers → (old now : Medium) → Type 0
 RunEndsLaw rules answers old now = (ending : Ending) (lines all : List (List ℕ)) (turns : List Turn) (before after : Option (List ℕ)) (memory : Memory) (doubt : Option Doubt)
-    → Going rules answers (world_at old.image) (started (world_at old.image)) turns memory doubt old now → DiskSide rules answers ending lines all turns before after old now
+    → HasStarted ending → Going rules answers (world_at old.image) (started (world_at old.image)) turns memory doubt old now
+    → DiskSide rules answers ending lines all turns before after old now
 
 -- and so it does where the command of the next line is in progress, behind the text of every reply
 abbrev pub RunStopsLaw : List Rule → Answers → (old now new : Medium) → Type 0
 RunStopsLaw rules answers old now new = (ending : Ending) (lines all others : List (List ℕ)) (text : List ℕ) (turns : List Turn) (before after : Option (List ℕ)) (e : Event)
-    (memory : Memory) (doubt : Option Doubt) → Elapses now new → (HasEnded ending → ⊥) → Appends before after (text_of turns) → all ≡ lines ++ text ∷ others → IsLine text (line.Event e)
+    (memory : Memory) (doubt : Option Doubt) → Elapses now new → HasStarted ending → (HasEnded ending → ⊥) → Appends before after (text_of turns) → all ≡ lines ++ text ∷ others → IsLine text (line.Event e)
     → Going rules answers (world_at old.image) (started (world_at old.image)) turns memory doubt old now → Stopped rules answers e memory doubt now new
     → DiskSide rules answers ending lines all turns before after old new

@@ -1,5 +1,4 @@
 pub mod Found
-pub mod Recovering
 pub mod Sessions
 pub mod Worlds
 pub mod Calls
@@ -17,7 +16,14 @@ pub mod KeepLaws
 pub mod Starting
 pub mod OneApp
 pub mod Later
+pub mod LastingCalls
+pub mod LastingDeployments
+pub mod LastingLaws
 pub mod Decided
 pub mod RunLaws
 pub mod Laws
 pub mod Samples
+pub mod SamplesDamage
+pub mod SamplesLimits
+pub mod SamplesEndings
+pub mod SamplesManifests

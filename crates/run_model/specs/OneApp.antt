@@ -121,7 +121,7 @@ doubt_stays rules answers w w' app c reply calm (inr (inr fails)) = absurd (neve
 
 -- ---- a session ends where its storage's command fails at the device
 
-none_there : (count n : ℕ) → if_open (slice_get (replicate {A = Option Session} count None) n) ≡ None
+pub none_there : (count n : ℕ) → if_open (slice_get (replicate {A = Option Session} count None) n) ≡ None
 none_there zero n = refl
 none_there (suc count) zero = refl
 none_there (suc count) (suc n) = none_there count n

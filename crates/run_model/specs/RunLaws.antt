@@ -21,7 +21,7 @@ use Rattle.run_model.specs.Moments.{AtMoment, Between, InDoubt, IsInDoubt, IsMom
 use Rattle.run_model.specs.MomentLaws.{last_is, start_stays, step_stays, end_stays, stop_stays, sound_front}
 use Rattle.run_model.specs.KeepLaws.{rests}
 use Rattle.run_model.specs.Runtimes.{Running, Memory, with_disk, world_of, StepsOn, Stepped, Stopped, Starts, StartKeeps}
-use Rattle.run_model.specs.Endings.{Ending, HasEnded}
+use Rattle.run_model.specs.Endings.{Ending, HasStarted, HasEnded, has_started}
 use Rattle.run_model.specs.Turns.{Turn, Follow, worlds_of, text_of, IsBlamed, AreBlamed}
 use Rattle.run_model.specs.Runs.{AreCases, IsCaseOfDoubt, IsReadSince, Everywhen, IsSettled, starting, between, within, DiskSide}
 
@@ -104,15 +104,13 @@ new_case P Q doubt (Some d) more is new = ⊎_elim (λ same. more d.case (subst 
 
 -- what was read since an earlier moment stays so
 read_on : (old now new : Medium) → Elapses old now → Elapses now new → (c : Case) → IsReadSince old now c → IsReadSince old new c
-read_on old now new time later c was = (later.keeps old.moment c time.later was.0, later.gave.keeps old.moment c.left time.later was.1)
+read_on old now new time later c was = later.gave.keeps old.moment c time.later was
 
 -- and what is read now counts
 read_now : (told : Bool) (old now new : Medium) → IsTrue told → IsLawful told new → Elapses old now → Elapses now new → (c : Case) → new.now c
     → c.left ≡ new.image → IsReadSince old new c
-read_now told old now new tells lawful time later c at left = (
-  lawful.counts_now old.moment c (le_trans time.later later.later) at,
-  subst (λ i. new.gave old.moment i) (sym left) (lawful.gave_counts old.moment new.image (le_trans time.later later.later) (lawful.gives tells)),
-)
+read_now told old now new tells lawful time later c at left =
+    lawful.gave_counts old.moment c (le_trans time.later later.later) (lawful.gives tells c at left)
 
 module _ (rules : List Rule) (answers : Answers) (entry start : World) (calm : start.doubt ≡ None) where
   pub goes_on : (turns : List Turn) (e : Event) (reply : Reply) (memory memory' : Memory) (doubt : Option Doubt) (told : Bool) (old now new : Medium) → IsTrue told
@@ -243,12 +241,12 @@ steps_going rules answers turns e reply memory memory' doubt told old now new te
 
 -- a run that ended in its start
 pub start_disk : (rules : List Rule) (answers : Answers) (ending : Ending) (before after : Option (List ℕ)) (told : Bool) (old new : Medium) → IsLawful told new → Elapses old new
-    → (HasEnded ending → ⊥) → StartKeeps old new → DiskSide rules answers ending [] [] [] before after old new
-start_disk rules answers _ before after told old new lawful time open_end keeps = record {
+    → (HasStarted ending → ⊥) → StartKeeps old new → DiskSide rules answers ending [] [] [] before after old new
+start_disk rules answers how before after told old new lawful time open_end keeps = record {
   follow = tt;
   worlds = (starts_so old.image, tt);
   cases = tt;
-  settled = λ over. absurd (open_end over);
+  settled = λ over. absurd (open_end (has_started how over));
   reached = [];
   next = disks (started (world_at old.image));
   progress = starting open_end refl refl refl refl refl;
@@ -261,32 +259,32 @@ start_disk rules answers _ before after told old new lawful time open_end keeps 
 
 -- one where every command has ended
 pub ends_disk : AppLaws → (rules : List Rule) (answers : Answers) (ending : Ending) (lines all : List (List ℕ)) (turns : List Turn) (before after : Option (List ℕ))
-    (memory : Memory) (doubt : Option Doubt) (old now : Medium) → Going rules answers (world_at old.image) (started (world_at old.image)) turns memory doubt old now
+    (memory : Memory) (doubt : Option Doubt) (old now : Medium) → HasStarted ending → Going rules answers (world_at old.image) (started (world_at old.image)) turns memory doubt old now
     → DiskSide rules answers ending lines all turns before after old now
-ends_disk laws rules answers _ lines all turns before after memory doubt old now going = record {
+ends_disk laws rules answers _ lines all turns before after memory doubt old now started_well going = record {
   follow = going.follow;
   worlds = going.worlds;
   cases = going.cases;
   settled = λ over. ends_settled rules answers (world_at old.image) (started (world_at old.image)) (start_calm old) turns memory doubt old now going;
   reached = started (world_at old.image) ∷ worlds_of turns;
   next = disks (last_of (started (world_at old.image)) (worlds_of turns));
-  progress = between refl refl;
+  progress = between started_well refl refl;
   everywhen = ends_everywhen rules answers (world_at old.image) (started (world_at old.image)) (start_calm old) laws turns memory doubt old now going;
 }
 
 -- one that stopped in a command
 pub stops_disk : (rules : List Rule) (answers : Answers) (ending : Ending) (lines all others : List (List ℕ)) (text : List ℕ) (turns : List Turn) (before after : Option (List ℕ))
-    (e : Event) (memory : Memory) (doubt : Option Doubt) (told : Bool) (old now new : Medium) → IsLawful told new → Elapses now new → (HasEnded ending → ⊥)
-    → Appends before after (text_of turns) → all ≡ lines ++ text ∷ others → IsLine text (line.Event e) → Going rules answers (world_at old.image) (started (world_at old.image)) turns memory doubt old now
+    (e : Event) (memory : Memory) (doubt : Option Doubt) (told : Bool) (old now new : Medium) → IsLawful told new → Elapses now new → HasStarted ending
+    → (HasEnded ending → ⊥) → Appends before after (text_of turns) → all ≡ lines ++ text ∷ others → IsLine text (line.Event e) → Going rules answers (world_at old.image) (started (world_at old.image)) turns memory doubt old now
     → Stopped rules answers e memory doubt now new → DiskSide rules answers ending lines all turns before after old new
-stops_disk rules answers _ lines all others text turns before after e memory doubt told old now new lawful time open_end wrote is_next spelled going s = record {
+stops_disk rules answers _ lines all others text turns before after e memory doubt told old now new lawful time started_well open_end wrote is_next spelled going s = record {
   follow = going.follow;
   worlds = going.worlds;
   cases = cases_more (IsReadSince old now) (IsReadSince old new) (worlds_of turns) (read_on old now new going.time time) going.cases;
   settled = λ over. absurd (open_end over);
   reached = started (world_at old.image) ∷ worlds_of turns;
   next = s.after;
-  progress = within open_end wrote refl (record {
+  progress = within started_well open_end wrote refl (record {
     text = text;
     others = others;
     event = e;

@@ -9,7 +9,7 @@ use Rattle.command_text.specs.declared.calls.Event.{Event}
 use Rattle.command_text.specs.declared.lines.Line.TheVariants as line
 use Rattle.command_text.specs.Grammar.{IsLine}
 use Rattle.deploy_laws.specs.Apps.{IsCleanApp}
-use Rattle.run_model.specs.Endings.{Ending, status_of, HasEnded, HasCauseOf, EndsBy, IsInput}
+use Rattle.run_model.specs.Endings.{Ending, status_of, HasStarted, HasEnded, HasCauseOf, EndsBy, IsInput}
 use Rattle.run_model.specs.Lasting.{IsWorld}
 use Rattle.run_model.specs.Lines.{lines_of, Give}
 use Rattle.run_model.specs.Moments.{IsMomentOf, last_of, AreSoundDoubts, AreDecided}
@@ -19,7 +19,7 @@ use Rattle.run_model.specs.Worlds.{Disks, Doubt, World, disks, world_at, started
 
 -- ---- doubts
 
--- the case of a doubt is one of these, and its image is one that reads gave
+-- the case of a doubt is one of these
 abbrev pub IsCaseOfDoubt : (since : Case → Type 0) → Option Doubt → Type 0
 IsCaseOfDoubt since None = ⊤
 IsCaseOfDoubt since (Some d) = since d.case
@@ -27,9 +27,9 @@ IsCaseOfDoubt since (Some d) = since d.case
 abbrev pub AreCases : (since : Case → Type 0) → List World → Type 0
 AreCases since worlds = AllByRecursion (λ (w : World). IsCaseOfDoubt since w.doubt) worlds
 
--- a case of the disk since the start of the run, whose image is one that reads gave since then
+-- a case of the disk since the start of the run, which leaves what reads gave at that moment
 abbrev pub IsReadSince : (old new : Medium) → Case → Type 0
-IsReadSince old new c = new.since old.moment c × new.gave old.moment c.left
+IsReadSince old new c = new.gave old.moment c
 
 -- ---- every moment
 
@@ -65,12 +65,12 @@ pub record IsInProgress (rules : List Rule) (answers : Answers) (w : World) (lin
 pub data Progress (rules : List Rule) (answers : Answers) (ending : Ending) (start : World) (lines all : List (List ℕ)) (turns : List Turn) (before now : Option (List ℕ))
     (reached : List World) (next : Disks) : Type 0 where
   -- the start did not end: no line was taken, and nothing was handled
-  starting : (HasEnded ending → ⊥) → lines ≡ [] → all ≡ [] → turns ≡ [] → reached ≡ [] → next ≡ disks start
+  starting : (HasStarted ending → ⊥) → lines ≡ [] → all ≡ [] → turns ≡ [] → reached ≡ [] → next ≡ disks start
       → Progress rules answers ending start lines all turns before now reached next
   -- nothing is in progress
-  between : reached ≡ start ∷ worlds_of turns → next ≡ disks (last_of start (worlds_of turns)) → Progress rules answers ending start lines all turns before now reached next
+  between : HasStarted ending → reached ≡ start ∷ worlds_of turns → next ≡ disks (last_of start (worlds_of turns)) → Progress rules answers ending start lines all turns before now reached next
   -- the command of the next line is, and the text of every reply was written before it was begun
-  within : (HasEnded ending → ⊥) → Appends before now (text_of turns) → reached ≡ start ∷ worlds_of turns
+  within : HasStarted ending → (HasEnded ending → ⊥) → Appends before now (text_of turns) → reached ≡ start ∷ worlds_of turns
       → IsInProgress rules answers (last_of start (worlds_of turns)) lines all next → Progress rules answers ending start lines all turns before now reached next
 
 -- What a run promises of a disk that tells its bytes, for the lines that were handled, of the lines `all`, the commands that they gave, and

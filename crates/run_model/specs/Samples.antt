@@ -37,7 +37,7 @@ use Rattle.command_text.specs.Replies.{reply_text}
 use Rattle.deploy_laws.specs.Apps.{App, app_at}
 use Rattle.deploy_laws.specs.Places.{shape_of}
 use Rattle.deploy_rows.specs.Rows.{InProgress, installing, installed_app, finishing, rolling_back, wiping, offered, updated_app}
-use Rattle.run_model.specs.Recovering.{recovering, resetting}
+use Rattle.deploy_rows.specs.Recovering.{recovering, resetting}
 use Rattle.run_model.specs.Sessions.{on_keys, on_working}
 use Rattle.run_model.specs.Worlds.{Application, World, world_at, update_in, disks, no_app, resting, app_of, with_app, formatted, closed, started}
 use Rattle.run_model.specs.Calls.{Outcome, answered, settle, app_step, updated, begun, open_step, durable, beside_update, CallStep, StepBeside}

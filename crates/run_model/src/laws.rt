@@ -3,7 +3,7 @@
 ghost use Rattle.std.specs.Prelude.{IsTrue};
 ghost use Rattle.migrate_fns.specs.Stored.{answers_of, rules_of};
 ghost use Rattle.run_model.specs.AppLaws.{AppLaws};
-ghost use Rattle.run_model.specs.Laws.{AlikeLaw, AllOpenedLaw, BlamedLaw, CallFailsLaw, CallKeepsLaw, DoubtStaysLaw, FailedSyncKeepsLaw, FailureKeepsLaw, IdleKeepsLaw, NoneOpenedLaw, NotFurtherBackLaw, OnTheWayLaw, OneOpenedLaw, OpensAsEitherLaw, OthersStayLaw, RootKeepsLaw, RootThenLaw, RunBeginsLaw, RunEndsLaw, RunGoesOnLaw, RunStopsLaw, SessionEndsLaw, StartStopsLaw, StorageLaterLaw, SyncedKeepsLaw};
+ghost use Rattle.run_model.specs.Laws.{AlikeLaw, AllOpenedLaw, AnswersLastLaw, BlamedLaw, CallFailsLaw, CallKeepsLaw, DoubtStaysLaw, FailedSyncKeepsLaw, FailedSyncLastsLaw, FailureKeepsLaw, FailureLastsLaw, IdleKeepsLaw, NoneOpenedLaw, NotFurtherBackLaw, NowLastsLaw, OnTheWayLaw, OneOpenedLaw, OpensAsEitherLaw, OthersStayLaw, RootKeepsLaw, RootThenLaw, RunBeginsLaw, RunEndsLaw, RunGoesOnLaw, RunStopsLaw, SessionEndsLaw, StartStopsLaw, StorageFailureLastsLaw, StorageLaterLaw, SyncedKeepsLaw};
 
 use deploy_laws::{others_stand, roots_stay, untouched_stands};
 use disk_model::Disk;
@@ -29,6 +29,20 @@ pub fn answers_are_alike(migrations: &Migrations)
 pub fn failures_end_sessions(migrations: &Migrations)
     ensures doubt { DoubtStaysLaw (rules_of migrations.now) (answers_of migrations.now) }
     ensures session { SessionEndsLaw (rules_of migrations.now) (answers_of migrations.now) }
+{}
+
+/// A command that is answered keeps what is so of every world: that sessions hold settled states and stand beside no mark and no update.
+pub fn answers_keep_worlds(migrations: &Migrations)
+    ensures now { NowLastsLaw (rules_of migrations.now) (answers_of migrations.now) }
+    ensures answered { AnswersLastLaw (rules_of migrations.now) (answers_of migrations.now) }
+{}
+
+/// And so does a command whose device failed: in the sync of a doubt, in a call that names no storage, and in one on a storage where what
+/// was read is what lay there but for that storage.
+pub fn failures_keep_worlds(migrations: &Migrations)
+    ensures sync { FailedSyncLastsLaw }
+    ensures call { FailureLastsLaw (rules_of migrations.now) (answers_of migrations.now) }
+    ensures storage { StorageFailureLastsLaw (rules_of migrations.now) (answers_of migrations.now) }
 {}
 
 /// A storage in another state comes later, so that a root may be opened before the command that makes it.

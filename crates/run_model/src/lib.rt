@@ -10,6 +10,6 @@ mod laws;
 
 pub use laws::{
     a_command_follows, a_command_keeps, a_run_begins, a_run_ends, a_run_goes_on, a_run_stops,
-    a_start_keeps, answers_are_alike, applications_stand, causes_add_up, failures_end_sessions,
-    moments_are_bounded, storages_lead_on,
+    a_start_keeps, answers_are_alike, answers_keep_worlds, applications_stand, causes_add_up,
+    failures_end_sessions, failures_keep_worlds, moments_are_bounded, storages_lead_on,
 };

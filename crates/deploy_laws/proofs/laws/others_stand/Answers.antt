@@ -1,5 +1,6 @@
-use Rattle.deploy_laws.proofs.Files.{other_file, others_settled}
-use Rattle.deploy_laws.proofs.Frames.{app_frame, free_bank}
+use Rattle.deploy_laws.proofs.Files.{other_file, others_settled, root_spared}
+use Rattle.deploy_laws.proofs.Frames.{app_frame, free_bank, same_states, still_clean}
+use Rattle.deploy_laws.specs.Apps.{shapes_named}
 use Rattle.deploy_laws.proofs.Named.{versions}
 use Rattle.deploy_laws.proofs.Storing.{stored}
 use Rattle.deploy_laws.proofs.laws.others_stand.Goals as goal
@@ -23,3 +24,9 @@ returns-clause-others c = λ one other old new lt differs spared. app_frame c.he
 
 pub returns-clause-cases : goal.returns-clause-cases
 returns-clause-cases c = others_settled
+
+pub returns-clause-root : goal.returns-clause-root
+returns-clause-root c = λ app says old new lt versions spared. let apart = root_spared app lt says versions old new spared in (
+  same_states c.places_stand_apart.ensures.frame old new (shapes_named app says) apart,
+  still_clean c.places_stand_apart.ensures.frame old new (shapes_named app says) apart,
+)
