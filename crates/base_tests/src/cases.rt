@@ -2,10 +2,12 @@
 
 use crate::anywhere::twice;
 use crate::contents::{content, shared};
-use crate::elements::{name, size};
 use crate::indexes::index;
+use crate::runs::storage_session;
 use crate::seals::{hash_of, sealed, verified};
 use crate::sessions::session;
+use crate::sizes::{name, size};
+use crate::stops::stops;
 use crate::streams::{sink, source};
 use crate::votes::voted;
 use case_words::{Trouble, cut};
@@ -40,6 +42,8 @@ fn case(alloc: Global, line: &str) -> Result<String, Trouble> {
         "content" => content(alloc, rest),
         "shared" => shared(alloc, rest),
         "index" => index(alloc, rest),
+        "session" => storage_session(alloc, rest),
+        "stops" => stops(alloc, rest),
         _ => Err(Trouble::NoCase),
     }
 }

@@ -1,69 +1,88 @@
-//! Names, and the sizes of storages.
+//! Elements that are to be written.
 
-use case_words::{Trouble, add, bytes_of, bytes_text, cut, text};
-use per_base::{Bytes, Content, Entry, Fresh, Name, Numbers, PerError, storage_size};
+ghost use Rattle.std.specs.Prelude.{IsTrue, IfOk};
+ghost use Rattle.index_text.specs.Contents.{AreContents, IsFresh};
+ghost use Rattle.base_tests.specs.Single.{IsAddition};
+
+use case_words::{Trouble, bytes_of, cut};
+use element_store::{Change, Shape};
+use per_base::{Bytes, Cause, FileInfo, Fresh, Name, PerError, StoreKind};
 use std::alloc::Global;
 
-/// `name TEXT`: the name of this text, copied.
-pub fn name(alloc: Global, words: &str) -> Result<String, Trouble> {
-    match Name::new(alloc, words) {
-        Ok(name) => text(alloc, name.copy()?.as_str()),
-        Err(PerError::BadName) => text(alloc, "bad"),
+/// A name.
+pub fn name_of(alloc: Global, word: &str) -> Result<Name, Trouble> {
+    match Name::new(alloc, word) {
+        Ok(name) => Ok(name),
+        Err(PerError::BadName) => Err(Trouble::NoCase),
         Err(_) => Err(Trouble::OutOfMemory),
     }
 }
 
-/// `size NAME=BYTES ..`: the elements, and the size of a storage of these.
-pub fn size(alloc: Global, words: &str) -> Result<String, Trouble> {
-    let mut entries = Vec::new(alloc);
-    let mut said = String::new(alloc);
-    for word in words.split(' ') {
-        let entry = entry(alloc, word)?;
-        let shown = shown(alloc, &entry)?;
-        add(&mut said, shown.as_str())?;
-        entries.push(entry)?;
-    }
-    if entries.len() > 1024 {
-        return Err(Trouble::NoCase);
-    }
-    let total = storage_size(&entries);
-    add(&mut said, format!(in alloc; "{total}")?.as_str())?;
-    Ok(said)
-}
-
-// An element that was copied, and copied again as an entry.
-fn entry(alloc: Global, word: &str) -> Result<Entry, Trouble> {
+/// `NAME=BYTES`: an element of these, with an info where the kind asks for one.
+pub fn element_of(alloc: Global, kind: StoreKind, word: &str) -> Result<Fresh, Trouble> {
     let (name, bytes) = cut(word, '=');
-    let Ok(name) = Name::new(alloc, name) else {
-        return Err(Trouble::NoCase);
-    };
-    let bytes = Bytes::new(bytes_of(alloc, bytes)?);
-    let fresh = Fresh {
-        name,
-        info: None,
-        bytes,
-    };
-    let Fresh { name, info, bytes } = fresh.copy()?;
-    let Ok(len) = u32::try_from(bytes.len()) else {
-        return Err(Trouble::NoCase);
-    };
-    let entry = Entry {
-        name,
-        info,
-        changed: 1,
-        len,
-        content: Content::Good(bytes),
-        lacking: Numbers::new(Vec::new(alloc)),
-    };
-    Ok(entry.copy()?)
+    element(alloc, kind, name, bytes_of(alloc, bytes)?)
 }
 
-// An entry as a word.
-fn shown(alloc: Global, entry: &Entry) -> Result<String, Trouble> {
-    let Content::Good(bytes) = &entry.content else {
-        return Err(Trouble::NoCase);
+/// An element of this name and these bytes, with an info where the kind asks for one.
+pub fn element(
+    alloc: Global,
+    kind: StoreKind,
+    name: &str,
+    bytes: Vec<u8>,
+) -> Result<Fresh, Trouble> {
+    let info = match kind {
+        StoreKind::Keys => None,
+        StoreKind::Files => Some(FileInfo {
+            created: 0,
+            modified: 0,
+            accessed: 0,
+            creation: Cause::Application,
+            modification: Cause::Application,
+        }),
     };
-    let name = entry.name.as_str();
-    let bytes = bytes_text(alloc, bytes.as_slice())?;
-    Ok(format!(in alloc; "{name}={bytes}")?)
+    Ok(Fresh {
+        name: name_of(alloc, name)?,
+        info,
+        bytes: Bytes::new(bytes),
+    })
+}
+
+// Whether a storage of this kind takes the element.
+fn is_of_kind(kind: StoreKind, fresh: &Fresh) -> bool
+    ensures { IsTrue result → IsFresh kind fresh.now }
+{
+    match kind {
+        StoreKind::Keys => fresh.info.is_none() && fresh.bytes.len() <= 65_536,
+        StoreKind::Files => fresh.info.is_some() && fresh.bytes.len() <= 1_048_576,
+    }
+}
+
+/// The element alone, where the storage takes it.
+pub fn alone(alloc: Global, shape: &Shape, fresh: Fresh) -> Result<Vec<Fresh>, Trouble>
+    ensures { IfOk result (λ contents. AreContents shape.now.kind shape.now.allowed contents.items) }
+{
+    if !is_of_kind(shape.kind, &fresh) {
+        return Err(Trouble::NoCase);
+    }
+    if fresh.name.as_str().len() as u64 + fresh.bytes.len() as u64 > shape.allowed {
+        return Err(Trouble::NoCase);
+    }
+    Ok(vec![in alloc; fresh]?)
+}
+
+/// Whether a storage of this size takes the change; only what is put or goes.
+pub fn takes(shape: &Shape, size: u64, change: &Change) -> bool
+    ensures { IsTrue result → IsAddition shape.now size change.now }
+{
+    match change {
+        Change::Put(fresh) => {
+            is_of_kind(shape.kind, fresh)
+                && size <= shape.allowed
+                && fresh.name.as_str().len() as u64 + fresh.bytes.len() as u64
+                    <= shape.allowed - size
+        }
+        Change::Remove(_) => size <= shape.allowed,
+        Change::Touch(_, _) => false,
+    }
 }

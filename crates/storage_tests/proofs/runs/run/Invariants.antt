@@ -1,5 +1,0 @@
-use Rattle.storage_tests.specs.Usage.{IsKept}
-use Rattle.storage_tests.proofs.runs.run.Given as goal
-
-abbrev pub invariant-loop-word : goal.invariant-loop-word
-invariant-loop-word l = IsKept l.kept

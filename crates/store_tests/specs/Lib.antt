@@ -1,0 +1,2 @@
+pub mod FileStages
+pub mod KeyStages
