@@ -1,0 +1,53 @@
+-- The next root: where its register lies, and what its writing leaves alone.
+use Rattle.std.proofs.Common.{ℕ, ◌<◌, ◌≤◌, List, Bool, IsTrue, sym, ◌∙◌, subst}
+use Rattle.disk_model.specs.Case.{Case}
+use Rattle.disk_model.specs.Frame.{IsSettledOn, Spares}
+use Rattle.disk_model.specs.Image.{Image}
+use Rattle.disk_model.specs.Medium.{EachCase, Medium, Quiet}
+use Rattle.disk_model.specs.Place.{IsNoSlot}
+use Rattle.disk_model.specs.declared.place.Place.{Place}
+use Rattle.guarded_cell.specs.Cells.{CellAt, IsCellOf, place_of}
+use Rattle.guarded_cell.specs.declared.cell.Cell.{Cell}
+use Rattle.guarded_cell.specs.Register.{IsAlone}
+use Rattle.guarded_cell.specs.Stops.{FormatStops, PutStops}
+use Rattle.deploy_laws.specs.Laws.{RootSlotsLaw}
+use Rattle.deploy_laws.specs.Places.{IsNoRootFile, root_place}
+use Rattle.deploy.specs.Clauses.{Leaves}
+use Rattle.deploy.specs.Roots.{IsRootCell}
+use Rattle.deploy.proofs.InUse.{cell_alone}
+use Rattle.deploy.proofs.Still.{settled_fewer}
+
+module _ (app : ℕ) (cell : Cell) (of : IsRootCell app cell) where
+  pub next_cell : (g : ℕ) (next : Cell) → 1 ≤ g → IsCellOf (place_of cell) g next → IsRootCell app next
+  next_cell g next some is = record { place = is.lies ∙ of.place; positive = subst (λ (h : ℕ). 1 ≤ h) (sym is.counts) some }
+
+  pub next_alone : (image : Image) (g : ℕ) (next : Cell) (t : List ℕ) → IsCellOf (place_of cell) g next → CellAt image next t
+      → IsAlone image (root_place app).first 3 g t
+  next_alone image g next t is at = subst (λ (h : ℕ). IsAlone image (root_place app).first 3 h t) is.counts (cell_alone image app next t (is.lies ∙ of.place) at)
+
+  pub slots_spared : (old new : Image) → Spares (IsNoSlot (place_of cell).first (place_of cell).copies) old new → Spares (IsNoSlot (root_place app).first 3) old new
+  slots_spared old new spared = subst (λ (p : Place). Spares (IsNoSlot p.first p.copies) old new) of.place spared
+
+  pub puts_here : (g : ℕ) (t : List ℕ) (start : Image) (old new : Medium) → EachCase (PutStops (place_of cell).first (place_of cell).copies g t start) old new
+      → EachCase (PutStops (root_place app).first 3 g t start) old new
+  puts_here g t start old new puts = subst (λ (p : Place). EachCase (PutStops p.first p.copies g t start) old new) of.place puts
+
+-- files that are none of the root's change neither at the end nor at any moment
+module _ (slots : RootSlotsLaw) (told : Bool) (app : ℕ) (lt : app < 8) (old new : Medium)
+    (spared : IsTrue told → Spares (IsNoSlot (root_place app).first 3) old.image new.image) where
+  settled_beside : (c : Case) → IsSettledOn (IsNoSlot (root_place app).first 3) old.image c → IsSettledOn (IsNoRootFile app) old.image c
+  settled_beside c settled = settled_fewer (IsNoSlot (root_place app).first 3) (IsNoRootFile app) old.image c (λ f beside. slots app f lt beside) settled
+
+  pub put_leaves : (g : ℕ) (t : List ℕ) → (IsTrue told → Quiet old → EachCase (PutStops (root_place app).first 3 g t old.image) old new)
+      → Leaves told (IsNoRootFile app) old new
+  put_leaves g t puts = record {
+    at_the_end = λ tells f beside. spared tells f (slots app f lt beside);
+    throughout = λ tells quiet c past. settled_beside c (puts tells quiet c past).elsewhere;
+  }
+
+  pub format_leaves : (g : ℕ) (t : List ℕ) → (IsTrue told → Quiet old → EachCase (FormatStops (root_place app).first 3 g t old.image) old new)
+      → Leaves told (IsNoRootFile app) old new
+  format_leaves g t stops = record {
+    at_the_end = λ tells f beside. spared tells f (slots app f lt beside);
+    throughout = λ tells quiet c past. settled_beside c (stops tells quiet c past).elsewhere;
+  }

@@ -1,0 +1,37 @@
+use denote.Ref.{Bor}
+use Rattle.std.proofs.Common.{◌≡◌, [], None, Some, Option, refl, sym, ap, ◌∙◌, subst, arith}
+use Rattle.std.specs.Prelude.{Result, Ok, Err, option_map}
+use Rattle.per_base.specs.declared.errors.PerError.{PerError}
+use Rattle.per_base.specs.declared.names.Name.{Name}
+use Rattle.deploy_rows.specs.Rows.{deployment_of, offered}
+use Rattle.root_text.specs.declared.versions.VersionText.{VersionText}
+use Rattle.deploy.specs.declared.roots.Root.TheVariants as root
+use Rattle.deploy.specs.Beginning.{IsOffered}
+use Rattle.deploy.specs.Roots.{root_app}
+use Rattle.deploy.specs.Versions.{Told}
+use Rattle.deploy.proofs.Offers.{is_busy, is_offered, is_rejected, none_of, not_finished, not_newer}
+use Rattle.deploy.proofs.updating.offer.Goals as goal
+
+pub returns-in-Some-clause-offered : goal.returns-in-Some-clause-offered
+returns-in-Some-clause-offered c = not_finished (option_map (λ (n : Bor Name). n.now) c.args.busy) c.args.manifest.now c.args.root.now c.in-Some.previous c.in-Some.is
+
+pub returns-in-Some-busy-clause-offered : goal.returns-in-Some-busy-clause-offered
+returns-in-Some-busy-clause-offered c = is_busy (option_map (λ (n : Bor Name). n.now) c.args.busy) c.args.manifest.now c.args.root.now
+    (none_of c.args.root.now.previous c.in_default.not-Some) c.in-Some-busy.name.now (ap (λ (o : Option (Bor Name)). option_map (λ (n : Bor Name). n.now) o) c.in-Some-busy.is)
+    ∙ ap (λ (e : PerError). Err e) (sym c.in_ok-is_open.ensures.refused)
+
+pub returns-in-Ok-clause-offered : goal.returns-in-Ok-clause-offered
+returns-in-Ok-clause-offered c = not_newer (option_map (λ (n : Bor Name). n.now) c.args.busy) c.args.manifest.now c.args.root.now
+    (none_of c.args.root.now.previous c.in_default.not-Some) (ap (λ (o : Option (Bor Name)). option_map (λ (n : Bor Name). n.now) o) (none_of c.args.busy c.in_default-busy.not-Some))
+    c.in-Ok.version (subst (λ (r : Result VersionText PerError). Told (deployment_of c.args.manifest.now) r) c.in-Ok.is c.in_ok-version.ensures.told) (omega arith)
+
+pub returns-in-Ok-2-clause-offered : goal.returns-in-Ok-2-clause-offered
+returns-in-Ok-2-clause-offered c =
+    is_offered (option_map (λ (n : Bor Name). n.now) c.args.busy) c.args.manifest.now c.args.root.now
+    (none_of c.args.root.now.previous c.in_default.not-Some) (ap (λ (o : Option (Bor Name)). option_map (λ (n : Bor Name). n.now) o) (none_of c.args.busy c.in_default-busy.not-Some))
+    c.in-Ok.version (subst (λ (r : Result VersionText PerError). Told (deployment_of c.args.manifest.now) r) c.in-Ok.is c.in_ok-version.ensures.told) (omega arith)
+
+pub returns-in-Err-clause-offered : goal.returns-in-Err-clause-offered
+returns-in-Err-clause-offered c = is_rejected (option_map (λ (n : Bor Name). n.now) c.args.busy) c.args.manifest.now c.args.root.now
+    (none_of c.args.root.now.previous c.in_default.not-Some) (ap (λ (o : Option (Bor Name)). option_map (λ (n : Bor Name). n.now) o) (none_of c.args.busy c.in_default-busy.not-Some))
+    c.in-Err.rejected (subst (λ (r : Result VersionText PerError). Told (deployment_of c.args.manifest.now) r) c.in-Err.is c.in_ok-version.ensures.told)

@@ -1,0 +1,67 @@
+-- An update in progress: the storages of the next version are made one after another.
+use Rattle.std.specs.Prelude.{◌≡◌, ◌≤◌, ◌<◌, ◌-◌, ℕ, List, suc, length, take, map, Bool, IsTrue, None, Result, Ok, Err, cond, nat_lt}
+use Rattle.per_base.specs.declared.errors.PerError.{PerError}
+use Rattle.disk_model.specs.Image.{Image}
+use Rattle.deployment_model.specs.Data.{deployment_data, storage_data}
+use Rattle.element_state.specs.States.{greatest_generation}
+use Rattle.guarded_cell.specs.Cells.{generation_of}
+use Rattle.update_plan.specs.Plans.{AllFit}
+use Rattle.root_text.specs.Views.{version_said}
+use Rattle.deploy_laws.specs.Places.{Named, shapes_in}
+use Rattle.deploy_laws.specs.Apps.{named}
+use Rattle.deploy_rows.specs.Rows.{InProgress}
+use Rattle.deploy.specs.declared.roots.Root.{Root}
+use Rattle.deploy.specs.declared.roots.Root.TheVariants.{Installed}
+use Rattle.deploy.specs.declared.updating.Begin.{Begin}
+use Rattle.deploy.specs.declared.updating.Begin.TheVariants as begin
+use Rattle.deploy.specs.declared.updating.Staged.{Staged}
+use Rattle.deploy.specs.Roots.{IsKept, IsRootOf, IsRootOn, RootAt}
+use Rattle.deploy.specs.Made.{AreMade}
+
+-- the next version, the contents of its storages, and how many of them are made
+abbrev pub progress_in : Staged → InProgress
+progress_in s = record { deployment = deployment_data s.version.deployment; contents = s.contents.items; built = s.built }
+
+-- the manifest of the next version
+abbrev pub text_in : Staged → List ℕ
+text_in s = s.version.text
+
+-- the root over which it was begun
+abbrev pub root_in : Staged → Root
+root_in s = Installed s.root
+
+-- the next version, in the other bank
+abbrev pub offered_in : Staged → Named
+offered_in s = named (1 - s.root.bank) (version_said s.version)
+
+-- what it keeps in memory
+pub record IsStaged (app : ℕ) (s : Staged) : Type 0 where
+  pub of_app : s.app ≡ app
+  pub below : app < 8
+  pub root : IsRootOf app (Installed s.root)
+  pub no_previous : s.root.previous ≡ None
+  pub not_worn : generation_of s.root.cell < greatest_generation
+  pub offers : IsKept s.version
+  pub fit : AllFit (map storage_data s.version.deployment.storages) s.contents.items
+  pub within : s.built ≤ length s.contents.items
+
+-- it is in use on a disk: the root stands, and those of the next version's storages that are made open at their contents
+pub record StagedAt (told : Bool) (image : Image) (app : ℕ) (s : Staged) : Type 0 where
+  pub memory : IsStaged app s
+  pub root_on : IsTrue told → IsRootOn image app (Installed s.root)
+  pub made : IsTrue told → AreMade image (take s.built (shapes_in app (offered_in s))) (take s.built s.contents.items)
+
+-- one more storage is made, where one remains
+abbrev pub one_more : InProgress → InProgress
+one_more p = record p { built = cond (nat_lt p.built (length p.contents)) (suc p.built) p.built }
+
+-- ---- how a beginning ended
+
+abbrev pub begun_as : Begin → Result InProgress PerError
+begun_as (begin.Ready s) = Ok (progress_in s)
+begun_as (begin.Refused root e) = Err e
+
+-- it is ready over the same root, or the root is handed back
+abbrev pub IsBegun : (told : Bool) (image : Image) (app : ℕ) → Root → Begin → Type 0
+IsBegun told image app root (begin.Ready s) = StagedAt told image app s × (root_in s ≡ root)
+IsBegun told image app root (begin.Refused same e) = (same ≡ root) × RootAt told image app same

@@ -1,0 +1,23 @@
+-- The errors of the crates below, as reasons to stop. A corrupt text is never one: the calls below that could say it say that they do not.
+use Rattle.guarded_cell.specs.declared.errors.CellError.{CellError}
+use Rattle.guarded_cell.specs.declared.errors.CellError.TheVariants as cell
+use Rattle.guarded_cell.specs.declared.errors.WriteFault.{WriteFault}
+use Rattle.guarded_cell.specs.declared.errors.WriteFault.TheVariants as write
+use Rattle.element_state.specs.declared.errors.StoreError.{StoreError}
+use Rattle.element_state.specs.declared.errors.StoreError.TheVariants as store
+use Rattle.deploy.specs.declared.errors.Stop.{Stop}
+use Rattle.deploy.specs.declared.errors.Stop.TheVariants.{Device, OutOfMemory}
+
+abbrev pub of_cell : CellError → Stop
+of_cell cell.Device = Device
+of_cell cell.Corrupt = OutOfMemory
+of_cell cell.OutOfMemory = OutOfMemory
+
+abbrev pub of_store : StoreError → Stop
+of_store store.Device = Device
+of_store store.Corrupt = OutOfMemory
+of_store store.OutOfMemory = OutOfMemory
+
+abbrev pub of_write : WriteFault → Stop
+of_write write.Device = Device
+of_write (write.OutOfMemory same) = OutOfMemory

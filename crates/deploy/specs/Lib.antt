@@ -1,0 +1,13 @@
+pub mod Failures
+pub mod Roots
+pub mod Made
+pub mod Standing
+pub mod Building
+pub mod Clauses
+pub mod Views
+pub mod Versions
+pub mod Leaving
+pub mod Next
+pub mod Beginning
+pub mod Laws
+pub mod Recovered

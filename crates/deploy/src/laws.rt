@@ -1,0 +1,25 @@
+//! The laws of roots in use, for the proofs of callers: none of these functions does anything when it runs.
+
+ghost use Rattle.deploy.specs.Laws.{InUseLaw, RootFrameLaw, StagedFrameLaw};
+
+use deploy_laws::{files_lie_apart, roots_say};
+use element_laws::places_stand_apart;
+use root_text::one_root;
+
+/// What an image says of an application whose root is in use is what the root says, with the states of the storages that it names.
+pub fn roots_in_use()
+    ensures app { InUseLaw }
+{
+    one_root();
+    roots_say();
+}
+
+/// A root stays in use while none of its files changes, and an update in progress while none of the files of its application does.
+pub fn in_use_stays()
+    ensures root { RootFrameLaw }
+    ensures staged { StagedFrameLaw }
+{
+    files_lie_apart();
+    places_stand_apart();
+    roots_say();
+}

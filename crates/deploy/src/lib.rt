@@ -1,0 +1,35 @@
+//! Deployment: an application is installed, updated, finished, rolled back and wiped, whole or not at all.
+//!
+//! What is installed stands in the application's root, a register of three copies ([`Root`]). A version lies in one of two banks of
+//! storages; the next one is made in the other bank, and only then is the root written, once. So a stop at any moment leaves the
+//! application as it was or as the call leads to.
+#![tactic(auto)]
+
+mod errors;
+mod formatting;
+mod installing;
+mod laws;
+mod leaving;
+mod making;
+mod opening;
+mod recovering;
+mod roots;
+mod shapes;
+mod standing;
+mod updating;
+mod viewing;
+mod wiping;
+mod writing;
+
+pub use errors::Stop;
+pub use formatting::format_all;
+pub use installing::install;
+pub use laws::{in_use_stays, roots_in_use};
+pub use leaving::{finish, rollback};
+pub use opening::open_root;
+pub use recovering::{recover_storage, reset_storage};
+pub use roots::{Installed, Outcome, Root};
+pub use shapes::shape_of;
+pub use updating::{Begin, Staged, begin_update};
+pub use viewing::{RootState, RootView, view_root};
+pub use wiping::wipe;

@@ -1,0 +1,72 @@
+//! What stands in the place of a root, found without a change.
+
+ghost use Rattle.std.specs.Prelude.{◌≡◌, ◌<◌, IfOk, IsErrOf, IsTrue, OnOk};
+ghost use Rattle.std.specs.List.{All};
+ghost use Rattle.per_base.specs.Causes.{Rose};
+ghost use Rattle.disk_model.specs.Medium.{Elapses, IsIdle, Quiet};
+ghost use Rattle.guarded_cell.specs.Held.{held};
+ghost use Rattle.guarded_cell.specs.Seens.{IsSealable};
+ghost use Rattle.deploy_laws.specs.Places.{root_place};
+ghost use Rattle.deploy.specs.Standing.{IfSpelled, IsAmong};
+
+use crate::errors::Stop;
+use crate::shapes::root_place;
+use disk_model::Disk;
+use guarded_cell::{Seen, look, standing_among};
+use root_text::{RootError, RootSays, read_root};
+use std::alloc::Global;
+
+/// The text that two copies of a root hold, and the root that it says.
+#[derive(Drop)]
+pub(crate) struct Standing {
+    pub(crate) seen: Seen,
+    pub(crate) says: RootSays,
+    /// Whether no copy holds any other text.
+    pub(crate) settled: bool,
+}
+
+/// Looks for the root of an application and changes nothing. Where no two copies hold one text, or what they hold is no root's, there is
+/// none.
+pub(crate) fn find_standing<D: Disk>(
+    alloc: Global,
+    disk: &mut D,
+    app: u32,
+) -> Result<Option<Standing>, Stop>
+    requires { app < 8 }
+    ensures among { IsTrue D.told → IfOk result (IsAmong (held (D.medium disk.old).image (root_place app).first 3)) }
+    ensures spelled { IfOk result IfSpelled }
+    ensures quiet { OnOk result (Quiet (D.medium disk.new)) }
+    ensures image { (D.medium disk.new).image ≡ (D.medium disk.old).image }
+    ensures idle { Quiet (D.medium disk.old) → IsIdle (D.medium disk.old) (D.medium disk.new) }
+    ensures written { (D.medium disk.new).written ≡ (D.medium disk.old).written }
+    ensures cause { IsErrOf result Stop.Device → Rose (D.medium disk.old).faults (D.medium disk.new).faults }
+    ensures passes { OnOk result ((D.medium disk.new).faults ≡ (D.medium disk.old).faults) }
+    ensures fed { IsErrOf result Stop.OutOfMemory → (D.medium disk.new).faults ≡ (D.medium disk.old).faults }
+    ensures time { Elapses (D.medium disk.old) (D.medium disk.new) }
+{
+    let seens = look(alloc, disk, root_place(app))?;
+    let found = root_among(alloc, seens)?;
+    Ok(found)
+}
+
+// The first of the texts that two copies hold, where it says a root.
+fn root_among(alloc: Global, seens: Vec<Seen>) -> Result<Option<Standing>, Stop>
+    requires { All IsSealable seens.items }
+    ensures among { IfOk result (IsAmong seens.items) }
+    ensures spelled { IfOk result IfSpelled }
+    ensures memory { IsErrOf result Stop.Device → ⊥ }
+{
+    let settled = seens.len() <= 1;
+    let Some(seen) = standing_among(seens, 2) else {
+        return Ok(None);
+    };
+    match read_root(alloc, seen.text.as_slice()) {
+        Ok(says) => Ok(Some(Standing {
+            seen,
+            says,
+            settled,
+        })),
+        Err(RootError::NotARoot) => Ok(None),
+        Err(RootError::OutOfMemory) => Err(Stop::OutOfMemory),
+    }
+}

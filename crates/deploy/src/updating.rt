@@ -1,0 +1,470 @@
+//! Updates: the next version is made in the other bank, storage by storage, and then the root is written once.
+
+ghost use Rattle.std.specs.Prelude.{◌≡◌, ◌≤◌, ◌<◌, ◌-◌, ℕ, List, [], ◌∷◌, Err, IfOk, IsErrOf, IsOk, IsTrue, None, Ok, OnOk, length, map, option_map};
+ghost use Rattle.std.specs.List.{AllByRecursion};
+ghost use Rattle.per_base.specs.Causes.{Rose};
+ghost use Rattle.per_base.specs.declared.errors.PerError.{PerError};
+ghost use Rattle.disk_model.specs.Medium.{Elapses, IsIdle, Quiet};
+ghost use Rattle.deployment_model.specs.Conditions.{IsDeployment, IsStorage};
+ghost use Rattle.deployment_model.specs.Data.{deployment_data, storage_data};
+ghost use Rattle.element_state.specs.States.{State, store_at};
+ghost use Rattle.migrate_fns.specs.Stored.{answers_of, rules_of};
+ghost use Rattle.update_plan.specs.Plans.{ArePresent, IsOf};
+ghost use Rattle.deploy_laws.specs.Apps.{IsCleanApp, app_at};
+ghost use Rattle.deploy_laws.specs.Places.{IsBeside, IsBesideNew, IsNoRootFile, shape_of, shapes_from};
+ghost use Rattle.deploy_laws.specs.Stands.{StandsThroughout};
+ghost use Rattle.deploy_rows.specs.Rows.{Begins, BeginsWith, contents_of, offered, updated_app};
+ghost use Rattle.deploy.specs.Beginning.{IsOffered, IsRead, offer_of};
+ghost use Rattle.deploy.specs.Building.{IsBegun, IsStaged, StagedAt, begun_as, one_more, progress_in, root_in, text_in};
+ghost use Rattle.deploy.specs.Clauses.{Leaves};
+ghost use Rattle.deploy.specs.Roots.{IsKept, RootAt, free_bank, root_app, root_says, texts_in};
+
+use crate::errors::Stop;
+use crate::installing::{make_version, worn_out};
+use crate::leaving::is_open;
+use crate::making::create_one;
+use crate::roots::{Installed, Root};
+use crate::shapes::shape_of;
+use crate::writing::read_version;
+use deploy_laws::{deploying_stands, files_lie_apart, others_stand, roots_say, untouched_stands};
+use deploy_rows::rows_read_the_root;
+use deployment_model::{StorageConfig, names_are_apart};
+use disk_model::Disk;
+use element_laws::places_stand_apart;
+use element_state::{StoreError, inspect};
+use migrate_fns::Migrations;
+use per_base::{Fresh, Name, PerError, Sequence, Unit};
+use root_text::{VersionText, one_root};
+use std::alloc::Global;
+use update_plan::{Contents, StorageContents, Stored, plan};
+
+/// An update in progress: the next version, the contents of its storages, and how many of them are made. To let it go costs nothing but
+/// what was made; the root is as it was.
+#[derive(Drop)]
+pub struct Staged {
+    alloc: Global,
+    app: u32,
+    root: Installed,
+    version: VersionText,
+    contents: Vec<Sequence<Fresh>>,
+    built: u32,
+}
+
+/// How the beginning of an update ended.
+#[derive(Drop)]
+pub enum Begin {
+    /// The storages of the next version can be made.
+    Ready(Staged),
+    /// It was refused, and the root is the same.
+    Refused(Root, PerError),
+}
+
+/// Begins an update to the version that a manifest describes, at a moment in seconds: reads what the storages hold and plans what those
+/// of the next version are to hold. It writes nothing.
+///
+/// Refusals, the first that holds: `IntegrityCorrupted` with the root where it is bad; `NotInstalled`; `UpdateNotFinished` with the
+/// previous version; `ResourceBusy` where `busy` names an open storage; `ManifestRejected` with the least rule that is broken;
+/// `VersionNotNewer`; those of the plan; `LimitReached` with `Generations`. Those before the plan come before any call of the disk.
+///
+/// # Errors
+///
+/// `Device` where the disk fails, and `OutOfMemory`: then the root is to be opened again.
+pub fn begin_update<D: Disk>(
+    alloc: Global,
+    disk: &mut D,
+    app: u32,
+    root: Root,
+    busy: Option<&Name>,
+    manifest: &[u8],
+    migrations: &Migrations,
+    now: u64,
+) -> Result<Begin, Stop>
+    requires app { app < 8 }
+    requires root { RootAt D.told (D.medium disk.old).image app root }
+
+    // The refusals of an update, in their order, or the contents of one plan.
+    ensures begins { IfOk result (λ b. (states : List State) × (IsTrue D.told → (app_at (D.medium disk.old).image app).states ≡ states)
+        × Begins (rules_of migrations.now) (answers_of migrations.now) now (option_map (λ n. n.now) busy.entry) manifest.now
+        (root_app root states) (begun_as b)) }
+    ensures staged { IfOk result (IsBegun D.told (D.medium disk.new).image app root) }
+
+    // The next version has the manifest that was given.
+    ensures text { (s : Staged) → result ≡ Ok (Begin.Ready s) → text_in s ≡ manifest.now }
+    ensures image { (D.medium disk.new).image ≡ (D.medium disk.old).image }
+    ensures idle { Quiet (D.medium disk.old) → IsIdle (D.medium disk.old) (D.medium disk.new) }
+    ensures written { (D.medium disk.new).written ≡ (D.medium disk.old).written }
+    ensures early { (e : PerError) → offered (option_map (λ n. n.now) busy.entry) manifest.now (root_app root []) ≡ Err e → disk.new ≡ disk.old }
+    ensures cause { IsErrOf result Stop.Device → Rose (D.medium disk.old).faults (D.medium disk.new).faults }
+    ensures device_only { IsErrOf result Stop.Device
+        → IsOk (offered (option_map (λ n. n.now) busy.entry) manifest.now (root_app root [])) }
+    ensures passes { OnOk result ((D.medium disk.new).faults ≡ (D.medium disk.old).faults) }
+    ensures fed { IsErrOf result Stop.OutOfMemory → (D.medium disk.new).faults ≡ (D.medium disk.old).faults }
+    ensures any_moment { IsTrue D.told
+        → StandsThroughout app (app_at (D.medium disk.old).image app) (D.medium disk.old) (D.medium disk.new) }
+    ensures time { Elapses (D.medium disk.old) (D.medium disk.new) }
+{
+    rows_read_the_root();
+    untouched_stands();
+    match root {
+        Root::Bad => Ok(Begin::Refused(
+            Root::Bad,
+            PerError::IntegrityCorrupted { unit: Unit::Root },
+        )),
+        Root::Absent(cell) => Ok(Begin::Refused(Root::Absent(cell), PerError::NotInstalled)),
+        Root::Installed(installed) => begin_over(
+            alloc, disk, app, installed, busy, manifest, migrations, now,
+        ),
+    }
+}
+
+// Begins over a root with a version.
+fn begin_over<D: Disk>(
+    alloc: Global,
+    disk: &mut D,
+    app: u32,
+    root: Installed,
+    busy: Option<&Name>,
+    manifest: &[u8],
+    migrations: &Migrations,
+    now: u64,
+) -> Result<Begin, Stop>
+    requires app { app < 8 }
+    requires root { RootAt D.told (D.medium disk.old).image app (Root.Installed root) }
+
+    ensures begins { IfOk result (λ b. (states : List State) × (IsTrue D.told → (app_at (D.medium disk.old).image app).states ≡ states)
+        × Begins (rules_of migrations.now) (answers_of migrations.now) now (option_map (λ n. n.now) busy.entry) manifest.now
+        (root_app (Root.Installed root) states) (begun_as b)) }
+    ensures staged { IfOk result (IsBegun D.told (D.medium disk.new).image app (Root.Installed root)) }
+    ensures text { (s : Staged) → result ≡ Ok (Begin.Ready s) → text_in s ≡ manifest.now }
+    ensures image { (D.medium disk.new).image ≡ (D.medium disk.old).image }
+    ensures idle { Quiet (D.medium disk.old) → IsIdle (D.medium disk.old) (D.medium disk.new) }
+    ensures written { (D.medium disk.new).written ≡ (D.medium disk.old).written }
+    ensures early { (e : PerError) → offered (option_map (λ n. n.now) busy.entry) manifest.now (root_app (Root.Installed root) []) ≡ Err e
+        → disk.new ≡ disk.old }
+    ensures cause { IsErrOf result Stop.Device → Rose (D.medium disk.old).faults (D.medium disk.new).faults }
+    ensures device_only { IsErrOf result Stop.Device
+        → IsOk (offered (option_map (λ n. n.now) busy.entry) manifest.now (root_app (Root.Installed root) [])) }
+    ensures passes { OnOk result ((D.medium disk.new).faults ≡ (D.medium disk.old).faults) }
+    ensures fed { IsErrOf result Stop.OutOfMemory → (D.medium disk.new).faults ≡ (D.medium disk.old).faults }
+    ensures any_moment { IsTrue D.told
+        → StandsThroughout app (app_at (D.medium disk.old).image app) (D.medium disk.old) (D.medium disk.new) }
+    ensures time { Elapses (D.medium disk.old) (D.medium disk.new) }
+{
+    untouched_stands();
+    match offer(alloc, &root, busy, manifest)? {
+        Ok(version) => begin_with(alloc, disk, app, root, version, migrations, now),
+        Err(refused) => Ok(Begin::Refused(Root::Installed(root), refused)),
+    }
+}
+
+// The version that is offered, or why it is refused before anything is read.
+fn offer(
+    alloc: Global,
+    root: &Installed,
+    busy: Option<&Name>,
+    manifest: &[u8],
+) -> Result<Result<VersionText, PerError>, Stop>
+    ensures offered { IfOk result
+        (IsOffered (offered (option_map (λ n. n.now) busy.entry) manifest.now (root_app (Root.Installed root.now) [])) root.now) }
+    ensures alone { IfOk result (λ offer. IfOk offer (λ version. root.now.previous ≡ None)) }
+    ensures text { IfOk result (λ offer. IfOk offer (λ version. version.text ≡ manifest.now)) }
+    ensures kept { IfOk result (λ offer. IfOk offer IsKept) }
+    ensures memory { IsErrOf result Stop.Device → ⊥ }
+{
+    if let Some(previous) = &root.previous {
+        return Ok(Err(PerError::UpdateNotFinished {
+            previous: previous.deployment.version,
+        }));
+    }
+    if let Some(name) = busy {
+        return Ok(Err(is_open(name)?));
+    }
+    match read_version(alloc, manifest)? {
+        Ok(version) if version.deployment.version <= root.active.deployment.version => {
+            Ok(Err(PerError::VersionNotNewer {
+                active: root.active.deployment.version,
+                offered: version.deployment.version,
+            }))
+        }
+        Ok(version) => Ok(Ok(version)),
+        Err(rejected) => Ok(Err(rejected)),
+    }
+}
+
+// Begins with a version that is newer than the only one.
+fn begin_with<D: Disk>(
+    alloc: Global,
+    disk: &mut D,
+    app: u32,
+    root: Installed,
+    version: VersionText,
+    migrations: &Migrations,
+    now: u64,
+) -> Result<Begin, Stop>
+    requires app { app < 8 }
+    requires root { RootAt D.told (D.medium disk.old).image app (Root.Installed root) }
+    requires alone { root.previous ≡ None }
+    requires version { IsKept version }
+
+    ensures begins { IfOk result (λ b. (states : List State) × (IsTrue D.told → (app_at (D.medium disk.old).image app).states ≡ states)
+        × BeginsWith (rules_of migrations.now) (answers_of migrations.now) now states (Ok (offer_of root version)) (begun_as b)) }
+    ensures staged { IfOk result (IsBegun D.told (D.medium disk.new).image app (Root.Installed root)) }
+    ensures text { (s : Staged) → result ≡ Ok (Begin.Ready s) → text_in s ≡ version.text }
+    ensures image { (D.medium disk.new).image ≡ (D.medium disk.old).image }
+    ensures idle { Quiet (D.medium disk.old) → IsIdle (D.medium disk.old) (D.medium disk.new) }
+    ensures written { (D.medium disk.new).written ≡ (D.medium disk.old).written }
+    ensures cause { IsErrOf result Stop.Device → Rose (D.medium disk.old).faults (D.medium disk.new).faults }
+    ensures passes { OnOk result ((D.medium disk.new).faults ≡ (D.medium disk.old).faults) }
+    ensures fed { IsErrOf result Stop.OutOfMemory → (D.medium disk.new).faults ≡ (D.medium disk.old).faults }
+    ensures time { Elapses (D.medium disk.old) (D.medium disk.new) }
+{
+    one_root();
+    roots_say();
+    let stored = stored_contents(alloc, disk, app, &root)?;
+    match plan(
+        alloc,
+        &root.active.deployment,
+        &stored,
+        &version.deployment,
+        migrations,
+        now,
+    ) {
+        Err(failed) => {
+            let refused = refusal(failed)?;
+            Ok(Begin::Refused(Root::Installed(root), refused))
+        }
+        Ok(_) if root.cell.generation() == u64::MAX => {
+            Ok(Begin::Refused(Root::Installed(root), worn_out()))
+        }
+        Ok(contents) => Ok(Begin::Ready(Staged {
+            alloc,
+            app,
+            root,
+            version,
+            contents,
+            built: 0,
+        })),
+    }
+}
+
+// A want of memory is no refusal.
+fn refusal(failed: PerError) -> Result<PerError, Stop>
+    ensures refused { IfOk result (λ refused. refused ≡ failed) }
+    ensures fed { IfOk result (λ refused. refused ≡ PerError.OutOfMemory → ⊥) }
+    ensures memory { IsErrOf result Stop.Device → ⊥ }
+{
+    match failed {
+        PerError::OutOfMemory => Err(Stop::OutOfMemory),
+        refused => Ok(refused),
+    }
+}
+
+// What the storages of the active version hold.
+fn stored_contents<D: Disk>(
+    alloc: Global,
+    disk: &mut D,
+    app: u32,
+    root: &Installed,
+) -> Result<Contents, Stop>
+    requires app { app < 8 }
+    requires bank { root.now.bank ≤ 1 }
+    requires active { IsDeployment (deployment_data root.now.active.deployment) }
+
+    ensures read { IfOk result (IsRead D.told (D.medium disk.old).image
+        (shapes_from app root.now.bank 0 (map storage_data root.now.active.deployment.storages)) (map storage_data root.now.active.deployment.storages)) }
+    ensures kinds { IfOk result (λ contents. AllByRecursion (IsOf (deployment_data root.now.active.deployment)) contents) }
+    ensures image { (D.medium disk.new).image ≡ (D.medium disk.old).image }
+    ensures idle { Quiet (D.medium disk.old) → IsIdle (D.medium disk.old) (D.medium disk.new) }
+    ensures written { (D.medium disk.new).written ≡ (D.medium disk.old).written }
+    ensures cause { IsErrOf result Stop.Device → Rose (D.medium disk.old).faults (D.medium disk.new).faults }
+    ensures passes { OnOk result ((D.medium disk.new).faults ≡ (D.medium disk.old).faults) }
+    ensures fed { IsErrOf result Stop.OutOfMemory → (D.medium disk.new).faults ≡ (D.medium disk.old).faults }
+    ensures time { Elapses (D.medium disk.old) (D.medium disk.new) }
+{
+    names_are_apart();
+    let mut contents = Vec::new(alloc);
+    let mut number = 0;
+    for config in root.active.deployment.storages.as_slice() {
+        contents.push(read_stored(alloc, disk, app, root.bank, number, config)?)?;
+        number += 1;
+    }
+    Ok(Contents::new(contents))
+}
+
+// What one storage holds.
+fn read_stored<D: Disk>(
+    alloc: Global,
+    disk: &mut D,
+    app: u32,
+    bank: u32,
+    number: u32,
+    config: &StorageConfig,
+) -> Result<Stored, Stop>
+    requires app { app < 8 }
+    requires bank { bank ≤ 1 }
+    requires number { number < 16 }
+    requires config { IsStorage (storage_data config.now) }
+
+    ensures name { IfOk result (λ stored. stored.name ≡ config.now.name) }
+    ensures contents { IsTrue D.told → IfOk result (λ stored.
+        contents_of (store_at (D.medium disk.old).image (shape_of app bank number (storage_data config.now))) ≡ stored.contents) }
+    ensures some { IfOk result (λ stored. (state : State) × (contents_of state ≡ stored.contents)) }
+    ensures present { IfOk result (λ stored. ArePresent config.now.kind stored.contents) }
+    ensures image { (D.medium disk.new).image ≡ (D.medium disk.old).image }
+    ensures idle { Quiet (D.medium disk.old) → IsIdle (D.medium disk.old) (D.medium disk.new) }
+    ensures written { (D.medium disk.new).written ≡ (D.medium disk.old).written }
+    ensures cause { IsErrOf result Stop.Device → Rose (D.medium disk.old).faults (D.medium disk.new).faults }
+    ensures passes { OnOk result ((D.medium disk.new).faults ≡ (D.medium disk.old).faults) }
+    ensures fed { IsErrOf result Stop.OutOfMemory → (D.medium disk.new).faults ≡ (D.medium disk.old).faults }
+    ensures time { Elapses (D.medium disk.old) (D.medium disk.new) }
+{
+    let shape = shape_of(app, bank, number, config)?;
+    let name = config.name.copy()?;
+    let contents = match inspect(alloc, disk, &shape) {
+        Ok(view) => StorageContents::Present(view.entries),
+        Err(StoreError::Corrupt) => StorageContents::Damaged,
+        Err(failed) => return Err(failed.into()),
+    };
+    Ok(Stored { name, contents })
+}
+
+impl Staged {
+    /// How many storages remain to be made. Takes no memory.
+    pub fn remaining(&self) -> u32
+        requires { IsStaged self.now.app self.now }
+        ensures { result ≡ length (progress_in self.now).contents - (progress_in self.now).built }
+    {
+        self.contents.len() as u32 - self.built
+    }
+
+    /// The number of the next version. Takes no memory.
+    pub fn offered(&self) -> u32
+        ensures { result ≡ (progress_in self.now).deployment.version }
+    {
+        self.version.deployment.version
+    }
+
+    /// Gives the update up: the root is the one that it began over. What was made of the next version stays in its bank, and nothing
+    /// names it. Takes no memory.
+    pub fn abort(self) -> Root
+        ensures { result ≡ root_in self }
+    {
+        Root::Installed(self.root)
+    }
+
+    /// Makes one more storage of the next version, if one remains.
+    ///
+    /// # Errors
+    ///
+    /// `Device` where the disk fails, and `OutOfMemory`: then the root is to be opened again, and it says what it said.
+    pub fn next_storage<D: Disk>(self, disk: &mut D) -> Result<Staged, Stop>
+        requires staged { StagedAt D.told (D.medium disk.old).image self.app self }
+
+        ensures staged { IfOk result (λ s. StagedAt D.told (D.medium disk.new).image self.app s) }
+        ensures root { IfOk result (λ s. root_in s ≡ root_in self) }
+        ensures progress { IfOk result (λ s. progress_in s ≡ one_more (progress_in self)) }
+        ensures text { IfOk result (λ s. text_in s ≡ text_in self) }
+        ensures app { IsTrue D.told → app_at (D.medium disk.new).image self.app ≡ app_at (D.medium disk.old).image self.app }
+        ensures clean { IsTrue D.told → IsCleanApp self.app (D.medium disk.old).image → IsCleanApp self.app (D.medium disk.new).image }
+        ensures quiet { Quiet (D.medium disk.old) → OnOk result (Quiet (D.medium disk.new)) }
+        ensures done { length (progress_in self).contents ≤ (progress_in self).built → (result ≡ Ok self) × (disk.new ≡ disk.old) }
+        ensures cause { IsErrOf result Stop.Device → Rose (D.medium disk.old).faults (D.medium disk.new).faults }
+        ensures passes { OnOk result ((D.medium disk.new).faults ≡ (D.medium disk.old).faults) }
+        ensures fed { IsErrOf result Stop.OutOfMemory → (D.medium disk.new).faults ≡ (D.medium disk.old).faults }
+
+        // Only files of that storage change, and at any moment the application stands as it was.
+        ensures outside { Leaves D.told (IsBeside self.app (free_bank (root_in self)) (progress_in self).built)
+            (D.medium disk.old) (D.medium disk.new) }
+        ensures any_moment { IsTrue D.told
+            → StandsThroughout self.app (app_at (D.medium disk.old).image self.app) (D.medium disk.old) (D.medium disk.new) }
+        ensures time { Elapses (D.medium disk.old) (D.medium disk.new) }
+    {
+        one_root();
+        roots_say();
+        files_lie_apart();
+        others_stand();
+        deploying_stands();
+        untouched_stands();
+        places_stand_apart();
+        if self.built as usize >= self.contents.len() {
+            return Ok(self);
+        }
+        create_one(
+            self.alloc,
+            disk,
+            self.app,
+            1 - self.root.bank,
+            self.built,
+            &self.version.deployment.storages.as_slice()[self.built as usize],
+            self.contents[self.built as usize].as_slice(),
+        )?;
+        let mut staged = self;
+        staged.built += 1;
+        Ok(staged)
+    }
+
+    /// Makes the storages that remain, and then writes the root: the next version is active, and the one before it is kept as it was.
+    ///
+    /// # Errors
+    ///
+    /// `Device` where the disk fails, and `OutOfMemory`: then the root is to be opened again.
+    pub fn commit_update<D: Disk>(self, disk: &mut D) -> Result<Root, Stop>
+        requires staged { StagedAt D.told (D.medium disk.old).image self.app self }
+
+        ensures root { IfOk result (RootAt D.told (D.medium disk.new).image self.app) }
+        ensures says { IfOk result (λ root. root_says root ≡ (updated_app (progress_in self) (root_app (root_in self) [])).says) }
+        ensures text { IfOk result (λ root. texts_in root ≡ text_in self ∷ texts_in (root_in self)) }
+        ensures app { IsTrue D.told → OnOk result (app_at (D.medium disk.new).image self.app
+            ≡ updated_app (progress_in self) (app_at (D.medium disk.old).image self.app)) }
+        ensures clean { IsTrue D.told → IsCleanApp self.app (D.medium disk.old).image
+            → OnOk result (IsCleanApp self.app (D.medium disk.new).image) }
+        ensures quiet { OnOk result (Quiet (D.medium disk.new)) }
+        ensures cause { IsErrOf result Stop.Device → Rose (D.medium disk.old).faults (D.medium disk.new).faults }
+        ensures passes { OnOk result ((D.medium disk.new).faults ≡ (D.medium disk.old).faults) }
+        ensures fed { IsErrOf result Stop.OutOfMemory → (D.medium disk.new).faults ≡ (D.medium disk.old).faults }
+
+        // Only files of the root and of the other bank change, with no storage remaining only those of the root, and at any moment the
+        // application stands as before or as after.
+        ensures outside { Leaves D.told (IsBesideNew self.app (free_bank (root_in self))) (D.medium disk.old) (D.medium disk.new) }
+        ensures root_alone { length (progress_in self).contents ≤ (progress_in self).built
+            → Leaves D.told (IsNoRootFile self.app) (D.medium disk.old) (D.medium disk.new) }
+        ensures any_moment { IsTrue D.told → StandsThroughout self.app
+            (updated_app (progress_in self) (app_at (D.medium disk.old).image self.app)) (D.medium disk.old) (D.medium disk.new) }
+        ensures time { Elapses (D.medium disk.old) (D.medium disk.new) }
+    {
+        one_root();
+        roots_say();
+        let Staged {
+            alloc,
+            app,
+            root,
+            version,
+            contents,
+            built,
+        } = self;
+        let Installed {
+            cell,
+            bank,
+            active,
+            ..
+        } = root;
+        let bank = 1 - bank;
+        let cell = make_version(
+            alloc,
+            disk,
+            app,
+            cell,
+            bank,
+            &version,
+            Some(&active),
+            &contents,
+            built,
+        )?;
+        Ok(Root::Installed(Installed {
+            cell,
+            bank,
+            active: version,
+            previous: Some(active),
+        }))
+    }
+}

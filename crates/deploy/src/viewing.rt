@@ -1,0 +1,114 @@
+//! A root that is only looked at.
+
+ghost use Rattle.std.specs.Prelude.{◌≡◌, ◌<◌, ◌+◌, ◌==◌, ℕ, IfOk, IsErrOf, IsTrue, OnOk, Some, not};
+ghost use Rattle.std.specs.List.{list_any};
+ghost use Rattle.per_base.specs.Causes.{Rose};
+ghost use Rattle.disk_model.specs.Medium.{Elapses, IsIdle, Quiet};
+ghost use Rattle.guarded_cell.specs.Held.{copies_that};
+ghost use Rattle.deploy.specs.Views.{root_seen, seen_at};
+
+use crate::errors::Stop;
+use crate::standing::{Standing, find_standing};
+use deployment_model::Deployment;
+use disk_model::Disk;
+use guarded_cell::held_is_lawful;
+use per_base::Numbers;
+use root_text::RootSays;
+use std::alloc::{AllocError, Global};
+
+/// What is seen of a root with a version.
+#[derive(Debug, Drop)]
+pub struct RootState {
+    /// The bank of the active version, 0 or 1.
+    pub bank: u32,
+    /// The active version.
+    pub active: Deployment,
+    /// The version before it, in the other bank.
+    pub previous: Option<Deployment>,
+    /// The copies that lack the root, counted from 1 and ascending.
+    pub lacking: Numbers,
+    /// Whether no copy holds any other text.
+    pub settled: bool,
+}
+
+/// What is seen of a root.
+#[derive(Debug, Drop)]
+pub enum RootView {
+    /// No two copies hold one text, or what they hold is no root's.
+    Bad,
+    /// Nothing is installed.
+    Absent {
+        /// The copies that lack the root, counted from 1 and ascending.
+        lacking: Numbers,
+        /// Whether no copy holds any other text.
+        settled: bool,
+    },
+    /// A version is installed.
+    Installed(RootState),
+}
+
+/// Looks at the root of an application and changes nothing.
+///
+/// # Errors
+///
+/// `Device` where the disk fails, and `OutOfMemory`.
+pub fn view_root<D: Disk>(alloc: Global, disk: &mut D, app: u32) -> Result<RootView, Stop>
+    requires { app < 8 }
+    ensures view { IsTrue D.told → IfOk result (λ view. root_seen view ≡ seen_at (D.medium disk.old).image app) }
+    ensures quiet { OnOk result (Quiet (D.medium disk.new)) }
+    ensures image { (D.medium disk.new).image ≡ (D.medium disk.old).image }
+    ensures idle { Quiet (D.medium disk.old) → IsIdle (D.medium disk.old) (D.medium disk.new) }
+    ensures written { (D.medium disk.new).written ≡ (D.medium disk.old).written }
+    ensures cause { IsErrOf result Stop.Device → Rose (D.medium disk.old).faults (D.medium disk.new).faults }
+    ensures passes { OnOk result ((D.medium disk.new).faults ≡ (D.medium disk.old).faults) }
+    ensures fed { IsErrOf result Stop.OutOfMemory → (D.medium disk.new).faults ≡ (D.medium disk.old).faults }
+    ensures time { Elapses (D.medium disk.old) (D.medium disk.new) }
+{
+    held_is_lawful();
+    let Some(standing) = find_standing(alloc, disk, app)? else {
+        return Ok(RootView::Bad);
+    };
+    let Standing {
+        seen,
+        says,
+        settled,
+    } = standing;
+    let lacking = lacking_of(alloc, seen.copies.as_slice())?;
+    Ok(RootView::of(says, lacking, settled))
+}
+
+impl RootView {
+    ghost use Rattle.root_text.specs.Views.{root_said};
+    ghost use Rattle.deploy_laws.specs.Apps.{says_by};
+    ghost use Rattle.deploy.specs.Views.{seen_by};
+
+    // The view of a root that says this.
+    fn of(says: RootSays, lacking: Numbers, settled: bool) -> RootView
+        ensures { (generation : ℕ) → root_seen result ≡ seen_by (says_by generation (Some (root_said says))) lacking settled }
+    {
+        match says {
+            RootSays::Absent => RootView::Absent { lacking, settled },
+            RootSays::Installed(bank, active, previous) => RootView::Installed(RootState {
+                bank,
+                active: active.deployment,
+                previous: previous.map(|version| version.deployment),
+                lacking,
+                settled,
+            }),
+        }
+    }
+}
+
+// The copies of a root that are not among these, ascending and counted from 1.
+fn lacking_of(alloc: Global, holding: &[u32]) -> Result<Numbers, AllocError>
+    ensures { IfOk result (λ lacking.
+        lacking ≡ copies_that (λ copy. not (list_any (λ number. number == copy + 1) holding.now)) 3) }
+{
+    let mut lacking = Vec::new(alloc);
+    for copy in 0..3 {
+        if !holding.contains(&(copy + 1)) {
+            lacking.push(copy + 1)?;
+        }
+    }
+    Ok(Numbers::new(lacking))
+}
