@@ -1,0 +1,2 @@
+mod Configs
+mod Staging

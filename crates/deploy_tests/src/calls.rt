@@ -1,0 +1,215 @@
+//! Calls on a root.
+
+ghost use Rattle.std.specs.Prelude.{◌<◌, IfOk, true};
+ghost use Rattle.disk_model.specs.Memory.{mem_medium};
+ghost use Rattle.deploy.specs.Roots.{RootAt};
+
+use crate::building::built;
+use crate::courses::add;
+use crate::faults::Fault;
+use crate::manifests::manifest;
+use crate::refusals::outcome_text;
+use crate::roots::looked;
+use case_words::{Trouble, cut};
+use deploy::{Begin, Outcome, Root, begin_update, finish, install, open_root, rollback, wipe};
+use disk_model::MemDisk;
+use migrate_fns::Migrations;
+use per_base::{Name, PerError};
+use std::alloc::Global;
+
+/// The moment of installations.
+const INSTALLED: u64 = 1000;
+
+/// The moment of updates.
+pub const UPDATED: u64 = 1060;
+
+/// `CALL+CALL..`: opens the root once, and makes each call on what the one before it hands on.
+pub fn calls(
+    alloc: Global,
+    disk: &mut MemDisk,
+    app: u32,
+    migrations: &Migrations,
+    calls: &str,
+    said: &mut String,
+) -> Result<(), Fault>
+    requires { app < 8 }
+{
+    let mut root = open_root(alloc, disk, app)?;
+    for call in calls.split('+') {
+        root = called(alloc, disk, app, root, migrations, call, said)?;
+    }
+    Ok(())
+}
+
+// One call, and the root that it hands on.
+fn called(
+    alloc: Global,
+    disk: &mut MemDisk,
+    app: u32,
+    root: Root,
+    migrations: &Migrations,
+    call: &str,
+    said: &mut String,
+) -> Result<Root, Fault>
+    requires app { app < 8 }
+    requires root { RootAt true (mem_medium disk.old).image app root }
+    ensures root { IfOk result (λ next. RootAt true (mem_medium disk.new).image app next) }
+{
+    let (verb, rest) = cut(call, '=');
+    match verb {
+        "look" => {
+            let answer = looked(alloc, disk, app, &root)?;
+            add(said, answer.as_str())?;
+            Ok(root)
+        }
+        "build" => built(alloc, disk, app, root, migrations, rest, said),
+        _ => {
+            let outcome = made(alloc, disk, app, root, migrations, verb, rest)?;
+            let answer = outcome_text(alloc, outcome.refused.as_ref())?;
+            add(said, answer.as_str())?;
+            Ok(outcome.root)
+        }
+    }
+}
+
+// A call with an outcome.
+fn made(
+    alloc: Global,
+    disk: &mut MemDisk,
+    app: u32,
+    root: Root,
+    migrations: &Migrations,
+    verb: &str,
+    rest: &str,
+) -> Result<Outcome, Fault>
+    requires app { app < 8 }
+    requires root { RootAt true (mem_medium disk.old).image app root }
+    ensures root { IfOk result (λ o. RootAt true (mem_medium disk.new).image app o.root) }
+{
+    match verb {
+        "install" => installed(alloc, disk, app, root, rest),
+        "update" => updated(alloc, disk, app, root, migrations, rest),
+        "finish" => finished(alloc, disk, app, root),
+        "rollback" => rolled_back(alloc, disk, app, root, rest),
+        "wipe" => wiped(alloc, disk, app, root, rest),
+        _ => Err(Fault::NoCase),
+    }
+}
+
+// `MANIFEST`: a first version.
+fn installed(
+    alloc: Global,
+    disk: &mut MemDisk,
+    app: u32,
+    root: Root,
+    rest: &str,
+) -> Result<Outcome, Fault>
+    requires app { app < 8 }
+    requires root { RootAt true (mem_medium disk.old).image app root }
+    ensures root { IfOk result (λ o. RootAt true (mem_medium disk.new).image app o.root) }
+{
+    let text = manifest(rest).as_bytes();
+    Ok(install(alloc, disk, app, root, text, INSTALLED)?)
+}
+
+fn finished(alloc: Global, disk: &mut MemDisk, app: u32, root: Root) -> Result<Outcome, Fault>
+    requires app { app < 8 }
+    requires root { RootAt true (mem_medium disk.old).image app root }
+    ensures root { IfOk result (λ o. RootAt true (mem_medium disk.new).image app o.root) }
+{
+    Ok(finish(alloc, disk, root)?)
+}
+
+// `BUSY`.
+fn rolled_back(
+    alloc: Global,
+    disk: &mut MemDisk,
+    app: u32,
+    root: Root,
+    rest: &str,
+) -> Result<Outcome, Fault>
+    requires app { app < 8 }
+    requires root { RootAt true (mem_medium disk.old).image app root }
+    ensures root { IfOk result (λ o. RootAt true (mem_medium disk.new).image app o.root) }
+{
+    let busy = busy_of(alloc, rest)?;
+    Ok(rollback(alloc, disk, root, busy.as_ref())?)
+}
+
+// `BUSY`.
+fn wiped(
+    alloc: Global,
+    disk: &mut MemDisk,
+    app: u32,
+    root: Root,
+    rest: &str,
+) -> Result<Outcome, Fault>
+    requires app { app < 8 }
+    requires root { RootAt true (mem_medium disk.old).image app root }
+    ensures root { IfOk result (λ o. RootAt true (mem_medium disk.new).image app o.root) }
+{
+    let busy = busy_of(alloc, rest)?;
+    Ok(wipe(alloc, disk, app, root, busy.as_ref())?)
+}
+
+// `MANIFEST/BUSY`: an update in one call.
+fn updated(
+    alloc: Global,
+    disk: &mut MemDisk,
+    app: u32,
+    root: Root,
+    migrations: &Migrations,
+    rest: &str,
+) -> Result<Outcome, Fault>
+    requires app { app < 8 }
+    requires root { RootAt true (mem_medium disk.old).image app root }
+    ensures root { IfOk result (λ o. RootAt true (mem_medium disk.new).image app o.root) }
+{
+    let (name, busy) = cut(rest, '/');
+    let busy = busy_of(alloc, busy)?;
+    let text = manifest(name).as_bytes();
+    updated_to(alloc, disk, app, root, busy.as_ref(), text, migrations)
+}
+
+// An update, begun and committed.
+fn updated_to(
+    alloc: Global,
+    disk: &mut MemDisk,
+    app: u32,
+    root: Root,
+    busy: Option<&Name>,
+    text: &[u8],
+    migrations: &Migrations,
+) -> Result<Outcome, Fault>
+    requires app { app < 8 }
+    requires root { RootAt true (mem_medium disk.old).image app root }
+    ensures root { IfOk result (λ o. RootAt true (mem_medium disk.new).image app o.root) }
+{
+    match begin_update(alloc, disk, app, root, busy, text, migrations, UPDATED)? {
+        Begin::Refused(root, refused) => Ok(Outcome {
+            root,
+            refused: Some(refused),
+        }),
+        Begin::Ready(staged) => Ok(Outcome {
+            root: staged.commit_update(disk)?,
+            refused: None,
+        }),
+    }
+}
+
+// The open storage, where one is named.
+fn busy_of(alloc: Global, word: &str) -> Result<Option<Name>, Trouble> {
+    if word.is_empty() {
+        return Ok(None);
+    }
+    Ok(Some(name_of(alloc, word)?))
+}
+
+/// A name.
+pub fn name_of(alloc: Global, word: &str) -> Result<Name, Trouble> {
+    match Name::new(alloc, word) {
+        Ok(name) => Ok(name),
+        Err(PerError::BadName) => Err(Trouble::NoCase),
+        Err(_) => Err(Trouble::OutOfMemory),
+    }
+}

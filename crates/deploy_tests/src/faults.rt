@@ -1,0 +1,75 @@
+//! Why a word did not come to its end.
+
+use case_words::Trouble;
+use deploy::Stop;
+use disk_model::DiskFailed;
+use element_store::StoreError;
+use guarded_cell::CellError;
+use std::alloc::{AllocError, AllocFailed};
+
+/// Why a word did not come to its end.
+#[derive(Clone, Copy, Debug, PartialEq, Eq)]
+pub enum Fault {
+    /// The disk failed.
+    Device,
+    /// It is no word.
+    NoCase,
+    /// Memory ran out.
+    OutOfMemory,
+}
+
+impl From<Trouble> for Fault {
+    fn from(trouble: Trouble) -> Fault {
+        match trouble {
+            Trouble::NoCase => Fault::NoCase,
+            Trouble::OutOfMemory => Fault::OutOfMemory,
+        }
+    }
+}
+
+impl From<Stop> for Fault {
+    fn from(stop: Stop) -> Fault {
+        match stop {
+            Stop::Device => Fault::Device,
+            Stop::OutOfMemory => Fault::OutOfMemory,
+        }
+    }
+}
+
+impl From<StoreError> for Fault {
+    fn from(error: StoreError) -> Fault {
+        match error {
+            StoreError::Device => Fault::Device,
+            StoreError::Corrupt => Fault::NoCase,
+            StoreError::OutOfMemory => Fault::OutOfMemory,
+        }
+    }
+}
+
+impl From<CellError> for Fault {
+    fn from(error: CellError) -> Fault {
+        match error {
+            CellError::Device => Fault::Device,
+            CellError::Corrupt => Fault::NoCase,
+            CellError::OutOfMemory => Fault::OutOfMemory,
+        }
+    }
+}
+
+impl From<DiskFailed> for Fault {
+    fn from(_failed: DiskFailed) -> Fault {
+        Fault::Device
+    }
+}
+
+impl From<AllocError> for Fault {
+    fn from(_failed: AllocError) -> Fault {
+        Fault::OutOfMemory
+    }
+}
+
+impl<T: Drop> From<AllocFailed<T>> for Fault {
+    fn from(_failed: AllocFailed<T>) -> Fault {
+        Fault::OutOfMemory
+    }
+}

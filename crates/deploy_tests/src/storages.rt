@@ -1,0 +1,128 @@
+//! Words on a storage of the active version.
+
+ghost use Rattle.std.specs.Prelude.{◌≡◌, ◌<◌, OnOk};
+ghost use Rattle.deployment_model.specs.Conditions.{IsStorage};
+ghost use Rattle.deployment_model.specs.Data.{storage_data};
+ghost use Rattle.element_maps.specs.Storages.{IsConfigured};
+ghost use Rattle.element_state.specs.Conditions.{IsShape};
+ghost use Rattle.per_base.specs.declared.elements.StoreKind.TheVariants.{Keys};
+
+use crate::calls::name_of;
+use crate::courses::add;
+use crate::faults::Fault;
+use crate::refusals::{outcome_text, refusal_text};
+use case_words::{cut, text};
+use deploy::{Root, open_root, recover_storage, reset_storage, shape_of};
+use deployment_model::StorageConfig;
+use disk_model::MemDisk;
+use element_store::{Shape, StoreError, open_store};
+use kvs_store::{Kvs, SyncFault, open_kvs};
+use per_base::StoreKind;
+use std::alloc::Global;
+use value_text::parse_value;
+
+/// The moment of recoveries and resets.
+const RECOVERED: u64 = 1090;
+
+/// `STORAGE`, and what a word says behind it: opens the root, finds the storage, and does there what the word says.
+pub fn stored(
+    alloc: Global,
+    disk: &mut MemDisk,
+    app: u32,
+    verb: &str,
+    rest: &str,
+    said: &mut String,
+) -> Result<(), Fault>
+    requires { app < 8 }
+{
+    let (name, rest) = cut(rest, ':');
+    let Root::Installed(root) = open_root(alloc, disk, app)? else {
+        return Err(Fault::NoCase);
+    };
+    let mut number = 0;
+    for config in root.active.deployment.storages.as_slice() {
+        if config.name.as_str() == name {
+            let shape = shape_of(app, root.bank, number, config)?;
+            let answer = worded(alloc, disk, shape, config, verb, rest)?;
+            add(said, answer.as_str())?;
+            return Ok(());
+        }
+        number += 1;
+    }
+    Err(Fault::NoCase)
+}
+
+fn worded(
+    alloc: Global,
+    disk: &mut MemDisk,
+    shape: Shape,
+    config: &StorageConfig,
+    verb: &str,
+    rest: &str,
+) -> Result<String, Fault>
+    requires shape { IsShape shape }
+    requires config { IsStorage (storage_data config.now) }
+    requires configured { IsConfigured config.now.kind (storage_data config.now) shape }
+{
+    match verb {
+        "open" => opened(alloc, disk, shape),
+        "set" if config.kind == StoreKind::Keys => set(alloc, disk, shape, config, rest),
+        "recover" => {
+            let refused = recover_storage(alloc, disk, &shape, config, RECOVERED)?;
+            Ok(outcome_text(alloc, refused.as_ref())?)
+        }
+        "reset" => {
+            let refused = reset_storage(alloc, disk, &shape, config, RECOVERED)?;
+            Ok(outcome_text(alloc, refused.as_ref())?)
+        }
+        _ => Err(Fault::NoCase),
+    }
+}
+
+// `open`: brings every copy to what the storage opens at.
+fn opened(alloc: Global, disk: &mut MemDisk, shape: Shape) -> Result<String, Fault>
+    requires { IsShape shape }
+{
+    match open_store(alloc, disk, shape) {
+        Ok(_opened) => Ok(text(alloc, "ok")?),
+        Err(StoreError::Corrupt) => Ok(text(alloc, "corrupt")?),
+        Err(error) => Err(error.into()),
+    }
+}
+
+// `set:KEY=VALUE+..`: opens the storage, makes the values visible, and syncs.
+fn set(
+    alloc: Global,
+    disk: &mut MemDisk,
+    shape: Shape,
+    config: &StorageConfig,
+    pairs: &str,
+) -> Result<String, Fault>
+    requires config { IsStorage (storage_data config.now) }
+    requires configured { IsConfigured Keys (storage_data config.now) shape }
+{
+    let mut kvs = open_kvs(alloc, disk, shape, config)?.kvs;
+    for pair in pairs.split('+') {
+        set_one(alloc, &mut kvs, pair)?;
+    }
+    match kvs.sync_to_storage(disk) {
+        Ok(_kvs) => Ok(text(alloc, "ok")?),
+        Err(SyncFault::Device) => Err(Fault::Device),
+        Err(SyncFault::WornOut(_)) => Err(Fault::NoCase),
+        Err(SyncFault::OutOfMemory(_)) => Err(Fault::OutOfMemory),
+    }
+}
+
+fn set_one(alloc: Global, kvs: &mut Kvs, pair: &str) -> Result<(), Fault>
+    ensures { OnOk result (kvs.new.store ≡ kvs.old.store) }
+{
+    let (key, value) = cut(pair, '=');
+    let key = name_of(alloc, key)?;
+    let Ok(value) = parse_value(alloc, value.as_bytes()) else {
+        return Err(Fault::NoCase);
+    };
+    match kvs.set_any(&key, value) {
+        Ok(()) => Ok(()),
+        Err(_) => Err(Fault::NoCase),
+    }
+}
