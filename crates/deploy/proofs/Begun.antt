@@ -1,5 +1,5 @@
 -- An update that begins over a root with one version: what is known of its storages, and the update in progress.
-use Rattle.std.proofs.Common.{◌≡◌, ℕ, ◌+◌, ◌-◌, ◌≤◌, ◌<◌, List, take, Bool, IsTrue, None, refl, sym, ap, ◌∙◌, subst, arith}
+use Rattle.std.proofs.Common.{◌≡◌, ℕ, ◌-◌, ◌<◌, List, take, Bool, IsTrue, None, sym, ◌∙◌, subst, arith}
 use Rattle.std.specs.Prelude.{map}
 use Rattle.disk_model.specs.Image.{Image}
 use Rattle.guarded_cell.specs.Cells.{generation_of}

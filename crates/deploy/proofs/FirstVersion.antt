@@ -1,12 +1,11 @@
 -- A first version: it joins an application of which nothing is installed.
-use Rattle.std.proofs.Common.{◌≡◌, ℕ, ◌+◌, ◌≤◌, ◌<◌, List, [], Bool, IsTrue, Option, None, Some, refl, sym, ap, ◌∙◌, subst, arith}
+use Rattle.std.proofs.Common.{◌≡◌, ℕ, ◌+◌, ◌≤◌, List, [], Bool, IsTrue, None, ap, arith}
 use Rattle.std.specs.Prelude.{IfOk, Result, Ok, Err, option_map}
 use Rattle.per_base.specs.declared.elements.Fresh.{Fresh}
 use Rattle.disk_model.specs.Image.{Image}
 use Rattle.guarded_cell.specs.Cells.{CellAt, IsCellOf, generation_of}
 use Rattle.guarded_cell.specs.declared.cell.Cell.{Cell}
 use Rattle.deployment_model.specs.Data.{DeploymentData}
-use Rattle.element_state.specs.States.{State, store_at}
 use Rattle.root_text.specs.RootText.{Version, root_text}
 use Rattle.root_text.specs.RootText as text
 use Rattle.root_text.specs.Views.{version_said}

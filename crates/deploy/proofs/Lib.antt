@@ -14,6 +14,7 @@ pub mod MadeStorages
 pub mod NextRoots
 pub mod NextVersion
 pub mod Offers
+pub mod OneUpdate
 pub mod Opened
 pub mod ReadStored
 pub mod ReadsAlone

@@ -7,8 +7,7 @@ use Rattle.std.specs.List.{AllByRecursion}
 use Rattle.std.specs.Option.{ForSome}
 use Rattle.std.proofs.lemmas.List.{append-nil, map-append}
 use Rattle.per_base.specs.declared.elements.Fresh.{Fresh}
-use Rattle.disk_model.specs.Case.{Case}
-use Rattle.disk_model.specs.Frame.{IsSettledOn, Spares}
+use Rattle.disk_model.specs.Frame.{Spares}
 use Rattle.disk_model.specs.Image.{Image}
 use Rattle.disk_model.specs.Laws.{goes_on}
 use Rattle.disk_model.specs.Medium.{EachCase, Elapses, Medium, Quiet}
@@ -29,7 +28,7 @@ use Rattle.root_text.specs.declared.versions.VersionText.{VersionText}
 use Rattle.update_plan.specs.Plans.{AllFit}
 use Rattle.deploy_laws.specs.Apps.{AreClean, AreOn, App, IsCleanApp, IsFree, Says, app_at, generation_of, named, says_at, says_by, shapes_named}
 use Rattle.deploy_laws.specs.Laws.{AloneCleanLaw, AloneFrameLaw, AloneLaw, CreatingLaw, RootAloneLaw, RootFilesLaw, RootSlotsLaw, VersionsLaw, WritingLaw}
-use Rattle.deploy_laws.specs.Places.{IsBesideNew, IsNoRootFile, IsOutsideBank, first_file, root_place, shape_of, shapes_from, shapes_if, shapes_in, storage_file}
+use Rattle.deploy_laws.specs.Places.{IsBesideNew, IsNoRootFile, IsOutsideBank, first_file, root_place, shapes_from, shapes_if, shapes_in}
 use Rattle.deploy_laws.specs.Stands.{IsLater, StandsCase, StandsThroughout, next_root}
 use Rattle.deploy_rows.specs.Rows.{made_states}
 use Rattle.deploy.specs.declared.errors.Stop.{Stop}
@@ -37,7 +36,7 @@ use Rattle.deploy.specs.Clauses.{Leaves}
 use Rattle.deploy.specs.Made.{AreMade}
 use Rattle.deploy.specs.Next.{next_app, root_before}
 use Rattle.deploy.proofs.InUse.{AgainLaw, alone_cell, app_says, app_that, cell_alone, held_app, written_app, written_clean}
-use Rattle.deploy.proofs.Leaves.{leaves_less, leaves_none, leaves_on}
+use Rattle.deploy.proofs.Leaves.{leaves_less, leaves_on}
 use Rattle.deploy.proofs.Writes.{write_stands}
 
 -- of others_stand

@@ -1,6 +1,6 @@
 -- The row of an offer over a root with a version, and what begins from it.
-use Rattle.std.proofs.Common.{◌≡◌, ℕ, ◌-◌, ◌≤◌, ◌<◌, List, [], Bool, true, false, Option, None, Some, refl, sym, ap, ◌∙◌, subst}
-use Rattle.std.specs.Prelude.{Result, Ok, Err, cond, nat_le, option_map}
+use Rattle.std.proofs.Common.{◌≡◌, ℕ, ◌-◌, ◌≤◌, ◌<◌, List, [], Bool, Option, None, Some, refl, sym, ap, ◌∙◌, subst}
+use Rattle.std.specs.Prelude.{Result, Ok, Err, cond, option_map}
 use Rattle.std.proofs.lemmas.Bool.{le-leb, lt-leb}
 use Rattle.per_base.specs.declared.elements.Fresh.{Fresh}
 use Rattle.per_base.specs.declared.errors.Limit.TheVariants as limit

@@ -1,9 +1,8 @@
 -- An update in progress: one more storage is made in the other bank, and the application stands as it was.
-use Rattle.std.proofs.Common.{◌≡◌, ℕ, suc, ◌+◌, ◌-◌, ◌≤◌, ◌<◌, List, length, take, get_or, Bool, true, false, IsTrue, None, refl, sym, ap, ◌∙◌, subst, arith}
+use Rattle.std.proofs.Common.{◌≡◌, ℕ, suc, ◌+◌, ◌-◌, ◌≤◌, ◌<◌, List, length, take, get_or, Bool, IsTrue, refl, sym, ap, ◌∙◌, subst, arith}
 use Rattle.std.specs.Prelude.{cond, map}
 use Rattle.std.proofs.lemmas.Bool.{le-ltb, lt-ltb}
 use Rattle.per_base.specs.declared.elements.Fresh.{Fresh}
-use Rattle.disk_model.specs.Case.{Case}
 use Rattle.disk_model.specs.Frame.{Spares}
 use Rattle.disk_model.specs.Image.{Image}
 use Rattle.disk_model.specs.Medium.{Medium}
@@ -19,7 +18,7 @@ use Rattle.deploy_laws.specs.Stands.{StandsThroughout, same_root}
 use Rattle.deploy_rows.specs.Rows.{InProgress}
 use Rattle.deploy.specs.declared.roots.Root.TheVariants as root
 use Rattle.deploy.specs.declared.updating.Staged.{Staged}
-use Rattle.deploy.specs.Building.{IsStaged, StagedAt, one_more, progress_in}
+use Rattle.deploy.specs.Building.{IsStaged, StagedAt, one_more}
 use Rattle.deploy.specs.Clauses.{Leaves}
 use Rattle.deploy.specs.Made.{AreMade}
 use Rattle.deploy.specs.Roots.{IsRootOn}

@@ -1,5 +1,5 @@
 -- A call that was refused, or that stopped before any call of the disk: the application stands as it was.
-use Rattle.std.proofs.Common.{◌≡◌, ℕ, ◌<◌, List, [], Bool, IsTrue, Some, refl, sym, ap, ◌∙◌, subst}
+use Rattle.std.proofs.Common.{◌≡◌, ℕ, ◌<◌, [], Bool, IsTrue, Some, refl, sym, ap, ◌∙◌, subst}
 use Rattle.std.specs.Prelude.{IsOk, Option, None, Result, Ok, Err}
 use Rattle.per_base.specs.declared.errors.PerError.{PerError}
 use Rattle.disk_model.specs.Case.{Case, IsSettledAt}
@@ -15,7 +15,7 @@ use Rattle.deploy_rows.specs.Laws.{RefusesAlike}
 use Rattle.deploy_rows.specs.Rows.{Answers, after}
 use Rattle.deploy.specs.declared.roots.Outcome.{Outcome}
 use Rattle.deploy.specs.declared.roots.Root.{Root}
-use Rattle.deploy.specs.Roots.{IsRootOf, RootAt, root_app, root_says}
+use Rattle.deploy.specs.Roots.{RootAt, root_app, root_says}
 use Rattle.deploy.proofs.InUse.{AgainLaw, app_says, in_use_says}
 
 -- ---- a refusal

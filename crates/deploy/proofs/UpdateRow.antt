@@ -1,5 +1,5 @@
 -- What is committed over a root with one version is the row of an update.
-use Rattle.std.proofs.Common.{◌≡◌, ℕ, suc, ◌+◌, ◌-◌, ◌≤◌, ◌<◌, List, [], ◌∷◌, ◌++◌, length, take, Option, None, Some, refl, sym, ap, ◌∙◌, subst, arith}
+use Rattle.std.proofs.Common.{◌≡◌, ℕ, suc, ◌+◌, ◌-◌, ◌≤◌, List, [], ◌∷◌, ◌++◌, length, take, Option, None, Some, refl, sym, ap, ◌∙◌, subst, arith}
 use Rattle.std.specs.Prelude.{map, option_map}
 use Rattle.std.proofs.lemmas.List.{append-nil, length-map, take_all}
 use Rattle.per_base.specs.declared.elements.Fresh.{Fresh}
@@ -9,7 +9,7 @@ use Rattle.deployment_model.specs.Data.{StorageData, deployment_data}
 use Rattle.element_state.specs.States.{State, store_at}
 use Rattle.element_state.specs.declared.shapes.Shape.{Shape}
 use Rattle.root_text.specs.declared.versions.VersionText.{VersionText}
-use Rattle.root_text.specs.RootText.{Version, root_text}
+use Rattle.root_text.specs.RootText.{root_text}
 use Rattle.root_text.specs.RootText as text
 use Rattle.root_text.specs.Views.{version_said}
 use Rattle.deploy_laws.specs.Apps.{App, Says, app_at, installed, named, shapes_named}
@@ -19,7 +19,7 @@ use Rattle.deploy_rows.specs.Rows.{InProgress, made_states, storage_count, updat
 use Rattle.deploy.specs.declared.roots.Installed.{Installed}
 use Rattle.deploy.specs.declared.roots.Root.TheVariants as root
 use Rattle.deploy.specs.Next.{next_app, root_before}
-use Rattle.deploy.specs.Roots.{AreParts, IsRootOf, IsRootOn, root_app, root_says}
+use Rattle.deploy.specs.Roots.{IsRootOf, IsRootOn, root_app, root_says}
 use Rattle.deploy.proofs.InUse.{AgainLaw, in_use}
 
 -- ---- the row

@@ -3,7 +3,7 @@ use Rattle.std.specs.Prelude.{ℕ, Bool, IsTrue}
 use Rattle.disk_model.specs.Medium.{Medium, Quiet, EachCase}
 use Rattle.disk_model.specs.Frame.{IsSettledOn, Spares}
 use Rattle.deploy_laws.specs.Apps.{App, app_at, IsCleanApp}
-use Rattle.deploy_laws.specs.Stands.{IsLater, StandsCase, StandsThroughout}
+use Rattle.deploy_laws.specs.Stands.{IsLater, StandsCase}
 
 -- however the call ends, these files do not change, at the end and at any moment
 pub record Leaves (told : Bool) (Files : ℕ → Type 0) (old new : Medium) : Type 0 where

@@ -11,3 +11,4 @@ pub mod Next
 pub mod Beginning
 pub mod Laws
 pub mod Recovered
+pub mod Updates

@@ -1,5 +1,5 @@
 -- A root in memory: what it says, and that the disk holds it.
-use Rattle.std.specs.Prelude.{◌≡◌, ◌≤◌, ◌<◌, ℕ, ◌-◌, ◌+◌, List, [], ◌∷◌, Bool, IsTrue, Option, Some, None, option_map, ⊤}
+use Rattle.std.specs.Prelude.{◌≡◌, ◌≤◌, ℕ, ◌-◌, List, [], ◌∷◌, Bool, IsTrue, Option, Some, None, option_map, ⊤}
 use Rattle.disk_model.specs.Image.{Image}
 use Rattle.guarded_cell.specs.Cells.{CellAt, place_of, generation_of}
 use Rattle.guarded_cell.specs.declared.cell.Cell.{Cell}
@@ -13,7 +13,7 @@ use Rattle.root_text.specs.Views.{version_said}
 use Rattle.deploy.specs.declared.roots.Root.{Root}
 use Rattle.deploy.specs.declared.roots.Root.TheVariants.{Bad, Absent, Installed}
 use Rattle.deploy.specs.declared.roots.Installed as parts
-use Rattle.deploy_laws.specs.Places.{root_place, first_file}
+use Rattle.deploy_laws.specs.Places.{root_place}
 use Rattle.deploy_laws.specs.Apps.{Says, nothing, absent, installed, App, named, says_at}
 
 -- what a root says

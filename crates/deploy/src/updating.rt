@@ -344,6 +344,13 @@ impl Staged {
         self.version.deployment.version
     }
 
+    /// The root over which it was begun. Takes no memory.
+    pub fn root(&self) -> &Installed
+        ensures { Root.Installed result.now ≡ root_in self.now }
+    {
+        &self.root
+    }
+
     /// Gives the update up: the root is the one that it began over. What was made of the next version stays in its bank, and nothing
     /// names it. Takes no memory.
     pub fn abort(self) -> Root

@@ -11,7 +11,7 @@ use crate::manifests::manifest;
 use crate::refusals::outcome_text;
 use crate::roots::looked;
 use case_words::{Trouble, cut};
-use deploy::{Begin, Outcome, Root, begin_update, finish, install, open_root, rollback, wipe};
+use deploy::{Outcome, Root, finish, install, open_root, rollback, update, wipe};
 use disk_model::MemDisk;
 use migrate_fns::Migrations;
 use per_base::{Name, PerError};
@@ -168,33 +168,16 @@ fn updated(
     let (name, busy) = cut(rest, '/');
     let busy = busy_of(alloc, busy)?;
     let text = manifest(name).as_bytes();
-    updated_to(alloc, disk, app, root, busy.as_ref(), text, migrations)
-}
-
-// An update, begun and committed.
-fn updated_to(
-    alloc: Global,
-    disk: &mut MemDisk,
-    app: u32,
-    root: Root,
-    busy: Option<&Name>,
-    text: &[u8],
-    migrations: &Migrations,
-) -> Result<Outcome, Fault>
-    requires app { app < 8 }
-    requires root { RootAt true (mem_medium disk.old).image app root }
-    ensures root { IfOk result (λ o. RootAt true (mem_medium disk.new).image app o.root) }
-{
-    match begin_update(alloc, disk, app, root, busy, text, migrations, UPDATED)? {
-        Begin::Refused(root, refused) => Ok(Outcome {
-            root,
-            refused: Some(refused),
-        }),
-        Begin::Ready(staged) => Ok(Outcome {
-            root: staged.commit_update(disk)?,
-            refused: None,
-        }),
-    }
+    Ok(update(
+        alloc,
+        disk,
+        app,
+        root,
+        busy.as_ref(),
+        text,
+        migrations,
+        UPDATED,
+    )?)
 }
 
 // The open storage, where one is named.

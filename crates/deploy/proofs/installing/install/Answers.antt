@@ -1,10 +1,8 @@
-use Rattle.std.proofs.Common.{◌≡◌, [], refl, ap, sym, ◌∙◌, subst}
 use Rattle.deploy_laws.specs.Apps.{app_at}
 use Rattle.deploy_rows.specs.Rows.{installing}
 use Rattle.per_base.specs.declared.errors.PerError.TheVariants as error
 use Rattle.per_base.specs.declared.errors.Unit.TheVariants as unit
 use Rattle.deploy.specs.declared.roots.Root.TheVariants as root
-use Rattle.deploy.specs.Roots.{root_app}
 use Rattle.deploy.proofs.InstallRow.{over_bad, over_installed}
 use Rattle.deploy.proofs.Unmoved.{answered, app_after, later_after, row_given, says_still, stands_still}
 use Rattle.deploy.proofs.installing.install.Goals as goal

@@ -1,5 +1,5 @@
-use Rattle.std.proofs.Common.{◌≡◌, ℕ, List, [], None, Some, refl, ap, sym, ◌∙◌, subst, arith}
-use Rattle.std.specs.Prelude.{OnOk, Result, Ok, Err}
+use Rattle.std.proofs.Common.{◌≡◌, [], None, refl, ap, sym, ◌∙◌, subst, arith}
+use Rattle.std.specs.Prelude.{OnOk, Result, Err}
 use Rattle.per_base.specs.declared.errors.PerError.{PerError}
 use Rattle.guarded_cell.specs.Cells.{generation_of}
 use Rattle.deployment_model.specs.Data.{deployment_data}

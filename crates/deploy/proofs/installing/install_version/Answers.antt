@@ -1,4 +1,4 @@
-use Rattle.std.proofs.Common.{◌≡◌, ◌+◌, ℕ, List, None, refl, ap, ◌∙◌, inl, subst, arith}
+use Rattle.std.proofs.Common.{ℕ, None, refl, ap, ◌∙◌, inl, subst, arith}
 use Rattle.disk_model.specs.Laws.{elapses_none}
 use Rattle.guarded_cell.specs.Cells.{generation_of}
 use Rattle.deployment_model.specs.Data.{deployment_data}

@@ -1,5 +1,5 @@
 use denote.Ref.{Bor}
-use Rattle.std.proofs.Common.{◌≡◌, ◌+◌, IsTrue, subst, sym, ap, ◌∙◌}
+use Rattle.std.proofs.Common.{◌+◌, IsTrue, subst, sym}
 use Rattle.std.specs.Prelude.{IfOk, option_map}
 use Rattle.disk_model.specs.declared.place.Place.{Place}
 use Rattle.disk_model.specs.Frame.{Spares}

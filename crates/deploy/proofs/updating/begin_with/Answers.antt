@@ -1,4 +1,4 @@
-use Rattle.std.proofs.Common.{◌≡◌, refl, sym, ◌∙◌, subst, arith}
+use Rattle.std.proofs.Common.{sym, ◌∙◌, subst, arith}
 use Rattle.std.specs.Prelude.{Ok, Err, map}
 use Rattle.deployment_model.specs.Data.{deployment_data, storage_data}
 use Rattle.update_plan.specs.Plans.{PlansAll, stored_for}

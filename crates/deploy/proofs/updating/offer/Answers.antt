@@ -1,13 +1,10 @@
 use denote.Ref.{Bor}
-use Rattle.std.proofs.Common.{◌≡◌, [], None, Some, Option, refl, sym, ap, ◌∙◌, subst, arith}
-use Rattle.std.specs.Prelude.{Result, Ok, Err, option_map}
+use Rattle.std.proofs.Common.{Option, sym, ap, ◌∙◌, subst, arith}
+use Rattle.std.specs.Prelude.{Result, Err, option_map}
 use Rattle.per_base.specs.declared.errors.PerError.{PerError}
 use Rattle.per_base.specs.declared.names.Name.{Name}
-use Rattle.deploy_rows.specs.Rows.{deployment_of, offered}
+use Rattle.deploy_rows.specs.Rows.{deployment_of}
 use Rattle.root_text.specs.declared.versions.VersionText.{VersionText}
-use Rattle.deploy.specs.declared.roots.Root.TheVariants as root
-use Rattle.deploy.specs.Beginning.{IsOffered}
-use Rattle.deploy.specs.Roots.{root_app}
 use Rattle.deploy.specs.Versions.{Told}
 use Rattle.deploy.proofs.Offers.{is_busy, is_offered, is_rejected, none_of, not_finished, not_newer}
 use Rattle.deploy.proofs.updating.offer.Goals as goal

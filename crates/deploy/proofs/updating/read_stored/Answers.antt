@@ -1,8 +1,8 @@
-use Rattle.std.proofs.Common.{◌≡◌, [], None, Result, refl, sym, subst}
+use Rattle.std.proofs.Common.{[], None, Result, sym, subst}
 use Rattle.std.specs.Prelude.{IfOk}
 use Rattle.deployment_model.specs.Data.{storage_data}
 use Rattle.element_state.specs.Read.{IsView}
-use Rattle.element_state.specs.States.{Corrupt, Opens, State}
+use Rattle.element_state.specs.States.{Corrupt, Opens}
 use Rattle.element_state.specs.declared.errors.StoreError.{StoreError}
 use Rattle.element_state.specs.declared.shapes.View.{View}
 use Rattle.update_plan.specs.declared.contents.StorageContents.{StorageContents}

@@ -1,4 +1,4 @@
-use Rattle.std.proofs.Common.{◌≡◌, ℕ, IsTrue, ◌+◌, ◌≤◌, ◌<◌, List, [], ◌∷◌, ◌++◌, length, get_or, refl, ap, sym, ◌∙◌, subst, arith}
+use Rattle.std.proofs.Common.{◌≡◌, ℕ, IsTrue, ◌+◌, List, length, get_or, ap, sym, ◌∙◌, subst, arith}
 use Rattle.deployment_model.specs.Data.{storage_data}
 use Rattle.element_state.specs.States.{store_at}
 use Rattle.deploy_laws.specs.Places.{shape_of}

@@ -1,4 +1,4 @@
-use Rattle.std.proofs.Common.{◌≡◌, ◌+◌, ◌-◌, ◌≤◌, List, length, Some, refl, ap, sym, ◌∙◌, inr, subst, arith}
+use Rattle.std.proofs.Common.{◌≡◌, ◌+◌, ◌-◌, ◌≤◌, List, length, Some, refl, sym, ◌∙◌, inr, subst, arith}
 use Rattle.per_base.specs.declared.elements.Fresh.{Fresh}
 use Rattle.guarded_cell.specs.Cells.{generation_of}
 use Rattle.root_text.specs.Views.{version_said}

@@ -1,0 +1,132 @@
+use denote.Ref.{Bor}
+use Rattle.std.proofs.Common.{ℕ, List, ◌∷◌, ap, sym, subst, ◌∙◌}
+use Rattle.std.specs.Prelude.{Ok, option_map}
+use Rattle.per_base.specs.declared.names.Name.{Name}
+use Rattle.migrate_fns.specs.Stored.{answers_of, rules_of}
+use Rattle.deploy_laws.specs.Apps.{IsCleanApp}
+use Rattle.disk_model.specs.Image.{Image}
+use Rattle.deploy.specs.declared.roots.Root.{Root}
+use Rattle.deploy.specs.Roots.{RootAt, texts_in}
+use Rattle.deploy.specs.Building.{root_in}
+use Rattle.deploy.proofs.OneUpdate.{clause_from, clause_of, is_refused, leads_led, leads_nowhere, leaves_led, leaves_read, never, never_ok, over_root, root_refused, same_refused, staged_at, updated_not, updated_so, was_offered}
+use Rattle.deploy.proofs.updating_whole.update.Goals as goal
+
+-- ---- it does not begin
+
+pub returns-in_err-begun-clause-outside : goal.returns-in_err-begun-clause-outside
+returns-in_err-begun-clause-outside g c = leaves_read g.D.Disk.told _ (g.D.Disk.medium c.args.disk.now) (g.D.Disk.medium c.begin_update.new.disk) c.in_err-begun.ensures.idle c.in_err-begun.ensures.image
+
+pub returns-in_err-begun-clause-any_moment : goal.returns-in_err-begun-clause-any_moment
+returns-in_err-begun-clause-any_moment g c = λ tells. leads_nowhere (rules_of c.args.migrations.now) (answers_of c.args.migrations.now) c.args.now (option_map (λ (n : Bor Name). n.now) c.args.busy) c.args.manifest.now c.args.app
+    _ (g.D.Disk.medium c.args.disk.now) (g.D.Disk.medium c.begin_update.new.disk) c.in_err-begun.ensures.image (c.in_err-begun.ensures.any_moment tells)
+
+-- ---- it is refused
+
+pub returns-in-Refused-clause-root : goal.returns-in-Refused-clause-root
+returns-in-Refused-clause-root g c = root_refused (rules_of c.args.migrations.now) (answers_of c.args.migrations.now) c.args.now (option_map (λ (n : Bor Name). n.now) c.args.busy) c.args.manifest.now c.args.app
+    g.D.Disk.told (g.D.Disk.medium c.args.disk.now) (g.D.Disk.medium c.begin_update.new.disk) c.args.root c.in_ok-begun.begun c.in_ok-begun.ensures.begins c.in_ok-begun.ensures.staged c.in_ok-begun.ensures.image
+    c.in-Refused.same c.in-Refused.refused c.in-Refused.is c.refuses.result c.refuses.ensures
+
+pub returns-in-Refused-clause-updates : goal.returns-in-Refused-clause-updates
+returns-in-Refused-clause-updates g c = updated_not (rules_of c.args.migrations.now) (answers_of c.args.migrations.now) c.args.now (option_map (λ (n : Bor Name). n.now) c.args.busy) c.args.manifest.now c.args.app
+    g.D.Disk.told (g.D.Disk.medium c.args.disk.now) (g.D.Disk.medium c.begin_update.new.disk) c.args.root c.in_ok-begun.begun c.in_ok-begun.ensures.begins c.in_ok-begun.ensures.staged c.in_ok-begun.ensures.image
+    c.in-Refused.same c.in-Refused.refused c.in-Refused.is c.refuses.result c.refuses.ensures
+
+pub returns-in-Refused-clause-text : goal.returns-in-Refused-clause-text
+returns-in-Refused-clause-text g c = λ none. absurd (is_refused (rules_of c.args.migrations.now) (answers_of c.args.migrations.now) c.args.now (option_map (λ (n : Bor Name). n.now) c.args.busy) c.args.manifest.now c.args.app
+    g.D.Disk.told (g.D.Disk.medium c.args.disk.now) (g.D.Disk.medium c.begin_update.new.disk) c.args.root c.in_ok-begun.begun c.in_ok-begun.ensures.begins c.in_ok-begun.ensures.staged c.in_ok-begun.ensures.image
+    c.in-Refused.same c.in-Refused.refused c.in-Refused.is c.refuses.result c.refuses.ensures none)
+
+pub returns-in-Refused-clause-unchanged : goal.returns-in-Refused-clause-unchanged
+returns-in-Refused-clause-unchanged g c = λ some. (
+  c.in_ok-begun.ensures.image,
+  c.in_ok-begun.ensures.written,
+  same_refused (rules_of c.args.migrations.now) (answers_of c.args.migrations.now) c.args.now (option_map (λ (n : Bor Name). n.now) c.args.busy) c.args.manifest.now c.args.app
+      g.D.Disk.told (g.D.Disk.medium c.args.disk.now) (g.D.Disk.medium c.begin_update.new.disk) c.args.root c.in_ok-begun.begun c.in_ok-begun.ensures.begins c.in_ok-begun.ensures.staged c.in_ok-begun.ensures.image
+      c.in-Refused.same c.in-Refused.refused c.in-Refused.is c.refuses.result c.refuses.ensures,
+)
+
+pub returns-in-Refused-clause-outside : goal.returns-in-Refused-clause-outside
+returns-in-Refused-clause-outside g c = leaves_read g.D.Disk.told _ (g.D.Disk.medium c.args.disk.now) (g.D.Disk.medium c.begin_update.new.disk) c.in_ok-begun.ensures.idle c.in_ok-begun.ensures.image
+
+pub returns-in-Refused-clause-any_moment : goal.returns-in-Refused-clause-any_moment
+returns-in-Refused-clause-any_moment g c = λ tells. leads_nowhere (rules_of c.args.migrations.now) (answers_of c.args.migrations.now) c.args.now (option_map (λ (n : Bor Name). n.now) c.args.busy) c.args.manifest.now c.args.app
+    _ (g.D.Disk.medium c.args.disk.now) (g.D.Disk.medium c.begin_update.new.disk) c.in_ok-begun.ensures.image (c.in_ok-begun.ensures.any_moment tells)
+
+-- ---- it is committed
+
+pub commit_update-requires : goal.commit_update-requires
+commit_update-requires g c = record {
+  staged = staged_at (rules_of c.args.migrations.now) (answers_of c.args.migrations.now) c.args.now (option_map (λ (n : Bor Name). n.now) c.args.busy) c.args.manifest.now c.args.app
+      g.D.Disk.told (g.D.Disk.medium c.args.disk.now) (g.D.Disk.medium c.begin_update.new.disk) c.args.root c.in_ok-begun.begun c.in_ok-begun.ensures.begins c.in_ok-begun.ensures.staged c.in_ok-begun.ensures.image
+      c.in-Ready.staged c.in-Ready.is;
+}
+
+pub returns-in_err-next-in-Ready-clause-early : goal.returns-in_err-next-in-Ready-clause-early
+returns-in_err-next-in-Ready-clause-early g c = λ e refusal. absurd (never _ e (was_offered (rules_of c.args.migrations.now) (answers_of c.args.migrations.now) c.args.now (option_map (λ (n : Bor Name). n.now) c.args.busy) c.args.manifest.now c.args.app
+    g.D.Disk.told (g.D.Disk.medium c.args.disk.now) (g.D.Disk.medium c.begin_update.new.disk) c.args.root c.in_ok-begun.begun c.in_ok-begun.ensures.begins c.in_ok-begun.ensures.staged c.in_ok-begun.ensures.image
+    c.in-Ready.staged c.in-Ready.is) refusal)
+
+pub returns-in_err-next-in-Ready-clause-outside : goal.returns-in_err-next-in-Ready-clause-outside
+returns-in_err-next-in-Ready-clause-outside g c = leaves_led (rules_of c.args.migrations.now) (answers_of c.args.migrations.now) c.args.now (option_map (λ (n : Bor Name). n.now) c.args.busy) c.args.manifest.now c.args.app
+    g.D.Disk.told (g.D.Disk.medium c.args.disk.now) (g.D.Disk.medium c.begin_update.new.disk) c.args.root c.in_ok-begun.begun c.in_ok-begun.ensures.begins c.in_ok-begun.ensures.staged c.in_ok-begun.ensures.image
+    c.in-Ready.staged c.in-Ready.is
+    (g.D.Disk.medium c.commit_update.new.disk) c.in_ok-begun.ensures.time c.in_err-next-in-Ready.ensures.time c.in_ok-begun.ensures.idle c.in_err-next-in-Ready.ensures.outside
+
+pub returns-in_err-next-in-Ready-clause-any_moment : goal.returns-in_err-next-in-Ready-clause-any_moment
+returns-in_err-next-in-Ready-clause-any_moment g c = λ tells. leads_led (rules_of c.args.migrations.now) (answers_of c.args.migrations.now) c.args.now (option_map (λ (n : Bor Name). n.now) c.args.busy) c.args.manifest.now c.args.app
+    g.D.Disk.told (g.D.Disk.medium c.args.disk.now) (g.D.Disk.medium c.begin_update.new.disk) c.args.root c.in_ok-begun.begun c.in_ok-begun.ensures.begins c.in_ok-begun.ensures.staged c.in_ok-begun.ensures.image
+    c.in-Ready.staged c.in-Ready.is
+    (g.D.Disk.medium c.commit_update.new.disk) c.in_ok-begun.ensures.time c.in_err-next-in-Ready.ensures.time c.in_ok-begun.ensures.idle
+    c.roots_in_use.ensures.app c.rows_lead_on.ensures.update c.untouched_stands.ensures.still c.requires.app c.requires.root tells (c.in_err-next-in-Ready.ensures.any_moment tells)
+    _ (never_ok _ _ c.from_residual-in_err-next-in-Ready.ensures.0)
+
+pub returns-in_err-next-in-Ready-clause-device_only : goal.returns-in_err-next-in-Ready-clause-device_only
+returns-in_err-next-in-Ready-clause-device_only g c = λ err. was_offered (rules_of c.args.migrations.now) (answers_of c.args.migrations.now) c.args.now (option_map (λ (n : Bor Name). n.now) c.args.busy) c.args.manifest.now c.args.app
+    g.D.Disk.told (g.D.Disk.medium c.args.disk.now) (g.D.Disk.medium c.begin_update.new.disk) c.args.root c.in_ok-begun.begun c.in_ok-begun.ensures.begins c.in_ok-begun.ensures.staged c.in_ok-begun.ensures.image
+    c.in-Ready.staged c.in-Ready.is
+
+pub returns-in_ok-next-in-Ready-clause-early : goal.returns-in_ok-next-in-Ready-clause-early
+returns-in_ok-next-in-Ready-clause-early g c = λ e refusal. absurd (never _ e (was_offered (rules_of c.args.migrations.now) (answers_of c.args.migrations.now) c.args.now (option_map (λ (n : Bor Name). n.now) c.args.busy) c.args.manifest.now c.args.app
+    g.D.Disk.told (g.D.Disk.medium c.args.disk.now) (g.D.Disk.medium c.begin_update.new.disk) c.args.root c.in_ok-begun.begun c.in_ok-begun.ensures.begins c.in_ok-begun.ensures.staged c.in_ok-begun.ensures.image
+    c.in-Ready.staged c.in-Ready.is) refusal)
+
+pub returns-in_ok-next-in-Ready-clause-outside : goal.returns-in_ok-next-in-Ready-clause-outside
+returns-in_ok-next-in-Ready-clause-outside g c = leaves_led (rules_of c.args.migrations.now) (answers_of c.args.migrations.now) c.args.now (option_map (λ (n : Bor Name). n.now) c.args.busy) c.args.manifest.now c.args.app
+    g.D.Disk.told (g.D.Disk.medium c.args.disk.now) (g.D.Disk.medium c.begin_update.new.disk) c.args.root c.in_ok-begun.begun c.in_ok-begun.ensures.begins c.in_ok-begun.ensures.staged c.in_ok-begun.ensures.image
+    c.in-Ready.staged c.in-Ready.is
+    (g.D.Disk.medium c.commit_update.new.disk) c.in_ok-begun.ensures.time c.in_ok-next-in-Ready.ensures.time c.in_ok-begun.ensures.idle c.in_ok-next-in-Ready.ensures.outside
+
+pub returns-in_ok-next-in-Ready-clause-any_moment : goal.returns-in_ok-next-in-Ready-clause-any_moment
+returns-in_ok-next-in-Ready-clause-any_moment g c = λ tells. leads_led (rules_of c.args.migrations.now) (answers_of c.args.migrations.now) c.args.now (option_map (λ (n : Bor Name). n.now) c.args.busy) c.args.manifest.now c.args.app
+    g.D.Disk.told (g.D.Disk.medium c.args.disk.now) (g.D.Disk.medium c.begin_update.new.disk) c.args.root c.in_ok-begun.begun c.in_ok-begun.ensures.begins c.in_ok-begun.ensures.staged c.in_ok-begun.ensures.image
+    c.in-Ready.staged c.in-Ready.is
+    (g.D.Disk.medium c.commit_update.new.disk) c.in_ok-begun.ensures.time c.in_ok-next-in-Ready.ensures.time c.in_ok-begun.ensures.idle
+    c.roots_in_use.ensures.app c.rows_lead_on.ensures.update c.untouched_stands.ensures.still c.requires.app c.requires.root tells (c.in_ok-next-in-Ready.ensures.any_moment tells)
+    _ (c.in_ok-next-in-Ready.ensures.app tells)
+
+pub returns-in_ok-next-in-Ready-clause-root : goal.returns-in_ok-next-in-Ready-clause-root
+returns-in_ok-next-in-Ready-clause-root g c = clause_of (rules_of c.args.migrations.now) (answers_of c.args.migrations.now) c.args.now (option_map (λ (n : Bor Name). n.now) c.args.busy) c.args.manifest.now c.args.app
+    g.D.Disk.told (g.D.Disk.medium c.args.disk.now) (g.D.Disk.medium c.begin_update.new.disk) c.args.root c.in_ok-begun.begun c.in_ok-begun.ensures.begins c.in_ok-begun.ensures.staged c.in_ok-begun.ensures.image
+    c.in-Ready.staged c.in-Ready.is (g.D.Disk.medium c.commit_update.new.disk) (λ (n : ℕ). RootAt g.D.Disk.told (g.D.Disk.medium c.commit_update.new.disk).image n c.in_ok-next-in-Ready.next) c.in_ok-next-in-Ready.ensures.root
+
+pub returns-in_ok-next-in-Ready-clause-updates : goal.returns-in_ok-next-in-Ready-clause-updates
+returns-in_ok-next-in-Ready-clause-updates g c = updated_so (rules_of c.args.migrations.now) (answers_of c.args.migrations.now) c.args.now (option_map (λ (n : Bor Name). n.now) c.args.busy) c.args.manifest.now c.args.app
+    g.D.Disk.told (g.D.Disk.medium c.args.disk.now) (g.D.Disk.medium c.begin_update.new.disk) c.args.root c.in_ok-begun.begun c.in_ok-begun.ensures.begins c.in_ok-begun.ensures.staged c.in_ok-begun.ensures.image
+    c.in-Ready.staged c.in-Ready.is
+    (g.D.Disk.medium c.commit_update.new.disk) c.in_ok-next-in-Ready.next c.in_ok-next-in-Ready.ensures.says c.in_ok-next-in-Ready.ensures.app
+
+pub returns-in_ok-next-in-Ready-clause-text : goal.returns-in_ok-next-in-Ready-clause-text
+returns-in_ok-next-in-Ready-clause-text g c = λ none. c.in_ok-next-in-Ready.ensures.text
+    ∙ ap (λ (t : List ℕ). t ∷ texts_in (root_in c.in-Ready.staged)) (c.in_ok-begun.ensures.text c.in-Ready.staged (ap Ok c.in-Ready.is))
+    ∙ ap (λ (r : Root). c.args.manifest.now ∷ texts_in r) (over_root (rules_of c.args.migrations.now) (answers_of c.args.migrations.now) c.args.now (option_map (λ (n : Bor Name). n.now) c.args.busy) c.args.manifest.now c.args.app
+    g.D.Disk.told (g.D.Disk.medium c.args.disk.now) (g.D.Disk.medium c.begin_update.new.disk) c.args.root c.in_ok-begun.begun c.in_ok-begun.ensures.begins c.in_ok-begun.ensures.staged c.in_ok-begun.ensures.image
+    c.in-Ready.staged c.in-Ready.is)
+
+pub returns-in_ok-next-in-Ready-clause-clean : goal.returns-in_ok-next-in-Ready-clause-clean
+returns-in_ok-next-in-Ready-clause-clean g c = λ tells clean. clause_of (rules_of c.args.migrations.now) (answers_of c.args.migrations.now) c.args.now (option_map (λ (n : Bor Name). n.now) c.args.busy) c.args.manifest.now c.args.app
+    g.D.Disk.told (g.D.Disk.medium c.args.disk.now) (g.D.Disk.medium c.begin_update.new.disk) c.args.root c.in_ok-begun.begun c.in_ok-begun.ensures.begins c.in_ok-begun.ensures.staged c.in_ok-begun.ensures.image
+    c.in-Ready.staged c.in-Ready.is (g.D.Disk.medium c.commit_update.new.disk) (λ (n : ℕ). IsCleanApp n (g.D.Disk.medium c.commit_update.new.disk).image)
+    (c.in_ok-next-in-Ready.ensures.clean tells (clause_from (rules_of c.args.migrations.now) (answers_of c.args.migrations.now) c.args.now (option_map (λ (n : Bor Name). n.now) c.args.busy) c.args.manifest.now c.args.app
+    g.D.Disk.told (g.D.Disk.medium c.args.disk.now) (g.D.Disk.medium c.begin_update.new.disk) c.args.root c.in_ok-begun.begun c.in_ok-begun.ensures.begins c.in_ok-begun.ensures.staged c.in_ok-begun.ensures.image
+    c.in-Ready.staged c.in-Ready.is (λ (n : ℕ). IsCleanApp n (g.D.Disk.medium c.begin_update.new.disk).image) (subst (λ (i : Image). IsCleanApp c.args.app i) (sym c.in_ok-begun.ensures.image) clean)))
