@@ -1,0 +1,46 @@
+-- What refuses to make an open storage durable, or to close it.
+use Rattle.std.specs.Prelude.{ℕ, Bool, not, ◌&&◌, Option, Some, None, Result, Ok, Err}
+use Rattle.per_base.specs.declared.errors.Limit.TheVariants as limit
+use Rattle.per_base.specs.declared.errors.PerError.{PerError}
+use Rattle.per_base.specs.declared.errors.PerError.TheVariants.{LimitReached}
+use Rattle.element_state.specs.declared.shapes.View.{View}
+use Rattle.element_state.specs.States.{is_worn}
+use Rattle.element_store.specs.Stores.{shape_of, view_in}
+use Rattle.element_maps.specs.Sessions.{same_map, synced_view}
+use Rattle.file_handles.specs.Opening.{busy, first, when}
+use Rattle.run_model.specs.Calls.{lowest_handle, may_flush}
+use Rattle.run_model.specs.Sessions.{seen_of, synced_of}
+use Rattle.open_storages.specs.declared.opens.Open.{Open}
+use Rattle.open_storages.specs.declared.opens.Open.TheVariants.{Keys, Files}
+use Rattle.open_storages.specs.Opens.{session_in, store_in}
+
+-- what the calls see is what lies on the disk
+abbrev pub is_still : Open → Bool
+is_still o = same_map (synced_of (session_in o)) (seen_of (session_in o))
+
+-- no generation is left for what differs
+abbrev pub worn : Open → Bool
+worn o = not (is_still o) && is_worn (view_in (store_in o))
+
+-- the view once what the calls see is durable: that of before where nothing differs
+abbrev pub durable_view : Open → View
+durable_view o = synced_view (shape_of (store_in o)) (view_in (store_in o)) (synced_of (session_in o)) (seen_of (session_in o))
+
+abbrev pub error_of : {A : Type 0} → Result A PerError → Option PerError
+error_of (Ok x) = None
+error_of (Err error) = Some error
+
+abbrev pub sync_refused : Open → Option PerError
+sync_refused o = when (worn o) (LimitReached limit.Generations)
+
+-- by a handle: whether it may write is asked first
+abbrev pub flush_refused : Open → (handle : ℕ) → Option PerError
+flush_refused o handle = first (error_of (may_flush (session_in o) handle)) (sync_refused o)
+
+-- the pending changes of keys are dropped, so that no generation is needed
+abbrev pub leaving_refused : Open → Option PerError
+leaving_refused (Keys k) = None
+leaving_refused (Files f) = sync_refused (Files f)
+
+abbrev pub close_refused : Open → Option PerError
+close_refused o = first (busy (lowest_handle (session_in o))) (leaving_refused o)

@@ -1,0 +1,44 @@
+//! An open storage.
+
+ghost use Rattle.std.specs.Prelude.{◌≡◌};
+ghost use Rattle.element_maps.specs.Storages.{IsConfigured};
+ghost use Rattle.element_store.specs.Stores.{shape_of, view_in};
+ghost use Rattle.run_model.specs.Sessions.{seen_in, synced_of};
+ghost use Rattle.open_storages.specs.Opens.{config_in, kind_of, session_in, store_in};
+
+use file_storage::Files;
+use kvs_store::Kvs;
+use per_base::StoreKind;
+
+/// An open storage. It is used with the disk of its opening, and dropping it drops what is pending.
+#[derive(Drop)]
+pub enum Open {
+    Keys(Kvs),
+    Files(Files),
+}
+
+impl Open {
+    /// What always holds of an open storage: it lies as it is configured, its session is one of its kind, and what is synchronised is
+    /// what the storage below shows.
+    pub fn holds(&self)
+        ensures configured { IsConfigured (config_in self.now).kind (config_in self.now) (shape_of (store_in self.now)) }
+        ensures kind { kind_of (session_in self.now) ≡ (config_in self.now).kind }
+        ensures synced { synced_of (session_in self.now) ≡ seen_in (config_in self.now).kind (view_in (store_in self.now)) }
+    {
+        match self {
+            Open::Keys(kvs) => kvs.holds(),
+            Open::Files(files) => files.holds(),
+        }
+    }
+
+    /// The kind of storage that it is.
+    pub fn kind(&self) -> StoreKind
+        ensures { result ≡ (config_in self.now).kind }
+    {
+        self.holds();
+        match self {
+            Open::Keys(_) => StoreKind::Keys,
+            Open::Files(_) => StoreKind::Files,
+        }
+    }
+}

@@ -1,0 +1,92 @@
+//! The calls on keys.
+
+ghost use Rattle.std.specs.Prelude.{◌≡◌, IfErr, IfOk, OnErr, OnOk, Ok};
+ghost use Rattle.kvs_core.specs.Calls as calls;
+ghost use Rattle.kvs_core.specs.Refusals.{IsRefusal};
+ghost use Rattle.kvs_store.specs.Storages.{session_of, showing};
+ghost use Rattle.run_model.specs.Sessions.{on_keys};
+ghost use Rattle.open_storages.specs.Answers.{IsAnswered};
+ghost use Rattle.open_storages.specs.Opens.{keys_of};
+
+use command_text::{Answer, AskedType, Call};
+use kvs_store::Kvs;
+use per_base::{Name, PerError, Sequence};
+use std::alloc::Global;
+use value_model::Value;
+
+/// Answers a call on keys.
+#[tactic(auto, using(crate::proofs::Rows::refused_then, crate::proofs::Rows::due_then, crate::proofs::Rows::answered_then), unfolding(run_model::specs::Sessions::on_keys))]
+pub(crate) fn answer_keys(kvs: &mut Kvs, alloc: Global, call: &Call) -> Result<Answer, PerError>
+    ensures answered { IsAnswered (on_keys kvs.old.config (keys_of kvs.old) call.now) (keys_of kvs.old) (keys_of kvs.new) result }
+    ensures beside { kvs.new ≡ showing kvs.old kvs.new.session.visible }
+{
+    match call {
+        Call::Size(_) => Ok(Answer::Number(kvs.current_size())),
+        Call::Keys(_) => Ok(Answer::Names(Sequence::new(kvs.all_keys()?))),
+        Call::Exists(_, key) => Ok(Answer::Truth(kvs.key_exists(key))),
+        Call::Get(_, key) => Ok(Answer::Val(value_of(kvs, alloc, key)?)),
+        Call::GetAs(_, key, asked) => Ok(Answer::Val(value_as(kvs, alloc, key, asked)?)),
+        Call::Set(_, key, value) => {
+            set(kvs, alloc, key, value)?;
+            Ok(Answer::Done)
+        }
+        Call::Remove(_, key) => {
+            kvs.remove_key(key)?;
+            Ok(Answer::Done)
+        }
+        Call::RemoveAll(_) => {
+            kvs.remove_all_keys()?;
+            Ok(Answer::Done)
+        }
+        Call::RecoverKey(_, key) => {
+            kvs.recover_key(key)?;
+            Ok(Answer::Done)
+        }
+        Call::ResetKey(_, key) => {
+            kvs.reset_key(key)?;
+            Ok(Answer::Done)
+        }
+        Call::Discard(_) => {
+            kvs.discard_pending_changes();
+            Ok(Answer::Done)
+        }
+        _ => Err(PerError::StorageNotFound),
+    }
+}
+
+/// A copy of the value of a key.
+fn value_of(kvs: &Kvs, alloc: Global, key: &Name) -> Result<Value, PerError>
+    ensures ok { IfOk result (λ value. calls.get_any kvs.now.config kvs.now.session.visible key.now ≡ Ok value) }
+    ensures refused { IfErr result (λ error. IsRefusal (calls.get_any kvs.now.config kvs.now.session.visible key.now) error) }
+{
+    copy_of(alloc, kvs.get_any(key)?)
+}
+
+/// A copy of the value of a key, asked for by its type.
+fn value_as(kvs: &Kvs, alloc: Global, key: &Name, asked: &AskedType) -> Result<Value, PerError>
+    ensures ok { IfOk result (λ value. calls.get_as kvs.now.config kvs.now.session.visible key.now asked.now ≡ Ok value) }
+    ensures refused { IfErr result (λ error. IsRefusal (calls.get_as kvs.now.config kvs.now.session.visible key.now asked.now) error) }
+{
+    copy_of(alloc, kvs.get_as(key, asked.value_type())?)
+}
+
+/// Makes a copy of a value visible under a name.
+fn set(kvs: &mut Kvs, alloc: Global, key: &Name, value: &Value) -> Result<(), PerError>
+    ensures ok { OnOk result (calls.set_any kvs.old.config kvs.old.session.visible key.now value.now ≡ Ok kvs.new.session.visible) }
+    ensures refused { IfErr result (λ error. IsRefusal (calls.set_any kvs.old.config kvs.old.session.visible key.now value.now) error) }
+    ensures beside { kvs.new ≡ showing kvs.old kvs.new.session.visible }
+    ensures unchanged { OnErr result (kvs.new ≡ kvs.old) }
+{
+    let copy = copy_of(alloc, value)?;
+    kvs.set_any(key, copy)
+}
+
+fn copy_of(alloc: Global, value: &Value) -> Result<Value, PerError>
+    ensures ok { IfOk result (λ copy. copy ≡ value.now) }
+    ensures memory { IfErr result (λ error. error ≡ PerError.OutOfMemory) }
+{
+    match value.copy(alloc) {
+        Ok(copy) => Ok(copy),
+        Err(_) => Err(PerError::OutOfMemory),
+    }
+}
