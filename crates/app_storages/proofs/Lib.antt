@@ -1,0 +1,15 @@
+pub mod Closed
+pub mod DurableRows
+pub mod Durables
+pub mod Ended
+pub mod Found
+pub mod Handled
+pub mod LocalEnds
+pub mod LocalRows
+pub mod OneCall
+pub mod OpenEnds
+pub mod OpenRows
+pub mod Rebuilt
+pub mod SlotLaws
+pub mod Storing
+pub mod Synced

@@ -1,0 +1,54 @@
+-- All that a call on a storage promises, by how it ended.
+use Rattle.std.specs.Prelude.{◌≡◌, ◌≢◌, ℕ, Bool, true, false, IsTrue, Some, Result, Ok, Err}
+use Rattle.per_base.specs.Causes.{Rose}
+use Rattle.per_base.specs.declared.errors.PerError.TheVariants as error
+use Rattle.disk_model.specs.Medium.{Elapses, Medium, Quiet}
+use Rattle.command_text.specs.declared.calls.Call.{Call}
+use Rattle.command_text.specs.declared.replies.Answer.TheVariants as answer
+use Rattle.command_text.specs.declared.replies.Reply.{Reply}
+use Rattle.command_text.specs.Replies.{HasText}
+use Rattle.deploy_laws.specs.Apps.{app_at}
+use Rattle.deploy.specs.declared.errors.Stop.{Stop}
+use Rattle.deploy.specs.declared.errors.Stop.TheVariants.{Device, OutOfMemory}
+use Rattle.deploy.specs.declared.roots.Root.{Root}
+use Rattle.run_model.specs.Calls.{session_at}
+use Rattle.run_model.specs.Found.{Found}
+use Rattle.run_model.specs.Runtimes.{IsUnwritten, WritesWithin, is_durable, is_refusal}
+use Rattle.run_model.specs.Sessions.{Session}
+use Rattle.run_model.specs.Steps.{found_named, uses_device}
+use Rattle.run_model.specs.Worlds.{Application}
+use Rattle.app_storages.specs.Answers.{HasFailed, HasStopped, IsAnswered}
+use Rattle.app_storages.specs.Slots.{IsResting, resting_with}
+use Rattle.app_storages.specs.declared.slots.Slots.{Slots}
+
+-- what a call that makes an open storage durable may write, however it ends
+abbrev pub MayWrite : (app : ℕ) → Call → (before : Application) → (old new : Medium) → Type 0
+MayWrite app c before old new = is_durable c ≡ true → (f : Found) (s : Session) → found_named before c ≡ Some (Ok f)
+    → session_at before f.number ≡ Some s → WritesWithin app f s old new
+
+-- the call was answered
+pub record IsReplied (told : Bool) (app now : ℕ) (root : Root) (c : Call) (was is : Slots) (old new : Medium) (reply : Reply) : Type 0 where
+  pub answered : IsTrue told → IsAnswered app now c (resting_with old.image app was) (resting_with new.image app is) reply old new
+  pub memory : IsResting told new.image app root is
+  pub quiet : Quiet old → Quiet new
+  pub unwritten : is_refusal reply.answer ≡ true → IsUnwritten old new
+  pub unfailed : reply.answer ≢ answer.Error error.PhysicalStorageFailure
+  pub text : HasText reply.answer
+
+-- its device failed
+pub record IsLost (told : Bool) (app now : ℕ) (root : Root) (c : Call) (was is : Slots) (old new : Medium) : Type 0 where
+  pub failed : IsTrue told → HasFailed app now c (resting_with old.image app was) (resting_with new.image app is) old new
+  pub memory : IsResting told new.image app root is
+  pub cause : Rose old.faults new.faults
+
+abbrev pub EndsSo : (told : Bool) (app now : ℕ) (root : Root) (c : Call) (was is : Slots) (old new : Medium) → Result Reply Stop → Type 0
+EndsSo told app now root c was is old new (Ok reply) = IsReplied told app now root c was is old new reply
+EndsSo told app now root c was is old new (Err Device) = IsLost told app now root c was is old new
+EndsSo told app now root c was is old new (Err OutOfMemory) = IsTrue told → HasStopped app now c (resting_with old.image app was) old new
+
+-- A call on a storage of an application at rest, from these slots to those; that it called no disk is said by `Same`.
+pub record IsHandled (told : Bool) (app now : ℕ) (root : Root) (c : Call) (was is : Slots) (old new : Medium) (Same : Type 0) (result : Result Reply Stop) : Type 0 where
+  pub ends : EndsSo told app now root c was is old new result
+  pub idle : IsTrue told → uses_device (app_at old.image app) c ≡ false → Same
+  pub written : IsTrue told → MayWrite app c (resting_with old.image app was) old new
+  pub time : Elapses old new

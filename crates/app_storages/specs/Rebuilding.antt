@@ -1,0 +1,25 @@
+-- A closed storage that is to be made anew, as it is found by its name.
+use Rattle.std.specs.Prelude.{◌≡◌, ℕ, List, None, Result, Ok, Err}
+use Rattle.per_base.specs.declared.errors.PerError.{PerError}
+use Rattle.disk_model.specs.Image.{Image}
+use Rattle.element_state.specs.States.{State}
+use Rattle.deploy_laws.specs.Apps.{app_at}
+use Rattle.deploy.specs.declared.roots.Root.{Root}
+use Rattle.deploy.specs.Roots.{IsRootOn, root_says}
+use Rattle.run_model.specs.Calls.{rebuild_step}
+use Rattle.run_model.specs.Found.{Found, storage_in}
+use Rattle.app_storages.specs.Finding.{IsEarly, IsLocated, found_on}
+use Rattle.app_storages.specs.Slots.{resting_with, slot_at}
+use Rattle.app_storages.specs.declared.finding.Located.{Located}
+use Rattle.app_storages.specs.declared.slots.Slots.{Slots}
+
+-- a storage of the active version of this name, which is not open
+pub record IsClosed (app : ℕ) (root : Root) (name : List ℕ) (slots : Slots) (l : Located) : Type 0 where
+  pub located : IsLocated app (root_says root) l
+  pub named : (image : Image) → IsRootOn image app root → storage_in (app_at image app) name None ≡ Ok (found_on image l)
+  pub free : slot_at slots l.number ≡ None
+
+-- whatever is to be made of it, this is the refusal
+pub record IsNoneClosed (app : ℕ) (root : Root) (name : List ℕ) (slots : Slots) (e : PerError) : Type 0 where
+  pub early : IsEarly e
+  pub row : (image : Image) → IsRootOn image app root → (state_of : Found → Result State PerError) → rebuild_step (resting_with image app slots) name state_of ≡ Err e

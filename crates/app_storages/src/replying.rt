@@ -1,0 +1,35 @@
+//! Replies without reports.
+
+ghost use Rattle.std.specs.Prelude.{◌≡◌, []};
+ghost use Rattle.app_storages.specs.Durables.{Says};
+
+use command_text::{Answer, Reply};
+use per_base::{PerError, Sequence};
+use std::alloc::Global;
+
+/// An answer without a report. Takes no memory.
+pub(crate) fn answered(alloc: Global, answer: Answer) -> Reply
+    ensures { result ≡ record { reports = []; answer = answer } }
+{
+    Reply {
+        reports: Sequence::new(Vec::new(alloc)),
+        answer,
+    }
+}
+
+/// The call is refused. Takes no memory.
+pub(crate) fn refusal(alloc: Global, error: PerError) -> Reply
+    ensures { result ≡ record { reports = []; answer = Answer.Error error } }
+{
+    answered(alloc, Answer::Error(error))
+}
+
+/// Nothing is to be said of a call but that it is done, or that it is refused.
+pub(crate) fn done_or(alloc: Global, refused: Option<PerError>) -> Reply
+    ensures { Says result refused }
+{
+    match refused {
+        None => answered(alloc, Answer::Done),
+        Some(error) => refusal(alloc, error),
+    }
+}
