@@ -1,0 +1,13 @@
+mod LeadOn
+mod InWorld
+mod Frames
+mod Plain
+mod Rowed
+mod Ended
+mod Kept
+mod Words
+mod Updated
+mod Steps
+mod StorageCalls
+mod KnownCalls
+mod Arms

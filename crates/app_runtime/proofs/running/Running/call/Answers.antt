@@ -1,0 +1,18 @@
+use Rattle.app_runtime.proofs.running.Running.call.Goals as goal
+
+pub returns : goal.returns
+returns g c = record {
+  app = c.answer.ensures.app;
+  memory = c.answer.ensures.memory;
+  answered = c.answer.ensures.answered;
+  failed = c.answer.ensures.failed;
+  stopped = c.answer.ensures.stopped;
+  quiet = c.answer.ensures.quiet;
+  idle = c.answer.ensures.idle;
+  unwritten = c.answer.ensures.unwritten;
+  written = c.answer.ensures.written;
+  cause = c.answer.ensures.cause;
+  unfailed = c.answer.ensures.unfailed;
+  text = c.answer.ensures.text;
+  time = c.answer.ensures.time;
+}

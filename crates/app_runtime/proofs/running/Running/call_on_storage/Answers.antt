@@ -1,0 +1,46 @@
+use Rattle.std.proofs.Common.{◌≡◌, sym, subst}
+use Rattle.migrate_fns.specs.Stored.{answers_of, rules_of}
+use Rattle.app_runtime.specs.declared.running.Stage.{Stage}
+use Rattle.app_runtime.specs.Promises.{Promises}
+use Rattle.app_runtime.specs.Running.{IsStageAt}
+use Rattle.app_runtime.specs.Stages.{root_of}
+use Rattle.app_runtime.proofs.Ended.{rests}
+use Rattle.app_runtime.proofs.LeadOn.{leads_on}
+use Rattle.app_runtime.proofs.StorageCalls.{stored_promises}
+use Rattle.app_runtime.proofs.running.Running.call_on_storage.Goals as goal
+
+pub returns-in_default : goal.returns-in_default
+returns-in_default g c = absurd (c.in_default.not-AtRest (root_of c.args.self.now.stage) (sym (rests c.args.self.now.stage c.requires.rests)))
+
+pub call-requires : goal.call-requires
+call-requires g c = record {
+  memory = subst (λ (x : Stage). IsStageAt g.D.Disk.told (g.D.Disk.medium c.args.disk.now).image c.args.self.now.app c.args.self.now.slots x) c.in-AtRest.is c.requires.memory.stage_at;
+  on_storage = c.requires.on_storage;
+}
+
+pub returns : goal.returns
+returns g c =
+    let told = g.D.Disk.told in
+    let rules = rules_of c.args.migrations.now in
+    let answers = answers_of c.args.migrations.now in
+    let s = c.args.self.now in
+    let old = g.D.Disk.medium c.args.disk.now in
+    let new = g.D.Disk.medium c.call.new.disk in
+    let Untouched = c.call.new.disk ≡ c.args.disk.now in
+    subst (λ (x : Stage). Promises told rules answers c.args.now c.args.call.now (record s { stage = x }) (record s { stage = x; slots = c.call.new.self }) Untouched old new c.call.result) (sym c.in-AtRest.is)
+    (stored_promises told rules answers c.args.now c.args.call.now s c.in-AtRest.root c.call.new.self Untouched old new c.call.result c.requires.on_storage
+    (leads_on c.storages_lead_on.ensures c.rows_lead_on.ensures.install c.rows_lead_on.ensures.finish c.rows_lead_on.ensures.rollback c.rows_lead_on.ensures.wipe c.rows_lead_on.ensures.update rules answers)
+    (record {
+      memory = c.call.ensures.memory;
+      answered = c.call.ensures.answered;
+      failed = c.call.ensures.failed;
+      stopped = c.call.ensures.stopped;
+      quiet = c.call.ensures.quiet;
+      idle = c.call.ensures.idle;
+      unwritten = c.call.ensures.unwritten;
+      written = c.call.ensures.written;
+      cause = c.call.ensures.cause;
+      unfailed = c.call.ensures.unfailed;
+      text = c.call.ensures.text;
+      time = c.call.ensures.time;
+    }))

@@ -1,0 +1,4 @@
+pub mod Running
+pub mod Answers
+pub mod Promises
+pub mod Stages

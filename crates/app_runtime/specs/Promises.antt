@@ -1,0 +1,38 @@
+-- All that a call of an application promises, however it ends.
+use Rattle.std.specs.Prelude.{◌≡◌, ◌≢◌, ℕ, List, Bool, true, false, IsTrue, Some, Result, Ok, IfOk, OnOk, IsErrOf}
+use Rattle.per_base.specs.Causes.{Rose}
+use Rattle.per_base.specs.declared.errors.PerError.TheVariants as error
+use Rattle.disk_model.specs.Medium.{Medium, Quiet, Elapses}
+use Rattle.migrate_fns.specs.Rules.{Rule, Answers}
+use Rattle.command_text.specs.declared.calls.Call.{Call}
+use Rattle.command_text.specs.declared.replies.Answer.TheVariants as answer
+use Rattle.command_text.specs.declared.replies.Reply.{Reply}
+use Rattle.command_text.specs.Replies.{HasText}
+use Rattle.deploy.specs.declared.errors.Stop.{Stop}
+use Rattle.deploy.specs.declared.errors.Stop.TheVariants as stop
+use Rattle.deploy_laws.specs.Apps.{app_at}
+use Rattle.run_model.specs.Calls.{session_at}
+use Rattle.run_model.specs.Found.{Found}
+use Rattle.run_model.specs.Runtimes.{IsUnwritten, WritesWithin, is_durable, is_refusal}
+use Rattle.run_model.specs.Sessions.{Session}
+use Rattle.run_model.specs.Steps.{found_named, uses_device}
+use Rattle.app_runtime.specs.declared.running.Running.{Running}
+use Rattle.app_runtime.specs.Answers.{HasFailed, HasStopped, IsAnswered}
+use Rattle.app_runtime.specs.Running.{IsRunning, application}
+
+-- `Untouched` says that the disk is the one that it was
+pub record Promises (told : Bool) (rules : List Rule) (answers : Answers) (now : ℕ) (c : Call) (before after : Running) (Untouched : Type 0) (old new : Medium) (result : Result Reply Stop) : Type 0 where
+  pub app : after.app ≡ before.app
+  pub memory : (IsErrOf result stop.OutOfMemory → ⊥) → IsRunning told new.image after
+  pub answered : IsTrue told → IfOk result (λ reply. IsAnswered rules answers before.app now c (application old.image before) (application new.image after) reply old new)
+  pub failed : IsTrue told → IsErrOf result stop.Device → HasFailed rules answers before.app now c (application old.image before) (application new.image after) old new
+  pub stopped : IsTrue told → IsErrOf result stop.OutOfMemory → HasStopped rules answers before.app now c (application old.image before) old new
+  pub quiet : Quiet old → OnOk result (Quiet new)
+  pub idle : IsTrue told → uses_device (app_at old.image before.app) c ≡ false → Untouched
+  pub unwritten : IfOk result (λ reply. is_refusal reply.answer ≡ true → IsUnwritten old new)
+  pub written : IsTrue told → is_durable c ≡ true → (f : Found) (s : Session) → found_named (application old.image before) c ≡ Some (Ok f)
+      → session_at (application old.image before) f.number ≡ Some s → WritesWithin before.app f s old new
+  pub cause : IsErrOf result stop.Device → Rose old.faults new.faults
+  pub unfailed : IfOk result (λ reply. reply.answer ≢ answer.Error error.PhysicalStorageFailure)
+  pub text : IfOk result (λ reply. HasText reply.answer)
+  pub time : Elapses old new

@@ -1,0 +1,80 @@
+-- The stage of an application in memory: its root, and how a call leaves it.
+use Rattle.std.specs.Prelude.{◌≡◌, List, [], Option, Some, None, option_map, Result, Ok, Err}
+use Rattle.per_base.specs.declared.errors.PerError.{PerError}
+use Rattle.per_base.specs.declared.errors.PerError.TheVariants as error
+use Rattle.per_base.specs.declared.errors.Unit.TheVariants as unit
+use Rattle.command_text.specs.declared.replies.Answer.{Answer}
+use Rattle.command_text.specs.declared.replies.Answer.TheVariants as answer
+use Rattle.command_text.specs.declared.replies.AppStatus.TheVariants as status
+use Rattle.command_text.specs.declared.replies.Reply.{Reply}
+use Rattle.deploy.specs.declared.errors.Stop.{Stop}
+use Rattle.deploy.specs.declared.roots.Installed as parts
+use Rattle.deploy.specs.declared.roots.Outcome.{Outcome}
+use Rattle.deploy.specs.declared.roots.Root.{Root}
+use Rattle.deploy.specs.declared.roots.Root.TheVariants.{Bad, Absent, Installed}
+use Rattle.deploy.specs.declared.updating.Begin.{Begin}
+use Rattle.deploy.specs.declared.updating.Begin.TheVariants as begin
+use Rattle.deploy.specs.declared.updating.Staged.{Staged}
+use Rattle.deploy.specs.Building.{root_in}
+use Rattle.deploy.specs.Roots.{root_says}
+use Rattle.deploy_laws.specs.Apps.{Says, nothing, absent, installed}
+use Rattle.deploy_laws.specs.Places.{Named}
+use Rattle.app_storages.specs.declared.slots.Slots.{Slots}
+use Rattle.app_runtime.specs.declared.running.Running.{Running}
+use Rattle.app_runtime.specs.declared.running.Stage.{Stage}
+use Rattle.app_runtime.specs.declared.running.Stage.TheVariants.{ToOpen, AtRest, Updating}
+use Rattle.app_runtime.specs.Running.{NoneOpen}
+
+-- the root that is in memory: of an update in progress the one over which it was begun; one that is to be opened says nothing
+abbrev pub root_of : Stage → Root
+root_of ToOpen = Bad
+root_of (AtRest root) = root
+root_of (Updating staged) = root_in staged
+
+abbrev pub staged_in : Stage → Option Staged
+staged_in ToOpen = None
+staged_in (AtRest root) = None
+staged_in (Updating staged) = Some staged
+
+-- what is installed
+abbrev pub installed_in : Root → Option parts.Installed
+installed_in Bad = None
+installed_in (Absent cell) = None
+installed_in (Installed i) = Some i
+
+-- an answer without a report
+abbrev pub reply_with : Answer → Reply
+reply_with a = record { reports = []; answer = a }
+
+-- it is done, or refused
+abbrev pub reply_of : Option PerError → Reply
+reply_of None = reply_with answer.Done
+reply_of (Some e) = reply_with (answer.Error e)
+
+-- the status of an application whose root says this
+abbrev pub status_of : Says → Reply
+status_of nothing = reply_with (answer.Error (error.IntegrityCorrupted unit.Root))
+status_of (absent g) = reply_with (answer.Status status.Absent)
+status_of (installed g active previous) = reply_with (answer.Status (status.Active active.deployment.version (option_map (λ (v : Named). v.deployment.version) previous)))
+
+-- why an update cannot go on where none is in progress
+abbrev pub without_update : Says → PerError
+without_update nothing = error.IntegrityCorrupted unit.Root
+without_update (absent g) = error.NotInstalled
+without_update (installed g active previous) = error.NoUpdateInProgress
+
+-- What a call made of the root stands in memory, and is answered; where it did not end, all sessions end.
+abbrev pub Settles : Result Outcome Stop → (before after : Running) → Result Reply Stop → Type 0
+Settles (Ok o) before after result = (after ≡ record before { stage = AtRest o.root }) × (result ≡ Ok (reply_of o.refused))
+Settles (Err e) before after result = (after.app ≡ before.app) × (after.stage ≡ before.stage) × NoneOpen after.slots × (result ≡ Err e)
+
+-- the same of the beginning of an update
+abbrev pub SettlesBegun : Result Begin Stop → (before after : Running) → Result Reply Stop → Type 0
+SettlesBegun (Ok (begin.Ready s)) before after result = (after ≡ record before { stage = Updating s }) × (result ≡ Ok (reply_of None))
+SettlesBegun (Ok (begin.Refused root e)) before after result = (after ≡ record before { stage = AtRest root }) × (result ≡ Ok (reply_of (Some e)))
+SettlesBegun (Err e) before after result = (after.app ≡ before.app) × (after.stage ≡ before.stage) × NoneOpen after.slots × (result ≡ Err e)
+
+-- an update in progress is given up: its root stands in memory again; where there is none, that is refused
+abbrev pub Aborts : Option Staged → (before after : Running) → Reply → Type 0
+Aborts None before after reply = (after ≡ before) × (reply ≡ reply_of (Some (without_update (root_says (root_of before.stage)))))
+Aborts (Some s) before after reply = (after ≡ record before { stage = AtRest (root_in s) }) × (reply ≡ reply_of None)

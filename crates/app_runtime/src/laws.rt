@@ -1,0 +1,48 @@
+//! The laws of an application in memory, for the proofs of callers: none of these functions does anything when it runs.
+
+ghost use Rattle.std.specs.Prelude.{◌≡◌, ℕ, Bool, IsTrue};
+ghost use Rattle.disk_model.specs.Frame.{Spares};
+ghost use Rattle.disk_model.specs.Image.{Image};
+ghost use Rattle.migrate_fns.specs.Stored.{answers_of, rules_of};
+ghost use Rattle.command_text.specs.declared.calls.Call.{Call};
+ghost use Rattle.deploy_laws.specs.Places.{IsFileOf};
+ghost use Rattle.deploy_laws.specs.Stands.{IsLater};
+ghost use Rattle.run_model.specs.Calls.{Outcome};
+ghost use Rattle.run_model.specs.Lasting.{IsApplication};
+ghost use Rattle.run_model.specs.Worlds.{Application};
+ghost use Rattle.app_runtime.specs.Answers.{HasRow};
+ghost use Rattle.app_runtime.specs.Running.{IsRunning, application};
+ghost use Rattle.app_runtime.specs.declared.running.Running.{Running};
+
+use deploy::{in_use_stays, roots_in_use};
+use deploy_laws::{files_lie_apart, roots_say};
+use deploy_rows::rows_lead_on;
+use element_laws::places_stand_apart;
+use migrate_fns::Migrations;
+use run_model::storages_lead_on;
+
+/// What is kept of an application in use makes one of a world.
+pub fn running_is_application()
+    ensures { (told : Bool) (image : Image) (r : Running) → IsTrue told → IsRunning told image r → IsApplication (application image r) }
+{
+    roots_in_use();
+    roots_say();
+}
+
+/// What is kept of an application stays in use while none of its files changes.
+pub fn running_stays()
+    ensures { (told : Bool) (old new : Image) (r : Running) → (IsTrue told → Spares (IsFileOf r.app) old new) → IsRunning told old r → IsRunning told new r }
+{
+    files_lie_apart();
+    in_use_stays();
+    places_stand_apart();
+}
+
+/// What a call leads to comes later than what was.
+pub fn calls_lead_on(migrations: &Migrations)
+    ensures { (app now : ℕ) (c : Call) (before : Application) (outcome : Outcome) → HasRow (rules_of migrations.now) (answers_of migrations.now) app now c before outcome
+        → IsLater before.disk outcome.1.disk }
+{
+    rows_lead_on();
+    storages_lead_on();
+}

@@ -1,0 +1,86 @@
+//! How a call of a deployment leaves what is in memory, and is answered.
+
+ghost use Rattle.std.specs.Prelude.{◌≡◌, Err, IfNone, IfSome, None, Some, length};
+ghost use Rattle.app_runtime.specs.Running.{NoneOpen};
+ghost use Rattle.app_runtime.specs.Stages.{Settles, reply_with, root_of, staged_in};
+
+use crate::running::{Running, Stage};
+use command_text::{Answer, Reply};
+use deploy::{Outcome, Root, Staged, Stop};
+use per_base::{PerError, Sequence};
+use std::mem;
+
+impl Stage {
+    // The root that is in memory: of an update in progress the one over which it was begun. One that is to be opened says nothing.
+    pub(crate) fn into_root(self) -> Root
+        ensures { result ≡ root_of self }
+    {
+        match self {
+            Stage::ToOpen => Root::Bad,
+            Stage::AtRest(root) => root,
+            Stage::Updating(staged) => staged.abort(),
+        }
+    }
+}
+
+impl Running {
+    // Takes the root out of memory. Until one is put back it is to be opened, which is so where the call does not end.
+    pub(crate) fn take_root(&mut self) -> Root
+        ensures root { result ≡ root_of self.old.stage }
+        ensures left { self.new ≡ record self.old { stage = Stage.ToOpen } }
+    {
+        mem::replace(&mut self.stage, Stage::ToOpen).into_root()
+    }
+
+    // Takes the update in progress out of memory, where there is one; else nothing changes.
+    pub(crate) fn take_update(&mut self) -> Option<Staged>
+        ensures staged { result ≡ staged_in self.old.stage }
+        ensures left { IfSome result (λ s. self.new ≡ record self.old { stage = Stage.ToOpen }) }
+        ensures same { IfNone result (self.new ≡ self.old) }
+    {
+        match mem::replace(&mut self.stage, Stage::ToOpen) {
+            Stage::Updating(staged) => Some(staged),
+            other => {
+                self.stage = other;
+                None
+            }
+        }
+    }
+
+    // What a call made of the root stands in memory, and is answered. Where it did not end, all sessions end.
+    pub(crate) fn settle(&mut self, made: Result<Outcome, Stop>) -> Result<Reply, Stop>
+        requires room { length self.old.slots.open.items ≡ 16 }
+        ensures { Settles made self.old self.new result }
+    {
+        match made {
+            Ok(Outcome { root, refused }) => {
+                self.stage = Stage::AtRest(root);
+                Ok(match refused {
+                    None => self.reply(Answer::Done),
+                    Some(error) => self.refuse(error),
+                })
+            }
+            Err(stop) => {
+                self.slots.clear();
+                Err(stop)
+            }
+        }
+    }
+
+    // An answer without a report.
+    pub(crate) fn reply(&self, answer: Answer) -> Reply
+        ensures { result ≡ reply_with answer }
+    {
+        Reply {
+            reports: Sequence::new(Vec::new(self.alloc)),
+            answer,
+        }
+    }
+
+    // The call is refused.
+    pub(crate) fn refuse(&self, error: PerError) -> Reply
+        ensures { result ≡ reply_with (Answer.Error error) }
+    {
+        self.reply(Answer::Error(error))
+    }
+}
