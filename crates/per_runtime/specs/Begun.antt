@@ -1,0 +1,39 @@
+-- The start on its way: the roots below some number are opened.
+use Rattle.std.specs.Prelude.{◌≡◌, ℕ, List, length, replicate, Bool, false, IsTrue, Some, Result, Ok, Err, Vec, slice_get, ⊤}
+use Rattle.std.specs.declared.alloc.Global.{Global}
+use Rattle.per_base.specs.Causes.{Rose}
+use Rattle.disk_model.specs.Medium.{Medium, Quiet, Elapses}
+use Rattle.deploy.specs.declared.errors.Stop.{Stop}
+use Rattle.deploy.specs.declared.errors.Stop.TheVariants.{Device, OutOfMemory}
+use Rattle.run_model.specs.Runtimes.{StartKeeps}
+use Rattle.run_model.specs.Runtimes as memory
+use Rattle.run_model.specs.Starting.{Opened}
+use Rattle.run_model.specs.Worlds.{at_rest, none_open}
+use Rattle.app_runtime.specs.declared.running.Running.{Running}
+use Rattle.app_runtime.specs.Running.{IsRunning, running_in}
+
+-- nothing is going on, and nothing is open
+abbrev pub idle : memory.Running
+idle = record { stage = at_rest; sessions = none_open }
+
+-- the memory of a runtime that started
+abbrev pub fresh : memory.Memory
+fresh = record { now = 0; apps = replicate 8 idle; in_doubt = false }
+
+pub record AreOpened (told : Bool) (count : ℕ) (apps : List Running) (old now : Medium) : Type 0 where
+  pub many : length apps ≡ count
+  pub each : (app : ℕ) (a : Running) → slice_get apps app ≡ Some a → (a.app ≡ app) × IsRunning told now.image a × (running_in a ≡ idle)
+  pub opened : IsTrue told → Opened count old now
+  pub quiet : Quiet now
+  pub time : Elapses old now
+
+-- by how the start ends
+abbrev pub HasBegun : (told : Bool) → (old new : Medium) → Result (Vec Running Global) Stop → Type 0
+HasBegun told old new (Ok apps) = AreOpened told 8 apps.items old new
+HasBegun told old new (Err Device) = Rose old.faults new.faults
+HasBegun told old new (Err OutOfMemory) = ⊤
+
+pub record IsBegun (told : Bool) (old new : Medium) (result : Result (Vec Running Global) Stop) : Type 0 where
+  pub end : HasBegun told old new result
+  pub keeps : IsTrue told → StartKeeps old new
+  pub time : Elapses old new

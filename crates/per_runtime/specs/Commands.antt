@@ -1,0 +1,37 @@
+-- A command of the runtime: what it promises, by how it ends.
+use Rattle.std.specs.Prelude.{◌≡◌, ℕ, List, Bool, true, IsTrue, Option, Some, None, Result, slice_get}
+use Rattle.disk_model.specs.Image.{Image}
+use Rattle.disk_model.specs.Medium.{Medium, Elapses}
+use Rattle.migrate_fns.specs.Rules.{Rule, Answers}
+use Rattle.command_text.specs.declared.calls.Call.{Call}
+use Rattle.command_text.specs.declared.calls.Event.{Event}
+use Rattle.command_text.specs.declared.replies.Reply.{Reply}
+use Rattle.command_text.specs.Replies.{HasText}
+use Rattle.deploy.specs.declared.errors.Stop.{Stop}
+use Rattle.run_model.specs.Worlds.{Doubt}
+use Rattle.run_model.specs.Steps.{calls_device}
+use Rattle.run_model.specs.Runtimes.{IsDoubt, Stepped, Stopped, calls_none, world_of}
+use Rattle.run_model.specs.Turns.{IsBlamed}
+use Rattle.app_runtime.specs.declared.running.Running.{Running}
+use Rattle.app_runtime.specs.Running.{application}
+use Rattle.per_runtime.specs.declared.runtime.Runtime.{Runtime}
+use Rattle.per_runtime.specs.Handled.{IfEnded}
+use Rattle.per_runtime.specs.Memories.{IsRuntime, memory_of}
+
+-- whether a call of the application with this number calls the device
+abbrev pub CallsDevice : (told : Bool) → Image → Runtime → ℕ → Call → Bool → Type 0
+CallsDevice told image r app c calls = IsTrue told → (a : Running) → slice_get r.apps.items app ≡ Some a → calls_device (application image a) c ≡ calls
+
+pub record IsReplied (told : Bool) (rules : List Rule) (answers : Answers) (e : Event) (r r' : Runtime) (old new : Medium) (reply : Reply) : Type 0 where
+  pub memory : IsRuntime told new r'
+  pub text : HasText reply.answer
+  pub blamed : IsBlamed old.faults new.faults reply
+  pub stepped : IsTrue told → (doubt : Option Doubt) → IsDoubt (memory_of r) doubt
+      → Stepped rules answers e reply (memory_of r) (memory_of r') doubt old new
+
+-- `Untouched` says that the disk is as it was
+pub record IsCommand (told : Bool) (rules : List Rule) (answers : Answers) (e : Event) (r r' : Runtime) (Untouched : Type 0) (old new : Medium) (result : Result Reply Stop) : Type 0 where
+  pub end : IfEnded result (IsReplied told rules answers e r r' old new) ⊥
+      (IsTrue told → (doubt : Option Doubt) → IsDoubt (memory_of r) doubt → Stopped rules answers e (memory_of r) doubt old new)
+  pub idle : IsTrue told → calls_none (world_of old.image (memory_of r) None) e ≡ true → Untouched
+  pub time : Elapses old new

@@ -1,0 +1,72 @@
+-- A call of one application, whose root is opened first where it is marked: what it promises, by how it ends.
+use Rattle.std.specs.Prelude.{◌≡◌, ◌≢◌, ◌⊎◌, ℕ, List, Bool, true, false, IsTrue, Some, Result, Ok, Err}
+use Rattle.per_base.specs.Causes.{Rose}
+use Rattle.per_base.specs.declared.errors.PerError.TheVariants as error
+use Rattle.disk_model.specs.Medium.{Medium, Quiet, Elapses}
+use Rattle.migrate_fns.specs.Rules.{Rule, Answers}
+use Rattle.command_text.specs.declared.calls.Call.{Call}
+use Rattle.command_text.specs.declared.replies.Answer.TheVariants as answer
+use Rattle.command_text.specs.declared.replies.Reply.{Reply}
+use Rattle.command_text.specs.Replies.{HasText}
+use Rattle.deploy.specs.declared.errors.Stop.{Stop}
+use Rattle.deploy.specs.declared.errors.Stop.TheVariants.{Device, OutOfMemory}
+use Rattle.deploy_laws.specs.Apps.{App, app_at, IsCleanApp}
+use Rattle.deploy_laws.specs.Stands.{IsLater}
+use Rattle.run_model.specs.Worlds.{Application, is_to_open}
+use Rattle.run_model.specs.Sessions.{Session}
+use Rattle.run_model.specs.Found.{Found}
+use Rattle.run_model.specs.Calls.{Outcome, session_at}
+use Rattle.run_model.specs.Steps.{AppStep, FailsAs, calls_device, found_named}
+use Rattle.run_model.specs.Runtimes.{IsUnwritten, WritesWithin, is_refusal, is_durable}
+use Rattle.app_storages.specs.Answers.{CallsTo}
+use Rattle.app_runtime.specs.declared.running.Running.{Running}
+use Rattle.app_runtime.specs.Running.{IsRunning, application, stage_in}
+
+-- by how a call ends: answered, failed at the device, or out of memory
+abbrev pub IfEnded : Result Reply Stop → (answered : Reply → Type 0) → (failed stopped : Type 0) → Type 0
+IfEnded (Ok reply) answered failed stopped = answered reply
+IfEnded (Err Device) answered failed stopped = failed
+IfEnded (Err OutOfMemory) answered failed stopped = stopped
+
+-- the application is as the step leads to
+pub record IsDone (rules : List Rule) (answers : Answers) (app now : ℕ) (c : Call) (before after : Application) (reply : Reply) (old new : Medium) : Type 0 where
+  pub step : AppStep rules answers app now before c (reply, after)
+  pub later : IsLater before.disk after.disk
+  pub calls : CallsTo app (app_at new.image app) old new
+  pub clean : IsCleanApp app old.image → IsCleanApp app new.image
+
+-- what lies on the disk after a call that is in progress: what its step leads to, or what lay there before
+abbrev pub IsLedTo : List Rule → Answers → (app now : ℕ) → Call → (before : Application) → App → Type 0
+IsLedTo rules answers app now c before next = (next ≡ before.disk) ⊎ ((outcome : Outcome) × AppStep rules answers app now before c outcome × (next ≡ outcome.1.disk))
+
+pub record IsInProgress (rules : List Rule) (answers : Answers) (app now : ℕ) (c : Call) (before : Application) (old new : Medium) : Type 0 where
+  pub next : App
+  pub leads : IsLedTo rules answers app now c before next
+  pub later : IsLater before.disk next
+  pub calls : CallsTo app next old new
+
+pub record IsAnswered (told : Bool) (rules : List Rule) (answers : Answers) (now : ℕ) (c : Call) (a a' : Running) (old new : Medium) (reply : Reply) : Type 0 where
+  pub app : a'.app ≡ a.app
+  pub memory : IsRunning told new.image a'
+  pub text : HasText reply.answer
+  pub unfailed : reply.answer ≢ answer.Error error.PhysicalStorageFailure
+  pub quiet : Quiet old → Quiet new
+  pub unwritten : is_refusal reply.answer ≡ true → is_to_open (stage_in a.stage) ≡ false → IsUnwritten old new
+  pub done : IsTrue told → IsDone rules answers a.app now c (application old.image a) (application new.image a') reply old new
+
+pub record IsFailed (told : Bool) (rules : List Rule) (answers : Answers) (now : ℕ) (c : Call) (a a' : Running) (old new : Medium) : Type 0 where
+  pub app : a'.app ≡ a.app
+  pub memory : IsRunning told new.image a'
+  pub cause : Rose old.faults new.faults
+  pub fails : IsTrue told → FailsAs a.app now (app_at new.image a.app) (application old.image a) c (application new.image a')
+  pub progress : IsTrue told → IsInProgress rules answers a.app now c (application old.image a) old new
+
+-- `Untouched` says that the disk is as it was
+pub record IsHandled (told : Bool) (rules : List Rule) (answers : Answers) (now : ℕ) (c : Call) (a a' : Running) (Untouched : Type 0) (old new : Medium) (result : Result Reply Stop) : Type 0 where
+  pub end : IfEnded result (IsAnswered told rules answers now c a a' old new) (IsFailed told rules answers now c a a' old new)
+      (IsTrue told → IsInProgress rules answers a.app now c (application old.image a) old new)
+  -- a call that needs no device calls none
+  pub idle : IsTrue told → calls_device (application old.image a) c ≡ false → Untouched
+  pub written : IsTrue told → is_durable c ≡ true → (f : Found) (s : Session) → found_named (application old.image a) c ≡ Some (Ok f)
+      → session_at (application old.image a) f.number ≡ Some s → WritesWithin a.app f s old new
+  pub time : Elapses old new

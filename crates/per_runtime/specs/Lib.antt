@@ -1,0 +1,4 @@
+pub mod Memories
+pub mod Begun
+pub mod Handled
+pub mod Commands

@@ -1,0 +1,203 @@
+//! The runtime and its commands.
+
+ghost use Rattle.std.specs.Prelude.{◌≡◌, ◌<◌, [], IfOk, IsErrOf, IsTrue, None, OnErr, Option, true, false};
+ghost use Rattle.disk_model.specs.Medium.{Elapses};
+ghost use Rattle.migrate_fns.specs.Stored.{answers_of, rules_of};
+ghost use Rattle.command_text.specs.Grammar.{IsEvent};
+ghost use Rattle.command_text.specs.Replies.{HasText};
+ghost use Rattle.run_model.specs.Runtimes.{IsDoubt, Stepped, Stopped, calls_none, world_of};
+ghost use Rattle.run_model.specs.Steps.{failure};
+ghost use Rattle.run_model.specs.Turns.{IsBlamed};
+ghost use Rattle.run_model.specs.Worlds.{Doubt};
+ghost use Rattle.per_runtime.specs.Commands.{CallsDevice, IsCommand};
+ghost use Rattle.per_runtime.specs.Memories.{IsRuntime, memory_of};
+
+use crate::calls::answer;
+use app_runtime::{Running, running_is_application, running_stays};
+use command_text::{Answer, Call, Event, Reply};
+use deploy::Stop;
+use disk_model::Disk;
+use migrate_fns::Migrations;
+use per_base::{PerError, Sequence};
+use run_model::applications_stand;
+use std::alloc::Global;
+
+/// Eight applications in memory, the moment, and whether a command failed at the device since the last sync.
+#[derive(Drop)]
+pub struct Runtime {
+    pub(crate) alloc: Global,
+    /// The moment, in seconds.
+    pub(crate) now: u64,
+    pub(crate) in_doubt: bool,
+    /// Each under its number.
+    pub(crate) apps: Vec<Running>,
+}
+
+impl Runtime {
+    /// Answers one event. Where the device fails, the answer is `PhysicalStorageFailure`, without a report, and the runtime is in doubt
+    /// until the disk is synchronised: the next call that needs the device begins with a sync.
+    ///
+    /// # Errors
+    ///
+    /// `OutOfMemory`, and no other: the command is in progress, and the runtime is of no more use.
+    pub fn step<D: Disk>(
+        &mut self,
+        disk: &mut D,
+        migrations: &Migrations,
+        event: &Event,
+    ) -> Result<Reply, Stop>
+        requires event { IsEvent event.now }
+        requires memory { IsRuntime D.told (D.medium disk.old) self.old }
+
+        ensures memory { IfOk result (λ reply. IsRuntime D.told (D.medium disk.new) self.new) }
+        ensures text { IfOk result (λ reply. HasText reply.answer) }
+        ensures stepped { IsTrue D.told → IfOk result (λ reply. (doubt : Option Doubt) → IsDoubt (memory_of self.old) doubt
+            → Stepped (rules_of migrations.now) (answers_of migrations.now) event.now reply (memory_of self.old) (memory_of self.new) doubt
+            (D.medium disk.old) (D.medium disk.new)) }
+        ensures stopped { IsTrue D.told → OnErr result ((doubt : Option Doubt) → IsDoubt (memory_of self.old) doubt
+            → Stopped (rules_of migrations.now) (answers_of migrations.now) event.now (memory_of self.old) doubt
+            (D.medium disk.old) (D.medium disk.new)) }
+
+        // A command that calls no device leaves the disk alone.
+        ensures idle { IsTrue D.told → calls_none (world_of (D.medium disk.old).image (memory_of self.old) None) event.now ≡ true → disk.new ≡ disk.old }
+
+        // The device's failure is a reply, and has its cause in this command, whatever the disk tells.
+        ensures never { IsErrOf result Stop.Device → ⊥ }
+        ensures blamed { IfOk result (IsBlamed (D.medium disk.old).faults (D.medium disk.new).faults) }
+        ensures time { Elapses (D.medium disk.old) (D.medium disk.new) }
+    {
+        self.command(disk, migrations, event)
+    }
+
+    // Sets the moment, or hands the call to its application.
+    fn command<D: Disk>(
+        &mut self,
+        disk: &mut D,
+        migrations: &Migrations,
+        event: &Event,
+    ) -> Result<Reply, Stop>
+        requires event { IsEvent event.now }
+        requires memory { IsRuntime D.told (D.medium disk.old) self.old }
+        ensures { IsCommand D.told (rules_of migrations.now) (answers_of migrations.now) event.now self.old self.new
+            (disk.new ≡ disk.old) (D.medium disk.old) (D.medium disk.new) result }
+    {
+        applications_stand();
+        running_is_application();
+        match event {
+            Event::Now(moment) => {
+                self.now = *moment;
+                Ok(reply_of(self.alloc, Answer::Done))
+            }
+            Event::App(app, call) => self.call(disk, migrations, usize::from(*app), call),
+        }
+    }
+
+    // Answers a call of the application with this number.
+    fn call<D: Disk>(
+        &mut self,
+        disk: &mut D,
+        migrations: &Migrations,
+        app: usize,
+        call: &Call,
+    ) -> Result<Reply, Stop>
+        requires app { app < 8 }
+        requires memory { IsRuntime D.told (D.medium disk.old) self.old }
+        ensures { IsCommand D.told (rules_of migrations.now) (answers_of migrations.now) (Event.App app call.now) self.old self.new
+            (disk.new ≡ disk.old) (D.medium disk.old) (D.medium disk.new) result }
+    {
+        if self.apps[app].calls_device(disk, call) {
+            self.call_device(disk, migrations, app, call)
+        } else {
+            self.hand(disk, migrations, app, call)
+        }
+    }
+
+    // Answers a call that calls the device, in a doubt behind a sync.
+    fn call_device<D: Disk>(
+        &mut self,
+        disk: &mut D,
+        migrations: &Migrations,
+        app: usize,
+        call: &Call,
+    ) -> Result<Reply, Stop>
+        requires app { app < 8 }
+        requires memory { IsRuntime D.told (D.medium disk.old) self.old }
+        requires device { CallsDevice D.told (D.medium disk.old).image self.old app call.now true }
+        ensures { IsCommand D.told (rules_of migrations.now) (answers_of migrations.now) (Event.App app call.now) self.old self.new
+            (disk.new ≡ disk.old) (D.medium disk.old) (D.medium disk.new) result }
+    {
+        if self.in_doubt {
+            self.end_doubt(disk, migrations, app, call)
+        } else {
+            self.hand(disk, migrations, app, call)
+        }
+    }
+
+    // Ends the doubt by a sync, and then answers the call. Where the sync fails nothing changes.
+    fn end_doubt<D: Disk>(
+        &mut self,
+        disk: &mut D,
+        migrations: &Migrations,
+        app: usize,
+        call: &Call,
+    ) -> Result<Reply, Stop>
+        requires app { app < 8 }
+        requires memory { IsRuntime D.told (D.medium disk.old) self.old }
+        requires device { CallsDevice D.told (D.medium disk.old).image self.old app call.now true }
+        requires doubt { self.old.in_doubt ≡ true }
+        ensures { IsCommand D.told (rules_of migrations.now) (answers_of migrations.now) (Event.App app call.now) self.old self.new
+            (disk.new ≡ disk.old) (D.medium disk.old) (D.medium disk.new) result }
+    {
+        running_is_application();
+        if disk.sync().is_err() {
+            return Ok(failed_reply(self.alloc));
+        }
+        self.in_doubt = false;
+        self.hand(disk, migrations, app, call)
+    }
+
+    // Hands a call to its application. Where the device fails, what it did is in doubt.
+    fn hand<D: Disk>(
+        &mut self,
+        disk: &mut D,
+        migrations: &Migrations,
+        app: usize,
+        call: &Call,
+    ) -> Result<Reply, Stop>
+        requires app { app < 8 }
+        requires memory { IsRuntime D.told (D.medium disk.old) self.old }
+        requires sure { self.old.in_doubt ≡ true → CallsDevice D.told (D.medium disk.old).image self.old app call.now false }
+        ensures { IsCommand D.told (rules_of migrations.now) (answers_of migrations.now) (Event.App app call.now) self.old self.new
+            (disk.new ≡ disk.old) (D.medium disk.old) (D.medium disk.new) result }
+    {
+        applications_stand();
+        running_is_application();
+        running_stays();
+        let now = self.now;
+        match answer(&mut self.apps[app], disk, migrations, now, call) {
+            Ok(reply) => Ok(reply),
+            Err(Stop::Device) => {
+                self.in_doubt = true;
+                Ok(failed_reply(self.alloc))
+            }
+            Err(Stop::OutOfMemory) => Err(Stop::OutOfMemory),
+        }
+    }
+}
+
+// An answer without reports. Takes no memory.
+fn reply_of(alloc: Global, answer: Answer) -> Reply
+    ensures { result ≡ record { reports = []; answer = answer } }
+{
+    Reply {
+        reports: Sequence::new(Vec::new(alloc)),
+        answer,
+    }
+}
+
+// The answer where the device failed.
+fn failed_reply(alloc: Global) -> Reply
+    ensures { result ≡ failure }
+{
+    reply_of(alloc, Answer::Error(PerError::PhysicalStorageFailure))
+}
