@@ -1,160 +1,274 @@
 -- What was handled stays handled, and how a run ends behind it.
-use Rattle.std.proofs.Common.{ℕ, List, [], ◌∷◌, ◌++◌, length, take, ◌≡◌, ◌<◌, ◌+◌, ◌⊎◌, inl, inr, refl, sym, ◌∙◌, ap, subst, Option, Bool, IsTrue, append-nil, append_assoc, codes}
-use Rattle.std.proofs.KnownBytes.{Appends-trans}
+use Rattle.std.proofs.Common.{ℕ, List, [], ◌∷◌, ◌++◌, length, take, ◌≡◌, ◌≤◌, ◌<◌, ◌+◌, ◌⊎◌, inl, inr, refl, sym, ap, subst, le_trans, Option, Bool, IsTrue, Err, append-nil, append_assoc, codes}
+use Rattle.std.proofs.KnownBytes.{Appends-nil, Appends-trans}
 use Rattle.std.specs.Io.KnownBytes.{Appends}
-use Rattle.per_run.specs.declared.lines.Command.{Command}
-use Rattle.per_run.specs.declared.lines.Line.{Line}
-use Rattle.per_run.specs.declared.lines.Line.TheVariants as line
-use Rattle.per_run.specs.declared.replies.Answer.{Answer}
+use Rattle.disk_model.specs.Medium.{Medium, IsLawful, Elapses}
+use Rattle.migrate_fns.specs.Rules.{Rule, Answers}
+use Rattle.command_text.specs.declared.lines.Line.TheVariants as line
+use Rattle.command_text.specs.declared.replies.Reply.{Reply}
+use Rattle.command_text.specs.Grammar.{IsLine}
+use Rattle.command_text.specs.Replies.{reply_text}
+use Rattle.run_model.specs.AppLaws.{AppLaws}
+use Rattle.run_model.specs.Endings as endings
+use Rattle.run_model.specs.Endings.{HasStarted, InReply, bad_line_text}
+use Rattle.run_model.specs.Lines.{IsBad}
+use Rattle.run_model.specs.RunLaws.{ends_disk, stops_disk}
+use Rattle.run_model.specs.Runs.{DiskSide}
+use Rattle.run_model.specs.Runtimes.{Memory}
+use Rattle.run_model.specs.Turns.{Turn, events_of, AreBlamed}
+use Rattle.run_model.specs.Worlds.{World}
 use Rattle.per_run.specs.declared.endings.Ending.{Ending}
-use Rattle.per_run.specs.declared.endings.Ending.TheVariants.{AllRead, EndLine, BadLine, Device, OutOfMemory, Source, Sink, TooLong}
-use Rattle.per_run.specs.declared.session.Session.{Session}
-use Rattle.per_run.specs.Lines.{Give, IsLine, IsBad}
-use Rattle.per_run.specs.States.{State, Holds, after, after_all, answer_of}
-use Rattle.per_run.specs.Replies.{replies, answer_text, bad_line_text}
-use Rattle.per_run.specs.Runs.{Course}
-use Rattle.per_run.specs.Steps.{Handled, Shows}
-use Rattle.per_run.proofs.Commands.{give_nothing, give_command, after_all-more, replies-more}
+use Rattle.per_run.specs.declared.endings.Ending.TheVariants.{AllRead, EndLine, BadLine, OutOfMemory, Source, Sink, TooLong}
+use Rattle.per_run.specs.Jobs.{IsFront}
+use Rattle.per_run.specs.Steps.{Goes, IsGoing, Handled, Course, IsAnswered, IsStopped, Puts, Refuses, ending_of}
+use Rattle.per_run.proofs.Gives.{front_says, give_nothing, give_turn, has_end, text_on}
+use Rattle.per_run.proofs.Goes.{goes_on, turn}
 
--- ---- one more line is handled
-
-pub handled_nothing : (told : Bool) (start : State) (before : Option (List ℕ)) (lines : List (List ℕ)) (now : Option (List ℕ)) (file : List ℕ) (session : Session) (text : List ℕ)
-    → Handled told start before lines now file session → IsLine text line.Nothing → Handled told start before (lines ++ text ∷ []) now file session
-handled_nothing told start before lines now file session text handled is = record {
-  commands = handled.commands;
-  gives = give_nothing lines handled.commands text handled.gives is;
-  shows = handled.shows;
-  holds = handled.holds;
-  wrote = handled.wrote;
+-- what the front of a line gave is what the line gave
+pub answered_front : {told : Bool} {rules : List Rule} {answers : Answers} {text : List ℕ} {memory after : Memory} {reply : Reply} {old new : Medium} (whole : List ℕ)
+    → text ≡ take 262145 whole → IsAnswered told rules answers text memory after reply old new → IsAnswered told rules answers whole memory after reply old new
+answered_front whole front a = record {
+  event = a.event;
+  spelled = front_says _ whole (line.Event a.event) front a.spelled;
+  has_text = a.has_text;
+  blamed = a.blamed;
+  stepped = a.stepped;
 }
 
--- the replies, and one more
-replies_then : (start : State) (commands : List Command) (command : Command) (before now later : Option (List ℕ))
-    → Appends before now (replies start commands) → Appends now later (answer_text (answer_of (after_all start commands) command)) → Appends before later (replies start (commands ++ command ∷ []))
-replies_then start commands command before now later wrote more =
-    subst (Appends before later) (sym (replies-more start commands command)) (Appends-trans before now later _ _ wrote more)
+pub stopped_front : {told : Bool} {rules : List Rule} {answers : Answers} {text : List ℕ} {memory : Memory} {old new : Medium} (whole : List ℕ)
+    → text ≡ take 262145 whole → IsStopped told rules answers text memory old new → IsStopped told rules answers whole memory old new
+stopped_front whole front s = record { event = s.event; spelled = front_says _ whole (line.Event s.event) front s.spelled; stopped = s.stopped }
 
-pub handled_command : (told : Bool) (start : State) (before : Option (List ℕ)) (lines : List (List ℕ)) (now later : Option (List ℕ)) (file file_later : List ℕ) (session session_later : Session) (text : List ℕ) (command : Command) (answer : Answer)
-    → (handled : Handled told start before lines now file session) → IsLine text (line.Command command)
-    → ((state : State) → Shows session state → answer ≡ answer_of state command)
-    → ((state : State) → Shows session state → Shows session_later (after state command))
-    → ((state : State) → Shows session state → (IsTrue told → Holds file state) → IsTrue told → Holds file_later (after state command))
-    → Appends now later (answer_text answer)
-    → Handled told start before (lines ++ text ∷ []) later file_later session_later
-handled_command told start before lines now later file file_later session session_later text command answer handled is answers shows holds wrote = record {
-  commands = handled.commands ++ command ∷ [];
-  gives = give_command lines handled.commands text command handled.gives is;
-  shows = subst (Shows session_later) (sym (after_all-more start handled.commands command)) (shows _ handled.shows);
-  holds = λ tells. subst (Holds file_later) (sym (after_all-more start handled.commands command)) (holds _ handled.shows handled.holds tells);
-  wrote = replies_then start handled.commands command before now later handled.wrote (subst (λ (a : Answer). Appends now later (answer_text a)) (answers _ handled.shows) wrote);
-}
+-- causes stay causes while the count goes on
+pub blamed_later : (before : ℕ) (ts : List Turn) (after later : ℕ) → after ≤ later → AreBlamed before ts after → AreBlamed before ts later
+blamed_later before [] after later le blamed = le_trans blamed le
+blamed_later before (t ∷ ts) after later le blamed = (blamed.0, blamed_later t.faults ts after later le blamed.1)
 
--- ---- how a run ends
+module _ (told : Bool) (rules : List Rule) (answers : Answers) (start : Medium) (before : Option (List ℕ)) where
+  -- ---- one more line is handled
 
-pub course_end : (told : Bool) (start : State) (before : Option (List ℕ)) (lines others : List (List ℕ)) (now : Option (List ℕ)) (file : List ℕ) (session : Session) (text : List ℕ)
-    → Handled told start before lines now file session → text ≡ codes "end" → Course told EndLine start (lines ++ text ∷ others) before now file
-course_end told start before lines others now file session text handled is = record {
-  lines = lines;
-  commands = handled.commands;
-  gives = handled.gives;
-  ends = record { others = others; next = ap (λ (t : List ℕ). lines ++ t ∷ others) is; wrote = handled.wrote };
-  stays = λ _ tells. handled.holds tells;
-}
+  pub handled_nothing : {D : Type 0} (medium : D → Medium) (lines : List (List ℕ)) (now : Option (List ℕ)) (memory later : Memory) (old new : D) (text : List ℕ)
+      → Handled told rules answers start before lines now memory (medium old) → IsLine text line.Nothing → later ≡ memory → new ≡ old
+      → Handled told rules answers start before (lines ++ text ∷ []) now later (medium new)
+  handled_nothing {D} medium lines now memory later old new text handled is same_memory same_disk =
+      subst (λ (d : D). Handled told rules answers start before (lines ++ text ∷ []) now later (medium d)) (sym same_disk)
+      (subst (λ (m : Memory). Handled told rules answers start before (lines ++ text ∷ []) now m (medium old)) (sym same_memory) (record {
+        turns = handled.turns;
+        gives = give_nothing lines (events_of handled.turns) text handled.gives is;
+        wrote = handled.wrote;
+        goes = handled.goes;
+      }))
 
-pub course_bad : (told : Bool) (start : State) (before : Option (List ℕ)) (lines others : List (List ℕ)) (now later : Option (List ℕ)) (file : List ℕ) (session : Session) (text : List ℕ) (number : ℕ)
-    → Handled told start before lines now file session → IsBad text → number ≡ length lines + 1 → Appends now later (bad_line_text number) → Course told BadLine start (lines ++ text ∷ others) before later file
-course_bad told start before lines others now later file session text number handled bad is wrote = record {
-  lines = lines;
-  commands = handled.commands;
-  gives = handled.gives;
-  ends = record { text = text; others = others; next = refl; bad = bad; wrote = Appends-trans before now later _ _ handled.wrote (subst (λ (n : ℕ). Appends now later (bad_line_text n)) is wrote) };
-  stays = λ _ tells. handled.holds tells;
-}
+  pub handled_reply : (lines : List (List ℕ)) (now later : Option (List ℕ)) (memory after : Memory) (old new : Medium) (text : List ℕ) (reply : Reply) → IsLawful told new → Elapses old new
+      → Handled told rules answers start before lines now memory old → IsAnswered told rules answers text memory after reply old new → Appends now later (reply_text reply)
+      → Handled told rules answers start before (lines ++ text ∷ []) later after new
+  handled_reply lines now later memory after old new text reply lawful time handled a wrote =
+      let more : (w : World) × Goes told rules answers start (handled.turns ++ turn a.event reply new.faults w ∷ []) after new =
+      goes_on rules answers start told handled.turns a.event reply memory after old new lawful time handled.goes a.blamed a.stepped in
+      let t : Turn = turn a.event reply new.faults more.0 in
+      record {
+        turns = handled.turns ++ t ∷ [];
+        gives = give_turn lines handled.turns text t handled.gives a.spelled;
+        wrote = subst (Appends before later) (sym (text_on handled.turns t)) (Appends-trans before now later _ _ handled.wrote wrote);
+        goes = more.1;
+      }
 
-pub course_in_bad : (told : Bool) (start : State) (before : Option (List ℕ)) (lines others : List (List ℕ)) (now later : Option (List ℕ)) (file : List ℕ) (session : Session) (text : List ℕ) (number : ℕ)
-    → Handled told start before lines now file session → IsBad text → number ≡ length lines + 1
-    → (count : ℕ) × (count < length (bad_line_text number)) × Appends now later (take count (bad_line_text number)) → Course told Sink start (lines ++ text ∷ others) before later file
-course_in_bad told start before lines others now later file session text number handled bad is cut =
-    let here : (count : ℕ) × (count < length (bad_line_text (length lines + 1))) × Appends now later (take count (bad_line_text (length lines + 1))) =
-    subst (λ (n : ℕ). (count : ℕ) × (count < length (bad_line_text n)) × Appends now later (take count (bad_line_text n))) is cut in
-    record {
-      lines = lines;
-      commands = handled.commands;
-      gives = handled.gives;
-      ends = inr (record { text = text; others = others; next = refl; bad = bad; count = here.0; short = here.1; wrote = Appends-trans before now later _ _ handled.wrote here.2 });
-      stays = λ _ tells. handled.holds tells;
-    }
+  -- ---- what is promised of the disk where every command has ended
 
-pub course_device : (told : Bool) (start : State) (before : Option (List ℕ)) (lines others : List (List ℕ)) (now later : Option (List ℕ)) (file file_later : List ℕ) (session : Session)
-    → Handled told start before lines now file session → Appends now later [] → Course told Device start (lines ++ others) before later file_later
-course_device told start before lines others now later file file_later session handled same = record {
-  lines = lines;
-  commands = handled.commands;
-  gives = handled.gives;
-  ends = record { others = others; next = refl; wrote = subst (Appends before later) (append-nil _) (Appends-trans before now later _ _ handled.wrote same) };
-  stays = λ settled tells. absurd settled;
-}
+  pub rests : AppLaws → (ending : endings.Ending) → HasStarted ending → (lines all : List (List ℕ)) (turns : List Turn) (later : Option (List ℕ)) (memory : Memory) (now : Medium)
+      → Goes told rules answers start turns memory now → IsTrue told → DiskSide rules answers ending lines all turns before later start now
+  rests laws ending begun lines all turns later memory now goes tells =
+      let g : IsGoing rules answers start turns memory now = goes.disk tells in
+      ends_disk laws rules answers ending lines all turns before later memory g.0 start now begun g.2
 
-pub course_memory : (told : Bool) (start : State) (before : Option (List ℕ)) (lines others : List (List ℕ)) (now later : Option (List ℕ)) (file file_later : List ℕ) (session : Session)
-    → Handled told start before lines now file session → Appends now later [] → Course told OutOfMemory start (lines ++ others) before later file_later
-course_memory told start before lines others now later file file_later session handled same = record {
-  lines = lines;
-  commands = handled.commands;
-  gives = handled.gives;
-  ends = record { others = others; next = refl; wrote = subst (Appends before later) (append-nil _) (Appends-trans before now later _ _ handled.wrote same) };
-  stays = λ settled tells. absurd settled;
-}
+  -- ---- how a run ends at a line
 
-pub course_in_reply : (told : Bool) (start : State) (before : Option (List ℕ)) (lines others : List (List ℕ)) (now later : Option (List ℕ)) (file file_later : List ℕ) (session : Session) (text : List ℕ) (command : Command) (answer : Answer)
-    → (handled : Handled told start before lines now file session) → IsLine text (line.Command command)
-    → ((state : State) → Shows session state → answer ≡ answer_of state command)
-    → ((state : State) → Shows session state → (IsTrue told → Holds file state) → IsTrue told → Holds file_later (after state command))
-    → (count : ℕ) × (count < length (answer_text answer)) × Appends now later (take count (answer_text answer))
-    → Course told Sink start (lines ++ text ∷ others) before later file_later
-course_in_reply told start before lines others now later file file_later session text command answer handled is answers holds cut =
-    let given : answer ≡ answer_of (after_all start handled.commands) command = answers _ handled.shows in
-    let here : (count : ℕ) × (count < length (answer_text (answer_of (after_all start handled.commands) command))) × Appends now later (take count (answer_text (answer_of (after_all start handled.commands) command))) =
-    subst (λ (a : Answer). (count : ℕ) × (count < length (answer_text a)) × Appends now later (take count (answer_text a))) given cut in
-    record {
-      lines = lines ++ text ∷ [];
-      commands = handled.commands ++ command ∷ [];
-      gives = give_command lines handled.commands text command handled.gives is;
-      ends = inl (record { others = others; next = sym (append_assoc lines (text ∷ []) others); earlier = handled.commands; last = command; commands_are = refl; count = here.0; short = here.1; wrote = Appends-trans before now later _ _ handled.wrote here.2 });
-      stays = λ _ tells. subst (Holds file_later) (sym (after_all-more start handled.commands command)) (holds _ handled.shows handled.holds tells);
-    }
+  pub course_end : {D : Type 0} (medium : D → Medium) → AppLaws → (lines others : List (List ℕ)) (now : Option (List ℕ)) (memory : Memory) (old new : D) (text : List ℕ)
+      → Handled told rules answers start before lines now memory (medium old) → text ≡ codes "end" → new ≡ old
+      → Course told rules answers endings.end_line start before (lines ++ text ∷ others) now (medium new)
+  course_end {D} medium laws lines others now memory old new text handled is same = subst (λ (d : D). Course told rules answers endings.end_line start before (lines ++ text ∷ others) now (medium d)) (sym same) (record {
+    lines = lines;
+    turns = handled.turns;
+    gives = handled.gives;
+    ends = record { others = others; next = ap (λ (t : List ℕ). lines ++ t ∷ others) is; wrote = handled.wrote };
+    blamed = handled.goes.blamed;
+    disk = rests laws endings.end_line tt lines (lines ++ text ∷ others) handled.turns now memory (medium old) handled.goes;
+  })
 
--- nothing is left to handle
-pub course_read : (told : Bool) (start : State) (before : Option (List ℕ)) (lines all : List (List ℕ)) (now : Option (List ℕ)) (file : List ℕ) (session : Session)
-    → Handled told start before lines now file session → all ≡ lines → Course told AllRead start all before now file
-course_read told start before lines all now file session handled is = record {
-  lines = lines;
-  commands = handled.commands;
-  gives = handled.gives;
-  ends = record { next = is; wrote = handled.wrote };
-  stays = λ _ tells. handled.holds tells;
-}
+  course_bad : AppLaws → (lines others : List (List ℕ)) (now later : Option (List ℕ)) (memory : Memory) (medium : Medium) (text : List ℕ) (number : ℕ)
+      → Handled told rules answers start before lines now memory medium → IsBad text → number ≡ length lines + 1 → Appends now later (bad_line_text number)
+      → Course told rules answers endings.bad_line start before (lines ++ text ∷ others) later medium
+  course_bad laws lines others now later memory medium text number handled bad is wrote = record {
+    lines = lines;
+    turns = handled.turns;
+    gives = handled.gives;
+    ends = record {
+      text = text;
+      others = others;
+      next = refl;
+      bad = bad;
+      wrote = Appends-trans before now later _ _ handled.wrote (subst (λ (n : ℕ). Appends now later (bad_line_text n)) is wrote);
+    };
+    blamed = handled.goes.blamed;
+    disk = rests laws endings.bad_line tt lines (lines ++ text ∷ others) handled.turns later memory medium handled.goes;
+  }
 
-pub course_source : (told : Bool) (start : State) (before : Option (List ℕ)) (lines all : List (List ℕ)) (now : Option (List ℕ)) (file : List ℕ) (session : Session)
-    → Handled told start before lines now file session → all ≡ lines → Course told Source start all before now file
-course_source told start before lines all now file session handled is = record {
-  lines = lines;
-  commands = handled.commands;
-  gives = handled.gives;
-  ends = record { next = is; wrote = handled.wrote };
-  stays = λ _ tells. handled.holds tells;
-}
+  course_in_bad : AppLaws → (lines others : List (List ℕ)) (now later : Option (List ℕ)) (memory : Memory) (medium : Medium) (text : List ℕ) (number : ℕ)
+      → Handled told rules answers start before lines now memory medium → IsBad text → number ≡ length lines + 1 → IsFront now later (bad_line_text number)
+      → Course told rules answers endings.sink start before (lines ++ text ∷ others) later medium
+  course_in_bad laws lines others now later memory medium text number handled bad is cut =
+      let here : IsFront now later (bad_line_text (length lines + 1)) = subst (λ (n : ℕ). IsFront now later (bad_line_text n)) is cut in
+      record {
+        lines = lines;
+        turns = handled.turns;
+        gives = handled.gives;
+        ends = (here.0, inr (record { text = text; others = others; next = refl; bad = bad; short = here.1; wrote = Appends-trans before now later _ _ handled.wrote here.2 }));
+        blamed = handled.goes.blamed;
+        disk = rests laws endings.sink tt lines (lines ++ text ∷ others) handled.turns later memory medium handled.goes;
+      }
 
-pub course_long : (told : Bool) (start : State) (before : Option (List ℕ)) (lines all : List (List ℕ)) (now : Option (List ℕ)) (file : List ℕ) (session : Session)
-    → Handled told start before lines now file session → all ≡ lines → Course told TooLong start all before now file
-course_long told start before lines all now file session handled is = record {
-  lines = lines;
-  commands = handled.commands;
-  gives = handled.gives;
-  ends = record { next = is; wrote = handled.wrote };
-  stays = λ _ tells. handled.holds tells;
-}
+  -- memory ran out between commands
+  pub course_memory : AppLaws → (lines others : List (List ℕ)) (now later : Option (List ℕ)) (memory : Memory) (medium : Medium)
+      → Handled told rules answers start before lines now memory medium → Appends now later []
+      → Course told rules answers endings.memory start before (lines ++ others) later medium
+  course_memory laws lines others now later memory medium handled same = record {
+    lines = lines;
+    turns = handled.turns;
+    gives = handled.gives;
+    ends = inl (record { others = others; next = refl; wrote = subst (Appends before later) (append-nil _) (Appends-trans before now later _ _ handled.wrote same) });
+    blamed = handled.goes.blamed;
+    disk = rests laws endings.memory tt lines (lines ++ others) handled.turns later memory medium handled.goes;
+  }
 
--- the same lines under another name
-pub course_along : (told : Bool) (ending : Ending) (start : State) (before : Option (List ℕ)) (all same : List (List ℕ)) (now : Option (List ℕ)) (file : List ℕ)
-    → same ≡ all → Course told ending start all before now file → Course told ending start same before now file
-course_along told ending start before all same now file is course = subst (λ (l : List (List ℕ)). Course told ending start l before now file) (sym is) course
+  -- a line outside the grammar is answered, as far as the sink takes the answer
+  pub course_refused : {D : Type 0} (medium : D → Medium) → AppLaws → (ending : Ending) (lines others : List (List ℕ)) (now later : Option (List ℕ)) (memory : Memory) (old new : D)
+      (text : List ℕ) (number : ℕ) → Handled told rules answers start before lines now memory (medium old) → IsBad text → number ≡ length lines + 1
+      → Refuses (bad_line_text number) now later ending → new ≡ old → Course told rules answers (ending_of ending) start before (lines ++ text ∷ others) later (medium new)
+  course_refused {D} medium laws ending lines others now later memory old new text number handled bad is refuses same =
+      subst (λ (d : D). Course told rules answers (ending_of ending) start before (lines ++ text ∷ others) later (medium d)) (sym same) (go ending refuses)
+    where
+      go : (e : Ending) → Refuses (bad_line_text number) now later e → Course told rules answers (ending_of e) start before (lines ++ text ∷ others) later (medium old)
+      go AllRead r = absurd r
+      go EndLine r = absurd r
+      go BadLine r = course_bad laws lines others now later memory (medium old) text number handled bad is r
+      go OutOfMemory r = course_memory laws lines (text ∷ others) now later memory (medium old) handled r
+      go Source r = absurd r
+      go Sink r = course_in_bad laws lines others now later memory (medium old) text number handled bad is r
+      go TooLong r = absurd r
+
+  -- memory ran out in a command
+  pub course_stopped : (lines others : List (List ℕ)) (now : Option (List ℕ)) (memory : Memory) (old new : Medium) (text : List ℕ) → IsLawful told new → Elapses old new
+      → Handled told rules answers start before lines now memory old → IsStopped told rules answers text memory old new
+      → Course told rules answers endings.memory start before (lines ++ text ∷ others) now new
+  course_stopped lines others now memory old new text lawful time handled s = record {
+    lines = lines;
+    turns = handled.turns;
+    gives = handled.gives;
+    ends = inl (record { others = text ∷ others; next = refl; wrote = handled.wrote });
+    blamed = blamed_later start.faults handled.turns old.faults new.faults time.faults handled.goes.blamed;
+    disk = λ tells.
+        let g : IsGoing rules answers start handled.turns memory old = handled.goes.disk tells in
+        stops_disk rules answers endings.memory lines (lines ++ text ∷ others) others text handled.turns before now s.event memory g.0 told start old new lawful time tt (λ over. over)
+        handled.wrote refl s.spelled g.2 (s.stopped tells g.0 g.1);
+  }
+
+  -- memory ran out at a line: in reading it, or in its command
+  pub course_short : {D : Type 0} (medium : D → Medium) → AppLaws → (lines others : List (List ℕ)) (now : Option (List ℕ)) (memory : Memory) (old new : D) (text : List ℕ)
+      → IsLawful told (medium new) → Elapses (medium old) (medium new) → Handled told rules answers start before lines now memory (medium old)
+      → (new ≡ old) ⊎ IsStopped told rules answers text memory (medium old) (medium new)
+      → Course told rules answers endings.memory start before (lines ++ text ∷ others) now (medium new)
+  course_short {D} medium laws lines others now memory old new text lawful time handled (inl same) =
+      subst (λ (d : D). Course told rules answers endings.memory start before (lines ++ text ∷ others) now (medium d)) (sym same)
+      (course_memory laws lines (text ∷ others) now now memory (medium old) handled (Appends-nil now))
+  course_short {D} medium laws lines others now memory old new text lawful time handled (inr stopped) =
+      course_stopped lines others now memory (medium old) (medium new) text lawful time handled stopped
+
+  -- ---- how a run ends in a reply
+
+  -- so many bytes of the reply were written
+  in_reply : (count : ℕ) (lines others : List (List ℕ)) (now later : Option (List ℕ)) (memory : Memory) (medium : Medium) (text : List ℕ) (t : Turn)
+      → (handled : Handled told rules answers start before lines now memory medium) → count < length (reply_text t.reply) → Appends now later (take count (reply_text t.reply))
+      → InReply count (lines ++ text ∷ []) (lines ++ text ∷ others) (handled.turns ++ t ∷ []) before later
+  in_reply count lines others now later memory medium text t handled short wrote = record {
+    others = others;
+    next = sym (append_assoc lines (text ∷ []) others);
+    earlier = handled.turns;
+    last = t;
+    turns_are = refl;
+    short = short;
+    wrote = Appends-trans before now later _ _ handled.wrote wrote;
+  }
+
+  pub course_in_reply : AppLaws → (ending : Ending) (lines others : List (List ℕ)) (now later : Option (List ℕ)) (memory after : Memory) (old new : Medium) (text : List ℕ) (reply : Reply)
+      → IsLawful told new → Elapses old new → Handled told rules answers start before lines now memory old → IsAnswered told rules answers text memory after reply old new
+      → Puts {T = Unit {0}} (reply_text reply) now later (Err ending) → Course told rules answers (ending_of ending) start before (lines ++ text ∷ others) later new
+  course_in_reply laws ending lines others now later memory after old new text reply lawful time handled a puts = go ending puts
+    where
+      more : (w : World) × Goes told rules answers start (handled.turns ++ turn a.event reply new.faults w ∷ []) after new
+      more = goes_on rules answers start told handled.turns a.event reply memory after old new lawful time handled.goes a.blamed a.stepped
+
+      t : Turn
+      t = turn a.event reply new.faults more.0
+
+      go : (e : Ending) → Puts {T = Unit {0}} (reply_text reply) now later (Err e) → Course told rules answers (ending_of e) start before (lines ++ text ∷ others) later new
+      go AllRead p = absurd p
+      go EndLine p = absurd p
+      go BadLine p = absurd p
+      go OutOfMemory p = record {
+        lines = lines ++ text ∷ [];
+        turns = handled.turns ++ t ∷ [];
+        gives = give_turn lines handled.turns text t handled.gives a.spelled;
+        ends = inr (in_reply 0 lines others now later memory old text t handled (has_end reply) p);
+        blamed = more.1.blamed;
+        disk = rests laws endings.memory tt (lines ++ text ∷ []) (lines ++ text ∷ others) (handled.turns ++ t ∷ []) later after new more.1;
+      }
+      go Source p = absurd p
+      go Sink p = record {
+        lines = lines ++ text ∷ [];
+        turns = handled.turns ++ t ∷ [];
+        gives = give_turn lines handled.turns text t handled.gives a.spelled;
+        ends = (p.0, inl (in_reply p.0 lines others now later memory old text t handled p.1 p.2));
+        blamed = more.1.blamed;
+        disk = rests laws endings.sink tt (lines ++ text ∷ []) (lines ++ text ∷ others) (handled.turns ++ t ∷ []) later after new more.1;
+      }
+      go TooLong p = absurd p
+
+  -- ---- how a run ends behind all lines
+
+  pub course_read : AppLaws → (lines all : List (List ℕ)) (now : Option (List ℕ)) (memory : Memory) (medium : Medium) → Handled told rules answers start before lines now memory medium → all ≡ lines
+      → Course told rules answers endings.all_read start before all now medium
+  course_read laws lines all now memory medium handled is = record {
+    lines = lines;
+    turns = handled.turns;
+    gives = handled.gives;
+    ends = record { next = is; wrote = handled.wrote };
+    blamed = handled.goes.blamed;
+    disk = rests laws endings.all_read tt lines all handled.turns now memory medium handled.goes;
+  }
+
+  pub course_source : AppLaws → (lines all : List (List ℕ)) (now : Option (List ℕ)) (memory : Memory) (medium : Medium) → Handled told rules answers start before lines now memory medium → all ≡ lines
+      → Course told rules answers endings.source start before all now medium
+  course_source laws lines all now memory medium handled is = record {
+    lines = lines;
+    turns = handled.turns;
+    gives = handled.gives;
+    ends = record { next = is; wrote = handled.wrote };
+    blamed = handled.goes.blamed;
+    disk = rests laws endings.source tt lines all handled.turns now memory medium handled.goes;
+  }
+
+  pub course_long : AppLaws → (lines all : List (List ℕ)) (now : Option (List ℕ)) (memory : Memory) (medium : Medium) → Handled told rules answers start before lines now memory medium → all ≡ lines
+      → Course told rules answers endings.too_long start before all now medium
+  course_long laws lines all now memory medium handled is = record {
+    lines = lines;
+    turns = handled.turns;
+    gives = handled.gives;
+    ends = record { next = is; wrote = handled.wrote };
+    blamed = handled.goes.blamed;
+    disk = rests laws endings.too_long tt lines all handled.turns now memory medium handled.goes;
+  }
+
+  -- the same lines under another name
+  pub course_along : (ending : endings.Ending) (all same : List (List ℕ)) (now : Option (List ℕ)) (medium : Medium) → same ≡ all
+      → Course told rules answers ending start before all now medium → Course told rules answers ending start before same now medium
+  course_along ending all same now medium is course = subst (λ (l : List (List ℕ)). Course told rules answers ending start before l now medium) (sym is) course

@@ -1,11 +1,9 @@
 -- Lemmas on the lines of the input.
-use Rattle.std.proofs.Common.{ℕ, List, [], ◌∷◌, ◌++◌, length, Bool, true, false, cond, nat_eq, ◌≡◌, ◌≤◌, ◌+◌, refl, sym, ◌∙◌, ap, subst, arith, append_assoc, append-nil, length-append}
-use Rattle.std.specs.List.{AllByRecursion, flat_map, list_any}
-use Rattle.std.proofs.lemmas.Bool.Decides.{nat_tests}
+use Rattle.std.proofs.Common.{ℕ, List, [], ◌∷◌, ◌++◌, length, true, false, nat_eq, ◌≡◌, ◌≤◌, refl, ◌∙◌, ap, arith, append_assoc, append-nil, length-append}
+use Rattle.std.specs.List.{AllByRecursion, flat_map}
 use Rattle.std.proofs.lemmas.List.Concat.{flat_map-append}
 use Rattle.std.proofs.lemmas.List.Folds.{list_any-append}
-use Rattle.per_run.specs.Lines.{has_feed}
-use Rattle.per_run.specs.Runs.{split_lines, onto_first, last_line, lines_of}
+use Rattle.run_model.specs.Lines.{split_lines, last_line, lines_of}
 use Rattle.per_run.specs.Steps.{IsClean, with_feed}
 
 not_feed : (b : ℕ) (bytes : List ℕ) → IsClean (b ∷ bytes) → nat_eq b 10 ≡ false

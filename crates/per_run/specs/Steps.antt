@@ -1,38 +1,136 @@
 -- What the parts of a run keep, from line to line and from byte to byte.
-use Rattle.std.specs.Prelude.{◌≡◌, ◌≤◌, ℕ, ◌+◌, ◌^◌, List, [], ◌∷◌, ◌++◌, length, take, Option, None, Some, Bool, false, IsTrue, Result, IsErrOf, IfErr, ⊤, nat_eq}
-use Rattle.std.specs.List.{AllByRecursion, flat_map}
-use Rattle.std.specs.Io.KnownBytes.{Appends}
+use Rattle.std.specs.Prelude.{◌≡◌, ◌⊎◌, ◌≤◌, ◌<◌, ℕ, List, [], ◌∷◌, ◌++◌, length, take, Option, Bool, false, IsTrue, Result, Ok, Err, IsErrOf, IfErr, nat_eq, count_by, ⊤}
+use Rattle.std.specs.List.{AllByRecursion, flat_map, list_any}
+use Rattle.std.specs.Io.KnownBytes.{Appends, Consumes, IsAtEnd}
 use Rattle.per_base.specs.Causes.{Rose}
-use Rattle.disk_model.specs.Medium.{Medium, Quiet}
-use Rattle.per_run.specs.declared.lines.Command.{Command}
-use Rattle.per_run.specs.declared.session.Session.{Session}
-use Rattle.per_run.specs.declared.session.Session.TheVariants as session
+use Rattle.disk_model.specs.Medium.{Medium, Elapses}
+use Rattle.migrate_fns.specs.Rules.{Rule, Answers}
+use Rattle.command_text.specs.declared.calls.Event.{Event}
+use Rattle.command_text.specs.declared.lines.Line.TheVariants as line
+use Rattle.command_text.specs.declared.replies.Reply.{Reply}
+use Rattle.command_text.specs.Grammar.{IsLine}
+use Rattle.command_text.specs.Replies.{HasText}
+use Rattle.run_model.specs.Endings as endings
+use Rattle.run_model.specs.Endings.{EndsBy, IsInput}
+use Rattle.run_model.specs.Lines.{Give, IsBad, lines_of}
+use Rattle.run_model.specs.RunLaws.{Going}
+use Rattle.run_model.specs.Runs.{DiskSide}
+use Rattle.run_model.specs.Runtimes.{Memory, IsDoubt, Starts, Stepped, Stopped}
+use Rattle.run_model.specs.Turns.{Turn, events_of, replies_of, text_of, IsBlamed, AreBlamed}
+use Rattle.run_model.specs.Worlds.{Doubt, world_at, started, formatted}
+use Rattle.per_run.specs.declared.answering.Outcome.{Outcome}
+use Rattle.per_run.specs.declared.answering.Outcome.TheVariants as outcome
 use Rattle.per_run.specs.declared.endings.Ending.{Ending}
-use Rattle.per_run.specs.declared.endings.Ending.TheVariants.{Device, Sink, Source, TooLong, AllRead}
-use Rattle.per_run.specs.FirstText.{Pairs}
-use Rattle.per_run.specs.States.{State, Damaged, Standing, Holds, after_all}
-use Rattle.per_run.specs.Lines.{Give, has_feed}
-use Rattle.per_run.specs.Replies.{replies}
+use Rattle.per_run.specs.declared.endings.Ending.TheVariants.{AllRead, EndLine, BadLine, OutOfMemory, Source, Sink, TooLong}
+use Rattle.per_run.specs.declared.tally.Tally.{Tally}
+use Rattle.per_run.specs.declared.words.JobKind.{JobKind}
+use Rattle.per_run.specs.declared.words.JobKind.TheVariants.{Generate}
+use Rattle.per_run.specs.Jobs.{IsFront, is_done, is_other, is_error, size_given}
 
--- the session shows the visible map of the state
-abbrev pub Shows : Session → State → Type 0
-Shows session.Damaged Damaged = ⊤
-Shows session.Damaged (Standing synchronised visible) = ⊥
-Shows (session.Standing elements) Damaged = ⊥
-Shows (session.Standing elements) (Standing synchronised visible) = visible ≡ elements
+-- ---- endings
 
--- the map of a session that begins
-abbrev pub map_of : Session → Option Pairs
-map_of session.Damaged = None
-map_of (session.Standing elements) = Some elements
+-- the ending of a run whose start ended
+abbrev pub ending_of : Ending → endings.Ending
+ending_of AllRead = endings.all_read
+ending_of EndLine = endings.end_line
+ending_of BadLine = endings.bad_line
+ending_of OutOfMemory = endings.memory
+ending_of Source = endings.source
+ending_of Sink = endings.sink
+ending_of TooLong = endings.too_long
 
--- These lines were handled: their commands are answered, and the session and the file stand as after them.
-pub record Handled (told : Bool) (start : State) (before : Option (List ℕ)) (lines : List (List ℕ)) (now : Option (List ℕ)) (file : List ℕ) (session : Session) : Type 0 where
-  pub commands : List Command
-  pub gives : Give lines commands
-  pub shows : Shows session (after_all start commands)
-  pub holds : IsTrue told → Holds file (after_all start commands)
-  pub wrote : Appends before now (replies start commands)
+-- an ending inside the handling of a piece of the input
+abbrev pub IsBroken : Ending → Type 0
+IsBroken AllRead = ⊥
+IsBroken Source = ⊥
+IsBroken TooLong = ⊥
+IsBroken other = ⊤
+
+-- the sink's count of failures never falls, and the handling ends for the sink only where it rose
+pub record Blamed (ending : Ending) (before now : ℕ) : Type 0 where
+  pub later : before ≤ now
+  pub sink : ending ≡ Sink → Rose before now
+
+pub record Blames {T : Type 0} (before now : ℕ) (result : Result T Ending) : Type 0 where
+  pub later : before ≤ now
+  pub sink : IsErrOf result Sink → Rose before now
+  pub broken : IfErr result IsBroken
+
+-- ---- a text to the sink
+
+-- all of it; or the sink failed and took a front that is not all; or memory ran out and it took nothing
+abbrev pub Puts : {T : Type 0} → (text : List ℕ) → (before now : Option (List ℕ)) → Result T Ending → Type 0
+Puts text before now (Ok x) = Appends before now text
+Puts text before now (Err Sink) = IsFront before now text
+Puts text before now (Err OutOfMemory) = Appends before now []
+Puts text before now (Err other) = ⊥
+
+-- the same of the answer to a line outside the grammar, which ends the handling
+abbrev pub Refuses : (text : List ℕ) → (before now : Option (List ℕ)) → Ending → Type 0
+Refuses text before now BadLine = Appends before now text
+Refuses text before now Sink = IsFront before now text
+Refuses text before now OutOfMemory = Appends before now []
+Refuses text before now other = ⊥
+
+-- ---- one line
+
+-- the command of the line was answered
+pub record IsAnswered (told : Bool) (rules : List Rule) (answers : Answers) (text : List ℕ) (before after : Memory) (reply : Reply) (old new : Medium) : Type 0 where
+  pub event : Event
+  pub spelled : IsLine text (line.Event event)
+  pub has_text : HasText reply.answer
+  pub blamed : IsBlamed old.faults new.faults reply
+  pub stepped : IsTrue told → (doubt : Option Doubt) → IsDoubt before doubt → Stepped rules answers event reply before after doubt old new
+
+-- memory ran out in the command of the line
+pub record IsStopped (told : Bool) (rules : List Rule) (answers : Answers) (text : List ℕ) (before : Memory) (old new : Medium) : Type 0 where
+  pub event : Event
+  pub spelled : IsLine text (line.Event event)
+  pub stopped : IsTrue told → (doubt : Option Doubt) → IsDoubt before doubt → Stopped rules answers event before doubt old new
+
+-- what came of a line, from the memory and the disk before it to those after it
+abbrev pub Came : {D : Type 0} → (told : Bool) → (medium : D → Medium) → List Rule → Answers → (text : List ℕ) → (before after : Memory) → (old new : D) → Outcome → Type 0
+Came told medium rules answers text before after old new outcome.Nothing = IsLine text line.Nothing × (after ≡ before) × (new ≡ old)
+Came told medium rules answers text before after old new outcome.End = IsLine text line.End × (new ≡ old)
+Came told medium rules answers text before after old new outcome.Bad = IsBad text × (new ≡ old)
+Came told medium rules answers text before after old new (outcome.Answered reply) = IsAnswered told rules answers text before after reply (medium old) (medium new)
+Came told medium rules answers text before after old new outcome.OutOfMemory =
+    (new ≡ old) ⊎ IsStopped told rules answers text before (medium old) (medium new)
+
+-- ---- the run so far
+
+-- on a disk that tells its bytes: there is a doubt or none, and the run goes on from there
+abbrev pub IsGoing : List Rule → Answers → (start : Medium) → List Turn → Memory → (now : Medium) → Type 0
+IsGoing rules answers start turns memory now = (doubt : Option Doubt) × IsDoubt memory doubt
+    × Going rules answers (world_at start.image) (started (world_at start.image)) turns memory doubt start now
+
+-- The commands were answered since the start of the run, each with its cause.
+pub record Goes (told : Bool) (rules : List Rule) (answers : Answers) (start : Medium) (turns : List Turn) (memory : Memory) (now : Medium) : Type 0 where
+  pub blamed : AreBlamed start.faults turns now.faults
+  pub disk : IsTrue told → IsGoing rules answers start turns memory now
+
+-- These lines were handled since the start of the run: their commands are answered, and the replies written.
+pub record Handled (told : Bool) (rules : List Rule) (answers : Answers) (start : Medium) (before : Option (List ℕ)) (lines : List (List ℕ)) (now : Option (List ℕ))
+    (memory : Memory) (medium : Medium) : Type 0 where
+  pub turns : List Turn
+  pub gives : Give lines (events_of turns)
+  pub wrote : Appends before now (text_of turns)
+  pub goes : Goes told rules answers start turns memory medium
+
+-- How the handling of lines ended, of the lines `all`.
+pub record Course (told : Bool) (rules : List Rule) (answers : Answers) (ending : endings.Ending) (start : Medium) (before : Option (List ℕ)) (all : List (List ℕ))
+    (now : Option (List ℕ)) (medium : Medium) : Type 0 where
+  pub lines : List (List ℕ)
+  pub turns : List Turn
+  pub gives : Give lines (events_of turns)
+  pub ends : EndsBy ending lines all turns before now
+  pub blamed : AreBlamed start.faults turns medium.faults
+  pub disk : IsTrue told → DiskSide rules answers ending lines all turns before now start medium
+
+-- ---- bytes
+
+abbrev pub has_feed : List ℕ → Bool
+has_feed text = list_any (λ byte. nat_eq byte 10) text
 
 -- a line with its line feed
 abbrev pub with_feed : List ℕ → List ℕ
@@ -43,7 +141,8 @@ abbrev pub IsClean : List ℕ → Type 0
 IsClean bytes = has_feed bytes ≡ false
 
 -- These bytes were taken: all their whole lines are handled, and of the rest the front is kept.
-pub record Reached (told : Bool) (start : State) (before : Option (List ℕ)) (given : List ℕ) (now : Option (List ℕ)) (file : List ℕ) (session : Session) (kept : List ℕ) (number : ℕ) : Type 0 where
+pub record Reached (told : Bool) (rules : List Rule) (answers : Answers) (start : Medium) (before : Option (List ℕ)) (given : List ℕ) (now : Option (List ℕ))
+    (memory : Memory) (medium : Medium) (kept : List ℕ) (number : ℕ) : Type 0 where
   pub lines : List (List ℕ)
   pub rest : List ℕ
   pub split : given ≡ flat_map with_feed lines ++ rest
@@ -51,30 +150,45 @@ pub record Reached (told : Bool) (start : State) (before : Option (List ℕ)) (g
   pub clean_rest : IsClean rest
   pub kept_is : kept ≡ take 262145 rest
   pub number_is : number ≡ length lines
-  pub handled : Handled told start before lines now file session
+  pub handled : Handled told rules answers start before lines now memory medium
 
--- an ending inside the handling of a piece of the input
-abbrev pub IsBroken : Ending → Type 0
-IsBroken AllRead = ⊥
-IsBroken Source = ⊥
-IsBroken TooLong = ⊥
-IsBroken _ = ⊤
+-- The input that was read, and what came of it.
+pub record Ran (told : Bool) (rules : List Rule) (answers : Answers) (ending : Ending) (start : Medium) (left_before left_now before now : Option (List ℕ)) (medium : Medium) : Type 0 where
+  pub given : List ℕ
+  pub taken : Consumes left_before left_now given
+  pub bound : length given ≤ 67108864
+  pub ended : Bool
+  pub end_seen : IsTrue ended → IsAtEnd left_now × (length given < 67108864)
+  pub input : IsInput (ending_of ending) ended (length given)
+  pub course : Course told rules answers (ending_of ending) start before (lines_of ended given) now medium
 
--- The counts of faults never fall, and an ending has its cause: the disk failed only where its count rose, and so did the sink.
-pub record Blamed (ending : Ending) (disk_before disk_now sink_before sink_now : ℕ) : Type 0 where
-  pub disk_later : disk_before ≤ disk_now
-  pub sink_later : sink_before ≤ sink_now
-  pub disk : ending ≡ Device → Rose disk_before disk_now
-  pub sink : ending ≡ Sink → Rose sink_before sink_now
+-- ---- an input that is made of a number
 
-pub record Blames (disk_before disk_now sink_before sink_now : ℕ) (result : Result (Unit {0}) Ending) : Type 0 where
-  pub disk_later : disk_before ≤ disk_now
-  pub sink_later : sink_before ≤ sink_now
-  pub disk : IsErrOf result Device → Rose disk_before disk_now
-  pub sink : IsErrOf result Sink → Rose sink_before sink_now
-  pub broken : IfErr result IsBroken
+-- the replies of each sort are counted, and the first number that one gave is kept
+pub record Tallies (replies : List Reply) (tally : Tally) : Type 0 where
+  pub done : tally.done ≡ count_by is_done replies
+  pub other : tally.other ≡ count_by is_other replies
+  pub errors : tally.errors ≡ count_by is_error replies
+  pub size : tally.size ≡ size_given replies
 
--- The calls wrote no file but file 0; and where nothing was pending before them, nothing is after them, unless the disk failed.
-pub record Spares (told : Bool) (Failed : Type 0) (old new : Medium) : Type 0 where
-  pub others : IsTrue told → (file : ℕ) → (file ≡ 0 → ⊥) → new.image file ≡ old.image file
-  pub quiet : (Failed → ⊥) → Quiet old → Quiet new
+-- These lines were handled since the start: each gave a command, and the replies are counted.
+pub record Counted (told : Bool) (rules : List Rule) (answers : Answers) (start : Medium) (lines : List (List ℕ)) (memory : Memory) (tally : Tally) (medium : Medium) : Type 0 where
+  pub turns : List Turn
+  pub gives : Give lines (events_of turns)
+  pub each : length turns ≡ length lines
+  pub goes : Goes told rules answers start turns memory medium
+  pub tallies : Tallies (replies_of turns) tally
+
+-- A runtime that started on a disk which was formatted before.
+pub record IsBegun (told : Bool) (memory : Memory) (old middle new : Medium) : Type 0 where
+  pub earlier : old.faults ≤ middle.faults
+  pub world : IsTrue told → world_at middle.image ≡ formatted
+  pub starts : IsTrue told → Starts memory middle new
+  pub time : Elapses middle new
+
+-- ---- jobs
+
+-- the number of an input that is made is in its range
+abbrev pub IsInRange : JobKind → Type 0
+IsInRange (Generate n) = n ≤ 100000
+IsInRange other = ⊤

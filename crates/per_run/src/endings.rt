@@ -1,6 +1,6 @@
-//! The ways in which a run over accepted words ends.
+//! The ways in which the handling of an input ends, and the statuses of the program.
 
-/// How a run ended.
+/// How the handling of an input ended.
 #[derive(Clone, Copy, Debug, PartialEq, Eq)]
 pub enum Ending {
     /// The input was read to its end.
@@ -9,8 +9,6 @@ pub enum Ending {
     EndLine,
     /// A line is outside the grammar.
     BadLine,
-    /// The disk failed.
-    Device,
     /// Memory ran out.
     OutOfMemory,
     /// The source failed.
@@ -23,20 +21,35 @@ pub enum Ending {
 
 impl Ending {
     ghost use Rattle.std.specs.Prelude.{◌≡◌};
-    ghost use Rattle.per_run.specs.Runs.{status_of};
+    ghost use Rattle.run_model.specs.Endings.{status_of};
+    ghost use Rattle.per_run.specs.Steps.{ending_of};
 
     /// The status of the program.
     pub fn status(self) -> u8
-        ensures { result ≡ status_of self }
+        ensures { result ≡ status_of (ending_of self) }
     {
         match self {
-            Ending::AllRead | Ending::EndLine => 0,
+            Ending::AllRead | Ending::EndLine => DONE,
             Ending::BadLine => 2,
-            Ending::Device => 3,
-            Ending::OutOfMemory => 4,
+            Ending::OutOfMemory => OUT_OF_MEMORY,
             Ending::Source => 5,
-            Ending::Sink => 6,
+            Ending::Sink => SINK,
             Ending::TooLong => 7,
         }
     }
 }
+
+/// The status where all is done.
+pub const DONE: u8 = 0;
+
+/// The status where the words are refused.
+pub const REFUSED: u8 = 1;
+
+/// The status where the disk failed while the runtime started or the disk was formatted.
+pub const DEVICE: u8 = 3;
+
+/// The status where memory ran out.
+pub const OUT_OF_MEMORY: u8 = 4;
+
+/// The status where the sink failed.
+pub const SINK: u8 = 6;

@@ -1,15 +1,19 @@
 //! Whole texts to a sink.
 
-ghost use Rattle.std.specs.Prelude.{◌≡◌, ◌≤◌, ◌<◌, ℕ, IsErr, OnOk, OnErr, length, take};
+ghost use Rattle.std.specs.Prelude.{◌≡◌, ◌⊎◌, ◌≤◌, ℕ, List, OnOk, OnErr, IfOk};
 ghost use Rattle.std.specs.Io.KnownBytes.{Appends};
-ghost use Rattle.per_base.specs.Causes.{HasCause};
+ghost use Rattle.per_base.specs.Causes.{HasCause, Rose};
+ghost use Rattle.per_run.specs.Jobs.{IsFront, Writes};
+ghost use Rattle.per_run.specs.Steps.{Blames, Puts};
 
+use crate::endings::{DONE, Ending, SINK};
 use per_base::{Failed, Sink};
+use std::alloc::AllocError;
 
 /// Hands the whole text to the sink; where the sink fails, it has taken less than the whole.
 pub fn write_all<K: Sink>(sink: &mut K, text: &[u8]) -> Result<(), Failed>
     ensures whole { OnOk result (Appends (K.written sink.old) (K.written sink.new) text.now) }
-    ensures cut { OnErr result ((count : ℕ) × (count < length text.now) × Appends (K.written sink.old) (K.written sink.new) (take count text.now)) }
+    ensures cut { OnErr result (IsFront (K.written sink.old) (K.written sink.new) text.now) }
     ensures cause { HasCause (K.faults sink.old) (K.faults sink.new) result }
 {
     let mut done = 0;
@@ -21,4 +25,30 @@ pub fn write_all<K: Sink>(sink: &mut K, text: &[u8]) -> Result<(), Failed>
         }
     }
     Ok(())
+}
+
+/// Hands a text that was made to the sink, where there was memory for it.
+pub fn write_made<K: Sink>(sink: &mut K, made: Result<Vec<u8>, AllocError>) -> Result<(), Ending>
+    ensures puts { (text : List ℕ) → IfOk made (λ bytes. bytes.items ≡ text) → Puts text (K.written sink.old) (K.written sink.new) result }
+    ensures blames { Blames (K.faults sink.old) (K.faults sink.new) result }
+{
+    match made {
+        Ok(text) => match write_all(sink, text.as_slice()) {
+            Ok(()) => Ok(()),
+            Err(_) => Err(Ending::Sink),
+        },
+        Err(_) => Err(Ending::OutOfMemory),
+    }
+}
+
+/// Hands the whole output of a job to the sink, and gives the status of the program.
+pub fn write_output<K: Sink>(sink: &mut K, text: &[u8]) -> u8
+    ensures output { Writes result (K.written sink.old) (K.written sink.new) text.now }
+    ensures status { (result ≡ 0) ⊎ ((result ≡ 6) × Rose (K.faults sink.old) (K.faults sink.new)) }
+    ensures later { K.faults sink.old ≤ K.faults sink.new }
+{
+    match write_all(sink, text) {
+        Ok(()) => DONE,
+        Err(_) => SINK,
+    }
 }

@@ -2,6 +2,8 @@
 
 ghost use Rattle.std.specs.Prelude.{◌≤◌, IfOk, length};
 
+use crate::failures::{Asked, Failure};
+use crate::pieces::Piece;
 use disk_model::{Disk, DiskFailed};
 use std::alloc::{AllocError, Global};
 use std::collections::BTreeMap;
@@ -10,12 +12,20 @@ use std::io;
 use std::os::unix::fs::FileExt;
 use std::rt::Files;
 
+/// How many files are open at once at most; fewer than a system lets a program have.
+const OPEN_FILES: usize = 500;
+
 /// A disk in a folder. A file that is not there reads as empty, and so does each where the folder is not there; then writes fail.
 /// It counts its failures and tells nothing of its bytes.
+///
+/// Each file is opened once. Bytes that stand side by side are handed to the system in one write, at the latest with the next sync, and
+/// before anything of their file is read. A sync of the disk syncs each file that was written since the last one, and the folder where a
+/// file was made.
 #[derive(Drop)]
 pub struct DirDisk<'a, R: Files<File = File>> {
     folder: Folder<'a, R>,
     faults: u64,
+    failure: Option<Failure>,
 }
 
 /// The folder, with the files that were opened so far.
@@ -25,8 +35,12 @@ struct Folder<'a, R: Files<File = File>> {
     alloc: Global,
     dir: String,
     files: BTreeMap<u32, OpenFile>,
+    /// Bytes that are written and were not handed to the system yet.
+    piece: Option<Piece>,
     /// Whether a file was made since the last sync.
     is_grown: bool,
+    /// Whether a file was there or was made.
+    has_files: bool,
 }
 
 #[derive(Drop)]
@@ -45,10 +59,23 @@ impl<'a, R: Files<File = File>> DirDisk<'a, R> {
                 alloc,
                 dir,
                 files: BTreeMap::new(alloc),
+                piece: None,
                 is_grown: false,
+                has_files: false,
             },
             faults: 0,
+            failure: None,
         }
+    }
+
+    /// The last call of the system that failed, for the one who is told of it.
+    pub fn failure(&self) -> Option<Failure> {
+        self.failure
+    }
+
+    /// Whether a file of the disk was seen in the folder, or made.
+    pub fn has_files(&self) -> bool {
+        self.folder.has_files
     }
 }
 
@@ -65,9 +92,10 @@ impl<'a, R: Files<File = File>> Disk for DirDisk<'a, R> {
     fn read(&mut self, file: u32, at: u64, out: &mut [u8]) -> Result<usize, DiskFailed> {
         match self.folder.read(file, at, out) {
             Ok(count) => Ok(count),
-            Err(failed) => {
+            Err(failure) => {
                 self.faults = self.faults.saturating_add(1);
-                Err(failed)
+                self.failure = Some(failure);
+                Err(DiskFailed)
             }
         }
     }
@@ -75,9 +103,10 @@ impl<'a, R: Files<File = File>> Disk for DirDisk<'a, R> {
     fn write_at(&mut self, file: u32, at: u64, bytes: &[u8]) -> Result<(), DiskFailed> {
         match self.folder.write_at(file, at, bytes) {
             Ok(()) => Ok(()),
-            Err(failed) => {
+            Err(failure) => {
                 self.faults = self.faults.saturating_add(1);
-                Err(failed)
+                self.failure = Some(failure);
+                Err(DiskFailed)
             }
         }
     }
@@ -85,9 +114,10 @@ impl<'a, R: Files<File = File>> Disk for DirDisk<'a, R> {
     fn size(&mut self, file: u32) -> Result<u64, DiskFailed> {
         match self.folder.size(file) {
             Ok(size) => Ok(size),
-            Err(failed) => {
+            Err(failure) => {
                 self.faults = self.faults.saturating_add(1);
-                Err(failed)
+                self.failure = Some(failure);
+                Err(DiskFailed)
             }
         }
     }
@@ -95,74 +125,133 @@ impl<'a, R: Files<File = File>> Disk for DirDisk<'a, R> {
     fn sync(&mut self) -> Result<(), DiskFailed> {
         match self.folder.sync() {
             Ok(()) => Ok(()),
-            Err(failed) => {
+            Err(failure) => {
                 self.faults = self.faults.saturating_add(1);
-                Err(failed)
+                self.failure = Some(failure);
+                Err(DiskFailed)
             }
         }
     }
 }
 
 impl<'a, R: Files<File = File>> Folder<'a, R> {
-    fn read(&mut self, number: u32, at: u64, out: &mut [u8]) -> Result<usize, DiskFailed>
+    fn read(&mut self, number: u32, at: u64, out: &mut [u8]) -> Result<usize, Failure>
         ensures { IfOk result (λ count. count ≤ length out.new) }
     {
+        self.hand_over_of(number)?;
         self.find(number)?;
         match self.files.get(&number) {
-            Some(open) => read_from(&open.file, at, out),
+            Some(open) => read_from(&open.file, at, out).map_err(|error| failed(
+                Asked::Read,
+                number,
+                error,
+            )),
             None => Ok(0),
         }
     }
 
-    fn write_at(&mut self, number: u32, at: u64, bytes: &[u8]) -> Result<(), DiskFailed> {
+    fn write_at(&mut self, number: u32, at: u64, bytes: &[u8]) -> Result<(), Failure> {
         if bytes.is_empty() {
             return Ok(());
         }
+        if let Some(piece) = &mut self.piece {
+            if piece.ends_at(number, at) {
+                return piece
+                    .push(bytes)
+                    .map_err(|_| out_of_memory(Asked::Write, number));
+            }
+        }
+        self.hand_over()?;
         self.find(number)?;
         if !self.files.contains_key(&number) {
             self.make(number)?;
         }
-        match self.files.get_mut(&number) {
-            Some(open) => {
-                open.is_written = true;
-                open.file.write_all_at(bytes, at).map_err(|_| DiskFailed)
-            }
-            None => Err(DiskFailed),
-        }
+        let piece = Piece::new(self.alloc, number, at, bytes).map_err(|_| out_of_memory(
+            Asked::Write,
+            number,
+        ))?;
+        self.piece = Some(piece);
+        Ok(())
     }
 
-    fn size(&mut self, number: u32) -> Result<u64, DiskFailed> {
+    fn size(&mut self, number: u32) -> Result<u64, Failure> {
+        self.hand_over_of(number)?;
         self.find(number)?;
         match self.files.get(&number) {
             Some(open) => match open.file.metadata() {
                 Ok(metadata) => Ok(metadata.len()),
-                Err(_) => Err(DiskFailed),
+                Err(error) => Err(failed(Asked::Size, number, error)),
             },
             None => Ok(0),
         }
     }
 
     /// Syncs the files that were written, and the folder where a file was made.
-    fn sync(&mut self) -> Result<(), DiskFailed> {
-        for (_, open) in self.files.iter_mut() {
-            if open.is_written {
-                open.file.sync_all().map_err(|_| DiskFailed)?;
-                open.is_written = false;
-            }
-        }
+    fn sync(&mut self) -> Result<(), Failure> {
+        self.hand_over()?;
+        self.sync_files()?;
         if self.is_grown {
-            sync_folder(self.rt, self.dir.as_str())?;
+            sync_folder(self.rt, self.dir.as_str()).map_err(|error| Failure {
+                asked: Asked::Sync,
+                file: None,
+                error,
+            })?;
             self.is_grown = false;
         }
         Ok(())
     }
 
+    fn sync_files(&mut self) -> Result<(), Failure> {
+        for (number, open) in self.files.iter_mut() {
+            if open.is_written {
+                open.file
+                    .sync_all()
+                    .map_err(|error| failed(Asked::Sync, *number, error))?;
+                open.is_written = false;
+            }
+        }
+        Ok(())
+    }
+
+    /// Hands the piece that waits to the system, if it is of this file.
+    fn hand_over_of(&mut self, number: u32) -> Result<(), Failure> {
+        let is_of_file = match &self.piece {
+            Some(piece) => piece.file() == number,
+            None => false,
+        };
+        if is_of_file {
+            self.hand_over()?;
+        }
+        Ok(())
+    }
+
+    /// Hands the piece that waits to the system. Where that fails the piece waits on, so that nothing older is read in its place.
+    fn hand_over(&mut self) -> Result<(), Failure> {
+        let Some(piece) = &self.piece else {
+            return Ok(());
+        };
+        let number = piece.file();
+        let Some(open) = self.files.get_mut(&number) else {
+            let error = io::Error::from(io::ErrorKind::NotFound);
+            return Err(failed(Asked::Write, number, error));
+        };
+        open.is_written = true;
+        open.file
+            .write_all_at(piece.bytes(), piece.at())
+            .map_err(|error| failed(Asked::Write, number, error))?;
+        self.piece = None;
+        Ok(())
+    }
+
     /// Opens the file, if it is there and not open yet.
-    fn find(&mut self, number: u32) -> Result<(), DiskFailed> {
+    fn find(&mut self, number: u32) -> Result<(), Failure> {
         if self.files.contains_key(&number) {
             return Ok(());
         }
-        let path = path_of(self.alloc, self.dir.as_str(), number).map_err(|_| DiskFailed)?;
+        let path = path_of(self.alloc, self.dir.as_str(), number).map_err(|_| out_of_memory(
+            Asked::Open,
+            number,
+        ))?;
         match OpenOptions::new()
             .read(true)
             .write(true)
@@ -171,14 +260,17 @@ impl<'a, R: Files<File = File>> Folder<'a, R> {
             Ok(file) => self.keep(number, file),
             Err(error) => match error.kind() {
                 io::ErrorKind::NotFound => Ok(()),
-                _ => Err(DiskFailed),
+                _ => Err(failed(Asked::Open, number, error)),
             },
         }
     }
 
     /// Makes the file, which is not there.
-    fn make(&mut self, number: u32) -> Result<(), DiskFailed> {
-        let path = path_of(self.alloc, self.dir.as_str(), number).map_err(|_| DiskFailed)?;
+    fn make(&mut self, number: u32) -> Result<(), Failure> {
+        let path = path_of(self.alloc, self.dir.as_str(), number).map_err(|_| out_of_memory(
+            Asked::Make,
+            number,
+        ))?;
         match OpenOptions::new()
             .read(true)
             .write(true)
@@ -189,20 +281,41 @@ impl<'a, R: Files<File = File>> Folder<'a, R> {
                 self.is_grown = true;
                 self.keep(number, file)
             }
-            Err(_) => Err(DiskFailed),
+            Err(error) => Err(failed(Asked::Make, number, error)),
         }
     }
 
-    fn keep(&mut self, number: u32, file: File) -> Result<(), DiskFailed> {
+    /// Keeps an open file. Where there are many already, they are synced and closed before.
+    fn keep(&mut self, number: u32, file: File) -> Result<(), Failure> {
+        if self.files.len() >= OPEN_FILES {
+            self.hand_over()?;
+            self.sync_files()?;
+            self.files = BTreeMap::new(self.alloc);
+        }
         let open = OpenFile {
             file,
             is_written: false,
         };
         match self.files.insert(number, open) {
-            Ok(_) => Ok(()),
-            Err(_) => Err(DiskFailed),
+            Ok(_) => {
+                self.has_files = true;
+                Ok(())
+            }
+            Err(_) => Err(out_of_memory(Asked::Open, number)),
         }
     }
+}
+
+fn failed(asked: Asked, number: u32, error: io::Error) -> Failure {
+    Failure {
+        asked,
+        file: Some(number),
+        error,
+    }
+}
+
+fn out_of_memory(asked: Asked, number: u32) -> Failure {
+    failed(asked, number, io::Error::from(io::ErrorKind::OutOfMemory))
 }
 
 /// The name of a file of the folder.
@@ -211,7 +324,7 @@ fn path_of(alloc: Global, dir: &str, number: u32) -> Result<String, AllocError> 
 }
 
 /// As many bytes as the file has from here on, and at most as many as there is room for.
-fn read_from(file: &File, at: u64, out: &mut [u8]) -> Result<usize, DiskFailed>
+fn read_from(file: &File, at: u64, out: &mut [u8]) -> io::Result<usize>
     ensures { IfOk result (λ count. count ≤ length out.new) }
 {
     let mut count = 0;
@@ -223,15 +336,12 @@ fn read_from(file: &File, at: u64, out: &mut [u8]) -> Result<usize, DiskFailed>
             Ok(0) => break,
             Ok(more) => count += more,
             Err(error) if error.kind() == io::ErrorKind::Interrupted => {}
-            Err(_) => return Err(DiskFailed),
+            Err(error) => return Err(error),
         }
     }
     Ok(count)
 }
 
-fn sync_folder<R: Files<File = File>>(rt: &R, dir: &str) -> Result<(), DiskFailed> {
-    let Ok(folder) = File::open(rt, dir) else {
-        return Err(DiskFailed);
-    };
-    folder.sync_all().map_err(|_| DiskFailed)
+fn sync_folder<R: Files<File = File>>(rt: &R, dir: &str) -> io::Result<()> {
+    File::open(rt, dir)?.sync_all()
 }

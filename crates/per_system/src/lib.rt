@@ -2,11 +2,14 @@
 //!
 //! Each meets its trait: it fails only where its count of failures rises, and it neither panics nor hangs in code of its own. None
 //! tells what it holds, since no contract can say what a file gives: over these ends the causes of failures and the safety of every
-//! call are proved, and what a folder holds is trusted.
+//! call are proved, and what a folder holds is trusted. Each keeps the last failure, for the one who is told why a run ended.
 #![tactic(auto)]
 
+mod failures;
 mod folder;
+mod pieces;
 mod standard;
 
+pub use failures::{Asked, Failure};
 pub use folder::DirDisk;
 pub use standard::{StdSink, StdSource};

@@ -1,19 +1,29 @@
 //! Standard input as a source, and standard output as a sink.
 
 use per_base::{Failed, Sink, Source};
-use std::io::{Read, Write};
+use std::io::{self, Read, Write};
 
 /// A reader as a source. It counts its failures and tells nothing of what is left.
 #[derive(Drop)]
 pub struct StdSource<T: Read + Drop> {
     reader: T,
     faults: u64,
+    failure: Option<io::Error>,
 }
 
 impl<T: Read + Drop> StdSource<T> {
     /// The reader as a source that has not failed yet. No clause is needed: all that a caller relies on are the laws of the source.
     pub fn new(reader: T) -> StdSource<T> {
-        StdSource { reader, faults: 0 }
+        StdSource {
+            reader,
+            faults: 0,
+            failure: None,
+        }
+    }
+
+    /// The last failure, for the one who is told of it.
+    pub fn failure(&self) -> Option<io::Error> {
+        self.failure
     }
 }
 
@@ -27,8 +37,9 @@ impl<T: Read + Drop> Source for StdSource<T> {
     fn read(&mut self, out: &mut [u8]) -> Result<usize, Failed> {
         match self.reader.read(out) {
             Ok(count) => Ok(count),
-            Err(_) => {
+            Err(error) => {
                 self.faults = self.faults.saturating_add(1);
+                self.failure = Some(error);
                 Err(Failed)
             }
         }
@@ -41,12 +52,22 @@ impl<T: Read + Drop> Source for StdSource<T> {
 pub struct StdSink<T: Write + Drop> {
     writer: T,
     faults: u64,
+    failure: Option<io::Error>,
 }
 
 impl<T: Write + Drop> StdSink<T> {
     /// The writer as a sink that has not failed yet. No clause is needed: all that a caller relies on are the laws of the sink.
     pub fn new(writer: T) -> StdSink<T> {
-        StdSink { writer, faults: 0 }
+        StdSink {
+            writer,
+            faults: 0,
+            failure: None,
+        }
+    }
+
+    /// The last failure, for the one who is told of it.
+    pub fn failure(&self) -> Option<io::Error> {
+        self.failure
     }
 }
 
@@ -61,11 +82,13 @@ impl<T: Write + Drop> Sink for StdSink<T> {
         match self.writer.write(bytes) {
             Ok(0) => {
                 self.faults = self.faults.saturating_add(1);
+                self.failure = Some(io::Error::from(io::ErrorKind::WriteZero));
                 Ok(0)
             }
             Ok(count) => Ok(count),
-            Err(_) => {
+            Err(error) => {
                 self.faults = self.faults.saturating_add(1);
+                self.failure = Some(error);
                 Err(Failed)
             }
         }

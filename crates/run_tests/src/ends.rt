@@ -11,12 +11,14 @@ use std::rt::Files;
 pub(crate) fn folder(
     rt: &impl Files<File = File>,
     alloc: Global,
+    row: &str,
     which: &str,
 ) -> anyhow::Result<String> {
-    match which {
-        "made" => made(rt, alloc),
-        _ => missing(rt, alloc),
-    }
+    let told = match which {
+        "made" => made(rt, alloc)?,
+        _ => missing(rt, alloc)?,
+    };
+    Ok(format!(in alloc; "{row}\n= {told}\n")?)
 }
 
 /// Three bytes at 2 in file 3: the size before and after, what a read from 1 on counts, and its bytes.
@@ -51,12 +53,12 @@ fn missing(rt: &impl Files<File = File>, alloc: Global) -> anyhow::Result<String
 }
 
 /// A reader of the text as a source, which is read twice, and a list as a sink, which takes four bytes.
-pub(crate) fn streams(alloc: Global, text: &str) -> anyhow::Result<String> {
+pub(crate) fn streams(alloc: Global, row: &str, text: &str) -> anyhow::Result<String> {
     let mut source = StdSource::new(text.as_bytes());
     let mut out = [0u8; 4];
     let first = source.read(&mut out).unwrap_or(99);
     let second = source.read(&mut out).unwrap_or(99);
     let mut sink = StdSink::new(Vec::<u8>::new(alloc));
     let taken = sink.write(&out).unwrap_or(99);
-    Ok(format!(in alloc; "read {first} and {second}, took {taken}")?)
+    Ok(format!(in alloc; "{row}\n= read {first} and {second}, took {taken}\n")?)
 }

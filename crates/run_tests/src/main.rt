@@ -1,39 +1,82 @@
-//! The rows of whole runs and of the ends on a system: each line of standard input is a case, a word with what it is given, and gets one
-//! line. `folder made` and `folder missing` show a disk in a folder, and `streams TEXT` a reader and a writer. Each other word is a step on
-//! one disk in memory, which stays from line to line; `Runs::shown` lists them.
+//! Sessions with the program, over a disk in memory: rows in, and the same rows out with what the program wrote.
+//!
+//! | row | what it does, and what is printed behind it |
+//! |---|---|
+//! | `disk empty`, `disk formatted` | begins with a new disk, whose files are all empty, or on which `--format` ran |
+//! | `$NAME = TEXT` | a text; a row whose last word is `$NAME` has the text in its place |
+//! | `> LINE`, `>COUNT LINE` | a line of the next run, or as many, with the number of each for `#`; the run prints each reply behind its line as `< REPLY`, or `<COUNT REPLY` where replies are the same |
+//! | `>- LINE` | a line without a line feed |
+//! | `run`, `run WORDS` | runs the program with `--dir d` or these words; `= STATUS` |
+//! | `fail start`, `fail disk`, `stop disk` | the first call of the disk fails in the next run; among lines, the next one, or every one from here on |
+//! | `fail source N`, `fail sink N` | the call of this number fails in the next run, counted from 0 |
+//! | `flip FILE,..` | between two runs: each byte of these files becomes its complement |
+//! | `? LINE` | a line that looks at what is left, for one of the rows below |
+//! | `stops`, `failures`, `cuts` | the lines so far: stopped after each call of the disk; each call of the disk failing alone; each call of the source and of the sink failing alone. `Script` says what is expected |
+//! | `folder CASE`, `streams TEXT` | the ends of the program on a system |
+//! | any other | nothing |
+//!
+//! Between two runs the disk restarts with all that was written.
 #![tactic(auto)]
 
+mod counting;
 mod ends;
+mod images;
+mod rows;
 mod runs;
+mod scripts;
+mod sessions;
+mod transcripts;
 
-use runs::Runs;
+use migrate_fns::Migrations;
+use number_converters::{WithConverters, with_converters};
+use sessions::Session;
 use std::alloc::Global;
 use std::fs::File;
+use std::io::{BufRead, BufReader};
 use std::rt::Files;
 
-/// What a case shows.
-fn shown(
-    rt: &impl Files<File = File>,
+/// The rows of standard input.
+#[derive(Drop)]
+struct Printing<'a, R: Files<File = File> + Input + Print> {
+    rt: &'a R,
     alloc: Global,
-    runs: &mut Runs,
-    line: &str,
-) -> anyhow::Result<String> {
-    let (word, rest) = runs::parted(line, " ");
-    let text = match word {
-        "folder" => ends::folder(rt, alloc, rest)?,
-        "streams" => ends::streams(alloc, rest)?,
-        _ => runs.shown(alloc, word, rest)?,
-    };
-    Ok(text)
+}
+
+impl<'a, R: Files<File = File> + Input + Print> WithConverters for Printing<'a, R> {
+    type Answer = anyhow::Result<()>;
+
+    /// Prints what each row prints.
+    fn with_converters(self, migrations: &Migrations) -> anyhow::Result<()> {
+        let Printing { rt, alloc } = self;
+        let mut session = Session::new(alloc);
+        for row in BufReader::new(alloc, rt.reader())?.lines(alloc) {
+            let row = row?;
+            if let Some(text) = shown(rt, alloc, &mut session, migrations, row.as_str())? {
+                rt.print(text)?;
+            }
+        }
+        Ok(())
+    }
 }
 
 fn main(rt: HostRuntime) -> anyhow::Result<()> {
     let alloc = rt.alloc();
-    let mut runs = Runs::new(alloc);
-    for line in rt.lines(alloc) {
-        let line = line?;
-        let text = shown(&rt, alloc, &mut runs, line.as_str())?;
-        println!(rt; "{text}")?;
-    }
-    Ok(())
+    with_converters(alloc, Printing { rt: &rt, alloc })?
+}
+
+/// What a row prints; nothing where it waits for the next run.
+fn shown(
+    rt: &impl Files<File = File>,
+    alloc: Global,
+    session: &mut Session,
+    migrations: &Migrations,
+    row: &str,
+) -> anyhow::Result<Option<String>> {
+    let (word, rest) = rows::parted(row, " ");
+    let text = match word {
+        "folder" => Some(ends::folder(rt, alloc, row, rest)?),
+        "streams" => Some(ends::streams(alloc, row, rest)?),
+        _ => session.take(migrations, row)?,
+    };
+    Ok(text)
 }

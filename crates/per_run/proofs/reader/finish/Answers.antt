@@ -1,6 +1,7 @@
 -- No line is left, or the last one is handled.
-use Rattle.std.proofs.Common.{ℕ, List, [], ◌∷◌, length, Bool, true, false, ◌==◌, ◌≡◌, refl, sym, ◌∙◌, ap, arith}
+use Rattle.std.proofs.Common.{ℕ, List, [], ◌∷◌, length, Bool, true, false, ◌==◌, ◌≡◌, refl, ◌∙◌, ap, arith}
 use Rattle.std.proofs.lemmas.Bool.Decides.{nat_tests}
+use Rattle.per_run.specs.Steps.{ending_of}
 use Rattle.per_run.proofs.Reaches.{ends_read, ends_last, ends_at_last}
 use Rattle.per_run.proofs.reader.finish.Goals as goal
 
@@ -12,13 +13,15 @@ some_is : (text kept : List ℕ) (none : Bool) → text ≡ kept → none ≡ (l
 some_is text kept none same says is empty = let long : length text ≡ 0 = ap length (same ∙ empty) in grind (arith, nat_tests)
 
 pub returns-then-is_empty-clause-ends : goal.returns-then-is_empty-clause-ends
-returns-then-is_empty-clause-ends g c = λ start before given small reached.
-    ends_read _ start before given _ _ _ _ _ reached (empty_is _ _ _ c.as_slice.ensures.value c.is_empty.ensures c.if-is_empty.true)
+returns-then-is_empty-clause-ends g c = λ laws start before given small reached.
+    ends_read _ _ _ _ before laws given _ _ _ _ _ reached (empty_is _ _ _ c.as_slice.ensures.value c.is_empty.ensures c.if-is_empty.true)
 
 pub returns-in-Ok-clause-ends : goal.returns-in-Ok-clause-ends
-returns-in-Ok-clause-ends g c = λ start before given small reached.
-    ends_last _ start before given _ _ _ _ _ _ _ _ reached (some_is _ _ _ c.as_slice.ensures.value c.is_empty.ensures c.if-is_empty.false) (λ lines text. c.in-Ok.ensures.goes_on start before lines text)
+returns-in-Ok-clause-ends g c = λ laws start before given small reached.
+    ends_last _ _ _ _ before laws given _ _ _ _ _ _ _ _ reached (some_is _ _ _ c.as_slice.ensures.value c.is_empty.ensures c.if-is_empty.false)
+    (λ lines text. c.in-Ok.ensures.goes_on start before lines text)
 
 pub returns-in-Err-clause-ends : goal.returns-in-Err-clause-ends
-returns-in-Err-clause-ends g c = λ start before given small reached.
-    ends_at_last _ c.in-Err.ending start before given _ _ _ _ _ _ _ small reached (some_is _ _ _ c.as_slice.ensures.value c.is_empty.ensures c.if-is_empty.false) (λ lines more text. c.in-Err.ensures.ends start before lines more text)
+returns-in-Err-clause-ends g c = λ laws start before given small reached.
+    ends_at_last _ _ _ _ before (ending_of c.in-Err.ending) given _ _ _ _ _ _ _ small reached (some_is _ _ _ c.as_slice.ensures.value c.is_empty.ensures c.if-is_empty.false)
+    (λ lines more text. c.in-Err.ensures.ends laws start before lines more text)

@@ -1,7 +1,7 @@
 -- The front of a line with one more byte: it is full, or it grows.
-use Rattle.std.proofs.Common.{ℕ, List, [], ◌∷◌, ◌++◌, length, take, ◌≡◌, ◌≤◌, ◌<◌, ◌+◌, sym, ◌∙◌, ap, arith, length-append}
+use Rattle.std.proofs.Common.{ℕ, List, [], ◌∷◌, ◌++◌, length, take, ◌≡◌, ◌≤◌, ◌<◌, sym, ◌∙◌, ap, arith, length-append}
 use Rattle.std.proofs.lemmas.List.{take_all, take-append-le, length-take}
-use Rattle.per_run.proofs.Commands.{short_whole}
+use Rattle.per_run.proofs.Gives.{short_whole}
 use Rattle.per_run.proofs.reader.keep.Goals as goal
 
 full : (n : ℕ) (kept rest : List ℕ) (b : ℕ) → kept ≡ take n rest → n ≤ length kept → kept ≡ take n (rest ++ b ∷ [])

@@ -1,0 +1,121 @@
+//! A first session, shown whole.
+
+use crate::{NO_MEMORY, NO_OUTPUT, program};
+use std::alloc::{AllocError, Global};
+use std::env::{self, Env};
+use std::fs::{self, File};
+use std::io::{self, Read, Write};
+use std::rt::Files;
+
+/// The status where the folder cannot be made.
+const NO_FOLDER: u8 = 3;
+
+/// The lines of the first run.
+const FIRST_RUN: [&str; 6] = [
+    "0 install {\"version\":1,\"keyValueStorages\":[{\"name\":\"cockpit\",\"redundancy\":{\"m\":2,\"n\":3},\"keyValuePairs\":[{\"name\":\"volume\",\"type\":\"u8\",\"initial\":\"u8:20\"}]}]}\n",
+    "0 open-kvs cockpit\n",
+    "0 get cockpit volume\n",
+    "0 set cockpit volume u8:35\n",
+    "0 sync cockpit\n",
+    "0 set cockpit volume u8:99\n",
+];
+
+/// The lines of the second run, after which what was not synchronised is gone.
+const SECOND_RUN: [&str; 12] = [
+    "0 open-kvs cockpit\n",
+    "0 get cockpit volume\n",
+    "0 close cockpit\n",
+    "0 update {\"version\":2,\"keyValueStorages\":[{\"name\":\"cockpit\",\"redundancy\":{\"m\":2,\"n\":3},\"keyValuePairs\":[{\"name\":\"volume\",\"type\":\"u16\"}]}]}\n",
+    "0 status\n",
+    "0 open-kvs cockpit\n",
+    "0 get cockpit volume\n",
+    "0 close cockpit\n",
+    "0 rollback\n",
+    "0 status\n",
+    "0 open-kvs cockpit\n",
+    "0 get cockpit volume\n",
+];
+
+/// Lines as an input: each read gives one, and shows it before.
+#[derive(Drop)]
+struct LinesShown<'a, R: Print> {
+    rt: &'a R,
+    lines: &'a [&'static str],
+    /// How many lines were read.
+    read: usize,
+}
+
+impl<'a, R: Print> Read for LinesShown<'a, R> {
+    fn read(&mut self, out: &mut [u8]) -> io::Result<usize> {
+        let Some(line) = self.lines.get(self.read) else {
+            return Ok(0);
+        };
+        let bytes = line.as_bytes();
+        let Some(room) = out.get_mut(..bytes.len()) else {
+            return Err(io::Error::from(io::ErrorKind::InvalidInput));
+        };
+        room.copy_from_slice(bytes);
+        print!(self.rt; "> {line}")?;
+        self.read = self.read.saturating_add(1);
+        Ok(bytes.len())
+    }
+}
+
+/// Runs the session in a folder of its own, which stays, and shows each line with its reply. Gives the status of the run that ended last.
+pub(crate) fn show<R: Files<File = File> + AllocGlobal + Env + Print + Eprint>(
+    rt: &R,
+    number: u32,
+) -> u8 {
+    match shown(rt, number) {
+        Ok(status) => status,
+        Err(error) => match error.kind() {
+            io::ErrorKind::OutOfMemory => NO_MEMORY,
+            _ => NO_OUTPUT,
+        },
+    }
+}
+
+fn shown<R: Files<File = File> + AllocGlobal + Env + Print + Eprint>(
+    rt: &R,
+    number: u32,
+) -> io::Result<u8> {
+    let dir = env::temp_dir(rt)?;
+    let dir = format!(in rt.alloc(); "{}/per-demo-{number}", dir.display())?;
+    if let Err(error) = fs::create_dir(rt, dir.as_str()) {
+        eprintln!(rt; "per: the folder {dir} cannot be made: {error}")?;
+        return Ok(NO_FOLDER);
+    }
+    let mut status = run(rt, dir.as_str(), true, &[])?;
+    if status == 0 {
+        status = run(rt, dir.as_str(), false, &FIRST_RUN)?;
+    }
+    if status == 0 {
+        status = run(rt, dir.as_str(), false, &SECOND_RUN)?;
+    }
+    println!(rt; "The folder stays: rm -r {dir}")?;
+    Ok(status)
+}
+
+/// Shows the words of a run, and runs it.
+fn run<R: Files<File = File> + AllocGlobal + Print + Eprint>(
+    rt: &R,
+    dir: &str,
+    is_format: bool,
+    lines: &[&'static str],
+) -> io::Result<u8> {
+    let mut words = Vec::new(rt.alloc());
+    if is_format {
+        words.push(String::from_str(rt.alloc(), "--format")?)?;
+        println!(rt; "$ ./per --format --dir {dir}")?;
+    } else {
+        println!(rt; "$ ./per --dir {dir}")?;
+    }
+    words.push(String::from_str(rt.alloc(), "--dir")?)?;
+    words.push(String::from_str(rt.alloc(), dir)?)?;
+    Ok(program::run(
+        rt,
+        &words,
+        LinesShown { rt, lines, read: 0 },
+        io::writer(rt),
+    ))
+}

@@ -1,0 +1,113 @@
+-- Disks that were formatted, and jobs that did not come to their output.
+use Rattle.std.proofs.Common.{ℕ, zero, suc, List, [], ◌∷◌, replicate, ◌≡◌, ◌≤◌, ◌<◌, ◌+◌, ◌⊎◌, inl, inr, refl, sym, ◌∙◌, ap, ap₂, subst, le_trans, arith, Option, None, Bool, IsTrue}
+use Rattle.std.proofs.KnownBytes.{Keeps-refl}
+use Rattle.disk_model.specs.Image.{Image}
+use Rattle.disk_model.specs.Laws.{rose_before}
+use Rattle.disk_model.specs.Medium.{Medium}
+use Rattle.migrate_fns.specs.Rules.{Rule, Answers}
+use Rattle.command_text.specs.Generated.{generated}
+use Rattle.deploy_laws.specs.Apps.{App, app_at}
+use Rattle.deploy_rows.specs.Rows.{empty_app}
+use Rattle.run_model.specs.Moments.{last_of}
+use Rattle.run_model.specs.RunLaws.{ends_settled}
+use Rattle.run_model.specs.Runs.{IsSettled}
+use Rattle.run_model.specs.Runtimes.{Memory}
+use Rattle.run_model.specs.Turns.{Turn, Follow, AreBlamed, replies_of, worlds_of}
+use Rattle.run_model.specs.Worlds.{Application, World, all_resting, formatted, resting, started, world_at}
+use Rattle.per_run.specs.declared.tally.Tally.{Tally}
+use Rattle.per_run.specs.Jobs.{Formats, Generates, IsDone, Writes, summary}
+use Rattle.per_run.specs.Steps.{Counted, IsBegun, IsGoing, Tallies}
+use Rattle.per_run.proofs.Goes.{goes_none}
+use Rattle.per_run.proofs.Tallied.{length_all}
+
+-- ---- the world of a disk that was formatted
+
+resting_all : (f : ℕ → App) (a : App) (app n : ℕ) → ((i : ℕ) → app ≤ i → i < app + n → f i ≡ a) → all_resting f app n ≡ replicate n (resting a)
+resting_all f a app zero is = refl
+resting_all f a app (suc n) is = ap₂ (λ (x : App) (xs : List Application). resting x ∷ xs) (is app (omega arith) (omega arith))
+    (resting_all f a (app + 1) n (λ i least most. is i (omega (arith, least)) (omega (arith, most))))
+
+pub is_formatted : (image : Image) → ((app : ℕ) → app < 8 → app_at image app ≡ empty_app 1) → world_at image ≡ formatted
+unfolding world_at
+is_formatted image each = ap (λ (apps : List Application). record formatted { apps = apps }) (resting_all (app_at image) (empty_app 1) 0 8 (λ i least most. each i most))
+
+-- ---- statuses
+
+pub not_done : (status : ℕ) → (status ≡ 3) ⊎ (status ≡ 4) → IsDone status → ⊥
+not_done status (inl three) (inl none) = omega (arith, three, none)
+not_done status (inl three) (inr six) = omega (arith, three, six)
+not_done status (inr four) (inl none) = omega (arith, four, none)
+not_done status (inr four) (inr six) = omega (arith, four, six)
+
+pub writes_none : (status : ℕ) (now : Option (List ℕ)) (text : List ℕ) → (status ≡ 3) ⊎ (status ≡ 4) → Writes status now now text
+writes_none status now text is = record {
+  whole = λ none. absurd (not_done status is (inl none));
+  front = λ six. absurd (not_done status is (inr six));
+  none = λ undone. Keeps-refl now;
+}
+
+pub formats_none : (told : Bool) (status : ℕ) (now : Option (List ℕ)) (new : Medium) → (status ≡ 3) ⊎ (status ≡ 4) → Formats told status now now new
+formats_none told status now new is = record {
+  output = writes_none status now _ is;
+  world = λ tells done. absurd (not_done status is done);
+  clean = λ tells done. absurd (not_done status is done);
+  quiet = λ done. absurd (not_done status is done);
+}
+
+pub generates_none : (told : Bool) (rules : List Rule) (answers : Answers) (n status : ℕ) (now : Option (List ℕ)) (old new : Medium) → (status ≡ 3) ⊎ (status ≡ 4) → old.faults ≤ new.faults
+    → Generates told rules answers n status now now old new
+generates_none told rules answers n status now old new is later = record {
+  turns = [];
+  gives = λ done. absurd (not_done status is done);
+  output = writes_none status now _ is;
+  blamed = later;
+  follow = λ tells. tt;
+  settled = λ tells done. absurd (not_done status is done);
+}
+
+-- ---- a made input that was handled
+
+-- causes since a later moment are causes since an earlier one
+blamed_before : (before after : ℕ) (ts : List Turn) (now : ℕ) → before ≤ after → AreBlamed after ts now → AreBlamed before ts now
+blamed_before before after [] now le blamed = le_trans le blamed
+blamed_before before after (t ∷ ts) now le blamed = ((le_trans le blamed.0.0, λ failed. rose_before before after t.faults le (blamed.0.1 failed)), blamed.1)
+
+begins_calm : (image : Image) → (started (world_at image)).doubt ≡ None
+unfolding world_at
+begins_calm image = refl
+
+start_formatted : started formatted ≡ formatted
+start_formatted = refl
+
+pub counted_none : (told : Bool) (rules : List Rule) (answers : Answers) (memory : Memory) (tally : Tally) (old middle new : Medium) → IsBegun told memory old middle new → Tallies [] tally
+    → Counted told rules answers middle [] memory tally new
+counted_none told rules answers memory tally old middle new begun none = record {
+  turns = [];
+  gives = refl;
+  each = refl;
+  goes = goes_none told rules answers memory middle new begun.time begun.starts;
+  tallies = none;
+}
+
+follow_from : (rules : List Rule) (answers : Answers) (w v : World) (ts : List Turn) → w ≡ v → Follow rules answers w ts → Follow rules answers v ts
+follow_from rules answers w v ts is follow = subst (λ (x : World). Follow rules answers x ts) is follow
+
+pub generates_all : (told : Bool) (rules : List Rule) (answers : Answers) (n status : ℕ) (before now : Option (List ℕ)) (memory after : Memory) (tally : Tally) (old middle begun new : Medium)
+    → IsBegun told memory old middle begun → (counted : Counted told rules answers middle (generated n) after tally new)
+    → Writes status before now (summary (n + 5) (replies_of counted.turns)) → Generates told rules answers n status before now old new
+generates_all told rules answers n status before now memory after tally old middle begun new b counted writes = record {
+  turns = counted.turns;
+  gives = λ done. counted.gives;
+  output = subst (λ (k : ℕ). Writes status before now (summary k (replies_of counted.turns))) (sym (length_all n)) writes;
+  blamed = blamed_before old.faults middle.faults counted.turns new.faults b.earlier counted.goes.blamed;
+  follow = λ tells.
+      let g : IsGoing rules answers middle counted.turns after new = counted.goes.disk tells in
+      follow_from rules answers (started (world_at middle.image)) formatted counted.turns (here tells) g.2.follow;
+  settled = λ tells done.
+      let g : IsGoing rules answers middle counted.turns after new = counted.goes.disk tells in
+      subst (λ (w : World). IsSettled (last_of w (worlds_of counted.turns)) new) (here tells)
+      (ends_settled rules answers (world_at middle.image) (started (world_at middle.image)) (begins_calm middle.image) counted.turns after g.0 middle new g.2);
+}
+  where
+    here : IsTrue told → started (world_at middle.image) ≡ formatted
+    here tells = ap started (b.world tells) ∙ start_formatted

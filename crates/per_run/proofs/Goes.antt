@@ -1,0 +1,54 @@
+-- The run goes on: one command more.
+use Rattle.std.proofs.Common.{ℕ, List, [], ◌∷◌, ◌++◌, ◌≡◌, refl, sym, Option, None, Bool, true, false, IsTrue}
+use Rattle.disk_model.specs.Medium.{Medium, IsLawful, Elapses}
+use Rattle.migrate_fns.specs.Rules.{Rule, Answers}
+use Rattle.command_text.specs.declared.calls.Event.{Event}
+use Rattle.command_text.specs.declared.replies.Reply.{Reply}
+use Rattle.run_model.specs.RunLaws.{blamed_on, starts_going, steps_going}
+use Rattle.run_model.specs.Runtimes.{Memory, IsDoubt, Starts, Stepped, world_of}
+use Rattle.run_model.specs.Turns.{Turn, IsBlamed}
+use Rattle.run_model.specs.Worlds.{Doubt, World, formatted}
+use Rattle.per_run.specs.Steps.{Goes, IsGoing}
+
+-- the turn of a command, with the world after it
+abbrev pub turn : Event → Reply → ℕ → World → Turn
+turn e reply faults w = record { event = e; reply = reply; faults = faults; world = w }
+
+module _ (rules : List Rule) (answers : Answers) (start : Medium) where
+  -- the doubt after a command whose disk tells its bytes
+  told_on : (turns : List Turn) (e : Event) (reply : Reply) (before after : Memory) (now new : Medium) → IsLawful true new → Elapses now new
+      → (g : IsGoing rules answers start turns before now) → (s : Stepped rules answers e reply before after g.0 now new)
+      → IsGoing rules answers start (turns ++ turn e reply new.faults (world_of new.image after s.doubt') ∷ []) after new
+  told_on turns e reply before after now new lawful time g s =
+      (s.doubt', s.is_doubt, steps_going rules answers turns e reply before after g.0 true start now new refl lawful time g.2 s)
+
+  -- one command more
+  pub goes_on : (told : Bool) (turns : List Turn) (e : Event) (reply : Reply) (before after : Memory) (now new : Medium) → IsLawful told new → Elapses now new
+      → Goes told rules answers start turns before now → IsBlamed now.faults new.faults reply
+      → (IsTrue told → (doubt : Option Doubt) → IsDoubt before doubt → Stepped rules answers e reply before after doubt now new)
+      → (w : World) × Goes told rules answers start (turns ++ turn e reply new.faults w ∷ []) after new
+  goes_on false turns e reply before after now new lawful time goes blamed stepped = (
+    formatted,
+    record {
+      blamed = blamed_on start.faults turns (turn e reply new.faults formatted) now.faults goes.blamed blamed;
+      disk = λ tells. let bad : false ≡ true = tells in cc;
+    },
+  )
+  goes_on true turns e reply before after now new lawful time goes blamed stepped =
+      let g : IsGoing rules answers start turns before now = goes.disk refl in
+      let s : Stepped rules answers e reply before after g.0 now new = stepped refl g.0 g.1 in
+      let w : World = world_of new.image after s.doubt' in (
+        w,
+        record {
+          blamed = blamed_on start.faults turns (turn e reply new.faults w) now.faults goes.blamed blamed;
+          disk = λ tells. told_on turns e reply before after now new lawful time g s;
+        },
+      )
+
+-- a runtime that started is a run without a command
+pub goes_none : (told : Bool) (rules : List Rule) (answers : Answers) (memory : Memory) (old new : Medium) → Elapses old new → (IsTrue told → Starts memory old new)
+    → Goes told rules answers old [] memory new
+goes_none told rules answers memory old new time starts = record {
+  blamed = time.faults;
+  disk = λ tells. let s : Starts memory old new = starts tells in (None, sym s.sure, starts_going rules answers memory old new time s);
+}

@@ -1,0 +1,23 @@
+-- Each job, and why it ended so.
+use Rattle.std.proofs.Common.{refl}
+use Rattle.per_run.specs.declared.words.JobKind.TheVariants.{Run, Format, Generate}
+use Rattle.per_run.proofs.Caused.{caused_as, done_as, run_caused, written_caused}
+use Rattle.per_run.proofs.job.run_job.Goals as goal
+
+pub returns-in-Run-clause-job : goal.returns-in-Run-clause-job
+returns-in-Run-clause-job g c = done_as _ _ Run _ _ _ _ _ _ _ _ _ _ _ c.in-Run.is c.run.ensures.run
+
+pub returns-in-Run-clause-caused : goal.returns-in-Run-clause-caused
+returns-in-Run-clause-caused g c = caused_as _ Run _ _ _ c.in-Run.is (run_caused _ _ _ _ _ _ _ _ _ _ _ _ _ _ c.run.ensures.run)
+
+pub returns-in-Format-clause-job : goal.returns-in-Format-clause-job
+returns-in-Format-clause-job g c = done_as _ _ Format _ _ _ _ _ _ _ _ _ _ _ c.in-Format.is c.format.ensures.job
+
+pub returns-in-Format-clause-caused : goal.returns-in-Format-clause-caused
+returns-in-Format-clause-caused g c = caused_as _ Format _ _ _ c.in-Format.is (written_caused Format _ _ _ refl c.format.ensures.status)
+
+pub returns-in-Generate-clause-job : goal.returns-in-Generate-clause-job
+returns-in-Generate-clause-job g c = done_as _ _ (Generate c.in-Generate.number) _ _ _ _ _ _ _ _ _ _ _ c.in-Generate.is c.generate.ensures.job
+
+pub returns-in-Generate-clause-caused : goal.returns-in-Generate-clause-caused
+returns-in-Generate-clause-caused g c = caused_as _ (Generate c.in-Generate.number) _ _ _ c.in-Generate.is (written_caused (Generate c.in-Generate.number) _ _ _ refl c.generate.ensures.status)

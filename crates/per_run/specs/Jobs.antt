@@ -1,0 +1,119 @@
+-- What each job promises, and by which statuses it ends.
+use Rattle.std.specs.Prelude.{◌≡◌, ◌⊎◌, ◌<◌, ℕ, List, [], ◌∷◌, ◌++◌, length, take, Option, Some, None, Bool, true, false, codes, count_by, not, ◌&&◌, IsTrue}
+use Rattle.std.specs.List.{Contains}
+use Rattle.std.specs.Option.{option_or}
+use Rattle.std.specs.Fmt.{decimal}
+use Rattle.std.specs.Io.KnownBytes.{Appends, Keeps}
+use Rattle.per_base.specs.Causes.{Rose}
+use Rattle.disk_model.specs.Medium.{Medium, Quiet}
+use Rattle.migrate_fns.specs.Rules.{Rule, Answers}
+use Rattle.command_text.specs.declared.replies.Answer.{Answer}
+use Rattle.command_text.specs.declared.replies.Answer.TheVariants as answer
+use Rattle.command_text.specs.declared.replies.Reply.{Reply}
+use Rattle.command_text.specs.Generated.{generated}
+use Rattle.deploy_laws.specs.Apps.{IsCleanApp}
+use Rattle.run_model.specs.Endings.{Failed}
+use Rattle.run_model.specs.Lines.{Give}
+use Rattle.run_model.specs.Moments.{last_of}
+use Rattle.run_model.specs.Runs as runs
+use Rattle.run_model.specs.Runs.{IsSettled}
+use Rattle.run_model.specs.Turns.{Turn, events_of, replies_of, worlds_of, AreBlamed, Follow}
+use Rattle.run_model.specs.Worlds.{world_at, formatted}
+use Rattle.per_run.specs.declared.words.JobKind.{JobKind}
+use Rattle.per_run.specs.declared.words.JobKind.TheVariants.{Run, Format, Generate}
+use Rattle.per_run.specs.Words.{reads_input}
+
+-- ---- the output of a job that writes once
+
+-- a front of the text that is not all of it was written
+abbrev pub IsFront : (before now : Option (List ℕ)) → List ℕ → Type 0
+IsFront before now text = (count : ℕ) × (count < length text) × Appends before now (take count text)
+
+-- the job came to its output
+abbrev pub IsDone : ℕ → Type 0
+IsDone status = (status ≡ 0) ⊎ (status ≡ 6)
+
+-- all of the text; where the sink failed a front of it that is not all; and nothing where the job did not come to its output
+pub record Writes (status : ℕ) (before now : Option (List ℕ)) (text : List ℕ) : Type 0 where
+  pub whole : status ≡ 0 → Appends before now text
+  pub front : status ≡ 6 → IsFront before now text
+  pub none : (IsDone status → ⊥) → Keeps before now
+
+-- ---- format
+
+-- eight applications of which nothing is installed, in clean places, and nothing pending
+pub record Formats (told : Bool) (status : ℕ) (before now : Option (List ℕ)) (new : Medium) : Type 0 where
+  pub output : Writes status before now (codes "ok\n")
+  pub world : IsTrue told → IsDone status → world_at new.image ≡ formatted
+  pub clean : IsTrue told → IsDone status → (app : ℕ) → app < 8 → IsCleanApp app new.image
+  pub quiet : IsDone status → Quiet new
+
+-- ---- an input that is made of a number
+
+abbrev pub done_in : Answer → Bool
+done_in answer.Done = true
+done_in other = false
+
+abbrev pub error_in : Answer → Bool
+error_in (answer.Error e) = true
+error_in other = false
+
+abbrev pub number_in : Answer → Option ℕ
+number_in (answer.Number n) = Some n
+number_in other = None
+
+abbrev pub is_done : Reply → Bool
+is_done r = done_in r.answer
+
+abbrev pub is_error : Reply → Bool
+is_error r = error_in r.answer
+
+abbrev pub is_other : Reply → Bool
+is_other r = not (done_in r.answer) && not (error_in r.answer)
+
+-- the number that the storage's size was answered with, which is the first that any reply gave
+abbrev pub size_given : List Reply → Option ℕ
+size_given [] = None
+size_given (r ∷ rs) = option_or (number_in r.answer) (size_given rs)
+
+abbrev pub size_text : Option ℕ → List ℕ
+size_text None = codes "-"
+size_text (Some n) = decimal n
+
+abbrev pub summary_text : (lines done other errors : ℕ) → (size : Option ℕ) → List ℕ
+summary_text lines done other errors size = codes "lines " ++ (decimal lines ++ (codes " ok " ++ (decimal done ++ (codes " other " ++ (decimal other
+    ++ (codes " errors " ++ (decimal errors ++ (codes " size " ++ (size_text size ++ codes "\n")))))))))
+
+-- how many lines there were, how many replies of each sort, and the size
+abbrev pub summary : (lines : ℕ) → List Reply → List ℕ
+summary lines rs = summary_text lines (count_by is_done rs) (count_by is_other rs) (count_by is_error rs) (size_given rs)
+
+-- the lines that the number gives, each with its reply and its world from the formatted one on
+pub record Generates (told : Bool) (rules : List Rule) (answers : Answers) (n status : ℕ) (before now : Option (List ℕ)) (old new : Medium) : Type 0 where
+  pub turns : List Turn
+  pub gives : IsDone status → Give (generated n) (events_of turns)
+  pub output : Writes status before now (summary (length (generated n)) (replies_of turns))
+  pub blamed : AreBlamed old.faults turns new.faults
+  pub follow : IsTrue told → Follow rules answers formatted turns
+  pub settled : IsTrue told → IsDone status → IsSettled (last_of formatted (worlds_of turns)) new
+
+-- ---- all jobs
+
+abbrev pub JobDone : (told : Bool) → JobKind → List Rule → Answers → (status : ℕ) → (left_before left_now before now : Option (List ℕ))
+    → (old_counts new_counts : Failed) → (old new : Medium) → Type 0
+JobDone told Run rules answers status left_before left_now before now old_counts new_counts old new =
+    runs.Run told rules answers status left_before left_now before now old_counts.source new_counts.source old_counts.sink new_counts.sink old new
+JobDone told Format rules answers status left_before left_now before now old_counts new_counts old new = Formats told status before now new
+JobDone told (Generate n) rules answers status left_before left_now before now old_counts new_counts old new = Generates told rules answers n status before now old new
+
+-- the statuses that no failure brings
+abbrev pub statuses_of : JobKind → List ℕ
+statuses_of Run = 0 ∷ 2 ∷ 4 ∷ 7 ∷ []
+statuses_of other = 0 ∷ 4 ∷ []
+
+-- the others come only by a failure in this very run: 3 of the disk, 5 of the source, 6 of the sink
+pub data IsCaused (kind : JobKind) (status : ℕ) (old new : Failed) : Type 0 where
+  by_itself : Contains (statuses_of kind) status → IsCaused kind status old new
+  by_disk : status ≡ 3 → Rose old.disk new.disk → IsCaused kind status old new
+  by_source : status ≡ 5 → IsTrue (reads_input kind) → Rose old.source new.source → IsCaused kind status old new
+  by_sink : status ≡ 6 → Rose old.sink new.sink → IsCaused kind status old new

@@ -1,0 +1,87 @@
+-- Samples, computed: words and the jobs that they say, and the summary of a made input.
+use Rattle.std.specs.Prelude.{◌≡◌, [], ◌∷◌, Option, Some, None, codes}
+use Rattle.std.proofs.Common.{refl}
+use Rattle.std.specs.Fmt.{digits}
+use Rattle.clap.proofs.OnLiterals.{clap_on_literals}
+use Rattle.command_text.specs.declared.replies.Answer.{Answer}
+use Rattle.command_text.specs.declared.replies.Answer.TheVariants as answer
+use Rattle.command_text.specs.declared.replies.Reply.{Reply}
+use Rattle.per_base.specs.declared.errors.PerError.TheVariants as error
+use Rattle.per_run.specs.declared.words.Job.{Job}
+use Rattle.per_run.specs.declared.words.JobKind.{JobKind}
+use Rattle.per_run.specs.declared.words.JobKind.TheVariants.{Run, Format, Generate}
+use Rattle.per_run.specs.Jobs.{summary}
+use Rattle.per_run.specs.Words.{job_of}
+
+-- ---- words
+
+abbrev job : JobKind → Option Job
+job kind = Some (record { dir = codes "d"; kind = kind })
+
+plain : job_of (codes "--dir" ∷ codes "d" ∷ []) ≡ job Run
+unfolding job_of clap_on_literals
+plain = refl
+
+formats : job_of (codes "--format" ∷ codes "--dir" ∷ codes "d" ∷ []) ≡ job Format
+unfolding job_of clap_on_literals
+formats = refl
+
+generates : job_of (codes "--dir=d" ∷ codes "--generate" ∷ codes "5" ∷ []) ≡ job (Generate 5)
+unfolding job_of clap_on_literals
+generates = refl
+
+most : job_of (codes "--generate=+100000" ∷ codes "--dir=d" ∷ []) ≡ job (Generate 100000)
+unfolding job_of clap_on_literals
+most = refl
+
+too_many : job_of (codes "--dir" ∷ codes "d" ∷ codes "--generate" ∷ codes "100001" ∷ []) ≡ None
+unfolding job_of clap_on_literals
+too_many = refl
+
+none_made : job_of (codes "--dir" ∷ codes "d" ∷ codes "--generate" ∷ codes "0" ∷ []) ≡ None
+unfolding job_of clap_on_literals
+none_made = refl
+
+both : job_of (codes "--dir" ∷ codes "d" ∷ codes "--format" ∷ codes "--generate" ∷ codes "5" ∷ []) ≡ None
+unfolding job_of clap_on_literals
+both = refl
+
+twice : job_of (codes "--dir" ∷ codes "d" ∷ codes "--format" ∷ codes "--format" ∷ []) ≡ None
+unfolding job_of clap_on_literals
+twice = refl
+
+no_folder : job_of (codes "--dir" ∷ []) ≡ None
+unfolding job_of clap_on_literals
+no_folder = refl
+
+empty_folder : job_of (codes "--dir=" ∷ []) ≡ None
+unfolding job_of clap_on_literals
+empty_folder = refl
+
+no_words : job_of [] ≡ None
+unfolding job_of clap_on_literals
+no_words = refl
+
+helps : job_of (codes "--help" ∷ []) ≡ None
+unfolding job_of clap_on_literals
+helps = refl
+
+more : job_of (codes "--dir" ∷ codes "d" ∷ codes "x" ∷ []) ≡ None
+unfolding job_of clap_on_literals
+more = refl
+
+-- ---- a made input
+
+abbrev reply : Answer → Reply
+reply a = record { reports = []; answer = a }
+
+-- its storage was installed and opened, a number set and all synchronised, measured and closed
+one : summary 6 (reply answer.Done ∷ reply answer.Done ∷ reply answer.Done ∷ reply answer.Done ∷ reply (answer.Number 11) ∷ reply answer.Done ∷ [])
+    ≡ codes "lines 6 ok 5 other 1 errors 0 size 11\n"
+unfolding digits
+one = refl
+
+-- every command was refused
+refused : summary 2 (reply (answer.Error error.NotInstalled) ∷ reply (answer.Error error.NotOpen) ∷ []) ≡ codes "lines 2 ok 0 other 0 errors 2 size -\n"
+unfolding digits
+refused = refl

@@ -1,0 +1,75 @@
+//! One line: what it says, and its command's answer.
+
+ghost use Rattle.std.specs.Prelude.{◌≡◌, ℕ, List};
+ghost use Rattle.disk_model.specs.Medium.{Elapses};
+ghost use Rattle.migrate_fns.specs.Stored.{answers_of, rules_of};
+ghost use Rattle.command_text.specs.Grammar.{IsEvent, IsLine};
+ghost use Rattle.command_text.specs.declared.lines.Line.{Line};
+ghost use Rattle.per_runtime.specs.Memories.{IsRuntime, memory_of};
+ghost use Rattle.per_run.specs.Steps.{Came};
+ghost use Rattle.per_run.specs.declared.answering.Outcome.{Outcome};
+
+use command_text::{Event, Line, LineError, Reply, parse_line};
+use disk_model::Disk;
+use migrate_fns::Migrations;
+use per_runtime::Runtime;
+use std::alloc::Global;
+
+/// What came of a line.
+#[derive(Drop)]
+pub enum Outcome {
+    /// It says nothing.
+    Nothing,
+    /// It is the end.
+    End,
+    /// It is outside the grammar.
+    Bad,
+    /// Its command was answered.
+    Answered(Reply),
+    /// Memory ran out.
+    OutOfMemory,
+}
+
+/// Reads a line and does what it says.
+pub fn answer_line<D: Disk>(
+    alloc: Global,
+    runtime: &mut Runtime,
+    migrations: &Migrations,
+    disk: &mut D,
+    text: &[u8],
+) -> Outcome
+    requires { IsRuntime D.told (D.medium disk.old) runtime.old }
+    ensures came { Came D.told D.medium (rules_of migrations.now) (answers_of migrations.now) text.now (memory_of runtime.old) (memory_of runtime.new)
+        disk.old disk.new result }
+    ensures memory { (result ≡ Outcome.OutOfMemory → ⊥) → IsRuntime D.told (D.medium disk.new) runtime.new }
+    ensures time { Elapses (D.medium disk.old) (D.medium disk.new) }
+{
+    match parse_line(alloc, text) {
+        Ok(Line::Nothing) => Outcome::Nothing,
+        Ok(Line::End) => Outcome::End,
+        Ok(Line::Event(event)) => answer(runtime, migrations, disk, &event),
+        Err(LineError::NotALine) => Outcome::Bad,
+        Err(LineError::OutOfMemory) => Outcome::OutOfMemory,
+    }
+}
+
+/// Does what a command says.
+fn answer<D: Disk>(
+    runtime: &mut Runtime,
+    migrations: &Migrations,
+    disk: &mut D,
+    event: &Event,
+) -> Outcome
+    requires event { IsEvent event.now }
+    requires memory { IsRuntime D.told (D.medium disk.old) runtime.old }
+    ensures came { (text : List ℕ) → IsLine text (Line.Event event.now)
+        → Came D.told D.medium (rules_of migrations.now) (answers_of migrations.now) text (memory_of runtime.old) (memory_of runtime.new)
+        disk.old disk.new result }
+    ensures memory { (result ≡ Outcome.OutOfMemory → ⊥) → IsRuntime D.told (D.medium disk.new) runtime.new }
+    ensures time { Elapses (D.medium disk.old) (D.medium disk.new) }
+{
+    match runtime.step(disk, migrations, event) {
+        Ok(reply) => Outcome::Answered(reply),
+        Err(_) => Outcome::OutOfMemory,
+    }
+}

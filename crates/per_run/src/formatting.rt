@@ -1,0 +1,27 @@
+//! The job that formats the disk.
+
+ghost use Rattle.std.specs.Prelude.{◌≡◌, ◌⊎◌};
+ghost use Rattle.disk_model.specs.Medium.{Elapses};
+ghost use Rattle.per_base.specs.Causes.{Rose};
+ghost use Rattle.per_run.specs.Jobs.{Formats};
+
+use crate::endings::{DEVICE, OUT_OF_MEMORY};
+use crate::writing::write_output;
+use deploy::{Stop, format_all};
+use disk_model::Disk;
+use per_base::Sink;
+use std::alloc::Global;
+
+/// Formats the disk for all applications, and says so.
+pub fn format<D: Disk, K: Sink>(alloc: Global, sink: &mut K, disk: &mut D) -> u8
+    ensures job { Formats D.told result (K.written sink.old) (K.written sink.new) (D.medium disk.new) }
+    ensures status { (result ≡ 0) ⊎ ((result ≡ 4) ⊎ (((result ≡ 3) × Rose (D.medium disk.old).faults (D.medium disk.new).faults)
+        ⊎ ((result ≡ 6) × Rose (K.faults sink.old) (K.faults sink.new)))) }
+    ensures time { Elapses (D.medium disk.old) (D.medium disk.new) }
+{
+    match format_all(alloc, disk) {
+        Ok(()) => write_output(sink, b"ok\n"),
+        Err(Stop::Device) => DEVICE,
+        Err(Stop::OutOfMemory) => OUT_OF_MEMORY,
+    }
+}

@@ -1,0 +1,102 @@
+//! The top call.
+
+ghost use Rattle.std.specs.Prelude.{◌≡◌, ◌⊎◌, IfSome, None, false, map, string_bytes};
+ghost use Rattle.disk_model.specs.Medium.{Elapses};
+ghost use Rattle.migrate_fns.specs.Stored.{answers_of, rules_of};
+ghost use Rattle.per_base.specs.Causes.{Rose};
+ghost use Rattle.run_model.specs.Lines.{IsWellFormed};
+ghost use Rattle.per_run.specs.Jobs.{IsCaused, JobDone};
+ghost use Rattle.per_run.specs.Steps.{IsInRange};
+ghost use Rattle.per_run.specs.Words.{job_of, reads_input};
+ghost use Rattle.per_run.specs.declared.words.JobKind.{JobKind};
+
+use crate::endings::{OUT_OF_MEMORY, REFUSED};
+use crate::formatting::format;
+use crate::generating::generate;
+use crate::run::run;
+use crate::words::{JobKind, WordsError, read_words};
+use command_text::one_line;
+use disk_model::Disk;
+use migrate_fns::Migrations;
+use per_base::{Sink, Source};
+use run_model::applications_stand;
+use std::alloc::Global;
+
+/// Reads the words and does the job that they say. The status:
+///
+/// | status | comes |
+/// |---|---|
+/// | 0 | the job is done: the input was read to its end or to the line `end`, the disk is formatted, or the made input is handled; and all output is written |
+/// | 1 | only where the words are refused; nothing was read or written |
+/// | 2 | the line `bad-line N` says is outside the grammar; all lines before it were handled and answered |
+/// | 3 | the disk failed while the runtime started or the disk was formatted |
+/// | 4 | memory ran out |
+/// | 5 | the source failed; all whole lines before were handled and answered |
+/// | 6 | the sink failed; what it took is a front of the output |
+/// | 7 | 67,108,864 bytes were taken, and neither `end` nor the end of the input was among them |
+pub fn per_run<D: Disk, S: Source, K: Sink>(
+    alloc: Global,
+    words: &[String],
+    migrations: &Migrations,
+    source: &mut S,
+    sink: &mut K,
+    disk: &mut D,
+) -> u8
+    // Refused words, and only they, give 1, unless memory ran out; and then nothing happened.
+    ensures refused { result ≡ 1 → job_of (map string_bytes words.now) ≡ None }
+    ensures words { job_of (map string_bytes words.now) ≡ None → (result ≡ 1) ⊎ (result ≡ 4) }
+    ensures untouched { job_of (map string_bytes words.now) ≡ None → (source.new ≡ source.old) × (sink.new ≡ sink.old) × (disk.new ≡ disk.old) }
+
+    // What the job promises, and why it ended so.
+    ensures job { IfSome (job_of (map string_bytes words.now)) (λ job. JobDone D.told job.kind (rules_of migrations.now) (answers_of migrations.now) result
+        (S.left source.old) (S.left source.new) (K.written sink.old) (K.written sink.new)
+        (record { disk = (D.medium disk.old).faults; source = S.faults source.old; sink = K.faults sink.old })
+        (record { disk = (D.medium disk.new).faults; source = S.faults source.new; sink = K.faults sink.new })
+        (D.medium disk.old) (D.medium disk.new)) }
+    ensures caused { IfSome (job_of (map string_bytes words.now)) (λ job. IsCaused job.kind result
+        (record { disk = (D.medium disk.old).faults; source = S.faults source.old; sink = K.faults sink.old })
+        (record { disk = (D.medium disk.new).faults; source = S.faults source.new; sink = K.faults sink.new })) }
+    ensures unread { IfSome (job_of (map string_bytes words.now)) (λ job. reads_input job.kind ≡ false → source.new ≡ source.old) }
+
+    // A run over lines that are all in the grammar, with no failure, handles them all, unless memory ran out.
+    ensures complete { IfSome (job_of (map string_bytes words.now)) (λ job. job.kind ≡ JobKind.Run
+        → (Rose (D.medium disk.old).faults (D.medium disk.new).faults → ⊥) → (Rose (S.faults source.old) (S.faults source.new) → ⊥)
+        → (Rose (K.faults sink.old) (K.faults sink.new) → ⊥) → IfSome (S.left source.old) (λ left. IsWellFormed left → (result ≡ 0) ⊎ (result ≡ 4))) }
+    ensures time { Elapses (D.medium disk.old) (D.medium disk.new) }
+{
+    applications_stand();
+    one_line();
+    match read_words(alloc, words) {
+        Ok(job) => run_job(alloc, job.kind, migrations, source, sink, disk),
+        Err(WordsError::Refused) => REFUSED,
+        Err(WordsError::OutOfMemory) => OUT_OF_MEMORY,
+    }
+}
+
+/// Does a job.
+fn run_job<D: Disk, S: Source, K: Sink>(
+    alloc: Global,
+    kind: JobKind,
+    migrations: &Migrations,
+    source: &mut S,
+    sink: &mut K,
+    disk: &mut D,
+) -> u8
+    requires { IsInRange kind }
+    ensures job { JobDone D.told kind (rules_of migrations.now) (answers_of migrations.now) result
+        (S.left source.old) (S.left source.new) (K.written sink.old) (K.written sink.new)
+        (record { disk = (D.medium disk.old).faults; source = S.faults source.old; sink = K.faults sink.old })
+        (record { disk = (D.medium disk.new).faults; source = S.faults source.new; sink = K.faults sink.new })
+        (D.medium disk.old) (D.medium disk.new) }
+    ensures caused { IsCaused kind result
+        (record { disk = (D.medium disk.old).faults; source = S.faults source.old; sink = K.faults sink.old })
+        (record { disk = (D.medium disk.new).faults; source = S.faults source.new; sink = K.faults sink.new }) }
+    ensures unread { reads_input kind ≡ false → source.new ≡ source.old }
+    ensures time { Elapses (D.medium disk.old) (D.medium disk.new) }
+{
+    match kind {
+        JobKind::Run => run(alloc, migrations, source, sink, disk),
+        JobKind::Format => format(alloc, sink, disk),
+        JobKind::Generate(number) => generate(alloc, number, migrations, sink, disk),
+    }
+}

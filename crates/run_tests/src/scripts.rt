@@ -1,0 +1,370 @@
+//! Scripts: lines that are cut off, or meet a failure, at each place.
+
+use crate::counting::Counting;
+use crate::images::Snapshot;
+use crate::rows::{Named, line_of, told};
+use crate::runs::{Failing, Ran, SOURCE_PIECE, run, run_lines};
+use crate::transcripts::answers;
+use disk_model::MemDisk;
+use migrate_fns::Migrations;
+use std::alloc::{AllocError, Global};
+use test_rows::RowError;
+
+/// No script makes so many calls of a disk or of a stream.
+const ENOUGH: u64 = 100_000;
+
+/// What a restart keeps of the writes since the last sync.
+#[derive(Clone, Copy)]
+enum Restart {
+    All,
+    None,
+    /// Every other write, in the order in which they came.
+    EveryOther,
+}
+
+const RESTARTS: [Restart; 3] = [Restart::All, Restart::None, Restart::EveryOther];
+
+impl Restart {
+    fn name(self) -> &'static str {
+        match self {
+            Restart::All => "all",
+            Restart::None => "none",
+            Restart::EveryOther => "every other",
+        }
+    }
+
+    fn restarted(self, disk: MemDisk) -> Result<MemDisk, AllocError> {
+        match self {
+            Restart::All => disk.crash(true),
+            Restart::None => disk.crash(false),
+            Restart::EveryOther => disk.crash_torn(0x5555_5555_5555_5555),
+        }
+    }
+}
+
+/// Lines on a disk, and lines that look at what is left of it in a new run.
+#[derive(Drop)]
+pub(crate) struct Script {
+    alloc: Global,
+    start: Snapshot,
+    /// Each with its line feed.
+    lines: Vec<String>,
+    input: String,
+    look: String,
+}
+
+impl Script {
+    /// The script of rows that wait for it, from this disk on.
+    pub(crate) fn of_rows(
+        alloc: Global,
+        start: Snapshot,
+        texts: &[Named],
+        rows: &[String],
+    ) -> Result<Script, RowError> {
+        let mut script = Script {
+            alloc,
+            start,
+            lines: Vec::new(alloc),
+            input: String::new(alloc),
+            look: String::new(alloc),
+        };
+        for row in rows {
+            script.add(texts, row.as_str())?;
+        }
+        Ok(script)
+    }
+
+    fn add(&mut self, texts: &[Named], row: &str) -> Result<(), RowError> {
+        if let Some(look) = row.strip_prefix("? ") {
+            self.look.push_str(look)?;
+            self.look.push('\n')?;
+        }
+        if let Some(line) = line_of(row)? {
+            let mut text = told(self.alloc, texts, line.text)?;
+            text.push('\n')?;
+            self.input.push_str(text.as_str())?;
+            self.lines.push(text)?;
+        }
+        Ok(())
+    }
+
+    /// What a look finds after each number of lines; then `= kept` where, after a stop at each call of the disk and each restart, it finds
+    /// what it does after the lines that were answered or after one more, and once it found the latter it stays so. Else the first stop
+    /// after which it does not. Lines count as answered up to the first that failed at the disk.
+    pub(crate) fn stops(&self, migrations: &Migrations) -> Result<String, RowError> {
+        let states = self.states(migrations)?;
+        let mut shown = String::new(self.alloc);
+        for (count, state) in states.iter().enumerate() {
+            write!(shown, "< {count}: {state}\n")?;
+        }
+        let moments = self.moments(migrations)?;
+        for restart in RESTARTS {
+            if let Some(fault) = self.stopped(migrations, &states, &moments, restart)? {
+                shown.push_str(fault.as_str())?;
+                return Ok(shown);
+            }
+        }
+        shown.push_str("= kept\n")?;
+        Ok(shown)
+    }
+
+    /// `= kept` where for each call of the disk that fails alone all other lines are handled, one is answered error 4, and a look at the end of
+    /// the run finds what one in a new run finds, which is one of the states that the lines lead through. Where the start fails, the
+    /// status is 3, and nothing is written. Else the first call for which it is not so.
+    pub(crate) fn failures(&self, migrations: &Migrations) -> Result<String, RowError> {
+        let states = self.states(migrations)?;
+        let input = format!(in self.alloc; "{}{}", self.input, self.look)?;
+        for call in 0..self.calls(migrations)? {
+            let (ran, disk) = self.failed_at(migrations, input.as_str(), call)?;
+            let found = self.found(migrations, disk)?;
+            if !is_kept(self.alloc, &states, self.lines.len(), &ran, found.as_str())? {
+                let status = ran.status;
+                return Ok(format!(in self.alloc; "= call {call}: status {status}, {found}\n")?);
+            }
+        }
+        text(self.alloc, "= kept\n")
+    }
+
+    /// `= kept` where a call of the source that fails gives status 5 and the replies to all whole lines before it, and a call of the sink that
+    /// fails status 6 and a front of the output. Else the first call for which it is not so.
+    pub(crate) fn cuts(&self, migrations: &Migrations) -> Result<String, RowError> {
+        let mut disk = self.start.disk(self.alloc)?;
+        let whole = run_lines(self.alloc, migrations, self.input.as_str(), &mut disk)?;
+        if let Some(fault) = self.source_cuts(migrations, whole.output.as_str())? {
+            return Ok(fault);
+        }
+        if let Some(fault) = self.sink_cuts(migrations, whole.output.as_str())? {
+            return Ok(fault);
+        }
+        text(self.alloc, "= kept\n")
+    }
+
+    /// What a look finds after none of the lines, after one, and so on.
+    fn states(&self, migrations: &Migrations) -> Result<Vec<String>, RowError> {
+        let mut states = Vec::new(self.alloc);
+        let mut input = String::new(self.alloc);
+        states.push(self.state(migrations, "")?)?;
+        for line in &self.lines {
+            input.push_str(line.as_str())?;
+            states.push(self.state(migrations, input.as_str())?)?;
+        }
+        Ok(states)
+    }
+
+    /// What a look finds after an input.
+    fn state(&self, migrations: &Migrations, input: &str) -> Result<String, RowError> {
+        let mut disk = self.start.disk(self.alloc)?;
+        run_lines(self.alloc, migrations, input, &mut disk)?;
+        self.found(migrations, disk.crash(true)?)
+    }
+
+    /// What a look finds on a disk.
+    fn found(&self, migrations: &Migrations, disk: MemDisk) -> Result<String, RowError> {
+        let mut disk = disk;
+        let ran = run_lines(self.alloc, migrations, self.look.as_str(), &mut disk)?;
+        Ok(answers(self.alloc, ran.output.as_str())?)
+    }
+
+    /// After how many calls of the disk the lines are stopped: none, each behind which something was written or synced, and all. What a stop
+    /// behind another call leaves is what one of these leaves.
+    fn moments(&self, migrations: &Migrations) -> Result<Vec<u64>, RowError> {
+        let disk = self.start.disk(self.alloc)?;
+        let mut counting = Counting::new(disk, vec![in self.alloc; 0]?);
+        run_lines(self.alloc, migrations, self.input.as_str(), &mut counting)?;
+        let calls = counting.calls();
+        let mut moments = counting.into_moments();
+        moments.push(calls)?;
+        Ok(moments)
+    }
+
+    /// The first stop that does not keep what it should, under one kind of restart.
+    fn stopped(
+        &self,
+        migrations: &Migrations,
+        states: &[String],
+        moments: &[u64],
+        restart: Restart,
+    ) -> Result<Option<String>, RowError> {
+        let mut last = Stop::default();
+        for passing in moments {
+            let mut disk = self.start.disk(self.alloc)?;
+            disk.stop_after(*passing);
+            let ran = run_lines(self.alloc, migrations, self.input.as_str(), &mut disk)?;
+            let answered = answered(ran.output.as_str());
+            let found = self.found(migrations, restart.restarted(disk)?)?;
+            let now = Stop::at(&last, states, answered, found.as_str());
+            if !now.is_kept {
+                let name = restart.name();
+                return Ok(Some(format!(in self.alloc;
+                    "= restart {name} after {passing} calls: {found}\n"
+                )?));
+            }
+            last = now;
+        }
+        Ok(None)
+    }
+
+    /// How many calls of the disk the lines make.
+    fn calls(&self, migrations: &Migrations) -> Result<u64, RowError> {
+        let disk = self.start.disk(self.alloc)?;
+        let mut counting = Counting::new(disk, Vec::new(self.alloc));
+        run_lines(self.alloc, migrations, self.input.as_str(), &mut counting)?;
+        Ok(counting.calls())
+    }
+
+    /// The lines with one call of the disk failing, and the disk after a restart.
+    fn failed_at(
+        &self,
+        migrations: &Migrations,
+        input: &str,
+        call: u64,
+    ) -> Result<(Ran, MemDisk), RowError> {
+        let mut disk = self.start.disk(self.alloc)?;
+        disk.fail_calls(vec![in self.alloc; call]?);
+        let ran = run_lines(self.alloc, migrations, input, &mut disk)?;
+        Ok((ran, disk.crash(true)?))
+    }
+
+    fn source_cuts(
+        &self,
+        migrations: &Migrations,
+        whole: &str,
+    ) -> Result<Option<String>, RowError> {
+        for call in 0..ENOUGH {
+            let failing = Failing {
+                source: vec![in self.alloc; call]?,
+                sink: Vec::new(self.alloc),
+            };
+            let ran = self.cut(migrations, failing)?;
+            if ran.status == 0 {
+                return Ok(None);
+            }
+            let taken = lines_in(self.input.as_str(), call);
+            if ran.status != 5 || ran.output.as_str() != front(whole, taken) {
+                return Ok(Some(format!(in self.alloc;
+                    "= call {call} of the source: status {}\n",
+                    ran.status
+                )?));
+            }
+        }
+        Ok(Some(text(self.alloc, "= no end\n")?))
+    }
+
+    fn sink_cuts(&self, migrations: &Migrations, whole: &str) -> Result<Option<String>, RowError> {
+        for call in 0..ENOUGH {
+            let failing = Failing {
+                source: Vec::new(self.alloc),
+                sink: vec![in self.alloc; call]?,
+            };
+            let ran = self.cut(migrations, failing)?;
+            if ran.status == 0 {
+                return Ok(None);
+            }
+            let is_front = whole.starts_with(ran.output.as_str()) && ran.output.len() < whole.len();
+            if ran.status != 6 || !is_front {
+                return Ok(Some(format!(in self.alloc;
+                    "= call {call} of the sink: status {}\n",
+                    ran.status
+                )?));
+            }
+        }
+        Ok(Some(text(self.alloc, "= no end\n")?))
+    }
+
+    /// The lines over streams that fail.
+    fn cut(&self, migrations: &Migrations, failing: Failing) -> Result<Ran, RowError> {
+        let mut disk = self.start.disk(self.alloc)?;
+        let input = self.input.clone()?;
+        Ok(run(self.alloc, "--dir d", migrations, input, failing, &mut disk)?)
+    }
+}
+
+/// What a look found after a stop.
+#[derive(Clone, Copy, Default)]
+struct Stop {
+    /// How many lines were answered.
+    answered: usize,
+    /// Whether what was found is as after one line more, and not as after those that were answered.
+    is_past: bool,
+    is_kept: bool,
+}
+
+impl Stop {
+    fn at(last: &Stop, states: &[String], answered: usize, found: &str) -> Stop {
+        let is_before = is_state(states, answered, found);
+        let is_after = is_state(states, answered.saturating_add(1), found);
+        let was_past = last.is_past && last.answered == answered;
+        Stop {
+            answered,
+            is_past: is_after && !is_before,
+            is_kept: is_after || (is_before && !was_past),
+        }
+    }
+}
+
+fn text(alloc: Global, words: &str) -> Result<String, RowError> {
+    Ok(String::from_str(alloc, words)?)
+}
+
+fn is_state(states: &[String], count: usize, found: &str) -> bool {
+    match states.get(count) {
+        Some(state) => state.as_str() == found,
+        None => false,
+    }
+}
+
+/// Whether a run in which one call failed, and whose last lines look at what is left, is as it should be.
+fn is_kept(
+    alloc: Global,
+    states: &[String],
+    lines: usize,
+    ran: &Ran,
+    found: &str,
+) -> Result<bool, AllocError> {
+    let output = ran.output.as_str();
+    if ran.status == 3 {
+        return Ok(output.is_empty() && is_state(states, 0, found));
+    }
+    let look = output.get(front(output, lines).len()..).unwrap_or("");
+    let is_one = output.matches("error 4 ").count() == 1;
+    let is_known = states.iter().any(|state| state.as_str() == found);
+    let look = answers(alloc, look)?;
+    Ok(ran.status == 0 && is_one && is_known && look.as_str() == found)
+}
+
+/// How many lines were answered before the first that failed at the disk.
+fn answered(output: &str) -> usize {
+    let mut count = 0usize;
+    for line in output.lines() {
+        if line.starts_with("error 4 ") {
+            break;
+        }
+        if !line.starts_with("report ") {
+            count = count.saturating_add(1);
+        }
+    }
+    count
+}
+
+/// How many whole lines so many calls of a source give.
+fn lines_in(input: &str, calls: u64) -> usize {
+    let bytes = calls.saturating_mul(SOURCE_PIECE as u64) as usize;
+    let taken = input.as_bytes().get(..bytes).unwrap_or(input.as_bytes());
+    taken.iter().filter(|byte| **byte == b'\n').count()
+}
+
+/// The replies to so many lines, at the front of an output.
+fn front(output: &str, lines: usize) -> &str {
+    let mut length = 0usize;
+    let mut count = 0usize;
+    for line in output.split_inclusive('\n') {
+        if count >= lines {
+            break;
+        }
+        length = length.saturating_add(line.len());
+        if !line.starts_with("report ") {
+            count = count.saturating_add(1);
+        }
+    }
+    output.get(..length).unwrap_or(output)
+}

@@ -1,0 +1,214 @@
+//! Sessions: rows that wait for a run, the disk, and what goes wrong in the next run.
+
+use crate::counting::Counting;
+use crate::images::{Snapshot, flip};
+use crate::rows::{Named, input_of, parted};
+use crate::runs::{Failing, Ran, run, run_lines};
+use crate::scripts::Script;
+use crate::transcripts::transcript;
+use disk_model::MemDisk;
+use migrate_fns::Migrations;
+use std::alloc::{AllocError, Global};
+use std::mem;
+use test_rows::{RowError, number};
+
+/// A disk from run to run, and the rows since the last run.
+#[derive(Drop)]
+pub(crate) struct Session {
+    alloc: Global,
+    disk: MemDisk,
+    texts: Vec<Named>,
+    rows: Vec<String>,
+    failing: Failing,
+}
+
+impl Session {
+    /// A session that begins with an empty disk.
+    pub(crate) fn new(alloc: Global) -> Session {
+        Session {
+            alloc,
+            disk: MemDisk::new(alloc),
+            texts: Vec::new(alloc),
+            rows: Vec::new(alloc),
+            failing: Failing::none(alloc),
+        }
+    }
+
+    /// Takes a row, and gives what is printed of it and of those that waited; nothing where it waits too.
+    pub(crate) fn take(
+        &mut self,
+        migrations: &Migrations,
+        row: &str,
+    ) -> Result<Option<String>, RowError> {
+        let (word, rest) = parted(row, " ");
+        match word {
+            "run" => self.run(migrations, row, rest),
+            "stops" | "failures" | "cuts" => self.follow(migrations, row),
+            _ => self.prepare(migrations, row, word, rest),
+        }
+    }
+
+    /// A row that runs no line.
+    fn prepare(
+        &mut self,
+        migrations: &Migrations,
+        row: &str,
+        word: &str,
+        rest: &str,
+    ) -> Result<Option<String>, RowError> {
+        match word {
+            "disk" => self.begin(migrations, rest)?,
+            "flip" => flip(self.alloc, &mut self.disk, rest)?,
+            "fail" => self.plan(rest)?,
+            _ => self.name(row)?,
+        }
+        if word == "fail"
+            || word == "stop"
+            || word == "?"
+            || row.starts_with('>')
+            || !self.rows.is_empty()
+        {
+            self.rows.push(String::from_str(self.alloc, row)?)?;
+            return Ok(None);
+        }
+        Ok(Some(format!(in self.alloc; "{row}\n")?))
+    }
+
+    /// Begins with a new disk.
+    fn begin(&mut self, migrations: &Migrations, kind: &str) -> Result<(), RowError> {
+        self.disk = MemDisk::new(self.alloc);
+        if kind == "formatted" {
+            let none = String::new(self.alloc);
+            let failing = Failing::none(self.alloc);
+            let ran = run(
+                self.alloc,
+                "--dir d --format",
+                migrations,
+                none,
+                failing,
+                &mut self.disk,
+            )?;
+            if ran.status != 0 {
+                return Err(RowError::NotARow);
+            }
+            self.restart()?;
+        }
+        Ok(())
+    }
+
+    /// `source N` or `sink N`: the call that fails in the next run.
+    fn plan(&mut self, rest: &str) -> Result<(), RowError> {
+        let (end, call) = parted(rest, " ");
+        match end {
+            "source" => self.failing.source.push(u64::from(number(call)?))?,
+            "sink" => self.failing.sink.push(u64::from(number(call)?))?,
+            _ => {}
+        }
+        Ok(())
+    }
+
+    /// Keeps the text that a row names.
+    fn name(&mut self, row: &str) -> Result<(), AllocError> {
+        if let Some(named) = Named::of_row(self.alloc, row)? {
+            self.texts.push(named)?;
+        }
+        Ok(())
+    }
+
+    /// Runs the lines that wait.
+    fn run(
+        &mut self,
+        migrations: &Migrations,
+        row: &str,
+        words: &str,
+    ) -> Result<Option<String>, RowError> {
+        self.plan_disk(migrations)?;
+        let rows = mem::replace(&mut self.rows, Vec::new(self.alloc));
+        let failing = mem::replace(&mut self.failing, Failing::none(self.alloc));
+        let input = input_of(self.alloc, &self.texts, &rows)?;
+        let words = if words.is_empty() { "--dir d" } else { words };
+        let Ran { status, output } = run(
+            self.alloc,
+            words,
+            migrations,
+            input,
+            failing,
+            &mut self.disk,
+        )?;
+        self.restart()?;
+        let shown = transcript(self.alloc, &rows, row, output.as_str())?;
+        Ok(Some(format!(in self.alloc; "{shown}= {status}\n")?))
+    }
+
+    /// Follows the script of the lines that wait.
+    fn follow(&mut self, migrations: &Migrations, row: &str) -> Result<Option<String>, RowError> {
+        let rows = mem::replace(&mut self.rows, Vec::new(self.alloc));
+        let start = Snapshot::taken(self.alloc, &mut self.disk)?;
+        let script = Script::of_rows(self.alloc, start, &self.texts, &rows)?;
+        let told = match row {
+            "stops" => script.stops(migrations)?,
+            "failures" => script.failures(migrations)?,
+            _ => script.cuts(migrations)?,
+        };
+        let shown = transcript(self.alloc, &rows, row, "")?;
+        Ok(Some(format!(in self.alloc; "{shown}{told}")?))
+    }
+
+    /// Plans the calls of the disk that a row among the lines that wait tells to fail.
+    fn plan_disk(&mut self, migrations: &Migrations) -> Result<(), RowError> {
+        if let Some((place, failure)) = failure_in(&self.rows) {
+            let next = match failure {
+                DiskFailure::Start => 0,
+                DiskFailure::Next | DiskFailure::All => self.calls_before(migrations, place)?,
+            };
+            match failure {
+                DiskFailure::All => self.disk.stop_after(next),
+                DiskFailure::Start | DiskFailure::Next => {
+                    self.disk.fail_calls(vec![in self.alloc; next]?);
+                }
+            }
+        }
+        Ok(())
+    }
+
+    /// How many calls of the disk the lines of the first rows make.
+    fn calls_before(&mut self, migrations: &Migrations, rows: usize) -> Result<u64, RowError> {
+        let disk = Snapshot::taken(self.alloc, &mut self.disk)?.disk(self.alloc)?;
+        let front = self.rows.get(..rows).unwrap_or(&[]);
+        let input = input_of(self.alloc, &self.texts, front)?;
+        let mut counting = Counting::new(disk, Vec::new(self.alloc));
+        run_lines(self.alloc, migrations, input.as_str(), &mut counting)?;
+        Ok(counting.calls())
+    }
+
+    /// Restarts the disk with all that was written.
+    fn restart(&mut self) -> Result<(), AllocError> {
+        let disk = mem::replace(&mut self.disk, MemDisk::new(self.alloc));
+        self.disk = disk.crash(true)?;
+        Ok(())
+    }
+}
+
+/// Which calls of the disk fail in a run.
+#[derive(Clone, Copy)]
+enum DiskFailure {
+    /// The first one.
+    Start,
+    /// The next one behind the lines before.
+    Next,
+    /// Each one behind the lines before.
+    All,
+}
+
+/// The first row that tells the disk to fail, and its place.
+fn failure_in(rows: &[String]) -> Option<(usize, DiskFailure)> {
+    for (place, row) in rows.iter().enumerate() {
+        match row.as_str() {
+            "fail start" => return Some((place, DiskFailure::Start)),
+            "fail disk" => return Some((place, DiskFailure::Next)),
+            "stop disk" => return Some((place, DiskFailure::All)),
+            _ => {}
+        }
+    }
+    None
+}
