@@ -4,25 +4,30 @@ use Rattle.disk_model.specs.Case.{Case, IsSettledAt}
 use Rattle.disk_model.specs.Frame.{IsSettledOn, Spares}
 use Rattle.disk_model.specs.Image.{Image}
 use Rattle.disk_model.specs.Medium.{EachCase, IsIdle, IsLawful, Medium, Quiet}
-use Rattle.deploy.specs.Clauses.{Leaves}
+use Rattle.deploy.specs.Clauses.{IsBesideNext, IsNoRootSlot, Leaves}
+use Rattle.deploy.specs.Remaining.{IsBesideCommit}
 use Rattle.deploy_laws.specs.Apps.{App, app_at}
 use Rattle.deploy_laws.specs.Laws.{UntouchedAppLaw}
-use Rattle.deploy_laws.specs.Places.{IsBeside, IsBesideNew, IsFileOf, IsNoFileOf, IsNoRootFile, IsOutsideBank}
+use Rattle.deploy_laws.specs.Places.{IsBeside, IsFileOf, IsNoFileOf, IsOutsideBank}
 use Rattle.deploy_laws.specs.Stands.{StandsThroughout}
 use Rattle.app_storages.specs.Answers.{CallsTo}
 
 -- ---- files
 
-pub no_root : (app f : ℕ) → IsNoFileOf app f → IsNoRootFile app f
-no_root app f (inl lt) = inl lt
-no_root app f (inr le) = inr (omega (arith, le))
+pub no_root : (app f : ℕ) → app < 8 → IsNoFileOf app f → IsNoRootSlot app f
+no_root app f small (inl lt) copy parity ltc ltp e = absurd (omega (arith, small, lt, ltc, ltp, e))
+no_root app f small (inr le) copy parity ltc ltp e = absurd (omega (arith, small, le, ltc, ltp, e))
 
 outside_bank : (app bank f : ℕ) → bank ≤ 1 → IsNoFileOf app f → IsOutsideBank app bank f
 outside_bank app bank f leb (inl lt) = inl (omega (arith, lt))
 outside_bank app bank f leb (inr le) = inr (omega (arith, le, leb))
 
-pub beside_new : (app bank f : ℕ) → bank ≤ 1 → IsNoFileOf app f → IsBesideNew app bank f
-beside_new app bank f leb is = (no_root app f is, outside_bank app bank f leb is)
+pub beside_next : (app bank f : ℕ) → app < 8 → bank ≤ 1 → IsNoFileOf app f → IsBesideNext app bank f
+beside_next app bank f small leb is = (no_root app f small is, outside_bank app bank f leb is)
+
+pub beside_commit : (app bank built count f : ℕ) → app < 8 → bank ≤ 1 → count ≤ 16 → IsNoFileOf app f → IsBesideCommit app bank built count f
+beside_commit app bank built count f small leb few (inl lt) = (no_root app f small (inl lt), inl (omega (arith, lt)))
+beside_commit app bank built count f small leb few (inr le) = (no_root app f small (inr le), inr (omega (arith, le, leb, few)))
 
 pub beside : (app bank number f : ℕ) → bank ≤ 1 → number ≤ 16 → IsNoFileOf app f → IsBeside app bank number f
 beside app bank number f leb ltn (inl lt) = inl (omega (arith, lt))

@@ -1,5 +1,5 @@
 -- Which storages stay open when the root is written: those of the active version, where that stays; and none is open where it goes.
-use Rattle.std.proofs.Common.{◌≡◌, ℕ, zero, suc, ◌+◌, ◌*◌, ◌<◌, ◌≤◌, List, [], ◌∷◌, length, Bool, true, false, cond, nat_le, IsTrue, Option, Some, None, Result, Ok, Err, slice_get, take, refl, sym, ap, ◌∙◌, subst, inr, arith}
+use Rattle.std.proofs.Common.{◌≡◌, ℕ, zero, suc, ◌+◌, ◌*◌, ◌<◌, ◌≤◌, List, [], ◌∷◌, length, Bool, true, false, cond, nat_le, IsTrue, Option, Some, None, Result, Ok, Err, slice_get, take, refl, sym, ap, ◌∙◌, subst, arith}
 use Rattle.std.specs.Prelude.{IfOk, map, option_map, replicate}
 use Rattle.per_base.specs.declared.errors.Limit.TheVariants as limit
 use Rattle.per_base.specs.declared.errors.PerError.{PerError}
@@ -17,11 +17,12 @@ use Rattle.deploy.specs.declared.errors.Stop.{Stop}
 use Rattle.deploy.specs.declared.roots.Outcome.{Outcome}
 use Rattle.deploy.specs.declared.roots.Root.{Root}
 use Rattle.deploy.specs.declared.roots.Root.TheVariants as roots
+use Rattle.deploy.specs.Clauses.{IsNoRootSlot}
 use Rattle.deploy.specs.Laws.{IsRootFile, RootFrameLaw, StagedFrameLaw}
 use Rattle.deploy.specs.Roots.{IsRootOf, root_app, root_says}
 use Rattle.deploy_laws.specs.Apps.{App, Says, absent, installed, nothing}
 use Rattle.deploy_laws.specs.Laws.{StorageFilesLaw}
-use Rattle.deploy_laws.specs.Places.{IsFileOf, IsNoRootFile, Named, shape_of, storage_file}
+use Rattle.deploy_laws.specs.Places.{IsFileOf, Named, shape_of, storage_file}
 use Rattle.deploy_rows.specs.Rows.{Answers, after, deployment_of, finish_with, finishing, installing, not_busy, not_worn, rollback_with, rolling_back, storage_count, wiping}
 use Rattle.open_storages.specs.declared.opens.Open.{Open}
 use Rattle.open_storages.specs.Opens.{config_in, session_in, store_in}
@@ -160,12 +161,12 @@ module _ (frame : FrameLaw) (told : Bool) (app : ℕ) (old new : Image)
   }
 
 module _ (storages : StorageFilesLaw) (told : Bool) (app : ℕ) (old new : Image) (lt : app < 8) where
-  -- the files of a storage are none of the root's
-  pub beside_root : (IsTrue told → Spares (IsNoRootFile app) old new) → IsTrue told → (bank n : ℕ) (s : StorageData) → bank ≤ 1 → n < 16 → Spares (IsOfPlace (shape_of app bank n s).place) old new
+  -- the files of a storage are no slots of the root
+  pub beside_root : (IsTrue told → Spares (IsNoRootSlot app) old new) → IsTrue told → (bank n : ℕ) (s : StorageData) → bank ≤ 1 → n < 16 → Spares (IsOfPlace (shape_of app bank n s).place) old new
   beside_root spared tells bank n s leb ltn f of =
       let inside = storages app bank n f s lt leb ltn of in
       let low = inside.0 in
-      spared tells f (inr (omega (arith, low)))
+      spared tells f (λ copy parity ltc ltp e. absurd (omega (arith, lt, low, ltc, ltp, e)))
 
   -- they are files of the application
   pub of_app : (IsTrue told → Spares (IsFileOf app) old new) → IsTrue told → (bank n : ℕ) (s : StorageData) → bank ≤ 1 → n < 16 → Spares (IsOfPlace (shape_of app bank n s).place) old new
@@ -209,7 +210,7 @@ module _ (told : Bool) (app : ℕ) (old new : Image) (root : Root) (slots : Slot
       (closed_by_none told old app (root_says root) slots resting.open_on (install_active now text root (subst (λ (x : Option PerError). Answers x (installing now text (root_app root []))) none answers)))
   install_kept now text (Err e) answers = tt
 
-  pub finish_kept : FrameLaw → StorageFilesLaw → (IsTrue told → Spares (IsNoRootFile app) old new) → (made : Result Outcome Stop) → IfOk made (λ o. Answers o.refused (finishing (root_app root [])))
+  pub finish_kept : FrameLaw → StorageFilesLaw → (IsTrue told → Spares (IsNoRootSlot app) old new) → (made : Result Outcome Stop) → IfOk made (λ o. Answers o.refused (finishing (root_app root [])))
       → IfOk made (λ o. root_says o.root ≡ (after (root_app root []) (finishing (root_app root []))).says) → KeptOn made
   finish_kept frame storages spared (Ok o) answers says = λ none. same_open_on frame told app old new (beside_root storages told app old new resting.below spared) root (root_says o.root) slots resting.root_at.memory
       (ap active_in says ∙ finish_active root (subst (λ (x : Option PerError). Answers x (finishing (root_app root []))) none answers)) resting.open_on

@@ -23,7 +23,6 @@ use Rattle.deploy.specs.declared.roots.Root.TheVariants as roots
 use Rattle.deploy.specs.declared.updating.Staged.{Staged}
 use Rattle.deploy.specs.Building.{StagedAt, progress_in, root_in}
 use Rattle.deploy.specs.Building as building
-use Rattle.deploy.specs.Clauses.{Leaves}
 use Rattle.deploy.specs.Laws.{InUseLaw}
 use Rattle.deploy.specs.Roots.{RootAt, free_bank, root_app, root_says}
 use Rattle.deploy_laws.specs.Apps.{App, IsCleanApp, Says, absent, app_at, installed, named, nothing}
@@ -49,7 +48,6 @@ use Rattle.app_runtime.specs.Promises.{Promises}
 use Rattle.app_runtime.specs.Running.{IsRunning, IsStageAt, NoneOpen, application, stage_in}
 use Rattle.app_runtime.specs.Stages.{reply_of, reply_with, root_of, staged_in, status_of, without_update}
 use Rattle.app_runtime.proofs.Ended.{failed_app, idle_promises, marked_running, none_found}
-use Rattle.app_runtime.proofs.Frames.{beside, beside_new, calls_to}
 use Rattle.app_runtime.proofs.InWorld.{fit_length}
 use Rattle.app_runtime.proofs.Kept.{open_by_none}
 use Rattle.app_runtime.proofs.LeadOn.{still}
@@ -87,6 +85,12 @@ pub staged_at : (told : Bool) (image : Image) (app : ℕ) (slots : Slots) (stage
 staged_at told image app slots stage s is at = subst (λ (x : Stage). IsStageAt told image app slots x) is at
 
 -- no version has more than sixteen storages
+pub contents_few : (app : ℕ) (s : Staged) → building.IsStaged app s → length (progress_in s).contents ≤ 16
+contents_few app s is =
+    let same = fit_length (map storage_data s.version.deployment.storages) s.contents.items is.fit in
+    let few = is.offers.keeps.few in
+    omega (arith, same, few)
+
 pub built_few : (app : ℕ) (s : Staged) → building.IsStaged app s → (progress_in s).built ≤ 16
 built_few app s is =
     let same = fit_length (map storage_data s.version.deployment.storages) s.contents.items is.fit in

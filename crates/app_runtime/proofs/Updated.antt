@@ -23,11 +23,11 @@ use Rattle.deploy.specs.declared.updating.Begin.TheVariants as begin
 use Rattle.deploy.specs.declared.updating.Staged.{Staged}
 use Rattle.deploy.specs.Building.{IsBegun, begun_as, progress_in}
 use Rattle.deploy.specs.Laws.{InUseLaw}
-use Rattle.deploy.specs.Clauses.{Leaves}
+use Rattle.deploy.specs.Clauses.{IsBesideNext, Leaves}
 use Rattle.deploy.specs.Roots.{RootAt, free_bank, root_app, root_says}
 use Rattle.deploy.specs.Updates.{IsUpdated, LeadsTo}
 use Rattle.deploy_laws.specs.Apps.{App, IsCleanApp, Says, absent, app_at, installed, nothing, shapes_named}
-use Rattle.deploy_laws.specs.Places.{IsBesideNew, Named}
+use Rattle.deploy_laws.specs.Places.{Named}
 use Rattle.deploy_laws.specs.Stands.{IsLater, StandsThroughout}
 use Rattle.deploy_rows.specs.Laws.{RefusesAlike, UpdateLaterLaw}
 use Rattle.deploy_rows.specs.Rows as rows
@@ -48,7 +48,7 @@ use Rattle.app_runtime.specs.Promises.{Promises}
 use Rattle.app_runtime.specs.Running.{IsRunning, NoneOpen, application}
 use Rattle.app_runtime.specs.Stages.{Settles, SettlesBegun, reply_of, root_of}
 use Rattle.app_runtime.proofs.Ended.{failed_app, marked_running, refused_plain, resting_in, stage_back}
-use Rattle.app_runtime.proofs.Frames.{beside_new, calls_reading, calls_to}
+use Rattle.app_runtime.proofs.Frames.{beside_next, calls_reading, calls_to}
 use Rattle.app_runtime.proofs.Kept.{free_kept, free_slots, none_taken}
 use Rattle.app_runtime.proofs.LeadOn.{still}
 use Rattle.app_runtime.proofs.Plain.{IsPlain, begins_plain, offer_plain}
@@ -86,7 +86,7 @@ pub record Updates (told : Bool) (rules : List Rule) (answers : Answers) (now : 
   pub unchanged : IfOk made (λ o. (o.refused ≡ None → ⊥) → (new.image ≡ old.image) × (new.written ≡ old.written) × (o.root ≡ root))
   pub cause : IsErrOf made stop.Device → Rose old.faults new.faults
   pub device_only : IsErrOf made stop.Device → IsOk (offered busy text (root_app root []))
-  pub outside : Leaves told (IsBesideNew app (free_bank root)) old new
+  pub outside : Leaves told (IsBesideNext app (free_bank root)) old new
   pub any_moment : IsTrue told → LeadsTo app (rows.MayLead rules answers now busy text (app_at old.image app)) made old new
   pub time : Elapses old new
 
@@ -184,7 +184,7 @@ module _ (told : Bool) (rules : List Rule) (answers : Answers) (now : ℕ) (text
       calls_there tells =
           let leads = u.any_moment tells in
           subst (λ (a : App). CallsTo b.app a old new) (sym leads.at_the_end)
-          (calls_to told b.app leads.next (IsBesideNew b.app (free_bank root)) old new tells (λ f is. beside_new b.app (free_bank root) f (free_low root) is) u.outside leads.throughout)
+          (calls_to told b.app leads.next (IsBesideNext b.app (free_bank root)) old new tells (λ f is. beside_next b.app (free_bank root) f resting.below (free_low root) is) u.outside leads.throughout)
 
       done_promises : Promises told rules answers now (call.Update text) before (record b { stage = AtRest o.root }) Untouched old new (Ok (reply_of o.refused))
       done_promises = record {
@@ -216,7 +216,7 @@ module _ (told : Bool) (rules : List Rule) (answers : Answers) (now : ℕ) (text
       calls_next : (e : Stop) (u : Updates told rules answers now text b.app root busy old new (Err e)) (tells : IsTrue told) → CallsTo b.app (u.any_moment tells).next old new
       calls_next e u tells =
           let leads = u.any_moment tells in
-          calls_to told b.app leads.next (IsBesideNew b.app (free_bank root)) old new tells (λ f is. beside_new b.app (free_bank root) f (free_low root) is) u.outside leads.throughout
+          calls_to told b.app leads.next (IsBesideNext b.app (free_bank root)) old new tells (λ f is. beside_next b.app (free_bank root) f resting.below (free_low root) is) u.outside leads.throughout
 
       device_promises : Updates told rules answers now text b.app root busy old new (Err stop.Device) → Promises told rules answers now (call.Update text) before after' Untouched old new (Err stop.Device)
       device_promises u = record {

@@ -1,14 +1,16 @@
 //! What is kept in memory of one application, and its calls.
 
-ghost use Rattle.std.specs.Prelude.{◌≡◌, ◌≢◌, ◌<◌, ◌&&◌, ◌||◌, Bool, Err, IfOk, IsErrOf, IsTrue, None, Ok, OnOk, Some, false, true};
+ghost use Rattle.std.specs.Prelude.{◌≡◌, ◌≢◌, ◌<◌, ◌&&◌, ◌||◌, ℕ, List, Bool, Err, IfOk, IsErrOf, IsTrue, None, Ok, OnOk, Some, false, true};
 ghost use Rattle.per_base.specs.Causes.{Rose};
 ghost use Rattle.per_base.specs.declared.errors.PerError.{PerError};
 ghost use Rattle.disk_model.specs.Image.{Image};
 ghost use Rattle.disk_model.specs.Medium.{Elapses, Quiet};
+ghost use Rattle.guarded_cell.specs.Register.{IsAlone};
 ghost use Rattle.migrate_fns.specs.Stored.{answers_of, rules_of};
 ghost use Rattle.command_text.specs.declared.replies.Answer.{Answer};
 ghost use Rattle.command_text.specs.Replies.{HasText};
 ghost use Rattle.deploy_laws.specs.Apps.{App, app_at};
+ghost use Rattle.deploy_laws.specs.Places.{root_place};
 ghost use Rattle.deploy_laws.specs.Stands.{IsLater};
 ghost use Rattle.run_model.specs.AppLaws.{OpensRoot};
 ghost use Rattle.run_model.specs.Calls.{beside_update, session_at};
@@ -102,6 +104,10 @@ impl Running {
         ensures opened { OnOk result (running_in self.new ≡ record { stage = at_rest; sessions = none_open }) }
         ensures failed { (e : Stop) → result ≡ Err e → running_in self.new ≡ running_in self.old }
         ensures root { IsTrue D.told → OnOk result (OpensRoot self.old.app (D.medium disk.old) (D.medium disk.new)) }
+        // Where every copy of the root holds one text and no other is held, nothing is written, however it ends.
+        ensures already { IsTrue D.told → (generation : ℕ) (text : List ℕ)
+            → IsAlone (D.medium disk.old).image (root_place self.old.app).first 3 generation text
+            → IsUnwritten (D.medium disk.old) (D.medium disk.new) }
         // However it ends: at every moment the application is on its way to whatever may come of it, and no other file changes.
         ensures on_the_way { IsTrue D.told → (next : App) → IsLater (app_at (D.medium disk.old).image self.old.app) next
             → CallsTo self.old.app next (D.medium disk.old) (D.medium disk.new) }

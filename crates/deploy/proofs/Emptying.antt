@@ -11,10 +11,10 @@ use Rattle.root_text.specs.RootText.{root_text}
 use Rattle.root_text.specs.RootText as text
 use Rattle.deploy_laws.specs.Apps.{App, IsCleanApp, Says, absent, app_at}
 use Rattle.deploy_laws.specs.Laws.{AloneCleanLaw, AloneLaw, FormattingLaw, RootAloneLaw, RootSlotsLaw, VersionsLaw, WritingLaw}
-use Rattle.deploy_laws.specs.Places.{IsNoRootFile, root_place}
+use Rattle.deploy_laws.specs.Places.{root_place}
 use Rattle.deploy_laws.specs.Stands.{StandsCase, StandsThroughout}
 use Rattle.deploy.specs.declared.roots.Root.TheVariants.{Absent}
-use Rattle.deploy.specs.Clauses.{Leaves}
+use Rattle.deploy.specs.Clauses.{IsNoRootSlot, Leaves}
 use Rattle.deploy.specs.Leaving.{IsRegisterAt, app_saying, empty_says}
 use Rattle.deploy.specs.Roots.{RootAt}
 use Rattle.deploy.proofs.InUse.{AgainLaw, cell_alone, written_app, written_clean}
@@ -64,8 +64,8 @@ module _ (told : Bool) (app : ℕ) (lt : app < 8) (register : Option Cell) (old 
             (none_clean old.image app (generation_of cell + 1))
 
     module _ (puts : IsTrue told → Quiet old → EachCase (PutStops (place_of cell).first (place_of cell).copies (generation_of cell + 1) (root_text text.absent) old.image) old new) where
-      pub next_outside : AgainLaw → RootSlotsLaw → (IsTrue told → Spares (IsNoSlot (place_of cell).first (place_of cell).copies) old.image new.image) → Leaves told (IsNoRootFile app) old new
-      next_outside again slots spared = put_outside again app lt cell at_some.0 text.absent tt old new slots told spared puts
+      pub next_outside : AgainLaw → (IsTrue told → Spares (IsNoSlot (place_of cell).first (place_of cell).copies) old.image new.image) → Leaves told (IsNoRootSlot app) old new
+      next_outside again spared = put_outside again app lt cell at_some.0 text.absent tt old new told spared puts
 
       pub next_stands : AgainLaw → WritingLaw → IsTrue told → StandsThroughout app (app_saying old.image app (empty_says register)) old new
       next_stands again writing tells = let held = at_some.2 tells in subst (λ (s : Says). StandsThroughout app (app_saying old.image app s) old new) (sym says_next)
@@ -98,8 +98,8 @@ module _ (told : Bool) (app : ℕ) (lt : app < 8) (register : Option Cell) (old 
             (none_clean old.image app 1)
 
     module _ (stops : IsTrue told → Quiet old → EachCase (FormatStops (root_place app).first 3 1 (root_text text.absent) old.image) old new) where
-      pub first_outside : RootSlotsLaw → (IsTrue told → Spares (IsNoSlot (root_place app).first 3) old.image new.image) → Leaves told (IsNoRootFile app) old new
-      first_outside slots spared = format_leaves slots told app lt old new spared 1 (root_text text.absent) stops
+      pub first_outside : (IsTrue told → Spares (IsNoSlot (root_place app).first 3) old.image new.image) → Leaves told (IsNoRootSlot app) old new
+      first_outside spared = format_leaves told app old new spared 1 (root_text text.absent) stops
 
       pub first_stands : AgainLaw → FormattingLaw → IsTrue told → StandsThroughout app (app_saying old.image app (empty_says register)) old new
       first_stands again formatting tells quiet clean c past =

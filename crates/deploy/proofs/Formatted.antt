@@ -19,7 +19,7 @@ use Rattle.deploy_laws.specs.Apps.{IsCleanApp, app_at, root_settled, shapes_name
 use Rattle.deploy_laws.specs.Laws.{AloneCleanLaw, AloneFrameLaw, AloneLaw, RootFilesLaw, RootSlotsLaw}
 use Rattle.deploy_laws.specs.Places.{IsNoRootFile, first_file, root_place}
 use Rattle.deploy_rows.specs.Rows.{empty_app}
-use Rattle.deploy.specs.Clauses.{Leaves}
+use Rattle.deploy.specs.Clauses.{IsNoRootSlot, Leaves}
 use Rattle.deploy.proofs.InUse.{AgainLaw, cell_alone, held_app}
 use Rattle.deploy.proofs.Opened.{settled_here, settled_of, settled_since}
 
@@ -27,9 +27,9 @@ use Rattle.deploy.proofs.Opened.{settled_here, settled_of, settled_since}
 abbrev pub IsEmptyRoot : Image → ℕ → Type 0
 IsEmptyRoot image app = IsAlone image (root_place app).first 3 1 (root_text absent)
 
--- the files that are no root's
+-- the files that are no root's slots
 abbrev pub IsNoRoot : ℕ → Type 0
-IsNoRoot file = (app : ℕ) → app < 8 → IsNoRootFile app file
+IsNoRoot file = (app : ℕ) → app < 8 → IsNoRootSlot app file
 
 -- ---- one root
 
@@ -69,16 +69,16 @@ none_left told m law = record {
   throughout = λ tells quiet. goes_none (IsSettledOn IsNoRoot m.image) law (λ c now. settled_here IsNoRoot m.image c (quiet c now));
 }
 
-pub one_left : (slots : RootSlotsLaw) (told : Bool) (app : ℕ) → app < 8 → (old mid new : Medium) → Elapses old mid → Elapses mid new
+pub one_left : (told : Bool) (app : ℕ) → app < 8 → (old mid new : Medium) → Elapses old mid → Elapses mid new
     → Leaves told IsNoRoot old mid → (Quiet old → Quiet mid)
     → (IsTrue told → Spares (IsNoSlot (root_place app).first (root_place app).copies) mid.image new.image)
     → (IsTrue told → Quiet mid → EachCase (FormatStops (root_place app).first (root_place app).copies 1 (root_text absent) mid.image) mid new)
     → Leaves told IsNoRoot old new
-one_left slots told app lt old mid new first next were still spared stops = record {
-  at_the_end = λ tells f no. spared tells f (slots app f lt (no app lt)) ∙ were.at_the_end tells f no;
+one_left told app lt old mid new first next were still spared stops = record {
+  at_the_end = λ tells f no. spared tells f (no app lt) ∙ were.at_the_end tells f no;
   throughout = λ tells quiet. goes_on (IsSettledOn IsNoRoot old.image) first next (were.throughout tells quiet)
       (λ c past. settled_since IsNoRoot old.image mid.image c (were.at_the_end tells)
-      (settled_of (IsNoSlot (root_place app).first (root_place app).copies) IsNoRoot mid.image c (λ f no. slots app f lt (no app lt))
+      (settled_of (IsNoSlot (root_place app).first (root_place app).copies) IsNoRoot mid.image c (λ f no. no app lt)
       (stops tells (still quiet) c past).elsewhere));
 }
 

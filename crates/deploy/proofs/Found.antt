@@ -10,11 +10,14 @@ use Rattle.guarded_cell.specs.Held.{copies_that, held, holds, lacking, standing,
 use Rattle.guarded_cell.specs.Shown.{Chooses}
 use Rattle.root_text.specs.RootText as text
 use Rattle.root_text.specs.Views.{root_said}
+use Rattle.deployment_model.specs.Conditions.{IsDeployment}
+use Rattle.deployment_model.specs.Data.{DeploymentData}
+use Rattle.manifest.specs.Reading.{deployment_in}
 use Rattle.deploy_laws.specs.Apps.{Says, app_at, lacking_in, nothing, root_settled, says_at, says_by, says_in}
 use Rattle.deploy_laws.specs.Places.{root_place}
 use Rattle.deploy.specs.declared.standing.Standing.{Standing}
 use Rattle.deploy.specs.Standing.{IfSpelled, IsAmong, IsFirst, IsSpelled}
-use Rattle.deploy.specs.Views.{bad, seen_at, seen_by}
+use Rattle.deploy.specs.Views.{ShowsVersions, bad, seen_at, seen_by}
 use Rattle.deploy.proofs.InUse.{app_says}
 
 -- ---- of a list
@@ -127,3 +130,18 @@ root_is_seen image app says numbers settled is lacks alone =
     ap (λ (s : Says). seen_by s numbers settled) (sym (app_says image app ∙ is))
     ∙ ap (λ (ns : List ℕ). seen_by (app_at image app).says ns settled) lacks
     ∙ ap (λ (b : Bool). seen_by (app_at image app).says (app_at image app).lacking b) alone
+
+-- ---- the versions that are seen
+
+-- of manifest
+abbrev pub KeepsLaw : Type 0
+KeepsLaw = (text : List ℕ) (d : DeploymentData) → deployment_in text ≡ Some d → IsDeployment d
+
+pub shows_versions : KeepsLaw → (r : text.Root) → text.IsRoot r → (g : ℕ) (lacking : List ℕ) (settled : Bool) → ShowsVersions (seen_by (says_by g (Some r)) lacking settled)
+shows_versions keeps text.absent is g lacking settled = tt
+shows_versions keeps (text.installed bank active None) is g lacking settled = record { in_bank = is.in_bank; keeps = keeps active.text active.deployment is.of_active }
+shows_versions keeps (text.installed bank active (Some previous)) is g lacking settled = let low = is.in_bank in record {
+  of_active = record { in_bank = is.in_bank; keeps = keeps active.text active.deployment is.of_active };
+  of_previous = record { in_bank = omega (arith, low); keeps = keeps previous.text previous.deployment is.of_previous };
+  apart = refl;
+}

@@ -1,5 +1,7 @@
+pub mod Already
 pub mod AtRest
 pub mod Begun
+pub mod Due
 pub mod Emptying
 pub mod FirstVersion
 pub mod Formatted

@@ -10,9 +10,8 @@ use Rattle.root_text.specs.RootText.{IsRoot, root_text}
 use Rattle.root_text.specs.RootText as text
 use Rattle.deploy_laws.specs.Apps.{AreClean, IsCleanApp, Says, app_at, says_by, shapes_named}
 use Rattle.deploy_laws.specs.Laws.{AloneCleanLaw, AloneLaw, RootAloneLaw, RootSlotsLaw, VersionsLaw, WritingLaw}
-use Rattle.deploy_laws.specs.Places.{IsNoRootFile}
 use Rattle.deploy_laws.specs.Stands.{StandsThroughout}
-use Rattle.deploy.specs.Clauses.{Leaves}
+use Rattle.deploy.specs.Clauses.{IsNoRootSlot, Leaves}
 use Rattle.deploy.specs.Leaving.{app_saying}
 use Rattle.deploy.specs.Roots.{IsRootCell}
 use Rattle.deploy.proofs.InUse.{AgainLaw, cell_alone, written_app, written_clean}
@@ -36,10 +35,10 @@ module _ (again : AgainLaw) (app : ℕ) (lt : app < 8) (cell : Cell) (of : IsRoo
         (slots_spared app cell of old.image new.image spared) (next_alone app cell of new.image (generation_of cell + 1) next (root_text r) at_next held) were
 
   -- at any moment
-  pub put_outside : RootSlotsLaw → (told : Bool) → (IsTrue told → Spares (IsNoSlot (place_of cell).first (place_of cell).copies) old.image new.image)
+  pub put_outside : (told : Bool) → (IsTrue told → Spares (IsNoSlot (place_of cell).first (place_of cell).copies) old.image new.image)
       → (IsTrue told → Quiet old → EachCase (PutStops (place_of cell).first (place_of cell).copies (generation_of cell + 1) (root_text r) old.image) old new)
-      → Leaves told (IsNoRootFile app) old new
-  put_outside slots told spared puts = put_leaves slots told app lt old new (λ tells. slots_spared app cell of old.image new.image (spared tells))
+      → Leaves told (IsNoRootSlot app) old new
+  put_outside told spared puts = put_leaves told app old new (λ tells. slots_spared app cell of old.image new.image (spared tells))
       (generation_of cell + 1) (root_text r) (λ tells quiet. puts_here app cell of (generation_of cell + 1) (root_text r) old.image old new (puts tells quiet))
 
   pub put_stands : WritingLaw → (t : List ℕ) → CellAt old.image cell t

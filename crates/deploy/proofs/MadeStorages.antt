@@ -23,6 +23,7 @@ use Rattle.deploy_laws.specs.Laws.{BesideLaw, StorageFilesLaw}
 use Rattle.deploy_laws.specs.Places.{IsBeside, IsOutsideBank, shape_of, shapes_from}
 use Rattle.deploy.specs.Clauses.{Leaves}
 use Rattle.deploy.specs.Made.{AreMade}
+use Rattle.deploy.specs.Remaining.{IsBesideRest}
 use Rattle.deploy.proofs.Leaves.{leaves_less, leaves_none, leaves_on}
 
 -- ---- a storage of a deployment, by its number
@@ -118,6 +119,20 @@ made_all image app bank (d ∷ ds) (c ∷ cs) from (suc k) same all made =
 pub beside_in_bank : (app bank number : ℕ) → number < 16 → (f : ℕ) → IsOutsideBank app bank f → IsBeside app bank number f
 beside_in_bank app bank number ltn f out = ⊎_elim (λ low. inl (omega (arith, low))) (λ high. inr (omega (arith, high, ltn))) out
 
+-- and those beside the storages that remain
+beside_in_rest : (app bank built count number : ℕ) → built ≤ number → number < count → (f : ℕ) → IsBesideRest app bank built count f → IsBeside app bank number f
+beside_in_rest app bank built count number from ltc f rest = ⊎_elim (λ low. inl (omega (arith, low, from))) (λ high. inr (omega (arith, high, ltc))) rest
+
+-- of at most sixteen storages none lies outside the bank
+pub bank_in_rest : (app bank built count : ℕ) → count ≤ 16 → (f : ℕ) → IsOutsideBank app bank f → IsBesideRest app bank built count f
+bank_in_rest app bank built count few f out = ⊎_elim (λ low. inl (omega (arith, low))) (λ high. inr (omega (arith, high, few))) out
+
+pub outside_rest : (told : Bool) (app bank built : ℕ) (d : Deployment) (cs : List (List Fresh)) (old new : Medium) → IsDeployment (deployment_data d)
+    → AllFit (map storage_data d.storages) cs → Leaves told (IsBesideRest app bank built (length cs)) old new → Leaves told (IsOutsideBank app bank) old new
+outside_rest told app bank built d cs old new keeps fit leaves =
+    leaves_less told (IsBesideRest app bank built (length cs)) (IsOutsideBank app bank) old new
+    (bank_in_rest app bank built (length cs) (few_contents d cs keeps fit).0) leaves
+
 -- where a storage alone was made
 pub storage_outside : (told : Bool) (app bank number : ℕ) (s : StorageData) (shape : Shape) (old new : Medium) → BesideLaw → app < 8 → bank ≤ 1 → number < 16
     → shape ≡ shape_of app bank number s
@@ -131,41 +146,41 @@ storage_outside told app bank number s shape old new beside lt ltb ltn is elsewh
 
 -- ---- one after another
 
--- so many of the storages are made, and only files of the bank changed
-pub record IsMaking (told : Bool) (app bank number : ℕ) (ds : List StorageConfig) (cs : List (List Fresh)) (old now : Medium) : Type 0 where
+-- from number `built` on so many of the storages are made, and only files of those that remained changed
+pub record IsMaking (told : Bool) (app bank built number : ℕ) (ds : List StorageConfig) (cs : List (List Fresh)) (old now : Medium) : Type 0 where
   pub made : IsTrue told → AreMade now.image (take number (shapes_from app bank 0 (map storage_data ds))) (take number cs)
   pub quiet : Quiet old → Quiet now
   pub passes : now.faults ≡ old.faults
-  pub outside : Leaves told (IsOutsideBank app bank) old now
+  pub outside : Leaves told (IsBesideRest app bank built (length cs)) old now
   pub time : Elapses old now
 
 pub making_none : (told : Bool) (app bank built : ℕ) (ds : List StorageConfig) (cs : List (List Fresh)) (m : Medium) → IsLawful told m
-    → (IsTrue told → AreMade m.image (take built (shapes_from app bank 0 (map storage_data ds))) (take built cs)) → IsMaking told app bank built ds cs m m
+    → (IsTrue told → AreMade m.image (take built (shapes_from app bank 0 (map storage_data ds))) (take built cs)) → IsMaking told app bank built built ds cs m m
 making_none told app bank built ds cs m law made = record {
   made = made;
   quiet = λ quiet. quiet;
   passes = refl;
-  outside = leaves_none told (IsOutsideBank app bank) m law;
+  outside = leaves_none told (IsBesideRest app bank built (length cs)) m law;
   time = elapses_none law;
 }
 
-module _ (told : Bool) (app bank number : ℕ) (ds : List StorageConfig) (cs : List (List Fresh)) (old mid new : Medium) (ltn : number < 16)
-    (before : IsMaking told app bank number ds cs old mid) (outside : Leaves told (IsBeside app bank number) mid new) (time : Elapses mid new) where
-  pub more_outside : Leaves told (IsOutsideBank app bank) old new
-  more_outside = leaves_on told (IsOutsideBank app bank) old mid new before.time time before.quiet before.outside
-      (leaves_less told (IsBeside app bank number) (IsOutsideBank app bank) mid new (beside_in_bank app bank number ltn) outside)
+module _ (told : Bool) (app bank built number : ℕ) (ds : List StorageConfig) (cs : List (List Fresh)) (old mid new : Medium) (ltn : number < 16)
+    (from : built ≤ number) (ltc : number < length cs) (before : IsMaking told app bank built number ds cs old mid) (outside : Leaves told (IsBeside app bank number) mid new) (time : Elapses mid new) where
+  pub more_outside : Leaves told (IsBesideRest app bank built (length cs)) old new
+  more_outside = leaves_on told (IsBesideRest app bank built (length cs)) old mid new before.time time before.quiet before.outside
+      (leaves_less told (IsBeside app bank number) (IsBesideRest app bank built (length cs)) mid new (beside_in_rest app bank built (length cs) number from ltc) outside)
 
   pub more_time : Elapses old new
   more_time = elapses_on before.time time
 
   module _ (frame : FrameLaw) (files : StorageFilesLaw) (x : StorageConfig) (fs : List Fresh) (lt : app < 8) (ltb : bank ≤ 1)
-      (ltd : number < length ds) (ltc : number < length cs) (is : x ≡ get_or ds number x) (here : fs ≡ get_or cs number fs)
+      (ltd : number < length ds) (is : x ≡ get_or ds number x) (here : fs ≡ get_or cs number fs)
       (state : IsTrue told → store_at new.image (shape_of app bank number (storage_data x)) ≡ fresh_state 1 (fresh_map fs))
       (clean : IsTrue told → IsClean (shape_of app bank number (storage_data x)) new.image) (quiet : Quiet new) (passes : new.faults ≡ mid.faults) where
-    pub making_more : IsMaking told app bank (number + 1) ds cs old new
+    pub making_more : IsMaking told app bank built (number + 1) ds cs old new
     making_more =
         let on : suc number ≡ number + 1 = omega arith in
-        subst (λ (n : ℕ). IsMaking told app bank n ds cs old new) on
+        subst (λ (n : ℕ). IsMaking told app bank built n ds cs old new) on
         (record {
           made = λ tells. made_more new.image app bank x fs ds cs 0 number number (omega arith) ltd ltc is here
               (made_stays frame app bank number mid.image new.image

@@ -1,7 +1,6 @@
 -- The next root: where its register lies, and what its writing leaves alone.
-use Rattle.std.proofs.Common.{ℕ, ◌<◌, ◌≤◌, List, Bool, IsTrue, sym, ◌∙◌, subst}
-use Rattle.disk_model.specs.Case.{Case}
-use Rattle.disk_model.specs.Frame.{IsSettledOn, Spares}
+use Rattle.std.proofs.Common.{ℕ, ◌≤◌, List, Bool, IsTrue, sym, ◌∙◌, subst}
+use Rattle.disk_model.specs.Frame.{Spares}
 use Rattle.disk_model.specs.Image.{Image}
 use Rattle.disk_model.specs.Medium.{EachCase, Medium, Quiet}
 use Rattle.disk_model.specs.Place.{IsNoSlot}
@@ -10,12 +9,10 @@ use Rattle.guarded_cell.specs.Cells.{CellAt, IsCellOf, place_of}
 use Rattle.guarded_cell.specs.declared.cell.Cell.{Cell}
 use Rattle.guarded_cell.specs.Register.{IsAlone}
 use Rattle.guarded_cell.specs.Stops.{FormatStops, PutStops}
-use Rattle.deploy_laws.specs.Laws.{RootSlotsLaw}
-use Rattle.deploy_laws.specs.Places.{IsNoRootFile, root_place}
-use Rattle.deploy.specs.Clauses.{Leaves}
+use Rattle.deploy_laws.specs.Places.{root_place}
+use Rattle.deploy.specs.Clauses.{IsNoRootSlot, Leaves}
 use Rattle.deploy.specs.Roots.{IsRootCell}
 use Rattle.deploy.proofs.InUse.{cell_alone}
-use Rattle.deploy.proofs.Still.{settled_fewer}
 
 module _ (app : ℕ) (cell : Cell) (of : IsRootCell app cell) where
   pub next_cell : (g : ℕ) (next : Cell) → 1 ≤ g → IsCellOf (place_of cell) g next → IsRootCell app next
@@ -32,22 +29,12 @@ module _ (app : ℕ) (cell : Cell) (of : IsRootCell app cell) where
       → EachCase (PutStops (root_place app).first 3 g t start) old new
   puts_here g t start old new puts = subst (λ (p : Place). EachCase (PutStops p.first p.copies g t start) old new) of.place puts
 
--- files that are none of the root's change neither at the end nor at any moment
-module _ (slots : RootSlotsLaw) (told : Bool) (app : ℕ) (lt : app < 8) (old new : Medium)
-    (spared : IsTrue told → Spares (IsNoSlot (root_place app).first 3) old.image new.image) where
-  settled_beside : (c : Case) → IsSettledOn (IsNoSlot (root_place app).first 3) old.image c → IsSettledOn (IsNoRootFile app) old.image c
-  settled_beside c settled = settled_fewer (IsNoSlot (root_place app).first 3) (IsNoRootFile app) old.image c (λ f beside. slots app f lt beside) settled
-
+-- files that are no slots of the root change neither at the end nor at any moment
+module _ (told : Bool) (app : ℕ) (old new : Medium) (spared : IsTrue told → Spares (IsNoSlot (root_place app).first 3) old.image new.image) where
   pub put_leaves : (g : ℕ) (t : List ℕ) → (IsTrue told → Quiet old → EachCase (PutStops (root_place app).first 3 g t old.image) old new)
-      → Leaves told (IsNoRootFile app) old new
-  put_leaves g t puts = record {
-    at_the_end = λ tells f beside. spared tells f (slots app f lt beside);
-    throughout = λ tells quiet c past. settled_beside c (puts tells quiet c past).elsewhere;
-  }
+      → Leaves told (IsNoRootSlot app) old new
+  put_leaves g t puts = record { at_the_end = spared; throughout = λ tells quiet c past. (puts tells quiet c past).elsewhere }
 
   pub format_leaves : (g : ℕ) (t : List ℕ) → (IsTrue told → Quiet old → EachCase (FormatStops (root_place app).first 3 g t old.image) old new)
-      → Leaves told (IsNoRootFile app) old new
-  format_leaves g t stops = record {
-    at_the_end = λ tells f beside. spared tells f (slots app f lt beside);
-    throughout = λ tells quiet c past. settled_beside c (stops tells quiet c past).elsewhere;
-  }
+      → Leaves told (IsNoRootSlot app) old new
+  format_leaves g t stops = record { at_the_end = spared; throughout = λ tells quiet c past. (stops tells quiet c past).elsewhere }

@@ -1,10 +1,11 @@
 -- The next version is made in a bank in which none lies, and then the root is written once: what every moment, and the end, leave of the
 -- application.
 use denote.Ref.{Bor}
-use Rattle.std.proofs.Common.{◌≡◌, ℕ, ◌+◌, ◌-◌, ◌≤◌, ◌<◌, List, [], ◌∷◌, ◌++◌, suc, ◌⊎◌, Bool, IsTrue, Option, Some, None, refl, sym, ap, ◌∙◌, subst, inl, inr, arith}
+use Rattle.std.proofs.Common.{◌≡◌, ℕ, ◌+◌, ◌-◌, ◌≤◌, ◌<◌, List, [], ◌∷◌, ◌++◌, suc, ◌⊎◌, Bool, IsTrue, Option, Some, None, refl, sym, ap, ◌∙◌, subst, inl, inr, ⊎_elim, arith}
 use Rattle.std.specs.Prelude.{IfOk, OnOk, Result, Ok, Err, map, option_map}
 use Rattle.std.specs.List.{AllByRecursion}
 use Rattle.std.specs.Option.{ForSome}
+use Rattle.std.proofs.lemmas.Bool.{cases_lt}
 use Rattle.std.proofs.lemmas.List.{append-nil, map-append}
 use Rattle.per_base.specs.declared.elements.Fresh.{Fresh}
 use Rattle.disk_model.specs.Frame.{Spares}
@@ -28,15 +29,17 @@ use Rattle.root_text.specs.declared.versions.VersionText.{VersionText}
 use Rattle.update_plan.specs.Plans.{AllFit}
 use Rattle.deploy_laws.specs.Apps.{AreClean, AreOn, App, IsCleanApp, IsFree, Says, app_at, generation_of, named, says_at, says_by, shapes_named}
 use Rattle.deploy_laws.specs.Laws.{AloneCleanLaw, AloneFrameLaw, AloneLaw, CreatingLaw, RootAloneLaw, RootFilesLaw, RootSlotsLaw, VersionsLaw, WritingLaw}
-use Rattle.deploy_laws.specs.Places.{IsBesideNew, IsNoRootFile, IsOutsideBank, first_file, root_place, shapes_from, shapes_if, shapes_in}
+use Rattle.deploy_laws.specs.Places.{IsOutsideBank, first_file, root_place, shapes_from, shapes_if, shapes_in, storage_file}
 use Rattle.deploy_laws.specs.Stands.{IsLater, StandsCase, StandsThroughout, next_root}
 use Rattle.deploy_rows.specs.Rows.{made_states}
 use Rattle.deploy.specs.declared.errors.Stop.{Stop}
-use Rattle.deploy.specs.Clauses.{Leaves}
+use Rattle.deploy.specs.Clauses.{IsBesideNext, IsNoRootSlot, Leaves}
 use Rattle.deploy.specs.Made.{AreMade}
 use Rattle.deploy.specs.Next.{next_app, root_before}
+use Rattle.deploy.specs.Remaining.{IsBesideCommit, IsBesideRest}
 use Rattle.deploy.proofs.InUse.{AgainLaw, alone_cell, app_says, app_that, cell_alone, held_app, written_app, written_clean}
 use Rattle.deploy.proofs.Leaves.{leaves_less, leaves_on}
+use Rattle.deploy.proofs.MadeStorages.{bank_in_rest}
 use Rattle.deploy.proofs.Writes.{write_stands}
 
 -- of others_stand
@@ -212,26 +215,32 @@ module _ (again : AgainLaw) (alone : AloneLaw) (app g bank : ℕ) (v : Version) 
 
 -- ---- files
 
-pub leaves_writing : (told : Bool) (app g : ℕ) (t : List ℕ) (old new : Medium) → RootSlotsLaw → app < 8
-    → (IsTrue told → Spares (IsNoSlot (root_place app).first 3) old.image new.image)
-    → (IsTrue told → Quiet old → EachCase (PutStops (root_place app).first 3 g t old.image) old new) → Leaves told (IsNoRootFile app) old new
-leaves_writing told app g t old new slots lt spared puts = record {
-  at_the_end = λ tells f no. spared tells f (slots app f lt no);
-  throughout = λ tells quiet c past. let settled = (puts tells quiet c past).elsewhere in record {
-    base = λ f no. settled.base f (slots app f lt no);
-    full = λ f no. settled.full f (slots app f lt no);
-    left = λ f no. settled.left f (slots app f lt no);
-  };
-}
+pub leaves_writing : (told : Bool) (app g : ℕ) (t : List ℕ) (old new : Medium) → (IsTrue told → Spares (IsNoSlot (root_place app).first 3) old.image new.image)
+    → (IsTrue told → Quiet old → EachCase (PutStops (root_place app).first 3 g t old.image) old new) → Leaves told (IsNoRootSlot app) old new
+leaves_writing told app g t old new spared puts = record { at_the_end = spared; throughout = λ tells quiet c past. (puts tells quiet c past).elsewhere }
 
-pub leaves_making : (told : Bool) (app bank : ℕ) (old new : Medium) → Leaves told (IsOutsideBank app bank) old new → Leaves told (IsBesideNew app bank) old new
-leaves_making told app bank old new outside = leaves_less told (IsOutsideBank app bank) (IsBesideNew app bank) old new (λ f is. is.1) outside
+module _ (told : Bool) (app bank built count : ℕ) where
+  pub leaves_making : (old new : Medium) → Leaves told (IsBesideRest app bank built count) old new → Leaves told (IsBesideCommit app bank built count) old new
+  leaves_making old new outside = leaves_less told (IsBesideRest app bank built count) (IsBesideCommit app bank built count) old new (λ f is. is.1) outside
 
-pub leaves_next : (told : Bool) (app bank : ℕ) (old mid new : Medium) → Elapses old mid → Elapses mid new → (Quiet old → Quiet mid)
-    → Leaves told (IsOutsideBank app bank) old mid → Leaves told (IsNoRootFile app) mid new → Leaves told (IsBesideNew app bank) old new
-leaves_next told app bank old mid new time later quiets outside root =
-    leaves_on told (IsBesideNew app bank) old mid new time later quiets (leaves_making told app bank old mid outside)
-    (leaves_less told (IsNoRootFile app) (IsBesideNew app bank) mid new (λ f is. is.0) root)
+  pub leaves_next : (old mid new : Medium) → Elapses old mid → Elapses mid new → (Quiet old → Quiet mid)
+      → Leaves told (IsBesideRest app bank built count) old mid → Leaves told (IsNoRootSlot app) mid new → Leaves told (IsBesideCommit app bank built count) old new
+  leaves_next old mid new time later quiets outside root =
+      leaves_on told (IsBesideCommit app bank built count) old mid new time later quiets (leaves_making old mid outside)
+      (leaves_less told (IsNoRootSlot app) (IsBesideCommit app bank built count) mid new (λ f is. is.0) root)
+
+  module _ (old new : Medium) (leaves : Leaves told (IsBesideCommit app bank built count) old new) where
+    -- with no storage remaining
+    pub leaves_root : count ≤ built → Leaves told (IsNoRootSlot app) old new
+    leaves_root none = leaves_less told (IsBesideCommit app bank built count) (IsNoRootSlot app) old new (λ f no. (no, nothing_remains f)) leaves
+      where
+        nothing_remains : (f : ℕ) → IsBesideRest app bank built count f
+        nothing_remains f = ⊎_elim (λ below. inl below) (λ above. inr (omega (arith, above, none))) (cases_lt f (storage_file app bank built))
+
+    -- the storages lie in the bank
+    pub leaves_whole : count ≤ 16 → Leaves told (IsBesideNext app bank) old new
+    leaves_whole few = leaves_less told (IsBesideCommit app bank built count) (IsBesideNext app bank) old new
+        (λ f is. (is.0, bank_in_rest app bank built count few f is.1)) leaves
 
 -- ---- the register that was written
 

@@ -54,7 +54,7 @@ module _ (busy : Option (List ℕ)) (text : List ℕ) (i : Installed) where
     active = named i.bank (version_said i.active)
 
     module _ (free : busy ≡ None) where
-      by_text : (r : Result DeploymentData PerError) → deployment_of text ≡ r → offered busy text (root_app (root.Installed i) []) ≡ (r >>= newer active (generation_of i.cell))
+      pub by_text : (r : Result DeploymentData PerError) → deployment_of text ≡ r → offered busy text (root_app (root.Installed i) []) ≡ (r >>= newer active (generation_of i.cell))
       by_text r is = over busy text i None none
           ∙ ap (λ (b : Option (List ℕ)). offer_over b text (generation_of i.cell) active None) free
           ∙ ap (λ (s : Result DeploymentData PerError). s >>= newer active (generation_of i.cell)) is

@@ -1,6 +1,6 @@
 -- An update in one call: it begins, which writes nothing, and what began is committed.
-use Rattle.std.proofs.Common.{◌≡◌, ℕ, ◌<◌, List, [], Bool, IsTrue, Option, None, Some, inl, inr, refl, sym, ap, ◌∙◌, subst}
-use Rattle.std.specs.Prelude.{Result, Ok, Err, IsErr, IsOk, OnOk, map}
+use Rattle.std.proofs.Common.{◌≡◌, ℕ, ◌<◌, List, [], length, Bool, IsTrue, Option, None, Some, inl, inr, refl, sym, ap, ◌∙◌, subst}
+use Rattle.std.specs.Prelude.{Result, Ok, Err, IfOk, IsErr, IsErrAnd, IsErrOf, IsOk, OnOk, map}
 use Rattle.per_base.specs.declared.errors.PerError.{PerError}
 use Rattle.disk_model.specs.Image.{Image}
 use Rattle.disk_model.specs.Laws.{goes_on}
@@ -10,7 +10,7 @@ use Rattle.migrate_fns.specs.Rules.{Rule}
 use Rattle.migrate_fns.specs.Rules as fns
 use Rattle.deploy_laws.specs.Apps.{App, IsCleanApp, Says, absent, app_at, installed, nothing, shapes_named}
 use Rattle.deploy_laws.specs.Laws.{StillAppLaw}
-use Rattle.deploy_laws.specs.Places.{IsBesideNew, IsFileOf}
+use Rattle.deploy_laws.specs.Places.{IsFileOf}
 use Rattle.deploy_laws.specs.Stands.{IsLater, StandsCase, StandsThroughout}
 use Rattle.deploy_rows.specs.Laws.{UpdateLaterLaw}
 use Rattle.deploy_rows.specs.Rows.{Begins, BeginsWith, InProgress, MayLead, Offer, offered, updated_app}
@@ -20,15 +20,22 @@ use Rattle.deploy.specs.declared.updating.Begin.{Begin}
 use Rattle.deploy.specs.declared.updating.Begin.TheVariants as begin
 use Rattle.deploy.specs.declared.updating.Staged.{Staged}
 use Rattle.deploy.specs.Building.{IsBegun, StagedAt, begun_as, progress_in, root_in}
-use Rattle.deploy.specs.Clauses.{Leaves}
+use Rattle.deploy.specs.Clauses.{IsBesideNext, Leaves}
 use Rattle.deploy.specs.Laws.{InUseLaw}
+use Rattle.deploy.specs.Remaining.{IsBesideCommit}
 use Rattle.deploy.specs.Roots.{RootAt, free_bank, root_app, root_says}
 use Rattle.deploy.specs.Updates.{IsUpdated, LeadsTo}
 use Rattle.deploy.proofs.Leaves.{leaves_on}
+use Rattle.deploy.proofs.NextVersion.{leaves_whole}
 use Rattle.deploy.proofs.Offers.{offered_alike}
+use Rattle.deploy.proofs.StagedMore.{few_storages}
 use Rattle.deploy.proofs.Still.{settled_so}
 
 -- ---- results
+
+as_it_was : {T E : Type 0} {e : E} (result : Result T E) → IsErrAnd result (λ x. x ≡ e) → result ≡ Err e
+as_it_was {T} {E} {e} (Ok x) is = absurd is
+as_it_was {T} {E} {e} (Err d) is = ap (λ (y : E). Err y) is
 
 on_ok : {T E P : Type 0} (result : Result T E) → P → OnOk result P
 on_ok (Ok x) holds = holds
@@ -45,6 +52,24 @@ never_ok P (Err e) err = tt
 pub never : {A : Type 0} (row : Result A PerError) (e : PerError) → IsOk row → row ≡ Err e → ⊥
 never {A} (Ok x) e ok err = cc
 never {A} (Err f) e ok err = cc
+
+-- an error that is passed on
+module _ {T E : Type 0} (result : Result T E) (e : E) (passed : IsErrAnd result (λ x. x ≡ e)) where
+  passed_on : result ≡ Err e
+  passed_on = as_it_was result passed
+
+  pub none_ok : (P : T → Type 0) → IfOk result P
+  none_ok P = subst (λ (r : Result T E). IfOk r P) (sym passed_on) tt
+
+  pub not_ok : (P : Type 0) → OnOk result P
+  not_ok P = subst (λ (r : Result T E). OnOk r P) (sym passed_on) tt
+
+  -- it is the error that failed
+  pub same_error : {U : Type 0} (d : E) → result ≡ Err d → IsErrOf {T = U} (Err e) d
+  same_error {U} d is =
+      let both = sym passed_on ∙ is in
+      let same : e ≡ d = cc in
+      ap (λ (x : E). Err x) same
 
 -- ---- what begins
 
@@ -198,10 +223,12 @@ module _ (rules : List Rule) (answers : fns.Answers) (now : ℕ) (busy : Option 
         }
 
         module _ (first : Elapses old mid) (next : Elapses mid new) (idle : Quiet old → IsIdle old mid) where
-          pub leaves_led : Leaves told (IsBesideNew s.app (free_bank (root_in s))) mid new → Leaves told (IsBesideNew app (free_bank r)) old new
-          leaves_led leaves = leaves_then app old mid new first next idle same told (IsBesideNew app (free_bank r))
-              (subst (λ (x : Root). Leaves told (IsBesideNew app (free_bank x)) mid new) over_root
-              (clause_of (λ n. Leaves told (IsBesideNew n (free_bank (root_in s))) mid new) leaves))
+          pub leaves_led : Leaves told (IsBesideCommit s.app (free_bank (root_in s)) s.built (length s.contents.items)) mid new
+              → Leaves told (IsBesideNext app (free_bank r)) old new
+          leaves_led leaves = leaves_then app old mid new first next idle same told (IsBesideNext app (free_bank r))
+              (subst (λ (x : Root). Leaves told (IsBesideNext app (free_bank x)) mid new) over_root
+              (clause_of (λ n. Leaves told (IsBesideNext n (free_bank (root_in s))) mid new)
+              (leaves_whole told s.app (free_bank (root_in s)) s.built (length s.contents.items) mid new leaves (few_storages app s ready.0.memory).0)))
 
           module _ (in_use : InUseLaw) (later : UpdateLaterLaw) (still : StillAppLaw) (lt : app < 8) (at : RootAt told old.image app r) (tells : IsTrue told)
               (stands : StandsThroughout s.app (updated_app (progress_in s) (app_at mid.image s.app)) mid new) where

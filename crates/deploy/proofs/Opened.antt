@@ -15,13 +15,13 @@ use Rattle.root_text.specs.RootText.{IsRoot, root_text}
 use Rattle.root_text.specs.RootText as text
 use Rattle.deploy_laws.specs.Apps.{AreClean, IsCleanApp, Says, app_at, nothing, says_at, says_by, shapes_named}
 use Rattle.deploy_laws.specs.Laws.{AloneCleanLaw, AloneLaw, OpeningLaw, RootAloneLaw, RootSlotsLaw, StillAppLaw, VersionsLaw}
-use Rattle.deploy_laws.specs.Places.{IsFileOf, IsNoRootFile, root_place}
+use Rattle.deploy_laws.specs.Places.{IsFileOf, root_place}
 use Rattle.deploy_laws.specs.Stands.{StandsCase}
 use Rattle.deploy_rows.specs.Rows.{reopened}
 use Rattle.deploy.specs.declared.errors.Stop.{Stop}
 use Rattle.deploy.specs.declared.roots.Root.{Root}
 use Rattle.deploy.specs.declared.roots.Root.TheVariants.{Bad, Absent, Installed}
-use Rattle.deploy.specs.Clauses.{Leaves, StandsOnTheWay}
+use Rattle.deploy.specs.Clauses.{IsNoRootSlot, Leaves, StandsOnTheWay}
 use Rattle.deploy.specs.Roots.{RootAt, root_says}
 use Rattle.deploy.proofs.InUse.{AgainLaw, app_that, bad_app, written_app, written_clean}
 
@@ -79,14 +79,12 @@ module _ (app : ℕ) (lt : app < 8) (told : Bool) (seen : Seen) (old mid new : M
       goes_on (StandsCase app (app_at old.image app) after) first next (look_stands still app lt old mid idle quiet clean after later)
       (λ c past. opening app seen old.image after c lt clean stands (puts_then tells quiet c past) later)
 
-  pub brought_leaves : (slots : RootSlotsLaw) → (IsTrue told → Spares (IsNoSlot (root_place app).first 3) mid.image new.image)
-      → Leaves told (IsNoRootFile app) old new
-  brought_leaves slots elsewhere = record {
-    at_the_end = λ tells f no. elsewhere tells f (slots app f lt no) ∙ ap (λ (i : Image). i f) same;
-    throughout = λ tells quiet. goes_on (IsSettledOn (IsNoRootFile app) old.image) first next
-        (λ c past. settled_here (IsNoRootFile app) old.image c ((idle quiet).during c past))
-        (λ c past. settled_of (IsNoSlot (root_place app).first 3) (IsNoRootFile app) old.image c (λ f no. slots app f lt no)
-        (puts_then tells quiet c past).elsewhere);
+  pub brought_leaves : (IsTrue told → Spares (IsNoSlot (root_place app).first 3) mid.image new.image) → Leaves told (IsNoRootSlot app) old new
+  brought_leaves elsewhere = record {
+    at_the_end = λ tells f no. elsewhere tells f no ∙ ap (λ (i : Image). i f) same;
+    throughout = λ tells quiet. goes_on (IsSettledOn (IsNoRootSlot app) old.image) first next
+        (λ c past. settled_here (IsNoRootSlot app) old.image c ((idle quiet).during c past))
+        (λ c past. (puts_then tells quiet c past).elsewhere);
   }
 
 -- ---- the application afterwards

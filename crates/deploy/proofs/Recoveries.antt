@@ -1,6 +1,6 @@
 -- What a recovery and a reset come to, and every moment of a call that first looks.
 use Rattle.std.proofs.Common.{◌≡◌, ℕ, ◌<◌, ◌≤◌, Bool, true, false, cond, List, [], ◌∷◌, refl, sym, ap, subst, ◌∙◌, arith}
-use Rattle.std.specs.Prelude.{IsTrue, Option, None, Some, Result, Ok, Err, length, nat_le, nat_lt, sum_by}
+use Rattle.std.specs.Prelude.{IsErr, IsTrue, Option, None, Some, Result, Ok, Err, length, nat_le, nat_lt, sum_by}
 use Rattle.std.specs.List.{AllByRecursion}
 use Rattle.std.proofs.lemmas.Bool.Decides.{nat_tests}
 use Rattle.per_base.specs.declared.elements.Cause.TheVariants as cause
@@ -30,7 +30,7 @@ use Rattle.element_store.specs.Rebuilds.{HasNext}
 use Rattle.update_plan.specs.Rows.{initial_contents}
 use Rattle.deploy_rows.specs.Recovering.{after_state, if_fits, is_worn_out, rebuilding, recovered_contents, recovering, resetting}
 use Rattle.deploy_rows.specs.Rows.{Answers}
-use Rattle.deploy.specs.Clauses.{Leaves}
+use Rattle.deploy.specs.Clauses.{ChangesNothing, Leaves}
 use Rattle.deploy.specs.Recovered.{AreElements}
 
 -- ---- a rebuilding
@@ -75,29 +75,44 @@ rebuilt_next state view contents read fresh =
 abbrev unless_large : Bool → StorageData → State → List Fresh → Result State PerError
 unless_large large s state contents = cond large (Err (error.OutOfStorageSpace (sum_by fresh_size contents) s.maximum)) (rebuilding state contents)
 
+-- what fits is rebuilt, and what does not is refused with both sizes
+pub fits_row : (s : StorageData) (contents : List Fresh) → sum_by fresh_size contents ≤ s.maximum → (state : State) → if_fits s state contents ≡ rebuilding state contents
+fits_row s contents le state = ap (λ (b : Bool). unless_large b s state contents) (within (sum_by fresh_size contents) s.maximum le)
+  where
+    within : (a b : ℕ) → a ≤ b → nat_lt b a ≡ false
+    within a b le = grind (arith, nat_tests, le)
+
+pub large_row : (s : StorageData) (contents : List Fresh) → s.maximum < sum_by fresh_size contents → (state : State)
+    → if_fits s state contents ≡ Err (error.OutOfStorageSpace (sum_by fresh_size contents) s.maximum)
+large_row s contents lt state = ap (λ (b : Bool). unless_large b s state contents) (above (sum_by fresh_size contents) s.maximum lt)
+  where
+    above : (a b : ℕ) → b < a → nat_lt b a ≡ true
+    above a b lt = grind (arith, nat_tests, lt)
+
+-- what fits and is refused is worn out
+pub fits_worn : (s : StorageData) (contents : List Fresh) → sum_by fresh_size contents ≤ s.maximum → (state : State) (view : Option View) → view ≡ salvage_of state
+    → IsErr (if_fits s state contents) → is_worn_out view ≡ true
+fits_worn s contents le state view read err = ap is_worn_out read
+    ∙ worn (is_worn_out (salvage_of state)) (subst (λ (r : Result State PerError). IsErr r) (fits_row s contents le state) err)
+  where
+    worn : (b : Bool) → IsErr (unless_worn b (salvage_of state) contents) → b ≡ true
+    worn true err = refl
+    worn false err = absurd cc
+
 if_recovered : (s : StorageData) (now : ℕ) (state : State) (view : Option View) (contents : List Fresh) → view ≡ salvage_of state
     → contents ≡ recovered_contents s now view → recovering s now state ≡ if_fits s state contents
 unfolding recovering
 if_recovered s now state view contents read made =
     ap (λ (fs : List Fresh). if_fits s state fs) (ap (λ (v : Option View). recovered_contents s now v) (sym read) ∙ sym made)
 
--- what fits is rebuilt
 pub recovery_row : (s : StorageData) (now : ℕ) (view : Option View) (contents : List Fresh) → contents ≡ recovered_contents s now view
     → sum_by fresh_size contents ≤ s.maximum → (state : State) → view ≡ salvage_of state → recovering s now state ≡ rebuilding state contents
-recovery_row s now view contents made le state read =
-    if_recovered s now state view contents read made ∙ ap (λ (b : Bool). unless_large b s state contents) (within (sum_by fresh_size contents) s.maximum le)
-  where
-    within : (a b : ℕ) → a ≤ b → nat_lt b a ≡ false
-    within a b le = grind (arith, nat_tests, le)
+recovery_row s now view contents made le state read = if_recovered s now state view contents read made ∙ fits_row s contents le state
 
 pub too_large : (s : StorageData) (now : ℕ) (view : Option View) (contents : List Fresh) → contents ≡ recovered_contents s now view
     → s.maximum < sum_by fresh_size contents → (state : State) → view ≡ salvage_of state
     → recovering s now state ≡ Err (error.OutOfStorageSpace (sum_by fresh_size contents) s.maximum)
-too_large s now view contents made lt state read =
-    if_recovered s now state view contents read made ∙ ap (λ (b : Bool). unless_large b s state contents) (above (sum_by fresh_size contents) s.maximum lt)
-  where
-    above : (a b : ℕ) → b < a → nat_lt b a ≡ true
-    above a b lt = grind (arith, nat_tests, lt)
+too_large s now view contents made lt state read = if_recovered s now state view contents read made ∙ large_row s contents lt state
 
 pub reset_row : (s : StorageData) (now : ℕ) (view : Option View) (contents : List Fresh) → contents ≡ initial_contents s cause.Reset now
     → (state : State) → view ≡ salvage_of state → resetting s now state ≡ rebuilding state contents
@@ -187,6 +202,10 @@ none_leaves told Apart old law = record {
   at_the_end = λ tells f out. refl;
   throughout = λ tells quiet. goes_none (IsSettledOn Apart old.image) law (λ c here. settled_at Apart old.image c (quiet c here));
 }
+
+-- nothing was changed where it was looked and then nothing was done
+pub nothing_changes : (old mid new : Medium) → mid.image ≡ old.image → mid.written ≡ old.written → (Quiet old → IsIdle old mid) → new ≡ mid → ChangesNothing old new
+nothing_changes old mid new image written idle same = subst (λ (m : Medium). ChangesNothing old m) (sym same) (record { image = image; written = written; idle = idle })
 
 module _ (old mid : Medium) (same : mid.image ≡ old.image) (idle : Quiet old → IsIdle old mid) where
   -- while it looks

@@ -1,4 +1,5 @@
 pub mod Failures
+pub mod Refusals
 pub mod Roots
 pub mod Made
 pub mod Standing
@@ -12,3 +13,4 @@ pub mod Beginning
 pub mod Laws
 pub mod Recovered
 pub mod Updates
+pub mod Remaining

@@ -1,11 +1,11 @@
 -- A root as it is seen, beside what the image says.
-use Rattle.std.specs.Prelude.{ℕ, ◌-◌, List, Bool, Option, option_map}
+use Rattle.std.specs.Prelude.{ℕ, ◌-◌, List, Bool, Option, Some, None, option_map, ⊤}
 use Rattle.disk_model.specs.Image.{Image}
 use Rattle.deployment_model.specs.Data.{deployment_data}
 use Rattle.deploy.specs.declared.viewing.RootView.{RootView}
 use Rattle.deploy.specs.declared.viewing.RootView.TheVariants.{Bad, Absent, Installed}
 use Rattle.deploy_laws.specs.Places.{Named}
-use Rattle.deploy_laws.specs.Apps.{Says, nothing, absent, installed, app_at, root_settled}
+use Rattle.deploy_laws.specs.Apps.{ArePlaced, IsPlaced, Says, nothing, absent, installed, app_at, root_settled}
 
 -- nothing counts; or nothing is installed; or these versions; and which copies lack the root, and that no other text is held
 pub data RootSeen : Type 0 where
@@ -27,3 +27,10 @@ seen_by (installed g active previous) lacking settled = versions active previous
 -- what an image shows of a root
 abbrev pub seen_at : Image → ℕ → RootSeen
 seen_at image app = seen_by (app_at image app).says (app_at image app).lacking (root_settled image app)
+
+-- the versions that are seen lie in their banks and keep what every deployment keeps
+abbrev pub ShowsVersions : RootSeen → Type 0
+ShowsVersions bad = ⊤
+ShowsVersions (no_version lacking settled) = ⊤
+ShowsVersions (versions active None lacking settled) = IsPlaced active
+ShowsVersions (versions active (Some previous) lacking settled) = ArePlaced active previous

@@ -9,9 +9,9 @@ ghost use Rattle.guarded_cell.specs.Cells.{CellAt, IsCellOf};
 ghost use Rattle.guarded_cell.specs.Stops.{FormatStops};
 ghost use Rattle.root_text.specs.RootText.{absent, root_text};
 ghost use Rattle.deploy_laws.specs.Apps.{IsCleanApp, app_at, root_settled};
-ghost use Rattle.deploy_laws.specs.Places.{IsNoRootFile, root_place};
+ghost use Rattle.deploy_laws.specs.Places.{root_place};
 ghost use Rattle.deploy_rows.specs.Rows.{empty_app};
-ghost use Rattle.deploy.specs.Clauses.{Leaves};
+ghost use Rattle.deploy.specs.Clauses.{IsNoRootSlot, Leaves};
 
 use crate::errors::Stop;
 use crate::shapes::root_place;
@@ -38,8 +38,8 @@ pub fn format_all<D: Disk>(alloc: Global, disk: &mut D) -> Result<(), Stop>
     ensures passes { OnOk result ((D.medium disk.new).faults ≡ (D.medium disk.old).faults) }
     ensures fed { IsErrOf result Stop.OutOfMemory → (D.medium disk.new).faults ≡ (D.medium disk.old).faults }
 
-    // Only files of roots change.
-    ensures outside { Leaves D.told (λ file. (app : ℕ) → app < 8 → IsNoRootFile app file) (D.medium disk.old) (D.medium disk.new) }
+    // Only slots of roots change.
+    ensures outside { Leaves D.told (λ file. (app : ℕ) → app < 8 → IsNoRootSlot app file) (D.medium disk.old) (D.medium disk.new) }
     ensures time { Elapses (D.medium disk.old) (D.medium disk.new) }
 {
     roots_say();

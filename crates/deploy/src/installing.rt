@@ -12,12 +12,14 @@ ghost use Rattle.root_text.specs.RootText.{IsVersion, installed, root_text};
 ghost use Rattle.root_text.specs.Views.{version_said};
 ghost use Rattle.update_plan.specs.Plans.{AllFit};
 ghost use Rattle.deploy_laws.specs.Apps.{IsCleanApp, app_at};
-ghost use Rattle.deploy_laws.specs.Places.{IsBesideNew, IsNoRootFile, root_place, shapes_from};
+ghost use Rattle.deploy_laws.specs.Places.{root_place, shapes_from};
 ghost use Rattle.deploy_laws.specs.Stands.{StandsThroughout};
 ghost use Rattle.deploy_rows.specs.Rows.{Answers, after, installed_app, installing};
-ghost use Rattle.deploy.specs.Clauses.{Leaves};
+ghost use Rattle.deploy.specs.Clauses.{IsBesideNext, Leaves};
 ghost use Rattle.deploy.specs.Made.{AreMade};
 ghost use Rattle.deploy.specs.Next.{next_app, root_before};
+ghost use Rattle.deploy.specs.Refusals.{TakesNoMemory};
+ghost use Rattle.deploy.specs.Remaining.{IsBesideCommit};
 ghost use Rattle.deploy.specs.Roots.{IsKept, IsRootCell, RootAt, root_app, root_says, texts_in};
 
 use crate::errors::Stop;
@@ -63,13 +65,14 @@ pub fn install<D: Disk>(
     ensures quiet { Quiet (D.medium disk.old) → OnOk result (Quiet (D.medium disk.new)) }
     ensures unchanged { IfOk result (λ o. (o.refused ≡ None → ⊥) → (disk.new ≡ disk.old) × (o.root ≡ root)) }
     ensures early { (e : PerError) → installing now manifest.now (root_app root []) ≡ Err e → disk.new ≡ disk.old }
+    ensures due { (e : PerError) → installing now manifest.now (root_app root []) ≡ Err e → TakesNoMemory e → IsOk result }
     ensures cause { IsErrOf result Stop.Device → Rose (D.medium disk.old).faults (D.medium disk.new).faults }
     ensures device_only { IsErrOf result Stop.Device → IsOk (installing now manifest.now (root_app root [])) }
     ensures passes { OnOk result ((D.medium disk.new).faults ≡ (D.medium disk.old).faults) }
     ensures fed { IsErrOf result Stop.OutOfMemory → (D.medium disk.new).faults ≡ (D.medium disk.old).faults }
 
-    // Only files of the root and of bank 0 change, and at any moment the application stands as before or as after.
-    ensures outside { Leaves D.told (IsBesideNew app 0) (D.medium disk.old) (D.medium disk.new) }
+    // Only slots of the root and files of bank 0 change, and at any moment the application stands as before or as after.
+    ensures outside { Leaves D.told (IsBesideNext app 0) (D.medium disk.old) (D.medium disk.new) }
     ensures any_moment { IsTrue D.told → StandsThroughout app
         (after (app_at (D.medium disk.old).image app) (installing now manifest.now (app_at (D.medium disk.old).image app)))
         (D.medium disk.old) (D.medium disk.new) }
@@ -115,7 +118,7 @@ fn install_first<D: Disk>(
     ensures device_only { IsErrOf result Stop.Device → IsOk (installing now manifest.now (root_app (Root.Absent cell) [])) }
     ensures passes { OnOk result ((D.medium disk.new).faults ≡ (D.medium disk.old).faults) }
     ensures fed { IsErrOf result Stop.OutOfMemory → (D.medium disk.new).faults ≡ (D.medium disk.old).faults }
-    ensures outside { Leaves D.told (IsBesideNew app 0) (D.medium disk.old) (D.medium disk.new) }
+    ensures outside { Leaves D.told (IsBesideNext app 0) (D.medium disk.old) (D.medium disk.new) }
     ensures any_moment { IsTrue D.told → StandsThroughout app
         (after (app_at (D.medium disk.old).image app) (installing now manifest.now (app_at (D.medium disk.old).image app)))
         (D.medium disk.old) (D.medium disk.new) }
@@ -161,7 +164,7 @@ fn install_version<D: Disk>(
     ensures cause { IsErrOf result Stop.Device → Rose (D.medium disk.old).faults (D.medium disk.new).faults }
     ensures passes { OnOk result ((D.medium disk.new).faults ≡ (D.medium disk.old).faults) }
     ensures fed { IsErrOf result Stop.OutOfMemory → (D.medium disk.new).faults ≡ (D.medium disk.old).faults }
-    ensures outside { Leaves D.told (IsBesideNew app 0) (D.medium disk.old) (D.medium disk.new) }
+    ensures outside { Leaves D.told (IsBesideNext app 0) (D.medium disk.old) (D.medium disk.new) }
     ensures any_moment { IsTrue D.told → StandsThroughout app (installed_app (generation_of cell) now (deployment_data version.deployment))
         (D.medium disk.old) (D.medium disk.new) }
     ensures time { Elapses (D.medium disk.old) (D.medium disk.new) }
@@ -221,10 +224,9 @@ pub(crate) fn make_version<D: Disk>(
     ensures passes { OnOk result ((D.medium disk.new).faults ≡ (D.medium disk.old).faults) }
     ensures fed { IsErrOf result Stop.OutOfMemory → (D.medium disk.new).faults ≡ (D.medium disk.old).faults }
 
-    // Only files of the root and of the bank change, with no storage remaining only those of the root, and at any moment the application
-    // stands as before or as after.
-    ensures outside { Leaves D.told (IsBesideNew app bank) (D.medium disk.old) (D.medium disk.new) }
-    ensures root_alone { length contents.now ≤ built → Leaves D.told (IsNoRootFile app) (D.medium disk.old) (D.medium disk.new) }
+    // Only slots of the root and files of the storages that remain change, and at any moment the application stands as before or as
+    // after.
+    ensures outside { Leaves D.told (IsBesideCommit app bank built (length contents.now)) (D.medium disk.old) (D.medium disk.new) }
     ensures any_moment { IsTrue D.told → StandsThroughout app
         (next_app (generation_of cell + 1) bank (version_said version.now) (option_map (λ v. version_said v.now) previous.entry) contents.now
         (app_at (D.medium disk.old).image app))

@@ -1,17 +1,17 @@
 //! Leaving one of two versions behind: the previous one is forgotten, or it is active again.
 
-ghost use Rattle.std.specs.Prelude.{◌≡◌, ◌≤◌, ◌<◌, ℕ, List, [], ◌∷◌, Err, IfErr, IfNone, IfOk, IsErrOf, IsOk, IsTrue, None, Ok, OnOk, Result, drop, option_map, take};
+ghost use Rattle.std.specs.Prelude.{◌≡◌, ◌≤◌, ◌<◌, ◌⊎◌, ℕ, List, [], ◌∷◌, Err, IfErr, IfNone, IfOk, IsErrOf, IsOk, IsTrue, None, Ok, OnOk, Result, drop, option_map, take};
 ghost use Rattle.per_base.specs.Causes.{Rose};
 ghost use Rattle.per_base.specs.declared.errors.PerError.{PerError};
 ghost use Rattle.disk_model.specs.Medium.{Elapses, Quiet};
 ghost use Rattle.guarded_cell.specs.Cells.{CellAt, generation_of};
 ghost use Rattle.element_state.specs.States.{greatest_generation};
 ghost use Rattle.deploy_laws.specs.Apps.{App, AreClean, IsCleanApp, app_at, shapes_named};
-ghost use Rattle.deploy_laws.specs.Places.{IsNoRootFile};
 ghost use Rattle.deploy_laws.specs.Stands.{StandsThroughout};
 ghost use Rattle.deploy_rows.specs.Rows.{Answers, after, finishing, not_busy, not_worn, rolling_back};
-ghost use Rattle.deploy.specs.Clauses.{Leaves};
+ghost use Rattle.deploy.specs.Clauses.{IsNoRootSlot, Leaves};
 ghost use Rattle.deploy.specs.Leaving.{IsLone, IsRefused, app_saying, lone_says, refused_or};
+ghost use Rattle.deploy.specs.Refusals.{TakesNoMemory};
 ghost use Rattle.deploy.specs.Roots.{AreParts, IsKept, IsRootCell, IsRootOf, RootAt, root_app, root_says, texts_in};
 
 use crate::errors::Stop;
@@ -56,9 +56,9 @@ pub fn finish<D: Disk>(alloc: Global, disk: &mut D, root: Root) -> Result<Outcom
     ensures memory { IsErrOf result Stop.OutOfMemory → disk.new ≡ disk.old }
     ensures passes { OnOk result ((D.medium disk.new).faults ≡ (D.medium disk.old).faults) }
 
-    // Only files of the root change, and at any moment the application stands as before or as after.
+    // Only slots of the root change, and at any moment the application stands as before or as after.
     ensures outside { (app : ℕ) → app < 8 → RootAt D.told (D.medium disk.old).image app root
-        → Leaves D.told (IsNoRootFile app) (D.medium disk.old) (D.medium disk.new) }
+        → Leaves D.told (IsNoRootSlot app) (D.medium disk.old) (D.medium disk.new) }
     ensures any_moment { IsTrue D.told → (app : ℕ) → app < 8 → RootAt D.told (D.medium disk.old).image app root → StandsThroughout app
         (after (app_at (D.medium disk.old).image app) (finishing (app_at (D.medium disk.old).image app)))
         (D.medium disk.old) (D.medium disk.new) }
@@ -106,14 +106,18 @@ pub fn rollback<D: Disk>(
     ensures quiet { Quiet (D.medium disk.old) → OnOk result (Quiet (D.medium disk.new)) }
     ensures unchanged { IfOk result (λ o. (o.refused ≡ None → ⊥) → (disk.new ≡ disk.old) × (o.root ≡ root)) }
     ensures early { (e : PerError) → rolling_back (option_map (λ n. n.now) busy.entry) (root_app root []) ≡ Err e → disk.new ≡ disk.old }
+
+    // Where no storage is open, no refusal takes memory.
+    ensures due { (e : PerError) → rolling_back (option_map (λ n. n.now) busy.entry) (root_app root []) ≡ Err e
+        → TakesNoMemory e ⊎ (busy.entry ≡ None) → IsOk result }
     ensures cause { IsErrOf result Stop.Device → Rose (D.medium disk.old).faults (D.medium disk.new).faults }
     ensures device_only { IsErrOf result Stop.Device → IsOk (rolling_back (option_map (λ n. n.now) busy.entry) (root_app root [])) }
     ensures memory { IsErrOf result Stop.OutOfMemory → disk.new ≡ disk.old }
     ensures passes { OnOk result ((D.medium disk.new).faults ≡ (D.medium disk.old).faults) }
 
-    // Only files of the root change, and at any moment the application stands as before or as after.
+    // Only slots of the root change, and at any moment the application stands as before or as after.
     ensures outside { (app : ℕ) → app < 8 → RootAt D.told (D.medium disk.old).image app root
-        → Leaves D.told (IsNoRootFile app) (D.medium disk.old) (D.medium disk.new) }
+        → Leaves D.told (IsNoRootSlot app) (D.medium disk.old) (D.medium disk.new) }
     ensures any_moment { IsTrue D.told → (app : ℕ) → app < 8 → RootAt D.told (D.medium disk.old).image app root → StandsThroughout app
         (after (app_at (D.medium disk.old).image app) (rolling_back (option_map (λ n. n.now) busy.entry) (app_at (D.medium disk.old).image app)))
         (D.medium disk.old) (D.medium disk.new) }
@@ -135,6 +139,7 @@ pub(crate) fn busy_or_worn(busy: Option<&Name>, generation: u64) -> Result<Optio
     ensures row { (x : Result App PerError) → IfOk result (λ refused.
         not_busy (option_map (λ n. n.now) busy.entry) (not_worn generation x) ≡ refused_or refused x) }
     ensures left { IfOk result (λ refused. IfNone refused (generation < greatest_generation)) }
+    ensures due { busy.entry ≡ None → IsOk result }
     ensures memory { IsErrOf result Stop.Device → ⊥ }
 {
     if let Some(name) = busy {
@@ -185,6 +190,8 @@ impl Root {
         ensures lone { IfOk result (λ left. IfOk left (IsLone (rolling_back (option_map (λ n. n.now) busy.entry)) self)) }
         ensures text { IfOk result (λ left. IfOk left (λ l. l.version.text ∷ [] ≡ drop 1 (texts_in self))) }
         ensures refused { IfOk result (λ left. IfErr left (IsRefused (rolling_back (option_map (λ n. n.now) busy.entry)) self)) }
+        ensures due { (e : PerError) → rolling_back (option_map (λ n. n.now) busy.entry) (root_app self []) ≡ Err e
+            → TakesNoMemory e ⊎ (busy.entry ≡ None) → IsOk result }
         ensures memory { IsErrOf result Stop.Device → ⊥ }
     {
         match self {
@@ -224,6 +231,8 @@ impl Installed {
         ensures lone { IfOk result (λ left. IfOk left (IsLone (rolling_back (option_map (λ n. n.now) busy.entry)) (Root.Installed self))) }
         ensures text { IfOk result (λ left. IfOk left (λ l. l.version.text ∷ [] ≡ drop 1 (texts_in (Root.Installed self)))) }
         ensures refused { IfOk result (λ left. IfErr left (IsRefused (rolling_back (option_map (λ n. n.now) busy.entry)) (Root.Installed self))) }
+        ensures due { (e : PerError) → rolling_back (option_map (λ n. n.now) busy.entry) (root_app (Root.Installed self) []) ≡ Err e
+            → TakesNoMemory e ⊎ (busy.entry ≡ None) → IsOk result }
         ensures memory { IsErrOf result Stop.Device → ⊥ }
     {
         let Installed {
@@ -279,9 +288,9 @@ impl Lone {
         ensures memory { IsErrOf result Stop.OutOfMemory → disk.new ≡ disk.old }
         ensures passes { OnOk result ((D.medium disk.new).faults ≡ (D.medium disk.old).faults) }
 
-        // Only files of the root change, and at any moment the application stands as before or with this version alone.
+        // Only slots of the root change, and at any moment the application stands as before or with this version alone.
         ensures outside { (app : ℕ) → app < 8 → IsRootCell app self.cell
-            → Leaves D.told (IsNoRootFile app) (D.medium disk.old) (D.medium disk.new) }
+            → Leaves D.told (IsNoRootSlot app) (D.medium disk.old) (D.medium disk.new) }
         ensures any_moment { IsTrue D.told → (app : ℕ) → app < 8 → IsRootCell app self.cell
             → AreClean (D.medium disk.old).image (shapes_named app (lone_says self))
             → StandsThroughout app (app_saying (D.medium disk.old).image app (lone_says self)) (D.medium disk.old) (D.medium disk.new) }

@@ -28,7 +28,7 @@ pub use installing::install;
 pub use laws::{in_use_stays, roots_in_use};
 pub use leaving::{finish, rollback};
 pub use opening::open_root;
-pub use recovering::{recover_storage, reset_storage};
+pub use recovering::{recover_storage, replace_contents, reset_storage};
 pub use roots::{Installed, Outcome, Root};
 pub use shapes::shape_of;
 pub use updating::{Begin, Staged, begin_update};

@@ -10,10 +10,11 @@ ghost use Rattle.index_text.specs.Contents.{AreContents};
 ghost use Rattle.element_state.specs.Clean.{IsClean};
 ghost use Rattle.element_state.specs.States.{fresh_map, fresh_state, store_at};
 ghost use Rattle.update_plan.specs.Plans.{AllFit};
-ghost use Rattle.deploy_laws.specs.Places.{IsBeside, IsOutsideBank, shape_of, shapes_from};
+ghost use Rattle.deploy_laws.specs.Places.{IsBeside, shape_of, shapes_from};
 ghost use Rattle.deploy_rows.specs.Rows.{initial_all};
 ghost use Rattle.deploy.specs.Clauses.{Leaves};
 ghost use Rattle.deploy.specs.Made.{AreMade};
+ghost use Rattle.deploy.specs.Remaining.{IsBesideRest};
 
 use crate::errors::Stop;
 use crate::shapes::shape_of;
@@ -71,8 +72,8 @@ pub(crate) fn create_rest<D: Disk>(
     ensures passes { OnOk result ((D.medium disk.new).faults ≡ (D.medium disk.old).faults) }
     ensures fed { IsErrOf result Stop.OutOfMemory → (D.medium disk.new).faults ≡ (D.medium disk.old).faults }
 
-    // Only files of the bank change.
-    ensures outside { Leaves D.told (IsOutsideBank app bank) (D.medium disk.old) (D.medium disk.new) }
+    // Only files of the storages that remain change.
+    ensures outside { Leaves D.told (IsBesideRest app bank built (length contents.now)) (D.medium disk.old) (D.medium disk.new) }
     ensures time { Elapses (D.medium disk.old) (D.medium disk.new) }
 {
     files_lie_apart();

@@ -1,6 +1,6 @@
 //! Opening a root.
 
-ghost use Rattle.std.specs.Prelude.{◌≡◌, ◌<◌, ℕ, IfOk, IsErrOf, IsTrue, Ok, OnOk, Some};
+ghost use Rattle.std.specs.Prelude.{◌≡◌, ◌<◌, ℕ, List, IfOk, IsErrOf, IsTrue, Ok, OnOk, Some};
 ghost use Rattle.per_base.specs.Causes.{Rose};
 ghost use Rattle.disk_model.specs.Frame.{Spares};
 ghost use Rattle.disk_model.specs.Image.{Image};
@@ -12,9 +12,9 @@ ghost use Rattle.guarded_cell.specs.Stops.{PutStops};
 ghost use Rattle.root_text.specs.RootText.{IsRoot, root_text};
 ghost use Rattle.root_text.specs.Views.{root_said};
 ghost use Rattle.deploy_laws.specs.Apps.{IsCleanApp, app_at, says_at, says_by};
-ghost use Rattle.deploy_laws.specs.Places.{IsNoRootFile, root_place};
+ghost use Rattle.deploy_laws.specs.Places.{root_place};
 ghost use Rattle.deploy_rows.specs.Rows.{reopened};
-ghost use Rattle.deploy.specs.Clauses.{Leaves, StandsOnTheWay};
+ghost use Rattle.deploy.specs.Clauses.{IsNoRootSlot, Leaves, StandsOnTheWay};
 ghost use Rattle.deploy.specs.Roots.{RootAt, root_says};
 ghost use Rattle.deploy.specs.Standing.{IsSpelled};
 
@@ -51,8 +51,13 @@ pub fn open_root<D: Disk>(alloc: Global, disk: &mut D, app: u32) -> Result<Root,
     ensures passes { OnOk result ((D.medium disk.new).faults ≡ (D.medium disk.old).faults) }
     ensures fed { IsErrOf result Stop.OutOfMemory → (D.medium disk.new).faults ≡ (D.medium disk.old).faults }
 
-    // Only files of the root change, and at any moment the application stands as it was, also on its way to whatever may come of it.
-    ensures outside { Leaves D.told (IsNoRootFile app) (D.medium disk.old) (D.medium disk.new) }
+    // Where every copy holds one text and no other is held, nothing is written, however it ends.
+    ensures already { IsTrue D.told → (generation : ℕ) (text : List ℕ)
+        → IsAlone (D.medium disk.old).image (root_place app).first 3 generation text
+        → ((D.medium disk.new).image ≡ (D.medium disk.old).image) × ((D.medium disk.new).written ≡ (D.medium disk.old).written) }
+
+    // Only slots of the root change, and at any moment the application stands as it was, also on its way to whatever may come of it.
+    ensures outside { Leaves D.told (IsNoRootSlot app) (D.medium disk.old) (D.medium disk.new) }
     ensures any_moment { IsTrue D.told → StandsOnTheWay app (D.medium disk.old) (D.medium disk.new) }
     ensures time { Elapses (D.medium disk.old) (D.medium disk.new) }
 {
@@ -89,7 +94,11 @@ fn settle_on<D: Disk>(
     ensures cause { IsErrOf result Stop.Device → Rose (D.medium disk.old).faults (D.medium disk.new).faults }
     ensures passes { OnOk result ((D.medium disk.new).faults ≡ (D.medium disk.old).faults) }
 
-    // Only slots of the root change, and a stop at any moment leaves every copy what it held or every copy the text.
+    // Only slots of the root change, and none where every copy holds the text alone. A stop at any moment leaves every copy what it held
+    // or every copy the text.
+    ensures already { IsTrue D.told
+        → IsAlone (D.medium disk.old).image (root_place app).first 3 standing.seen.generation standing.seen.text
+        → ((D.medium disk.new).image ≡ (D.medium disk.old).image) × ((D.medium disk.new).written ≡ (D.medium disk.old).written) }
     ensures elsewhere { IsTrue D.told
         → Spares (IsNoSlot (root_place app).first 3) (D.medium disk.old).image (D.medium disk.new).image }
     ensures any_moment { IsTrue D.told → Quiet (D.medium disk.old)

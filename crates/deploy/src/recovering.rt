@@ -1,6 +1,6 @@
-//! Recovering and resetting a closed storage.
+//! Making a closed storage anew: recovered, reset, or with contents that are given.
 
-ghost use Rattle.std.specs.Prelude.{◌≡◌, ◌≤◌, ◌⊎◌, IfOk, IfSome, IsErrOf, IsTrue, None, OnOk, Some, [], filter_map, length, option_map, sum_by};
+ghost use Rattle.std.specs.Prelude.{◌≡◌, ◌≤◌, ◌⊎◌, IfOk, IfSome, IsErr, IsErrOf, IsSome, IsTrue, None, OnOk, Some, [], filter_map, length, option_map, sum_by, true};
 ghost use Rattle.std.specs.List.{AllByRecursion};
 ghost use Rattle.per_base.specs.Causes.{Rose};
 ghost use Rattle.file_core.specs.Infos as infos;
@@ -15,9 +15,9 @@ ghost use Rattle.element_state.specs.Conditions.{IsShape};
 ghost use Rattle.element_state.specs.Kept.{KeptThroughout};
 ghost use Rattle.element_state.specs.Read.{IsView};
 ghost use Rattle.element_state.specs.States.{Corrupt, State, salvage_of, store_at};
-ghost use Rattle.deploy_rows.specs.Recovering.{after_state, is_content, is_worn_out, rebuilding, recovered_contents, recovering, rescued, resetting};
+ghost use Rattle.deploy_rows.specs.Recovering.{after_state, if_fits, is_content, is_worn_out, rebuilding, recovered_contents, recovering, rescued, resetting};
 ghost use Rattle.deploy_rows.specs.Rows.{Answers};
-ghost use Rattle.deploy.specs.Clauses.{Leaves};
+ghost use Rattle.deploy.specs.Clauses.{ChangesNothing, Leaves};
 ghost use Rattle.deploy.specs.Recovered.{AreElements, rescued_entry};
 
 use crate::errors::Stop;
@@ -134,6 +134,61 @@ pub fn reset_storage<D: Disk>(
     rebuild_over(alloc, disk, shape, &view, contents)
 }
 
+/// Makes a closed storage anew with exactly these contents, infos included, under the generation of a reset.
+///
+/// Refusals, the first that holds: `OutOfStorageSpace` where the contents are more than the storage may have; `LimitReached` with
+/// `Generations` where no generation is left. Then nothing was changed.
+///
+/// # Errors
+///
+/// `Device` where the disk fails, and `OutOfMemory`.
+pub fn replace_contents<D: Disk>(
+    alloc: Global,
+    disk: &mut D,
+    shape: &Shape,
+    config: &StorageConfig,
+    contents: Vec<Fresh>,
+) -> Result<Option<PerError>, Stop>
+    requires shape { IsShape shape.now }
+    requires configured { IsConfigured config.now.kind (storage_data config.now) shape.now }
+    requires contents { AreElements config.now.kind contents.items }
+
+    ensures refused { IfOk result (λ refused. (state : State) × (IsTrue D.told → store_at (D.medium disk.old).image shape.now ≡ state)
+        × Answers refused (if_fits (storage_data config.now) state contents.items)) }
+    ensures state { IsTrue D.told → OnOk result (store_at (D.medium disk.new).image shape.now
+        ≡ after_state (store_at (D.medium disk.old).image shape.now)
+        (if_fits (storage_data config.now) (store_at (D.medium disk.old).image shape.now) contents.items)) }
+    ensures unchanged { IfOk result (λ refused. IsSome refused → ChangesNothing (D.medium disk.old) (D.medium disk.new)) }
+    // What the row refuses changes nothing, however the call ends.
+    ensures stays { IsTrue D.told → IsErr (if_fits (storage_data config.now) (store_at (D.medium disk.old).image shape.now) contents.items)
+        → ChangesNothing (D.medium disk.old) (D.medium disk.new) }
+    ensures clean { IsTrue D.told → IfOk result (λ refused. (refused ≡ None) ⊎ IsClean shape.now (D.medium disk.old).image
+        → IsClean shape.now (D.medium disk.new).image) }
+    ensures quiet { OnOk result (Quiet (D.medium disk.new)) }
+    ensures cause { IsErrOf result Stop.Device → Rose (D.medium disk.old).faults (D.medium disk.new).faults }
+    ensures passes { OnOk result ((D.medium disk.new).faults ≡ (D.medium disk.old).faults) }
+    ensures fed { IsErrOf result Stop.OutOfMemory → (D.medium disk.new).faults ≡ (D.medium disk.old).faults }
+
+    // Only files of the storage change, and at any moment it is as it was or as it is made anew.
+    ensures outside { Leaves D.told (IsOutside shape.now.place.first shape.now.place.copies) (D.medium disk.old) (D.medium disk.new) }
+    ensures any_moment { IsTrue D.told → KeptThroughout shape.now
+        (after_state (store_at (D.medium disk.old).image shape.now)
+        (if_fits (storage_data config.now) (store_at (D.medium disk.old).image shape.now) contents.items))
+        (D.medium disk.old) (D.medium disk.new) }
+    ensures time { Elapses (D.medium disk.old) (D.medium disk.new) }
+{
+    untouched_is_kept();
+    let view = salvage(alloc, disk, shape)?;
+    let needed = size_of(contents.as_slice());
+    if needed > config.maximum {
+        return Ok(Some(PerError::OutOfStorageSpace {
+            needed,
+            allowed: config.maximum,
+        }));
+    }
+    rebuild_over(alloc, disk, shape, &view, contents)
+}
+
 // Makes a storage anew over the view that was read of it, where a generation is left after that.
 fn rebuild_over<D: Disk>(
     alloc: Global,
@@ -150,8 +205,8 @@ fn rebuild_over<D: Disk>(
     ensures state { IsTrue D.told → OnOk result (store_at (D.medium disk.new).image shape.now
         ≡ after_state (store_at (D.medium disk.old).image shape.now)
         (rebuilding (store_at (D.medium disk.old).image shape.now) contents.items)) }
-    ensures unchanged { IfOk result (λ refused. (refused ≡ None → ⊥)
-        → ((D.medium disk.new).image ≡ (D.medium disk.old).image) × ((D.medium disk.new).written ≡ (D.medium disk.old).written)) }
+    ensures untouched { IfOk result (λ refused. (refused ≡ None → ⊥) → disk.new ≡ disk.old) }
+    ensures worn { is_worn_out view.now ≡ true → disk.new ≡ disk.old }
     ensures clean { IsTrue D.told → IfOk result (λ refused. (refused ≡ None) ⊎ IsClean shape.now (D.medium disk.old).image
         → IsClean shape.now (D.medium disk.new).image) }
     ensures quiet { Quiet (D.medium disk.old) → OnOk result (Quiet (D.medium disk.new)) }

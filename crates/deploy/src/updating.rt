@@ -11,12 +11,14 @@ ghost use Rattle.element_state.specs.States.{State, store_at};
 ghost use Rattle.migrate_fns.specs.Stored.{answers_of, rules_of};
 ghost use Rattle.update_plan.specs.Plans.{ArePresent, IsOf};
 ghost use Rattle.deploy_laws.specs.Apps.{IsCleanApp, app_at};
-ghost use Rattle.deploy_laws.specs.Places.{IsBeside, IsBesideNew, IsNoRootFile, shape_of, shapes_from};
+ghost use Rattle.deploy_laws.specs.Places.{IsBeside, shape_of, shapes_from};
 ghost use Rattle.deploy_laws.specs.Stands.{StandsThroughout};
 ghost use Rattle.deploy_rows.specs.Rows.{Begins, BeginsWith, contents_of, offered, updated_app};
 ghost use Rattle.deploy.specs.Beginning.{IsOffered, IsRead, offer_of};
 ghost use Rattle.deploy.specs.Building.{IsBegun, IsStaged, StagedAt, begun_as, one_more, progress_in, root_in, text_in};
-ghost use Rattle.deploy.specs.Clauses.{Leaves};
+ghost use Rattle.deploy.specs.Clauses.{IsNoRootSlot, Leaves};
+ghost use Rattle.deploy.specs.Refusals.{TakesNoMemory};
+ghost use Rattle.deploy.specs.Remaining.{IsBesideCommit};
 ghost use Rattle.deploy.specs.Roots.{IsKept, RootAt, free_bank, root_app, root_says, texts_in};
 
 use crate::errors::Stop;
@@ -94,6 +96,8 @@ pub fn begin_update<D: Disk>(
     ensures idle { Quiet (D.medium disk.old) → IsIdle (D.medium disk.old) (D.medium disk.new) }
     ensures written { (D.medium disk.new).written ≡ (D.medium disk.old).written }
     ensures early { (e : PerError) → offered (option_map (λ n. n.now) busy.entry) manifest.now (root_app root []) ≡ Err e → disk.new ≡ disk.old }
+    ensures due { (e : PerError) → offered (option_map (λ n. n.now) busy.entry) manifest.now (root_app root []) ≡ Err e → TakesNoMemory e
+        → IsOk result }
     ensures cause { IsErrOf result Stop.Device → Rose (D.medium disk.old).faults (D.medium disk.new).faults }
     ensures device_only { IsErrOf result Stop.Device
         → IsOk (offered (option_map (λ n. n.now) busy.entry) manifest.now (root_app root [])) }
@@ -141,6 +145,8 @@ fn begin_over<D: Disk>(
     ensures written { (D.medium disk.new).written ≡ (D.medium disk.old).written }
     ensures early { (e : PerError) → offered (option_map (λ n. n.now) busy.entry) manifest.now (root_app (Root.Installed root) []) ≡ Err e
         → disk.new ≡ disk.old }
+    ensures due { (e : PerError) → offered (option_map (λ n. n.now) busy.entry) manifest.now (root_app (Root.Installed root) []) ≡ Err e
+        → TakesNoMemory e → IsOk result }
     ensures cause { IsErrOf result Stop.Device → Rose (D.medium disk.old).faults (D.medium disk.new).faults }
     ensures device_only { IsErrOf result Stop.Device
         → IsOk (offered (option_map (λ n. n.now) busy.entry) manifest.now (root_app (Root.Installed root) [])) }
@@ -166,6 +172,8 @@ fn offer(
 ) -> Result<Result<VersionText, PerError>, Stop>
     ensures offered { IfOk result
         (IsOffered (offered (option_map (λ n. n.now) busy.entry) manifest.now (root_app (Root.Installed root.now) [])) root.now) }
+    ensures due { (e : PerError) → offered (option_map (λ n. n.now) busy.entry) manifest.now (root_app (Root.Installed root.now) []) ≡ Err e
+        → TakesNoMemory e → IsOk result }
     ensures alone { IfOk result (λ offer. IfOk offer (λ version. root.now.previous ≡ None)) }
     ensures text { IfOk result (λ offer. IfOk offer (λ version. version.text ≡ manifest.now)) }
     ensures kept { IfOk result (λ offer. IfOk offer IsKept) }
@@ -430,11 +438,12 @@ impl Staged {
         ensures passes { OnOk result ((D.medium disk.new).faults ≡ (D.medium disk.old).faults) }
         ensures fed { IsErrOf result Stop.OutOfMemory → (D.medium disk.new).faults ≡ (D.medium disk.old).faults }
 
-        // Only files of the root and of the other bank change, with no storage remaining only those of the root, and at any moment the
-        // application stands as before or as after.
-        ensures outside { Leaves D.told (IsBesideNew self.app (free_bank (root_in self))) (D.medium disk.old) (D.medium disk.new) }
+        // Only slots of the root and files of the storages that remain change, with none remaining only slots of the root, and at any
+        // moment the application stands as before or as after.
+        ensures outside { Leaves D.told (IsBesideCommit self.app (free_bank (root_in self)) (progress_in self).built
+            (length (progress_in self).contents)) (D.medium disk.old) (D.medium disk.new) }
         ensures root_alone { length (progress_in self).contents ≤ (progress_in self).built
-            → Leaves D.told (IsNoRootFile self.app) (D.medium disk.old) (D.medium disk.new) }
+            → Leaves D.told (IsNoRootSlot self.app) (D.medium disk.old) (D.medium disk.new) }
         ensures any_moment { IsTrue D.told → StandsThroughout self.app
             (updated_app (progress_in self) (app_at (D.medium disk.old).image self.app)) (D.medium disk.old) (D.medium disk.new) }
         ensures time { Elapses (D.medium disk.old) (D.medium disk.new) }

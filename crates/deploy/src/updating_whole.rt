@@ -6,9 +6,9 @@ ghost use Rattle.per_base.specs.declared.errors.PerError.{PerError};
 ghost use Rattle.disk_model.specs.Medium.{Elapses, Quiet};
 ghost use Rattle.migrate_fns.specs.Stored.{answers_of, rules_of};
 ghost use Rattle.deploy_laws.specs.Apps.{IsCleanApp, app_at};
-ghost use Rattle.deploy_laws.specs.Places.{IsBesideNew};
 ghost use Rattle.deploy_rows.specs.Rows.{Begins, MayLead, offered};
-ghost use Rattle.deploy.specs.Clauses.{Leaves};
+ghost use Rattle.deploy.specs.Clauses.{IsBesideNext, Leaves};
+ghost use Rattle.deploy.specs.Refusals.{TakesNoMemory};
 ghost use Rattle.deploy.specs.Roots.{RootAt, free_bank, root_app, texts_in};
 ghost use Rattle.deploy.specs.Updates.{IsUpdated, LeadsTo};
 
@@ -56,15 +56,17 @@ pub fn update<D: Disk>(
     ensures unchanged { IfOk result (λ o. (o.refused ≡ None → ⊥) → ((D.medium disk.new).image ≡ (D.medium disk.old).image)
         × ((D.medium disk.new).written ≡ (D.medium disk.old).written) × (o.root ≡ root)) }
     ensures early { (e : PerError) → offered (option_map (λ n. n.now) busy.entry) manifest.now (root_app root []) ≡ Err e → disk.new ≡ disk.old }
+    ensures due { (e : PerError) → offered (option_map (λ n. n.now) busy.entry) manifest.now (root_app root []) ≡ Err e → TakesNoMemory e
+        → IsOk result }
     ensures cause { IsErrOf result Stop.Device → Rose (D.medium disk.old).faults (D.medium disk.new).faults }
     ensures device_only { IsErrOf result Stop.Device
         → IsOk (offered (option_map (λ n. n.now) busy.entry) manifest.now (root_app root [])) }
     ensures passes { OnOk result ((D.medium disk.new).faults ≡ (D.medium disk.old).faults) }
     ensures fed { IsErrOf result Stop.OutOfMemory → (D.medium disk.new).faults ≡ (D.medium disk.old).faults }
 
-    // Only files of the root and of the other bank change, and at any moment the application stands as before or as one next
+    // Only slots of the root and files of the other bank change, and at any moment the application stands as before or as one next
     // application, to which the update may lead and which is there where it ends well.
-    ensures outside { Leaves D.told (IsBesideNew app (free_bank root)) (D.medium disk.old) (D.medium disk.new) }
+    ensures outside { Leaves D.told (IsBesideNext app (free_bank root)) (D.medium disk.old) (D.medium disk.new) }
     ensures any_moment { IsTrue D.told → LeadsTo app
         (MayLead (rules_of migrations.now) (answers_of migrations.now) now (option_map (λ n. n.now) busy.entry) manifest.now
         (app_at (D.medium disk.old).image app)) result (D.medium disk.old) (D.medium disk.new) }

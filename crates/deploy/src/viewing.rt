@@ -5,13 +5,14 @@ ghost use Rattle.std.specs.List.{list_any};
 ghost use Rattle.per_base.specs.Causes.{Rose};
 ghost use Rattle.disk_model.specs.Medium.{Elapses, IsIdle, Quiet};
 ghost use Rattle.guarded_cell.specs.Held.{copies_that};
-ghost use Rattle.deploy.specs.Views.{root_seen, seen_at};
+ghost use Rattle.deploy.specs.Views.{ShowsVersions, root_seen, seen_at};
 
 use crate::errors::Stop;
 use crate::standing::{Standing, find_standing};
 use deployment_model::Deployment;
 use disk_model::Disk;
 use guarded_cell::held_is_lawful;
+use manifest::said_is_kept;
 use per_base::Numbers;
 use root_text::RootSays;
 use std::alloc::{AllocError, Global};
@@ -55,6 +56,8 @@ pub enum RootView {
 pub fn view_root<D: Disk>(alloc: Global, disk: &mut D, app: u32) -> Result<RootView, Stop>
     requires { app < 8 }
     ensures view { IsTrue D.told → IfOk result (λ view. root_seen view ≡ seen_at (D.medium disk.old).image app) }
+    // Whether the disk tells its bytes or not.
+    ensures versions { IfOk result (λ view. ShowsVersions (root_seen view)) }
     ensures quiet { OnOk result (Quiet (D.medium disk.new)) }
     ensures image { (D.medium disk.new).image ≡ (D.medium disk.old).image }
     ensures idle { Quiet (D.medium disk.old) → IsIdle (D.medium disk.old) (D.medium disk.new) }
@@ -65,6 +68,7 @@ pub fn view_root<D: Disk>(alloc: Global, disk: &mut D, app: u32) -> Result<RootV
     ensures time { Elapses (D.medium disk.old) (D.medium disk.new) }
 {
     held_is_lawful();
+    said_is_kept();
     let Some(standing) = find_standing(alloc, disk, app)? else {
         return Ok(RootView::Bad);
     };

@@ -11,10 +11,9 @@ ghost use Rattle.guarded_cell.specs.Stops.{PutStops};
 ghost use Rattle.root_text.specs.RootText.{absent, root_text};
 ghost use Rattle.deploy_laws.specs.Apps.{IsCleanApp, app_at};
 ghost use Rattle.deploy_laws.specs.Apps as apps;
-ghost use Rattle.deploy_laws.specs.Places.{IsNoRootFile};
 ghost use Rattle.deploy_laws.specs.Stands.{StandsThroughout};
 ghost use Rattle.deploy_rows.specs.Rows.{Answers, after, wiping};
-ghost use Rattle.deploy.specs.Clauses.{Leaves};
+ghost use Rattle.deploy.specs.Clauses.{IsNoRootSlot, Leaves};
 ghost use Rattle.deploy.specs.Leaving.{IsEmptied, IsRefused, IsRegisterAt, app_saying, empty_says, register_of};
 ghost use Rattle.deploy.specs.Roots.{RootAt, root_app, root_says};
 
@@ -60,13 +59,16 @@ pub fn wipe<D: Disk>(
     ensures quiet { Quiet (D.medium disk.old) → OnOk result (Quiet (D.medium disk.new)) }
     ensures unchanged { IfOk result (λ o. (o.refused ≡ None → ⊥) → (disk.new ≡ disk.old) × (o.root ≡ root)) }
     ensures early { (e : PerError) → wiping (option_map (λ n. n.now) busy.entry) (root_app root []) ≡ Err e → disk.new ≡ disk.old }
+
+    // Where no storage is open, no refusal takes memory.
+    ensures due { (e : PerError) → wiping (option_map (λ n. n.now) busy.entry) (root_app root []) ≡ Err e → busy.entry ≡ None → IsOk result }
     ensures cause { IsErrOf result Stop.Device → Rose (D.medium disk.old).faults (D.medium disk.new).faults }
     ensures device_only { IsErrOf result Stop.Device → IsOk (wiping (option_map (λ n. n.now) busy.entry) (root_app root [])) }
     ensures memory { IsErrOf result Stop.OutOfMemory → disk.new ≡ disk.old }
     ensures passes { OnOk result ((D.medium disk.new).faults ≡ (D.medium disk.old).faults) }
 
-    // Only files of the root change, and at any moment the application stands as before or as after.
-    ensures outside { Leaves D.told (IsNoRootFile app) (D.medium disk.old) (D.medium disk.new) }
+    // Only slots of the root change, and at any moment the application stands as before or as after.
+    ensures outside { Leaves D.told (IsNoRootSlot app) (D.medium disk.old) (D.medium disk.new) }
     ensures any_moment { IsTrue D.told → StandsThroughout app
         (after (app_at (D.medium disk.old).image app) (wiping (option_map (λ n. n.now) busy.entry) (app_at (D.medium disk.old).image app)))
         (D.medium disk.old) (D.medium disk.new) }
@@ -88,6 +90,7 @@ impl Root {
     fn without_versions(self, busy: Option<&Name>) -> Result<Result<Option<Cell>, Outcome>, Stop>
         ensures emptied { IfOk result (λ left. IfOk left (IsEmptied (wiping (option_map (λ n. n.now) busy.entry)) self)) }
         ensures refused { IfOk result (λ left. IfErr left (IsRefused (wiping (option_map (λ n. n.now) busy.entry)) self)) }
+        ensures due { busy.entry ≡ None → IsOk result }
         ensures memory { IsErrOf result Stop.Device → ⊥ }
     {
         let Some(refused) = busy_or_worn(busy, self.generation())? else {
@@ -139,8 +142,8 @@ fn empty<D: Disk>(
     ensures memory { IsErrOf result Stop.OutOfMemory → disk.new ≡ disk.old }
     ensures passes { OnOk result ((D.medium disk.new).faults ≡ (D.medium disk.old).faults) }
 
-    // Only files of the root change, and at any moment the application stands as before or with nothing installed.
-    ensures outside { Leaves D.told (IsNoRootFile app) (D.medium disk.old) (D.medium disk.new) }
+    // Only slots of the root change, and at any moment the application stands as before or with nothing installed.
+    ensures outside { Leaves D.told (IsNoRootSlot app) (D.medium disk.old) (D.medium disk.new) }
     ensures any_moment { IsTrue D.told
         → StandsThroughout app (app_saying (D.medium disk.old).image app (empty_says register)) (D.medium disk.old) (D.medium disk.new) }
     ensures time { Elapses (D.medium disk.old) (D.medium disk.new) }

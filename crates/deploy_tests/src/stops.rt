@@ -38,7 +38,7 @@ pub fn stops(alloc: Global, rest: &str) -> Result<String, Trouble> {
     follow_all(alloc, rest, &[])
 }
 
-/// `damaged` and the same: besides, where a copy of the root of application 0 is damaged after a restart that keeps all or nothing.
+/// `damaged` and the same: besides, where a copy of the root of application 0 is damaged after each restart.
 pub fn damaged(alloc: Global, rest: &str) -> Result<String, Trouble> {
     follow_all(alloc, rest, &DAMAGES)
 }
@@ -55,7 +55,7 @@ fn follow_all(alloc: Global, rest: &str, damages: &[&str]) -> Result<String, Tro
         }
     }
     for damage in damages {
-        for way in ["all", "none"] {
+        for way in RESTARTS {
             if let Some(fault) = follow(alloc, &start, course, &moments, damage, way)? {
                 return Ok(fault);
             }

@@ -26,7 +26,7 @@ loop-app-preserved g c =
           (formatted new.image app c.in_ok-_cell._cell c.in_ok-_cell.ensures.cell (c.in_ok-_cell.ensures.held tells));
       quiet = λ some. c.in_ok-_cell.ensures.quiet;
       passes = c.in_ok-_cell.ensures.passes ∙ it.passes;
-      outside = one_left c.files_lie_apart.ensures.slots g.D.Disk.told app lt old mid new it.time c.format_root.ensures.time it.outside (λ quiet. it.quiet (inr quiet))
+      outside = one_left g.D.Disk.told app lt old mid new it.time c.format_root.ensures.time it.outside (λ quiet. it.quiet (inr quiet))
           c.format_root.ensures.elsewhere c.format_root.ensures.any_moment;
       time = elapses_on it.time c.format_root.ensures.time;
     }
@@ -36,7 +36,7 @@ returns-in_err-_cell-clause-outside g c =
     let it = c.loop-app.invariant in
     let app = c.loop-app.app in
     let lt : app < 8 = omega arith in
-    one_left c.files_lie_apart.ensures.slots g.D.Disk.told app lt (g.D.Disk.medium c.args.disk.now) (g.D.Disk.medium c.loop-app.disk) (g.D.Disk.medium c.format_root.new.disk)
+    one_left g.D.Disk.told app lt (g.D.Disk.medium c.args.disk.now) (g.D.Disk.medium c.loop-app.disk) (g.D.Disk.medium c.format_root.new.disk)
     it.time c.format_root.ensures.time it.outside (λ quiet. it.quiet (inr quiet))
     c.format_root.ensures.elsewhere c.format_root.ensures.any_moment
 

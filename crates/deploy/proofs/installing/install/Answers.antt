@@ -1,8 +1,12 @@
+use Rattle.std.proofs.Common.{[], ap}
+use Rattle.guarded_cell.specs.Cells.{generation_of}
 use Rattle.deploy_laws.specs.Apps.{app_at}
 use Rattle.deploy_rows.specs.Rows.{installing}
 use Rattle.per_base.specs.declared.errors.PerError.TheVariants as error
 use Rattle.per_base.specs.declared.errors.Unit.TheVariants as unit
 use Rattle.deploy.specs.declared.roots.Root.TheVariants as root
+use Rattle.deploy.specs.Roots.{root_app, root_says}
+use Rattle.deploy.proofs.Due.{install_takes}
 use Rattle.deploy.proofs.InstallRow.{over_bad, over_installed}
 use Rattle.deploy.proofs.Unmoved.{answered, app_after, later_after, row_given, says_still, stands_still}
 use Rattle.deploy.proofs.installing.install.Goals as goal
@@ -34,3 +38,6 @@ pub returns-in-Installed-clause-any_moment : goal.returns-in-Installed-clause-an
 returns-in-Installed-clause-any_moment g c = λ tells. stands_still c.untouched_stands.ensures.still g.D.Disk.told c.args.app (g.D.Disk.medium c.args.disk.now) _ (g.met.D.Disk.lawful c.args.disk.now) c.requires.app
     (later_after (app_at (g.D.Disk.medium c.args.disk.now).image c.args.app) (installing c.args.now c.args.manifest.now (app_at (g.D.Disk.medium c.args.disk.now).image c.args.app))
     (λ b is. c.rows_lead_on.ensures.install c.args.now c.args.manifest.now (app_at (g.D.Disk.medium c.args.disk.now).image c.args.app) b is))
+
+pub returns-in-Absent-clause-due : goal.returns-in-Absent-clause-due
+returns-in-Absent-clause-due g c = λ e refusal none. absurd (install_takes c.args.now (generation_of c.in-Absent.cell) c.args.manifest.now (root_app c.args.root []) (ap root_says c.in-Absent.is) e refusal none)

@@ -1,9 +1,9 @@
 use Rattle.std.proofs.Common.{◌≡◌, [], ◌∷◌, refl, take}
 use Rattle.disk_model.specs.Laws.{elapses_none}
 use Rattle.deploy_laws.specs.Apps.{app_at}
-use Rattle.deploy_laws.specs.Places.{IsNoRootFile}
 use Rattle.deploy_rows.specs.Rows.{after, finishing}
 use Rattle.deploy.specs.declared.roots.Outcome.{Outcome}
+use Rattle.deploy.specs.Clauses.{IsNoRootSlot}
 use Rattle.deploy.specs.Leaving.{lone_says}
 use Rattle.deploy.specs.Roots.{texts_in}
 use Rattle.deploy.proofs.RowsInUse.{led_answers, led_app, led_ok, led_says, led_stands, led_text, led_unchanged, next_clean, not_refused, refused_answers, refused_app, refused_root, refused_says, refused_text}
@@ -59,7 +59,7 @@ pub returns-in-Err-clause-passes : goal.returns-in-Err-clause-passes
 returns-in-Err-clause-passes g c = refl
 
 pub returns-in-Err-clause-outside : goal.returns-in-Err-clause-outside
-returns-in-Err-clause-outside g c = λ app lt at. still_leaves g.D.Disk.told (g.D.Disk.medium c.args.disk.now) (g.met.D.Disk.lawful c.args.disk.now) (IsNoRootFile app)
+returns-in-Err-clause-outside g c = λ app lt at. still_leaves g.D.Disk.told (g.D.Disk.medium c.args.disk.now) (g.met.D.Disk.lawful c.args.disk.now) (IsNoRootSlot app)
 
 pub returns-in-Err-clause-any_moment : goal.returns-in-Err-clause-any_moment
 returns-in-Err-clause-any_moment g c = λ tells app lt at. still_stands g.D.Disk.told (g.D.Disk.medium c.args.disk.now) (g.met.D.Disk.lawful c.args.disk.now) c.untouched_stands.ensures.still app lt

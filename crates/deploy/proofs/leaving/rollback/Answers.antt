@@ -1,10 +1,10 @@
 use Rattle.std.proofs.Common.{◌≡◌, [], ◌∷◌, drop, option_map, refl}
 use Rattle.disk_model.specs.Laws.{elapses_none}
 use Rattle.deploy_laws.specs.Apps.{app_at}
-use Rattle.deploy_laws.specs.Places.{IsNoRootFile}
 use Rattle.deploy_rows.specs.Rows.{after, rolling_back}
 use Rattle.deploy.specs.declared.roots.Outcome.{Outcome}
 use Rattle.deploy.specs.declared.leaving.Lone.{Lone}
+use Rattle.deploy.specs.Clauses.{IsNoRootSlot}
 use Rattle.deploy.specs.Leaving.{IsLone, IsRefused, lone_says}
 use Rattle.deploy.specs.Roots.{texts_in}
 use Rattle.deploy.proofs.RowsInUse.{err_of, led_answers, led_app, led_ok, led_says, led_stands, led_text, led_unchanged, next_clean, not_refused, ok_of, refused_answers, refused_app, refused_root, refused_says, refused_text}
@@ -16,8 +16,11 @@ with_previous-requires g c = (c.requires.root.0, c.requires.root.2.memory)
 
 -- ---- no memory
 
+pub returns-in_err-lone-clause-due : goal.returns-in_err-lone-clause-due
+returns-in_err-lone-clause-due g c = λ e refusal either. let ok = c.in_err-lone.ensures.due e refusal either in absurd cc
+
 pub returns-in_err-lone-clause-outside : goal.returns-in_err-lone-clause-outside
-returns-in_err-lone-clause-outside g c = λ app lt at. still_leaves g.D.Disk.told (g.D.Disk.medium c.args.disk.now) (g.met.D.Disk.lawful c.args.disk.now) (IsNoRootFile app)
+returns-in_err-lone-clause-outside g c = λ app lt at. still_leaves g.D.Disk.told (g.D.Disk.medium c.args.disk.now) (g.met.D.Disk.lawful c.args.disk.now) (IsNoRootSlot app)
 
 pub returns-in_err-lone-clause-any_moment : goal.returns-in_err-lone-clause-any_moment
 returns-in_err-lone-clause-any_moment g c = λ tells app lt at. still_stands g.D.Disk.told (g.D.Disk.medium c.args.disk.now) (g.met.D.Disk.lawful c.args.disk.now) c.untouched_stands.ensures.still app lt
@@ -60,7 +63,7 @@ returns-in-Err-clause-unchanged g c =
     λ some. (refl, refused.same)
 
 pub returns-in-Err-clause-outside : goal.returns-in-Err-clause-outside
-returns-in-Err-clause-outside g c = λ app lt at. still_leaves g.D.Disk.told (g.D.Disk.medium c.args.disk.now) (g.met.D.Disk.lawful c.args.disk.now) (IsNoRootFile app)
+returns-in-Err-clause-outside g c = λ app lt at. still_leaves g.D.Disk.told (g.D.Disk.medium c.args.disk.now) (g.met.D.Disk.lawful c.args.disk.now) (IsNoRootSlot app)
 
 pub returns-in-Err-clause-any_moment : goal.returns-in-Err-clause-any_moment
 returns-in-Err-clause-any_moment g c = λ tells app lt at. still_stands g.D.Disk.told (g.D.Disk.medium c.args.disk.now) (g.met.D.Disk.lawful c.args.disk.now) c.untouched_stands.ensures.still app lt

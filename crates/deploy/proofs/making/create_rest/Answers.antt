@@ -52,16 +52,18 @@ pub returns-in_err-create_one-clause-outside : goal.returns-in_err-create_one-cl
 returns-in_err-create_one-clause-outside g c =
     let few = (few_contents c.args.deployment.now c.args.contents.now c.requires.deployment c.requires.fit).0 in
     let within : c.loop-number.number < length c.args.contents.now = c.loop-number-test.true in
-    more_outside g.D.Disk.told c.args.app c.args.bank c.loop-number.number c.args.deployment.now.storages c.args.contents.now
-    (g.D.Disk.medium c.args.disk.now) (g.D.Disk.medium c.loop-number.disk) (g.D.Disk.medium c.create_one.new.disk) (omega (arith, few, within))
+    let from : c.args.built ≤ c.loop-number.number = c.loop-number.auto.number in
+    more_outside g.D.Disk.told c.args.app c.args.bank c.args.built c.loop-number.number c.args.deployment.now.storages c.args.contents.now
+    (g.D.Disk.medium c.args.disk.now) (g.D.Disk.medium c.loop-number.disk) (g.D.Disk.medium c.create_one.new.disk) (omega (arith, few, within)) from within
     c.loop-number.invariant.making c.in_err-create_one.ensures.outside c.in_err-create_one.ensures.time
 
 pub returns-in_err-create_one-clause-time : goal.returns-in_err-create_one-clause-time
 returns-in_err-create_one-clause-time g c =
     let few = (few_contents c.args.deployment.now c.args.contents.now c.requires.deployment c.requires.fit).0 in
     let within : c.loop-number.number < length c.args.contents.now = c.loop-number-test.true in
-    more_time g.D.Disk.told c.args.app c.args.bank c.loop-number.number c.args.deployment.now.storages c.args.contents.now
-    (g.D.Disk.medium c.args.disk.now) (g.D.Disk.medium c.loop-number.disk) (g.D.Disk.medium c.create_one.new.disk) (omega (arith, few, within))
+    let from : c.args.built ≤ c.loop-number.number = c.loop-number.auto.number in
+    more_time g.D.Disk.told c.args.app c.args.bank c.args.built c.loop-number.number c.args.deployment.now.storages c.args.contents.now
+    (g.D.Disk.medium c.args.disk.now) (g.D.Disk.medium c.loop-number.disk) (g.D.Disk.medium c.create_one.new.disk) (omega (arith, few, within)) from within
     c.loop-number.invariant.making c.in_err-create_one.ensures.outside c.in_err-create_one.ensures.time
 
 pub loop-number-preserved : goal.loop-number-preserved
@@ -75,11 +77,11 @@ loop-number-preserved g c =
     let new = g.D.Disk.medium c.create_one.new.disk in
     record {
       unmoved = λ before. absurd (omega (arith, before, from));
-      making = making_more g.D.Disk.told c.args.app c.args.bank c.loop-number.number c.args.deployment.now.storages c.args.contents.now
-          (g.D.Disk.medium c.args.disk.now) (g.D.Disk.medium c.loop-number.disk) new (omega (arith, few, within))
+      making = making_more g.D.Disk.told c.args.app c.args.bank c.args.built c.loop-number.number c.args.deployment.now.storages c.args.contents.now
+          (g.D.Disk.medium c.args.disk.now) (g.D.Disk.medium c.loop-number.disk) new (omega (arith, few, within)) from within
           c.loop-number.invariant.making c.in_ok-create_one.ensures.outside c.in_ok-create_one.ensures.time
           c.places_stand_apart.ensures.frame c.files_lie_apart.ensures.storage c.index-as_slice-number.result c.index-contents-number.result c.requires.app c.requires.bank
-          (omega (arith, same, within)) within here c.index-contents-number.is
+          (omega (arith, same, within)) here c.index-contents-number.is
           (λ tells. subst (λ (fs : List Fresh). store_at new.image (shape_of c.args.app c.args.bank c.loop-number.number (storage_data c.index-as_slice-number.result)) ≡ fresh_state 1 (fresh_map fs))
           c.as_slice-in-loop-number.ensures (c.in_ok-create_one.ensures.made tells))
           c.in_ok-create_one.ensures.clean c.in_ok-create_one.ensures.quiet c.in_ok-create_one.ensures.passes;

@@ -1,5 +1,6 @@
 use Rattle.std.proofs.Common.{◌∙◌}
 use Rattle.root_text.specs.Views.{root_said}
+use Rattle.deploy.proofs.Already.{already_at}
 use Rattle.deploy.proofs.Settled.{cell_at, puts_at, root_alone, root_in_use, root_says_so, spares_at}
 use Rattle.deploy.proofs.opening.settle_on.Goals as goal
 
@@ -11,6 +12,16 @@ pub returns-in_err-cell-clause-any_moment : goal.returns-in_err-cell-clause-any_
 returns-in_err-cell-clause-any_moment g c = λ tells quiet. puts_at c.root_place.result c.args.app c.root_place.ensures c.args.standing.seen.generation
     c.as_slice.result.now c.args.standing.seen.text (g.D.Disk.medium c.args.disk.now) (g.D.Disk.medium c.adopt.new.disk) c.as_slice.ensures
     (c.in_err-cell.ensures.any_moment tells quiet)
+
+pub returns-in_err-cell-clause-already : goal.returns-in_err-cell-clause-already
+returns-in_err-cell-clause-already g c = λ tells. already_at c.root_place.result c.args.app c.args.standing.seen.generation c.as_slice.result.now c.args.standing.seen.text
+    (g.D.Disk.medium c.args.disk.now) (g.D.Disk.medium c.adopt.new.disk) c.root_place.ensures c.as_slice.ensures
+    (c.in_err-cell.ensures.right tells) (c.in_err-cell.ensures.already tells)
+
+pub returns-clause-already : goal.returns-clause-already
+returns-clause-already g c = λ tells. already_at c.root_place.result c.args.app c.args.standing.seen.generation c.as_slice.result.now c.args.standing.seen.text
+    (g.D.Disk.medium c.args.disk.now) (g.D.Disk.medium c.adopt.new.disk) c.root_place.ensures c.as_slice.ensures
+    (c.in_ok-cell.ensures.right tells) (c.in_ok-cell.ensures.already tells)
 
 pub returns-clause-elsewhere : goal.returns-clause-elsewhere
 returns-clause-elsewhere g c = λ tells. spares_at c.root_place.result c.args.app c.root_place.ensures

@@ -15,7 +15,7 @@ use Rattle.element_state.specs.Clean.{IsClean}
 use Rattle.element_state.specs.Kept.{KeptThroughout}
 use Rattle.element_state.specs.States.{State, salvage_of, store_at}
 use Rattle.deploy_rows.specs.Recovering.{after_state, recovering}
-use Rattle.deploy.proofs.Recoveries.{answers_large, answers_row, at_shape, elements_within, look_kept, look_leaves, rebuilt_as, recovery_row, then_kept, then_leaves, too_large}
+use Rattle.deploy.proofs.Recoveries.{answers_large, answers_row, at_shape, elements_within, look_kept, look_leaves, nothing_changes, rebuilt_as, recovery_row, then_kept, then_leaves, too_large}
 use Rattle.deploy.proofs.recovering.recover_storage.Goals as goal
 
 pub returns-in_err-view-clause-outside : goal.returns-in_err-view-clause-outside
@@ -73,7 +73,10 @@ pub returns-clause-state : goal.returns-clause-state
 returns-clause-state g c = λ tells. on_ok_weaker c.rebuild_over.result (λ is. is ∙ (rebuilt_as (recovering (storage_data c.args.config.now) c.args.now) c.in_ok-view.view c.in_ok-contents.contents.items (recovery_row (storage_data c.args.config.now) c.args.now c.in_ok-view.view c.in_ok-contents.contents.items c.in_ok-contents.ensures.contents (subst (λ n. n ≤ c.args.config.now.maximum) (c.size_of-needed.ensures ∙ ap (λ (fs : List Fresh). sum_by fresh_size fs) c.as_slice.ensures.value) c.if-needed-config.false)) (g.D.Disk.medium c.args.disk.now).image (g.D.Disk.medium c.salvage.new.disk).image c.args.shape.now c.in_ok-view.ensures.image (c.in_ok-view.ensures.view tells))) (c.rebuild_over.ensures.state tells)
 
 pub returns-clause-unchanged : goal.returns-clause-unchanged
-returns-clause-unchanged g c = IfOk-weaker c.rebuild_over.result _ _ (λ refused same some. ((same some).0 ∙ c.in_ok-view.ensures.image, (same some).1 ∙ c.in_ok-view.ensures.written)) c.rebuild_over.ensures.unchanged
+returns-clause-unchanged g c = IfOk-weaker c.rebuild_over.result _ _
+    (λ refused same some. let nothing = nothing_changes (g.D.Disk.medium c.args.disk.now) (g.D.Disk.medium c.salvage.new.disk) (g.D.Disk.medium c.rebuild_over.new.disk)
+    c.in_ok-view.ensures.image c.in_ok-view.ensures.written c.in_ok-view.ensures.idle (ap g.D.Disk.medium (same some)) in (nothing.image, nothing.written))
+    c.rebuild_over.ensures.untouched
 
 pub returns-clause-clean : goal.returns-clause-clean
 returns-clause-clean g c = λ tells. IfOk-weaker c.rebuild_over.result _ _

@@ -9,7 +9,7 @@ use Rattle.element_state.specs.Clean.{IsClean}
 use Rattle.element_state.specs.Kept.{KeptThroughout}
 use Rattle.element_state.specs.States.{State, salvage_of, store_at}
 use Rattle.deploy_rows.specs.Recovering.{after_state, resetting}
-use Rattle.deploy.proofs.Recoveries.{answers_row, at_shape, look_kept, look_leaves, rebuilt_as, reset_row, then_kept, then_leaves}
+use Rattle.deploy.proofs.Recoveries.{answers_row, at_shape, look_kept, look_leaves, nothing_changes, rebuilt_as, reset_row, then_kept, then_leaves}
 use Rattle.deploy.proofs.recovering.reset_storage.Goals as goal
 
 pub returns-in_err-view-clause-outside : goal.returns-in_err-view-clause-outside
@@ -43,7 +43,10 @@ pub returns-clause-state : goal.returns-clause-state
 returns-clause-state g c = λ tells. on_ok_weaker c.rebuild_over.result (λ is. is ∙ (rebuilt_as (resetting (storage_data c.args.config.now) c.args.now) c.in_ok-view.view c.in_ok-contents.contents.items (reset_row (storage_data c.args.config.now) c.args.now c.in_ok-view.view c.in_ok-contents.contents.items c.in_ok-contents.ensures.contents) (g.D.Disk.medium c.args.disk.now).image (g.D.Disk.medium c.salvage.new.disk).image c.args.shape.now c.in_ok-view.ensures.image (c.in_ok-view.ensures.view tells))) (c.rebuild_over.ensures.state tells)
 
 pub returns-clause-unchanged : goal.returns-clause-unchanged
-returns-clause-unchanged g c = IfOk-weaker c.rebuild_over.result _ _ (λ refused same some. ((same some).0 ∙ c.in_ok-view.ensures.image, (same some).1 ∙ c.in_ok-view.ensures.written)) c.rebuild_over.ensures.unchanged
+returns-clause-unchanged g c = IfOk-weaker c.rebuild_over.result _ _
+    (λ refused same some. let nothing = nothing_changes (g.D.Disk.medium c.args.disk.now) (g.D.Disk.medium c.salvage.new.disk) (g.D.Disk.medium c.rebuild_over.new.disk)
+    c.in_ok-view.ensures.image c.in_ok-view.ensures.written c.in_ok-view.ensures.idle (ap g.D.Disk.medium (same some)) in (nothing.image, nothing.written))
+    c.rebuild_over.ensures.untouched
 
 pub returns-clause-clean : goal.returns-clause-clean
 returns-clause-clean g c = λ tells. IfOk-weaker c.rebuild_over.result _ _

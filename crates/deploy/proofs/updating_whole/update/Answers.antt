@@ -1,14 +1,16 @@
 use denote.Ref.{Bor}
-use Rattle.std.proofs.Common.{ℕ, List, ◌∷◌, ap, sym, subst, ◌∙◌}
+use Rattle.std.proofs.Common.{ℕ, List, ◌∷◌, refl, ap, sym, subst, ◌∙◌}
 use Rattle.std.specs.Prelude.{Ok, option_map}
+use Rattle.per_base.specs.Causes.{Rose}
 use Rattle.per_base.specs.declared.names.Name.{Name}
+use Rattle.disk_model.specs.Laws.{elapses_on}
 use Rattle.migrate_fns.specs.Stored.{answers_of, rules_of}
 use Rattle.deploy_laws.specs.Apps.{IsCleanApp}
 use Rattle.disk_model.specs.Image.{Image}
 use Rattle.deploy.specs.declared.roots.Root.{Root}
 use Rattle.deploy.specs.Roots.{RootAt, texts_in}
 use Rattle.deploy.specs.Building.{root_in}
-use Rattle.deploy.proofs.OneUpdate.{clause_from, clause_of, is_refused, leads_led, leads_nowhere, leaves_led, leaves_read, never, never_ok, over_root, root_refused, same_refused, staged_at, updated_not, updated_so, was_offered}
+use Rattle.deploy.proofs.OneUpdate.{clause_from, clause_of, is_refused, leads_led, leads_nowhere, leaves_led, leaves_read, never, never_ok, none_ok, not_ok, over_root, root_refused, same_error, same_refused, staged_at, updated_not, updated_so, was_offered}
 use Rattle.deploy.proofs.updating_whole.update.Goals as goal
 
 -- ---- it does not begin
@@ -19,6 +21,45 @@ returns-in_err-begun-clause-outside g c = leaves_read g.D.Disk.told _ (g.D.Disk.
 pub returns-in_err-begun-clause-any_moment : goal.returns-in_err-begun-clause-any_moment
 returns-in_err-begun-clause-any_moment g c = λ tells. leads_nowhere (rules_of c.args.migrations.now) (answers_of c.args.migrations.now) c.args.now (option_map (λ (n : Bor Name). n.now) c.args.busy) c.args.manifest.now c.args.app
     _ (g.D.Disk.medium c.args.disk.now) (g.D.Disk.medium c.begin_update.new.disk) c.in_err-begun.ensures.image (c.in_err-begun.ensures.any_moment tells)
+
+pub returns-in_err-begun-clause-root : goal.returns-in_err-begun-clause-root
+returns-in_err-begun-clause-root g c = none_ok c.from_residual.result c.in_err-begun.field-0.0 c.from_residual.ensures.1 _
+
+pub returns-in_err-begun-clause-updates : goal.returns-in_err-begun-clause-updates
+returns-in_err-begun-clause-updates g c = none_ok c.from_residual.result c.in_err-begun.field-0.0 c.from_residual.ensures.1 _
+
+pub returns-in_err-begun-clause-text : goal.returns-in_err-begun-clause-text
+returns-in_err-begun-clause-text g c = none_ok c.from_residual.result c.in_err-begun.field-0.0 c.from_residual.ensures.1 _
+
+pub returns-in_err-begun-clause-clean : goal.returns-in_err-begun-clause-clean
+returns-in_err-begun-clause-clean g c = λ tells clean. not_ok c.from_residual.result c.in_err-begun.field-0.0 c.from_residual.ensures.1 _
+
+pub returns-in_err-begun-clause-quiet : goal.returns-in_err-begun-clause-quiet
+returns-in_err-begun-clause-quiet g c = λ quiet. not_ok c.from_residual.result c.in_err-begun.field-0.0 c.from_residual.ensures.1 _
+
+pub returns-in_err-begun-clause-unchanged : goal.returns-in_err-begun-clause-unchanged
+returns-in_err-begun-clause-unchanged g c = none_ok c.from_residual.result c.in_err-begun.field-0.0 c.from_residual.ensures.1 _
+
+pub returns-in_err-begun-clause-early : goal.returns-in_err-begun-clause-early
+returns-in_err-begun-clause-early g c = c.in_err-begun.ensures.early
+
+pub returns-in_err-begun-clause-due : goal.returns-in_err-begun-clause-due
+returns-in_err-begun-clause-due g c = λ e refusal at_once. let ok = c.in_err-begun.ensures.due e refusal at_once in absurd cc
+
+pub returns-in_err-begun-clause-cause : goal.returns-in_err-begun-clause-cause
+returns-in_err-begun-clause-cause g c = λ err. c.in_err-begun.ensures.cause (same_error c.from_residual.result c.in_err-begun.field-0.0 c.from_residual.ensures.1 _ err)
+
+pub returns-in_err-begun-clause-device_only : goal.returns-in_err-begun-clause-device_only
+returns-in_err-begun-clause-device_only g c = λ err. c.in_err-begun.ensures.device_only (same_error c.from_residual.result c.in_err-begun.field-0.0 c.from_residual.ensures.1 _ err)
+
+pub returns-in_err-begun-clause-passes : goal.returns-in_err-begun-clause-passes
+returns-in_err-begun-clause-passes g c = not_ok c.from_residual.result c.in_err-begun.field-0.0 c.from_residual.ensures.1 _
+
+pub returns-in_err-begun-clause-fed : goal.returns-in_err-begun-clause-fed
+returns-in_err-begun-clause-fed g c = λ err. c.in_err-begun.ensures.fed (same_error c.from_residual.result c.in_err-begun.field-0.0 c.from_residual.ensures.1 _ err)
+
+pub returns-in_err-begun-clause-time : goal.returns-in_err-begun-clause-time
+returns-in_err-begun-clause-time g c = c.in_err-begun.ensures.time
 
 -- ---- it is refused
 
@@ -52,6 +93,33 @@ returns-in-Refused-clause-outside g c = leaves_read g.D.Disk.told _ (g.D.Disk.me
 pub returns-in-Refused-clause-any_moment : goal.returns-in-Refused-clause-any_moment
 returns-in-Refused-clause-any_moment g c = λ tells. leads_nowhere (rules_of c.args.migrations.now) (answers_of c.args.migrations.now) c.args.now (option_map (λ (n : Bor Name). n.now) c.args.busy) c.args.manifest.now c.args.app
     _ (g.D.Disk.medium c.args.disk.now) (g.D.Disk.medium c.begin_update.new.disk) c.in_ok-begun.ensures.image (c.in_ok-begun.ensures.any_moment tells)
+
+pub returns-in-Refused-clause-clean : goal.returns-in-Refused-clause-clean
+returns-in-Refused-clause-clean g c = λ tells clean. subst (λ (i : Image). IsCleanApp c.args.app i) (sym c.in_ok-begun.ensures.image) clean
+
+pub returns-in-Refused-clause-quiet : goal.returns-in-Refused-clause-quiet
+returns-in-Refused-clause-quiet g c = λ quiet. (c.in_ok-begun.ensures.idle quiet).quiet
+
+pub returns-in-Refused-clause-early : goal.returns-in-Refused-clause-early
+returns-in-Refused-clause-early g c = c.in_ok-begun.ensures.early
+
+pub returns-in-Refused-clause-due : goal.returns-in-Refused-clause-due
+returns-in-Refused-clause-due g c = λ e refusal none. refl
+
+pub returns-in-Refused-clause-cause : goal.returns-in-Refused-clause-cause
+returns-in-Refused-clause-cause g c = λ err. absurd cc
+
+pub returns-in-Refused-clause-device_only : goal.returns-in-Refused-clause-device_only
+returns-in-Refused-clause-device_only g c = λ err. absurd cc
+
+pub returns-in-Refused-clause-passes : goal.returns-in-Refused-clause-passes
+returns-in-Refused-clause-passes g c = c.in_ok-begun.ensures.passes
+
+pub returns-in-Refused-clause-fed : goal.returns-in-Refused-clause-fed
+returns-in-Refused-clause-fed g c = λ err. absurd cc
+
+pub returns-in-Refused-clause-time : goal.returns-in-Refused-clause-time
+returns-in-Refused-clause-time g c = c.in_ok-begun.ensures.time
 
 -- ---- it is committed
 
@@ -130,3 +198,63 @@ returns-in_ok-next-in-Ready-clause-clean g c = λ tells clean. clause_of (rules_
     (c.in_ok-next-in-Ready.ensures.clean tells (clause_from (rules_of c.args.migrations.now) (answers_of c.args.migrations.now) c.args.now (option_map (λ (n : Bor Name). n.now) c.args.busy) c.args.manifest.now c.args.app
     g.D.Disk.told (g.D.Disk.medium c.args.disk.now) (g.D.Disk.medium c.begin_update.new.disk) c.args.root c.in_ok-begun.begun c.in_ok-begun.ensures.begins c.in_ok-begun.ensures.staged c.in_ok-begun.ensures.image
     c.in-Ready.staged c.in-Ready.is (λ (n : ℕ). IsCleanApp n (g.D.Disk.medium c.begin_update.new.disk).image) (subst (λ (i : Image). IsCleanApp c.args.app i) (sym c.in_ok-begun.ensures.image) clean)))
+
+pub returns-in_err-next-in-Ready-clause-root : goal.returns-in_err-next-in-Ready-clause-root
+returns-in_err-next-in-Ready-clause-root g c = none_ok c.from_residual-in_err-next-in-Ready.result c.in_err-next-in-Ready.field-0.0 c.from_residual-in_err-next-in-Ready.ensures.1 _
+
+pub returns-in_err-next-in-Ready-clause-updates : goal.returns-in_err-next-in-Ready-clause-updates
+returns-in_err-next-in-Ready-clause-updates g c = none_ok c.from_residual-in_err-next-in-Ready.result c.in_err-next-in-Ready.field-0.0 c.from_residual-in_err-next-in-Ready.ensures.1 _
+
+pub returns-in_err-next-in-Ready-clause-text : goal.returns-in_err-next-in-Ready-clause-text
+returns-in_err-next-in-Ready-clause-text g c = none_ok c.from_residual-in_err-next-in-Ready.result c.in_err-next-in-Ready.field-0.0 c.from_residual-in_err-next-in-Ready.ensures.1 _
+
+pub returns-in_err-next-in-Ready-clause-clean : goal.returns-in_err-next-in-Ready-clause-clean
+returns-in_err-next-in-Ready-clause-clean g c = λ tells clean. not_ok c.from_residual-in_err-next-in-Ready.result c.in_err-next-in-Ready.field-0.0 c.from_residual-in_err-next-in-Ready.ensures.1 _
+
+pub returns-in_err-next-in-Ready-clause-quiet : goal.returns-in_err-next-in-Ready-clause-quiet
+returns-in_err-next-in-Ready-clause-quiet g c = λ quiet. not_ok c.from_residual-in_err-next-in-Ready.result c.in_err-next-in-Ready.field-0.0 c.from_residual-in_err-next-in-Ready.ensures.1 _
+
+pub returns-in_err-next-in-Ready-clause-unchanged : goal.returns-in_err-next-in-Ready-clause-unchanged
+returns-in_err-next-in-Ready-clause-unchanged g c = none_ok c.from_residual-in_err-next-in-Ready.result c.in_err-next-in-Ready.field-0.0 c.from_residual-in_err-next-in-Ready.ensures.1 _
+
+pub returns-in_err-next-in-Ready-clause-due : goal.returns-in_err-next-in-Ready-clause-due
+returns-in_err-next-in-Ready-clause-due g c = λ e refusal none. absurd (never _ e (was_offered (rules_of c.args.migrations.now) (answers_of c.args.migrations.now) c.args.now (option_map (λ (n : Bor Name). n.now) c.args.busy) c.args.manifest.now c.args.app
+    g.D.Disk.told (g.D.Disk.medium c.args.disk.now) (g.D.Disk.medium c.begin_update.new.disk) c.args.root c.in_ok-begun.begun c.in_ok-begun.ensures.begins c.in_ok-begun.ensures.staged c.in_ok-begun.ensures.image
+    c.in-Ready.staged c.in-Ready.is) refusal)
+
+pub returns-in_err-next-in-Ready-clause-cause : goal.returns-in_err-next-in-Ready-clause-cause
+returns-in_err-next-in-Ready-clause-cause g c = λ err. subst (λ (n : ℕ). Rose n (g.D.Disk.medium c.commit_update.new.disk).faults) c.in_ok-begun.ensures.passes
+    (c.in_err-next-in-Ready.ensures.cause (same_error c.from_residual-in_err-next-in-Ready.result c.in_err-next-in-Ready.field-0.0 c.from_residual-in_err-next-in-Ready.ensures.1 _ err))
+
+pub returns-in_err-next-in-Ready-clause-passes : goal.returns-in_err-next-in-Ready-clause-passes
+returns-in_err-next-in-Ready-clause-passes g c = not_ok c.from_residual-in_err-next-in-Ready.result c.in_err-next-in-Ready.field-0.0 c.from_residual-in_err-next-in-Ready.ensures.1 _
+
+pub returns-in_err-next-in-Ready-clause-fed : goal.returns-in_err-next-in-Ready-clause-fed
+returns-in_err-next-in-Ready-clause-fed g c = λ err. c.in_err-next-in-Ready.ensures.fed (same_error c.from_residual-in_err-next-in-Ready.result c.in_err-next-in-Ready.field-0.0 c.from_residual-in_err-next-in-Ready.ensures.1 _ err) ∙ c.in_ok-begun.ensures.passes
+
+pub returns-in_err-next-in-Ready-clause-time : goal.returns-in_err-next-in-Ready-clause-time
+returns-in_err-next-in-Ready-clause-time g c = elapses_on c.in_ok-begun.ensures.time c.in_err-next-in-Ready.ensures.time
+
+pub returns-in_ok-next-in-Ready-clause-quiet : goal.returns-in_ok-next-in-Ready-clause-quiet
+returns-in_ok-next-in-Ready-clause-quiet g c = λ quiet. c.in_ok-next-in-Ready.ensures.quiet
+
+pub returns-in_ok-next-in-Ready-clause-unchanged : goal.returns-in_ok-next-in-Ready-clause-unchanged
+returns-in_ok-next-in-Ready-clause-unchanged g c = λ some. absurd (some refl)
+
+pub returns-in_ok-next-in-Ready-clause-due : goal.returns-in_ok-next-in-Ready-clause-due
+returns-in_ok-next-in-Ready-clause-due g c = λ e refusal none. refl
+
+pub returns-in_ok-next-in-Ready-clause-cause : goal.returns-in_ok-next-in-Ready-clause-cause
+returns-in_ok-next-in-Ready-clause-cause g c = λ err. absurd cc
+
+pub returns-in_ok-next-in-Ready-clause-device_only : goal.returns-in_ok-next-in-Ready-clause-device_only
+returns-in_ok-next-in-Ready-clause-device_only g c = λ err. absurd cc
+
+pub returns-in_ok-next-in-Ready-clause-passes : goal.returns-in_ok-next-in-Ready-clause-passes
+returns-in_ok-next-in-Ready-clause-passes g c = c.in_ok-next-in-Ready.ensures.passes ∙ c.in_ok-begun.ensures.passes
+
+pub returns-in_ok-next-in-Ready-clause-fed : goal.returns-in_ok-next-in-Ready-clause-fed
+returns-in_ok-next-in-Ready-clause-fed g c = λ err. absurd cc
+
+pub returns-in_ok-next-in-Ready-clause-time : goal.returns-in_ok-next-in-Ready-clause-time
+returns-in_ok-next-in-Ready-clause-time g c = elapses_on c.in_ok-begun.ensures.time c.in_ok-next-in-Ready.ensures.time

@@ -23,13 +23,13 @@ returns-in_ok-cell-in-None-clause-clean g c = λ tells. first_clean g.D.Disk.tol
     (record { again = c.one_root.ensures.again; alone = c.roots_say.ensures.alone; versions = c.roots_say.ensures.versions; slots = c.files_lie_apart.ensures.slots; aside = c.others_stand.ensures.root; clean = c.roots_say.ensures.clean }) tells
 
 pub returns-in_ok-cell-in-None-clause-outside : goal.returns-in_ok-cell-in-None-clause-outside
-returns-in_ok-cell-in-None-clause-outside g c = first_outside g.D.Disk.told c.args.app c.requires.app c.args.register (g.D.Disk.medium c.args.disk.now) (g.D.Disk.medium c.format_root.new.disk) c.requires.register c.in-None.is c.in_ok-cell-in-None.ensures.any_moment c.files_lie_apart.ensures.slots c.in_ok-cell-in-None.ensures.elsewhere
+returns-in_ok-cell-in-None-clause-outside g c = first_outside g.D.Disk.told c.args.app c.requires.app c.args.register (g.D.Disk.medium c.args.disk.now) (g.D.Disk.medium c.format_root.new.disk) c.requires.register c.in-None.is c.in_ok-cell-in-None.ensures.any_moment c.in_ok-cell-in-None.ensures.elsewhere
 
 pub returns-in_ok-cell-in-None-clause-any_moment : goal.returns-in_ok-cell-in-None-clause-any_moment
 returns-in_ok-cell-in-None-clause-any_moment g c = λ tells. first_stands g.D.Disk.told c.args.app c.requires.app c.args.register (g.D.Disk.medium c.args.disk.now) (g.D.Disk.medium c.format_root.new.disk) c.requires.register c.in-None.is c.in_ok-cell-in-None.ensures.any_moment c.one_root.ensures.again c.deploying_stands.ensures.formatting tells
 
 pub returns-in_err-cell-in-None-clause-outside : goal.returns-in_err-cell-in-None-clause-outside
-returns-in_err-cell-in-None-clause-outside g c = first_outside g.D.Disk.told c.args.app c.requires.app c.args.register (g.D.Disk.medium c.args.disk.now) (g.D.Disk.medium c.format_root.new.disk) c.requires.register c.in-None.is c.in_err-cell-in-None.ensures.any_moment c.files_lie_apart.ensures.slots c.in_err-cell-in-None.ensures.elsewhere
+returns-in_err-cell-in-None-clause-outside g c = first_outside g.D.Disk.told c.args.app c.requires.app c.args.register (g.D.Disk.medium c.args.disk.now) (g.D.Disk.medium c.format_root.new.disk) c.requires.register c.in-None.is c.in_err-cell-in-None.ensures.any_moment c.in_err-cell-in-None.ensures.elsewhere
 
 pub returns-in_err-cell-in-None-clause-any_moment : goal.returns-in_err-cell-in-None-clause-any_moment
 returns-in_err-cell-in-None-clause-any_moment g c = λ tells. first_stands g.D.Disk.told c.args.app c.requires.app c.args.register (g.D.Disk.medium c.args.disk.now) (g.D.Disk.medium c.format_root.new.disk) c.requires.register c.in-None.is c.in_err-cell-in-None.ensures.any_moment c.one_root.ensures.again c.deploying_stands.ensures.formatting tells
@@ -59,13 +59,13 @@ returns-in_ok-cell-in-Some-clause-clean g c = λ tells. next_clean g.D.Disk.told
     (record { again = c.one_root.ensures.again; alone = c.roots_say.ensures.alone; versions = c.roots_say.ensures.versions; slots = c.files_lie_apart.ensures.slots; aside = c.others_stand.ensures.root; clean = c.roots_say.ensures.clean }) tells
 
 pub returns-in_ok-cell-in-Some-clause-outside : goal.returns-in_ok-cell-in-Some-clause-outside
-returns-in_ok-cell-in-Some-clause-outside g c = next_outside g.D.Disk.told c.args.app c.requires.app c.args.register (g.D.Disk.medium c.args.disk.now) (g.D.Disk.medium c.write_none.new.disk) c.requires.register c.in-Some.cell c.in-Some.is c.in_ok-cell-in-Some.ensures.any_moment c.one_root.ensures.again c.files_lie_apart.ensures.slots c.in_ok-cell-in-Some.ensures.elsewhere
+returns-in_ok-cell-in-Some-clause-outside g c = next_outside g.D.Disk.told c.args.app c.requires.app c.args.register (g.D.Disk.medium c.args.disk.now) (g.D.Disk.medium c.write_none.new.disk) c.requires.register c.in-Some.cell c.in-Some.is c.in_ok-cell-in-Some.ensures.any_moment c.one_root.ensures.again c.in_ok-cell-in-Some.ensures.elsewhere
 
 pub returns-in_ok-cell-in-Some-clause-any_moment : goal.returns-in_ok-cell-in-Some-clause-any_moment
 returns-in_ok-cell-in-Some-clause-any_moment g c = λ tells. next_stands g.D.Disk.told c.args.app c.requires.app c.args.register (g.D.Disk.medium c.args.disk.now) (g.D.Disk.medium c.write_none.new.disk) c.requires.register c.in-Some.cell c.in-Some.is c.in_ok-cell-in-Some.ensures.any_moment c.one_root.ensures.again c.deploying_stands.ensures.writing tells
 
 pub returns-in_err-cell-in-Some-clause-outside : goal.returns-in_err-cell-in-Some-clause-outside
-returns-in_err-cell-in-Some-clause-outside g c = next_outside g.D.Disk.told c.args.app c.requires.app c.args.register (g.D.Disk.medium c.args.disk.now) (g.D.Disk.medium c.write_none.new.disk) c.requires.register c.in-Some.cell c.in-Some.is c.in_err-cell-in-Some.ensures.any_moment c.one_root.ensures.again c.files_lie_apart.ensures.slots c.in_err-cell-in-Some.ensures.elsewhere
+returns-in_err-cell-in-Some-clause-outside g c = next_outside g.D.Disk.told c.args.app c.requires.app c.args.register (g.D.Disk.medium c.args.disk.now) (g.D.Disk.medium c.write_none.new.disk) c.requires.register c.in-Some.cell c.in-Some.is c.in_err-cell-in-Some.ensures.any_moment c.one_root.ensures.again c.in_err-cell-in-Some.ensures.elsewhere
 
 pub returns-in_err-cell-in-Some-clause-any_moment : goal.returns-in_err-cell-in-Some-clause-any_moment
 returns-in_err-cell-in-Some-clause-any_moment g c = λ tells. next_stands g.D.Disk.told c.args.app c.requires.app c.args.register (g.D.Disk.medium c.args.disk.now) (g.D.Disk.medium c.write_none.new.disk) c.requires.register c.in-Some.cell c.in-Some.is c.in_err-cell-in-Some.ensures.any_moment c.one_root.ensures.again c.deploying_stands.ensures.writing tells

@@ -1,9 +1,9 @@
 use Rattle.std.proofs.Common.{◌≡◌, ◌⊎◌, None, ⊎_elim, option_map, refl}
 use Rattle.disk_model.specs.Laws.{elapses_none}
 use Rattle.deploy_laws.specs.Apps.{IsCleanApp, app_at}
-use Rattle.deploy_laws.specs.Places.{IsNoRootFile}
 use Rattle.deploy_rows.specs.Rows.{after, wiping}
 use Rattle.deploy.specs.declared.roots.Outcome.{Outcome}
+use Rattle.deploy.specs.Clauses.{IsNoRootSlot}
 use Rattle.deploy.specs.Leaving.{IsEmptied, IsRefused, empty_says}
 use Rattle.deploy.proofs.RowsInUse.{err_of, if_ok, led_answers, led_app, led_ok, led_says, led_stands, led_unchanged, not_refused, ok_of, refused_answers, refused_app, refused_root, refused_says, refused_some, register_at}
 use Rattle.deploy.proofs.Still.{later_after, still_leaves, still_stands}
@@ -12,7 +12,7 @@ use Rattle.deploy.proofs.wiping.wipe.Goals as goal
 -- ---- no memory
 
 pub returns-in_err-register-clause-outside : goal.returns-in_err-register-clause-outside
-returns-in_err-register-clause-outside g c = still_leaves g.D.Disk.told (g.D.Disk.medium c.args.disk.now) (g.met.D.Disk.lawful c.args.disk.now) (IsNoRootFile c.args.app)
+returns-in_err-register-clause-outside g c = still_leaves g.D.Disk.told (g.D.Disk.medium c.args.disk.now) (g.met.D.Disk.lawful c.args.disk.now) (IsNoRootSlot c.args.app)
 
 pub returns-in_err-register-clause-any_moment : goal.returns-in_err-register-clause-any_moment
 returns-in_err-register-clause-any_moment g c = λ tells. still_stands g.D.Disk.told (g.D.Disk.medium c.args.disk.now) (g.met.D.Disk.lawful c.args.disk.now) c.untouched_stands.ensures.still c.args.app c.requires.app
@@ -55,7 +55,7 @@ returns-in-Err-clause-unchanged g c =
     λ some. (refl, refused.same)
 
 pub returns-in-Err-clause-outside : goal.returns-in-Err-clause-outside
-returns-in-Err-clause-outside g c = still_leaves g.D.Disk.told (g.D.Disk.medium c.args.disk.now) (g.met.D.Disk.lawful c.args.disk.now) (IsNoRootFile c.args.app)
+returns-in-Err-clause-outside g c = still_leaves g.D.Disk.told (g.D.Disk.medium c.args.disk.now) (g.met.D.Disk.lawful c.args.disk.now) (IsNoRootSlot c.args.app)
 
 pub returns-in-Err-clause-any_moment : goal.returns-in-Err-clause-any_moment
 returns-in-Err-clause-any_moment g c = λ tells. still_stands g.D.Disk.told (g.D.Disk.medium c.args.disk.now) (g.met.D.Disk.lawful c.args.disk.now) c.untouched_stands.ensures.still c.args.app c.requires.app

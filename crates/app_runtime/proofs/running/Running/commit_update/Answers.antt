@@ -1,12 +1,12 @@
-use Rattle.std.proofs.Common.{◌≡◌, ◌∙◌, IsTrue, Result, Err, Ok, ap, refl, sym, subst}
+use Rattle.std.proofs.Common.{◌≡◌, ◌<◌, ◌∙◌, length, IsTrue, Result, Err, Ok, ap, refl, sym, subst}
 use Rattle.command_text.specs.declared.calls.Call.TheVariants as call
 use Rattle.command_text.specs.declared.replies.Answer.TheVariants as answer
 use Rattle.command_text.specs.declared.replies.Reply.{Reply}
 use Rattle.deploy.specs.declared.errors.Stop.{Stop}
 use Rattle.deploy.specs.Building.{StagedAt, progress_in, root_in}
+use Rattle.deploy.specs.Remaining.{IsBesideCommit}
 use Rattle.deploy.specs.Roots.{RootAt, free_bank}
 use Rattle.deploy_laws.specs.Apps.{IsCleanApp, app_at}
-use Rattle.deploy_laws.specs.Places.{IsBeside, IsBesideNew}
 use Rattle.deploy_rows.specs.Rows.{updated_app}
 use Rattle.migrate_fns.specs.Stored.{answers_of, rules_of}
 use Rattle.app_storages.specs.Answers.{CallsTo}
@@ -15,8 +15,8 @@ use Rattle.app_runtime.specs.declared.running.Stage.TheVariants.{AtRest, Updatin
 use Rattle.app_runtime.specs.Promises.{Promises}
 use Rattle.app_runtime.specs.Stages.{reply_with, staged_in}
 use Rattle.app_runtime.proofs.Ended.{not_some, passed_on}
-use Rattle.app_runtime.proofs.Frames.{beside, beside_new, calls_to}
-use Rattle.app_runtime.proofs.Steps.{an_update, built_few, commit_done, commit_failed, commit_refused_row, same_if_none, staged_at, update_back, without_promises, without_same}
+use Rattle.app_runtime.proofs.Frames.{beside_commit, calls_to}
+use Rattle.app_runtime.proofs.Steps.{an_update, commit_done, commit_failed, commit_refused_row, contents_few, same_if_none, staged_at, update_back, without_promises, without_same}
 use Rattle.app_runtime.proofs.Updated.{free_low}
 use Rattle.app_runtime.proofs.running.Running.commit_update.Goals as goal
 
@@ -50,7 +50,8 @@ returns-in_err-root g c = λ now.
     let at = staged_at told old.image s.app s.slots s.stage t stage_is c.requires.memory.stage_at in
     let of_app = at.0.memory.of_app in
     let calls = λ (tells : IsTrue told). subst (λ n. CallsTo n (updated_app (progress_in t) (app_at old.image n)) old new) of_app
-    (calls_to told t.app (updated_app (progress_in t) (app_at old.image t.app)) (IsBesideNew t.app (free_bank (root_in t))) old new tells (λ f is. beside_new t.app (free_bank (root_in t)) f (free_low (root_in t)) is) c.commit_update.ensures.outside (c.commit_update.ensures.any_moment tells)) in
+    (calls_to told t.app (updated_app (progress_in t) (app_at old.image t.app)) (IsBesideCommit t.app (free_bank (root_in t)) (progress_in t).built (length (progress_in t).contents)) old new tells
+    (λ f is. beside_commit t.app (free_bank (root_in t)) (progress_in t).built (length (progress_in t).contents) f (subst (λ n. n < 8) (sym of_app) at.0.memory.below) (free_low (root_in t)) (contents_few s.app t at.0.memory) is) c.commit_update.ensures.outside (c.commit_update.ensures.any_moment tells)) in
     let e = c.in_err-root.field-0.0 in
     subst (λ (x : Result Reply Stop). Promises told rules answers now call.UpdateCommit s taken (c.commit_update.new.disk ≡ c.args.disk.now) old new x) (sym (passed_on c.from_residual.result e c.from_residual.ensures.1))
     (subst (λ (x : Running). Promises told rules answers now call.UpdateCommit x taken (c.commit_update.new.disk ≡ c.args.disk.now) old new (Err e)) (update_back s t stage_is)
@@ -71,7 +72,8 @@ returns g c = λ now.
     let at = staged_at told old.image s.app s.slots s.stage t stage_is c.requires.memory.stage_at in
     let of_app = at.0.memory.of_app in
     let calls = λ (tells : IsTrue told). subst (λ n. CallsTo n (updated_app (progress_in t) (app_at old.image n)) old new) of_app
-    (calls_to told t.app (updated_app (progress_in t) (app_at old.image t.app)) (IsBesideNew t.app (free_bank (root_in t))) old new tells (λ f is. beside_new t.app (free_bank (root_in t)) f (free_low (root_in t)) is) c.commit_update.ensures.outside (c.commit_update.ensures.any_moment tells)) in
+    (calls_to told t.app (updated_app (progress_in t) (app_at old.image t.app)) (IsBesideCommit t.app (free_bank (root_in t)) (progress_in t).built (length (progress_in t).contents)) old new tells
+    (λ f is. beside_commit t.app (free_bank (root_in t)) (progress_in t).built (length (progress_in t).contents) f (subst (λ n. n < 8) (sym of_app) at.0.memory.below) (free_low (root_in t)) (contents_few s.app t at.0.memory) is) c.commit_update.ensures.outside (c.commit_update.ensures.any_moment tells)) in
     subst (λ (x : Running). Promises told rules answers now call.UpdateCommit s (record x { stage = AtRest c.in_ok-root.root }) (c.commit_update.new.disk ≡ c.args.disk.now) old new (Ok c.reply.result)) (sym c.in-Some.ensures.left)
     (subst (λ (x : Reply). Promises told rules answers now call.UpdateCommit s (record s { stage = AtRest c.in_ok-root.root }) (c.commit_update.new.disk ≡ c.args.disk.now) old new (Ok x)) (sym c.reply.ensures)
     (subst (λ (x : Running). Promises told rules answers now call.UpdateCommit x (record s { stage = AtRest c.in_ok-root.root }) (c.commit_update.new.disk ≡ c.args.disk.now) old new (Ok (reply_with answer.Done))) (update_back s t stage_is)

@@ -1,6 +1,6 @@
 use Rattle.std.proofs.Common.{◌≡◌, ap}
+use Rattle.deploy.specs.Clauses.{IsNoRootSlot}
 use Rattle.deploy_laws.specs.Apps.{IsCleanApp}
-use Rattle.deploy_laws.specs.Places.{IsNoRootFile}
 use Rattle.deploy_rows.specs.Rows.{after, finishing}
 use Rattle.deploy_laws.specs.Apps.{app_at}
 use Rattle.command_text.specs.declared.calls.Call.TheVariants as call
@@ -40,7 +40,7 @@ returns g c = λ now.
       unchanged = c.finish-made.ensures.unchanged;
       cause = c.finish-made.ensures.cause;
       device_only = c.finish-made.ensures.device_only;
-      calls = λ tells. calls_to told s.app (after (app_at old.image s.app) (finishing (app_at old.image s.app))) (IsNoRootFile s.app) old new tells (no_root s.app) outside
+      calls = λ tells. calls_to told s.app (after (app_at old.image s.app) (finishing (app_at old.image s.app))) (IsNoRootSlot s.app) old new tells (λ f is. no_root s.app f resting.below is) outside
           (c.finish-made.ensures.any_moment tells s.app resting.below resting.root_at);
       time = c.finish-made.ensures.time;
     })

@@ -1,14 +1,14 @@
 use Rattle.std.proofs.Common.{◌≡◌, ◌≤◌, ◌<◌, ap, sym, subst, arith}
 use Rattle.disk_model.specs.Medium.{Medium}
+use Rattle.deploy.specs.Clauses.{IsBesideNext}
 use Rattle.deploy.specs.Roots.{RootAt}
 use Rattle.deploy_laws.specs.Apps.{IsCleanApp, app_at}
-use Rattle.deploy_laws.specs.Places.{IsBesideNew}
 use Rattle.deploy_rows.specs.Rows.{after, installing}
 use Rattle.command_text.specs.declared.calls.Call.TheVariants as call
 use Rattle.app_runtime.specs.declared.running.Running.{Running}
 use Rattle.migrate_fns.specs.Stored.{answers_of, rules_of}
 use Rattle.app_runtime.proofs.Ended.{clean_less, resting_in, word_promises}
-use Rattle.app_runtime.proofs.Frames.{beside_new, calls_to}
+use Rattle.app_runtime.proofs.Frames.{beside_next, calls_to}
 use Rattle.app_runtime.proofs.Kept.{install_kept}
 use Rattle.app_runtime.proofs.Rowed.{Made}
 use Rattle.app_runtime.proofs.Words.{install_word}
@@ -33,6 +33,7 @@ returns g c =
     let new = g.D.Disk.medium c.install-made.new.disk in
     let made = c.install-made.result in
     let row = installing c.args.now c.args.manifest.now in
+    let back = sym (ap (λ (x : Running). x.app) c.take_root-root.ensures.left) in
     let resting = resting_in told old.image s root c.requires.memory c.requires.rests c.take_root-root.ensures.root in
     word_promises told (rules_of c.args.migrations.now) (answers_of c.args.migrations.now) c.args.now (call.Install c.args.manifest.now) s taken root old new (c.install-made.new.disk ≡ c.args.disk.now)
     (λ same. (ap (λ d. (g.D.Disk.medium d).image) same, ap (λ d. (g.D.Disk.medium d).written) same))
@@ -48,7 +49,7 @@ returns g c =
       unchanged = c.install-made.ensures.unchanged;
       cause = c.install-made.ensures.cause;
       device_only = c.install-made.ensures.device_only;
-      calls = λ tells. calls_to told taken.app (after (app_at old.image taken.app) (row (app_at old.image taken.app))) (IsBesideNew taken.app 0) old new tells (λ f is. beside_new taken.app 0 f (let low : 0 ≤ 1 = omega arith in low) is) c.install-made.ensures.outside
+      calls = λ tells. calls_to told taken.app (after (app_at old.image taken.app) (row (app_at old.image taken.app))) (IsBesideNext taken.app 0) old new tells (λ f is. beside_next taken.app 0 f (subst (λ n. n < 8) back resting.below) (let low : 0 ≤ 1 = omega arith in low) is) c.install-made.ensures.outside
           (c.install-made.ensures.any_moment tells);
       time = c.install-made.ensures.time;
     }))

@@ -6,7 +6,7 @@ use Rattle.deploy.specs.declared.errors.Stop.{Stop}
 use Rattle.deploy.specs.Building.{StagedAt, progress_in, root_in}
 use Rattle.deploy.specs.Roots.{RootAt, free_bank}
 use Rattle.deploy_laws.specs.Apps.{IsCleanApp, app_at}
-use Rattle.deploy_laws.specs.Places.{IsBeside, IsBesideNew}
+use Rattle.deploy_laws.specs.Places.{IsBeside}
 use Rattle.deploy_rows.specs.Rows.{updated_app}
 use Rattle.migrate_fns.specs.Stored.{answers_of, rules_of}
 use Rattle.app_storages.specs.Answers.{CallsTo}
@@ -15,7 +15,7 @@ use Rattle.app_runtime.specs.declared.running.Stage.TheVariants.{AtRest, Updatin
 use Rattle.app_runtime.specs.Promises.{Promises}
 use Rattle.app_runtime.specs.Stages.{reply_with, staged_in}
 use Rattle.app_runtime.proofs.Ended.{not_some, passed_on}
-use Rattle.app_runtime.proofs.Frames.{beside, beside_new, calls_to}
+use Rattle.app_runtime.proofs.Frames.{beside, calls_to}
 use Rattle.app_runtime.proofs.Steps.{an_update, built_few, next_done, next_failed, next_refused_row, same_if_none, staged_at, update_back, without_promises, without_same}
 use Rattle.app_runtime.proofs.Updated.{free_low}
 use Rattle.app_runtime.proofs.running.Running.next_storage.Goals as goal

@@ -1,8 +1,8 @@
 use Rattle.std.proofs.Common.{◌≡◌, ◌<◌, ap, refl, sym, subst}
 use Rattle.std.specs.Prelude.{option_map}
+use Rattle.deploy.specs.Clauses.{IsNoRootSlot}
 use Rattle.deploy.specs.Roots.{RootAt}
 use Rattle.deploy_laws.specs.Apps.{IsCleanApp, app_at}
-use Rattle.deploy_laws.specs.Places.{IsNoRootFile}
 use Rattle.deploy_rows.specs.Rows.{after, rolling_back}
 use Rattle.command_text.specs.declared.calls.Call.TheVariants as call
 use Rattle.migrate_fns.specs.Stored.{answers_of, rules_of}
@@ -52,7 +52,7 @@ returns g c = λ now.
       unchanged = c.rollback-made.ensures.unchanged;
       cause = c.rollback-made.ensures.cause;
       device_only = c.rollback-made.ensures.device_only;
-      calls = λ tells. calls_to told s.app (after (app_at old.image s.app) (row (app_at old.image s.app))) (IsNoRootFile s.app) old new tells (no_root s.app) (c.rollback-made.ensures.outside s.app resting.below resting.root_at)
+      calls = λ tells. calls_to told s.app (after (app_at old.image s.app) (row (app_at old.image s.app))) (IsNoRootSlot s.app) old new tells (λ f is. no_root s.app f resting.below is) (c.rollback-made.ensures.outside s.app resting.below resting.root_at)
           (c.rollback-made.ensures.any_moment tells s.app resting.below resting.root_at);
       time = c.rollback-made.ensures.time;
     })

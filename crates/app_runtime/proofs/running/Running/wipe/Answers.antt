@@ -1,8 +1,8 @@
 use Rattle.std.proofs.Common.{◌≡◌, ◌<◌, ap, refl, sym, subst}
 use Rattle.std.specs.Prelude.{option_map}
+use Rattle.deploy.specs.Clauses.{IsNoRootSlot}
 use Rattle.deploy.specs.Roots.{RootAt}
 use Rattle.deploy_laws.specs.Apps.{IsCleanApp, app_at}
-use Rattle.deploy_laws.specs.Places.{IsNoRootFile}
 use Rattle.deploy_rows.specs.Rows.{after, wiping}
 use Rattle.command_text.specs.declared.calls.Call.TheVariants as call
 use Rattle.migrate_fns.specs.Stored.{answers_of, rules_of}
@@ -40,6 +40,7 @@ returns g c = λ now.
     let busy = option_map (λ n. n.now) c.as_ref.result in
     let row = wiping busy in
     let resting = resting_in told old.image s root c.requires.memory c.requires.rests c.take_root-root.ensures.root in
+    let back = sym (ap (λ (x : Running). x.app) c.take_root-root.ensures.left) in
     let busy_is = busy_here s taken root c.as_ref.result c.in_ok-busy.busy c.take_root-root.ensures.left c.as_ref.ensures.value c.in_ok-busy.ensures in
     word_promises told (rules_of c.args.migrations.now) (answers_of c.args.migrations.now) now call.Wipe s taken root old new (c.wipe-made.new.disk ≡ c.args.disk.now)
     (λ same. (ap (λ d. (g.D.Disk.medium d).image) same, ap (λ d. (g.D.Disk.medium d).written) same))
@@ -56,7 +57,7 @@ returns g c = λ now.
       unchanged = c.wipe-made.ensures.unchanged;
       cause = c.wipe-made.ensures.cause;
       device_only = c.wipe-made.ensures.device_only;
-      calls = λ tells. calls_to told taken.app (after (app_at old.image taken.app) (row (app_at old.image taken.app))) (IsNoRootFile taken.app) old new tells (no_root taken.app) c.wipe-made.ensures.outside
+      calls = λ tells. calls_to told taken.app (after (app_at old.image taken.app) (row (app_at old.image taken.app))) (IsNoRootSlot taken.app) old new tells (λ f is. no_root taken.app f (subst (λ n. n < 8) back resting.below) is) c.wipe-made.ensures.outside
           (c.wipe-made.ensures.any_moment tells);
       time = c.wipe-made.ensures.time;
     }))

@@ -44,14 +44,14 @@ returns-clause-outside g c = λ app lt of.
     put_outside c.one_root.ensures.again app lt c.args.self.cell of (text.installed c.args.self.bank (version_said c.args.self.version) None)
     (record { in_bank = c.requires.bank; of_active = c.requires.version.said; of_previous = tt })
     (g.D.Disk.medium c.args.disk.now) (g.D.Disk.medium c.write_version.new.disk)
-    c.files_lie_apart.ensures.slots g.D.Disk.told c.in_ok-cell.ensures.elsewhere c.in_ok-cell.ensures.any_moment
+    g.D.Disk.told c.in_ok-cell.ensures.elsewhere c.in_ok-cell.ensures.any_moment
 
 pub returns-in_err-cell-clause-outside : goal.returns-in_err-cell-clause-outside
 returns-in_err-cell-clause-outside g c = λ app lt of.
     put_outside c.one_root.ensures.again app lt c.args.self.cell of (text.installed c.args.self.bank (version_said c.args.self.version) None)
     (record { in_bank = c.requires.bank; of_active = c.requires.version.said; of_previous = tt })
     (g.D.Disk.medium c.args.disk.now) (g.D.Disk.medium c.write_version.new.disk)
-    c.files_lie_apart.ensures.slots g.D.Disk.told c.in_err-cell.ensures.elsewhere c.in_err-cell.ensures.any_moment
+    g.D.Disk.told c.in_err-cell.ensures.elsewhere c.in_err-cell.ensures.any_moment
 
 pub returns-clause-any_moment : goal.returns-clause-any_moment
 returns-clause-any_moment g c = λ tells app lt of were.
