@@ -1,0 +1,5 @@
+pub mod Each
+pub mod FieldReaders
+pub mod Loop
+pub mod Order
+pub mod Whole

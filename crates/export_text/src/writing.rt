@@ -1,0 +1,122 @@
+//! Writing an export as its text.
+
+ghost use Rattle.std.specs.Prelude.{◌≡◌, ◌≤◌, ◌<◌, ◌^◌, ◌++◌, IfOk, OnOk, Some, length};
+ghost use Rattle.std.specs.List.{AllByRecursion, flat_map};
+ghost use Rattle.per_base.specs.declared.elements.Fresh.{Fresh};
+ghost use Rattle.index_text.specs.Rules.{InfoInRange, InfoIsInRange};
+ghost use Rattle.index_text.specs.Spelling.{cause_code, file_info_text, info_text, kind_code, name_text};
+ghost use Rattle.export_text.specs.declared.exports.Export.{Export};
+ghost use Rattle.export_text.specs.Exports.{AreExportable, IsElement, IsExport, export_body, export_of, export_text, fresh_text, header_text};
+
+use crate::exports::MARK;
+use per_base::{Cause, FileInfo, Fresh, StoreKind};
+use sha2::{Digest, Sha256};
+use std::alloc::{AllocError, Global};
+
+/// The one text of the export of a storage of this kind with these elements: at most 1,024 of them with ascending names, an info
+/// exactly for files, for a key the encoding of a value, for a file at most 1,048,576 bytes.
+pub fn write_export(
+    alloc: Global,
+    kind: StoreKind,
+    contents: &[Fresh],
+) -> Result<Vec<u8>, AllocError>
+    requires { AreExportable kind contents.now }
+    ensures text { IfOk result (λ text. text.items ≡ export_text (record { kind = kind; contents = contents.now })) }
+
+    // It spells this export, and so no other; and this is one.
+    ensures spells { IfOk result (λ text. export_of text.items ≡ Some (record { kind = kind; contents = contents.now })) }
+    ensures is_export { OnOk result (IsExport (record { kind = kind; contents = contents.now })) }
+{
+    let mut text = body_of(alloc, kind, contents)?;
+    let digest = Sha256::digest(text.as_slice());
+    text.extend_from_slice(&digest)?;
+    Ok(text)
+}
+
+/// All that the hash is taken of.
+fn body_of(alloc: Global, kind: StoreKind, contents: &[Fresh]) -> Result<Vec<u8>, AllocError>
+    requires { AreExportable kind contents.now }
+    ensures body { IfOk result (λ body. body.items ≡ export_body (record { kind = kind; contents = contents.now })) }
+    ensures elements { OnOk result (AllByRecursion IsElement contents.now) }
+{
+    let mut body = Vec::new(alloc);
+    put_header(&mut body, kind, contents.len() as u16)?;
+    for element in contents {
+        put_element(&mut body, element)?;
+    }
+    Ok(body)
+}
+
+fn put_header(text: &mut Vec<u8>, kind: StoreKind, count: u16) -> Result<(), AllocError>
+    ensures { OnOk result (text.new.items ≡ text.old.items ++ header_text kind count) }
+{
+    text.extend_from_slice(&MARK)?;
+    text.push(kind_byte(kind))?;
+    text.extend_from_slice(&count.to_le_bytes())?;
+    Ok(())
+}
+
+fn kind_byte(kind: StoreKind) -> u8
+    ensures { result ≡ kind_code kind }
+{
+    match kind {
+        StoreKind::Keys => 1,
+        StoreKind::Files => 2,
+    }
+}
+
+fn cause_byte(cause: Cause) -> u8
+    ensures { result ≡ cause_code cause }
+{
+    match cause {
+        Cause::Installation => 1,
+        Cause::Update => 2,
+        Cause::Reset => 3,
+        Cause::Recovery => 4,
+        Cause::Application => 5,
+    }
+}
+
+#[tactic(auto, unfolding(crate::specs::Exports::fresh_text))]
+fn put_element(text: &mut Vec<u8>, element: &Fresh) -> Result<(), AllocError>
+    requires { length element.now.bytes < 2 ^ 32 }
+    ensures text { OnOk result (text.new.items ≡ text.old.items ++ fresh_text element.now) }
+    ensures element { OnOk result (IsElement element.now) }
+{
+    put_name(text, element.name.as_str())?;
+    put_info(text, &element.info)?;
+    text.extend_from_slice(&(element.bytes.len() as u32).to_le_bytes())?;
+    text.extend_from_slice(element.bytes.as_slice())?;
+    Ok(())
+}
+
+fn put_name(text: &mut Vec<u8>, name: &str) -> Result<(), AllocError>
+    requires { length name.now ≤ 255 }
+    ensures { OnOk result (text.new.items ≡ text.old.items ++ name_text name.now) }
+{
+    text.push(name.len() as u8)?;
+    text.extend_from_slice(name.as_bytes())?;
+    Ok(())
+}
+
+fn put_info(text: &mut Vec<u8>, info: &Option<FileInfo>) -> Result<(), AllocError>
+    ensures text { OnOk result (text.new.items ≡ text.old.items ++ info_text info.now) }
+    ensures in_range { OnOk result (InfoIsInRange info.now) }
+{
+    match info {
+        None => Ok(()),
+        Some(info) => put_file_info(text, info),
+    }
+}
+
+fn put_file_info(text: &mut Vec<u8>, info: &FileInfo) -> Result<(), AllocError>
+    ensures text { OnOk result (text.new.items ≡ text.old.items ++ file_info_text info.now) }
+    ensures in_range { OnOk result (InfoInRange info.now) }
+{
+    text.extend_from_slice(&info.created.to_le_bytes())?;
+    text.extend_from_slice(&info.modified.to_le_bytes())?;
+    text.extend_from_slice(&info.accessed.to_le_bytes())?;
+    let causes = [cause_byte(info.creation), cause_byte(info.modification)];
+    text.extend_from_slice(&causes)?;
+    Ok(())
+}

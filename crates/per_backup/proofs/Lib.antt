@@ -1,0 +1,10 @@
+pub mod Lists
+pub mod Types
+pub mod Mismatches
+pub mod Stored
+pub mod Seen
+pub mod Rows
+pub mod Nothing
+pub mod Replaced
+pub mod ExportRows
+pub mod ImportRows

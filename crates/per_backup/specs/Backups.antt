@@ -1,0 +1,99 @@
+-- What an export gives of a storage, and what an import makes of an application, or their refusals.
+use Rattle.std.specs.Prelude.{ℕ, List, [], ◌∷◌, Bool, cond, Option, Some, None, option_map, option_and_then, Result, Ok, Err}
+use Rattle.per_base.specs.declared.elements.Content.{Content}
+use Rattle.per_base.specs.declared.elements.Content.TheVariants.{Good, Bad}
+use Rattle.per_base.specs.declared.elements.Entry.{Entry}
+use Rattle.per_base.specs.declared.elements.Fresh.{Fresh}
+use Rattle.per_base.specs.declared.elements.StoreKind.{StoreKind}
+use Rattle.per_base.specs.declared.errors.PerError.{PerError}
+use Rattle.per_base.specs.declared.errors.PerError.TheVariants as error
+use Rattle.per_base.specs.declared.errors.Unit.TheVariants as unit
+use Rattle.value_model.specs.Kinds.{Kind}
+use Rattle.value_model.specs.Trees.{type_of}
+use Rattle.value_code.specs.Reading.{decoded}
+use Rattle.value_text.specs.Limits.{same_kind}
+use Rattle.deployment_model.specs.Data.{ElementData, StorageData}
+use Rattle.deployment_model.specs.Lookups.{element_named}
+use Rattle.element_state.specs.States.{State, Opens, Corrupt}
+use Rattle.element_state.specs.Views.{judged_content}
+use Rattle.update_plan.specs.Plans.{is_kind}
+use Rattle.kvs_core.specs.Calls.{mismatch}
+use Rattle.deploy_laws.specs.Apps.{App}
+use Rattle.deploy_rows.specs.Recovering.{if_fits, is_content}
+use Rattle.deploy_rows.specs.Rows.{◌>>=◌}
+use Rattle.run_model.specs.Found.{storage_in, with_state}
+use Rattle.export_text.specs.declared.exports.Export.{Export}
+use Rattle.export_text.specs.Exports.{export_of, export_text}
+
+-- ---- an export
+
+-- an element with its content, or the refusal where that cannot be read
+abbrev pub fresh_by : (storage : List ℕ) → Entry → Content → Result Fresh PerError
+fresh_by storage e (Good bytes) = Ok (record { name = e.name; info = e.info; bytes = bytes })
+fresh_by storage e (Bad salvage) = Err (error.IntegrityCorrupted (unit.Part storage e.name))
+
+-- bytes of a key that encode no value cannot be read
+abbrev pub fresh_of : StorageData → Entry → Result Fresh PerError
+fresh_of s e = fresh_by s.name e (judged_content (is_content s.kind) e.content)
+
+-- all elements, or the refusal for the first that cannot be read: names ascend, so that it is the least
+abbrev pub contents_of : StorageData → List Entry → Result (List Fresh) PerError
+contents_of s [] = Ok []
+contents_of s (e ∷ es) = fresh_of s e >>= λ f. contents_of s es >>= λ fs. Ok (f ∷ fs)
+
+-- a storage that does not open is not exported
+abbrev pub exported_from : StorageData → State → Result Export PerError
+exported_from s (Corrupt salvage others) = Err (error.IntegrityCorrupted (unit.Whole s.name))
+exported_from s (Opens v others) = contents_of s v.entries >>= λ contents. Ok (record { kind = s.kind; contents = contents })
+
+abbrev pub text_from : StorageData → State → Result (List ℕ) PerError
+text_from s state = exported_from s state >>= λ x. Ok (export_text x)
+
+-- the text of a storage of the active version
+unfoldable pub exporting : App → (name : List ℕ) → Result (List ℕ) PerError
+exporting a name = storage_in a name None >>= λ f. text_from f.config f.state
+
+-- ---- an import
+
+-- the export that a text spells, which is one of this kind
+abbrev pub export_for : StoreKind → Option Export → Result Export PerError
+export_for kind None = Err error.ExportRejected
+export_for kind (Some x) = cond (is_kind kind x.kind) (Ok x) (Err error.ExportRejected)
+
+-- the type with which an element is configured, and that of the value that its bytes encode
+abbrev pub configured_type : StorageData → List ℕ → Option Kind
+configured_type s name = option_and_then (λ (e : ElementData). e.value_type) (element_named s name)
+
+abbrev pub exported_type : Fresh → Option Kind
+exported_type f = option_map type_of (decoded f.bytes)
+
+-- the refusal where both are known and differ: the exported type, and then the configured one
+abbrev pub differing : (exported configured : Option Kind) → Option PerError
+differing exported None = None
+differing None (Some configured) = None
+differing (Some exported) (Some configured) = cond (same_kind exported configured) None (Some (mismatch exported configured))
+
+abbrev pub mismatch_of : StorageData → Fresh → Option PerError
+mismatch_of s f = differing (exported_type f) (configured_type s f.name)
+
+abbrev pub or_next : Option PerError → Option PerError → Option PerError
+or_next None next = next
+or_next (Some e) next = Some e
+
+-- the refusal for the least key whose type is another than the configured one
+abbrev pub least_mismatch : StorageData → List Fresh → Option PerError
+least_mismatch s [] = None
+least_mismatch s (f ∷ fs) = or_next (mismatch_of s f) (least_mismatch s fs)
+
+-- refused with this, if it is anything
+abbrev pub unless : {A : Type 0} → Option PerError → Result A PerError → Result A PerError
+unless None row = row
+unless (Some e) row = Err e
+
+-- the state of the storage that is made of a text: exactly the contents of the export, infos included, under the generation of a reset
+unfoldable pub importing : StorageData → State → (text : List ℕ) → Result State PerError
+importing s state text = export_for s.kind (export_of text) >>= λ x. unless (least_mismatch s x.contents) (if_fits s state x.contents)
+
+-- the application with this storage so
+unfoldable pub importing_into : App → (name text : List ℕ) → Result App PerError
+importing_into a name text = storage_in a name None >>= λ f. importing f.config f.state text >>= λ state. Ok (with_state a f state)

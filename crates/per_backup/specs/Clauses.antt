@@ -1,0 +1,66 @@
+-- What an export and an import promise.
+use Rattle.std.specs.declared.alloc.Global.{Global}
+use Rattle.std.specs.Prelude.{◌≡◌, ℕ, List, Vec, Bool, IsTrue, None, Result, Ok, Err, IsErr, IsOk}
+use Rattle.per_base.specs.declared.elements.Fresh.{Fresh}
+use Rattle.per_base.specs.declared.elements.StoreKind.{StoreKind}
+use Rattle.per_base.specs.declared.errors.PerError.{PerError}
+use Rattle.disk_model.specs.Frame.{IsSettledOn, Spares}
+use Rattle.disk_model.specs.Image.{Image}
+use Rattle.disk_model.specs.Medium.{EachCase, Medium, Quiet}
+use Rattle.disk_model.specs.Place.{IsOutside}
+use Rattle.element_state.specs.Clean.{IsClean}
+use Rattle.element_state.specs.declared.shapes.Shape.{Shape}
+use Rattle.element_state.specs.declared.shapes.View.{View}
+use Rattle.element_state.specs.Kept.{KeptThroughout}
+use Rattle.element_state.specs.Read.{IsView}
+use Rattle.deploy_laws.specs.Apps.{App, IsCleanApp, app_at}
+use Rattle.deploy_laws.specs.Stands.{StandsThroughout}
+use Rattle.deploy_rows.specs.Recovering.{after_state}
+use Rattle.deploy_rows.specs.Rows.{after}
+use Rattle.deploy.specs.Clauses.{ChangesNothing}
+use Rattle.run_model.specs.Found.{Found, shape_in, storage_in}
+use Rattle.per_backup.specs.declared.exporting.Exported.{Exported}
+use Rattle.per_backup.specs.declared.exporting.Exported.TheVariants.{Octets, Refused}
+use Rattle.per_backup.specs.Backups.{importing, importing_into}
+
+-- the application that a call saw: where the disk tells its bytes, the one that lies on it
+abbrev pub IsSeen : (told : Bool) → Image → ℕ → App → Type 0
+IsSeen told image app it = IsTrue told → it ≡ app_at image app
+
+-- the bytes of an export, or why it was refused
+abbrev pub exported_as : Exported → Result (List ℕ) PerError
+exported_as (Octets bytes) = Ok bytes
+exported_as (Refused e) = Err e
+
+-- what was made of the elements of a view, as a list
+abbrev pub items_in : Result (Vec Fresh Global) PerError → Result (List Fresh) PerError
+items_in (Ok contents) = Ok contents.items
+items_in (Err e) = Err e
+
+-- a view of a storage of this kind
+abbrev pub IsViewFor : StoreKind → View → Type 0
+IsViewFor kind v = (shape : Shape) × (shape.kind ≡ kind) × IsView shape v
+
+-- ---- an import
+
+-- Every moment of an import, however it ends.
+pub record ImportKeeps (app : ℕ) (name text : List ℕ) (old new : Medium) : Type 0 where
+  -- the storage stands between what it was and what is imported
+  pub kept : (f : Found) → storage_in (app_at old.image app) name None ≡ Ok f
+      → KeptThroughout (shape_in app f) (after_state f.state (importing f.config f.state text)) old new
+  -- all other files stay, at the end and at any moment
+  pub elsewhere : (f : Found) → storage_in (app_at old.image app) name None ≡ Ok f
+      → Spares (IsOutside (shape_in app f).place.first (shape_in app f).place.copies) old.image new.image
+  pub outside : (f : Found) → storage_in (app_at old.image app) name None ≡ Ok f → Quiet old
+      → EachCase (IsSettledOn (IsOutside (shape_in app f).place.first (shape_in app f).place.copies) old.image) old new
+  -- so the application stands between what it was and itself with the imported storage
+  pub stands : StandsThroughout app (after (app_at old.image app) (importing_into (app_at old.image app) name text)) old new
+  -- and where the import is refused nothing changes
+  pub refused : IsErr (importing_into (app_at old.image app) name text) → ChangesNothing old new
+
+-- An import that ended: the application is the one with the imported storage, or the same where it was refused.
+pub record Imported (app : ℕ) (name text : List ℕ) (old new : Medium) : Type 0 where
+  pub world : app_at new.image app ≡ after (app_at old.image app) (importing_into (app_at old.image app) name text)
+  -- the place of what was imported is clean, whatever it was before, and those of the application stay so
+  pub clean : (f : Found) → storage_in (app_at old.image app) name None ≡ Ok f → IsOk (importing f.config f.state text) → IsClean (shape_in app f) new.image
+  pub stays_clean : IsCleanApp app old.image → IsCleanApp app new.image

@@ -1,0 +1,30 @@
+//! Laws, for the proofs of callers: none of these functions does anything when it runs.
+
+ghost use Rattle.per_backup.specs.Laws.{AgainLaw, ExportedLaw, ImportsLaw};
+ghost use Rattle.per_backup.specs.StorageLaws.{StorageLaws};
+
+use deploy_laws::{files_lie_apart, others_stand, roots_say, storing_stands, untouched_stands};
+use element_laws::untouched_is_kept;
+use export_text::export_is_exact;
+
+/// An import makes exactly what its text spells. What was exported can be imported, but for types that differ, room and generations. And
+/// what was imported is exported again as the same text.
+pub fn exports_come_back()
+    ensures imports { ImportsLaw }
+    ensures exported { ExportedLaw }
+    ensures again { AgainLaw }
+{
+    export_is_exact();
+}
+
+/// A storage's files lie apart from all others: what changes them alone changes that storage alone, also at every moment.
+pub(crate) fn storages_stand()
+    ensures { StorageLaws }
+{
+    roots_say();
+    files_lie_apart();
+    others_stand();
+    untouched_is_kept();
+    untouched_stands();
+    storing_stands();
+}
