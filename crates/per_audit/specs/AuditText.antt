@@ -1,0 +1,37 @@
+-- The text of an audit: a line for each element, a line for each finding, and what they come to.
+use Rattle.std.specs.Prelude.{ℕ, List, [], ◌∷◌, ◌++◌, codes, length, Option, Some, None}
+use Rattle.std.specs.List.{flat_map}
+use Rattle.std.specs.Fmt.{decimal}
+use Rattle.command_text.specs.Replies.{unit_text, copies_text}
+use Rattle.per_audit.specs.declared.findings.Finding.{Finding}
+use Rattle.per_audit.specs.declared.findings.FindingKind.{FindingKind}
+use Rattle.per_audit.specs.declared.findings.FindingKind.TheVariants.{Damaged, Lost, Unsettled}
+use Rattle.per_audit.specs.declared.findings.Listed.{Listed}
+
+-- the application, the bank, the storage with the element, and the generation of its last change
+abbrev pub element_line : Listed → List ℕ
+element_line l = codes "element " ++ decimal l.app ++ codes " " ++ decimal l.bank ++ codes " " ++ l.storage ++ codes ":" ++ l.element
+    ++ codes " " ++ decimal l.changed ++ codes "\n"
+
+abbrev pub kind_word : FindingKind → List ℕ
+kind_word Damaged = codes "damaged"
+kind_word Lost = codes "lost"
+kind_word Unsettled = codes "unsettled"
+
+-- a root lies in no bank
+abbrev pub bank_text : Option ℕ → List ℕ
+bank_text None = codes "-"
+bank_text (Some bank) = decimal bank
+
+-- what is found, the application, the bank, the unit and the copies
+abbrev pub finding_line : Finding → List ℕ
+finding_line f = kind_word f.kind ++ codes " " ++ decimal f.app ++ codes " " ++ bank_text f.bank ++ codes " " ++ unit_text f.unit
+    ++ codes " " ++ copies_text f.copies ++ codes "\n"
+
+-- a disk is sound where nothing is found, and else the findings are counted
+abbrev pub verdict : List Finding → List ℕ
+verdict [] = codes "sound\n"
+verdict (f ∷ findings) = codes "findings " ++ decimal (length (f ∷ findings)) ++ codes "\n"
+
+unfoldable pub audit_text : List Listed → List Finding → List ℕ
+audit_text elements findings = flat_map element_line elements ++ flat_map finding_line findings ++ verdict findings

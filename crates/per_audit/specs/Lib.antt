@@ -1,0 +1,5 @@
+pub mod Audits
+pub mod AuditText
+pub mod Noted
+pub mod Laws
+pub mod Samples

@@ -1,0 +1,129 @@
+//! The text of an audit.
+
+ghost use Rattle.std.specs.Prelude.{◌≡◌, ◌++◌, IfOk, OnOk, string_bytes};
+ghost use Rattle.std.specs.List.{flat_map};
+ghost use Rattle.command_text.specs.Replies.{copies_text, unit_text};
+ghost use Rattle.per_audit.specs.AuditText.{audit_text, bank_text, element_line, finding_line, kind_word, verdict};
+
+use crate::findings::{Audit, Finding, FindingKind, Listed};
+use per_base::Unit;
+use std::alloc::{AllocError, Global};
+use std::fmt::Write;
+
+impl Audit {
+    /// The text of the audit: a line for each element, a line for each finding, and `sound` or how many findings there are, each with its
+    /// line feed.
+    #[tactic(auto, unfolding(crate::specs::AuditText::audit_text))]
+    pub fn text(&self, alloc: Global) -> Result<Vec<u8>, AllocError>
+        ensures { IfOk result (λ text. text.items ≡ audit_text self.now.elements self.now.findings) }
+    {
+        let mut text = String::new(alloc);
+        push_elements(&mut text, self.elements.as_slice())?;
+        push_findings(&mut text, self.findings.as_slice())?;
+        push_verdict(&mut text, self.findings.as_slice())?;
+        Ok(text.into_bytes())
+    }
+}
+
+fn push_elements(out: &mut String, elements: &[Listed]) -> Result<(), AllocError>
+    ensures { OnOk result (string_bytes out.new ≡ string_bytes out.old ++ flat_map element_line elements.now) }
+{
+    for element in elements {
+        push_element(out, element)?;
+    }
+    Ok(())
+}
+
+fn push_element(out: &mut String, element: &Listed) -> Result<(), AllocError>
+    ensures { OnOk result (string_bytes out.new ≡ string_bytes out.old ++ element_line element.now) }
+{
+    let app = element.app;
+    let bank = element.bank;
+    let changed = element.changed;
+    write!(out, "element {app} {bank} ")?;
+    out.push_str(element.storage.as_str())?;
+    out.push_str(":")?;
+    out.push_str(element.element.as_str())?;
+    write!(out, " {changed}\n")
+}
+
+fn push_findings(out: &mut String, findings: &[Finding]) -> Result<(), AllocError>
+    ensures { OnOk result (string_bytes out.new ≡ string_bytes out.old ++ flat_map finding_line findings.now) }
+{
+    for finding in findings {
+        push_finding(out, finding)?;
+    }
+    Ok(())
+}
+
+fn push_finding(out: &mut String, finding: &Finding) -> Result<(), AllocError>
+    ensures { OnOk result (string_bytes out.new ≡ string_bytes out.old ++ finding_line finding.now) }
+{
+    let app = finding.app;
+    out.push_str(kind_word(finding.kind))?;
+    write!(out, " {app} ")?;
+    push_bank(out, finding.bank)?;
+    out.push_str(" ")?;
+    push_unit(out, &finding.unit)?;
+    out.push_str(" ")?;
+    push_copies(out, finding.copies.as_slice())?;
+    out.push_str("\n")
+}
+
+fn kind_word(kind: FindingKind) -> &'static str
+    ensures { result.now ≡ kind_word kind }
+{
+    match kind {
+        FindingKind::Damaged => "damaged",
+        FindingKind::Lost => "lost",
+        FindingKind::Unsettled => "unsettled",
+    }
+}
+
+fn push_bank(out: &mut String, bank: Option<u32>) -> Result<(), AllocError>
+    ensures { OnOk result (string_bytes out.new ≡ string_bytes out.old ++ bank_text bank) }
+{
+    match bank {
+        None => out.push_str("-"),
+        Some(bank) => write!(out, "{bank}"),
+    }
+}
+
+fn push_unit(out: &mut String, unit: &Unit) -> Result<(), AllocError>
+    ensures { OnOk result (string_bytes out.new ≡ string_bytes out.old ++ unit_text unit.now) }
+{
+    match unit {
+        Unit::Root => out.push_str("root"),
+        Unit::Whole(storage) => out.push_str(storage.as_str()),
+        Unit::Part(storage, element) => {
+            out.push_str(storage.as_str())?;
+            out.push_str(":")?;
+            out.push_str(element.as_str())
+        }
+    }
+}
+
+// The numbers of copies, joined by commas.
+fn push_copies(out: &mut String, copies: &[u32]) -> Result<(), AllocError>
+    ensures { OnOk result (string_bytes out.new ≡ string_bytes out.old ++ copies_text copies.now) }
+{
+    let Some((first, others)) = copies.split_first() else {
+        return out.push_str("-");
+    };
+    write!(out, "{first}")?;
+    for copy in others {
+        write!(out, ",{copy}")?;
+    }
+    Ok(())
+}
+
+// What the findings come to.
+fn push_verdict(out: &mut String, findings: &[Finding]) -> Result<(), AllocError>
+    ensures { OnOk result (string_bytes out.new ≡ string_bytes out.old ++ verdict findings.now) }
+{
+    let count = findings.len();
+    if count == 0 {
+        return out.push_str("sound\n");
+    }
+    write!(out, "findings {count}\n")
+}
