@@ -2,22 +2,42 @@
 
 use per_system::Failure;
 use std::rt::Files;
-use std::{fs, io};
+use std::{fmt, fs, io};
 
 /// The line where the words are refused.
-const USAGE: &str = "usage: per --dir DIR [--format | --generate N]";
+const USAGE: &str = "usage: per --dir DIR [--flash N] [--format | --generate N | --audit]";
+
+/// Why calls of the disk failed.
+#[derive(Clone, Copy, Debug)]
+pub(crate) enum Fault {
+    /// The last call of the system that failed.
+    System(Failure),
+    /// The disk over the flash takes no more.
+    Full,
+}
+
+impl fmt::Display for Fault {
+    fn fmt<W: fmt::Write>(&self, f: &mut fmt::Formatter<W>) -> fmt::Result {
+        match self {
+            Fault::System(failure) => write!(f, "{failure}"),
+            Fault::Full => write!(f, "its flash takes no more pages"),
+        }
+    }
+}
 
 /// What is known of a run that ended.
 #[derive(Clone, Copy)]
 pub(crate) struct Ended<'a> {
     pub(crate) status: u8,
     pub(crate) dir: &'a str,
+    /// How many blocks the flash has, where the folder is to hold one.
+    pub(crate) flash: Option<u32>,
     /// Whether the lines of the input were to be handled.
     pub(crate) takes_lines: bool,
-    /// Whether a file of the disk is in the folder.
+    /// Whether a file of the disk or of the flash is in the folder.
     pub(crate) has_files: bool,
     /// The last calls that failed.
-    pub(crate) disk: Option<Failure>,
+    pub(crate) disk: Option<Fault>,
     pub(crate) source: Option<io::Error>,
     pub(crate) sink: Option<io::Error>,
 }
@@ -40,22 +60,39 @@ pub(crate) fn say<R: Files + Eprint>(rt: &R, ended: &Ended<'_>) -> io::Result<()
         7 => rt.eprintln(
             "per: the input has more than 67108864 bytes, or exactly as many and no line `end`",
         ),
+        8 if !ended.has_files => say_of_folder(rt, ended),
+        8 => rt.eprintln("per: the audit found something; its lines say what"),
+        10 => eprintln!(rt;
+            "per: the flash in {dir} cannot be opened: it holds more pages of files than so many blocks may, or no block is spare"
+        ),
+        11 => eprintln!(rt;
+            "per: the flash in {dir} cannot be opened: it has fewer than 4 blocks, or more than 4096"
+        ),
         _ => Ok(()),
     }
 }
 
 fn say_of_answers<R: Files + Eprint>(rt: &R, ended: &Ended<'_>) -> io::Result<()> {
-    let dir = ended.dir;
     if ended.disk.is_some() {
         return say_failure(rt, "error 4 was answered, since the disk failed", ended);
     }
     if !ended.takes_lines || ended.has_files {
         return Ok(());
     }
-    if has_folder(rt, dir) {
-        eprintln!(rt; "per: the folder {dir} is not formatted: ./per --format --dir {dir}")
-    } else {
-        eprintln!(rt; "per: there is no folder {dir}")
+    say_of_folder(rt, ended)
+}
+
+/// Says of a folder with no file of the disk or of the flash that it is not formatted, or not there.
+fn say_of_folder<R: Files + Eprint>(rt: &R, ended: &Ended<'_>) -> io::Result<()> {
+    let dir = ended.dir;
+    if !has_folder(rt, dir) {
+        return eprintln!(rt; "per: there is no folder {dir}");
+    }
+    match ended.flash {
+        Some(blocks) => eprintln!(rt;
+            "per: the flash in {dir} is not formatted: ./per --format --flash {blocks} --dir {dir}"
+        ),
+        None => eprintln!(rt; "per: the folder {dir} is not formatted: ./per --format --dir {dir}"),
     }
 }
 

@@ -1,21 +1,32 @@
-//! A run of the program over a folder and two streams.
+//! A run of the program over a folder, or a flash in it, and two streams.
 
 use crate::NO_MEMORY;
-use crate::causes::{Ended, say};
+use crate::causes::{Ended, Fault, say};
 use migrate_fns::Migrations;
 use number_converters::{WithConverters, with_converters};
-use per_run::{JobKind, WordsError, per_run, read_words};
-use per_system::{DirDisk, StdSink, StdSource};
+use per_base::{Sink, Source};
+use per_run::{FlashRun, JobKind, WordsError, per_flash, per_run, read_words};
+use per_system::{DirDisk, DirFlash, StdSink, StdSource};
 use std::alloc::{AllocError, Global};
 use std::fs::File;
 use std::io::{Read, Write};
 use std::rt::Files;
 
-/// The folder that the words name, and whether lines are to be handled in it.
+/// The folder that the words name, whether lines are to be handled in it, and how many blocks its flash has, where it has one.
 #[derive(Drop)]
 struct Target {
     dir: String,
     takes_lines: bool,
+    flash: Option<u32>,
+}
+
+/// What came of a run, as far as its device can tell.
+#[derive(Clone, Copy)]
+struct Outcome {
+    status: u8,
+    /// Whether a file of the disk or of the flash is in the folder.
+    has_files: bool,
+    fault: Option<Fault>,
 }
 
 /// A run that waits for its converters.
@@ -79,21 +90,84 @@ fn run_with<R: Files<File = File> + Eprint, I: Read + Drop, O: Write + Drop>(
         Ok(parts) => parts,
         Err(_) => return no_memory(rt),
     };
-    let mut disk = DirDisk::new(rt, alloc, dir);
     let mut source = StdSource::new(input);
     let mut sink = StdSink::new(output);
-    let status = per_run(alloc, words, migrations, &mut source, &mut sink, &mut disk);
+    let outcome = match target.flash {
+        Some(blocks) => {
+            let flash = DirFlash::new(rt, alloc, dir, blocks);
+            run_over_flash(alloc, words, migrations, &mut source, &mut sink, flash)
+        }
+        None => {
+            let disk = DirDisk::new(rt, alloc, dir);
+            run_over_folder(alloc, words, migrations, &mut source, &mut sink, disk)
+        }
+    };
     let ended = Ended {
-        status,
+        status: outcome.status,
         dir: target.dir.as_str(),
+        flash: target.flash,
         takes_lines: target.takes_lines,
-        has_files: disk.has_files(),
-        disk: disk.failure(),
+        has_files: outcome.has_files,
+        disk: outcome.fault,
         source: source.failure(),
         sink: sink.failure(),
     };
     let _ = say(rt, &ended);
-    status
+    outcome.status
+}
+
+/// Runs the program over the folder as a disk.
+fn run_over_folder<'a, R: Files<File = File>, S: Source, K: Sink>(
+    alloc: Global,
+    words: &[String],
+    migrations: &Migrations,
+    source: &mut S,
+    sink: &mut K,
+    disk: DirDisk<'a, R>,
+) -> Outcome {
+    let mut disk = disk;
+    let status = per_run(alloc, words, migrations, source, sink, &mut disk);
+    Outcome {
+        status,
+        has_files: disk.has_files(),
+        fault: disk.failure().map(Fault::System),
+    }
+}
+
+/// Runs the program over the flash in the folder.
+fn run_over_flash<'a, R: Files<File = File>, S: Source, K: Sink>(
+    alloc: Global,
+    words: &[String],
+    migrations: &Migrations,
+    source: &mut S,
+    sink: &mut K,
+    flash: DirFlash<'a, R>,
+) -> Outcome {
+    match per_flash(alloc, words, migrations, source, sink, flash) {
+        FlashRun::Ran(status, disk) => {
+            let is_full = disk.own_faults() > 0;
+            outcome_of(status, is_full, &disk.into_flash())
+        }
+        FlashRun::Unopened(status, flash) => outcome_of(status, false, &flash),
+    }
+}
+
+/// What came of a run over a flash.
+fn outcome_of<'a, R: Files<File = File>>(
+    status: u8,
+    is_full: bool,
+    flash: &DirFlash<'a, R>,
+) -> Outcome {
+    let fault = match flash.failure() {
+        Some(failure) => Some(Fault::System(failure)),
+        None if is_full => Some(Fault::Full),
+        None => None,
+    };
+    Outcome {
+        status,
+        has_files: flash.has_file(),
+        fault,
+    }
 }
 
 /// Says that memory ran out before the top call, and gives the status.
@@ -107,15 +181,22 @@ fn target_of(alloc: Global, words: &[String]) -> Result<(Target, String), AllocE
     match read_words(alloc, words) {
         Ok(job) => {
             let takes_lines = matches!(job.kind, JobKind::Run);
+            let flash = job.flash;
             let dir = job.dir.into_string();
             let copy = dir.clone()?;
-            Ok((Target { dir, takes_lines }, copy))
+            let target = Target {
+                dir,
+                takes_lines,
+                flash,
+            };
+            Ok((target, copy))
         }
         Err(WordsError::Refused) => {
             let dir = String::new(alloc);
             let target = Target {
                 dir: String::new(alloc),
                 takes_lines: false,
+                flash: None,
             };
             Ok((target, dir))
         }

@@ -1,14 +1,15 @@
 -- Why a job ended by its status.
-use Rattle.std.proofs.Common.{ℕ, zero, suc, ◌<◌, List, [], ◌∷◌, ◌≡◌, ◌⊎◌, inl, inr, refl, sym, ◌∙◌, ap, subst, arith, Option, Some, None, Bool, true, false, IfSome, slice_index_or, codes, if◌then◌else◌}
-use Rattle.std.specs.List.{Contains}
+use Rattle.std.proofs.Common.{ℕ, zero, suc, ◌<◌, ◌≤◌, ◌-◌, List, [], ◌∷◌, ◌++◌, length, ◌≡◌, ◌⊎◌, inl, inr, refl, sym, ◌∙◌, ap, subst, arith, Option, Some, None, option_map, Err, Bool, true, false, ◌&&◌, nat_eq, nat_le, IfSome, slice_index_or, codes, if◌then◌else◌}
+use Rattle.std.specs.Bool.{⊤}
+use Rattle.std.specs.List.{AllByRecursion, Contains}
 use Rattle.std.specs.Str.Parse.{digits_value, without_leading_plus}
 use Rattle.clap.proofs.ValueTestLemmas.{accepts-Accepts}
 use Rattle.clap.specs.Simple.{matches_of}
-use Rattle.clap.specs.Values.{IsUnsignedIn}
 use Rattle.clap.specs.ValueTests.{is_unsigned_in}
 use Rattle.clap.specs.Walk.{Row, first_of}
 use Rattle.clap.specs.declared.builder.value_parser.ValueParser.TheVariants as vp
 use Rattle.per_base.specs.Causes.{Rose}
+use Rattle.per_base.specs.Fields.{◌>>=◌, only_if}
 use Rattle.disk_model.specs.Laws.{elapses_none}
 use Rattle.disk_model.specs.Medium.{Medium, IsLawful}
 use Rattle.migrate_fns.specs.Rules.{Rule, Answers}
@@ -19,13 +20,15 @@ use Rattle.run_model.specs.Lines.{IsWellFormed}
 use Rattle.run_model.specs.Runs as runs
 use Rattle.per_run.specs.declared.words.Job.{Job}
 use Rattle.per_run.specs.declared.words.JobKind.{JobKind}
-use Rattle.per_run.specs.declared.words.JobKind.TheVariants.{Run, Format, Generate}
+use Rattle.per_run.specs.declared.words.JobKind.TheVariants.{Run, Format, Generate, Audit}
 use Rattle.per_run.specs.Jobs.{IsCaused, JobDone, by_disk, by_itself, by_sink, by_source, statuses_of}
 use Rattle.per_run.specs.Steps.{IsInRange}
-use Rattle.per_run.specs.Words.{command, has_matches, is_set, job_in, job_of, job_with, kind_by, kind_in, reads_input}
+use Rattle.per_run.specs.Words.{command, dir_of, flagged, flash_of, generate_of, has_matches, is_set, job_in, job_of, kind_in, modes, only_mode, reads_input, valued}
+use Rattle.per_run.proofs.Answered.{audits_none}
 use Rattle.per_run.proofs.Begins.{run_short, unbegun}
 use Rattle.per_run.proofs.Completes.{OneLine, completes}
 use Rattle.per_run.proofs.Fresh.{formats_none, generates_none}
+use Rattle.per_run.proofs.Outputs.{nothing_changed}
 
 -- ---- statuses
 
@@ -60,23 +63,34 @@ pub short_caused : (kind : JobKind) (b n : Failed) → IsCaused kind 4 b n
 short_caused Run b n = by_itself (2, omega arith, refl)
 short_caused Format b n = by_itself (1, omega arith, refl)
 short_caused (Generate k) b n = by_itself (1, omega arith, refl)
+short_caused Audit b n = by_itself (1, omega arith, refl)
 
-no_one_of_four : (k : ℕ) → k < 4 → slice_index_or (statuses_of Run) k 1 ≡ 1 → ⊥
-no_one_of_four zero lt is = let bad : ◌≡◌ {A = ℕ} 0 1 = is in omega (arith, bad)
-no_one_of_four (suc zero) lt is = let bad : ◌≡◌ {A = ℕ} 2 1 = is in omega (arith, bad)
-no_one_of_four (suc (suc zero)) lt is = let bad : ◌≡◌ {A = ℕ} 4 1 = is in omega (arith, bad)
-no_one_of_four (suc (suc (suc zero))) lt is = let bad : ◌≡◌ {A = ℕ} 7 1 = is in omega (arith, bad)
-no_one_of_four (suc (suc (suc (suc k)))) lt is = omega (arith, lt)
+-- the output of a job that came to it, by this status where all of it was taken
+pub output_caused : (kind : JobKind) (status done : ℕ) (b n : Failed) → Contains (statuses_of kind) done → (status ≡ done) ⊎ ((status ≡ 4) ⊎ ((status ≡ 6) × Rose b.sink n.sink))
+    → IsCaused kind status b n
+output_caused kind status done b n has (inl is) = by_itself (among status done (statuses_of kind) is has)
+output_caused kind status done b n has (inr (inl four)) = subst (λ s. IsCaused kind s b n) (sym four) (short_caused kind b n)
+output_caused kind status done b n has (inr (inr six)) = by_sink six.0 six.1
 
-no_one_of_two : (k : ℕ) → k < 2 → slice_index_or (statuses_of Format) k 1 ≡ 1 → ⊥
-no_one_of_two zero lt is = let bad : ◌≡◌ {A = ℕ} 0 1 = is in omega (arith, bad)
-no_one_of_two (suc zero) lt is = let bad : ◌≡◌ {A = ℕ} 4 1 = is in omega (arith, bad)
-no_one_of_two (suc (suc k)) lt is = omega (arith, lt)
+-- an audit that was written
+pub audit_caused : (status : ℕ) (b n : Failed) → ((status ≡ 0) ⊎ (status ≡ 8)) ⊎ ((status ≡ 4) ⊎ ((status ≡ 6) × Rose b.sink n.sink)) → IsCaused Audit status b n
+audit_caused status b n (inl (inl none)) = output_caused Audit status 0 b n (0, omega arith, refl) (inl none)
+audit_caused status b n (inl (inr eight)) = output_caused Audit status 8 b n (2, omega arith, refl) (inl eight)
+audit_caused status b n (inr other) = output_caused Audit status 0 b n (0, omega arith, refl) (inr other)
+
+no_one : (xs : List ℕ) → AllByRecursion (λ x. x ≡ 1 → ⊥) xs → (k : ℕ) → k < length xs → slice_index_or xs k 1 ≡ 1 → ⊥
+no_one [] each k within is = absurd (omega (arith, within))
+no_one (x ∷ xs) each zero within is = each.0 is
+no_one (x ∷ xs) each (suc k) within is = no_one xs each.1 k (omega (arith, within)) is
+
+others_than_one : (kind : JobKind) → AllByRecursion (λ x. x ≡ 1 → ⊥) (statuses_of kind)
+others_than_one Run = (λ is. omega (arith, is), (λ is. omega (arith, is), (λ is. omega (arith, is), (λ is. omega (arith, is), tt))))
+others_than_one Format = (λ is. omega (arith, is), (λ is. omega (arith, is), tt))
+others_than_one (Generate k) = (λ is. omega (arith, is), (λ is. omega (arith, is), tt))
+others_than_one Audit = (λ is. omega (arith, is), (λ is. omega (arith, is), (λ is. omega (arith, is), tt)))
 
 has_no_one : (kind : JobKind) → Contains (statuses_of kind) 1 → ⊥
-has_no_one Run contains = no_one_of_four contains.0 contains.1 contains.2
-has_no_one Format contains = no_one_of_two contains.0 contains.1 contains.2
-has_no_one (Generate k) contains = no_one_of_two contains.0 contains.1 contains.2
+has_no_one kind contains = no_one (statuses_of kind) (others_than_one kind) contains.0 contains.1 contains.2
 
 pub not_one : (kind : JobKind) (status : ℕ) (b n : Failed) → IsCaused kind status b n → status ≡ 1 → ⊥
 not_one kind status b n (by_itself contains) is = has_no_one kind (subst (Contains (statuses_of kind)) is contains)
@@ -121,6 +135,7 @@ pub done_none : AppLaws → (told : Bool) (kind : JobKind) (rules : List Rule) (
 done_none laws told Run rules answers left before source sink m lawful = run_short told rules answers left before source sink m m 4 lawful (elapses_none lawful) (λ tells. unbegun laws told m lawful) refl
 done_none laws told Format rules answers left before source sink m lawful = formats_none told 4 before m (inr refl)
 done_none laws told (Generate n) rules answers left before source sink m lawful = generates_none told rules answers n 4 before m m (inr refl) (elapses_none lawful).faults
+done_none laws told Audit rules answers left before source sink m lawful = audits_none told 4 before m m (inr refl) (nothing_changed lawful) (λ unfailed. refl)
 
 pub unread_none : {S : Type 0} (o : Option Job) (s : S) → IfSome o (λ job. reads_input job.kind ≡ false → s ≡ s)
 unread_none o s = each_is o (λ job. reads_input job.kind ≡ false → s ≡ s) (λ job reads. refl)
@@ -140,7 +155,7 @@ completes_if one told kind rules answers status (Some left) left_now before now 
     completes one told rules answers status left left_now before now b.source n.source b.sink n.sink old new
     (subst (λ (k : JobKind). JobDone told k rules answers status (Some left) left_now before now b n old new) is done) disk source sink formed
 
--- ---- the number of a made input
+-- ---- numbers are in their ranges
 
 some_kind : (a b : JobKind) → ◌≡◌ {A = Option JobKind} (Some a) (Some b) → a ≡ b
 some_kind a b is = cc
@@ -151,25 +166,61 @@ no_kind_is {P} k is = absurd (apart k is)
     apart : (j : JobKind) → ◌≡◌ {A = Option JobKind} None (Some j) → ⊥
     apart j same = cc
 
-generates_within : (text : List ℕ) (b : Bool) (k : JobKind) → is_unsigned_in 1 100000 text ≡ b
-    → (if b then Some (Generate (digits_value 10 (without_leading_plus text))) else None) ≡ Some k → IsInRange k
-generates_within text true k within is =
-    let limits : IsUnsignedIn 1 100000 text = accepts-Accepts false (vp.Unsigned 1 100000) text within in
-    subst IsInRange (some_kind _ k is) limits.3
-generates_within text false k within is = no_kind_is k is
+-- what a mode says is in range
+abbrev IsSafe : Option JobKind → Type 0
+IsSafe mode = (k : JobKind) → mode ≡ Some k → IsInRange k
 
-kind_within : (formats : Bool) (number : Option (List ℕ)) (k : JobKind) → kind_by formats number ≡ Some k → IsInRange k
-kind_within false None k is = subst IsInRange (some_kind Run k is) tt
-kind_within true None k is = subst IsInRange (some_kind Format k is) tt
-kind_within false (Some text) k is = generates_within text (is_unsigned_in 1 100000 text) k refl is
-kind_within true (Some text) k is = no_kind_is k is
+none_safe : IsSafe None
+none_safe k is = no_kind_is k is
 
-job_kind : (dir : Option (List ℕ)) (kind : Option JobKind) (job : Job) → job_with dir kind ≡ Some job → kind ≡ Some job.kind
-job_kind None kind job is = let bad : ◌≡◌ {A = Option Job} None (Some job) = is in cc
-job_kind (Some []) kind job is = let bad : ◌≡◌ {A = Option Job} None (Some job) = is in cc
-job_kind (Some (b ∷ dir)) None job is = let bad : ◌≡◌ {A = Option Job} None (Some job) = is in cc
-job_kind (Some (b ∷ dir)) (Some k) job is =
-    let same : record { dir = b ∷ dir; kind = k } ≡ job = job_some (record { dir = b ∷ dir; kind = k }) job is in
+some_safe : (kind : JobKind) → IsInRange kind → IsSafe (Some kind)
+some_safe kind within k is = subst IsInRange (some_kind kind k is) within
+
+generate_safe : (value : List ℕ) → IsSafe (generate_of value)
+generate_safe value = go (is_unsigned_in 1 100000 value) refl
+  where
+    n : ℕ
+    n = digits_value 10 (without_leading_plus value)
+
+    go : (b : Bool) → is_unsigned_in 1 100000 value ≡ b → IsSafe (option_map Generate (only_if b n))
+    go true within = some_safe (Generate n) (accepts-Accepts false (vp.Unsigned 1 100000) value within).3
+    go false within = none_safe
+
+-- so is each that is named
+abbrev AreSafe : List (Option JobKind) → Type 0
+AreSafe [] = ⊤
+AreSafe (mode ∷ ms) = IsSafe mode × AreSafe ms
+
+both_safe : (xs ys : List (Option JobKind)) → AreSafe xs → AreSafe ys → AreSafe (xs ++ ys)
+both_safe [] ys first second = second
+both_safe (mode ∷ xs) ys first second = (first.0, both_safe xs ys first.1 second)
+
+flagged_safe : (kind : JobKind) (b : Bool) → IsInRange kind → AreSafe (flagged kind b)
+flagged_safe kind true within = (some_safe kind within, tt)
+flagged_safe kind false within = tt
+
+valued_safe : (mode : List ℕ → Option JobKind) (value : Option (List ℕ)) → ((v : List ℕ) → IsSafe (mode v)) → AreSafe (valued mode value)
+valued_safe mode (Some v) safe = (safe v, tt)
+valued_safe mode None safe = tt
+
+modes_safe : (formats : Bool) (number : Option (List ℕ)) (audits : Bool) → AreSafe (modes formats number audits)
+modes_safe formats number audits =
+    both_safe (flagged Format formats ++ valued generate_of number) (flagged Audit audits)
+    (both_safe (flagged Format formats) (valued generate_of number) (flagged_safe Format formats tt) (valued_safe generate_of number generate_safe))
+    (flagged_safe Audit audits tt)
+
+only_safe : (ms : List (Option JobKind)) → AreSafe ms → IsSafe (only_mode ms)
+only_safe [] safe = some_safe Run tt
+only_safe (mode ∷ []) safe = safe.0
+only_safe (mode ∷ other ∷ others) safe = none_safe
+
+kind_of_job : (kind : Option JobKind) (flash : Option (Option ℕ)) (dir : Option (List ℕ)) (job : Job)
+    → (kind >>= λ k. flash >>= λ f. dir >>= λ d. Some (record { dir = d; kind = k; flash = f })) ≡ Some job → kind ≡ Some job.kind
+kind_of_job None flash dir job is = let bad : ◌≡◌ {A = Option Job} None (Some job) = is in cc
+kind_of_job (Some k) None dir job is = let bad : ◌≡◌ {A = Option Job} None (Some job) = is in cc
+kind_of_job (Some k) (Some f) None job is = let bad : ◌≡◌ {A = Option Job} None (Some job) = is in cc
+kind_of_job (Some k) (Some f) (Some d) job is =
+    let same : record { dir = d; kind = k; flash = f } ≡ job = job_some (record { dir = d; kind = k; flash = f }) job is in
     ap (λ (j : Job). Some j.kind) same
   where
     job_some : (a c : Job) → ◌≡◌ {A = Option Job} (Some a) (Some c) → a ≡ c
@@ -183,5 +234,6 @@ job_within ws job is = go (has_matches ws) is
     rows = matches_of command ws
 
     go : (b : Bool) → (if b then job_in rows else None) ≡ Some job → IsInRange job.kind
-    go true says = kind_within (is_set (first_of (codes "format") rows)) (first_of (codes "generate") rows) job.kind (job_kind (first_of (codes "dir") rows) (kind_in rows) job says)
+    go true says = only_safe _ (modes_safe (is_set (first_of (codes "format") rows)) (first_of (codes "generate") rows) (is_set (first_of (codes "audit") rows))) job.kind
+        (kind_of_job (kind_in rows) (flash_of (first_of (codes "flash") rows)) (dir_of (first_of (codes "dir") rows)) job says)
     go false says = let bad : ◌≡◌ {A = Option Job} None (Some job) = says in cc

@@ -1,6 +1,5 @@
 -- Disks that were formatted, and jobs that did not come to their output.
 use Rattle.std.proofs.Common.{ℕ, zero, suc, List, [], ◌∷◌, replicate, ◌≡◌, ◌≤◌, ◌<◌, ◌+◌, ◌⊎◌, inl, inr, refl, sym, ◌∙◌, ap, ap₂, subst, le_trans, arith, Option, None, Bool, IsTrue}
-use Rattle.std.proofs.KnownBytes.{Keeps-refl}
 use Rattle.disk_model.specs.Image.{Image}
 use Rattle.disk_model.specs.Laws.{rose_before}
 use Rattle.disk_model.specs.Medium.{Medium}
@@ -15,9 +14,10 @@ use Rattle.run_model.specs.Runtimes.{Memory}
 use Rattle.run_model.specs.Turns.{Turn, Follow, AreBlamed, replies_of, worlds_of}
 use Rattle.run_model.specs.Worlds.{Application, World, all_resting, formatted, resting, started, world_at}
 use Rattle.per_run.specs.declared.tally.Tally.{Tally}
-use Rattle.per_run.specs.Jobs.{Formats, Generates, IsDone, Writes, summary}
+use Rattle.per_run.specs.Jobs.{Formats, Generates, Writes, summary}
 use Rattle.per_run.specs.Steps.{Counted, IsBegun, IsGoing, Tallies}
 use Rattle.per_run.proofs.Goes.{goes_none}
+use Rattle.per_run.proofs.Outputs.{not_done, writes_none}
 use Rattle.per_run.proofs.Tallied.{length_all}
 
 -- ---- the world of a disk that was formatted
@@ -31,20 +31,7 @@ pub is_formatted : (image : Image) → ((app : ℕ) → app < 8 → app_at image
 unfolding world_at
 is_formatted image each = ap (λ (apps : List Application). record formatted { apps = apps }) (resting_all (app_at image) (empty_app 1) 0 8 (λ i least most. each i most))
 
--- ---- statuses
-
-pub not_done : (status : ℕ) → (status ≡ 3) ⊎ (status ≡ 4) → IsDone status → ⊥
-not_done status (inl three) (inl none) = omega (arith, three, none)
-not_done status (inl three) (inr six) = omega (arith, three, six)
-not_done status (inr four) (inl none) = omega (arith, four, none)
-not_done status (inr four) (inr six) = omega (arith, four, six)
-
-pub writes_none : (status : ℕ) (now : Option (List ℕ)) (text : List ℕ) → (status ≡ 3) ⊎ (status ≡ 4) → Writes status now now text
-writes_none status now text is = record {
-  whole = λ none. absurd (not_done status is (inl none));
-  front = λ six. absurd (not_done status is (inr six));
-  none = λ undone. Keeps-refl now;
-}
+-- ---- jobs that did not come to their output
 
 pub formats_none : (told : Bool) (status : ℕ) (now : Option (List ℕ)) (new : Medium) → (status ≡ 3) ⊎ (status ≡ 4) → Formats told status now now new
 formats_none told status now new is = record {

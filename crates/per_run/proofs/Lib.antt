@@ -9,5 +9,9 @@ pub mod Inputs
 pub mod Begins
 pub mod Completes
 pub mod Tallied
+pub mod Outputs
 pub mod Fresh
+pub mod Answered
 pub mod Caused
+pub mod Reopens
+pub mod FlashRuns

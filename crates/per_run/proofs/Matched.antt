@@ -1,7 +1,6 @@
 -- What the matches of the words say, and that the words have matches.
-use Rattle.std.proofs.Common.{ℕ, List, [], ◌∷◌, length, Bool, true, false, Option, Some, None, ◌≡◌, ◌≢◌, ◌⊎◌, ◌≤◌, ◌<◌, ◌^◌, ◌&&◌, ◌==◌, nat_le, refl, sym, ap, subst, arith, inl, inr, ⊎_elim, if◌then◌else◌}
+use Rattle.std.proofs.Common.{ℕ, List, [], ◌∷◌, length, Bool, true, false, Option, Some, None, Result, Ok, Err, IfOk, IsErrAnd, ◌∙◌, ◌≡◌, ◌≢◌, ◌⊎◌, ◌≤◌, ◌<◌, ◌^◌, ◌==◌, refl, sym, ap, subst, arith, inl, inr, ⊎_elim, if◌then◌else◌}
 use Rattle.std.proofs.lemmas.Bool.{cases_Bool, ne_eqb}
-use Rattle.std.proofs.lemmas.Bool.Decides.{nat_tests}
 use Rattle.std.specs.Str.Parse.{IsNumeral, digits_value, without_leading_plus}
 use Rattle.clap.proofs.OnLiterals.{clap_on_literals}
 use Rattle.clap.proofs.ValueTestLemmas.{accepts-Accepts, Accepts-accepts}
@@ -13,9 +12,12 @@ use Rattle.clap.specs.ValueTests.{is_unsigned_in}
 use Rattle.clap.specs.Walk.{Row}
 use Rattle.clap.specs.declared.builder.value_parser.ValueParser.TheVariants as vp
 use Rattle.clap.specs.declared.error.kind.ErrorKind.{ErrorKind}
+use Rattle.per_base.specs.Fields.{◌>>=◌, only_if}
+use Rattle.per_run.specs.declared.words.Job.{Job}
 use Rattle.per_run.specs.declared.words.JobKind.{JobKind}
-use Rattle.per_run.specs.declared.words.JobKind.TheVariants.{Generate}
-use Rattle.per_run.specs.Words.{command, generate_of, has_matches, job_in, job_of, job_with}
+use Rattle.per_run.specs.declared.words.WordsError.{WordsError}
+use Rattle.per_run.specs.declared.words.WordsError.TheVariants as words_error
+use Rattle.per_run.specs.Words.{Reads, command, has_matches, job_in, job_of, modes, number_in, only_mode}
 
 -- ---- the command
 
@@ -62,47 +64,74 @@ job_none app ws k memory is fails other =
     subst (λ (a : App). is_simple_and_free a ≡ true → (k ≡ memory) ⊎ IsAmong k (fault_of a ws)) is fails in
     no_job ws (has_matches ws) (⊎_elim (λ same. absurd (other same)) (λ among. some_left (fault_of command ws) k among) (here is_free_one))
 
--- ---- the number
+-- ---- numbers
 
-in_range : (text : List ℕ) (n : ℕ) (b : Bool) → n ≡ digits_value 10 (without_leading_plus text) → IsNumeral 10 (without_leading_plus text) → digits_value 10 (without_leading_plus text) < 2 ^ 32
-    → b ≡ (nat_le 1 n && nat_le n 100000) → is_unsigned_in 1 100000 text ≡ b
-in_range text n true is numeral small says =
-    let least : 1 ≤ n = grind (arith, nat_tests) in
-    let most : n ≤ 100000 = grind (arith, nat_tests) in
-    Accepts-accepts false (vp.Unsigned 1 100000) text (numeral, omega (arith, small), omega (arith, is, least), omega (arith, is, most))
-in_range text n false is numeral small says = ⊎_elim
-    (λ (yes_is : is_unsigned_in 1 100000 text ≡ true).
-    let within : IsUnsignedIn 1 100000 text = accepts-Accepts false (vp.Unsigned 1 100000) text yes_is in
-    let least : 1 ≤ n = omega (arith, is, within.2) in
-    let most : n ≤ 100000 = omega (arith, is, within.3) in
-    absurd (grind (arith, nat_tests)))
-    (λ (no_is : is_unsigned_in 1 100000 text ≡ false). no_is)
-    (cases_Bool (is_unsigned_in 1 100000 text))
+-- a number that was read and is in the range
+pub number_says : (least most : ℕ) (text : List ℕ) (n : ℕ) → n ≡ digits_value 10 (without_leading_plus text) → IsNumeral 10 (without_leading_plus text)
+    → digits_value 10 (without_leading_plus text) < 2 ^ 32 → least ≤ n → n ≤ most → number_in least most text ≡ Some n
+number_says least most text n is numeral small above below =
+    let yes_is : is_unsigned_in least most text ≡ true =
+    Accepts-accepts false (vp.Unsigned least most) text (numeral, omega (arith, small), omega (arith, is, above), omega (arith, is, below)) in
+    rw (yes_is, sym is) refl
 
-pub generates : (text : List ℕ) (n : ℕ) (b : Bool) → n ≡ digits_value 10 (without_leading_plus text) → IsNumeral 10 (without_leading_plus text) → digits_value 10 (without_leading_plus text) < 2 ^ 32
-    → b ≡ (nat_le 1 n && nat_le n 100000) → (if b then Some (Generate n) else None) ≡ generate_of text
-generates text n b is numeral small says =
-    rw (in_range text n b is numeral small says, sym is) refl
+-- a text that is no number
+pub number_none : (least most : ℕ) (text : List ℕ) → most < 2 ^ 32 → (IsNumeral 10 (without_leading_plus text) × (digits_value 10 (without_leading_plus text) < 2 ^ 32) → ⊥)
+    → number_in least most text ≡ None
+number_none least most text small none = ⊎_elim
+    (λ (yes_is : is_unsigned_in least most text ≡ true).
+    let within : IsUnsignedIn least most text = accepts-Accepts false (vp.Unsigned least most) text yes_is in
+    absurd (none (within.0, omega (arith, within.3, small))))
+    (λ (no_is : is_unsigned_in least most text ≡ false). rw no_is refl)
+    (cases_Bool (is_unsigned_in least most text))
 
-pub generates_none : (text : List ℕ) → (IsNumeral 10 (without_leading_plus text) × (digits_value 10 (without_leading_plus text) < 2 ^ 32) → ⊥) → ◌≡◌ {A = Option JobKind} None (generate_of text)
-generates_none text none = ⊎_elim
-    (λ (yes_is : is_unsigned_in 1 100000 text ≡ true).
-    let within : IsUnsignedIn 1 100000 text = accepts-Accepts false (vp.Unsigned 1 100000) text yes_is in
-    absurd (none (within.0, omega (arith, within.3))))
-    (λ (no_is : is_unsigned_in 1 100000 text ≡ false). rw no_is refl)
-    (cases_Bool (is_unsigned_in 1 100000 text))
+-- what was read, by other names for what is said
+pub reads_as : {T : Type 0} (result : Result T WordsError) (said same : Option T) → said ≡ same → Reads result said → Reads result same
+reads_as result said same is reads = subst (Reads result) is reads
 
--- ---- the folder
+-- ---- the parts of a job
 
-pub no_kind : (dir : Option (List ℕ)) → job_with dir None ≡ None
-no_kind None = refl
-no_kind (Some []) = refl
-no_kind (Some (b ∷ dir)) = refl
+abbrev pub job_from : Option JobKind → Option (Option ℕ) → Option (List ℕ) → Option Job
+job_from kind flash dir = kind >>= λ k. flash >>= λ f. dir >>= λ d. Some (record { dir = d; kind = k; flash = f })
 
-pub no_folder : (dir : Option (List ℕ)) (kind : Option JobKind) → (dir ≡ None) ⊎ (dir ≡ Some []) → job_with dir kind ≡ None
-no_folder dir kind (inl none) = ap (λ (d : Option (List ℕ)). job_with d kind) none
-no_folder dir kind (inr empty) = ap (λ (d : Option (List ℕ)). job_with d kind) empty
+no_flash : (kind : Option JobKind) (flash : Option (Option ℕ)) (dir : Option (List ℕ)) → flash ≡ None → job_from kind flash dir ≡ None
+no_flash None flash dir none = refl
+no_flash (Some k) flash dir none = ap (λ (f : Option (Option ℕ)). job_from (Some k) f dir) none
 
-pub in_folder : (dir : List ℕ) (kind : JobKind) → dir ≢ [] → job_with (Some dir) (Some kind) ≡ Some (record { dir = dir; kind = kind })
-in_folder [] kind some = absurd (some refl)
-in_folder (b ∷ dir) kind some = refl
+no_dir : (kind : Option JobKind) (flash : Option (Option ℕ)) (dir : Option (List ℕ)) → dir ≡ None → job_from kind flash dir ≡ None
+no_dir None flash dir none = refl
+no_dir (Some k) None dir none = refl
+no_dir (Some k) (Some f) dir none = ap (λ (d : Option (List ℕ)). job_from (Some k) (Some f) d) none
+
+-- a part that was refused, or that there was no memory for
+failed_as : {A B : Type 0} (e : WordsError) (part : Option A) (whole : Option B) → (part ≡ None → whole ≡ None) → Reads {T = A} (Err e) part → Reads {T = B} (Err e) whole
+failed_as words_error.Refused part whole none reads = none reads
+failed_as words_error.OutOfMemory part whole none reads = tt
+
+handed_on : {A : Type 0} (result : Result Job WordsError) (e : WordsError) (part : Option A) (whole : Option Job) → IsErrAnd result (λ x. x ≡ e) → (part ≡ None → whole ≡ None)
+    → Reads {T = A} (Err e) part → Reads result whole
+handed_on (Ok job) e part whole is none reads = absurd is
+handed_on (Err x) e part whole is none reads = failed_as x part whole none (subst (λ (y : WordsError). Reads (Err y) part) (sym is) reads)
+
+pub flash_fails : (result : Result Job WordsError) (e : WordsError) (kind : Option JobKind) (flash same : Option (Option ℕ)) (dir : Option (List ℕ)) → IsErrAnd result (λ x. x ≡ e)
+    → flash ≡ same → Reads {T = Option ℕ} (Err e) flash → Reads result (job_from kind same dir)
+flash_fails result e kind flash same dir is same_is reads = handed_on result e same (job_from kind same dir) is (no_flash kind same dir) (reads_as (Err e) flash same same_is reads)
+
+pub dir_fails : (result : Result Job WordsError) (e : WordsError) (kind : Option JobKind) (flash : Option (Option ℕ)) (dir same : Option (List ℕ)) → IsErrAnd result (λ x. x ≡ e)
+    → dir ≡ same → Reads {T = List ℕ} (Err e) dir → Reads result (job_from kind flash same)
+dir_fails result e kind flash dir same is same_is reads = handed_on result e same (job_from kind flash same) is (no_dir kind flash same) (reads_as (Err e) dir same same_is reads)
+
+pub job_is : (k : JobKind) (f : Option ℕ) (d : List ℕ) (kind : Option JobKind) (flash : Option (Option ℕ)) (dir : Option (List ℕ)) → kind ≡ Some k → flash ≡ Some f → dir ≡ Some d
+    → job_from kind flash dir ≡ Some (record { dir = d; kind = k; flash = f })
+job_is k f d kind flash dir kind_is flash_is dir_is = rw (kind_is, flash_is, dir_is) refl
+
+-- ---- what was read of the matches is what the words say
+
+pub job_read : (result : Result Job WordsError) (said same : Option Job) → same ≡ said → Reads result said → IfOk result (λ job. same ≡ Some job)
+job_read (Ok job) said same is reads = is ∙ reads
+job_read (Err e) said same is reads = tt
+
+pub job_refused : (result : Result Job WordsError) (said same : Option Job) → same ≡ said → Reads result said → result ≡ Err words_error.Refused → same ≡ None
+job_refused result said same is reads refused = is ∙ subst (λ (r : Result Job WordsError). Reads r said) refused reads
+
+pub modes_as : {f g a b : Bool} {n m : Option (List ℕ)} → f ≡ g → n ≡ m → a ≡ b → only_mode (modes f n a) ≡ only_mode (modes g m b)
+modes_as formats number audits = rw (formats, number, audits) refl

@@ -1,5 +1,5 @@
 -- What each job promises, and by which statuses it ends.
-use Rattle.std.specs.Prelude.{◌≡◌, ◌⊎◌, ◌<◌, ℕ, List, [], ◌∷◌, ◌++◌, length, take, Option, Some, None, Bool, true, false, codes, count_by, not, ◌&&◌, IsTrue}
+use Rattle.std.specs.Prelude.{◌≡◌, ◌≢◌, ◌⊎◌, ◌<◌, ℕ, List, [], ◌∷◌, ◌++◌, length, take, Option, Some, None, Bool, true, false, codes, count_by, not, ◌&&◌, IsTrue}
 use Rattle.std.specs.List.{Contains}
 use Rattle.std.specs.Option.{option_or}
 use Rattle.std.specs.Fmt.{decimal}
@@ -12,6 +12,7 @@ use Rattle.command_text.specs.declared.replies.Answer.TheVariants as answer
 use Rattle.command_text.specs.declared.replies.Reply.{Reply}
 use Rattle.command_text.specs.Generated.{generated}
 use Rattle.deploy_laws.specs.Apps.{IsCleanApp}
+use Rattle.deploy.specs.Clauses.{ChangesNothing}
 use Rattle.run_model.specs.Endings.{Failed}
 use Rattle.run_model.specs.Lines.{Give}
 use Rattle.run_model.specs.Moments.{last_of}
@@ -19,8 +20,12 @@ use Rattle.run_model.specs.Runs as runs
 use Rattle.run_model.specs.Runs.{IsSettled}
 use Rattle.run_model.specs.Turns.{Turn, events_of, replies_of, worlds_of, AreBlamed, Follow}
 use Rattle.run_model.specs.Worlds.{world_at, formatted}
+use Rattle.per_audit.specs.Audits.{elements_at, findings_at}
+use Rattle.per_audit.specs.AuditText.{audit_text}
+use Rattle.per_audit.specs.declared.findings.Finding.{Finding}
+use Rattle.per_audit.specs.declared.findings.Listed.{Listed}
 use Rattle.per_run.specs.declared.words.JobKind.{JobKind}
-use Rattle.per_run.specs.declared.words.JobKind.TheVariants.{Run, Format, Generate}
+use Rattle.per_run.specs.declared.words.JobKind.TheVariants.{Run, Format, Generate, Audit}
 use Rattle.per_run.specs.Words.{reads_input}
 
 -- ---- the output of a job that writes once
@@ -29,15 +34,23 @@ use Rattle.per_run.specs.Words.{reads_input}
 abbrev pub IsFront : (before now : Option (List ℕ)) → List ℕ → Type 0
 IsFront before now text = (count : ℕ) × (count < length text) × Appends before now (take count text)
 
+-- the sink took all of the output: the job is done, or its audit has findings
+abbrev pub IsWritten : ℕ → Type 0
+IsWritten status = (status ≡ 0) ⊎ (status ≡ 8)
+
 -- the job came to its output
 abbrev pub IsDone : ℕ → Type 0
-IsDone status = (status ≡ 0) ⊎ (status ≡ 6)
+IsDone status = IsWritten status ⊎ (status ≡ 6)
 
 -- all of the text; where the sink failed a front of it that is not all; and nothing where the job did not come to its output
 pub record Writes (status : ℕ) (before now : Option (List ℕ)) (text : List ℕ) : Type 0 where
-  pub whole : status ≡ 0 → Appends before now text
+  pub whole : IsWritten status → Appends before now text
   pub front : status ≡ 6 → IsFront before now text
   pub none : (IsDone status → ⊥) → Keeps before now
+
+-- where the status is not 3, no call of the disk failed
+abbrev pub FailsAtThree : (status : ℕ) → (before now : ℕ) → Type 0
+FailsAtThree status before now = (status ≡ 3 → ⊥) → now ≡ before
 
 -- ---- format
 
@@ -97,6 +110,22 @@ pub record Generates (told : Bool) (rules : List Rule) (answers : Answers) (n st
   pub follow : IsTrue told → Follow rules answers formatted turns
   pub settled : IsTrue told → IsDone status → IsSettled (last_of formatted (worlds_of turns)) new
 
+-- ---- an audit
+
+-- what lies on the disk is listed, and what is found of it; over a disk that tells nothing the text is that of some lists
+pub record Audits (told : Bool) (status : ℕ) (before now : Option (List ℕ)) (old new : Medium) : Type 0 where
+  pub elements : List Listed
+  pub findings : List Finding
+  pub elements_are : IsTrue told → elements ≡ elements_at old.image
+  pub findings_are : IsTrue told → findings ≡ findings_at old.image
+  pub output : Writes status before now (audit_text elements findings)
+  -- 8 and not 0 is the status where something is found
+  pub sound : status ≡ 0 → findings ≡ []
+  pub found : status ≡ 8 → findings ≢ []
+  pub stays : ChangesNothing old new
+  pub quiet : IsDone status → Quiet new
+  pub failed : FailsAtThree status old.faults new.faults
+
 -- ---- all jobs
 
 abbrev pub JobDone : (told : Bool) → JobKind → List Rule → Answers → (status : ℕ) → (left_before left_now before now : Option (List ℕ))
@@ -105,11 +134,14 @@ JobDone told Run rules answers status left_before left_now before now old_counts
     runs.Run told rules answers status left_before left_now before now old_counts.source new_counts.source old_counts.sink new_counts.sink old new
 JobDone told Format rules answers status left_before left_now before now old_counts new_counts old new = Formats told status before now new
 JobDone told (Generate n) rules answers status left_before left_now before now old_counts new_counts old new = Generates told rules answers n status before now old new
+JobDone told Audit rules answers status left_before left_now before now old_counts new_counts old new = Audits told status before now old new
 
 -- the statuses that no failure brings
 abbrev pub statuses_of : JobKind → List ℕ
 statuses_of Run = 0 ∷ 2 ∷ 4 ∷ 7 ∷ []
-statuses_of other = 0 ∷ 4 ∷ []
+statuses_of Format = 0 ∷ 4 ∷ []
+statuses_of (Generate n) = 0 ∷ 4 ∷ []
+statuses_of Audit = 0 ∷ 4 ∷ 8 ∷ []
 
 -- the others come only by a failure in this very run: 3 of the disk, 5 of the source, 6 of the sink
 pub data IsCaused (kind : JobKind) (status : ℕ) (old new : Failed) : Type 0 where

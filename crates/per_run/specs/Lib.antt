@@ -1,4 +1,5 @@
 pub mod Words
 pub mod Jobs
 pub mod Steps
+pub mod Flashes
 pub mod Samples

@@ -1,5 +1,5 @@
 -- Samples, computed: words and the jobs that they say, and the summary of a made input.
-use Rattle.std.specs.Prelude.{◌≡◌, [], ◌∷◌, Option, Some, None, codes}
+use Rattle.std.specs.Prelude.{◌≡◌, ℕ, [], ◌∷◌, Option, Some, None, codes}
 use Rattle.std.proofs.Common.{refl}
 use Rattle.std.specs.Fmt.{digits}
 use Rattle.clap.proofs.OnLiterals.{clap_on_literals}
@@ -9,14 +9,18 @@ use Rattle.command_text.specs.declared.replies.Reply.{Reply}
 use Rattle.per_base.specs.declared.errors.PerError.TheVariants as error
 use Rattle.per_run.specs.declared.words.Job.{Job}
 use Rattle.per_run.specs.declared.words.JobKind.{JobKind}
-use Rattle.per_run.specs.declared.words.JobKind.TheVariants.{Run, Format, Generate}
+use Rattle.per_run.specs.declared.words.JobKind.TheVariants.{Run, Format, Generate, Audit}
 use Rattle.per_run.specs.Jobs.{summary}
 use Rattle.per_run.specs.Words.{job_of}
 
 -- ---- words
 
 abbrev job : JobKind → Option Job
-job kind = Some (record { dir = codes "d"; kind = kind })
+job kind = Some (record { dir = codes "d"; kind = kind; flash = None })
+
+-- the same over a flash of so many blocks
+abbrev over_flash : ℕ → JobKind → Option Job
+over_flash blocks kind = Some (record { dir = codes "d"; kind = kind; flash = Some blocks })
 
 plain : job_of (codes "--dir" ∷ codes "d" ∷ []) ≡ job Run
 unfolding job_of clap_on_literals
@@ -49,6 +53,30 @@ both = refl
 twice : job_of (codes "--dir" ∷ codes "d" ∷ codes "--format" ∷ codes "--format" ∷ []) ≡ None
 unfolding job_of clap_on_literals
 twice = refl
+
+audits : job_of (codes "--dir" ∷ codes "d" ∷ codes "--audit" ∷ []) ≡ job Audit
+unfolding job_of clap_on_literals
+audits = refl
+
+least_flash : job_of (codes "--dir" ∷ codes "d" ∷ codes "--flash=+4" ∷ codes "--audit" ∷ []) ≡ over_flash 4 Audit
+unfolding job_of clap_on_literals
+least_flash = refl
+
+largest_flash : job_of (codes "--dir=d" ∷ codes "--flash" ∷ codes "4096" ∷ []) ≡ over_flash 4096 Run
+unfolding job_of clap_on_literals
+largest_flash = refl
+
+too_small : job_of (codes "--dir" ∷ codes "d" ∷ codes "--flash" ∷ codes "3" ∷ []) ≡ None
+unfolding job_of clap_on_literals
+too_small = refl
+
+two_modes : job_of (codes "--dir" ∷ codes "d" ∷ codes "--audit" ∷ codes "--generate" ∷ codes "5" ∷ []) ≡ None
+unfolding job_of clap_on_literals
+two_modes = refl
+
+audited_nowhere : job_of (codes "--dir=" ∷ codes "--audit" ∷ []) ≡ None
+unfolding job_of clap_on_literals
+audited_nowhere = refl
 
 no_folder : job_of (codes "--dir" ∷ []) ≡ None
 unfolding job_of clap_on_literals

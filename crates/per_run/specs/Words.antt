@@ -1,5 +1,5 @@
 -- The words of the command line that are accepted, and the job that they say.
-use Rattle.std.specs.Prelude.{◌==◌, ℕ, List, [], ◌∷◌, length, Bool, true, false, Option, Some, None, option_map, codes, if◌then◌else◌}
+use Rattle.std.specs.Prelude.{◌≡◌, ◌==◌, ℕ, List, [], ◌∷◌, ◌++◌, length, ⊤, Bool, true, false, Option, Some, None, option_map, Result, Ok, Err, codes, if◌then◌else◌}
 use Rattle.std.specs.Str.{bytes_eq}
 use Rattle.std.specs.Str.Parse.{digits_value, without_leading_plus}
 use Rattle.clap.specs.Faults.{fault_of}
@@ -8,59 +8,98 @@ use Rattle.clap.specs.ValueTests.{is_unsigned_in}
 use Rattle.clap.specs.Walk.{Row, Rule, first_of}
 use Rattle.clap.specs.declared.builder.action.ArgAction.{ArgAction}
 use Rattle.clap.specs.declared.builder.action.ArgAction.TheVariants.{Set, SetTrue}
+use Rattle.per_base.specs.Fields.{◌>>=◌, only_if}
 use Rattle.per_run.specs.declared.words.Job.{Job}
 use Rattle.per_run.specs.declared.words.JobKind.{JobKind}
-use Rattle.per_run.specs.declared.words.JobKind.TheVariants.{Run, Format, Generate}
+use Rattle.per_run.specs.declared.words.JobKind.TheVariants.{Run, Format, Generate, Audit}
+use Rattle.per_run.specs.declared.words.WordsError.{WordsError}
+use Rattle.per_run.specs.declared.words.WordsError.TheVariants as words_error
 
 -- ---- the command
 
 abbrev pub named_rule : List ℕ → ArgAction → Rule
 named_rule name action = record (new_rule name) { long = Some name; action = Some action }
 
--- a required option `--dir`, a flag `--format` and an option `--generate`; the words come without the program's name
+-- a required option `--dir`, the flags `--format` and `--audit`, and the options `--generate` and `--flash`; the words come without the
+-- program's name
 abbrev pub command : App
-command = with_rule (with_rule (with_rule (record (new_app (codes "per")) { top = record (new_app (codes "per")).top { no_binary_name = true } })
-    (record (named_rule (codes "dir") Set) { required = true })) (named_rule (codes "format") SetTrue)) (named_rule (codes "generate") Set)
+command = with_rule (with_rule (with_rule (with_rule (with_rule
+    (record (new_app (codes "per")) { top = record (new_app (codes "per")).top { no_binary_name = true } })
+    (record (named_rule (codes "dir") Set) { required = true })) (named_rule (codes "flash") Set)) (named_rule (codes "format") SetTrue))
+    (named_rule (codes "generate") Set)) (named_rule (codes "audit") SetTrue)
 
 -- it has matches for the words
 abbrev pub has_matches : List (List ℕ) → Bool
 has_matches words = length (fault_of command words) == 0
 
--- ---- the job, as the matches say it
+-- ---- the values
 
 -- the flag is set
 abbrev pub is_set : Option (List ℕ) → Bool
 is_set None = false
 is_set (Some value) = bytes_eq value (codes "true")
 
--- a whole number from 1 to 100,000, in front of which a plus may stand
-abbrev pub generate_of : List ℕ → Option JobKind
-generate_of value = if is_unsigned_in 1 100000 value then Some (Generate (digits_value 10 (without_leading_plus value))) else None
+-- a whole number in this range, in front of which a plus may stand
+abbrev pub number_in : (least most : ℕ) → List ℕ → Option ℕ
+number_in least most value = only_if (is_unsigned_in least most value) (digits_value 10 (without_leading_plus value))
 
--- at most one mode is named, and where none is the lines of the input are handled
-abbrev pub kind_by : (formats : Bool) → (number : Option (List ℕ)) → Option JobKind
-kind_by false None = Some Run
-kind_by true None = Some Format
-kind_by false (Some number) = generate_of number
-kind_by true (Some number) = None
+-- ---- the job, as the matches say it
+
+-- the mode of a flag, where it is set
+abbrev pub flagged : JobKind → Bool → List (Option JobKind)
+flagged kind true = Some kind ∷ []
+flagged kind false = []
+
+-- the mode of an option, where it has a value: none where the value says none
+abbrev pub valued : (List ℕ → Option JobKind) → Option (List ℕ) → List (Option JobKind)
+valued mode (Some value) = mode value ∷ []
+valued mode None = []
+
+abbrev pub generate_of : List ℕ → Option JobKind
+generate_of value = option_map Generate (number_in 1 100000 value)
+
+-- the modes that are named
+abbrev pub modes : (formats : Bool) → (generates : Option (List ℕ)) → (audits : Bool) → List (Option JobKind)
+modes formats generates audits = flagged Format formats ++ valued generate_of generates ++ flagged Audit audits
+
+-- at most one is named, and where none is the lines of the input are handled
+abbrev pub only_mode : List (Option JobKind) → Option JobKind
+only_mode [] = Some Run
+only_mode (mode ∷ []) = mode
+only_mode (mode ∷ other ∷ others) = None
 
 abbrev pub kind_in : List Row → Option JobKind
-kind_in rows = kind_by (is_set (first_of (codes "format") rows)) (first_of (codes "generate") rows)
+kind_in rows = only_mode (modes (is_set (first_of (codes "format") rows)) (first_of (codes "generate") rows) (is_set (first_of (codes "audit") rows)))
+
+-- the number of blocks of the flash, where one is named
+abbrev pub flash_of : Option (List ℕ) → Option (Option ℕ)
+flash_of None = Some None
+flash_of (Some value) = option_map Some (number_in 4 4096 value)
 
 -- the folder is there, and not empty
-abbrev pub job_with : (dir : Option (List ℕ)) → Option JobKind → Option Job
-job_with None kind = None
-job_with (Some []) kind = None
-job_with (Some (b ∷ dir)) kind = option_map (λ k. record { dir = b ∷ dir; kind = k }) kind
+abbrev pub dir_of : Option (List ℕ) → Option (List ℕ)
+dir_of None = None
+dir_of (Some []) = None
+dir_of (Some (b ∷ dir)) = Some (b ∷ dir)
 
 abbrev pub job_in : List Row → Option Job
-job_in rows = job_with (first_of (codes "dir") rows) (kind_in rows)
+job_in rows = do
+  kind ← kind_in rows
+  flash ← flash_of (first_of (codes "flash") rows)
+  dir ← dir_of (first_of (codes "dir") rows)
+  Some (record { dir = dir; kind = kind; flash = flash })
 
 -- ---- the job, as the words say it
 
 -- they are accepted exactly where they say one
 unfoldable pub job_of : List (List ℕ) → Option Job
 job_of words = if has_matches words then job_in (matches_of command words) else None
+
+-- what was read is what is said, and what was refused says nothing; where memory ran out it is left open
+abbrev pub Reads : {T : Type 0} → Result T WordsError → (said : Option T) → Type 0
+Reads (Ok x) said = said ≡ Some x
+Reads (Err words_error.Refused) said = said ≡ None
+Reads (Err words_error.OutOfMemory) said = ⊤
 
 -- whether the job reads the input
 abbrev pub reads_input : JobKind → Bool

@@ -45,7 +45,7 @@ pub const DONE: u8 = 0;
 /// The status where the words are refused.
 pub const REFUSED: u8 = 1;
 
-/// The status where the disk failed while the runtime started or the disk was formatted.
+/// The status where the disk failed while the runtime started, or in a job that reads no lines.
 pub const DEVICE: u8 = 3;
 
 /// The status where memory ran out.
@@ -53,3 +53,12 @@ pub const OUT_OF_MEMORY: u8 = 4;
 
 /// The status where the sink failed.
 pub const SINK: u8 = 6;
+
+/// The status where an audit found something, and the sink took all of its text.
+pub const FOUND: u8 = 8;
+
+/// The status where a flash cannot be a disk.
+pub const UNUSABLE: u8 = 10;
+
+/// The status where a flash has too few blocks or too many.
+pub const WRONG_SIZE: u8 = 11;

@@ -5,7 +5,7 @@ ghost use Rattle.disk_model.specs.Medium.{Elapses};
 ghost use Rattle.per_base.specs.Causes.{Rose};
 ghost use Rattle.per_run.specs.Jobs.{Formats};
 
-use crate::endings::{DEVICE, OUT_OF_MEMORY};
+use crate::endings::{DEVICE, DONE, OUT_OF_MEMORY};
 use crate::writing::write_output;
 use deploy::{Stop, format_all};
 use disk_model::Disk;
@@ -20,7 +20,7 @@ pub fn format<D: Disk, K: Sink>(alloc: Global, sink: &mut K, disk: &mut D) -> u8
     ensures time { Elapses (D.medium disk.old) (D.medium disk.new) }
 {
     match format_all(alloc, disk) {
-        Ok(()) => write_output(sink, b"ok\n"),
+        Ok(()) => write_output(sink, b"ok\n", DONE),
         Err(Stop::Device) => DEVICE,
         Err(Stop::OutOfMemory) => OUT_OF_MEMORY,
     }

@@ -11,7 +11,7 @@ ghost use Rattle.per_run.specs.Jobs.{Generates, Writes, summary};
 ghost use Rattle.per_run.specs.Steps.{Counted, Goes, IsBegun, Tallies};
 
 use crate::answering::{Outcome, answer_line};
-use crate::endings::{DEVICE, OUT_OF_MEMORY};
+use crate::endings::{DEVICE, DONE, OUT_OF_MEMORY};
 use crate::tally::Tally;
 use crate::writing::write_output;
 use command_text::{first_lines, generated_line, last_lines, next_number};
@@ -88,7 +88,7 @@ fn write_summary<K: Sink>(alloc: Global, number: u32, tally: &Tally, sink: &mut 
     ensures status { (result ≡ 0) ⊎ ((result ≡ 4) ⊎ ((result ≡ 6) × Rose (K.faults sink.old) (K.faults sink.new))) }
 {
     match tally.summary(alloc, u64::from(number) + 5) {
-        Ok(text) => write_output(sink, text.as_bytes()),
+        Ok(text) => write_output(sink, text.as_bytes(), DONE),
         Err(_) => OUT_OF_MEMORY,
     }
 }

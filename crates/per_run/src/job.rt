@@ -10,6 +10,7 @@ ghost use Rattle.per_run.specs.Steps.{IsInRange};
 ghost use Rattle.per_run.specs.Words.{job_of, reads_input};
 ghost use Rattle.per_run.specs.declared.words.JobKind.{JobKind};
 
+use crate::auditing::audit_disk;
 use crate::endings::{OUT_OF_MEMORY, REFUSED};
 use crate::formatting::format;
 use crate::generating::generate;
@@ -26,14 +27,15 @@ use std::alloc::Global;
 ///
 /// | status | comes |
 /// |---|---|
-/// | 0 | the job is done: the input was read to its end or to the line `end`, the disk is formatted, or the made input is handled; and all output is written |
+/// | 0 | the job is done: the input was read to its end or to the line `end`, the disk is formatted, the made input is handled, or nothing was found; and all output is written |
 /// | 1 | only where the words are refused; nothing was read or written |
 /// | 2 | the line `bad-line N` says is outside the grammar; all lines before it were handled and answered |
-/// | 3 | the disk failed while the runtime started or the disk was formatted |
+/// | 3 | the disk failed while the runtime started, or in a job that handles no lines |
 /// | 4 | memory ran out |
 /// | 5 | the source failed; all whole lines before were handled and answered |
 /// | 6 | the sink failed; what it took is a front of the output |
 /// | 7 | 67,108,864 bytes were taken, and neither `end` nor the end of the input was among them |
+/// | 8 | an audit found something; what it is is written |
 pub fn per_run<D: Disk, S: Source, K: Sink>(
     alloc: Global,
     words: &[String],
@@ -74,7 +76,7 @@ pub fn per_run<D: Disk, S: Source, K: Sink>(
 }
 
 /// Does a job.
-fn run_job<D: Disk, S: Source, K: Sink>(
+pub fn run_job<D: Disk, S: Source, K: Sink>(
     alloc: Global,
     kind: JobKind,
     migrations: &Migrations,
@@ -98,5 +100,6 @@ fn run_job<D: Disk, S: Source, K: Sink>(
         JobKind::Run => run(alloc, migrations, source, sink, disk),
         JobKind::Format => format(alloc, sink, disk),
         JobKind::Generate(number) => generate(alloc, number, migrations, sink, disk),
+        JobKind::Audit => audit_disk(alloc, sink, disk),
     }
 }

@@ -3,6 +3,7 @@
 //! [`per_run`] reads the words of the command line and does the job that they say. The job of plain words starts the runtime and
 //! handles the lines of a source one by one, each with its reply to a sink, until the input ends, a line is outside the grammar, or
 //! something fails. `--format` formats the disk, and `--generate N` does that and then handles a large input that is made of a number.
+//! `--audit` lists what lies on the disk and finds what is damaged or lost, and mends nothing.
 //! The contract says what every status means: which lines were handled, what was written, what the disk then stands for, what a stop
 //! at any moment leaves, and that a failure of the disk, the source or the sink ends the program only where its count of faults rose.
 //!
@@ -11,9 +12,12 @@
 #![tactic(auto)]
 
 mod answering;
+mod auditing;
 mod endings;
+mod flash;
 mod formatting;
 mod generating;
+mod input;
 mod job;
 mod reader;
 mod run;
@@ -21,5 +25,6 @@ mod tally;
 mod words;
 mod writing;
 
+pub use flash::{FlashRun, per_flash};
 pub use job::per_run;
 pub use words::{Job, JobKind, WordsError, read_words};

@@ -1,30 +1,24 @@
 //! The job that handles the lines of the source.
 
-ghost use Rattle.std.specs.Prelude.{◌≡◌, ◌<◌, ◌≤◌, ℕ, List, [], Option, MatchResult, IfOk, length, take, vec_len};
-ghost use Rattle.std.specs.Io.KnownBytes.{Consumes, IsAtEnd, Keeps};
+ghost use Rattle.std.specs.Prelude.{◌≡◌, ◌<◌, ℕ, List, [], Option, length};
 ghost use Rattle.disk_model.specs.Medium.{Elapses};
 ghost use Rattle.migrate_fns.specs.Stored.{answers_of, rules_of};
-ghost use Rattle.per_base.specs.Causes.{HasCause, Rose};
+ghost use Rattle.per_base.specs.Causes.{Rose};
 ghost use Rattle.run_model.specs.AppLaws.{AppLaws};
 ghost use Rattle.run_model.specs.Runs.{Run};
 ghost use Rattle.per_runtime.specs.Memories.{IsRuntime, memory_of};
 ghost use Rattle.per_run.specs.Steps.{Blamed, Handled, Ran, Reached};
 
 use crate::endings::{DEVICE, Ending, OUT_OF_MEMORY};
+use crate::input::{INPUT_BYTES, PIECE_BYTES, read_piece, zeros};
 use crate::reader::{Reader, feed, finish};
 use deploy::Stop;
 use disk_model::Disk;
 use migrate_fns::Migrations;
-use per_base::{Failed, Sink, Source};
+use per_base::{Sink, Source};
 use per_runtime::{Runtime, start};
 use run_model::applications_stand;
-use std::alloc::{AllocError, Global};
-
-/// The greatest number of bytes of an input.
-const INPUT_BYTES: usize = 67_108_864;
-
-/// How many bytes are read at once.
-const PIECE_BYTES: usize = 65_536;
+use std::alloc::Global;
 
 /// Starts the runtime and handles the lines of the source, each with its reply to the sink.
 pub fn run<D: Disk, S: Source, K: Sink>(
@@ -110,26 +104,4 @@ fn read_all<D: Disk, S: Source, K: Sink>(
         }
     }
     Ending::TooLong
-}
-
-/// Reads at most as many bytes as there is room for.
-fn read_piece<S: Source>(source: &mut S, buffer: &mut [u8], room: usize) -> Result<usize, Failed>
-    requires some { 0 < room }
-    requires within { room ≤ length buffer.old }
-    ensures bound { IfOk result (λ count. count ≤ room) }
-    ensures bytes { MatchResult result (λ count. Consumes (S.left source.old) (S.left source.new) (take count buffer.new)
-        × (count ≡ 0 → IsAtEnd (S.left source.new))) (λ _. Keeps (S.left source.old) (S.left source.new)) }
-    ensures cause { HasCause (S.faults source.old) (S.faults source.new) result }
-{
-    match source.read(&mut buffer[..room]) {
-        Ok(count) => Ok(count),
-        Err(failed) => Err(failed),
-    }
-}
-
-/// So many zero bytes.
-fn zeros(alloc: Global, count: usize) -> Result<Vec<u8>, AllocError>
-    ensures { IfOk result (λ bytes. vec_len bytes ≡ count) }
-{
-    vec![in alloc; 0; count]
 }

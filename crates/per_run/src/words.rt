@@ -1,9 +1,10 @@
 //! The words of the command line.
 
-ghost use Rattle.std.specs.Prelude.{◌≡◌, ◌≢◌, ◌&&◌, Some, None, IfOk, map, nat_le, option_map, string_bytes};
-ghost use Rattle.clap.specs.Words.{app_of, found_of, kind_of, rows_of};
+ghost use Rattle.std.specs.Prelude.{◌≡◌, ◌≢◌, Some, None, IfOk, false, map, option_map, string_bytes};
+ghost use Rattle.clap.specs.Words.{app_of, found_of, kind_of, rows_of, rule_of};
 ghost use Rattle.clap.specs.declared.error.kind.ErrorKind.{ErrorKind};
-ghost use Rattle.per_run.specs.Words.{command, generate_of, is_set, job_in, job_of, job_with, kind_by, kind_in};
+ghost use Rattle.clap.specs.declared.builder.action.ArgAction.TheVariants.{Set, SetTrue};
+ghost use Rattle.per_run.specs.Words.{Reads, command, dir_of, flash_of, generate_of, is_set, job_in, job_of, kind_in, modes, named_rule, number_in, only_mode};
 
 use clap::error::ErrorKind;
 use clap::{Arg, ArgAction, ArgMatches, Command, Error};
@@ -17,6 +18,8 @@ pub struct Job {
     /// The folder of the disk; it is not empty.
     pub dir: ValueText,
     pub kind: JobKind,
+    /// How many blocks the flash has, 4 to 4096, where the disk is one over a flash.
+    pub flash: Option<u32>,
 }
 
 /// The kinds of job.
@@ -28,15 +31,28 @@ pub enum JobKind {
     Format,
     /// The disk is formatted, and a large input that is made of this number, 1 to 100,000, is handled.
     Generate(u32),
+    /// What all storages hold is listed, and what is damaged or lost, and nothing is mended.
+    Audit,
 }
 
 /// Why the words give no job.
 #[derive(Clone, Copy, Debug, PartialEq, Eq, ThisError)]
 pub enum WordsError {
-    #[error("the words are `--dir` with a folder, and `--format` or `--generate` with a number from 1 to 100000 or neither")]
+    #[error("the words are `--dir` with a folder, at most one mode, and `--flash` with a number from 4 to 4096 or not")]
     Refused,
     #[error("memory ran out")]
     OutOfMemory,
+}
+
+impl From<AllocError> for WordsError {
+    ghost use Rattle.std.specs.Prelude.{◌≡◌};
+    ghost use Rattle.per_run.specs.declared.words.WordsError.TheVariants.{OutOfMemory};
+
+    ghost from_gives = { λ _ e. e ≡ OutOfMemory };
+
+    fn from(_error: AllocError) -> WordsError {
+        WordsError::OutOfMemory
+    }
 }
 
 /// The job that the words after the program's name say.
@@ -59,21 +75,29 @@ pub fn read_words(alloc: Global, words: &[String]) -> Result<Job, WordsError>
 fn command<'a>(alloc: Global) -> Result<Command<'a>, AllocError>
     ensures { IfOk result (λ c. app_of c ≡ command) }
 {
-    let dir = Arg::new(alloc, "dir")
-        .long("dir")
-        .action(ArgAction::Set)
-        .required(true);
-    let format = Arg::new(alloc, "format")
-        .long("format")
-        .action(ArgAction::SetTrue);
-    let generate = Arg::new(alloc, "generate")
-        .long("generate")
-        .action(ArgAction::Set);
     Command::new(alloc, "per")
         .no_binary_name(true)
-        .arg(dir)?
-        .arg(format)?
-        .arg(generate)
+        .arg(option(alloc, "dir").required(true))?
+        .arg(option(alloc, "flash"))?
+        .arg(flag(alloc, "format"))?
+        .arg(option(alloc, "generate"))?
+        .arg(flag(alloc, "audit"))
+}
+
+/// An option of this name, with one value.
+fn option<'a>(alloc: Global, name: &'a str) -> Arg<'a>
+    ensures rule { rule_of result ≡ named_rule name.now Set }
+    ensures global { result.global ≡ false }
+{
+    Arg::new(alloc, name).long(name).action(ArgAction::Set)
+}
+
+/// A flag of this name.
+fn flag<'a>(alloc: Global, name: &'a str) -> Arg<'a>
+    ensures rule { rule_of result ≡ named_rule name.now SetTrue }
+    ensures global { result.global ≡ false }
+{
+    Arg::new(alloc, name).long(name).action(ArgAction::SetTrue)
 }
 
 /// Why the words have no matches.
@@ -88,57 +112,36 @@ fn error_of(error: &Error) -> WordsError
 
 /// The job that the matches say.
 fn job_in(alloc: Global, matches: &ArgMatches<'_>) -> Result<Job, WordsError>
-    ensures job { IfOk result (λ job. job_in (rows_of (found_of matches.now)) ≡ Some job) }
-    ensures refused { result ≡ Err WordsError.Refused → job_in (rows_of (found_of matches.now)) ≡ None }
+    ensures { Reads result (job_in (rows_of (found_of matches.now))) }
 {
-    let kind = kind_in(matches);
-    job_with(alloc, matches.get_str("dir"), kind)
-}
-
-/// The job in a folder, where there is one that is not empty, of a kind, where there is one.
-fn job_with(alloc: Global, dir: Option<&str>, kind: Option<JobKind>) -> Result<Job, WordsError>
-    ensures job { IfOk result (λ job. job_with (option_map (λ text. text.now) dir.entry) kind ≡ Some job) }
-    ensures refused { result ≡ Err WordsError.Refused → job_with (option_map (λ text. text.now) dir.entry) kind ≡ None }
-{
-    let Some(kind) = kind else {
-        return Err(WordsError::Refused);
-    };
-    match dir {
-        Some("") | None => Err(WordsError::Refused),
-        Some(dir) => new_job(alloc, dir, kind),
-    }
-}
-
-fn new_job(alloc: Global, dir: &str, kind: JobKind) -> Result<Job, WordsError>
-    ensures job { IfOk result (λ job. job ≡ record { dir = dir.now; kind = kind }) }
-    ensures memory { result ≡ Err WordsError.Refused → ⊥ }
-{
-    match String::from_str(alloc, dir) {
-        Ok(dir) => Ok(Job {
-            dir: ValueText::new(dir),
-            kind,
-        }),
-        Err(_) => Err(WordsError::OutOfMemory),
-    }
+    Ok(Job {
+        kind: kind_in(matches)?,
+        flash: flash_of(matches.get_str("flash"))?,
+        dir: dir_of(alloc, matches.get_str("dir"))?,
+    })
 }
 
 /// The kind of job that the matches say.
-fn kind_in(matches: &ArgMatches<'_>) -> Option<JobKind>
-    ensures { result ≡ kind_in (rows_of (found_of matches.now)) }
+fn kind_in(matches: &ArgMatches<'_>) -> Result<JobKind, WordsError>
+    ensures { Reads result (kind_in (rows_of (found_of matches.now))) }
 {
-    let formats = is_set(matches.get_str("format"));
-    kind_by(formats, matches.get_str("generate"))
+    only_mode(
+        is_set(matches.get_str("format")),
+        matches.get_str("generate"),
+        is_set(matches.get_str("audit")),
+    )
 }
 
 /// At most one mode is named, and where none is the lines of the input are handled.
-fn kind_by(formats: bool, number: Option<&str>) -> Option<JobKind>
-    ensures { result ≡ kind_by formats (option_map (λ text. text.now) number.entry) }
+fn only_mode(formats: bool, generates: Option<&str>, audits: bool) -> Result<JobKind, WordsError>
+    ensures { Reads result (only_mode (modes formats (option_map (λ text. text.now) generates.entry) audits)) }
 {
-    match (formats, number) {
-        (false, None) => Some(JobKind::Run),
-        (true, None) => Some(JobKind::Format),
-        (false, Some(number)) => generate_of(number),
-        (true, Some(_)) => None,
+    match (formats, generates, audits) {
+        (false, None, false) => Ok(JobKind::Run),
+        (true, None, false) => Ok(JobKind::Format),
+        (false, Some(number), false) => generate_of(number),
+        (false, None, true) => Ok(JobKind::Audit),
+        _ => Err(WordsError::Refused),
     }
 }
 
@@ -153,23 +156,38 @@ fn is_set(value: Option<&str>) -> bool
 }
 
 /// The number is a whole one from 1 to 100,000.
-fn generate_of(text: &str) -> Option<JobKind>
-    ensures { result ≡ generate_of text.now }
+fn generate_of(text: &str) -> Result<JobKind, WordsError>
+    ensures { Reads result (generate_of text.now) }
 {
-    match text.parse::<u32>() {
-        Ok(number) => {
-            if is_in_range(number) {
-                Some(JobKind::Generate(number))
-            } else {
-                None
-            }
-        }
-        Err(_) => None,
+    Ok(JobKind::Generate(number_in(1, 100_000, text)?))
+}
+
+/// How many blocks the flash has, where one is named: 4 to 4096.
+fn flash_of(value: Option<&str>) -> Result<Option<u32>, WordsError>
+    ensures { Reads result (flash_of (option_map (λ text. text.now) value.entry)) }
+{
+    match value {
+        Some(text) => Ok(Some(number_in(4, 4096, text)?)),
+        None => Ok(None),
     }
 }
 
-fn is_in_range(number: u32) -> bool
-    ensures { result ≡ (nat_le 1 number && nat_le number 100000) }
+/// A folder that is not empty.
+fn dir_of(alloc: Global, value: Option<&str>) -> Result<ValueText, WordsError>
+    ensures { Reads result (dir_of (option_map (λ text. text.now) value.entry)) }
 {
-    number >= 1 && number <= 100_000
+    match value {
+        Some("") | None => Err(WordsError::Refused),
+        Some(dir) => Ok(ValueText::new(String::from_str(alloc, dir)?)),
+    }
+}
+
+/// A whole number in this range.
+fn number_in(least: u32, most: u32, text: &str) -> Result<u32, WordsError>
+    ensures { Reads result (number_in least most text.now) }
+{
+    match text.parse::<u32>() {
+        Ok(number) if least <= number && number <= most => Ok(number),
+        _ => Err(WordsError::Refused),
+    }
 }

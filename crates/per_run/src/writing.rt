@@ -3,10 +3,10 @@
 ghost use Rattle.std.specs.Prelude.{◌≡◌, ◌⊎◌, ◌≤◌, ℕ, List, OnOk, OnErr, IfOk};
 ghost use Rattle.std.specs.Io.KnownBytes.{Appends};
 ghost use Rattle.per_base.specs.Causes.{HasCause, Rose};
-ghost use Rattle.per_run.specs.Jobs.{IsFront, Writes};
+ghost use Rattle.per_run.specs.Jobs.{IsFront, IsWritten, Writes};
 ghost use Rattle.per_run.specs.Steps.{Blames, Puts};
 
-use crate::endings::{DONE, Ending, SINK};
+use crate::endings::{Ending, OUT_OF_MEMORY, SINK};
 use per_base::{Failed, Sink};
 use std::alloc::AllocError;
 
@@ -41,14 +41,27 @@ pub fn write_made<K: Sink>(sink: &mut K, made: Result<Vec<u8>, AllocError>) -> R
     }
 }
 
-/// Hands the whole output of a job to the sink, and gives the status of the program.
-pub fn write_output<K: Sink>(sink: &mut K, text: &[u8]) -> u8
+/// Hands the whole output of a job to the sink, and gives the status of the program, which is `done` where the sink took all.
+pub fn write_output<K: Sink>(sink: &mut K, text: &[u8], done: u8) -> u8
+    requires { IsWritten done }
     ensures output { Writes result (K.written sink.old) (K.written sink.new) text.now }
-    ensures status { (result ≡ 0) ⊎ ((result ≡ 6) × Rose (K.faults sink.old) (K.faults sink.new)) }
+    ensures status { (result ≡ done) ⊎ ((result ≡ 6) × Rose (K.faults sink.old) (K.faults sink.new)) }
     ensures later { K.faults sink.old ≤ K.faults sink.new }
 {
     match write_all(sink, text) {
-        Ok(()) => DONE,
+        Ok(()) => done,
         Err(_) => SINK,
+    }
+}
+
+/// The same of an output that was made, where there was memory for it.
+pub fn write_made_output<K: Sink>(sink: &mut K, made: Result<Vec<u8>, AllocError>, done: u8) -> u8
+    requires { IsWritten done }
+    ensures output { (text : List ℕ) → IfOk made (λ bytes. bytes.items ≡ text) → Writes result (K.written sink.old) (K.written sink.new) text }
+    ensures status { (result ≡ done) ⊎ ((result ≡ 4) ⊎ ((result ≡ 6) × Rose (K.faults sink.old) (K.faults sink.new))) }
+{
+    match made {
+        Ok(text) => write_output(sink, text.as_slice(), done),
+        Err(_) => OUT_OF_MEMORY,
     }
 }

@@ -26,12 +26,21 @@ impl Asked {
     }
 }
 
-/// A call of the system that failed: what was asked, of which file of the folder, and why it failed.
+/// Of which part of a folder it was asked.
+#[derive(Clone, Copy, Debug, PartialEq, Eq)]
+pub enum Part {
+    Folder,
+    /// The file of this number of a disk.
+    File(u32),
+    /// The file of a flash.
+    Flash,
+}
+
+/// A call of the system that failed: what was asked, of which part of the folder, and why it failed.
 #[derive(Clone, Copy, Debug)]
 pub struct Failure {
     pub asked: Asked,
-    /// The number of the file; none for the folder itself.
-    pub file: Option<u32>,
+    pub part: Part,
     pub error: io::Error,
 }
 
@@ -39,9 +48,10 @@ impl fmt::Display for Failure {
     fn fmt<W: fmt::Write>(&self, f: &mut fmt::Formatter<W>) -> fmt::Result {
         let asked = self.asked.words();
         let error = self.error;
-        match self.file {
-            Some(number) => write!(f, "{asked} file f{number}: {error}"),
-            None => write!(f, "{asked} the folder: {error}"),
+        match self.part {
+            Part::Folder => write!(f, "{asked} the folder: {error}"),
+            Part::File(number) => write!(f, "{asked} file f{number}: {error}"),
+            Part::Flash => write!(f, "{asked} file flash: {error}"),
         }
     }
 }

@@ -2,7 +2,7 @@
 
 ghost use Rattle.std.specs.Prelude.{◌≤◌, IfOk, length};
 
-use crate::failures::{Asked, Failure};
+use crate::failures::{Asked, Failure, Part};
 use crate::pieces::Piece;
 use disk_model::{Disk, DiskFailed};
 use std::alloc::{AllocError, Global};
@@ -193,7 +193,7 @@ impl<'a, R: Files<File = File>> Folder<'a, R> {
         if self.is_grown {
             sync_folder(self.rt, self.dir.as_str()).map_err(|error| Failure {
                 asked: Asked::Sync,
-                file: None,
+                part: Part::Folder,
                 error,
             })?;
             self.is_grown = false;
@@ -309,7 +309,7 @@ impl<'a, R: Files<File = File>> Folder<'a, R> {
 fn failed(asked: Asked, number: u32, error: io::Error) -> Failure {
     Failure {
         asked,
-        file: Some(number),
+        part: Part::File(number),
         error,
     }
 }
@@ -324,7 +324,7 @@ fn path_of(alloc: Global, dir: &str, number: u32) -> Result<String, AllocError> 
 }
 
 /// As many bytes as the file has from here on, and at most as many as there is room for.
-fn read_from(file: &File, at: u64, out: &mut [u8]) -> io::Result<usize>
+pub(crate) fn read_from(file: &File, at: u64, out: &mut [u8]) -> io::Result<usize>
     ensures { IfOk result (λ count. count ≤ length out.new) }
 {
     let mut count = 0;
@@ -342,6 +342,6 @@ fn read_from(file: &File, at: u64, out: &mut [u8]) -> io::Result<usize>
     Ok(count)
 }
 
-fn sync_folder<R: Files<File = File>>(rt: &R, dir: &str) -> io::Result<()> {
+pub(crate) fn sync_folder<R: Files<File = File>>(rt: &R, dir: &str) -> io::Result<()> {
     File::open(rt, dir)?.sync_all()
 }

@@ -1,4 +1,4 @@
-//! The three ends that tie the engine to a system: a folder as a disk, a reader as a source, a writer as a sink.
+//! The ends that tie the engine to a system: a folder as a disk, a file of a folder as a flash, a reader as a source, a writer as a sink.
 //!
 //! Each meets its trait: it fails only where its count of failures rises, and it neither panics nor hangs in code of its own. None
 //! tells what it holds, since no contract can say what a file gives: over these ends the causes of failures and the safety of every
@@ -6,10 +6,12 @@
 #![tactic(auto)]
 
 mod failures;
+mod flash_file;
 mod folder;
 mod pieces;
 mod standard;
 
-pub use failures::{Asked, Failure};
+pub use failures::{Asked, Failure, Part};
+pub use flash_file::DirFlash;
 pub use folder::DirDisk;
 pub use standard::{StdSink, StdSource};

@@ -1,8 +1,9 @@
 //! The bytes of a disk: kept to begin from once more, and damaged.
 
+use crate::rows::parted;
 use disk_model::{Disk, DiskFailed, MemDisk};
 use std::alloc::{AllocError, Global};
-use test_rows::{RowError, number};
+use test_rows::{RowError, number, spelled_bytes};
 
 /// All files of the eight applications.
 const FILES: u32 = 32_768;
@@ -55,6 +56,15 @@ pub(crate) fn flip(alloc: Global, disk: &mut MemDisk, files: &str) -> Result<(),
     for file in files.split(',') {
         complement(alloc, disk, number(file)?)?;
     }
+    disk.sync().map_err(unasked)
+}
+
+/// `FILE BYTES`: the file begins with these bytes.
+pub(crate) fn put(alloc: Global, disk: &mut MemDisk, row: &str) -> Result<(), RowError> {
+    let (file, bytes) = parted(row, " ");
+    let bytes = spelled_bytes(alloc, bytes)?;
+    disk.write_at(number(file)?, 0, bytes.as_slice())
+        .map_err(unasked)?;
     disk.sync().map_err(unasked)
 }
 

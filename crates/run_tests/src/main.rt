@@ -3,15 +3,18 @@
 //! | row | what it does, and what is printed behind it |
 //! |---|---|
 //! | `disk empty`, `disk formatted` | begins with a new disk, whose files are all empty, or on which `--format` ran |
-//! | `$NAME = TEXT` | a text; a row whose last word is `$NAME` has the text in its place |
+//! | `$NAME = TEXT` | a text, in which a part and its count may stand between backquotes; a row whose last word is `$NAME` has the text in its place |
 //! | `> LINE`, `>COUNT LINE` | a line of the next run, or as many, with the number of each for `#`; the run prints each reply behind its line as `< REPLY`, or `<COUNT REPLY` where replies are the same |
 //! | `>- LINE` | a line without a line feed |
-//! | `run`, `run WORDS` | runs the program with `--dir d` or these words; `= STATUS` |
+//! | `>hex DIGITS` | bytes of the input, in two digits each |
+//! | `run`, `run WORDS` | runs the program with `--dir d` or these words; `= STATUS`. An output that is no text is shown as `<- hex DIGITS` |
 //! | `fail start`, `fail disk`, `stop disk` | the first call of the disk fails in the next run; among lines, the next one, or every one from here on |
 //! | `fail source N`, `fail sink N` | the call of this number fails in the next run, counted from 0 |
 //! | `flip FILE,..` | between two runs: each byte of these files becomes its complement |
+//! | `put FILE hex DIGITS` | between two runs: the file begins with these bytes, behind which it stays |
 //! | `? LINE` | a line that looks at what is left, for one of the rows below |
-//! | `stops`, `failures`, `cuts` | the lines so far: stopped after each call of the disk; each call of the disk failing alone; each call of the source and of the sink failing alone. `Script` says what is expected |
+//! | `stops`, `stops WORDS` | the lines so far, in a run with `--dir d` or these words, stopped after each call of the disk. `Script` says what is expected |
+//! | `failures`, `cuts` | the lines so far, with each call of the disk failing alone; with each call of the source and of the sink failing alone |
 //! | `folder CASE`, `streams TEXT` | the ends of the program on a system |
 //! | any other | nothing |
 //!

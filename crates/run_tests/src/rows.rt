@@ -1,7 +1,7 @@
 //! What rows say.
 
 use std::alloc::{AllocError, Global};
-use test_rows::{RowError, number};
+use test_rows::{RowError, number, spelled, spelled_bytes};
 
 /// A line that a row gives to the program.
 #[derive(Clone, Copy)]
@@ -9,8 +9,18 @@ pub(crate) struct Line<'a> {
     /// How often it comes.
     pub(crate) count: u32,
     pub(crate) text: &'a str,
-    /// Whether it ends in a line feed.
-    pub(crate) is_ended: bool,
+    pub(crate) form: Form,
+}
+
+/// How a line is spelled.
+#[derive(Clone, Copy, PartialEq, Eq)]
+pub(crate) enum Form {
+    /// As a text behind which a line feed comes.
+    Ended,
+    /// As a text alone.
+    Open,
+    /// As the digits of bytes.
+    Digits,
 }
 
 impl<'a> Line<'a> {
@@ -29,11 +39,11 @@ pub(crate) struct Named {
 
 impl Named {
     /// The text that a row `$NAME = TEXT` names; none where it is no such row.
-    pub(crate) fn of_row(alloc: Global, row: &str) -> Result<Option<Named>, AllocError> {
+    pub(crate) fn of_row(alloc: Global, row: &str) -> Result<Option<Named>, RowError> {
         match row.split_once(" = ") {
             Some((name, text)) if name.starts_with('$') => Ok(Some(Named {
                 name: String::from_str(alloc, name)?,
-                text: String::from_str(alloc, text)?,
+                text: spelled(alloc, text)?,
             })),
             _ => Ok(None),
         }
@@ -54,24 +64,13 @@ pub(crate) fn line_of(row: &str) -> Result<Option<Line<'_>>, RowError> {
         return Ok(None);
     };
     let (count, text) = parted(rest, " ");
-    let line = match count {
-        "" => Line {
-            count: 1,
-            text,
-            is_ended: true,
-        },
-        "-" => Line {
-            count: 1,
-            text,
-            is_ended: false,
-        },
-        _ => Line {
-            count: number(count)?,
-            text,
-            is_ended: true,
-        },
+    let (count, form) = match count {
+        "" => (1, Form::Ended),
+        "-" => (1, Form::Open),
+        "hex" => (1, Form::Digits),
+        _ => (number(count)?, Form::Ended),
     };
-    Ok(Some(line))
+    Ok(Some(Line { count, text, form }))
 }
 
 /// The input that the lines of rows make, with texts in the places of their names.
@@ -79,8 +78,8 @@ pub(crate) fn input_of(
     alloc: Global,
     texts: &[Named],
     rows: &[String],
-) -> Result<String, RowError> {
-    let mut input = String::new(alloc);
+) -> Result<Vec<u8>, RowError> {
+    let mut input = Vec::new(alloc);
     for row in rows {
         if let Some(line) = line_of(row.as_str())? {
             push_line(alloc, &mut input, texts, line)?;
@@ -90,44 +89,59 @@ pub(crate) fn input_of(
 }
 
 /// Appends a line, as often as it comes.
-fn push_line(
+pub(crate) fn push_line(
     alloc: Global,
-    input: &mut String,
+    input: &mut Vec<u8>,
     texts: &[Named],
     line: Line<'_>,
-) -> Result<(), AllocError> {
+) -> Result<(), RowError> {
     let mut text = told(alloc, texts, line.text)?;
-    if line.count == 1 {
-        input.push_str(text.as_str())?;
-        if line.is_ended {
-            input.push('\n')?;
+    match line.form {
+        Form::Digits => {
+            let digits = format!(in alloc; "hex {text}")?;
+            let bytes = spelled_bytes(alloc, digits.as_str())?;
+            input.extend_from_slice(bytes.as_slice())?;
         }
-        return Ok(());
-    }
-    if !text.as_str().contains('#') {
-        text.push('\n')?;
-        let lines = text.as_str().repeat(alloc, line.count as usize)?;
-        return input.push_str(lines.as_str());
-    }
-    for place in 0..line.count {
-        push_numbered(input, text.as_str(), u64::from(place) + 1)?;
+        Form::Open => input.extend_from_slice(text.as_bytes())?,
+        Form::Ended => {
+            text.push('\n')?;
+            push_often(alloc, input, text.as_str(), line.count)?;
+        }
     }
     Ok(())
 }
 
-/// Appends a line with a number in the place of each `#`.
-fn push_numbered(input: &mut String, text: &str, number: u64) -> Result<(), AllocError> {
+/// Appends a text so often, with its number in the place of each `#` where it comes more than once.
+fn push_often(
+    alloc: Global,
+    input: &mut Vec<u8>,
+    text: &str,
+    count: u32,
+) -> Result<(), AllocError> {
+    if count == 1 || !text.contains('#') {
+        let lines = text.repeat(alloc, count as usize)?;
+        return input.extend_from_slice(lines.as_bytes());
+    }
+    let mut lines = String::new(alloc);
+    for place in 0..count {
+        push_numbered(&mut lines, text, u64::from(place) + 1)?;
+    }
+    input.extend_from_slice(lines.as_bytes())
+}
+
+/// Appends a text with a number in the place of each `#`.
+fn push_numbered(lines: &mut String, text: &str, number: u64) -> Result<(), AllocError> {
     for (place, piece) in text.split('#').enumerate() {
         if place > 0 {
-            write!(input, "{number}")?;
+            write!(lines, "{number}")?;
         }
-        input.push_str(piece)?;
+        lines.push_str(piece)?;
     }
-    input.push('\n')
+    Ok(())
 }
 
 /// A line with the text in the place of its last word, where that is a name of one.
-pub(crate) fn told(alloc: Global, texts: &[Named], line: &str) -> Result<String, AllocError> {
+fn told(alloc: Global, texts: &[Named], line: &str) -> Result<String, AllocError> {
     if let Some((front, name)) = line.rsplit_once(' ') {
         for named in texts {
             if named.name.as_str() == name {

@@ -35,6 +35,7 @@ impl Failing {
 #[derive(Drop)]
 pub(crate) struct Ran {
     pub(crate) status: u8,
+    /// The text that was written; of bytes that are no text `hex` and their digits.
     pub(crate) output: String,
 }
 
@@ -43,34 +44,37 @@ pub(crate) fn run<D: Disk>(
     alloc: Global,
     words: &str,
     migrations: &Migrations,
-    input: String,
+    input: Vec<u8>,
     failing: Failing,
     disk: &mut D,
 ) -> Result<Ran, AllocError> {
     let words = words_of(alloc, words)?;
-    let mut source = MemSource::new(input.into_bytes(), SOURCE_PIECE as u64, failing.source);
+    let mut source = MemSource::new(input, SOURCE_PIECE as u64, failing.source);
     let mut sink = MemSink::new(alloc, SINK_PIECE, failing.sink);
     let status = per_run(alloc, &words, migrations, &mut source, &mut sink, disk);
-    let output = String::from_utf8_lossy(alloc, sink.bytes())?;
+    let output = shown(alloc, sink.bytes())?;
     Ok(Ran { status, output })
 }
 
-/// Runs the program over this input, with no word but the folder's and no failing stream.
-pub(crate) fn run_lines<D: Disk>(
+/// Runs the program with these words over this input, where no stream fails.
+pub(crate) fn run_over<D: Disk>(
     alloc: Global,
+    words: &str,
     migrations: &Migrations,
-    input: &str,
+    input: &[u8],
     disk: &mut D,
 ) -> Result<Ran, AllocError> {
-    let input = String::from_str(alloc, input)?;
-    run(
-        alloc,
-        "--dir d",
-        migrations,
-        input,
-        Failing::none(alloc),
-        disk,
-    )
+    let input = Vec::from_slice(alloc, input)?;
+    run(alloc, words, migrations, input, Failing::none(alloc), disk)
+}
+
+/// What is shown of the bytes that were written.
+fn shown(alloc: Global, bytes: &[u8]) -> Result<String, AllocError> {
+    if let Ok(text) = str::from_utf8(bytes) {
+        return String::from_str(alloc, text);
+    }
+    let digits = hex::encode(alloc, bytes)?;
+    format!(in alloc; "hex {digits}")
 }
 
 fn words_of(alloc: Global, text: &str) -> Result<Vec<String>, AllocError> {

@@ -2,13 +2,16 @@
 
 use crate::counting::Counting;
 use crate::images::Snapshot;
-use crate::rows::{Named, line_of, told};
-use crate::runs::{Failing, Ran, SOURCE_PIECE, run, run_lines};
+use crate::rows::{Named, line_of, push_line};
+use crate::runs::{Failing, Ran, SOURCE_PIECE, run, run_over};
 use crate::transcripts::answers;
-use disk_model::MemDisk;
+use disk_model::{Disk, MemDisk};
 use migrate_fns::Migrations;
 use std::alloc::{AllocError, Global};
 use test_rows::RowError;
+
+/// The words of a run that reads lines.
+pub(crate) const PLAIN: &str = "--dir d";
 
 /// No script makes so many calls of a disk or of a stream.
 const ENOUGH: u64 = 100_000;
@@ -42,30 +45,34 @@ impl Restart {
     }
 }
 
-/// Lines on a disk, and lines that look at what is left of it in a new run.
+/// Lines on a disk, or the input of another job, and lines that look at what is left of it in a new run.
 #[derive(Drop)]
 pub(crate) struct Script {
     alloc: Global,
     start: Snapshot,
-    /// Each with its line feed.
-    lines: Vec<String>,
-    input: String,
+    /// The words of the runs.
+    words: String,
+    /// Each line with its line feed.
+    lines: Vec<Vec<u8>>,
+    input: Vec<u8>,
     look: String,
 }
 
 impl Script {
-    /// The script of rows that wait for it, from this disk on.
+    /// The script of rows that wait for it, from this disk on and with these words.
     pub(crate) fn of_rows(
         alloc: Global,
         start: Snapshot,
+        words: &str,
         texts: &[Named],
         rows: &[String],
     ) -> Result<Script, RowError> {
         let mut script = Script {
             alloc,
             start,
+            words: text(alloc, words)?,
             lines: Vec::new(alloc),
-            input: String::new(alloc),
+            input: Vec::new(alloc),
             look: String::new(alloc),
         };
         for row in rows {
@@ -80,10 +87,10 @@ impl Script {
             self.look.push('\n')?;
         }
         if let Some(line) = line_of(row)? {
-            let mut text = told(self.alloc, texts, line.text)?;
-            text.push('\n')?;
-            self.input.push_str(text.as_str())?;
-            self.lines.push(text)?;
+            let mut bytes = Vec::new(self.alloc);
+            push_line(self.alloc, &mut bytes, texts, line)?;
+            self.input.extend_from_slice(bytes.as_slice())?;
+            self.lines.push(bytes)?;
         }
         Ok(())
     }
@@ -113,9 +120,10 @@ impl Script {
     /// status is 3, and nothing is written. Else the first call for which it is not so.
     pub(crate) fn failures(&self, migrations: &Migrations) -> Result<String, RowError> {
         let states = self.states(migrations)?;
-        let input = format!(in self.alloc; "{}{}", self.input, self.look)?;
+        let mut input = self.input.clone()?;
+        input.extend_from_slice(self.look.as_bytes())?;
         for call in 0..self.calls(migrations)? {
-            let (ran, disk) = self.failed_at(migrations, input.as_str(), call)?;
+            let (ran, disk) = self.failed_at(migrations, input.as_slice(), call)?;
             let found = self.found(migrations, disk)?;
             if !is_kept(self.alloc, &states, self.lines.len(), &ran, found.as_str())? {
                 let status = ran.status;
@@ -129,7 +137,7 @@ impl Script {
     /// fails status 6 and a front of the output. Else the first call for which it is not so.
     pub(crate) fn cuts(&self, migrations: &Migrations) -> Result<String, RowError> {
         let mut disk = self.start.disk(self.alloc)?;
-        let whole = run_lines(self.alloc, migrations, self.input.as_str(), &mut disk)?;
+        let whole = self.ran(migrations, self.input.as_slice(), &mut disk)?;
         if let Some(fault) = self.source_cuts(migrations, whole.output.as_str())? {
             return Ok(fault);
         }
@@ -142,26 +150,37 @@ impl Script {
     /// What a look finds after none of the lines, after one, and so on.
     fn states(&self, migrations: &Migrations) -> Result<Vec<String>, RowError> {
         let mut states = Vec::new(self.alloc);
-        let mut input = String::new(self.alloc);
-        states.push(self.state(migrations, "")?)?;
+        let mut input = Vec::new(self.alloc);
+        states.push(self.state(migrations, b"")?)?;
         for line in &self.lines {
-            input.push_str(line.as_str())?;
-            states.push(self.state(migrations, input.as_str())?)?;
+            input.extend_from_slice(line.as_slice())?;
+            states.push(self.state(migrations, input.as_slice())?)?;
         }
         Ok(states)
     }
 
     /// What a look finds after an input.
-    fn state(&self, migrations: &Migrations, input: &str) -> Result<String, RowError> {
+    fn state(&self, migrations: &Migrations, input: &[u8]) -> Result<String, RowError> {
         let mut disk = self.start.disk(self.alloc)?;
-        run_lines(self.alloc, migrations, input, &mut disk)?;
+        self.ran(migrations, input, &mut disk)?;
         self.found(migrations, disk.crash(true)?)
+    }
+
+    /// What comes of the words over an input.
+    fn ran<D: Disk>(
+        &self,
+        migrations: &Migrations,
+        input: &[u8],
+        disk: &mut D,
+    ) -> Result<Ran, AllocError> {
+        run_over(self.alloc, self.words.as_str(), migrations, input, disk)
     }
 
     /// What a look finds on a disk.
     fn found(&self, migrations: &Migrations, disk: MemDisk) -> Result<String, RowError> {
         let mut disk = disk;
-        let ran = run_lines(self.alloc, migrations, self.look.as_str(), &mut disk)?;
+        let look = self.look.as_bytes();
+        let ran = run_over(self.alloc, PLAIN, migrations, look, &mut disk)?;
         Ok(answers(self.alloc, ran.output.as_str())?)
     }
 
@@ -170,7 +189,7 @@ impl Script {
     fn moments(&self, migrations: &Migrations) -> Result<Vec<u64>, RowError> {
         let disk = self.start.disk(self.alloc)?;
         let mut counting = Counting::new(disk, vec![in self.alloc; 0]?);
-        run_lines(self.alloc, migrations, self.input.as_str(), &mut counting)?;
+        self.ran(migrations, self.input.as_slice(), &mut counting)?;
         let calls = counting.calls();
         let mut moments = counting.into_moments();
         moments.push(calls)?;
@@ -189,7 +208,7 @@ impl Script {
         for passing in moments {
             let mut disk = self.start.disk(self.alloc)?;
             disk.stop_after(*passing);
-            let ran = run_lines(self.alloc, migrations, self.input.as_str(), &mut disk)?;
+            let ran = self.ran(migrations, self.input.as_slice(), &mut disk)?;
             let answered = answered(ran.output.as_str());
             let found = self.found(migrations, restart.restarted(disk)?)?;
             let now = Stop::at(&last, states, answered, found.as_str());
@@ -208,7 +227,7 @@ impl Script {
     fn calls(&self, migrations: &Migrations) -> Result<u64, RowError> {
         let disk = self.start.disk(self.alloc)?;
         let mut counting = Counting::new(disk, Vec::new(self.alloc));
-        run_lines(self.alloc, migrations, self.input.as_str(), &mut counting)?;
+        self.ran(migrations, self.input.as_slice(), &mut counting)?;
         Ok(counting.calls())
     }
 
@@ -216,12 +235,12 @@ impl Script {
     fn failed_at(
         &self,
         migrations: &Migrations,
-        input: &str,
+        input: &[u8],
         call: u64,
     ) -> Result<(Ran, MemDisk), RowError> {
         let mut disk = self.start.disk(self.alloc)?;
         disk.fail_calls(vec![in self.alloc; call]?);
-        let ran = run_lines(self.alloc, migrations, input, &mut disk)?;
+        let ran = self.ran(migrations, input, &mut disk)?;
         Ok((ran, disk.crash(true)?))
     }
 
@@ -239,7 +258,7 @@ impl Script {
             if ran.status == 0 {
                 return Ok(None);
             }
-            let taken = lines_in(self.input.as_str(), call);
+            let taken = lines_in(self.input.as_slice(), call);
             if ran.status != 5 || ran.output.as_str() != front(whole, taken) {
                 return Ok(Some(format!(in self.alloc;
                     "= call {call} of the source: status {}\n",
@@ -275,7 +294,8 @@ impl Script {
     fn cut(&self, migrations: &Migrations, failing: Failing) -> Result<Ran, RowError> {
         let mut disk = self.start.disk(self.alloc)?;
         let input = self.input.clone()?;
-        Ok(run(self.alloc, "--dir d", migrations, input, failing, &mut disk)?)
+        let words = self.words.as_str();
+        Ok(run(self.alloc, words, migrations, input, failing, &mut disk)?)
     }
 }
 
@@ -347,9 +367,9 @@ fn answered(output: &str) -> usize {
 }
 
 /// How many whole lines so many calls of a source give.
-fn lines_in(input: &str, calls: u64) -> usize {
+fn lines_in(input: &[u8], calls: u64) -> usize {
     let bytes = calls.saturating_mul(SOURCE_PIECE as u64) as usize;
-    let taken = input.as_bytes().get(..bytes).unwrap_or(input.as_bytes());
+    let taken = input.get(..bytes).unwrap_or(input);
     taken.iter().filter(|byte| **byte == b'\n').count()
 }
 

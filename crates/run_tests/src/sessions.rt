@@ -1,10 +1,10 @@
 //! Sessions: rows that wait for a run, the disk, and what goes wrong in the next run.
 
 use crate::counting::Counting;
-use crate::images::{Snapshot, flip};
+use crate::images::{Snapshot, flip, put};
 use crate::rows::{Named, input_of, parted};
-use crate::runs::{Failing, Ran, run, run_lines};
-use crate::scripts::Script;
+use crate::runs::{Failing, Ran, run, run_over};
+use crate::scripts::{PLAIN, Script};
 use crate::transcripts::transcript;
 use disk_model::MemDisk;
 use migrate_fns::Migrations;
@@ -43,7 +43,7 @@ impl Session {
         let (word, rest) = parted(row, " ");
         match word {
             "run" => self.run(migrations, row, rest),
-            "stops" | "failures" | "cuts" => self.follow(migrations, row),
+            "stops" | "failures" | "cuts" => self.follow(migrations, row, word, rest),
             _ => self.prepare(migrations, row, word, rest),
         }
     }
@@ -59,6 +59,7 @@ impl Session {
         match word {
             "disk" => self.begin(migrations, rest)?,
             "flip" => flip(self.alloc, &mut self.disk, rest)?,
+            "put" => put(self.alloc, &mut self.disk, rest)?,
             "fail" => self.plan(rest)?,
             _ => self.name(row)?,
         }
@@ -78,7 +79,7 @@ impl Session {
     fn begin(&mut self, migrations: &Migrations, kind: &str) -> Result<(), RowError> {
         self.disk = MemDisk::new(self.alloc);
         if kind == "formatted" {
-            let none = String::new(self.alloc);
+            let none = Vec::new(self.alloc);
             let failing = Failing::none(self.alloc);
             let ran = run(
                 self.alloc,
@@ -108,7 +109,7 @@ impl Session {
     }
 
     /// Keeps the text that a row names.
-    fn name(&mut self, row: &str) -> Result<(), AllocError> {
+    fn name(&mut self, row: &str) -> Result<(), RowError> {
         if let Some(named) = Named::of_row(self.alloc, row)? {
             self.texts.push(named)?;
         }
@@ -126,7 +127,7 @@ impl Session {
         let rows = mem::replace(&mut self.rows, Vec::new(self.alloc));
         let failing = mem::replace(&mut self.failing, Failing::none(self.alloc));
         let input = input_of(self.alloc, &self.texts, &rows)?;
-        let words = if words.is_empty() { "--dir d" } else { words };
+        let words = words_or_plain(words);
         let Ran { status, output } = run(
             self.alloc,
             words,
@@ -141,11 +142,18 @@ impl Session {
     }
 
     /// Follows the script of the lines that wait.
-    fn follow(&mut self, migrations: &Migrations, row: &str) -> Result<Option<String>, RowError> {
+    fn follow(
+        &mut self,
+        migrations: &Migrations,
+        row: &str,
+        word: &str,
+        words: &str,
+    ) -> Result<Option<String>, RowError> {
         let rows = mem::replace(&mut self.rows, Vec::new(self.alloc));
         let start = Snapshot::taken(self.alloc, &mut self.disk)?;
-        let script = Script::of_rows(self.alloc, start, &self.texts, &rows)?;
-        let told = match row {
+        let words = words_or_plain(words);
+        let script = Script::of_rows(self.alloc, start, words, &self.texts, &rows)?;
+        let told = match word {
             "stops" => script.stops(migrations)?,
             "failures" => script.failures(migrations)?,
             _ => script.cuts(migrations)?,
@@ -177,7 +185,13 @@ impl Session {
         let front = self.rows.get(..rows).unwrap_or(&[]);
         let input = input_of(self.alloc, &self.texts, front)?;
         let mut counting = Counting::new(disk, Vec::new(self.alloc));
-        run_lines(self.alloc, migrations, input.as_str(), &mut counting)?;
+        run_over(
+            self.alloc,
+            PLAIN,
+            migrations,
+            input.as_slice(),
+            &mut counting,
+        )?;
         Ok(counting.calls())
     }
 
@@ -187,6 +201,11 @@ impl Session {
         self.disk = disk.crash(true)?;
         Ok(())
     }
+}
+
+/// The words of a row, or those of a run that reads lines.
+fn words_or_plain(words: &str) -> &str {
+    if words.is_empty() { PLAIN } else { words }
 }
 
 /// Which calls of the disk fail in a run.

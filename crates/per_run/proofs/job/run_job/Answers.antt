@@ -1,6 +1,6 @@
 -- Each job, and why it ended so.
 use Rattle.std.proofs.Common.{refl}
-use Rattle.per_run.specs.declared.words.JobKind.TheVariants.{Run, Format, Generate}
+use Rattle.per_run.specs.declared.words.JobKind.TheVariants.{Run, Format, Generate, Audit}
 use Rattle.per_run.proofs.Caused.{caused_as, done_as, run_caused, written_caused}
 use Rattle.per_run.proofs.job.run_job.Goals as goal
 
@@ -21,3 +21,9 @@ returns-in-Generate-clause-job g c = done_as _ _ (Generate c.in-Generate.number)
 
 pub returns-in-Generate-clause-caused : goal.returns-in-Generate-clause-caused
 returns-in-Generate-clause-caused g c = caused_as _ (Generate c.in-Generate.number) _ _ _ c.in-Generate.is (written_caused (Generate c.in-Generate.number) _ _ _ refl c.generate.ensures.status)
+
+pub returns-in-Audit-clause-job : goal.returns-in-Audit-clause-job
+returns-in-Audit-clause-job g c = done_as _ _ Audit _ _ _ _ _ _ _ _ _ _ _ c.in-Audit.is c.audit_disk.ensures.job
+
+pub returns-in-Audit-clause-caused : goal.returns-in-Audit-clause-caused
+returns-in-Audit-clause-caused g c = caused_as _ Audit _ _ _ c.in-Audit.is (c.audit_disk.ensures.caused _)

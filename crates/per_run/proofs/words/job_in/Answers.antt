@@ -1,14 +1,20 @@
--- The job is said by the folder and the kind.
-use Rattle.std.proofs.Common.{sym, ap₂, ◌∙◌, codes}
-use Rattle.clap.specs.Words.{found_of}
-use Rattle.std.proofs.lemmas.Result.{IfOk-weaker}
+-- The job is said by the kind, the flash and the folder.
+use Rattle.std.proofs.Common.{ap, sym, ◌∙◌, codes}
 use Rattle.clap.proofs.WalkLemmas.{first_value-rows}
-use Rattle.per_run.specs.Words.{job_with}
+use Rattle.clap.specs.Words.{found_of}
+use Rattle.per_run.specs.Words.{dir_of, flash_of}
+use Rattle.per_run.proofs.Matched.{dir_fails, flash_fails, job_is}
 use Rattle.per_run.proofs.words.job_in.Goals as goal
 
-pub returns-clause-job : goal.returns-clause-job
-returns-clause-job c =
-    IfOk-weaker c.job_with.result _ _ (λ job is. ap₂ job_with (sym (c.get_str.ensures ∙ first_value-rows (found_of c.args.matches.now) (codes "dir"))) (sym c.kind_in-kind.ensures) ∙ is) c.job_with.ensures.job
+pub returns-in_err-flash_of : goal.returns-in_err-flash_of
+returns-in_err-flash_of c = flash_fails _ c.in_err-flash_of.field-0.0 _ _ _ _ c.from_residual-in_err-flash_of.ensures.1
+    (ap flash_of (c.get_str.ensures ∙ first_value-rows (found_of c.args.matches.now) (codes "flash"))) c.in_err-flash_of.ensures
 
-pub returns-clause-refused : goal.returns-clause-refused
-returns-clause-refused c = λ refused. ap₂ job_with (sym (c.get_str.ensures ∙ first_value-rows (found_of c.args.matches.now) (codes "dir"))) (sym c.kind_in-kind.ensures) ∙ c.job_with.ensures.refused refused
+pub returns-in_err-dir_of : goal.returns-in_err-dir_of
+returns-in_err-dir_of c = dir_fails _ c.in_err-dir_of.field-0.0 _ _ _ _ c.from_residual-in_err-dir_of.ensures.1
+    (ap dir_of (c.get_str-2.ensures ∙ first_value-rows (found_of c.args.matches.now) (codes "dir"))) c.in_err-dir_of.ensures
+
+pub returns : goal.returns
+returns c = job_is _ _ _ _ _ _ c.in_ok-kind_in.ensures
+    (sym (ap flash_of (c.get_str.ensures ∙ first_value-rows (found_of c.args.matches.now) (codes "flash"))) ∙ c.in_ok-flash_of.ensures)
+    (sym (ap dir_of (c.get_str-2.ensures ∙ first_value-rows (found_of c.args.matches.now) (codes "dir"))) ∙ c.in_ok-dir_of.ensures)

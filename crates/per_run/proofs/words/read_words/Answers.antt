@@ -1,17 +1,16 @@
 -- The words have matches, and these say the job; or they have none.
-use Rattle.std.proofs.Common.{Result, Err, ◌≡◌, ◌∙◌}
-use Rattle.std.proofs.lemmas.Result.{IfOk-weaker}
+use Rattle.std.proofs.Common.{Result, Err, ◌≡◌}
 use Rattle.per_run.specs.declared.words.WordsError.{WordsError}
-use Rattle.per_run.proofs.Matched.{job_says, job_none}
+use Rattle.per_run.proofs.Matched.{job_none, job_read, job_refused, job_says}
 use Rattle.per_run.proofs.words.read_words.Goals as goal
 
 pub returns-in-Ok-try_get_matches_from-clause-job : goal.returns-in-Ok-try_get_matches_from-clause-job
 returns-in-Ok-try_get_matches_from-clause-job c =
-    IfOk-weaker c.job_in.result _ _ (λ job is. job_says _ _ _ c.in-Ok.ensures c.in-Ok-try_get_matches_from.ensures.matches c.in-Ok-try_get_matches_from.ensures.kinds ∙ is) c.job_in.ensures.job
+    job_read c.job_in.result _ _ (job_says _ _ _ c.in-Ok.ensures c.in-Ok-try_get_matches_from.ensures.matches c.in-Ok-try_get_matches_from.ensures.kinds) c.job_in.ensures
 
 pub returns-in-Ok-try_get_matches_from-clause-refused : goal.returns-in-Ok-try_get_matches_from-clause-refused
-returns-in-Ok-try_get_matches_from-clause-refused c = λ refused.
-    job_says _ _ _ c.in-Ok.ensures c.in-Ok-try_get_matches_from.ensures.matches c.in-Ok-try_get_matches_from.ensures.kinds ∙ c.job_in.ensures.refused refused
+returns-in-Ok-try_get_matches_from-clause-refused c =
+    job_refused c.job_in.result _ _ (job_says _ _ _ c.in-Ok.ensures c.in-Ok-try_get_matches_from.ensures.matches c.in-Ok-try_get_matches_from.ensures.kinds) c.job_in.ensures
 
 err_is : {T : Type 0} (e f : WordsError) → ◌≡◌ {A = Result T WordsError} (Err e) (Err f) → e ≡ f
 err_is e f same = cc

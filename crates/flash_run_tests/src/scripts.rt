@@ -1,0 +1,152 @@
+//! Scripts: what was run on a flash since it was fresh, and lines of which the last is stopped at each call of the flash.
+
+use crate::runs::{Ran, run_over_flash};
+use flash_model::MemFlash;
+use migrate_fns::Migrations;
+use std::alloc::{AllocError, Global};
+
+/// A run that was made.
+#[derive(Drop)]
+struct Past {
+    words: String,
+    input: String,
+}
+
+/// What was run on a flash of so many blocks, the lines of the next run, and lines that look at what is left.
+#[derive(Drop)]
+pub(crate) struct Script {
+    alloc: Global,
+    blocks: u32,
+    past: Vec<Past>,
+    /// All lines but the last.
+    front: String,
+    last: String,
+    look: String,
+}
+
+impl Script {
+    /// The script of a fresh flash of so many blocks.
+    pub(crate) fn new(alloc: Global, blocks: u32) -> Script {
+        Script {
+            alloc,
+            blocks,
+            past: Vec::new(alloc),
+            front: String::new(alloc),
+            last: String::new(alloc),
+            look: String::new(alloc),
+        }
+    }
+
+    /// One line more.
+    pub(crate) fn add_line(&mut self, line: &str) -> Result<(), AllocError> {
+        self.front.push_str(self.last.as_str())?;
+        self.last = format!(in self.alloc; "{line}\n")?;
+        Ok(())
+    }
+
+    /// One line more that looks.
+    pub(crate) fn add_look(&mut self, line: &str) -> Result<(), AllocError> {
+        self.look.push_str(line)?;
+        self.look.push('\n')
+    }
+
+    /// The lines, which are run with these words from here on.
+    pub(crate) fn next_input(&mut self, words: &str) -> Result<String, AllocError> {
+        let input = self.input()?;
+        let past = Past {
+            words: String::from_str(self.alloc, words)?,
+            input: input.clone()?,
+        };
+        self.past.push(past)?;
+        self.front = String::new(self.alloc);
+        self.last = String::new(self.alloc);
+        Ok(input)
+    }
+
+    /// What a look in a new run finds after a stop at each call of the flash that the last line makes, and after no stop, each once in a row.
+    pub(crate) fn stops(
+        &mut self,
+        migrations: &Migrations,
+        words: &str,
+    ) -> Result<String, AllocError> {
+        let first = self.calls(migrations, words, self.front.as_str())?;
+        let input = self.input()?;
+        let end = self.calls(migrations, words, input.as_str())?;
+        let mut shown = String::new(self.alloc);
+        let mut found = String::new(self.alloc);
+        for passing in first..=end {
+            let now = self.found(migrations, words, input.as_str(), passing)?;
+            if now.as_str() != found.as_str() {
+                write!(shown, "= {now}\n")?;
+                found = now;
+            }
+        }
+        self.front = String::new(self.alloc);
+        self.last = String::new(self.alloc);
+        self.look = String::new(self.alloc);
+        Ok(shown)
+    }
+
+    fn input(&self) -> Result<String, AllocError> {
+        format!(in self.alloc; "{}{}", self.front, self.last)
+    }
+
+    /// The flash on which all was run that was run so far.
+    fn flash(&self, migrations: &Migrations) -> Result<MemFlash, AllocError> {
+        let mut flash = MemFlash::new(self.alloc, self.blocks)?;
+        for past in &self.past {
+            let (_, left) = run_over_flash(
+                self.alloc,
+                past.words.as_str(),
+                migrations,
+                past.input.as_str(),
+                flash,
+            )?;
+            flash = left;
+        }
+        Ok(flash)
+    }
+
+    /// A run of which so many calls of the flash pass, and the flash.
+    fn stopped(
+        &self,
+        migrations: &Migrations,
+        words: &str,
+        input: &str,
+        passing: u64,
+    ) -> Result<(Ran, MemFlash), AllocError> {
+        let mut flash = self.flash(migrations)?;
+        flash.stop_after(passing);
+        run_over_flash(self.alloc, words, migrations, input, flash)
+    }
+
+    /// How many calls of the flash an input makes: of so many none fails, and of fewer one does.
+    fn calls(&self, migrations: &Migrations, words: &str, input: &str) -> Result<u64, AllocError> {
+        let mut enough: u64 = 1 << 20;
+        let mut few: u64 = 0;
+        for _ in 0..20 {
+            let middle = few.saturating_add(enough) / 2;
+            let (_, flash) = self.stopped(migrations, words, input, middle)?;
+            if flash.faults() == 0 {
+                enough = middle;
+            } else {
+                few = middle;
+            }
+        }
+        Ok(enough)
+    }
+
+    /// What a look finds after a stop.
+    fn found(
+        &self,
+        migrations: &Migrations,
+        words: &str,
+        input: &str,
+        passing: u64,
+    ) -> Result<String, AllocError> {
+        let (_, mut flash) = self.stopped(migrations, words, input, passing)?;
+        flash.restart();
+        let (ran, _) = run_over_flash(self.alloc, words, migrations, self.look.as_str(), flash)?;
+        ran.answers(self.alloc)
+    }
+}
