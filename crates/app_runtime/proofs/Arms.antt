@@ -1,5 +1,7 @@
--- The arms of a call: one that is refused beside an update, the status, the abort, and those that come to an application at rest.
-use Rattle.std.proofs.Common.{◌≡◌, ◌≢◌, ◌∙◌, ℕ, List, Bool, true, false, cond, IsTrue, Option, Some, None, is_none, is_some, Result, Ok, refl, sym, ap, subst, true≢false}
+-- The arms of a call: one that is refused beside an update, the status, the abort, and those that come to an
+-- application at rest.
+use Rattle.std.proofs.Common.{◌≡◌, ◌≢◌, ◌∙◌, ℕ, List, Bool, true, false, cond, IsTrue, Option, Some, None, is_none}
+use Rattle.std.proofs.Common.{is_some, Result, Ok, refl, sym, ap, subst, true≢false}
 use Rattle.per_base.specs.declared.elements.StoreKind.TheVariants as kinds
 use Rattle.per_base.specs.declared.errors.Holder.TheVariants as holder
 use Rattle.per_base.specs.declared.errors.PerError.{PerError}
@@ -19,7 +21,8 @@ use Rattle.deploy.specs.Roots.{root_says}
 use Rattle.deploy_laws.specs.Apps.{App, Says, absent, installed, nothing}
 use Rattle.deploy_laws.specs.Laws.{UntouchedAppLaw}
 use Rattle.deploy_rows.specs.Rows.{InProgress}
-use Rattle.run_model.specs.Calls.{Outcome, StepBeside, answered, app_step, beside_update, goes_beside, local_on, settle, status_step}
+use Rattle.run_model.specs.Calls.{Outcome, StepBeside, answered, app_step, beside_update, goes_beside, local_on, settle}
+use Rattle.run_model.specs.Calls.{status_step}
 use Rattle.run_model.specs.Steps.{uses_device}
 use Rattle.run_model.specs.Worlds.{Application}
 use Rattle.run_model.specs.Worlds as worlds
@@ -34,7 +37,8 @@ use Rattle.app_runtime.specs.Stages.{Aborts, reply_of, reply_with, root_of, stag
 use Rattle.app_runtime.proofs.Ended.{idle_promises}
 use Rattle.app_runtime.proofs.Kept.{open_by_none}
 use Rattle.app_runtime.proofs.Plain.{IsPlain}
-use Rattle.app_runtime.proofs.Steps.{abort_refused_row, abort_row, an_update, root_at_in, says_in_use, staged_at, update_back, without_promises}
+use Rattle.app_runtime.proofs.Steps.{abort_refused_row, abort_row, an_update, root_at_in, says_in_use, staged_at}
+use Rattle.app_runtime.proofs.Steps.{update_back, without_promises}
 
 -- ---- refused beside an update
 
@@ -44,16 +48,23 @@ busy_by false x e is refused = let same : x ≡ e = cc in subst IsPlain same is
 
 busy_plain : (p : Option InProgress) (c : Call) (e : PerError) → beside_update p c ≡ Some e → IsPlain e
 busy_plain None c e refused = absurd cc
-busy_plain (Some p) c e refused = busy_by (goes_beside c) (error.ResourceBusy (holder.Update p.deployment.version)) e (record { sound = λ x. cc; text = refl }) refused
+busy_plain (Some p) c e refused = busy_by (goes_beside c) (error.ResourceBusy (holder.Update p.deployment.version)) e
+    (record { sound = λ x. cc; text = refl }) refused
 
-module _ (told : Bool) (rules : List Rule) (answers : Answers) (now : ℕ) (c : Call) (s : Running) (m : Medium) (lawful : IsLawful told m) (untouched : UntouchedAppLaw) (Untouched : Type 0) (same : Untouched)
+module _ (told : Bool) (rules : List Rule) (answers : Answers) (now : ℕ) (c : Call) (s : Running) (m : Medium)
+    (lawful : IsLawful told m) (untouched : UntouchedAppLaw) (Untouched : Type 0) (same : Untouched)
     (is : IsRunning told m.image s) where
-  pub busy_promises : (e : PerError) → beside_update (worlds.update_in (stage_in s.stage)) c ≡ Some e → (reply : Reply) → reply ≡ reply_with (answer.Error e)
+  pub busy_promises : (e : PerError) → beside_update (worlds.update_in (stage_in s.stage)) c ≡ Some e → (reply : Reply)
+      → reply ≡ reply_with (answer.Error e)
       → Promises told rules answers now c s s Untouched m m (Ok reply)
-  busy_promises e refused reply is_reply = subst (λ (x : Reply). Promises told rules answers now c s s Untouched m m (Ok x)) (sym is_reply)
-      (idle_promises told rules answers now c s m lawful untouched Untouched same is s.stage (reply_with (answer.Error e)) is
-      (λ tells. subst (λ (x : Option PerError). StepBeside rules answers s.app now (application m.image s) c x (reply_with (answer.Error e), application m.image s)) (sym refused) refl)
-      (busy_plain (worlds.update_in (stage_in s.stage)) c e refused).sound (busy_plain (worlds.update_in (stage_in s.stage)) c e refused).text)
+  busy_promises e refused reply is_reply = subst (λ (x : Reply).
+      Promises told rules answers now c s s Untouched m m (Ok x)) (sym is_reply)
+      (idle_promises told rules answers now c s m lawful untouched Untouched same is s.stage
+      (reply_with (answer.Error e)) is
+      (λ tells. subst (λ (x : Option PerError). StepBeside rules answers s.app now (application m.image s) c x
+      (reply_with (answer.Error e), application m.image s)) (sym refused) refl)
+      (busy_plain (worlds.update_in (stage_in s.stage)) c e refused).sound
+      (busy_plain (worlds.update_in (stage_in s.stage)) c e refused).text)
 
 -- ---- the status
 
@@ -74,34 +85,49 @@ status_text (installed g active previous) = tt
 
 beside_goes : (p : Option InProgress) (c : Call) → goes_beside c ≡ true → beside_update p c ≡ None
 beside_goes None c goes = refl
-beside_goes (Some p) c goes = ap (λ (b : Bool). cond b None (Some (error.ResourceBusy (holder.Update p.deployment.version)))) goes
+beside_goes (Some p) c goes = ap (λ (b : Bool). cond b None
+    (Some (error.ResourceBusy (holder.Update p.deployment.version)))) goes
 
-module _ (told : Bool) (rules : List Rule) (answers : Answers) (now : ℕ) (s : Running) (m : Medium) (lawful : IsLawful told m) (untouched : UntouchedAppLaw) (Untouched : Type 0) (same : Untouched)
+module _ (told : Bool) (rules : List Rule) (answers : Answers) (now : ℕ) (s : Running) (m : Medium)
+    (lawful : IsLawful told m) (untouched : UntouchedAppLaw) (Untouched : Type 0) (same : Untouched)
     (is : IsRunning told m.image s) (opened : worlds.is_to_open (stage_in s.stage) ≡ false) (in_use : InUseLaw) where
   status_has : (r : Application) → HasRow rules answers s.app now call.Status r (status_of r.disk.says, r)
   unfolding app_step
-  status_has r = subst (λ (x : Option PerError). StepBeside rules answers s.app now r call.Status x (status_of r.disk.says, r)) (sym (beside_goes (worlds.update_in r.stage) call.Status refl)) (status_row r r.disk.says)
+  status_has r = subst (λ (x : Option PerError). StepBeside rules answers s.app now r call.Status x
+      (status_of r.disk.says, r)) (sym (beside_goes (worlds.update_in r.stage) call.Status refl))
+      (status_row r r.disk.says)
 
-  pub status_promises : (reply : Reply) → reply ≡ status_of (root_says (root_of s.stage)) → Promises told rules answers now call.Status s s Untouched m m (Ok reply)
+  pub status_promises : (reply : Reply) → reply ≡ status_of (root_says (root_of s.stage))
+      → Promises told rules answers now call.Status s s Untouched m m (Ok reply)
   status_promises reply is_reply =
       let says = root_says (root_of s.stage) in
       subst (λ (x : Reply). Promises told rules answers now call.Status s s Untouched m m (Ok x)) (sym is_reply)
-      (idle_promises told rules answers now call.Status s m lawful untouched Untouched same is s.stage (status_of says) is
-      (λ tells. subst (λ (x : Says). HasRow rules answers s.app now call.Status (application m.image s) (status_of x, application m.image s))
-      (says_in_use in_use told m.image s.app (root_of s.stage) (root_at_in told m.image s.app s.slots s.stage opened is.stage_at) tells) (status_has (application m.image s)))
+      (idle_promises told rules answers now call.Status s m lawful untouched Untouched same is s.stage (status_of says)
+      is
+      (λ tells. subst (λ (x : Says). HasRow rules answers s.app now call.Status (application m.image s)
+      (status_of x, application m.image s))
+      (says_in_use in_use told m.image s.app (root_of s.stage)
+      (root_at_in told m.image s.app s.slots s.stage opened is.stage_at) tells)
+      (status_has (application m.image s)))
       (status_sound says) (status_text says))
 
   -- ---- the abort
 
-  abort_by : (staged : Option Staged) → staged_in s.stage ≡ staged → (after' : Running) (reply : Reply) → Aborts staged s after' reply → Promises told rules answers now call.UpdateAbort s after' Untouched m m (Ok reply)
-  abort_by None none after' reply aborts = without_promises told rules answers now call.UpdateAbort s m lawful untouched Untouched same is opened none in_use
+  abort_by : (staged : Option Staged) → staged_in s.stage ≡ staged → (after' : Running) (reply : Reply)
+      → Aborts staged s after' reply → Promises told rules answers now call.UpdateAbort s after' Untouched m m
+      (Ok reply)
+  abort_by None none after' reply aborts = without_promises told rules answers now call.UpdateAbort s m lawful untouched
+      Untouched same is opened none in_use
       (λ r rests. abort_refused_row rules answers s.app now r rests) after' aborts.0 reply aborts.1
   abort_by (Some t) some after' reply aborts =
       let stage_is = an_update s.stage t some in
       let at = staged_at told m.image s.app s.slots s.stage t stage_is is.stage_at in
-      subst (λ (x : Running). Promises told rules answers now call.UpdateAbort s x Untouched m m (Ok reply)) (sym aborts.0)
-      (subst (λ (x : Reply). Promises told rules answers now call.UpdateAbort s (record s { stage = AtRest (root_in t) }) Untouched m m (Ok x)) (sym aborts.1)
-      (idle_promises told rules answers now call.UpdateAbort s m lawful untouched Untouched same is (AtRest (root_in t)) (reply_of None)
+      subst (λ (x : Running). Promises told rules answers now call.UpdateAbort s x Untouched m m (Ok reply))
+      (sym aborts.0)
+      (subst (λ (x : Reply). Promises told rules answers now call.UpdateAbort s
+      (record s { stage = AtRest (root_in t) }) Untouched m m (Ok x)) (sym aborts.1)
+      (idle_promises told rules answers now call.UpdateAbort s m lawful untouched Untouched same is (AtRest (root_in t))
+      (reply_of None)
       (record {
         below = is.below;
         stage_at = record {
@@ -110,23 +136,31 @@ module _ (told : Bool) (rules : List Rule) (answers : Answers) (now : ℕ) (s : 
           open_on = open_by_none told m.image s.app (root_says (root_in t)) s.slots at.1;
         };
       })
-      (λ tells. subst (λ (x : Running). HasRow rules answers s.app now call.UpdateAbort (application m.image x) (reply_of None, application m.image (record s { stage = AtRest (root_in t) }))) (update_back s t stage_is)
-      (abort_row told rules answers now s t m m Untouched at.0 is.below at.1 in_use tells (reply_of None, application m.image (record s { stage = AtRest (root_in t) })) refl))
+      (λ tells. subst (λ (x : Running). HasRow rules answers s.app now call.UpdateAbort (application m.image x)
+      (reply_of None, application m.image (record s { stage = AtRest (root_in t) }))) (update_back s t stage_is)
+      (abort_row told rules answers now s t m m Untouched at.0 is.below at.1 in_use tells
+      (reply_of None, application m.image (record s { stage = AtRest (root_in t) })) refl))
       (λ e. cc) tt))
 
-  pub abort_promises : (after' : Running) (reply : Reply) → Aborts (staged_in s.stage) s after' reply → Promises told rules answers now call.UpdateAbort s after' Untouched m m (Ok reply)
+  pub abort_promises : (after' : Running) (reply : Reply) → Aborts (staged_in s.stage) s after' reply
+      → Promises told rules answers now call.UpdateAbort s after' Untouched m m (Ok reply)
   abort_promises after' reply aborts = abort_by (staged_in s.stage) refl after' reply aborts
 
 -- ---- at rest
 
-free_by : (stage : worlds.Stage) (c : Call) → worlds.is_to_open stage ≡ false → goes_beside c ≡ false → beside_update (worlds.update_in stage) c ≡ None → stage ≡ worlds.at_rest
+free_by : (stage : worlds.Stage) (c : Call) → worlds.is_to_open stage ≡ false → goes_beside c ≡ false
+    → beside_update (worlds.update_in stage) c ≡ None → stage ≡ worlds.at_rest
 free_by worlds.to_open c opened alone free = absurd (true≢false opened)
 free_by worlds.at_rest c opened alone free = refl
-free_by (worlds.updating p) c opened alone free = absurd (let e : Some (error.ResourceBusy (holder.Update p.deployment.version)) ≡ None
-    = ap (λ (b : Bool). cond b None (Some (error.ResourceBusy (holder.Update p.deployment.version)))) (sym alone) ∙ free in cc)
+free_by (worlds.updating p) c opened alone free = absurd
+    (let e : Some (error.ResourceBusy (holder.Update p.deployment.version)) ≡ None
+    = ap (λ (b : Bool). cond b None (Some (error.ResourceBusy (holder.Update p.deployment.version)))) (sym alone) ∙ free
+    in cc)
 
 -- a call that does not go beside an update comes to an application at rest
-pub at_rest_for : (stage : Stage) (c d : Call) → c ≡ d → worlds.is_to_open (stage_in stage) ≡ false → goes_beside d ≡ false → beside_update (worlds.update_in (stage_in stage)) c ≡ None → stage_in stage ≡ worlds.at_rest
+pub at_rest_for : (stage : Stage) (c d : Call) → c ≡ d → worlds.is_to_open (stage_in stage) ≡ false
+    → goes_beside d ≡ false → beside_update (worlds.update_in (stage_in stage)) c ≡ None
+    → stage_in stage ≡ worlds.at_rest
 at_rest_for stage c d same opened alone free = free_by (stage_in stage) c opened (ap goes_beside same ∙ alone) free
 
 -- a call that is none of the ten words of a deployment
@@ -165,7 +199,8 @@ other_alone other is = refl
 
 -- ---- which calls call the device
 
-pub other_uses : (a : App) (c : Call) → (c ≡ call.Status → ⊥) → (c ≡ call.UpdateAbort → ⊥) → ((name : List ℕ) → c ≡ call.Close name → ⊥) → uses_device a c ≡ is_none (local_on c)
+pub other_uses : (a : App) (c : Call) → (c ≡ call.Status → ⊥) → (c ≡ call.UpdateAbort → ⊥)
+    → ((name : List ℕ) → c ≡ call.Close name → ⊥) → uses_device a c ≡ is_none (local_on c)
 other_uses a call.Status status abort close = absurd (status refl)
 other_uses a call.UpdateAbort status abort close = absurd (abort refl)
 other_uses a (call.Close name) status abort close = absurd (close name refl)

@@ -25,9 +25,11 @@ outside_bank app bank f leb (inr le) = inr (omega (arith, le, leb))
 pub beside_next : (app bank f : ℕ) → app < 8 → bank ≤ 1 → IsNoFileOf app f → IsBesideNext app bank f
 beside_next app bank f small leb is = (no_root app f small is, outside_bank app bank f leb is)
 
-pub beside_commit : (app bank built count f : ℕ) → app < 8 → bank ≤ 1 → count ≤ 16 → IsNoFileOf app f → IsBesideCommit app bank built count f
+pub beside_commit : (app bank built count f : ℕ) → app < 8 → bank ≤ 1 → count ≤ 16 → IsNoFileOf app f
+    → IsBesideCommit app bank built count f
 beside_commit app bank built count f small leb few (inl lt) = (no_root app f small (inl lt), inl (omega (arith, lt)))
-beside_commit app bank built count f small leb few (inr le) = (no_root app f small (inr le), inr (omega (arith, le, leb, few)))
+beside_commit app bank built count f small leb few (inr le) =
+    (no_root app f small (inr le), inr (omega (arith, le, leb, few)))
 
 pub beside : (app bank number f : ℕ) → bank ≤ 1 → number ≤ 16 → IsNoFileOf app f → IsBeside app bank number f
 beside app bank number f leb ltn (inl lt) = inl (omega (arith, lt))
@@ -35,8 +37,14 @@ beside app bank number f leb ltn (inr le) = inr (omega (arith, le, leb, ltn))
 
 -- ---- cases
 
-settled_less : (P Q : ℕ → Type 0) → ((f : ℕ) → Q f → P f) → (image : Image) (c : Case) → IsSettledOn P image c → IsSettledOn Q image c
-settled_less P Q into image c s = record { base = λ f q. s.base f (into f q); full = λ f q. s.full f (into f q); left = λ f q. s.left f (into f q) }
+settled_less : (P Q : ℕ → Type 0) → ((f : ℕ) → Q f → P f) → (image : Image) (c : Case) → IsSettledOn P image c
+    → IsSettledOn Q image c
+settled_less P Q into image c s = record {
+  base = λ f q. s.base f (into f q);
+  full = λ f q. s.full f (into f q);
+  left =
+      λ f q. s.left f (into f q);
+}
 
 pub settled_on : (Q : ℕ → Type 0) (image : Image) (c : Case) → IsSettledAt image c → IsSettledOn Q image c
 settled_on Q image c s = record {
@@ -48,15 +56,19 @@ settled_on Q image c s = record {
 -- ---- calls
 
 -- one that leaves all files but some of the application's leaves those of others, at any moment and at the end
-pub aside_throughout : (told : Bool) (app : ℕ) (Files : ℕ → Type 0) (old new : Medium) → IsTrue told → ((f : ℕ) → IsNoFileOf app f → Files f) → Leaves told Files old new
+pub aside_throughout : (told : Bool) (app : ℕ) (Files : ℕ → Type 0) (old new : Medium) → IsTrue told
+    → ((f : ℕ) → IsNoFileOf app f → Files f) → Leaves told Files old new
     → Quiet old → EachCase (IsSettledOn (IsNoFileOf app) old.image) old new
-aside_throughout told app Files old new tells into leaves quiet c s = settled_less Files (IsNoFileOf app) into old.image c (leaves.throughout tells quiet c s)
+aside_throughout told app Files old new tells into leaves quiet c s =
+    settled_less Files (IsNoFileOf app) into old.image c (leaves.throughout tells quiet c s)
 
-pub aside_at_the_end : (told : Bool) (app : ℕ) (Files : ℕ → Type 0) (old new : Medium) → IsTrue told → ((f : ℕ) → IsNoFileOf app f → Files f) → Leaves told Files old new
+pub aside_at_the_end : (told : Bool) (app : ℕ) (Files : ℕ → Type 0) (old new : Medium) → IsTrue told
+    → ((f : ℕ) → IsNoFileOf app f → Files f) → Leaves told Files old new
     → Spares (IsNoFileOf app) old.image new.image
 aside_at_the_end told app Files old new tells into leaves f is = leaves.at_the_end tells f (into f is)
 
-pub calls_to : (told : Bool) (app : ℕ) (next : App) (Files : ℕ → Type 0) (old new : Medium) → IsTrue told → ((f : ℕ) → IsNoFileOf app f → Files f)
+pub calls_to : (told : Bool) (app : ℕ) (next : App) (Files : ℕ → Type 0) (old new : Medium) → IsTrue told
+    → ((f : ℕ) → IsNoFileOf app f → Files f)
     → Leaves told Files old new → StandsThroughout app next old new → CallsTo app next old new
 calls_to told app next Files old new tells into leaves stands = record {
   any_moment = stands;
@@ -65,7 +77,8 @@ calls_to told app next Files old new tells into leaves stands = record {
 }
 
 -- one that only reads
-pub calls_reading : (app : ℕ) (next : App) (old new : Medium) → new.image ≡ old.image → (Quiet old → IsIdle old new) → StandsThroughout app next old new → CallsTo app next old new
+pub calls_reading : (app : ℕ) (next : App) (old new : Medium) → new.image ≡ old.image → (Quiet old → IsIdle old new)
+    → StandsThroughout app next old new → CallsTo app next old new
 calls_reading app next old new same idle stands = record {
   any_moment = stands;
   outside = λ quiet c s. settled_on (IsNoFileOf app) old.image c ((idle quiet).during c s);
@@ -73,9 +86,11 @@ calls_reading app next old new same idle stands = record {
 }
 
 -- one that is answered from memory
-pub calls_none : (told : Bool) (app : ℕ) (m : Medium) → IsLawful told m → UntouchedAppLaw → app < 8 → CallsTo app (app_at m.image app) m m
+pub calls_none : (told : Bool) (app : ℕ) (m : Medium) → IsLawful told m → UntouchedAppLaw → app < 8
+    → CallsTo app (app_at m.image app) m m
 calls_none told app m lawful untouched lt = record {
-  any_moment = λ quiet clean c s. untouched app m.image c lt clean (settled_on (IsFileOf app) m.image c (quiet c (lawful.only_now c s)));
+  any_moment = λ quiet clean c s. untouched app m.image c lt clean
+      (settled_on (IsFileOf app) m.image c (quiet c (lawful.only_now c s)));
   outside = λ quiet c s. settled_on (IsNoFileOf app) m.image c (quiet c (lawful.only_now c s));
   elsewhere = λ f is. refl;
 }

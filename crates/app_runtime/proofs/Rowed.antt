@@ -1,5 +1,7 @@
 -- A call of a deployment beside its row: the reply and the application after it, and where it may lead.
-use Rattle.std.proofs.Common.{◌≡◌, ◌≢◌, ◌⊎◌, ◌<◌, ℕ, List, [], Bool, true, false, IsTrue, Option, Some, None, IfErr, IfOk, IsOk, IsErrOf, OnOk, is_ok, Result, Ok, Err, refl, sym, ap, ◌∙◌, subst, inl, inr, true≢false}
+use Rattle.std.proofs.Common.{◌≡◌, ◌≢◌, ◌⊎◌, ◌<◌, ℕ, List, [], Bool, true, false, IsTrue, Option, Some, None, IfErr}
+use Rattle.std.proofs.Common.{IfOk, IsOk, IsErrOf, OnOk, is_ok, Result, Ok, Err, refl, sym, ap, ◌∙◌, subst, inl, inr}
+use Rattle.std.proofs.Common.{true≢false}
 use Rattle.per_base.specs.Causes.{Rose}
 use Rattle.per_base.specs.declared.errors.PerError.{PerError}
 use Rattle.per_base.specs.declared.errors.PerError.TheVariants as error
@@ -34,46 +36,59 @@ use Rattle.app_runtime.proofs.Plain.{IsPlain}
 -- ---- a row
 
 -- one that refuses by what is in memory refuses by what lies on the disk, and so the other way round
-module _ {A : Type 0} (row : App → Result A PerError) (alike : RefusesAlike row) (a b : App) (same : a.says ≡ b.says) where
-  ok_by : (x y : Result A PerError) → row a ≡ x → row b ≡ y → is_ok x ≡ is_ok y
-  ok_by (Ok x) (Ok y) is_x is_y = refl
-  ok_by (Err e) (Err f) is_x is_y = refl
-  ok_by (Ok x) (Err f) is_x is_y = absurd (let e = sym is_x ∙ alike b a f (sym same) is_y in cc)
-  ok_by (Err e) (Ok y) is_x is_y = absurd (let f = sym is_y ∙ alike a b e same is_x in cc)
+module _ {A : Type 0} (row : App → Result A PerError) (alike : RefusesAlike row) (a b : App) (same : a.says ≡ b.says)
+  where
+    ok_by : (x y : Result A PerError) → row a ≡ x → row b ≡ y → is_ok x ≡ is_ok y
+    ok_by (Ok x) (Ok y) is_x is_y = refl
+    ok_by (Err e) (Err f) is_x is_y = refl
+    ok_by (Ok x) (Err f) is_x is_y = absurd (let e = sym is_x ∙ alike b a f (sym same) is_y in cc)
+    ok_by (Err e) (Ok y) is_x is_y = absurd (let f = sym is_y ∙ alike a b e same is_x in cc)
 
-  pub ok_alike : IsOk (row a) → IsOk (row b)
-  ok_alike is = sym (ok_by (row a) (row b) refl refl) ∙ is
+    pub ok_alike : IsOk (row a) → IsOk (row b)
+    ok_alike is = sym (ok_by (row a) (row b) refl refl) ∙ is
 
 module _ (row : App → Result App PerError) (alike : RefusesAlike row) where
   -- the reply and the application after it
-  settled_by : (r : Application) (a' a : App) (refused : Option PerError) (x y : Result App PerError) → a.says ≡ r.disk.says → row a ≡ x → row r.disk ≡ y
-      → rows.Answers refused x → a' ≡ after r.disk y → (reply_of refused, record r { disk = a' }) ≡ settle r (done_with r y)
-  settled_by r a' a None (Ok x) (Ok y) same is_x is_y answers is_after = ap (λ (d : App). (reply_of None, record r { disk = d })) is_after
+  settled_by : (r : Application) (a' a : App) (refused : Option PerError) (x y : Result App PerError)
+      → a.says ≡ r.disk.says → row a ≡ x → row r.disk ≡ y
+      → rows.Answers refused x → a' ≡ after r.disk y → (reply_of refused, record r { disk = a' })
+      ≡ settle r (done_with r y)
+  settled_by r a' a None (Ok x) (Ok y) same is_x is_y answers is_after =
+      ap (λ (d : App). (reply_of None, record r { disk = d })) is_after
   settled_by r a' a (Some e) (Ok x) y same is_x is_y answers is_after = absurd answers
   settled_by r a' a None (Err f) y same is_x is_y answers is_after = absurd answers
-  settled_by r a' a None (Ok x) (Err f) same is_x is_y answers is_after = absurd (let e = sym is_x ∙ alike r.disk a f (sym same) is_y in cc)
-  settled_by r a' a (Some e) (Err f) (Ok y) same is_x is_y answers is_after = absurd (let g = sym is_y ∙ alike a r.disk f same is_x in cc)
+  settled_by r a' a None (Ok x) (Err f) same is_x is_y answers is_after =
+      absurd (let e = sym is_x ∙ alike r.disk a f (sym same) is_y in cc)
+  settled_by r a' a (Some e) (Err f) (Ok y) same is_x is_y answers is_after =
+      absurd (let g = sym is_y ∙ alike a r.disk f same is_x in cc)
   settled_by r a' a (Some e) (Err f) (Err g) same is_x is_y answers is_after =
       let refusal : g ≡ e = (let both = sym is_y ∙ alike a r.disk f same is_x in let is : g ≡ f = cc in is ∙ answers) in
-      ap (λ (d : App). (reply_of (Some e), record r { disk = d })) is_after ∙ ap (λ (x : PerError). answered (answer.Error x) r) (sym refusal)
+      ap (λ (d : App). (reply_of (Some e), record r { disk = d })) is_after
+      ∙ ap (λ (x : PerError). answered (answer.Error x) r) (sym refusal)
 
-  pub settled_row : (r : Application) (a' a : App) (refused : Option PerError) → a.says ≡ r.disk.says → rows.Answers refused (row a)
-      → a' ≡ after r.disk (row r.disk) → (reply_of refused, record r { disk = a' }) ≡ settle r (done_with r (row r.disk))
-  settled_row r a' a refused same answers is_after = settled_by r a' a refused (row a) (row r.disk) same refl refl answers is_after
+  pub settled_row : (r : Application) (a' a : App) (refused : Option PerError) → a.says ≡ r.disk.says
+      → rows.Answers refused (row a)
+      → a' ≡ after r.disk (row r.disk) → (reply_of refused, record r { disk = a' })
+      ≡ settle r (done_with r (row r.disk))
+  settled_row r a' a refused same answers is_after = settled_by r a' a refused (row a) (row r.disk) same refl refl
+      answers is_after
 
 -- ---- a word: a call that is one row of a deployment
 
-pub record IsWord (told : Bool) (rules : List Rule) (answers : Answers) (app now : ℕ) (c : Call) (r : Application) (row : App → Result App PerError) : Type 0 where
+pub record IsWord (told : Bool) (rules : List Rule) (answers : Answers) (app now : ℕ) (c : Call) (r : Application)
+    (row : App → Result App PerError) : Type 0 where
   pub alike : RefusesAlike row
   pub plain : (a : App) → IfErr (row a) IsPlain
   pub later : (a b : App) → row a ≡ Ok b → IsLater a b
-  pub has_row : IsTrue told → (o : calls.Outcome) → o ≡ settle r (done_with r (row r.disk)) → HasRow rules answers app now c r o
+  pub has_row : IsTrue told → (o : calls.Outcome) → o ≡ settle r (done_with r (row r.disk))
+      → HasRow rules answers app now c r o
   pub reaches : IsTrue told → IsOk (row r.disk) → IsTrue (reaches_device app r now c)
   pub no_storage : storage_named c ≡ None
   pub not_durable : is_durable c ≡ false
   pub uses : uses_device r.disk c ≡ true
 
-module _ (told : Bool) (rules : List Rule) (answers : Answers) (app now : ℕ) (c : Call) (r : Application) (row : App → Result App PerError) (word : IsWord told rules answers app now c r row) where
+module _ (told : Bool) (rules : List Rule) (answers : Answers) (app now : ℕ) (c : Call) (r : Application)
+    (row : App → Result App PerError) (word : IsWord told rules answers app now c r row) where
   later_by : (y : Result App PerError) → row r.disk ≡ y → IsLater r.disk (after r.disk y)
   later_by (Ok b) is = word.later r.disk b is
   later_by (Err e) is = still r.disk
@@ -81,8 +96,14 @@ module _ (told : Bool) (rules : List Rule) (answers : Answers) (app now : ℕ) (
   pub row_later : IsLater r.disk (after r.disk (row r.disk))
   row_later = later_by (row r.disk) refl
 
-  leads_by : IsTrue told → (y : Result App PerError) → row r.disk ≡ y → MayLead rules answers app now c r (after r.disk y)
-  leads_by tells (Ok b) is = inr (answered answer.Done (record r { disk = b }), word.has_row tells (answered answer.Done (record r { disk = b })) (ap (λ (y : Result App PerError). settle r (done_with r y)) (sym is)), refl)
+  leads_by : IsTrue told → (y : Result App PerError) → row r.disk ≡ y
+      → MayLead rules answers app now c r (after r.disk y)
+  leads_by tells (Ok b) is = inr (
+    answered answer.Done (record r { disk = b }),
+    word.has_row tells (answered answer.Done (record r { disk = b }))
+        (ap (λ (y : Result App PerError). settle r (done_with r y)) (sym is)),
+    refl,
+  )
   leads_by tells (Err e) is = inl refl
 
   pub row_leads : IsTrue told → MayLead rules answers app now c r (after r.disk (row r.disk))
@@ -90,7 +111,8 @@ module _ (told : Bool) (rules : List Rule) (answers : Answers) (app now : ℕ) (
 
 -- ---- how a call of the deployment was done
 
-pub record Made (told : Bool) (row : App → Result App PerError) (app : ℕ) (root : Root) (Untouched : Type 0) (old new : Medium) (made : Result Outcome Stop) : Type 0 where
+pub record Made (told : Bool) (row : App → Result App PerError) (app : ℕ) (root : Root) (Untouched : Type 0)
+    (old new : Medium) (made : Result Outcome Stop) : Type 0 where
   pub root_at : IfOk made (λ o. RootAt told new.image app o.root)
   pub refused : IfOk made (λ o. rows.Answers o.refused (row (root_app root [])))
   pub leads : IsTrue told → OnOk made (app_at new.image app ≡ after (app_at old.image app) (row (app_at old.image app)))

@@ -1,5 +1,7 @@
 -- An update in steps: one more storage, the commit, the abort, and each of them where no update is in progress.
-use Rattle.std.proofs.Common.{◌≡◌, ◌≢◌, ◌<◌, ◌≤◌, ◌-◌, ℕ, List, [], length, Bool, true, false, IsTrue, Option, Some, None, IfOk, IsErrOf, IsOk, OnOk, is_ok, Result, Ok, Err, refl, sym, ap, ◌∙◌, subst, inl, inr, arith, true≢false}
+use Rattle.std.proofs.Common.{◌≡◌, ◌≢◌, ◌<◌, ◌≤◌, ◌-◌, ℕ, List, [], length, Bool, true, false, IsTrue, Option, Some}
+use Rattle.std.proofs.Common.{None, IfOk, IsErrOf, IsOk, OnOk, is_ok, Result, Ok, Err, refl, sym, ap, ◌∙◌, subst, inl}
+use Rattle.std.proofs.Common.{inr, arith, true≢false}
 use Rattle.std.specs.Prelude.{IfNone, map, option_map}
 use Rattle.per_base.specs.Causes.{Rose}
 use Rattle.per_base.specs.declared.errors.PerError.{PerError}
@@ -32,7 +34,8 @@ use Rattle.deploy_laws.specs.Stands.{IsLater, StandsThroughout}
 use Rattle.deploy_rows.specs.Laws.{UpdateLaterLaw}
 use Rattle.deploy_rows.specs.Rows.{◌>>=◌, InProgress, installing, updated_app}
 use Rattle.run_model.specs.Calls as calls
-use Rattle.run_model.specs.Calls.{StepBeside, answered, app_step, beside_update, done_with, next_step, commit_step, abort_step, one_more, progress_of, remaining, settle}
+use Rattle.run_model.specs.Calls.{StepBeside, answered, app_step, beside_update, done_with, next_step, commit_step}
+use Rattle.run_model.specs.Calls.{abort_step, one_more, progress_of, remaining, settle}
 use Rattle.run_model.specs.Runtimes.{IsUnwritten, is_durable, is_refusal}
 use Rattle.run_model.specs.Steps.{after_failure, reaches_device, storage_named, uses_device}
 use Rattle.run_model.specs.Worlds.{Application}
@@ -56,16 +59,21 @@ use Rattle.app_runtime.proofs.Plain.{IsPlain}
 -- ---- the root that is in memory
 
 -- it is in use, whatever is going on
-pub root_at_in : (told : Bool) (image : Image) (app : ℕ) (slots : Slots) (stage : Stage) → worlds.is_to_open (stage_in stage) ≡ false → IsStageAt told image app slots stage → RootAt told image app (root_of stage)
+pub root_at_in : (told : Bool) (image : Image) (app : ℕ) (slots : Slots) (stage : Stage)
+    → worlds.is_to_open (stage_in stage) ≡ false → IsStageAt told image app slots stage
+    → RootAt told image app (root_of stage)
 root_at_in told image app slots ToOpen opened is = absurd cc
 root_at_in told image app slots (AtRest root) opened is = is.root_at
 root_at_in told image app slots (Updating s) opened is = record { memory = is.0.memory.root; disk = is.0.root_on }
 
 -- and the image says what it says
-pub says_in_use : InUseLaw → (told : Bool) (image : Image) (app : ℕ) (root : Root) → RootAt told image app root → IsTrue told → (app_at image app).says ≡ root_says root
-says_in_use in_use told image app root at tells = ap (λ (a : App). a.says) (in_use image app root at.memory (at.disk tells))
+pub says_in_use : InUseLaw → (told : Bool) (image : Image) (app : ℕ) (root : Root) → RootAt told image app root
+    → IsTrue told → (app_at image app).says ≡ root_says root
+says_in_use in_use told image app root at tells = ap (λ (a : App). a.says)
+    (in_use image app root at.memory (at.disk tells))
 
-pub no_update : (stage : Stage) → worlds.is_to_open (stage_in stage) ≡ false → staged_in stage ≡ None → stage_in stage ≡ worlds.at_rest
+pub no_update : (stage : Stage) → worlds.is_to_open (stage_in stage) ≡ false → staged_in stage ≡ None
+    → stage_in stage ≡ worlds.at_rest
 no_update ToOpen opened none = absurd cc
 no_update (AtRest root) opened none = refl
 no_update (Updating s) opened none = absurd cc
@@ -75,13 +83,15 @@ an_update ToOpen s is = absurd cc
 an_update (AtRest root) s is = absurd cc
 an_update (Updating t) s is = let same : t ≡ s = cc in ap (λ (x : Staged). Updating x) same
 
-pub not_updating : (stage : Stage) → worlds.is_to_open (stage_in stage) ≡ false → ((s : Staged) → stage ≡ Updating s → ⊥) → stage_in stage ≡ worlds.at_rest
+pub not_updating : (stage : Stage) → worlds.is_to_open (stage_in stage) ≡ false
+    → ((s : Staged) → stage ≡ Updating s → ⊥) → stage_in stage ≡ worlds.at_rest
 not_updating ToOpen opened none = absurd cc
 not_updating (AtRest root) opened none = refl
 not_updating (Updating s) opened none = absurd (none s refl)
 
 -- what the stage is
-pub staged_at : (told : Bool) (image : Image) (app : ℕ) (slots : Slots) (stage : Stage) (s : Staged) → stage ≡ Updating s → IsStageAt told image app slots stage → StagedAt told image app s × NoneOpen slots
+pub staged_at : (told : Bool) (image : Image) (app : ℕ) (slots : Slots) (stage : Stage) (s : Staged)
+    → stage ≡ Updating s → IsStageAt told image app slots stage → StagedAt told image app s × NoneOpen slots
 staged_at told image app slots stage s is at = subst (λ (x : Stage). IsStageAt told image app slots x) is at
 
 -- no version has more than sixteen storages
@@ -102,7 +112,8 @@ pub update_back : (b : Running) (s : Staged) → b.stage ≡ Updating s → reco
 update_back b s is = ap (λ (x : Stage). record b { stage = x }) (sym is)
 
 -- a version is installed over which no other one is
-installed_by : (now : ℕ) (text : List ℕ) (says : Says) (lacking : List ℕ) (states : List State) (g : ℕ) (active : Named) (previous : Option Named) → says ≡ installed g active previous
+installed_by : (now : ℕ) (text : List ℕ) (says : Says) (lacking : List ℕ) (states : List State) (g : ℕ) (active : Named)
+    (previous : Option Named) → says ≡ installed g active previous
     → installing now text (record { says = says; lacking = lacking; states = states }) ≡ Err error.AlreadyInstalled
 unfolding installing
 installed_by now text nothing lacking states g active previous is = absurd cc
@@ -116,7 +127,8 @@ without_plain nothing = record { sound = λ e. cc; text = refl }
 without_plain (absent g) = record { sound = λ e. cc; text = refl }
 without_plain (installed g active previous) = record { sound = λ e. cc; text = refl }
 
-pub without_sound : (says : Says) → (reply_of (Some (without_update says))).answer ≢ answer.Error error.PhysicalStorageFailure
+pub without_sound : (says : Says) → (reply_of (Some (without_update says))).answer
+    ≢ answer.Error error.PhysicalStorageFailure
 without_sound says = (without_plain says).sound
 
 pub without_text : (says : Says) → HasText (reply_of (Some (without_update says))).answer
@@ -125,65 +137,95 @@ without_text says = (without_plain says).text
 pub same_if_none : {b after' : Running} (taken : Option Staged) → taken ≡ None → IfNone taken (after' ≡ b) → after' ≡ b
 same_if_none {b} {after'} taken none same = subst (λ (x : Option Staged). IfNone x (after' ≡ b)) none same
 
-pub without_same : (b after' : Running) → after' ≡ b → reply_of (Some (without_update (root_says (root_of after'.stage)))) ≡ reply_of (Some (without_update (root_says (root_of b.stage))))
+pub without_same : (b after' : Running) → after' ≡ b → reply_of
+    (Some (without_update (root_says (root_of after'.stage))))
+    ≡ reply_of (Some (without_update (root_says (root_of b.stage))))
 without_same b after' same = ap (λ (x : Running). reply_of (Some (without_update (root_says (root_of x.stage))))) same
 
 -- the application stays, and the refusal is that of its root
-module _ (told : Bool) (rules : List Rule) (answers : Answers) (now : ℕ) (c : Call) (s : Running) (m : Medium) (lawful : IsLawful told m) (untouched : UntouchedAppLaw) (Untouched : Type 0) (same : Untouched)
-    (is : IsRunning told m.image s) (opened : worlds.is_to_open (stage_in s.stage) ≡ false) (none : staged_in s.stage ≡ None) (in_use : InUseLaw)
-    (row : (r : Application) → r.stage ≡ worlds.at_rest → HasRow rules answers s.app now c r (reply_of (Some (without_update r.disk.says)), r)) where
-  pub without_promises : (after' : Running) → after' ≡ s → (reply : Reply) → reply ≡ reply_of (Some (without_update (root_says (root_of s.stage)))) → Promises told rules answers now c s after' Untouched m m (Ok reply)
+module _ (told : Bool) (rules : List Rule) (answers : Answers) (now : ℕ) (c : Call) (s : Running) (m : Medium)
+    (lawful : IsLawful told m) (untouched : UntouchedAppLaw) (Untouched : Type 0) (same : Untouched)
+    (is : IsRunning told m.image s) (opened : worlds.is_to_open (stage_in s.stage) ≡ false)
+    (none : staged_in s.stage ≡ None) (in_use : InUseLaw)
+    (row : (r : Application) → r.stage ≡ worlds.at_rest → HasRow rules answers s.app now c r
+    (reply_of (Some (without_update r.disk.says)), r)) where
+  pub without_promises : (after' : Running) → after' ≡ s → (reply : Reply)
+      → reply ≡ reply_of (Some (without_update (root_says (root_of s.stage))))
+      → Promises told rules answers now c s after' Untouched m m (Ok reply)
   without_promises after' is_after reply is_reply =
       let says = root_says (root_of s.stage) in
       subst (λ (x : Running). Promises told rules answers now c s x Untouched m m (Ok reply)) (sym is_after)
       (subst (λ (x : Reply). Promises told rules answers now c s s Untouched m m (Ok x)) (sym is_reply)
-      (idle_promises told rules answers now c s m lawful untouched Untouched same is s.stage (reply_of (Some (without_update says))) is
-      (λ tells. subst (λ (x : Says). HasRow rules answers s.app now c (application m.image s) (reply_of (Some (without_update x)), application m.image s))
-      (says_in_use in_use told m.image s.app (root_of s.stage) (root_at_in told m.image s.app s.slots s.stage opened is.stage_at) tells)
+      (idle_promises told rules answers now c s m lawful untouched Untouched same is s.stage
+      (reply_of (Some (without_update says))) is
+      (λ tells. subst (λ (x : Says). HasRow rules answers s.app now c (application m.image s)
+      (reply_of (Some (without_update x)), application m.image s))
+      (says_in_use in_use told m.image s.app (root_of s.stage)
+      (root_at_in told m.image s.app s.slots s.stage opened is.stage_at) tells)
       (row (application m.image s) (no_update s.stage opened none)))
       (without_sound says) (without_text says)))
 
 module _ (then : InProgress → Result calls.Outcome PerError) where
-  without_row : (r : Application) (says : Says) → (reply_of (Some (without_update says)), r) ≡ settle r (calls.progress_in says None >>= then)
+  without_row : (r : Application) (says : Says) → (reply_of (Some (without_update says)), r)
+      ≡ settle r (calls.progress_in says None >>= then)
   without_row r nothing = refl
   without_row r (absent g) = refl
   without_row r (installed g active previous) = refl
 
-pub next_refused : (r : Application) → worlds.update_in r.stage ≡ None → (reply_of (Some (without_update r.disk.says)), r) ≡ settle r (next_step r)
-next_refused r none = without_row (λ p. Ok (answered (answer.Number (remaining (one_more p))) (record r { stage = worlds.updating (one_more p) }))) r r.disk.says
-    ∙ ap (λ (p : Option InProgress). settle r (calls.progress_in r.disk.says p >>= λ q. Ok (answered (answer.Number (remaining (one_more q))) (record r { stage = worlds.updating (one_more q) })))) (sym none)
+pub next_refused : (r : Application) → worlds.update_in r.stage ≡ None
+    → (reply_of (Some (without_update r.disk.says)), r) ≡ settle r (next_step r)
+next_refused r none = without_row (λ p. Ok (answered (answer.Number (remaining (one_more p)))
+    (record r { stage = worlds.updating (one_more p) }))) r r.disk.says
+    ∙ ap (λ (p : Option InProgress). settle r (calls.progress_in r.disk.says p >>= λ q.
+    Ok (answered (answer.Number (remaining (one_more q))) (record r { stage = worlds.updating (one_more q) }))))
+    (sym none)
 
-pub commit_refused : (r : Application) → worlds.update_in r.stage ≡ None → (reply_of (Some (without_update r.disk.says)), r) ≡ settle r (commit_step r)
-commit_refused r none = without_row (λ p. Ok (answered answer.Done (record r { disk = updated_app p r.disk; stage = worlds.at_rest }))) r r.disk.says
-    ∙ ap (λ (p : Option InProgress). settle r (calls.progress_in r.disk.says p >>= λ q. Ok (answered answer.Done (record r { disk = updated_app q r.disk; stage = worlds.at_rest })))) (sym none)
+pub commit_refused : (r : Application) → worlds.update_in r.stage ≡ None
+    → (reply_of (Some (without_update r.disk.says)), r) ≡ settle r (commit_step r)
+commit_refused r none = without_row (λ p. Ok (answered answer.Done
+    (record r { disk = updated_app p r.disk; stage = worlds.at_rest }))) r r.disk.says
+    ∙ ap (λ (p : Option InProgress). settle r (calls.progress_in r.disk.says p >>= λ q.
+    Ok (answered answer.Done (record r { disk = updated_app q r.disk; stage = worlds.at_rest })))) (sym none)
 
-pub abort_refused : (r : Application) → worlds.update_in r.stage ≡ None → (reply_of (Some (without_update r.disk.says)), r) ≡ settle r (abort_step r)
+pub abort_refused : (r : Application) → worlds.update_in r.stage ≡ None
+    → (reply_of (Some (without_update r.disk.says)), r) ≡ settle r (abort_step r)
 abort_refused r none = without_row (λ p. Ok (answered answer.Done (record r { stage = worlds.at_rest }))) r r.disk.says
-    ∙ ap (λ (p : Option InProgress). settle r (calls.progress_in r.disk.says p >>= λ q. Ok (answered answer.Done (record r { stage = worlds.at_rest })))) (sym none)
+    ∙ ap (λ (p : Option InProgress). settle r (calls.progress_in r.disk.says p >>= λ q.
+    Ok (answered answer.Done (record r { stage = worlds.at_rest })))) (sym none)
 
 -- as rows of calls
-module _ (rules : List Rule) (answers : Answers) (app now : ℕ) (r : Application) (rests : r.stage ≡ worlds.at_rest) where
-  none_in : worlds.update_in r.stage ≡ None
-  none_in = ap worlds.update_in rests
+module _ (rules : List Rule) (answers : Answers) (app now : ℕ) (r : Application) (rests : r.stage ≡ worlds.at_rest)
+  where
+    none_in : worlds.update_in r.stage ≡ None
+    none_in = ap worlds.update_in rests
 
-  beside_none : (c : Call) → beside_update (worlds.update_in r.stage) c ≡ None
-  beside_none c = ap (λ (p : Option InProgress). beside_update p c) none_in
+    beside_none : (c : Call) → beside_update (worlds.update_in r.stage) c ≡ None
+    beside_none c = ap (λ (p : Option InProgress). beside_update p c) none_in
 
-  pub next_refused_row : HasRow rules answers app now call.UpdateNext r (reply_of (Some (without_update r.disk.says)), r)
-  unfolding app_step
-  next_refused_row = subst (λ (x : Option PerError). StepBeside rules answers app now r call.UpdateNext x (reply_of (Some (without_update r.disk.says)), r)) (sym (beside_none call.UpdateNext)) (next_refused r none_in)
+    pub next_refused_row : HasRow rules answers app now call.UpdateNext r
+        (reply_of (Some (without_update r.disk.says)), r)
+    unfolding app_step
+    next_refused_row = subst (λ (x : Option PerError). StepBeside rules answers app now r call.UpdateNext x
+        (reply_of (Some (without_update r.disk.says)), r)) (sym (beside_none call.UpdateNext)) (next_refused r none_in)
 
-  pub commit_refused_row : HasRow rules answers app now call.UpdateCommit r (reply_of (Some (without_update r.disk.says)), r)
-  unfolding app_step
-  commit_refused_row = subst (λ (x : Option PerError). StepBeside rules answers app now r call.UpdateCommit x (reply_of (Some (without_update r.disk.says)), r)) (sym (beside_none call.UpdateCommit)) (commit_refused r none_in)
+    pub commit_refused_row : HasRow rules answers app now call.UpdateCommit r
+        (reply_of (Some (without_update r.disk.says)), r)
+    unfolding app_step
+    commit_refused_row = subst (λ (x : Option PerError). StepBeside rules answers app now r call.UpdateCommit x
+        (reply_of (Some (without_update r.disk.says)), r)) (sym (beside_none call.UpdateCommit))
+        (commit_refused r none_in)
 
-  pub abort_refused_row : HasRow rules answers app now call.UpdateAbort r (reply_of (Some (without_update r.disk.says)), r)
-  unfolding app_step
-  abort_refused_row = subst (λ (x : Option PerError). StepBeside rules answers app now r call.UpdateAbort x (reply_of (Some (without_update r.disk.says)), r)) (sym (beside_none call.UpdateAbort)) (abort_refused r none_in)
+    pub abort_refused_row : HasRow rules answers app now call.UpdateAbort r
+        (reply_of (Some (without_update r.disk.says)), r)
+    unfolding app_step
+    abort_refused_row = subst (λ (x : Option PerError). StepBeside rules answers app now r call.UpdateAbort x
+        (reply_of (Some (without_update r.disk.says)), r)) (sym (beside_none call.UpdateAbort))
+        (abort_refused r none_in)
 
 -- ---- over an update in progress
 
-module _ (told : Bool) (rules : List Rule) (answers : Answers) (now : ℕ) (b : Running) (s : Staged) (old new : Medium) (Untouched : Type 0)
+module _ (told : Bool) (rules : List Rule) (answers : Answers) (now : ℕ) (b : Running) (s : Staged) (old new : Medium)
+    (Untouched : Type 0)
     (is : StagedAt told old.image b.app s) (below : b.app < 8) (none : NoneOpen b.slots) (in_use : InUseLaw) where
   abbrev before : Running
   before = record b { stage = Updating s }
@@ -191,22 +233,29 @@ module _ (told : Bool) (rules : List Rule) (answers : Answers) (now : ℕ) (b : 
   abbrev r : Application
   r = record { disk = app_at old.image b.app; stage = worlds.updating (progress_in s); sessions = sessions_in b.slots }
 
-  goes_on : (then : InProgress → Result calls.Outcome PerError) → IsTrue told → (progress_of r >>= then) ≡ then (progress_in s)
+  goes_on : (then : InProgress → Result calls.Outcome PerError) → IsTrue told
+      → (progress_of r >>= then) ≡ then (progress_in s)
   goes_on then tells = ap (λ (says : Says). calls.progress_in says (Some (progress_in s)) >>= then)
-      (says_in_use in_use told old.image b.app (root_in s) (record { memory = is.memory.root; disk = is.root_on }) tells)
+      (says_in_use in_use told old.image b.app (root_in s) (record { memory = is.memory.root; disk = is.root_on })
+      tells)
 
-  pub next_is : IsTrue told → next_step r ≡ Ok (answered (answer.Number (remaining (one_more (progress_in s)))) (record r { stage = worlds.updating (one_more (progress_in s)) }))
-  next_is tells = goes_on (λ p. Ok (answered (answer.Number (remaining (one_more p))) (record r { stage = worlds.updating (one_more p) }))) tells
+  pub next_is : IsTrue told → next_step r ≡ Ok (answered (answer.Number (remaining (one_more (progress_in s))))
+      (record r { stage = worlds.updating (one_more (progress_in s)) }))
+  next_is tells = goes_on (λ p. Ok (answered (answer.Number (remaining (one_more p)))
+      (record r { stage = worlds.updating (one_more p) }))) tells
 
-  pub commit_is : IsTrue told → commit_step r ≡ Ok (answered answer.Done (record r { disk = updated_app (progress_in s) r.disk; stage = worlds.at_rest }))
-  commit_is tells = goes_on (λ p. Ok (answered answer.Done (record r { disk = updated_app p r.disk; stage = worlds.at_rest }))) tells
+  pub commit_is : IsTrue told → commit_step r ≡ Ok (answered answer.Done
+      (record r { disk = updated_app (progress_in s) r.disk; stage = worlds.at_rest }))
+  commit_is tells = goes_on (λ p. Ok (answered answer.Done
+      (record r { disk = updated_app p r.disk; stage = worlds.at_rest }))) tells
 
   pub abort_is : IsTrue told → abort_step r ≡ Ok (answered answer.Done (record r { stage = worlds.at_rest }))
   abort_is tells = goes_on (λ p. Ok (answered answer.Done (record r { stage = worlds.at_rest }))) tells
 
   -- ---- one more storage
 
-  next_row : IsTrue told → (o : calls.Outcome) → o ≡ answered (answer.Number (remaining (one_more (progress_in s)))) (record r { stage = worlds.updating (one_more (progress_in s)) })
+  next_row : IsTrue told → (o : calls.Outcome) → o ≡ answered (answer.Number (remaining (one_more (progress_in s))))
+      (record r { stage = worlds.updating (one_more (progress_in s)) })
       → HasRow rules answers b.app now call.UpdateNext r o
   unfolding app_step
   next_row tells o is_o = is_o ∙ sym (ap (λ (row : Result calls.Outcome PerError). settle r row) (next_is tells))
@@ -215,7 +264,8 @@ module _ (told : Bool) (rules : List Rule) (answers : Answers) (now : ℕ) (b : 
   unfolding app_step
   next_reaches tells = ap (λ (row : Result calls.Outcome PerError). is_ok row) (next_is tells)
 
-  commit_row : IsTrue told → (o : calls.Outcome) → o ≡ answered answer.Done (record r { disk = updated_app (progress_in s) r.disk; stage = worlds.at_rest })
+  commit_row : IsTrue told → (o : calls.Outcome) → o ≡ answered answer.Done
+      (record r { disk = updated_app (progress_in s) r.disk; stage = worlds.at_rest })
       → HasRow rules answers b.app now call.UpdateCommit r o
   unfolding app_step
   commit_row tells o is_o = is_o ∙ sym (ap (λ (row : Result calls.Outcome PerError). settle r row) (commit_is tells))
@@ -224,24 +274,32 @@ module _ (told : Bool) (rules : List Rule) (answers : Answers) (now : ℕ) (b : 
   unfolding app_step
   commit_reaches tells = ap (λ (row : Result calls.Outcome PerError). is_ok row) (commit_is tells)
 
-  pub abort_row : IsTrue told → (o : calls.Outcome) → o ≡ answered answer.Done (record r { stage = worlds.at_rest }) → HasRow rules answers b.app now call.UpdateAbort r o
+  pub abort_row : IsTrue told → (o : calls.Outcome) → o ≡ answered answer.Done (record r { stage = worlds.at_rest })
+      → HasRow rules answers b.app now call.UpdateAbort r o
   unfolding app_step
   abort_row tells o is_o = is_o ∙ sym (ap (λ (row : Result calls.Outcome PerError). settle r row) (abort_is tells))
 
   -- an install is refused
-  pub install_row : (text : List ℕ) → IsTrue told → HasRow rules answers b.app now (call.Install text) r (reply_of (Some error.AlreadyInstalled), r)
+  pub install_row : (text : List ℕ) → IsTrue told → HasRow rules answers b.app now (call.Install text) r
+      (reply_of (Some error.AlreadyInstalled), r)
   unfolding app_step
   install_row text tells = sym (ap (λ (row : Result App PerError). settle r (done_with r row))
-      (installed_by now text r.disk.says r.disk.lacking r.disk.states (generation_of s.root.cell) (named s.root.bank (version_said s.root.active))
+      (installed_by now text r.disk.says r.disk.lacking r.disk.states (generation_of s.root.cell)
+      (named s.root.bank (version_said s.root.active))
       (option_map (λ v. named (1 - s.root.bank) (version_said v)) s.root.previous)
-      (says_in_use in_use told old.image b.app (root_in s) (record { memory = is.memory.root; disk = is.root_on }) tells)))
+      (says_in_use in_use told old.image b.app (root_in s) (record { memory = is.memory.root; disk = is.root_on })
+      tells)))
 
   -- a step that failed: it leads to this application, or nowhere
-  module _ (c : Call) (after' : Running) (app : after'.app ≡ b.app) (stage : after'.stage ≡ ToOpen) (same_slots : NoneOpen after'.slots) (next : App)
-      (leads : IsTrue told → MayLead rules answers b.app now c r next) (later : IsTrue told → IsLater r.disk next) (calls : IsTrue told → CallsTo b.app next old new)
-      (reaches : IsTrue told → IsTrue (reaches_device b.app r now c)) (no_storage : storage_named c ≡ None) (not_durable : is_durable c ≡ false) (uses : uses_device r.disk c ≡ true)
+  module _ (c : Call) (after' : Running) (app : after'.app ≡ b.app) (stage : after'.stage ≡ ToOpen)
+      (same_slots : NoneOpen after'.slots) (next : App)
+      (leads : IsTrue told → MayLead rules answers b.app now c r next) (later : IsTrue told → IsLater r.disk next)
+      (calls : IsTrue told → CallsTo b.app next old new)
+      (reaches : IsTrue told → IsTrue (reaches_device b.app r now c)) (no_storage : storage_named c ≡ None)
+      (not_durable : is_durable c ≡ false) (uses : uses_device r.disk c ≡ true)
       (time : Elapses old new) where
-    pub failed_step : (e : Stop) → (e ≡ stop.Device → Rose old.faults new.faults) → Promises told rules answers now c before after' Untouched old new (Err e)
+    pub failed_step : (e : Stop) → (e ≡ stop.Device → Rose old.faults new.faults)
+        → Promises told rules answers now c before after' Untouched old new (Err e)
     failed_step stop.Device cause = record {
       app = app;
       memory = λ fed. marked_running told new.image b after' below app stage same_slots;
@@ -251,7 +309,8 @@ module _ (told : Bool) (rules : List Rule) (answers : Answers) (now : ℕ) (b : 
         next = next;
         leads = leads tells;
         later = later tells;
-        is_after = failed_app new.image b after' r app stage same_slots ∙ ap (λ f. after_failure (app_at new.image b.app) r f) (sym (none_found r c no_storage));
+        is_after = failed_app new.image b after' r app stage same_slots
+            ∙ ap (λ f. after_failure (app_at new.image b.app) r f) (sym (none_found r c no_storage));
         calls = calls tells;
       };
       stopped = λ tells bad. absurd cc;
@@ -281,10 +340,22 @@ module _ (told : Bool) (rules : List Rule) (answers : Answers) (now : ℕ) (b : 
     }
 
   -- one that ended well: its reply is no refusal
-  module _ (c : Call) (stage : Stage) (reply : Reply) (row : IsTrue told → HasRow rules answers b.app now c r (reply, record { disk = app_at new.image b.app; stage = stage_in stage; sessions = sessions_in b.slots }))
-      (is_after : IsStageAt told new.image b.app b.slots stage) (later : IsTrue told → IsLater r.disk (app_at new.image b.app)) (calls : IsTrue told → CallsTo b.app (app_at new.image b.app) old new)
+  module _ (c : Call) (stage : Stage) (reply : Reply) (row : IsTrue told
+      → HasRow rules answers b.app now c r (
+        reply,
+        record {
+          disk = app_at new.image b.app;
+          stage =
+              stage_in stage;
+          sessions = sessions_in b.slots;
+        },
+      ))
+      (is_after : IsStageAt told new.image b.app b.slots stage)
+      (later : IsTrue told → IsLater r.disk (app_at new.image b.app))
+      (calls : IsTrue told → CallsTo b.app (app_at new.image b.app) old new)
       (clean : IsTrue told → IsCleanApp b.app old.image → IsCleanApp b.app new.image) (quiet : Quiet old → Quiet new)
-      (done : is_refusal reply.answer ≡ false) (sound : reply.answer ≢ answer.Error error.PhysicalStorageFailure) (text : HasText reply.answer)
+      (done : is_refusal reply.answer ≡ false) (sound : reply.answer ≢ answer.Error error.PhysicalStorageFailure)
+      (text : HasText reply.answer)
       (not_durable : is_durable c ≡ false) (uses : uses_device r.disk c ≡ true) (time : Elapses old new) where
     pub done_step : Promises told rules answers now c before (record b { stage = stage }) Untouched old new (Ok reply)
     done_step = record {
@@ -305,19 +376,44 @@ module _ (told : Bool) (rules : List Rule) (answers : Answers) (now : ℕ) (b : 
 
   -- ---- one more storage
 
-  pub next_failed : (e : Stop) (after' : Running) → after' ≡ record b { stage = ToOpen } → (e ≡ stop.Device → Rose old.faults new.faults) → (IsTrue told → CallsTo b.app r.disk old new) → Elapses old new
+  pub next_failed : (e : Stop) (after' : Running) → after' ≡ record b { stage = ToOpen }
+      → (e ≡ stop.Device → Rose old.faults new.faults) → (IsTrue told → CallsTo b.app r.disk old new) → Elapses old new
       → Promises told rules answers now call.UpdateNext before after' Untouched old new (Err e)
-  next_failed e after' is_after cause calls time = failed_step call.UpdateNext after' (ap (λ (x : Running). x.app) is_after) (ap (λ (x : Running). x.stage) is_after)
-      (subst (λ (x : Running). NoneOpen x.slots) (sym is_after) none) r.disk (λ tells. inl refl) (λ tells. still r.disk) calls next_reaches refl refl refl time e cause
+  next_failed e after' is_after cause calls time = failed_step call.UpdateNext after'
+      (ap (λ (x : Running). x.app) is_after) (ap (λ (x : Running). x.stage) is_after)
+      (subst (λ (x : Running). NoneOpen x.slots) (sym is_after) none) r.disk (λ tells. inl refl) (λ tells. still r.disk)
+      calls next_reaches refl refl refl time e cause
 
-  pub next_done : (t : Staged) (count : ℕ) → progress_in t ≡ building.one_more (progress_in s) → count ≡ remaining (progress_in t) → StagedAt told new.image b.app t → (IsTrue told → app_at new.image b.app ≡ r.disk)
-      → (IsTrue told → CallsTo b.app r.disk old new) → (IsTrue told → IsCleanApp b.app old.image → IsCleanApp b.app new.image) → (Quiet old → Quiet new) → Elapses old new
-      → Promises told rules answers now call.UpdateNext before (record b { stage = Updating t }) Untouched old new (Ok (reply_with (answer.Number count)))
-  next_done t count progress counts at same calls clean quiet time = done_step call.UpdateNext (Updating t) (reply_with (answer.Number count))
-      (λ tells. next_row tells _ (ap (λ (n : ℕ). (reply_with (answer.Number n), record { disk = app_at new.image b.app; stage = worlds.updating (progress_in t); sessions = sessions_in b.slots })) counts
-      ∙ (ap (λ (p : InProgress). (reply_with (answer.Number (remaining p)), record { disk = app_at new.image b.app; stage = worlds.updating p; sessions = sessions_in b.slots })) progress
-      ∙ ap (λ (a : App). (reply_with (answer.Number (remaining (one_more (progress_in s)))), record { disk = a; stage = worlds.updating (one_more (progress_in s)); sessions = sessions_in b.slots })) (same tells))))
-      (at, none) (λ tells. subst (λ (a : App). IsLater r.disk a) (sym (same tells)) (still r.disk)) (λ tells. subst (λ (a : App). CallsTo b.app a old new) (sym (same tells)) (calls tells))
+  pub next_done : (t : Staged) (count : ℕ) → progress_in t ≡ building.one_more (progress_in s)
+      → count ≡ remaining (progress_in t) → StagedAt told new.image b.app t
+      → (IsTrue told → app_at new.image b.app ≡ r.disk)
+      → (IsTrue told → CallsTo b.app r.disk old new) → (IsTrue told → IsCleanApp b.app old.image
+      → IsCleanApp b.app new.image) → (Quiet old → Quiet new) → Elapses old new
+      → Promises told rules answers now call.UpdateNext before (record b { stage = Updating t }) Untouched old new
+      (Ok (reply_with (answer.Number count)))
+  next_done t count progress counts at same calls clean quiet time =
+      done_step call.UpdateNext (Updating t) (reply_with (answer.Number count))
+      (λ tells. next_row tells _ (ap (λ (n : ℕ). (
+        reply_with (answer.Number n),
+        record {
+          disk = app_at new.image b.app;
+          stage = worlds.updating (progress_in t);
+          sessions =
+              sessions_in b.slots;
+        },
+      )) counts
+      ∙ (ap (λ (p : InProgress). (
+        reply_with (answer.Number (remaining p)),
+        record { disk = app_at new.image b.app; stage = worlds.updating p; sessions = sessions_in b.slots },
+      ))
+      progress
+      ∙ ap (λ (a : App). (
+        reply_with (answer.Number (remaining (one_more (progress_in s)))),
+        record { disk = a; stage = worlds.updating (one_more (progress_in s)); sessions = sessions_in b.slots },
+      ))
+      (same tells))))
+      (at, none) (λ tells. subst (λ (a : App). IsLater r.disk a) (sym (same tells)) (still r.disk))
+      (λ tells. subst (λ (a : App). CallsTo b.app a old new) (sym (same tells)) (calls tells))
       clean quiet refl (λ e. cc) tt refl refl time
 
   -- ---- the commit
@@ -326,32 +422,54 @@ module _ (told : Bool) (rules : List Rule) (answers : Answers) (now : ℕ) (b : 
     abbrev next : App
     next = updated_app (progress_in s) r.disk
 
-    pub commit_failed : (e : Stop) (after' : Running) → after' ≡ record b { stage = ToOpen } → (e ≡ stop.Device → Rose old.faults new.faults) → (IsTrue told → CallsTo b.app next old new) → Elapses old new
+    pub commit_failed : (e : Stop) (after' : Running) → after' ≡ record b { stage = ToOpen }
+        → (e ≡ stop.Device → Rose old.faults new.faults) → (IsTrue told → CallsTo b.app next old new) → Elapses old new
         → Promises told rules answers now call.UpdateCommit before after' Untouched old new (Err e)
-    commit_failed e after' is_after cause calls time = failed_step call.UpdateCommit after' (ap (λ (x : Running). x.app) is_after) (ap (λ (x : Running). x.stage) is_after)
+    commit_failed e after' is_after cause calls time = failed_step call.UpdateCommit after'
+        (ap (λ (x : Running). x.app) is_after) (ap (λ (x : Running). x.stage) is_after)
         (subst (λ (x : Running). NoneOpen x.slots) (sym is_after) none) next
-        (λ tells. inr (answered answer.Done (record r { disk = next; stage = worlds.at_rest }), commit_row tells (answered answer.Done (record r { disk = next; stage = worlds.at_rest })) refl, refl))
+        (λ tells. inr (
+          answered answer.Done (record r { disk = next; stage = worlds.at_rest }),
+          commit_row tells (answered answer.Done (record r { disk = next; stage = worlds.at_rest })) refl,
+          refl,
+        ))
         (λ tells. update_later (progress_in s) r.disk) calls commit_reaches refl refl refl time e cause
 
-    pub commit_done : (root : Root) → RootAt told new.image b.app root → (IsTrue told → app_at new.image b.app ≡ next) → (IsTrue told → CallsTo b.app next old new)
-        → (IsTrue told → IsCleanApp b.app old.image → IsCleanApp b.app new.image) → (Quiet old → Quiet new) → Elapses old new
-        → Promises told rules answers now call.UpdateCommit before (record b { stage = AtRest root }) Untouched old new (Ok (reply_with answer.Done))
-    commit_done root at is_next calls clean quiet time = done_step call.UpdateCommit (AtRest root) (reply_with answer.Done)
-        (λ tells. commit_row tells _ (ap (λ (a : App). (reply_with answer.Done, record { disk = a; stage = worlds.at_rest; sessions = sessions_in b.slots })) (is_next tells)))
-        (record { below = below; root_at = at; open_on = open_by_none told new.image b.app (root_says root) b.slots none })
+    pub commit_done : (root : Root) → RootAt told new.image b.app root → (IsTrue told → app_at new.image b.app ≡ next)
+        → (IsTrue told → CallsTo b.app next old new)
+        → (IsTrue told → IsCleanApp b.app old.image → IsCleanApp b.app new.image) → (Quiet old → Quiet new)
+        → Elapses old new
+        → Promises told rules answers now call.UpdateCommit before (record b { stage = AtRest root }) Untouched old new
+        (Ok (reply_with answer.Done))
+    commit_done root at is_next calls clean quiet time =
+        done_step call.UpdateCommit (AtRest root) (reply_with answer.Done)
+        (λ tells. commit_row tells _ (ap (λ (a : App). (
+          reply_with answer.Done,
+          record { disk = a; stage = worlds.at_rest; sessions = sessions_in b.slots },
+        )) (is_next tells)))
+        (record {
+          below = below;
+          root_at = at;
+          open_on = open_by_none told new.image b.app (root_says root) b.slots none;
+        })
         (λ tells. subst (λ (a : App). IsLater r.disk a) (sym (is_next tells)) (update_later (progress_in s) r.disk))
-        (λ tells. subst (λ (a : App). CallsTo b.app a old new) (sym (is_next tells)) (calls tells)) clean quiet refl (λ e. cc) tt refl refl time
+        (λ tells. subst (λ (a : App). CallsTo b.app a old new) (sym (is_next tells)) (calls tells)) clean quiet refl
+        (λ e. cc) tt refl refl time
 
 -- ---- an install beside an update
 
-pub install_refused : (told : Bool) (rules : List Rule) (answers : Answers) (now : ℕ) (text : List ℕ) (b : Running) (m : Medium) → IsLawful told m → UntouchedAppLaw → (Untouched : Type 0) → Untouched
-    → IsRunning told m.image b → InUseLaw → (s : Staged) → b.stage ≡ Updating s → (reply : Reply) → reply ≡ reply_with (answer.Error error.AlreadyInstalled)
+pub install_refused : (told : Bool) (rules : List Rule) (answers : Answers) (now : ℕ) (text : List ℕ) (b : Running)
+    (m : Medium) → IsLawful told m → UntouchedAppLaw → (Untouched : Type 0) → Untouched
+    → IsRunning told m.image b → InUseLaw → (s : Staged) → b.stage ≡ Updating s → (reply : Reply)
+    → reply ≡ reply_with (answer.Error error.AlreadyInstalled)
     → Promises told rules answers now (call.Install text) b b Untouched m m (Ok reply)
 install_refused told rules answers now text b m lawful untouched Untouched same is in_use s stage_is reply is_reply =
     let at = staged_at told m.image b.app b.slots b.stage s stage_is is.stage_at in
     let back = update_back b s stage_is in
     subst (λ (x : Reply). Promises told rules answers now (call.Install text) b b Untouched m m (Ok x)) (sym is_reply)
-    (idle_promises told rules answers now (call.Install text) b m lawful untouched Untouched same is b.stage (reply_of (Some error.AlreadyInstalled)) is
-    (λ tells. subst (λ (x : Running). HasRow rules answers b.app now (call.Install text) (application m.image x) (reply_of (Some error.AlreadyInstalled), application m.image x)) back
+    (idle_promises told rules answers now (call.Install text) b m lawful untouched Untouched same is b.stage
+    (reply_of (Some error.AlreadyInstalled)) is
+    (λ tells. subst (λ (x : Running). HasRow rules answers b.app now (call.Install text) (application m.image x)
+    (reply_of (Some error.AlreadyInstalled), application m.image x)) back
     (install_row told rules answers now b s m m Untouched at.0 is.below at.1 in_use text tells))
     (λ e. cc) refl)

@@ -1,5 +1,6 @@
 -- A call that names a storage, of an application at rest.
-use Rattle.std.proofs.Common.{◌≡◌, ◌≢◌, ◌⊎◌, ℕ, List, Bool, true, false, IsTrue, Some, IfOk, IsErrOf, OnOk, Result, Ok, Err, refl, sym, ap, subst, inl, inr}
+use Rattle.std.proofs.Common.{◌≡◌, ◌≢◌, ◌⊎◌, ℕ, List, Bool, true, false, IsTrue, Some, IfOk, IsErrOf, OnOk, Result, Ok}
+use Rattle.std.proofs.Common.{Err, refl, sym, ap, subst, inl, inr}
 use Rattle.per_base.specs.Causes.{Rose}
 use Rattle.per_base.specs.declared.errors.PerError.TheVariants as error
 use Rattle.disk_model.specs.Medium.{Elapses, Medium, Quiet}
@@ -31,25 +32,32 @@ use Rattle.app_runtime.specs.Promises.{Promises}
 use Rattle.app_runtime.proofs.LeadOn.{still}
 
 -- a call that names a storage begins no update
-call_step : (rules : List Rule) (answers : Answers) (app now : ℕ) (r : Application) (c : Call) (o : Outcome) → IsTrue (is_on_storage c) → o ≡ settle r (app_step app r now c) → CallStep rules answers app now r c o
+call_step : (rules : List Rule) (answers : Answers) (app now : ℕ) (r : Application) (c : Call) (o : Outcome)
+    → IsTrue (is_on_storage c) → o ≡ settle r (app_step app r now c) → CallStep rules answers app now r c o
 call_step rules answers app now r (call.Update text) o on row = absurd cc
 call_step rules answers app now r (call.UpdateBegin text) o on row = absurd cc
 call_step rules answers app now r other o on row = row
 
-on_each : {T E : Type 0} (P Q : T → Type 0) (result : Result T E) → ((x : T) → P x → Q x) → IfOk result P → IfOk result Q
+on_each : {T E : Type 0} (P Q : T → Type 0) (result : Result T E) → ((x : T) → P x → Q x) → IfOk result P
+    → IfOk result Q
 on_each P Q (Ok x) each is = each x is
 on_each P Q (Err e) each is = tt
 
 -- what the open storages promise of the call
-pub record Stores (told : Bool) (app now : ℕ) (c : Call) (root : Root) (before after : Slots) (Untouched : Type 0) (old new : Medium) (result : Result Reply Stop) : Type 0 where
+pub record Stores (told : Bool) (app now : ℕ) (c : Call) (root : Root) (before after : Slots) (Untouched : Type 0)
+    (old new : Medium) (result : Result Reply Stop) : Type 0 where
   pub memory : (IsErrOf result stop.OutOfMemory → ⊥) → IsResting told new.image app root after
-  pub answered : IsTrue told → IfOk result (λ reply. stored.IsAnswered app now c (resting_with old.image app before) (resting_with new.image app after) reply old new)
-  pub failed : IsTrue told → IsErrOf result stop.Device → stored.HasFailed app now c (resting_with old.image app before) (resting_with new.image app after) old new
-  pub stopped : IsTrue told → IsErrOf result stop.OutOfMemory → stored.HasStopped app now c (resting_with old.image app before) old new
+  pub answered : IsTrue told → IfOk result (λ reply. stored.IsAnswered app now c (resting_with old.image app before)
+      (resting_with new.image app after) reply old new)
+  pub failed : IsTrue told → IsErrOf result stop.Device
+      → stored.HasFailed app now c (resting_with old.image app before) (resting_with new.image app after) old new
+  pub stopped : IsTrue told → IsErrOf result stop.OutOfMemory
+      → stored.HasStopped app now c (resting_with old.image app before) old new
   pub quiet : Quiet old → OnOk result (Quiet new)
   pub idle : IsTrue told → uses_device (app_at old.image app) c ≡ false → Untouched
   pub unwritten : IfOk result (λ reply. is_refusal reply.answer ≡ true → IsUnwritten old new)
-  pub written : IsTrue told → is_durable c ≡ true → (f : Found) (s : Session) → found_named (resting_with old.image app before) c ≡ Some (Ok f)
+  pub written : IsTrue told → is_durable c ≡ true → (f : Found) (s : Session)
+      → found_named (resting_with old.image app before) c ≡ Some (Ok f)
       → session_at (resting_with old.image app before) f.number ≡ Some s → WritesWithin app f s old new
   pub cause : IsErrOf result stop.Device → Rose old.faults new.faults
   pub unfailed : IfOk result (λ reply. reply.answer ≢ answer.Error error.PhysicalStorageFailure)
@@ -58,10 +66,13 @@ pub record Stores (told : Bool) (app now : ℕ) (c : Call) (root : Root) (before
 
 -- every row leads on
 abbrev pub LeadsOn : List Rule → Answers → Type 0
-LeadsOn rules answers = (app now : ℕ) (c : Call) (r : Application) (o : Outcome) → HasRow rules answers app now c r o → IsLater r.disk o.1.disk
+LeadsOn rules answers = (app now : ℕ) (c : Call) (r : Application) (o : Outcome) → HasRow rules answers app now c r o
+    → IsLater r.disk o.1.disk
 
-module _ (told : Bool) (rules : List Rule) (answers : Answers) (now : ℕ) (c : Call) (b : Running) (root : Root) (slots : Slots) (Untouched : Type 0) (old new : Medium) (result : Result Reply Stop)
-    (on : IsTrue (is_on_storage c)) (leads_on : LeadsOn rules answers) (s : Stores told b.app now c root b.slots slots Untouched old new result) where
+module _ (told : Bool) (rules : List Rule) (answers : Answers) (now : ℕ) (c : Call) (b : Running) (root : Root)
+    (slots : Slots) (Untouched : Type 0) (old new : Medium) (result : Result Reply Stop)
+    (on : IsTrue (is_on_storage c)) (leads_on : LeadsOn rules answers)
+    (s : Stores told b.app now c root b.slots slots Untouched old new result) where
   abbrev r : Application
   r = resting_with old.image b.app b.slots
 
@@ -79,20 +90,25 @@ module _ (told : Bool) (rules : List Rule) (answers : Answers) (now : ℕ) (c : 
   later next (inl same) = subst (λ (a : App). IsLater r.disk a) (sym same) (still r.disk)
   later next (inr is) = subst (λ (a : App). IsLater r.disk a) (sym is) (leads_on b.app now c r o (has_row o refl))
 
-  answers_it : (reply : Reply) → stored.IsAnswered b.app now c r (resting_with new.image b.app slots) reply old new → IsAnswered rules answers b.app now c r (resting_with new.image b.app slots) reply old new
+  answers_it : (reply : Reply) → stored.IsAnswered b.app now c r (resting_with new.image b.app slots) reply old new
+      → IsAnswered rules answers b.app now c r (resting_with new.image b.app slots) reply old new
   answers_it reply is = record {
     row = has_row (reply, resting_with new.image b.app slots) is.row;
-    later = leads_on b.app now c r (reply, resting_with new.image b.app slots) (has_row (reply, resting_with new.image b.app slots) is.row);
+    later = leads_on b.app now c r (reply, resting_with new.image b.app slots)
+        (has_row (reply, resting_with new.image b.app slots) is.row);
     calls = is.calls;
     clean = is.clean;
   }
 
-  pub stored_promises : Promises told rules answers now c (record b { stage = AtRest root }) (record b { stage = AtRest root; slots = slots }) Untouched old new result
+  pub stored_promises : Promises told rules answers now c (record b { stage = AtRest root })
+      (record b { stage = AtRest root; slots = slots }) Untouched old new result
   stored_promises = record {
     app = refl;
     memory = λ fed. let is = s.memory fed in record { below = is.below; stage_at = is };
-    answered = λ tells. on_each (λ reply. stored.IsAnswered b.app now c r (resting_with new.image b.app slots) reply old new)
-        (λ reply. IsAnswered rules answers b.app now c r (resting_with new.image b.app slots) reply old new) result answers_it (s.answered tells);
+    answered = λ tells. on_each (λ reply. stored.IsAnswered b.app now c r (resting_with new.image b.app slots) reply old
+        new)
+        (λ reply. IsAnswered rules answers b.app now c r (resting_with new.image b.app slots) reply old new) result
+        answers_it (s.answered tells);
     failed = λ tells bad. let f = s.failed tells bad in record {
       reaches = f.reaches;
       next = f.next;

@@ -1,5 +1,7 @@
 -- An update in one call, and the beginning of one in steps.
-use Rattle.std.proofs.Common.{◌≡◌, ◌≢◌, ◌≤◌, ◌-◌, ℕ, List, [], Bool, true, false, IsTrue, Option, Some, None, IfErr, IfOk, IsErrOf, IsOk, OnOk, is_ok, Result, Ok, Err, refl, sym, ap, ◌∙◌, subst, inl, inr, true≢false, arith}
+use Rattle.std.proofs.Common.{◌≡◌, ◌≢◌, ◌≤◌, ◌-◌, ℕ, List, [], Bool, true, false, IsTrue, Option, Some, None, IfErr}
+use Rattle.std.proofs.Common.{IfOk, IsErrOf, IsOk, OnOk, is_ok, Result, Ok, Err, refl, sym, ap, ◌∙◌, subst, inl, inr}
+use Rattle.std.proofs.Common.{true≢false, arith}
 use Rattle.std.specs.Prelude.{map}
 use Rattle.per_base.specs.Causes.{Rose}
 use Rattle.per_base.specs.declared.errors.PerError.{PerError}
@@ -31,7 +33,8 @@ use Rattle.deploy_laws.specs.Places.{Named}
 use Rattle.deploy_laws.specs.Stands.{IsLater, StandsThroughout}
 use Rattle.deploy_rows.specs.Laws.{RefusesAlike, UpdateLaterLaw}
 use Rattle.deploy_rows.specs.Rows as rows
-use Rattle.deploy_rows.specs.Rows.{◌>>=◌, Begins, BeginsWith, InProgress, Offer, after, deployment_of, newer, offer_over, offered, updated_app}
+use Rattle.deploy_rows.specs.Rows.{◌>>=◌, Begins, BeginsWith, InProgress, Offer, after, deployment_of, newer}
+use Rattle.deploy_rows.specs.Rows.{offer_over, offered, updated_app}
 use Rattle.run_model.specs.Calls as calls
 use Rattle.run_model.specs.Calls.{active_storages, answered, begun, first_open, least_open, settle, updated}
 use Rattle.run_model.specs.Runtimes.{IsUnwritten, is_refusal}
@@ -56,7 +59,8 @@ use Rattle.app_runtime.proofs.Rowed.{ok_alike}
 
 -- ---- an offer that is taken
 
-offer_by : (busy : Option (List ℕ)) (text : List ℕ) (g : ℕ) (active : Named) (previous : Option Named) (o : Offer) → offer_over busy text g active previous ≡ Ok o → busy ≡ None
+offer_by : (busy : Option (List ℕ)) (text : List ℕ) (g : ℕ) (active : Named) (previous : Option Named) (o : Offer)
+    → offer_over busy text g active previous ≡ Ok o → busy ≡ None
 offer_by busy text g active (Some previous) o is = absurd cc
 offer_by None text g active None o is = refl
 offer_by (Some name) text g active None o is = absurd cc
@@ -68,26 +72,32 @@ offer_says busy text nothing lacking states o is = absurd cc
 offer_says busy text (absent g) lacking states o is = absurd cc
 offer_says busy text (installed g active previous) lacking states o is = offer_by busy text g active previous o is
 
-begins_by : (rules : List Rule) (answers : Answers) (now : ℕ) (busy : Option (List ℕ)) (text : List ℕ) (a : App) (p : InProgress) (offer : Result Offer PerError) → offered busy text a ≡ offer
+begins_by : (rules : List Rule) (answers : Answers) (now : ℕ) (busy : Option (List ℕ)) (text : List ℕ) (a : App)
+    (p : InProgress) (offer : Result Offer PerError) → offered busy text a ≡ offer
     → BeginsWith rules answers now a.states offer (Ok p) → busy ≡ None
 begins_by rules answers now busy text a p (Ok o) is begins = offer_says busy text a.says a.lacking a.states o is
 begins_by rules answers now busy text a p (Err e) is begins = absurd cc
 
 -- no storage is open where an update begins
-pub begins_free : (rules : List Rule) (answers : Answers) (now : ℕ) (busy : Option (List ℕ)) (text : List ℕ) (a : App) (p : InProgress) → Begins rules answers now busy text a (Ok p) → busy ≡ None
-begins_free rules answers now busy text a p begins = begins_by rules answers now busy text a p (offered busy text a) refl begins
+pub begins_free : (rules : List Rule) (answers : Answers) (now : ℕ) (busy : Option (List ℕ)) (text : List ℕ) (a : App)
+    (p : InProgress) → Begins rules answers now busy text a (Ok p) → busy ≡ None
+begins_free rules answers now busy text a p begins = begins_by rules answers now busy text a p (offered busy text a)
+    refl begins
 
 -- what `update` promises
-pub record Updates (told : Bool) (rules : List Rule) (answers : Answers) (now : ℕ) (text : List ℕ) (app : ℕ) (root : Root) (busy : Option (List ℕ)) (old new : Medium) (made : Result Outcome Stop) : Type 0 where
+pub record Updates (told : Bool) (rules : List Rule) (answers : Answers) (now : ℕ) (text : List ℕ) (app : ℕ)
+    (root : Root) (busy : Option (List ℕ)) (old new : Medium) (made : Result Outcome Stop) : Type 0 where
   pub root_at : IfOk made (λ o. RootAt told new.image app o.root)
   pub updates : IfOk made (IsUpdated told (Begins rules answers now busy text) app old.image new.image root)
   pub clean : IsTrue told → IfOk made (λ o. IsCleanApp app old.image → IsCleanApp app new.image)
   pub quiet : Quiet old → OnOk made (Quiet new)
-  pub unchanged : IfOk made (λ o. (o.refused ≡ None → ⊥) → (new.image ≡ old.image) × (new.written ≡ old.written) × (o.root ≡ root))
+  pub unchanged : IfOk made (λ o. (o.refused ≡ None → ⊥)
+      → (new.image ≡ old.image) × (new.written ≡ old.written) × (o.root ≡ root))
   pub cause : IsErrOf made stop.Device → Rose old.faults new.faults
   pub device_only : IsErrOf made stop.Device → IsOk (offered busy text (root_app root []))
   pub outside : Leaves told (IsBesideNext app (free_bank root)) old new
-  pub any_moment : IsTrue told → LeadsTo app (rows.MayLead rules answers now busy text (app_at old.image app)) made old new
+  pub any_moment : IsTrue told → LeadsTo app (rows.MayLead rules answers now busy text (app_at old.image app)) made old
+      new
   pub time : Elapses old new
 
 pub free_low : (root : Root) → free_bank root ≤ 1
@@ -97,8 +107,10 @@ free_low (roots.Installed i) = omega arith
 
 -- ---- over an application at rest
 
-module _ (told : Bool) (rules : List Rule) (answers : Answers) (now : ℕ) (text : List ℕ) (b : Running) (root : Root) (old new : Medium) (Untouched : Type 0)
-    (resting : IsResting told old.image b.app root b.slots) (in_use : InUseLaw) (alike : (busy : Option (List ℕ)) (text : List ℕ) → RefusesAlike (offered busy text)) (busy : Option (List ℕ))
+module _ (told : Bool) (rules : List Rule) (answers : Answers) (now : ℕ) (text : List ℕ) (b : Running) (root : Root)
+    (old new : Medium) (Untouched : Type 0)
+    (resting : IsResting told old.image b.app root b.slots) (in_use : InUseLaw)
+    (alike : (busy : Option (List ℕ)) (text : List ℕ) → RefusesAlike (offered busy text)) (busy : Option (List ℕ))
     (busy_is : busy ≡ first_open (sessions_in b.slots) (active_storages (root_says root))) where
   abbrev before : Running
   before = record b { stage = AtRest root }
@@ -113,19 +125,25 @@ module _ (told : Bool) (rules : List Rule) (answers : Answers) (now : ℕ) (text
   says_same tells = sym (ap (λ (a : App). a.says) (disk_is tells))
 
   busy_least : IsTrue told → busy ≡ least_open r
-  busy_least tells = busy_is ∙ ap (λ (says : Says). first_open (sessions_in b.slots) (active_storages says)) (says_same tells)
+  busy_least tells = busy_is ∙ ap (λ (says : Says). first_open (sessions_in b.slots) (active_storages says))
+      (says_same tells)
 
   -- what was read over the root was read over what lies on the disk
   over_disk : IsTrue told → (states : List State) → r.disk.states ≡ states → root_app root states ≡ r.disk
-  over_disk tells states theirs = ap (λ (ss : List State). root_app root ss) (sym theirs ∙ ap (λ (a : App). a.states) (disk_is tells)) ∙ sym (disk_is tells)
+  over_disk tells states theirs = ap (λ (ss : List State). root_app root ss)
+      (sym theirs ∙ ap (λ (a : App). a.states) (disk_is tells)) ∙ sym (disk_is tells)
 
-  begins_there : IsTrue told → (states : List State) (row : Result InProgress PerError) → r.disk.states ≡ states → Begins rules answers now busy text (root_app root states) row
+  begins_there : IsTrue told → (states : List State) (row : Result InProgress PerError) → r.disk.states ≡ states
+      → Begins rules answers now busy text (root_app root states) row
       → Begins rules answers now (least_open r) text r.disk row
-  begins_there tells states row theirs begins = subst (λ (n : Option (List ℕ)). Begins rules answers now n text r.disk row) (busy_least tells)
+  begins_there tells states row theirs begins = subst (λ (n : Option (List ℕ)).
+      Begins rules answers now n text r.disk row) (busy_least tells)
       (subst (λ (a : App). Begins rules answers now busy text a row) (over_disk tells states theirs) begins)
 
-  taken_there : IsTrue told → IsOk (offered busy text (root_app root [])) → is_ok (offered (least_open r) text r.disk) ≡ true
-  taken_there tells is = subst (λ (n : Option (List ℕ)). IsOk (offered n text r.disk)) (busy_least tells) (ok_alike (offered busy text) (alike busy text) (root_app root []) r.disk (says_same tells) is)
+  taken_there : IsTrue told → IsOk (offered busy text (root_app root []))
+      → is_ok (offered (least_open r) text r.disk) ≡ true
+  taken_there tells is = subst (λ (n : Option (List ℕ)). IsOk (offered n text r.disk)) (busy_least tells)
+      (ok_alike (offered busy text) (alike busy text) (root_app root []) r.disk (says_same tells) is)
 
   some_refused : (refused : Option PerError) (e : PerError) → refused ≡ Some e → refused ≡ None → ⊥
   some_refused refused e is none = let both = sym is ∙ none in cc
@@ -133,50 +151,69 @@ module _ (told : Bool) (rules : List Rule) (answers : Answers) (now : ℕ) (text
   -- ---- in one call
 
   -- of what an update may lead to
-  updated_leads : (next : App) (row : Result InProgress PerError) → Begins rules answers now (least_open r) text r.disk row → next ≡ after r.disk (rows.updated r.disk row)
+  updated_leads : (next : App) (row : Result InProgress PerError)
+      → Begins rules answers now (least_open r) text r.disk row → next ≡ after r.disk (rows.updated r.disk row)
       → MayLead rules answers b.app now (call.Update text) r next
-  updated_leads next (Ok p) begins is = inr (answered answer.Done (record r { disk = updated_app p r.disk }), (Ok p, begins, refl), is)
+  updated_leads next (Ok p) begins is = inr (
+    answered answer.Done (record r { disk = updated_app p r.disk }),
+    (Ok p, begins, refl),
+    is,
+  )
   updated_leads next (Err e) begins is = inl is
 
   module _ (later : UpdateLaterLaw) where
-    updated_later : (next : App) (row : Result InProgress PerError) → next ≡ after r.disk (rows.updated r.disk row) → IsLater r.disk next
+    updated_later : (next : App) (row : Result InProgress PerError) → next ≡ after r.disk (rows.updated r.disk row)
+        → IsLater r.disk next
     updated_later next (Ok p) is = subst (λ (a : App). IsLater r.disk a) (sym is) (later p r.disk)
     updated_later next (Err e) is = subst (λ (a : App). IsLater r.disk a) (sym is) (still r.disk)
 
-    may_lead : IsTrue told → (next : App) → rows.MayLead rules answers now busy text r.disk next → MayLead rules answers b.app now (call.Update text) r next × IsLater r.disk next
+    may_lead : IsTrue told → (next : App) → rows.MayLead rules answers now busy text r.disk next
+        → MayLead rules answers b.app now (call.Update text) r next × IsLater r.disk next
     may_lead tells next (inl same) = (inl same, subst (λ (a : App). IsLater r.disk a) (sym same) (still r.disk))
-    may_lead tells next (inr leads) =
-        (updated_leads next leads.0 (subst (λ (n : Option (List ℕ)). Begins rules answers now n text r.disk leads.0) (busy_least tells) leads.1) leads.2, updated_later next leads.0 leads.2)
+    may_lead tells next (inr leads) = (
+      updated_leads next leads.0 (subst (λ (n : Option (List ℕ)). Begins rules answers now n text r.disk leads.0)
+          (busy_least tells) leads.1) leads.2,
+      updated_later next leads.0 leads.2,
+    )
 
     -- the reply and the application after it
-    updated_row : IsTrue told → (refused : Option PerError) (a' : App) (row : Result InProgress PerError) → rows.Answers refused row → a' ≡ after r.disk (rows.updated r.disk row)
+    updated_row : IsTrue told → (refused : Option PerError) (a' : App) (row : Result InProgress PerError)
+        → rows.Answers refused row → a' ≡ after r.disk (rows.updated r.disk row)
         → (reply_of refused, record r { disk = a' }) ≡ settle r (row >>= updated r)
     updated_row tells None a' (Ok p) answers is = ap (λ (d : App). (reply_of None, record r { disk = d })) is
     updated_row tells (Some e) a' (Ok p) answers is = absurd answers
     updated_row tells None a' (Err f) answers is = absurd answers
-    updated_row tells (Some e) a' (Err f) answers is = ap (λ (d : App). (reply_of (Some e), record r { disk = d })) is ∙ ap (λ (x : PerError). answered (answer.Error x) r) (sym answers)
+    updated_row tells (Some e) a' (Err f) answers is = ap (λ (d : App). (reply_of (Some e), record r { disk = d })) is
+        ∙ ap (λ (x : PerError). answered (answer.Error x) r) (sym answers)
 
     module _ (o : Outcome) (u : Updates told rules answers now text b.app root busy old new (Ok o)) where
-      taken_free : (refused : Option PerError) (row : Result InProgress PerError) → rows.Answers refused row → refused ≡ None → Begins rules answers now busy text (root_app root u.updates.states) row → busy ≡ None
-      taken_free None (Ok p) answers_row none begins = begins_free rules answers now busy text (root_app root u.updates.states) p begins
+      taken_free : (refused : Option PerError) (row : Result InProgress PerError) → rows.Answers refused row
+          → refused ≡ None → Begins rules answers now busy text (root_app root u.updates.states) row → busy ≡ None
+      taken_free None (Ok p) answers_row none begins = begins_free rules answers now busy text
+          (root_app root u.updates.states) p begins
       taken_free None (Err e) answers_row none begins = absurd answers_row
       taken_free (Some e) row answers_row none begins = absurd cc
 
-      open_on : (refused : Option PerError) → o.refused ≡ refused → AreOpenOn told new.image b.app (root_says o.root) b.slots
-      open_on None is = free_kept told b.app old.image new.image root b.slots resting busy busy_is (taken_free o.refused u.updates.row u.updates.refused is u.updates.begins) (root_says o.root)
+      open_on : (refused : Option PerError) → o.refused ≡ refused
+          → AreOpenOn told new.image b.app (root_says o.root) b.slots
+      open_on None is = free_kept told b.app old.image new.image root b.slots resting busy busy_is
+          (taken_free o.refused u.updates.row u.updates.refused is u.updates.begins) (root_says o.root)
       open_on (Some e) is =
           let same = u.unchanged (some_refused o.refused e is) in
           subst (λ (x : Root). AreOpenOn told new.image b.app (root_says x) b.slots) (sym same.2)
           (subst (λ (i : Image). AreOpenOn told i b.app (root_says root) b.slots) (sym same.0) resting.open_on)
 
-      plain : (refused : Option PerError) → o.refused ≡ refused → ((reply_of refused).answer ≢ answer.Error error.PhysicalStorageFailure) × HasText (reply_of refused).answer
+      plain : (refused : Option PerError) → o.refused ≡ refused
+          → ((reply_of refused).answer ≢ answer.Error error.PhysicalStorageFailure) × HasText (reply_of refused).answer
       plain None is = (λ e. cc, tt)
       plain (Some e) is =
-          let p = refused_plain u.updates.row e (begins_plain rules answers now busy text (root_app root u.updates.states) u.updates.row u.updates.begins)
+          let p = refused_plain u.updates.row e (begins_plain rules answers now busy text
+          (root_app root u.updates.states) u.updates.row u.updates.begins)
           (subst (λ (x : Option PerError). rows.Answers x u.updates.row) is u.updates.refused) in
           (p.sound, p.text)
 
-      not_written : (refused : Option PerError) → o.refused ≡ refused → is_refusal (reply_of refused).answer ≡ true → IsUnwritten old new
+      not_written : (refused : Option PerError) → o.refused ≡ refused → is_refusal (reply_of refused).answer ≡ true
+          → IsUnwritten old new
       not_written None is none = absurd (true≢false (sym none))
       not_written (Some e) is some = let same = u.unchanged (some_refused o.refused e is) in (same.0, same.1)
 
@@ -184,17 +221,25 @@ module _ (told : Bool) (rules : List Rule) (answers : Answers) (now : ℕ) (text
       calls_there tells =
           let leads = u.any_moment tells in
           subst (λ (a : App). CallsTo b.app a old new) (sym leads.at_the_end)
-          (calls_to told b.app leads.next (IsBesideNext b.app (free_bank root)) old new tells (λ f is. beside_next b.app (free_bank root) f resting.below (free_low root) is) u.outside leads.throughout)
+          (calls_to told b.app leads.next (IsBesideNext b.app (free_bank root)) old new tells
+          (λ f is. beside_next b.app (free_bank root) f resting.below (free_low root) is) u.outside
+          leads.throughout)
 
-      done_promises : Promises told rules answers now (call.Update text) before (record b { stage = AtRest o.root }) Untouched old new (Ok (reply_of o.refused))
+      done_promises : Promises told rules answers now (call.Update text) before (record b { stage = AtRest o.root })
+          Untouched old new (Ok (reply_of o.refused))
       done_promises = record {
         app = refl;
-        memory = λ fed. record { below = resting.below; stage_at = record { below = resting.below; root_at = u.root_at; open_on = open_on o.refused refl } };
+        memory = λ fed. record {
+          below = resting.below;
+          stage_at =
+              record { below = resting.below; root_at = u.root_at; open_on = open_on o.refused refl };
+        };
         answered = λ tells. record {
           row = (
             u.updates.row,
             begins_there tells u.updates.states u.updates.row (u.updates.theirs tells) u.updates.begins,
-            updated_row tells o.refused (app_at new.image b.app) u.updates.row u.updates.refused (u.updates.leads tells),
+            updated_row tells o.refused (app_at new.image b.app) u.updates.row u.updates.refused
+                (u.updates.leads tells),
           );
           later = updated_later (app_at new.image b.app) u.updates.row (u.updates.leads tells);
           calls = calls_there tells;
@@ -212,13 +257,17 @@ module _ (told : Bool) (rules : List Rule) (answers : Answers) (now : ℕ) (text
         time = u.time;
       }
 
-    module _ (after' : Running) (app : after'.app ≡ b.app) (stage : after'.stage ≡ ToOpen) (none : NoneOpen after'.slots) where
-      calls_next : (e : Stop) (u : Updates told rules answers now text b.app root busy old new (Err e)) (tells : IsTrue told) → CallsTo b.app (u.any_moment tells).next old new
+    module _ (after' : Running) (app : after'.app ≡ b.app) (stage : after'.stage ≡ ToOpen)
+        (none : NoneOpen after'.slots) where
+      calls_next : (e : Stop) (u : Updates told rules answers now text b.app root busy old new (Err e))
+          (tells : IsTrue told) → CallsTo b.app (u.any_moment tells).next old new
       calls_next e u tells =
           let leads = u.any_moment tells in
-          calls_to told b.app leads.next (IsBesideNext b.app (free_bank root)) old new tells (λ f is. beside_next b.app (free_bank root) f resting.below (free_low root) is) u.outside leads.throughout
+          calls_to told b.app leads.next (IsBesideNext b.app (free_bank root)) old new tells
+          (λ f is. beside_next b.app (free_bank root) f resting.below (free_low root) is) u.outside leads.throughout
 
-      device_promises : Updates told rules answers now text b.app root busy old new (Err stop.Device) → Promises told rules answers now (call.Update text) before after' Untouched old new (Err stop.Device)
+      device_promises : Updates told rules answers now text b.app root busy old new (Err stop.Device)
+          → Promises told rules answers now (call.Update text) before after' Untouched old new (Err stop.Device)
       device_promises u = record {
         app = app;
         memory = λ fed. marked_running told new.image b after' resting.below app stage none;
@@ -242,7 +291,8 @@ module _ (told : Bool) (rules : List Rule) (answers : Answers) (now : ℕ) (text
         time = u.time;
       }
 
-      memory_promises : Updates told rules answers now text b.app root busy old new (Err stop.OutOfMemory) → Promises told rules answers now (call.Update text) before after' Untouched old new (Err stop.OutOfMemory)
+      memory_promises : Updates told rules answers now text b.app root busy old new (Err stop.OutOfMemory)
+          → Promises told rules answers now (call.Update text) before after' Untouched old new (Err stop.OutOfMemory)
       memory_promises u = record {
         app = app;
         memory = λ fed. absurd (fed refl);
@@ -264,20 +314,28 @@ module _ (told : Bool) (rules : List Rule) (answers : Answers) (now : ℕ) (text
         time = u.time;
       }
 
-      stopped_promises : (e : Stop) → Updates told rules answers now text b.app root busy old new (Err e) → Promises told rules answers now (call.Update text) before after' Untouched old new (Err e)
+      stopped_promises : (e : Stop) → Updates told rules answers now text b.app root busy old new (Err e)
+          → Promises told rules answers now (call.Update text) before after' Untouched old new (Err e)
       stopped_promises stop.Device u = device_promises u
       stopped_promises stop.OutOfMemory u = memory_promises u
 
-    pub updated_promises : (made : Result Outcome Stop) → Updates told rules answers now text b.app root busy old new made → (after' : Running) (result : Result Reply Stop)
-        → Settles made (record b { stage = ToOpen }) after' result → Promises told rules answers now (call.Update text) before after' Untouched old new result
-    updated_promises (Ok o) u after' result s = subst (λ (x : Running). Promises told rules answers now (call.Update text) before x Untouched old new result) (sym s.0)
-        (subst (λ (x : Result Reply Stop). Promises told rules answers now (call.Update text) before (record b { stage = AtRest o.root }) Untouched old new x) (sym s.1) (done_promises o u))
-    updated_promises (Err e) u after' result s = subst (λ (x : Result Reply Stop). Promises told rules answers now (call.Update text) before after' Untouched old new x) (sym s.3)
+    pub updated_promises : (made : Result Outcome Stop) → Updates told rules answers now text b.app root busy old new
+        made → (after' : Running) (result : Result Reply Stop)
+        → Settles made (record b { stage = ToOpen }) after' result
+        → Promises told rules answers now (call.Update text) before after' Untouched old new result
+    updated_promises (Ok o) u after' result s = subst (λ (x : Running).
+        Promises told rules answers now (call.Update text) before x Untouched old new result) (sym s.0)
+        (subst (λ (x : Result Reply Stop). Promises told rules answers now (call.Update text) before
+        (record b { stage = AtRest o.root }) Untouched old new x) (sym s.1) (done_promises o u))
+    updated_promises (Err e) u after' result s = subst (λ (x : Result Reply Stop).
+        Promises told rules answers now (call.Update text) before after' Untouched old new x) (sym s.3)
         (stopped_promises after' s.0 s.1 s.2 e u)
 
 -- what `begin_update` promises
-pub record Beginning (told : Bool) (rules : List Rule) (answers : Answers) (now : ℕ) (text : List ℕ) (app : ℕ) (root : Root) (busy : Option (List ℕ)) (old new : Medium) (made : Result Begin Stop) : Type 0 where
-  pub begins : IfOk made (λ x. (states : List State) × (IsTrue told → (app_at old.image app).states ≡ states) × Begins rules answers now busy text (root_app root states) (begun_as x))
+pub record Beginning (told : Bool) (rules : List Rule) (answers : Answers) (now : ℕ) (text : List ℕ) (app : ℕ)
+    (root : Root) (busy : Option (List ℕ)) (old new : Medium) (made : Result Begin Stop) : Type 0 where
+  pub begins : IfOk made (λ x. (states : List State) × (IsTrue told → (app_at old.image app).states ≡ states)
+      × Begins rules answers now busy text (root_app root states) (begun_as x))
   pub staged : IfOk made (IsBegun told new.image app root)
   pub image : new.image ≡ old.image
   pub written : new.written ≡ old.written
@@ -287,8 +345,10 @@ pub record Beginning (told : Bool) (rules : List Rule) (answers : Answers) (now 
   pub any_moment : IsTrue told → StandsThroughout app (app_at old.image app) old new
   pub time : Elapses old new
 
-module _ (told : Bool) (rules : List Rule) (answers : Answers) (now : ℕ) (text : List ℕ) (b : Running) (root : Root) (old new : Medium) (Untouched : Type 0)
-    (resting : IsResting told old.image b.app root b.slots) (in_use : InUseLaw) (alike : (busy : Option (List ℕ)) (text : List ℕ) → RefusesAlike (offered busy text)) (busy : Option (List ℕ))
+module _ (told : Bool) (rules : List Rule) (answers : Answers) (now : ℕ) (text : List ℕ) (b : Running) (root : Root)
+    (old new : Medium) (Untouched : Type 0)
+    (resting : IsResting told old.image b.app root b.slots) (in_use : InUseLaw)
+    (alike : (busy : Option (List ℕ)) (text : List ℕ) → RefusesAlike (offered busy text)) (busy : Option (List ℕ))
     (busy_is : busy ≡ first_open (sessions_in b.slots) (active_storages (root_says root))) where
   abbrev first : Running
   first = record b { stage = AtRest root }
@@ -319,7 +379,8 @@ module _ (told : Bool) (rules : List Rule) (answers : Answers) (now : ℕ) (text
     quiet_after : Quiet old → Quiet new
     quiet_after quiet = (x.idle quiet).quiet
 
-  ready_promises : (s : Staged) → Beginning told rules answers now text b.app root busy old new (Ok (begin.Ready s)) → Promises told rules answers now c first (record b { stage = Updating s }) Untouched old new (Ok (reply_of None))
+  ready_promises : (s : Staged) → Beginning told rules answers now text b.app root busy old new (Ok (begin.Ready s))
+      → Promises told rules answers now c first (record b { stage = Updating s }) Untouched old new (Ok (reply_of None))
   ready_promises s x = record {
     app = refl;
     memory = λ fed. record {
@@ -327,14 +388,24 @@ module _ (told : Bool) (rules : List Rule) (answers : Answers) (now : ℕ) (text
       stage_at = (
         x.staged.0,
         none_taken b.slots resting.open_on.room
-            (free_slots told b.app old.image new.image root b.slots resting busy busy_is (begins_free rules answers now busy text (root_app root x.begins.0) (progress_in s) x.begins.2)),
+            (free_slots told b.app old.image new.image root b.slots resting busy busy_is
+            (begins_free rules answers now busy text (root_app root x.begins.0) (progress_in s) x.begins.2)),
       );
     };
     answered = λ tells. record {
       row = (
         Ok (progress_in s),
-        begins_there told rules answers now text b root old new Untouched resting in_use alike busy busy_is tells x.begins.0 (Ok (progress_in s)) (x.begins.1 tells) x.begins.2,
-        ap (λ (a : App). (reply_of None, record { disk = a; stage = worlds.updating (progress_in s); sessions = sessions_in b.slots })) (same_app x.image),
+        begins_there told rules answers now text b root old new Untouched resting in_use alike busy busy_is tells
+            x.begins.0 (Ok (progress_in s)) (x.begins.1 tells) x.begins.2,
+        ap (λ (a : App). (
+          reply_of None,
+          record {
+            disk = a;
+            stage = worlds.updating (progress_in s);
+            sessions =
+                sessions_in b.slots;
+          },
+        )) (same_app x.image),
       );
       later = later_after (Ok (begin.Ready s)) x;
       calls = calls_after (Ok (begin.Ready s)) x tells;
@@ -352,8 +423,10 @@ module _ (told : Bool) (rules : List Rule) (answers : Answers) (now : ℕ) (text
     time = x.time;
   }
 
-  refused_promises : (same : Root) (e : PerError) → Beginning told rules answers now text b.app root busy old new (Ok (begin.Refused same e))
-      → Promises told rules answers now c first (record b { stage = AtRest same }) Untouched old new (Ok (reply_of (Some e)))
+  refused_promises : (same : Root) (e : PerError) → Beginning told rules answers now text b.app root busy old new
+      (Ok (begin.Refused same e))
+      → Promises told rules answers now c first (record b { stage = AtRest same }) Untouched old new
+      (Ok (reply_of (Some e)))
   refused_promises same e x = record {
     app = refl;
     memory = λ fed. record {
@@ -361,14 +434,24 @@ module _ (told : Bool) (rules : List Rule) (answers : Answers) (now : ℕ) (text
       stage_at = record {
         below = resting.below;
         root_at = x.staged.1;
-        open_on = subst (λ (y : Root). AreOpenOn told new.image b.app (root_says y) b.slots) (sym x.staged.0) (subst (λ (i : Image). AreOpenOn told i b.app (root_says root) b.slots) (sym x.image) resting.open_on);
+        open_on = subst (λ (y : Root). AreOpenOn told new.image b.app (root_says y) b.slots) (sym x.staged.0)
+            (subst (λ (i : Image). AreOpenOn told i b.app (root_says root) b.slots) (sym x.image) resting.open_on);
       };
     };
     answered = λ tells. record {
       row = (
         Err e,
-        begins_there told rules answers now text b root old new Untouched resting in_use alike busy busy_is tells x.begins.0 (Err e) (x.begins.1 tells) x.begins.2,
-        ap (λ (a : App). (reply_of (Some e), record { disk = a; stage = worlds.at_rest; sessions = sessions_in b.slots })) (same_app x.image),
+        begins_there told rules answers now text b root old new Untouched resting in_use alike busy busy_is tells
+            x.begins.0 (Err e) (x.begins.1 tells) x.begins.2,
+        ap (λ (a : App). (
+          reply_of (Some e),
+          record {
+            disk = a;
+            stage = worlds.at_rest;
+            sessions =
+                sessions_in b.slots;
+          },
+        )) (same_app x.image),
       );
       later = later_after (Ok (begin.Refused same e)) x;
       calls = calls_after (Ok (begin.Refused same e)) x tells;
@@ -386,56 +469,66 @@ module _ (told : Bool) (rules : List Rule) (answers : Answers) (now : ℕ) (text
     time = x.time;
   }
 
-  module _ (after' : Running) (app : after'.app ≡ b.app) (stage : after'.stage ≡ ToOpen) (none : NoneOpen after'.slots) where
-    begin_stopped : (e : Stop) → Beginning told rules answers now text b.app root busy old new (Err e) → Promises told rules answers now c first after' Untouched old new (Err e)
-    begin_stopped stop.Device x = record {
-      app = app;
-      memory = λ fed. marked_running told new.image b after' resting.below app stage none;
-      answered = λ tells. tt;
-      failed = λ tells bad. record {
-        reaches = taken_there told rules answers now text b root old new Untouched resting in_use alike busy busy_is tells (x.device_only refl);
-        next = here.disk;
-        leads = inl refl;
-        later = still here.disk;
-        is_after = failed_app new.image b after' here app stage none;
-        calls = calls_still (Err stop.Device) x tells;
-      };
-      stopped = λ tells bad. absurd cc;
-      quiet = λ quiet. tt;
-      idle = λ tells calm. absurd (true≢false calm);
-      unwritten = tt;
-      written = λ tells durable. absurd (true≢false (sym durable));
-      cause = λ bad. x.cause refl;
-      unfailed = tt;
-      text = tt;
-      time = x.time;
-    }
-    begin_stopped stop.OutOfMemory x = record {
-      app = app;
-      memory = λ fed. absurd (fed refl);
-      answered = λ tells. tt;
-      failed = λ tells bad. absurd cc;
-      stopped = λ tells bad. record {
-        next = here.disk;
-        leads = inl refl;
-        later = still here.disk;
-        calls = calls_still (Err stop.OutOfMemory) x tells;
-      };
-      quiet = λ quiet. tt;
-      idle = λ tells calm. absurd (true≢false calm);
-      unwritten = tt;
-      written = λ tells durable. absurd (true≢false (sym durable));
-      cause = λ bad. absurd cc;
-      unfailed = tt;
-      text = tt;
-      time = x.time;
-    }
+  module _ (after' : Running) (app : after'.app ≡ b.app) (stage : after'.stage ≡ ToOpen) (none : NoneOpen after'.slots)
+    where
+      begin_stopped : (e : Stop) → Beginning told rules answers now text b.app root busy old new (Err e)
+          → Promises told rules answers now c first after' Untouched old new (Err e)
+      begin_stopped stop.Device x = record {
+        app = app;
+        memory = λ fed. marked_running told new.image b after' resting.below app stage none;
+        answered = λ tells. tt;
+        failed = λ tells bad. record {
+          reaches = taken_there told rules answers now text b root old new Untouched resting in_use alike busy busy_is
+              tells (x.device_only refl);
+          next = here.disk;
+          leads = inl refl;
+          later = still here.disk;
+          is_after = failed_app new.image b after' here app stage none;
+          calls = calls_still (Err stop.Device) x tells;
+        };
+        stopped = λ tells bad. absurd cc;
+        quiet = λ quiet. tt;
+        idle = λ tells calm. absurd (true≢false calm);
+        unwritten = tt;
+        written = λ tells durable. absurd (true≢false (sym durable));
+        cause = λ bad. x.cause refl;
+        unfailed = tt;
+        text = tt;
+        time = x.time;
+      }
+      begin_stopped stop.OutOfMemory x = record {
+        app = app;
+        memory = λ fed. absurd (fed refl);
+        answered = λ tells. tt;
+        failed = λ tells bad. absurd cc;
+        stopped = λ tells bad. record {
+          next = here.disk;
+          leads = inl refl;
+          later = still here.disk;
+          calls = calls_still (Err stop.OutOfMemory) x tells;
+        };
+        quiet = λ quiet. tt;
+        idle = λ tells calm. absurd (true≢false calm);
+        unwritten = tt;
+        written = λ tells durable. absurd (true≢false (sym durable));
+        cause = λ bad. absurd cc;
+        unfailed = tt;
+        text = tt;
+        time = x.time;
+      }
 
-  pub begun_promises : (made : Result Begin Stop) → Beginning told rules answers now text b.app root busy old new made → (after' : Running) (result : Result Reply Stop)
-      → SettlesBegun made (record b { stage = ToOpen }) after' result → Promises told rules answers now c first after' Untouched old new result
-  begun_promises (Ok (begin.Ready s)) x after' result settles = subst (λ (y : Running). Promises told rules answers now c first y Untouched old new result) (sym settles.0)
-      (subst (λ (y : Result Reply Stop). Promises told rules answers now c first (record b { stage = Updating s }) Untouched old new y) (sym settles.1) (ready_promises s x))
-  begun_promises (Ok (begin.Refused same e)) x after' result settles = subst (λ (y : Running). Promises told rules answers now c first y Untouched old new result) (sym settles.0)
-      (subst (λ (y : Result Reply Stop). Promises told rules answers now c first (record b { stage = AtRest same }) Untouched old new y) (sym settles.1) (refused_promises same e x))
-  begun_promises (Err e) x after' result settles = subst (λ (y : Result Reply Stop). Promises told rules answers now c first after' Untouched old new y) (sym settles.3)
+  pub begun_promises : (made : Result Begin Stop) → Beginning told rules answers now text b.app root busy old new made
+      → (after' : Running) (result : Result Reply Stop)
+      → SettlesBegun made (record b { stage = ToOpen }) after' result
+      → Promises told rules answers now c first after' Untouched old new result
+  begun_promises (Ok (begin.Ready s)) x after' result settles =
+      subst (λ (y : Running). Promises told rules answers now c first y Untouched old new result) (sym settles.0)
+      (subst (λ (y : Result Reply Stop). Promises told rules answers now c first (record b { stage = Updating s })
+      Untouched old new y) (sym settles.1) (ready_promises s x))
+  begun_promises (Ok (begin.Refused same e)) x after' result settles =
+      subst (λ (y : Running). Promises told rules answers now c first y Untouched old new result) (sym settles.0)
+      (subst (λ (y : Result Reply Stop). Promises told rules answers now c first (record b { stage = AtRest same })
+      Untouched old new y) (sym settles.1) (refused_promises same e x))
+  begun_promises (Err e) x after' result settles = subst
+      (λ (y : Result Reply Stop). Promises told rules answers now c first after' Untouched old new y) (sym settles.3)
       (begin_stopped after' settles.0 settles.1 settles.2 e x)

@@ -22,7 +22,8 @@ module _ (told : Bool) (rules : List Rule) (answers : Answers) (app now : ℕ) (
   abbrev r : Application
   r = resting_with image app slots
 
-  pub install_word : (text : List ℕ) → RefusesAlike (installing now text) → InstallLaterLaw → IsWord told rules answers app now (call.Install text) r (installing now text)
+  pub install_word : (text : List ℕ) → RefusesAlike (installing now text) → InstallLaterLaw
+      → IsWord told rules answers app now (call.Install text) r (installing now text)
   unfolding app_step
   install_word text alike later = record {
     alike = alike;
@@ -49,27 +50,33 @@ module _ (told : Bool) (rules : List Rule) (answers : Answers) (app now : ℕ) (
   }
 
   module _ (busy : Option (List ℕ)) (busy_is : IsTrue told → busy ≡ least_open r) where
-    pub rollback_word : RefusesAlike (rolling_back busy) → RollbackLaterLaw → IsWord told rules answers app now call.Rollback r (rolling_back busy)
+    pub rollback_word : RefusesAlike (rolling_back busy) → RollbackLaterLaw
+        → IsWord told rules answers app now call.Rollback r (rolling_back busy)
     unfolding app_step
     rollback_word alike later = record {
       alike = alike;
       plain = rollback_plain busy;
       later = later busy;
-      has_row = λ tells o is. subst (λ (b : Option (List ℕ)). o ≡ settle r (done_with r (rolling_back b r.disk))) (busy_is tells) is;
-      reaches = λ tells is. done_ok r (rolling_back (least_open r) r.disk) (subst (λ (b : Option (List ℕ)). IsOk (rolling_back b r.disk)) (busy_is tells) is);
+      has_row = λ tells o is. subst (λ (b : Option (List ℕ)). o ≡ settle r (done_with r (rolling_back b r.disk)))
+          (busy_is tells) is;
+      reaches = λ tells is. done_ok r (rolling_back (least_open r) r.disk)
+          (subst (λ (b : Option (List ℕ)). IsOk (rolling_back b r.disk)) (busy_is tells) is);
       no_storage = refl;
       not_durable = refl;
       uses = refl;
     }
 
-    pub wipe_word : RefusesAlike (wiping busy) → WipeLaterLaw → IsWord told rules answers app now call.Wipe r (wiping busy)
+    pub wipe_word : RefusesAlike (wiping busy) → WipeLaterLaw
+        → IsWord told rules answers app now call.Wipe r (wiping busy)
     unfolding app_step
     wipe_word alike later = record {
       alike = alike;
       plain = wipe_plain busy;
       later = later busy;
-      has_row = λ tells o is. subst (λ (b : Option (List ℕ)). o ≡ settle r (done_with r (wiping b r.disk))) (busy_is tells) is;
-      reaches = λ tells is. done_ok r (wiping (least_open r) r.disk) (subst (λ (b : Option (List ℕ)). IsOk (wiping b r.disk)) (busy_is tells) is);
+      has_row = λ tells o is. subst (λ (b : Option (List ℕ)). o ≡ settle r (done_with r (wiping b r.disk)))
+          (busy_is tells) is;
+      reaches = λ tells is. done_ok r (wiping (least_open r) r.disk)
+          (subst (λ (b : Option (List ℕ)). IsOk (wiping b r.disk)) (busy_is tells) is);
       no_storage = refl;
       not_durable = refl;
       uses = refl;

@@ -13,9 +13,11 @@ use Rattle.app_storages.specs.Answers.{CallsTo}
 
 -- the row of a call, refused beside an update in progress where it is
 abbrev pub HasRow : List Rule → Answers → (app now : ℕ) → Call → (before : Application) → Outcome → Type 0
-HasRow rules answers app now c before outcome = StepBeside rules answers app now before c (beside_update (update_in before.stage) c) outcome
+HasRow rules answers app now c before outcome = StepBeside rules answers app now before c
+    (beside_update (update_in before.stage) c) outcome
 
-pub record IsAnswered (rules : List Rule) (answers : Answers) (app now : ℕ) (c : Call) (before after : Application) (reply : Reply) (old new : Medium) : Type 0 where
+pub record IsAnswered (rules : List Rule) (answers : Answers) (app now : ℕ) (c : Call) (before after : Application)
+    (reply : Reply) (old new : Medium) : Type 0 where
   pub row : HasRow rules answers app now c before (reply, after)
   pub later : IsLater before.disk after.disk
   pub calls : CallsTo app after.disk old new
@@ -23,9 +25,11 @@ pub record IsAnswered (rules : List Rule) (answers : Answers) (app now : ℕ) (c
 
 -- what lies on the disk after a call that did not end: what its row leads to, or what lay there before
 abbrev pub MayLead : List Rule → Answers → (app now : ℕ) → Call → (before : Application) → App → Type 0
-MayLead rules answers app now c before next = (next ≡ before.disk) ⊎ ((outcome : Outcome) × HasRow rules answers app now c before outcome × (next ≡ outcome.1.disk))
+MayLead rules answers app now c before next = (next ≡ before.disk)
+    ⊎ ((outcome : Outcome) × HasRow rules answers app now c before outcome × (next ≡ outcome.1.disk))
 
-pub record HasFailed (rules : List Rule) (answers : Answers) (app now : ℕ) (c : Call) (before after : Application) (old new : Medium) : Type 0 where
+pub record HasFailed (rules : List Rule) (answers : Answers) (app now : ℕ) (c : Call) (before after : Application)
+    (old new : Medium) : Type 0 where
   pub reaches : IsTrue (reaches_device app before now c)
   pub next : App
   pub leads : MayLead rules answers app now c before next
@@ -33,7 +37,8 @@ pub record HasFailed (rules : List Rule) (answers : Answers) (app now : ℕ) (c 
   pub is_after : after ≡ after_failure (app_at new.image app) before (found_named before c)
   pub calls : CallsTo app next old new
 
-pub record HasStopped (rules : List Rule) (answers : Answers) (app now : ℕ) (c : Call) (before : Application) (old new : Medium) : Type 0 where
+pub record HasStopped (rules : List Rule) (answers : Answers) (app now : ℕ) (c : Call) (before : Application)
+    (old new : Medium) : Type 0 where
   pub next : App
   pub leads : MayLead rules answers app now c before next
   pub later : IsLater before.disk next

@@ -21,16 +21,21 @@ use Rattle.app_runtime.specs.Answers.{HasFailed, HasStopped, IsAnswered}
 use Rattle.app_runtime.specs.Running.{IsRunning, application}
 
 -- `Untouched` says that the disk is the one that it was
-pub record Promises (told : Bool) (rules : List Rule) (answers : Answers) (now : ℕ) (c : Call) (before after : Running) (Untouched : Type 0) (old new : Medium) (result : Result Reply Stop) : Type 0 where
+pub record Promises (told : Bool) (rules : List Rule) (answers : Answers) (now : ℕ) (c : Call) (before after : Running)
+    (Untouched : Type 0) (old new : Medium) (result : Result Reply Stop) : Type 0 where
   pub app : after.app ≡ before.app
   pub memory : (IsErrOf result stop.OutOfMemory → ⊥) → IsRunning told new.image after
-  pub answered : IsTrue told → IfOk result (λ reply. IsAnswered rules answers before.app now c (application old.image before) (application new.image after) reply old new)
-  pub failed : IsTrue told → IsErrOf result stop.Device → HasFailed rules answers before.app now c (application old.image before) (application new.image after) old new
-  pub stopped : IsTrue told → IsErrOf result stop.OutOfMemory → HasStopped rules answers before.app now c (application old.image before) old new
+  pub answered : IsTrue told → IfOk result (λ reply. IsAnswered rules answers before.app now c
+      (application old.image before) (application new.image after) reply old new)
+  pub failed : IsTrue told → IsErrOf result stop.Device
+      → HasFailed rules answers before.app now c (application old.image before) (application new.image after) old new
+  pub stopped : IsTrue told → IsErrOf result stop.OutOfMemory
+      → HasStopped rules answers before.app now c (application old.image before) old new
   pub quiet : Quiet old → OnOk result (Quiet new)
   pub idle : IsTrue told → uses_device (app_at old.image before.app) c ≡ false → Untouched
   pub unwritten : IfOk result (λ reply. is_refusal reply.answer ≡ true → IsUnwritten old new)
-  pub written : IsTrue told → is_durable c ≡ true → (f : Found) (s : Session) → found_named (application old.image before) c ≡ Some (Ok f)
+  pub written : IsTrue told → is_durable c ≡ true → (f : Found) (s : Session)
+      → found_named (application old.image before) c ≡ Some (Ok f)
       → session_at (application old.image before) f.number ≡ Some s → WritesWithin before.app f s old new
   pub cause : IsErrOf result stop.Device → Rose old.faults new.faults
   pub unfailed : IfOk result (λ reply. reply.answer ≢ answer.Error error.PhysicalStorageFailure)

@@ -25,7 +25,8 @@ use Rattle.app_runtime.specs.declared.running.Stage.{Stage}
 use Rattle.app_runtime.specs.declared.running.Stage.TheVariants.{ToOpen, AtRest, Updating}
 use Rattle.app_runtime.specs.Running.{NoneOpen}
 
--- the root that is in memory: of an update in progress the one over which it was begun; one that is to be opened says nothing
+-- the root that is in memory: of an update in progress the one over which it was begun; one that is to be opened says
+-- nothing
 abbrev pub root_of : Stage → Root
 root_of ToOpen = Bad
 root_of (AtRest root) = root
@@ -55,7 +56,8 @@ reply_of (Some e) = reply_with (answer.Error e)
 abbrev pub status_of : Says → Reply
 status_of nothing = reply_with (answer.Error (error.IntegrityCorrupted unit.Root))
 status_of (absent g) = reply_with (answer.Status status.Absent)
-status_of (installed g active previous) = reply_with (answer.Status (status.Active active.deployment.version (option_map (λ (v : Named). v.deployment.version) previous)))
+status_of (installed g active previous) = reply_with (answer.Status
+    (status.Active active.deployment.version (option_map (λ (v : Named). v.deployment.version) previous)))
 
 -- why an update cannot go on where none is in progress
 abbrev pub without_update : Says → PerError
@@ -65,16 +67,22 @@ without_update (installed g active previous) = error.NoUpdateInProgress
 
 -- What a call made of the root stands in memory, and is answered; where it did not end, all sessions end.
 abbrev pub Settles : Result Outcome Stop → (before after : Running) → Result Reply Stop → Type 0
-Settles (Ok o) before after result = (after ≡ record before { stage = AtRest o.root }) × (result ≡ Ok (reply_of o.refused))
-Settles (Err e) before after result = (after.app ≡ before.app) × (after.stage ≡ before.stage) × NoneOpen after.slots × (result ≡ Err e)
+Settles (Ok o) before after result = (after ≡ record before { stage = AtRest o.root })
+    × (result ≡ Ok (reply_of o.refused))
+Settles (Err e) before after result = (after.app ≡ before.app) × (after.stage ≡ before.stage) × NoneOpen after.slots
+    × (result ≡ Err e)
 
 -- the same of the beginning of an update
 abbrev pub SettlesBegun : Result Begin Stop → (before after : Running) → Result Reply Stop → Type 0
-SettlesBegun (Ok (begin.Ready s)) before after result = (after ≡ record before { stage = Updating s }) × (result ≡ Ok (reply_of None))
-SettlesBegun (Ok (begin.Refused root e)) before after result = (after ≡ record before { stage = AtRest root }) × (result ≡ Ok (reply_of (Some e)))
-SettlesBegun (Err e) before after result = (after.app ≡ before.app) × (after.stage ≡ before.stage) × NoneOpen after.slots × (result ≡ Err e)
+SettlesBegun (Ok (begin.Ready s)) before after result =
+    (after ≡ record before { stage = Updating s }) × (result ≡ Ok (reply_of None))
+SettlesBegun (Ok (begin.Refused root e)) before after result =
+    (after ≡ record before { stage = AtRest root }) × (result ≡ Ok (reply_of (Some e)))
+SettlesBegun (Err e) before after result = (after.app ≡ before.app) × (after.stage ≡ before.stage)
+    × NoneOpen after.slots × (result ≡ Err e)
 
 -- an update in progress is given up: its root stands in memory again; where there is none, that is refused
 abbrev pub Aborts : Option Staged → (before after : Running) → Reply → Type 0
-Aborts None before after reply = (after ≡ before) × (reply ≡ reply_of (Some (without_update (root_says (root_of before.stage)))))
+Aborts None before after reply = (after ≡ before) × (reply
+    ≡ reply_of (Some (without_update (root_says (root_of before.stage)))))
 Aborts (Some s) before after reply = (after ≡ record before { stage = AtRest (root_in s) }) × (reply ≡ reply_of None)

@@ -1,4 +1,5 @@
-//! What is known in memory of an application: which calls go on beside an update, which call the device, and the status.
+//! What is known in memory of an application: which calls go on beside an update, which call the device, and the
+//! status.
 
 ghost use Rattle.std.specs.Prelude.{◌≡◌, Bool, IfOk, IsTrue, Some, false, is_ok, is_some, option_map};
 ghost use Rattle.per_base.specs.declared.elements.StoreKind.{StoreKind};
@@ -141,7 +142,8 @@ impl Running {
 
     // The name of the open storage with the least name, by the root whose storages are open.
     pub(crate) fn busy(&self, root: &Root) -> Result<Option<Name>, AllocError>
-        ensures { IfOk result (λ busy. busy ≡ first_open (sessions_in self.now.slots) (active_storages (root_says root.now))) }
+        ensures { IfOk result (λ busy. busy ≡ first_open (sessions_in self.now.slots)
+            (active_storages (root_says root.now))) }
     {
         match self.slots.least_open(root) {
             Some(name) => Ok(Some(name.copy()?)),

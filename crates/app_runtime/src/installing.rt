@@ -28,7 +28,8 @@ impl Running {
     ) -> Result<Reply, Stop>
         requires memory { IsRunning D.told (D.medium disk.old).image self.old }
         requires opened { is_to_open (stage_in self.old.stage) ≡ false }
-        ensures { Promises D.told (rules_of migrations.now) (answers_of migrations.now) now (Call.Install manifest.now) self.old self.new
+        ensures { Promises D.told (rules_of migrations.now) (answers_of migrations.now) now (Call.Install manifest.now)
+            self.old self.new
             (disk.new ≡ disk.old) (D.medium disk.old) (D.medium disk.new) result }
     {
         untouched_stands();
@@ -49,7 +50,8 @@ impl Running {
     ) -> Result<Reply, Stop>
         requires memory { IsRunning D.told (D.medium disk.old).image self.old }
         requires rests { stage_in self.old.stage ≡ at_rest }
-        ensures { Promises D.told (rules_of migrations.now) (answers_of migrations.now) now (Call.Install manifest.now) self.old self.new
+        ensures { Promises D.told (rules_of migrations.now) (answers_of migrations.now) now (Call.Install manifest.now)
+            self.old self.new
             (disk.new ≡ disk.old) (D.medium disk.old) (D.medium disk.new) result }
     {
         rows_lead_on();
@@ -68,7 +70,8 @@ impl Running {
     ) -> Result<Reply, Stop>
         requires memory { IsRunning D.told (D.medium disk.old).image self.old }
         requires rests { stage_in self.old.stage ≡ at_rest }
-        ensures { (now : ℕ) → Promises D.told (rules_of migrations.now) (answers_of migrations.now) now Call.Finish self.old self.new
+        ensures { (now : ℕ) → Promises D.told (rules_of migrations.now) (answers_of migrations.now) now Call.Finish
+            self.old self.new
             (disk.new ≡ disk.old) (D.medium disk.old) (D.medium disk.new) result }
     {
         rows_lead_on();
@@ -89,7 +92,8 @@ impl Running {
     ) -> Result<Reply, Stop>
         requires memory { IsRunning D.told (D.medium disk.old).image self.old }
         requires rests { stage_in self.old.stage ≡ at_rest }
-        ensures { (now : ℕ) → Promises D.told (rules_of migrations.now) (answers_of migrations.now) now Call.Rollback self.old self.new
+        ensures { (now : ℕ) → Promises D.told (rules_of migrations.now) (answers_of migrations.now) now Call.Rollback
+            self.old self.new
             (disk.new ≡ disk.old) (D.medium disk.old) (D.medium disk.new) result }
     {
         rows_lead_on();
@@ -110,7 +114,8 @@ impl Running {
     ) -> Result<Reply, Stop>
         requires memory { IsRunning D.told (D.medium disk.old).image self.old }
         requires rests { stage_in self.old.stage ≡ at_rest }
-        ensures { (now : ℕ) → Promises D.told (rules_of migrations.now) (answers_of migrations.now) now Call.Wipe self.old self.new
+        ensures { (now : ℕ) → Promises D.told (rules_of migrations.now) (answers_of migrations.now) now Call.Wipe
+            self.old self.new
             (disk.new ≡ disk.old) (D.medium disk.old) (D.medium disk.new) result }
     {
         rows_lead_on();

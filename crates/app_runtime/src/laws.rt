@@ -23,7 +23,8 @@ use run_model::storages_lead_on;
 
 /// What is kept of an application in use makes one of a world.
 pub fn running_is_application()
-    ensures { (told : Bool) (image : Image) (r : Running) → IsTrue told → IsRunning told image r → IsApplication (application image r) }
+    ensures { (told : Bool) (image : Image) (r : Running) → IsTrue told → IsRunning told image r
+        → IsApplication (application image r) }
 {
     roots_in_use();
     roots_say();
@@ -31,7 +32,8 @@ pub fn running_is_application()
 
 /// What is kept of an application stays in use while none of its files changes.
 pub fn running_stays()
-    ensures { (told : Bool) (old new : Image) (r : Running) → (IsTrue told → Spares (IsFileOf r.app) old new) → IsRunning told old r → IsRunning told new r }
+    ensures { (told : Bool) (old new : Image) (r : Running) → (IsTrue told → Spares (IsFileOf r.app) old new)
+        → IsRunning told old r → IsRunning told new r }
 {
     files_lie_apart();
     in_use_stays();
@@ -40,7 +42,8 @@ pub fn running_stays()
 
 /// What a call leads to comes later than what was.
 pub fn calls_lead_on(migrations: &Migrations)
-    ensures { (app now : ℕ) (c : Call) (before : Application) (outcome : Outcome) → HasRow (rules_of migrations.now) (answers_of migrations.now) app now c before outcome
+    ensures { (app now : ℕ) (c : Call) (before : Application) (outcome : Outcome)
+        → HasRow (rules_of migrations.now) (answers_of migrations.now) app now c before outcome
         → IsLater before.disk outcome.1.disk }
 {
     rows_lead_on();

@@ -1,11 +1,12 @@
 //! One application in memory: its stage, its open storages, and each of its calls.
 //!
-//! A [`Running`] keeps the root of its application, an update in progress, and the storages that are open. [`Running::call`] answers
-//! each of the fifty-one calls as its row says, every refusal in its order with what it carries. Where the device fails in a call that
-//! names no storage, all sessions end, and the root is to be opened again ([`Running::open_root`]).
+//! A [`Running`] keeps the root of its application, an update in progress, and the storages that are open.
+//! [`Running::call`] answers each of the fifty-one calls as its row says, every refusal in its order with what it
+//! carries. Where the device fails in a call that names no storage, all sessions end, and the root is to be opened
+//! again ([`Running::open_root`]).
 //!
-//! The promises: a stop at any moment leaves the application as before the call or as the call leads to, and no file of another
-//! application changes; a refused call writes nothing, and a call that needs no device calls none.
+//! The promises: a stop at any moment leaves the application as before the call or as the call leads to, and no file of
+//! another application changes; a refused call writes nothing, and a call that needs no device calls none.
 #![tactic(auto)]
 
 mod asking;

@@ -1,6 +1,7 @@
 //! What is kept in memory of one application, and its calls.
 
-ghost use Rattle.std.specs.Prelude.{◌≡◌, ◌≢◌, ◌<◌, ◌&&◌, ◌||◌, ℕ, List, Bool, Err, IfOk, IsErrOf, IsTrue, None, Ok, OnOk, Some, false, true};
+ghost use Rattle.std.specs.Prelude.{◌≡◌, ◌≢◌, ◌<◌, ◌&&◌, ◌||◌, ℕ, List, Bool, Err, IfOk, IsErrOf, IsTrue, None, Ok};
+ghost use Rattle.std.specs.Prelude.{OnOk, Some, false, true};
 ghost use Rattle.per_base.specs.Causes.{Rose};
 ghost use Rattle.per_base.specs.declared.errors.PerError.{PerError};
 ghost use Rattle.disk_model.specs.Image.{Image};
@@ -108,7 +109,8 @@ impl Running {
         ensures already { IsTrue D.told → (generation : ℕ) (text : List ℕ)
             → IsAlone (D.medium disk.old).image (root_place self.old.app).first 3 generation text
             → IsUnwritten (D.medium disk.old) (D.medium disk.new) }
-        // However it ends: at every moment the application is on its way to whatever may come of it, and no other file changes.
+        // However it ends: at every moment the application is on its way to whatever may come of it, and no other file
+        // changes.
         ensures on_the_way { IsTrue D.told → (next : App) → IsLater (app_at (D.medium disk.old).image self.old.app) next
             → CallsTo self.old.app next (D.medium disk.old) (D.medium disk.new) }
         ensures quiet { OnOk result (Quiet (D.medium disk.new)) }
@@ -120,13 +122,13 @@ impl Running {
         Ok(())
     }
 
-    /// Answers a call, at a moment in seconds. While an update is in progress all calls are refused but those that go on with it, the
-    /// status, and an install, which is refused by its own row.
+    /// Answers a call, at a moment in seconds. While an update is in progress all calls are refused but those that go
+    /// on with it, the status, and an install, which is refused by its own row.
     ///
     /// # Errors
     ///
-    /// `Device` where the disk fails: then the storage that the call names is closed; where it names none all are, an update in progress
-    /// ends, and the root is to be opened again. `OutOfMemory` ends the run.
+    /// `Device` where the disk fails: then the storage that the call names is closed; where it names none all are, an
+    /// update in progress ends, and the root is to be opened again. `OutOfMemory` ends the run.
     pub fn call<D: Disk>(
         &mut self,
         disk: &mut D,
@@ -138,15 +140,22 @@ impl Running {
         requires opened { is_to_open (stage_in self.old.stage) ≡ false }
         ensures app { self.new.app ≡ self.old.app }
         ensures memory { (IsErrOf result Stop.OutOfMemory → ⊥) → IsRunning D.told (D.medium disk.new).image self.new }
-        ensures answered { IsTrue D.told → IfOk result (λ reply. IsAnswered (rules_of migrations.now) (answers_of migrations.now) self.old.app now call.now
-            (application (D.medium disk.old).image self.old) (application (D.medium disk.new).image self.new) reply (D.medium disk.old) (D.medium disk.new)) }
-        ensures failed { IsTrue D.told → IsErrOf result Stop.Device → HasFailed (rules_of migrations.now) (answers_of migrations.now) self.old.app now call.now
-            (application (D.medium disk.old).image self.old) (application (D.medium disk.new).image self.new) (D.medium disk.old) (D.medium disk.new) }
-        ensures stopped { IsTrue D.told → IsErrOf result Stop.OutOfMemory → HasStopped (rules_of migrations.now) (answers_of migrations.now) self.old.app now call.now
+        ensures answered { IsTrue D.told → IfOk result (λ reply.
+            IsAnswered (rules_of migrations.now) (answers_of migrations.now) self.old.app now call.now
+            (application (D.medium disk.old).image self.old) (application (D.medium disk.new).image self.new) reply
+            (D.medium disk.old) (D.medium disk.new)) }
+        ensures failed { IsTrue D.told → IsErrOf result Stop.Device
+            → HasFailed (rules_of migrations.now) (answers_of migrations.now) self.old.app now call.now
+            (application (D.medium disk.old).image self.old) (application (D.medium disk.new).image self.new)
+            (D.medium disk.old) (D.medium disk.new) }
+        ensures stopped { IsTrue D.told → IsErrOf result Stop.OutOfMemory
+            → HasStopped (rules_of migrations.now) (answers_of migrations.now) self.old.app now call.now
             (application (D.medium disk.old).image self.old) (D.medium disk.old) (D.medium disk.new) }
         ensures quiet { Quiet (D.medium disk.old) → OnOk result (Quiet (D.medium disk.new)) }
-        ensures idle { IsTrue D.told → uses_device (app_at (D.medium disk.old).image self.old.app) call.now ≡ false → disk.new ≡ disk.old }
-        ensures unwritten { IfOk result (λ reply. is_refusal reply.answer ≡ true → IsUnwritten (D.medium disk.old) (D.medium disk.new)) }
+        ensures idle { IsTrue D.told → uses_device (app_at (D.medium disk.old).image self.old.app) call.now ≡ false
+            → disk.new ≡ disk.old }
+        ensures unwritten { IfOk result (λ reply. is_refusal reply.answer ≡ true
+            → IsUnwritten (D.medium disk.old) (D.medium disk.new)) }
         ensures written { IsTrue D.told → is_durable call.now ≡ true → (f : Found) (s : Session)
             → found_named (application (D.medium disk.old).image self.old) call.now ≡ Some (Ok f)
             → session_at (application (D.medium disk.old).image self.old) f.number ≡ Some s

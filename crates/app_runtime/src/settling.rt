@@ -11,7 +11,8 @@ use per_base::{PerError, Sequence};
 use std::mem;
 
 impl Stage {
-    // The root that is in memory: of an update in progress the one over which it was begun. One that is to be opened says nothing.
+    // The root that is in memory: of an update in progress the one over which it was begun. One that is to be opened
+    // says nothing.
     pub(crate) fn into_root(self) -> Root
         ensures { result ≡ root_of self }
     {

@@ -27,7 +27,8 @@ impl Running {
     ) -> Result<Reply, Stop>
         requires memory { IsRunning D.told (D.medium disk.old).image self.old }
         requires rests { stage_in self.old.stage ≡ at_rest }
-        ensures { Promises D.told (rules_of migrations.now) (answers_of migrations.now) now (Call.Update manifest.now) self.old self.new
+        ensures { Promises D.told (rules_of migrations.now) (answers_of migrations.now) now (Call.Update manifest.now)
+            self.old self.new
             (disk.new ≡ disk.old) (D.medium disk.old) (D.medium disk.new) result }
     {
         rows_lead_on();
@@ -59,7 +60,8 @@ impl Running {
     ) -> Result<Reply, Stop>
         requires memory { IsRunning D.told (D.medium disk.old).image self.old }
         requires rests { stage_in self.old.stage ≡ at_rest }
-        ensures { Promises D.told (rules_of migrations.now) (answers_of migrations.now) now (Call.UpdateBegin manifest.now) self.old self.new
+        ensures { Promises D.told (rules_of migrations.now) (answers_of migrations.now) now
+            (Call.UpdateBegin manifest.now) self.old self.new
             (disk.new ≡ disk.old) (D.medium disk.old) (D.medium disk.new) result }
     {
         rows_lead_on();
@@ -81,7 +83,8 @@ impl Running {
         self.settle_begun(begun)
     }
 
-    // The update that was begun stands in memory, or the root where it was refused; where it did not end, all sessions end.
+    // The update that was begun stands in memory, or the root where it was refused; where it did not end, all sessions
+    // end.
     fn settle_begun(&mut self, begun: Result<Begin, Stop>) -> Result<Reply, Stop>
         requires room { length self.old.slots.open.items ≡ 16 }
         ensures { SettlesBegun begun self.old self.new result }
@@ -110,7 +113,8 @@ impl Running {
     ) -> Result<Reply, Stop>
         requires memory { IsRunning D.told (D.medium disk.old).image self.old }
         requires opened { is_to_open (stage_in self.old.stage) ≡ false }
-        ensures { (now : ℕ) → Promises D.told (rules_of migrations.now) (answers_of migrations.now) now Call.UpdateNext self.old self.new
+        ensures { (now : ℕ) → Promises D.told (rules_of migrations.now) (answers_of migrations.now) now Call.UpdateNext
+            self.old self.new
             (disk.new ≡ disk.old) (D.medium disk.old) (D.medium disk.new) result }
     {
         roots_in_use();
@@ -132,7 +136,8 @@ impl Running {
     ) -> Result<Reply, Stop>
         requires memory { IsRunning D.told (D.medium disk.old).image self.old }
         requires opened { is_to_open (stage_in self.old.stage) ≡ false }
-        ensures { (now : ℕ) → Promises D.told (rules_of migrations.now) (answers_of migrations.now) now Call.UpdateCommit self.old self.new
+        ensures { (now : ℕ) → Promises D.told (rules_of migrations.now) (answers_of migrations.now) now
+            Call.UpdateCommit self.old self.new
             (disk.new ≡ disk.old) (D.medium disk.old) (D.medium disk.new) result }
     {
         rows_lead_on();

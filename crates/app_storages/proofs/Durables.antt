@@ -1,6 +1,8 @@
--- An open storage that is to be made durable or closed: what the storage promises is what its row says of the application.
+-- An open storage that is to be made durable or closed: what the storage promises is what its row says of the
+-- application.
 use Rattle.std.proofs.Common.{◌≡◌, ℕ, List, [], Bool, true, false, refl, sym, ap, ◌∙◌, subst, inr, true≢false, arith}
-use Rattle.std.specs.Prelude.{IsTrue, Option, Some, None, Result, Ok, Err, IfOk, IsErrOf, IsOk, OnOk, option_map, slice_set}
+use Rattle.std.specs.Prelude.{IsTrue, Option, Some, None, Result, Ok, Err, IfOk, IsErrOf, IsOk, OnOk, option_map}
+use Rattle.std.specs.Prelude.{slice_set}
 use Rattle.per_base.specs.Causes.{Rose}
 use Rattle.per_base.specs.declared.elements.StoreKind.{StoreKind}
 use Rattle.per_base.specs.declared.elements.StoreKind.TheVariants as kinds
@@ -64,24 +66,29 @@ of_keys kinds.Files is = absurd cc
 -- ---- slots
 
 -- an empty slot that was emptied
-pub emptied_again : (told : Bool) (image : Image) (app : ℕ) (root : Root) (was is : Slots) (l : Located) → IsResting told image app root was → IsLocated app (root_says root) l
+pub emptied_again : (told : Bool) (image : Image) (app : ℕ) (root : Root) (was is : Slots) (l : Located)
+    → IsResting told image app root was → IsLocated app (root_says root) l
     → slot_at was l.number ≡ None → IsSet l.number None was is → is.open.items ≡ was.open.items
 emptied_again told image app root was is l resting located none set =
     let room = resting.open_on.room in let within = located.within.in_slots in
     set ∙ set_same was.open.items l.number None (none_there was l.number (omega (arith, room, within)) none)
 
 -- a slot set after it was emptied
-pub set_over : (n : ℕ) (x : Option Open) (was mid is : Slots) → IsSet n None was mid → IsSet n x mid is → IsSet n x was is
-set_over n x was mid is emptied set = set ∙ (ap (λ (xs : List (Option Open)). slice_set xs n x) emptied ∙ set_again was.open.items n None x)
+pub set_over : (n : ℕ) (x : Option Open) (was mid is : Slots) → IsSet n None was mid → IsSet n x mid is
+    → IsSet n x was is
+set_over n x was mid is emptied set = set ∙ (ap (λ (xs : List (Option Open)). slice_set xs n x) emptied
+    ∙ set_again was.open.items n None x)
 
 -- ---- what an open storage promises of a call that is to make it durable
 
-pub record Makes (told : Bool) (storage : Open) (refused : Option PerError) (old new : Medium) (Same : Type 0) (result : Result Durable Stop) : Type 0 where
+pub record Makes (told : Bool) (storage : Open) (refused : Option PerError) (old new : Medium) (Same : Type 0)
+    (result : Result Durable Stop) : Type 0 where
   pub done : IfOk result (IsMade told new.image storage refused)
   pub due : (e : PerError) → refused ≡ Some e → (result ≡ Ok (made.Refused storage e)) × Same
   pub unchanged : is_still storage ≡ true → IsOk result × Same
   pub quiet : Quiet old → OnOk result (Quiet new)
-  pub clean : IsTrue told → IsClean (stores.shape_of (store_in storage)) old.image → OnOk result (IsClean (stores.shape_of (store_in storage)) new.image)
+  pub clean : IsTrue told → IsClean (stores.shape_of (store_in storage)) old.image
+      → OnOk result (IsClean (stores.shape_of (store_in storage)) new.image)
   pub at_most : WritesAtMost storage old new
   pub cause : IsErrOf result Device → Rose old.faults new.faults
   pub storing : IsStoring told (stores.shape_of (store_in storage)) (Opens (durable_view storage) []) old new
@@ -94,12 +101,15 @@ ok_err : {A E : Type 0} (result : Result A E) (x : A) (e : E) → result ≡ Ok 
 ok_err result x e ok err = absurd cc
 
 -- a result that is an error was not to be refused
-pub err_not_due : (told : Bool) (storage : Open) (refused : Option PerError) (old new : Medium) (Same : Type 0) (result : Result Durable Stop) (e : Stop)
+pub err_not_due : (told : Bool) (storage : Open) (refused : Option PerError) (old new : Medium) (Same : Type 0)
+    (result : Result Durable Stop) (e : Stop)
     → Makes told storage refused old new Same result → result ≡ Err e → refused ≡ None
-err_not_due told storage refused old new Same result e makes err = none_of refused (λ f is. ok_err result (made.Refused storage f) e (makes.due f is).0 err)
+err_not_due told storage refused old new Same result e makes err =
+    none_of refused (λ f is. ok_err result (made.Refused storage f) e (makes.due f is).0 err)
 
 module _ (laws : StorageLaws) (texts : TextLaw) (told : Bool) (app now : ℕ) (root : Root) (was : Slots) (old : Medium)
-    (resting : IsResting told old.image app root was) (l : Located) (located : IsLocated app (root_says root) l) (storage : Open) (there_is : slot_at was l.number ≡ Some storage) where
+    (resting : IsResting told old.image app root was) (l : Located) (located : IsLocated app (root_says root) l)
+    (storage : Open) (there_is : slot_at was l.number ≡ Some storage) where
   abbrev before : Application
   before = resting_with old.image app was
 
@@ -141,21 +151,29 @@ module _ (laws : StorageLaws) (texts : TextLaw) (told : Bool) (app now : ℕ) (r
 
   -- ---- what may be written
 
-  module _ (c : Call) (new : Medium) (named : IsTrue told → found_named before c ≡ Some (Ok f)) (still : is_still storage ≡ true → new.written ≡ old.written)
+  module _ (c : Call) (new : Medium) (named : IsTrue told → found_named before c ≡ Some (Ok f))
+      (still : is_still storage ≡ true → new.written ≡ old.written)
       (at_most : WritesAtMost storage old new) where
-    bound : (w : View) → w ≡ v → IsWithin (shape_in app f).place.copies (map_cost f.config.kind (synced_of s) (seen_of s))
-        (index_length f.config.kind (synced_view (shape_in app f) w (synced_of s) (seen_of s)).entries) old.written new.written
-    bound w same = subst (λ (u : View). IsWithin (shape_in app f).place.copies (map_cost f.config.kind (synced_of s) (seen_of s))
-        (index_length f.config.kind (synced_view (shape_in app f) u (synced_of s) (seen_of s)).entries) old.written new.written) (sym same)
+    bound : (w : View) → w ≡ v → IsWithin (shape_in app f).place.copies
+        (map_cost f.config.kind (synced_of s) (seen_of s))
+        (index_length f.config.kind (synced_view (shape_in app f) w (synced_of s) (seen_of s)).entries) old.written
+        new.written
+    bound w same = subst (λ (u : View). IsWithin (shape_in app f).place.copies
+        (map_cost f.config.kind (synced_of s) (seen_of s))
+        (index_length f.config.kind (synced_view (shape_in app f) u (synced_of s) (seen_of s)).entries) old.written
+        new.written) (sym same)
         (subst (λ (shape : Shape). IsWithin shape.place.copies (map_cost f.config.kind (synced_of s) (seen_of s))
-        (index_length f.config.kind (synced_view shape v (synced_of s) (seen_of s)).entries) old.written new.written) (sym shape_in_is)
-        (subst (λ (d : StorageData). IsWithin (stores.shape_of (store_in storage)).place.copies (map_cost d.kind (synced_of s) (seen_of s))
+        (index_length f.config.kind (synced_view shape v (synced_of s) (seen_of s)).entries) old.written new.written)
+        (sym shape_in_is)
+        (subst (λ (d : StorageData). IsWithin (stores.shape_of (store_in storage)).place.copies
+        (map_cost d.kind (synced_of s) (seen_of s))
         (index_length d.kind (durable_view storage).entries) old.written new.written) config_is at_most))
 
     same_view : (w : View) (others : List View) → Opens v [] ≡ Opens w others → w ≡ v
     same_view w others is = cc
 
-    same_found : (named_is : Option (Result Found PerError)) (g : Found) → named_is ≡ Some (Ok f) → named_is ≡ Some (Ok g) → g ≡ f
+    same_found : (named_is : Option (Result Found PerError)) (g : Found) → named_is ≡ Some (Ok f)
+        → named_is ≡ Some (Ok g) → g ≡ f
     same_found named_is g one other = cc
 
     same_session : (t : Session) → Some s ≡ Some t → t ≡ s
@@ -164,17 +182,21 @@ module _ (laws : StorageLaws) (texts : TextLaw) (told : Bool) (app now : ℕ) (r
     pub may_write : IsTrue told → MayWrite app c before old new
     may_write tells durable g t found there =
         let of_found : g ≡ f = same_found (found_named before c) g (named tells) found in
-        let of_session : t ≡ s = same_session t (sym session_is ∙ (ap (λ (h : Found). session_at before h.number) (sym of_found) ∙ there)) in
-        subst (λ (h : Found). WritesWithin app h t old new) (sym of_found) (subst (λ (u : Session). WritesWithin app f u old new) (sym of_session)
+        let of_session : t ≡ s = same_session t (sym session_is
+        ∙ (ap (λ (h : Found). session_at before h.number) (sym of_found) ∙ there)) in
+        subst (λ (h : Found). WritesWithin app h t old new) (sym of_found)
+        (subst (λ (u : Session). WritesWithin app f u old new) (sym of_session)
         (record { same = still; at_most = λ w others is. bound w (same_view w others (sym (opens tells) ∙ is)) }))
 
   -- ---- its row
 
   -- the row leads to this application, or refuses it
-  module _ (c : Call) (refused : Option PerError) (after : Application) (disk : after.disk ≡ with_state (app_at old.image app) f next) (stage : after.stage ≡ at_rest)
+  module _ (c : Call) (refused : Option PerError) (after : Application)
+      (disk : after.disk ≡ with_state (app_at old.image app) f next) (stage : after.stage ≡ at_rest)
       (row : IsTrue told → app_step app before now c ≡ refused_by refused (Ok (answered answer.Done after)))
       (named : IsTrue told → found_named before c ≡ Some (Ok f))
-      (reaches : IsTrue told → (x : Outcome) → app_step app before now c ≡ Ok x → IsTrue (reaches_device app before now c)) where
+      (reaches : IsTrue told → (x : Outcome) → app_step app before now c ≡ Ok x
+      → IsTrue (reaches_device app before now c)) where
     row_ok : refused ≡ None → IsTrue told → app_step app before now c ≡ Ok (answered answer.Done after)
     row_ok none tells = row tells ∙ ap (λ (r : Option PerError). refused_by r (Ok (answered answer.Done after))) none
 
@@ -182,18 +204,24 @@ module _ (laws : StorageLaws) (texts : TextLaw) (told : Bool) (app now : ℕ) (r
     row_err e due tells = row tells ∙ ap (λ (r : Option PerError). refused_by r (Ok (answered answer.Done after))) due
 
     leads : refused ≡ None → IsTrue told → MayLead app now c before (with_state (app_at old.image app) f next)
-    leads none tells = inr (sym disk ∙ sym (ap (λ (x : Result Outcome PerError). (settle before x).1.disk) (row_ok none tells)))
+    leads none tells = inr (sym disk ∙ sym (ap (λ (x : Result Outcome PerError). (settle before x).1.disk)
+        (row_ok none tells)))
 
-    settles : (reply : Reply) → Says reply None → refused ≡ None → IsTrue told → (reply, after) ≡ settle before (app_step app before now c)
+    settles : (reply : Reply) → Says reply None → refused ≡ None → IsTrue told
+        → (reply, after) ≡ settle before (app_step app before now c)
     settles reply says none tells = ap (λ (r : Reply). (r, after)) says ∙ sym (ap (settle before) (row_ok none tells))
 
-    module _ (new : Medium) (Same : Type 0) (idle : IsTrue told → uses_device (app_at old.image app) c ≡ false → Same) (written : IsTrue told → MayWrite app c before old new)
+    module _ (new : Medium) (Same : Type 0) (idle : IsTrue told → uses_device (app_at old.image app) c ≡ false → Same)
+        (written : IsTrue told → MayWrite app c before old new)
         (storing : IsStoring told (shape_at l) next old new) where
       -- memory ran out, or the device failed
-      pub stopped_handled : (is : Slots) → IsSet l.number None was is → (e : Stop) → refused ≡ None → (e ≡ Device → Rose old.faults new.faults)
+      pub stopped_handled : (is : Slots) → IsSet l.number None was is → (e : Stop) → refused ≡ None
+          → (e ≡ Device → Rose old.faults new.faults)
           → IsHandled told app now root c was is old new Same (Err e)
       stopped_handled is emptied Device none cause = record {
-        ends = lost laws told app now root c was is old new l located resting next storing (λ tells. reaches tells (answered answer.Done after) (row_ok none tells)) (leads none) named emptied (cause refl);
+        ends = lost laws told app now root c was is old new l located resting next storing
+            (λ tells. reaches tells (answered answer.Done after) (row_ok none tells)) (leads none) named emptied
+            (cause refl);
         idle = idle;
         written = written;
         time = storing.time;
@@ -206,12 +234,15 @@ module _ (laws : StorageLaws) (texts : TextLaw) (told : Bool) (app now : ℕ) (r
       }
 
       -- it is done
-      pub done_handled : (is : Slots) (reply : Reply) → refused ≡ None → Says reply None → IsResting told new.image app root is → (IsTrue told → store_at new.image (shape_at l) ≡ next)
-          → sessions_in is ≡ after.sessions → (IsTrue told → IsClean (shape_at l) old.image → IsClean (shape_at l) new.image) → (Quiet old → Quiet new)
+      pub done_handled : (is : Slots) (reply : Reply) → refused ≡ None → Says reply None
+          → IsResting told new.image app root is → (IsTrue told → store_at new.image (shape_at l) ≡ next)
+          → sessions_in is ≡ after.sessions → (IsTrue told → IsClean (shape_at l) old.image
+          → IsClean (shape_at l) new.image) → (Quiet old → Quiet new)
           → IsHandled told app now root c was is old new Same (Ok reply)
       done_handled is reply none says rests there sessions clean quiet = record {
         ends = record {
-          answered = λ tells. answered_so laws told app now root c was is old new l located resting next storing tells (there tells) reply after (settles reply says none tells) disk stage sessions (clean tells);
+          answered = λ tells. answered_so laws told app now root c was is old new l located resting next storing tells
+              (there tells) reply after (settles reply says none tells) disk stage sessions (clean tells);
           memory = rests;
           quiet = quiet;
           unwritten = λ refusal. absurd (not_refusal reply says refusal);

@@ -1,4 +1,5 @@
--- How a call ends that works on one storage: with nothing called; in progress; or answered, with the storage in its next state.
+-- How a call ends that works on one storage: with nothing called; in progress; or answered, with the storage in its
+-- next state.
 use Rattle.std.proofs.Common.{◌≡◌, ℕ, List, Bool, refl, sym, ap, ◌∙◌, subst, inl}
 use Rattle.std.specs.Prelude.{◌≢◌, IsTrue, Option, Some, None, Ok, Err, length, map, slice_get, option_map}
 use Rattle.per_base.specs.Causes.{Rose}
@@ -45,15 +46,26 @@ same_error e f same = cc
 
 -- ---- nothing was called
 
-module _ (laws : StorageLaws) (told : Bool) (app now : ℕ) (root : Root) (c : Call) (was : Slots) (m : Medium) (Same : Type 0) (same : Same) (law : IsLawful told m)
+module _ (laws : StorageLaws) (told : Bool) (app now : ℕ) (root : Root) (c : Call) (was : Slots) (m : Medium)
+    (Same : Type 0) (same : Same) (law : IsLawful told m)
     (resting : IsResting told m.image app root was) where
   -- it was refused
-  pub early_handled : TextLaw → (is : Slots) → is.open.items ≡ was.open.items → (e : PerError) → IsEarly e → (reply : Reply) → Says reply (Some e)
-      → (IsTrue told → app_step app (resting_with m.image app was) now c ≡ Err e) → IsHandled told app now root c was is m m Same (Ok reply)
+  pub early_handled : TextLaw → (is : Slots) → is.open.items ≡ was.open.items → (e : PerError) → IsEarly e
+      → (reply : Reply) → Says reply (Some e)
+      → (IsTrue told → app_step app (resting_with m.image app was) now c ≡ Err e)
+      → IsHandled told app now root c was is m m Same (Ok reply)
   early_handled texts is back e early reply says row = record {
     ends = record {
       answered = λ tells. record {
-        row = ap (λ (ss : List (Option Session)). (reply, record { disk = app_at m.image app; stage = at_rest; sessions = ss })) (ap (map (option_map session_in)) back)
+        row = ap (λ (ss : List (Option Session)). (
+          reply,
+          record {
+            disk = app_at m.image app;
+            stage =
+                at_rest;
+            sessions = ss;
+          },
+        )) (ap (map (option_map session_in)) back)
             ∙ refused_row app now c (resting_with m.image app was) e reply says (row tells);
         calls = idle_calls laws told m law app resting.below;
         clean = λ clean. clean;
@@ -68,7 +80,8 @@ module _ (laws : StorageLaws) (told : Bool) (app now : ℕ) (root : Root) (c : C
       };
       quiet = λ quiet. quiet;
       unwritten = λ refused. (refl, refl);
-      unfailed = λ failed. early.no_failure (same_error e error.PhysicalStorageFailure (sym (ap (λ (r : Reply). r.answer) says) ∙ failed));
+      unfailed = λ failed. early.no_failure (same_error e error.PhysicalStorageFailure
+          (sym (ap (λ (r : Reply). r.answer) says) ∙ failed));
       text = subst (λ (r : Reply). HasText r.answer) (sym says) (texts e early.no_want);
     };
     idle = λ tells idle. same;
@@ -79,7 +92,12 @@ module _ (laws : StorageLaws) (told : Bool) (app now : ℕ) (root : Root) (c : C
   -- memory ran out
   pub starved_handled : (is : Slots) → IsHandled told app now root c was is m m Same (Err OutOfMemory)
   starved_handled is = record {
-    ends = λ tells. record { next = app_at m.image app; leads = inl refl; calls = idle_calls laws told m law app resting.below };
+    ends = λ tells. record {
+      next = app_at m.image app;
+      leads = inl refl;
+      calls =
+          idle_calls laws told m law app resting.below;
+    };
     idle = λ tells idle. same;
     written = λ tells. none_written app c (resting_with m.image app was) m;
     time = elapses_none law;
@@ -87,8 +105,10 @@ module _ (laws : StorageLaws) (told : Bool) (app now : ℕ) (root : Root) (c : C
 
 -- ---- a storage was on its way to its next state
 
-module _ (laws : StorageLaws) (told : Bool) (app now : ℕ) (root : Root) (c : Call) (was is : Slots) (old new : Medium) (l : Located)
-    (located : IsLocated app (root_says root) l) (resting : IsResting told old.image app root was) (next : State) (storing : IsStoring told (shape_at l) next old new) where
+module _ (laws : StorageLaws) (told : Bool) (app now : ℕ) (root : Root) (c : Call) (was is : Slots) (old new : Medium)
+    (l : Located)
+    (located : IsLocated app (root_says root) l) (resting : IsResting told old.image app root was) (next : State)
+    (storing : IsStoring told (shape_at l) next old new) where
   abbrev before : Application
   before = resting_with old.image app was
 
@@ -102,18 +122,25 @@ module _ (laws : StorageLaws) (told : Bool) (app now : ℕ) (root : Root) (c : C
   calls tells = storing_calls laws app root l located told tells old.image resting.root_at next old new refl storing
 
   -- where the device failed, its session ends
-  pub lost : (IsTrue told → IsTrue (reaches_device app before now c)) → (IsTrue told → MayLead app now c before next_app) → (IsTrue told → found_named before c ≡ Some (Ok f))
+  pub lost : (IsTrue told → IsTrue (reaches_device app before now c))
+      → (IsTrue told → MayLead app now c before next_app) → (IsTrue told → found_named before c ≡ Some (Ok f))
       → IsSet l.number None was is → Rose old.faults new.faults → IsLost told app now root c was is old new
   lost reaches leads named emptied rose = record {
     failed = λ tells. record {
       reaches = reaches tells;
       next = next_app;
       leads = leads tells;
-      is_after = ap (λ (ss : List (Option Session)). record { disk = app_at new.image app; stage = at_rest; sessions = ss }) (sessions_set was is l.number None emptied)
+      is_after = ap (λ (ss : List (Option Session)). record {
+        disk = app_at new.image app;
+        stage = at_rest;
+        sessions =
+            ss;
+      }) (sessions_set was is l.number None emptied)
           ∙ sym (ap (after_failure (app_at new.image app) before) (named tells));
       calls = calls tells;
     };
-    memory = resting_after laws app root l located told old.image new.image storing.elsewhere was is None resting emptied (λ o none. absurd cc);
+    memory = resting_after laws app root l located told old.image new.image storing.elsewhere was is None resting
+        emptied (λ o none. absurd cc);
     cause = rose;
   }
 
@@ -123,20 +150,24 @@ module _ (laws : StorageLaws) (told : Bool) (app now : ℕ) (root : Root) (c : C
   -- the application as its row has it
   module _ (tells : IsTrue told) (there : store_at new.image (shape_at l) ≡ next) where
     app_is : app_at new.image app ≡ next_app
-    app_is = (stored_app laws app root l located told tells old.image resting.root_at new.image (storing.elsewhere tells)).0
+    app_is = (stored_app laws app root l located told tells old.image resting.root_at new.image
+        (storing.elsewhere tells)).0
         ∙ ap (λ (state : State). with_state (app_at old.image app) f state) there
 
     pub answered_so : (reply : Reply) (after : Application) → (reply, after) ≡ settle before (app_step app before now c)
-        → after.disk ≡ next_app → after.stage ≡ at_rest → sessions_in is ≡ after.sessions → (IsClean (shape_at l) old.image → IsClean (shape_at l) new.image)
+        → after.disk ≡ next_app → after.stage ≡ at_rest → sessions_in is ≡ after.sessions
+        → (IsClean (shape_at l) old.image → IsClean (shape_at l) new.image)
         → IsAnswered app now c before (resting_with new.image app is) reply old new
     answered_so reply after row disk stage sessions clean = record {
       row = ap (λ (a : Application). (reply, a)) after_is ∙ row;
       calls = subst (λ (a : App). CallsTo app a old new) (sym app_is) (calls tells);
-      clean = λ was_clean. (stored_app laws app root l located told tells old.image resting.root_at new.image (storing.elsewhere tells)).1 was_clean
+      clean = λ was_clean. (stored_app laws app root l located told tells old.image resting.root_at new.image
+          (storing.elsewhere tells)).1 was_clean
           (clean (clean_at laws app root l located told tells old.image resting.root_at was_clean));
     }
       where
         after_is : resting_with new.image app is ≡ after
         after_is = ap (λ (a : App). record { disk = a; stage = at_rest; sessions = sessions_in is }) (app_is ∙ sym disk)
-            ∙ (ap (λ (ss : List (Option Session)). record { disk = after.disk; stage = at_rest; sessions = ss }) sessions
+            ∙ (ap (λ (ss : List (Option Session)). record { disk = after.disk; stage = at_rest; sessions = ss })
+            sessions
             ∙ ap (λ (s : Stage). record { disk = after.disk; stage = s; sessions = after.sessions }) (sym stage))

@@ -31,30 +31,36 @@ use Rattle.app_storages.specs.declared.slots.Slots.{Slots}
 -- ---- each promise
 
 module _ {told : Bool} {app now : ℕ} {root : Root} {c : Call} {was is : Slots} {old new : Medium} {Same : Type 0} where
-  pub answered_of : (result : Result Reply Stop) → IsHandled told app now root c was is old new Same result → IsTrue told
-      → IfOk result (λ reply. IsAnswered app now c (resting_with old.image app was) (resting_with new.image app is) reply old new)
+  pub answered_of : (result : Result Reply Stop) → IsHandled told app now root c was is old new Same result
+      → IsTrue told
+      → IfOk result (λ reply. IsAnswered app now c (resting_with old.image app was) (resting_with new.image app is)
+      reply old new)
   answered_of (Ok reply) handled tells = handled.ends.answered tells
   answered_of (Err e) handled tells = tt
 
-  pub failed_of : (result : Result Reply Stop) → IsHandled told app now root c was is old new Same result → IsTrue told → IsErrOf result Device
+  pub failed_of : (result : Result Reply Stop) → IsHandled told app now root c was is old new Same result → IsTrue told
+      → IsErrOf result Device
       → HasFailed app now c (resting_with old.image app was) (resting_with new.image app is) old new
   failed_of (Ok reply) handled tells err = absurd cc
   failed_of (Err Device) handled tells err = handled.ends.failed tells
   failed_of (Err OutOfMemory) handled tells err = absurd cc
 
-  pub stopped_of : (result : Result Reply Stop) → IsHandled told app now root c was is old new Same result → IsTrue told → IsErrOf result OutOfMemory
+  pub stopped_of : (result : Result Reply Stop) → IsHandled told app now root c was is old new Same result → IsTrue told
+      → IsErrOf result OutOfMemory
       → HasStopped app now c (resting_with old.image app was) old new
   stopped_of (Ok reply) handled tells err = absurd cc
   stopped_of (Err Device) handled tells err = absurd cc
   stopped_of (Err OutOfMemory) handled tells err = handled.ends tells
 
-  pub memory_of : (result : Result Reply Stop) → IsHandled told app now root c was is old new Same result → (IsErrOf result OutOfMemory → ⊥)
+  pub memory_of : (result : Result Reply Stop) → IsHandled told app now root c was is old new Same result
+      → (IsErrOf result OutOfMemory → ⊥)
       → IsResting told new.image app root is
   memory_of (Ok reply) handled fed = handled.ends.memory
   memory_of (Err Device) handled fed = handled.ends.memory
   memory_of (Err OutOfMemory) handled fed = absurd (fed refl)
 
-  pub quiet_of : (result : Result Reply Stop) → IsHandled told app now root c was is old new Same result → Quiet old → OnOk result (Quiet new)
+  pub quiet_of : (result : Result Reply Stop) → IsHandled told app now root c was is old new Same result → Quiet old
+      → OnOk result (Quiet new)
   quiet_of (Ok reply) handled quiet = handled.ends.quiet quiet
   quiet_of (Err e) handled quiet = tt
 
@@ -63,7 +69,8 @@ module _ {told : Bool} {app now : ℕ} {root : Root} {c : Call} {was is : Slots}
   unwritten_of (Ok reply) handled = handled.ends.unwritten
   unwritten_of (Err e) handled = tt
 
-  pub cause_of : (result : Result Reply Stop) → IsHandled told app now root c was is old new Same result → IsErrOf result Device → Rose old.faults new.faults
+  pub cause_of : (result : Result Reply Stop) → IsHandled told app now root c was is old new Same result
+      → IsErrOf result Device → Rose old.faults new.faults
   cause_of (Ok reply) handled err = absurd cc
   cause_of (Err Device) handled err = handled.ends.cause
   cause_of (Err OutOfMemory) handled err = absurd cc
@@ -73,7 +80,8 @@ module _ {told : Bool} {app now : ℕ} {root : Root} {c : Call} {was is : Slots}
   unfailed_of (Ok reply) handled = handled.ends.unfailed
   unfailed_of (Err e) handled = tt
 
-  pub text_of : (result : Result Reply Stop) → IsHandled told app now root c was is old new Same result → IfOk result (λ reply. HasText reply.answer)
+  pub text_of : (result : Result Reply Stop) → IsHandled told app now root c was is old new Same result
+      → IfOk result (λ reply. HasText reply.answer)
   text_of (Ok reply) handled = handled.ends.text
   text_of (Err e) handled = tt
 
@@ -86,11 +94,13 @@ settled_on Files image c at = record {
   left = λ f in_them. ap (λ (i : Image). i f) at.left;
 }
 
-pub none_called : UntouchedAppLaw → (told : Bool) (m : Medium) → IsLawful told m → (app : ℕ) → app < 8 → CallsTo app (app_at m.image app) m m
+pub none_called : UntouchedAppLaw → (told : Bool) (m : Medium) → IsLawful told m → (app : ℕ) → app < 8
+    → CallsTo app (app_at m.image app) m m
 none_called untouched told m law app below = record {
   any_moment = λ quiet clean. goes_none (StandsCase app (app_at m.image app) (app_at m.image app)) law
       (λ c here. untouched app m.image c below clean (settled_on (IsFileOf app) m.image c (quiet c here)));
-  outside = λ quiet. goes_none (IsSettledOn (IsNoFileOf app) m.image) law (λ c here. settled_on (IsNoFileOf app) m.image c (quiet c here));
+  outside = λ quiet. goes_none (IsSettledOn (IsNoFileOf app) m.image) law
+      (λ c here. settled_on (IsNoFileOf app) m.image c (quiet c here));
   elsewhere = λ f out. refl;
 }
 
@@ -98,10 +108,15 @@ more : (n x : ℕ) → n ≤ n + x
 more n x = omega arith
 
 pub none_written : (app : ℕ) (c : Call) (before : Application) (m : Medium) → MayWrite app c before m m
-none_written app c before m durable f s found there = record { same = λ is. refl; at_most = λ v others opens. more m.written _ }
+none_written app c before m durable f s found there = record {
+  same = λ is. refl;
+  at_most =
+      λ v others opens. more m.written _;
+}
 
 -- a refusal that needs no device
-pub refused_row : (app now : ℕ) (c : Call) (before : Application) (e : PerError) (reply : Reply) → reply ≡ record { reports = []; answer = answer.Error e }
+pub refused_row : (app now : ℕ) (c : Call) (before : Application) (e : PerError) (reply : Reply)
+    → reply ≡ record { reports = []; answer = answer.Error e }
     → app_step app before now c ≡ Err e → (reply, before) ≡ settle before (app_step app before now c)
 refused_row app now c before e reply is row = ap (λ (r : Reply). (r, before)) is ∙ sym (ap (settle before) row)
 
@@ -109,9 +124,12 @@ plain : (e : PerError) → is_refusal (answer.Error e) ≡ true → answer.Error
 plain e plainly same = absurd (true≢false (sym plainly ∙ ap is_refusal same))
 
 -- It was refused, and nothing was called.
-pub refused_handled : UntouchedAppLaw → (told : Bool) (app now : ℕ) (root : Root) (c : Call) (slots : Slots) (m : Medium) (Same : Type 0) → IsLawful told m
-    → IsResting told m.image app root slots → Same → (e : PerError) (reply : Reply) → reply ≡ record { reports = []; answer = answer.Error e }
-    → is_refusal (answer.Error e) ≡ true → HasText (answer.Error e) → (IsTrue told → app_step app (resting_with m.image app slots) now c ≡ Err e)
+pub refused_handled : UntouchedAppLaw → (told : Bool) (app now : ℕ) (root : Root) (c : Call) (slots : Slots)
+    (m : Medium) (Same : Type 0) → IsLawful told m
+    → IsResting told m.image app root slots → Same → (e : PerError) (reply : Reply)
+    → reply ≡ record { reports = []; answer = answer.Error e }
+    → is_refusal (answer.Error e) ≡ true → HasText (answer.Error e)
+    → (IsTrue told → app_step app (resting_with m.image app slots) now c ≡ Err e)
     → IsHandled told app now root c slots slots m m Same (Ok reply)
 refused_handled untouched told app now root c slots m Same law resting same e reply is plainly text row = record {
   ends = record {

@@ -1,6 +1,7 @@
 -- How a call on an open storage that touches no disk ends.
 use Rattle.std.proofs.Common.{◌≡◌, ◌≢◌, ℕ, ◌<◌, List, [], Bool, false, refl, sym, ap, ◌∙◌, subst, arith, true≢false}
-use Rattle.std.specs.Prelude.{IsTrue, Option, Some, None, Result, Ok, Err, IfErr, IfOk, OnErr, length, map, option_map, slice_get, slice_set}
+use Rattle.std.specs.Prelude.{IsTrue, Option, Some, None, Result, Ok, Err, IfErr, IfOk, OnErr, length, map, option_map}
+use Rattle.std.specs.Prelude.{slice_get, slice_set}
 use Rattle.per_base.specs.declared.elements.StoreKind.{StoreKind}
 use Rattle.per_base.specs.declared.errors.PerError.{PerError}
 use Rattle.per_base.specs.declared.errors.PerError.TheVariants as error
@@ -44,13 +45,21 @@ use Rattle.app_storages.proofs.SlotLaws.{none_there, session_slot, sessions_set,
 use Rattle.app_storages.proofs.Storing.{idle_calls, open_there, resting_after}
 
 -- it was answered in memory, whatever was answered
-pub idle_handled : StorageLaws → (told : Bool) (app now : ℕ) (root : Root) (c : Call) (was is : Slots) (m : Medium) (Same : Type 0) → Same → IsLawful told m
+pub idle_handled : StorageLaws → (told : Bool) (app now : ℕ) (root : Root) (c : Call) (was is : Slots) (m : Medium)
+    (Same : Type 0) → Same → IsLawful told m
     → IsResting told m.image app root was → IsResting told m.image app root is → (reply : Reply)
-    → (IsTrue told → (reply, resting_with m.image app is) ≡ settle (resting_with m.image app was) (app_step app (resting_with m.image app was) now c))
-    → reply.answer ≢ answer.Error error.PhysicalStorageFailure → HasText reply.answer → IsHandled told app now root c was is m m Same (Ok reply)
+    → (IsTrue told → (reply, resting_with m.image app is)
+    ≡ settle (resting_with m.image app was) (app_step app (resting_with m.image app was) now c))
+    → reply.answer ≢ answer.Error error.PhysicalStorageFailure → HasText reply.answer
+    → IsHandled told app now root c was is m m Same (Ok reply)
 idle_handled laws told app now root c was is m Same same law was_resting is_resting reply row unfailed text = record {
   ends = record {
-    answered = λ tells. record { row = row tells; calls = idle_calls laws told m law app was_resting.below; clean = λ clean. clean };
+    answered = λ tells. record {
+      row = row tells;
+      calls = idle_calls laws told m law app was_resting.below;
+      clean =
+          λ clean. clean;
+    };
     memory = is_resting;
     quiet = λ quiet. quiet;
     unwritten = λ refused. (refl, refl);
@@ -69,7 +78,8 @@ not_failed : (a : Answer) → is_error a ≡ false → a ≢ answer.Error error.
 not_failed a plain same = absurd (true≢false (sym (ap is_error same) ∙ plain))
 
 -- the same slots, in another vector
-resting_same : (told : Bool) (image : Image) (app : ℕ) (root : Root) (was is : Slots) → is.open.items ≡ was.open.items → IsResting told image app root was → IsResting told image app root is
+resting_same : (told : Bool) (image : Image) (app : ℕ) (root : Root) (was is : Slots) → is.open.items ≡ was.open.items
+    → IsResting told image app root was → IsResting told image app root is
 resting_same told image app root was is same rest = record {
   below = rest.below;
   root_at = rest.root_at;
@@ -80,28 +90,46 @@ resting_same told image app root was is same rest = record {
 }
 
 -- it was refused before its storage was asked, and the slots are as they were
-pub refused_before : StorageLaws → TextLaw → (told : Bool) (app now : ℕ) (root : Root) (c : Call) (was is : Slots) (m : Medium) (Same : Type 0) → Same → IsLawful told m
-    → IsResting told m.image app root was → is.open.items ≡ was.open.items → (e : PerError) → IsEarly e → (reply : Reply) → reply ≡ record { reports = []; answer = answer.Error e }
-    → (IsTrue told → app_step app (resting_with m.image app was) now c ≡ Err e) → IsHandled told app now root c was is m m Same (Ok reply)
+pub refused_before : StorageLaws → TextLaw → (told : Bool) (app now : ℕ) (root : Root) (c : Call) (was is : Slots)
+    (m : Medium) (Same : Type 0) → Same → IsLawful told m
+    → IsResting told m.image app root was → is.open.items ≡ was.open.items → (e : PerError) → IsEarly e
+    → (reply : Reply) → reply ≡ record { reports = []; answer = answer.Error e }
+    → (IsTrue told → app_step app (resting_with m.image app was) now c ≡ Err e)
+    → IsHandled told app now root c was is m m Same (Ok reply)
 refused_before laws texts told app now root c was is m Same same law resting back e early reply says row =
-    idle_handled laws told app now root c was is m Same same law resting (resting_same told m.image app root was is back resting) reply
-    (λ tells. ap (λ (xs : List (Option Open)). (reply, record { disk = app_at m.image app; stage = at_rest; sessions = map (option_map session_in) xs })) back
+    idle_handled laws told app now root c was is m Same same law resting
+    (resting_same told m.image app root was is back resting) reply
+    (λ tells. ap (λ (xs : List (Option Open)). (
+      reply,
+      record {
+        disk = app_at m.image app;
+        stage = at_rest;
+        sessions =
+            map (option_map session_in) xs;
+      },
+    )) back
     ∙ refused_row app now c (resting_with m.image app was) e reply says (row tells))
-    (λ failed. early.no_failure (same_error e error.PhysicalStorageFailure (sym (ap (λ (r : Reply). r.answer) says) ∙ failed)))
+    (λ failed. early.no_failure (same_error e error.PhysicalStorageFailure
+    (sym (ap (λ (r : Reply). r.answer) says) ∙ failed)))
     (subst (λ (r : Reply). HasText r.answer) (sym says) (texts e early.no_want))
 
 -- a slot in which nothing lies, emptied
-pub emptied_same : (was is : Slots) (n : ℕ) → n < length was.open.items → slot_at was n ≡ None → is.open.items ≡ slice_set was.open.items n None → is.open.items ≡ was.open.items
+pub emptied_same : (was is : Slots) (n : ℕ) → n < length was.open.items → slot_at was n ≡ None
+    → is.open.items ≡ slice_set was.open.items n None → is.open.items ≡ was.open.items
 emptied_same was is n lt none set = set ∙ set_same was.open.items n None (none_there was n lt none)
 
 pub is_early_closed : IsEarly error.NotOpen
 is_early_closed = record { no_failure = λ e. absurd cc; no_want = λ e. absurd cc }
 
-module _ (laws : StorageLaws) (texts : TextLaw) (told : Bool) (app now : ℕ) (root : Root) (c : Call) (name : List ℕ) (kind : Option StoreKind) (was is : Slots) (m : Medium)
-    (Same : Type 0) (same : Same) (law : IsLawful told m) (resting : IsResting told m.image app root was) (on : local_on c ≡ Some (name, kind))
+module _ (laws : StorageLaws) (texts : TextLaw) (told : Bool) (app now : ℕ) (root : Root) (c : Call) (name : List ℕ)
+    (kind : Option StoreKind) (was is : Slots) (m : Medium)
+    (Same : Type 0) (same : Same) (law : IsLawful told m) (resting : IsResting told m.image app root was)
+    (on : local_on c ≡ Some (name, kind))
     (l : Located) (located : IsLocated app (root_says root) l)
-    (found : (image : Image) → IsRootOn image app root → storage_in (app_at image app) name kind ≡ Ok (found_on image l))
-    (o later : Open) (there_is : slot_at was l.number ≡ Some o) (set : is.open.items ≡ slice_set (slice_set was.open.items l.number None) l.number (Some later))
+    (found : (image : Image) → IsRootOn image app root → storage_in (app_at image app) name kind
+    ≡ Ok (found_on image l))
+    (o later : Open) (there_is : slot_at was l.number ≡ Some o)
+    (set : is.open.items ≡ slice_set (slice_set was.open.items l.number None) l.number (Some later))
     (config : config_in later ≡ config_in o) (store : store_in later ≡ store_in o) (shown : IsShown later) where
   abbrev before : Application
   before = resting_with m.image app was
@@ -125,51 +153,73 @@ module _ (laws : StorageLaws) (texts : TextLaw) (told : Bool) (app now : ℕ) (r
   }
 
   is_resting : IsResting told m.image app root is
-  is_resting = resting_after laws app root l located told m.image m.image (λ tells f aside. refl) was is (Some later) resting set_once
-      (λ p e. let it : later ≡ p = grind arith in subst (λ (q : Open). IsOpenAt told m.image app located.version l.number q) it later_open)
+  is_resting = resting_after laws app root l located told m.image m.image (λ tells f aside. refl) was is (Some later)
+      resting set_once
+      (λ p e. let it : later ≡ p = grind arith in subst (λ (q : Open).
+      IsOpenAt told m.image app located.version l.number q) it later_open)
 
   with_later : resting_with m.image app is ≡ with_session before l.number (session_in later)
-  with_later = ap (λ (ss : Sessions). record { disk = app_at m.image app; stage = at_rest; sessions = ss }) (sessions_set was is l.number (Some later) set_once)
+  with_later = ap (λ (ss : Sessions). record { disk = app_at m.image app; stage = at_rest; sessions = ss })
+      (sessions_set was is l.number (Some later) set_once)
 
   -- where the session is the same, so is the application
   with_same : session_in later ≡ session_in o → resting_with m.image app is ≡ before
   with_same unchanged = ap (λ (ss : Sessions). record { disk = app_at m.image app; stage = at_rest; sessions = ss })
       (sessions_set was is l.number (Some later) set_once
       ∙ ap (λ (s : Session). slice_set (sessions_in was) l.number (Some s)) unchanged
-      ∙ sym (sessions_set was was l.number (Some o) (sym (set_same was.open.items l.number (Some o) (there was l.number o there_is)))))
+      ∙ sym (sessions_set was was l.number (Some o) (sym (set_same was.open.items l.number (Some o)
+      (there was l.number o there_is)))))
 
-  in_config : (a : Result (Answer × Session) PerError) → in_session (config_in o) now (session_in o) c ≡ a → in_session (config_of l) now (session_in o) c ≡ a
+  in_config : (a : Result (Answer × Session) PerError) → in_session (config_in o) now (session_in o) c ≡ a
+      → in_session (config_of l) now (session_in o) c ≡ a
   in_config a row = ap (λ (s : StorageData). in_session s now (session_in o) c) (sym found_config) ∙ row
 
-  answered_handled : (a : Answer) (reply : Reply) → reply ≡ record { reports = []; answer = a } → in_session (config_in o) now (session_in o) c ≡ Ok (a, session_in later) → HasText a
+  answered_handled : (a : Answer) (reply : Reply) → reply ≡ record { reports = []; answer = a }
+      → in_session (config_in o) now (session_in o) c ≡ Ok (a, session_in later) → HasText a
       → IsHandled told app now root c was is m m Same (Ok reply)
-  answered_handled a reply says row text = idle_handled laws told app now root c was is m Same same law resting is_resting reply
-      (λ tells. ap (λ (r : Reply). (r, resting_with m.image app is)) says ∙ ap (λ (x : Application). (record { reports = []; answer = a }, x)) with_later
-      ∙ sym (ap (settle before) (local_answered app now before c name kind on (found_on m.image l) (found m.image (resting.root_at.disk tells)) (session_in o) session_is a (session_in later) (in_config _ row))))
-      (λ failed. not_failed a (answers_plainly (config_in o) now (session_in o) c a (session_in later) row) (sym (ap (λ (r : Reply). r.answer) says) ∙ failed))
+  answered_handled a reply says row text = idle_handled laws told app now root c was is m Same same law resting
+      is_resting reply
+      (λ tells. ap (λ (r : Reply). (r, resting_with m.image app is)) says
+      ∙ ap (λ (x : Application). (record { reports = []; answer = a }, x)) with_later
+      ∙ sym (ap (settle before) (local_answered app now before c name kind on (found_on m.image l)
+      (found m.image (resting.root_at.disk tells)) (session_in o) session_is a (session_in later)
+      (in_config _ row))))
+      (λ failed. not_failed a (answers_plainly (config_in o) now (session_in o) c a (session_in later) row)
+      (sym (ap (λ (r : Reply). r.answer) says) ∙ failed))
       (subst (λ (r : Reply). HasText r.answer) (sym says) text)
 
-  refused_in : (e : PerError) (reply : Reply) → e ≢ error.OutOfMemory → reply ≡ record { reports = []; answer = answer.Error e }
-      → IsRefusal (in_session (config_in o) now (session_in o) c) e → e ≢ error.PhysicalStorageFailure → session_in later ≡ session_in o
+  refused_in : (e : PerError) (reply : Reply) → e ≢ error.OutOfMemory
+      → reply ≡ record { reports = []; answer = answer.Error e }
+      → IsRefusal (in_session (config_in o) now (session_in o) c) e → e ≢ error.PhysicalStorageFailure
+      → session_in later ≡ session_in o
       → IsHandled told app now root c was is m m Same (Ok reply)
-  refused_in e reply fed says row unfailed unchanged = idle_handled laws told app now root c was is m Same same law resting is_resting reply
+  refused_in e reply fed says row unfailed unchanged = idle_handled laws told app now root c was is m Same same law
+      resting is_resting reply
       (λ tells. ap (λ (x : Application). (reply, x)) (with_same unchanged)
       ∙ refused_row app now c before e reply says
-      (local_refused app now before c name kind on (found_on m.image l) (found m.image (resting.root_at.disk tells)) (session_in o) session_is e (in_config _ (row fed))))
-      (λ failed. unfailed (same_error e error.PhysicalStorageFailure (sym (ap (λ (r : Reply). r.answer) says) ∙ failed)))
+      (local_refused app now before c name kind on (found_on m.image l) (found m.image (resting.root_at.disk tells))
+      (session_in o) session_is e (in_config _ (row fed))))
+      (λ failed. unfailed (same_error e error.PhysicalStorageFailure
+      (sym (ap (λ (r : Reply). r.answer) says) ∙ failed)))
       (subst (λ (r : Reply). HasText r.answer) (sym says) (texts e fed))
 
-  refuses_handled : (e : PerError) (result : Result Reply Stop) → Refuses e result → IsRefusal (in_session (config_in o) now (session_in o) c) e → e ≢ error.PhysicalStorageFailure
+  refuses_handled : (e : PerError) (result : Result Reply Stop) → Refuses e result
+      → IsRefusal (in_session (config_in o) now (session_in o) c) e → e ≢ error.PhysicalStorageFailure
       → session_in later ≡ session_in o → IsHandled told app now root c was is m m Same result
-  refuses_handled e (Ok reply) refused row unfailed unchanged = refused_in e reply refused.0 refused.1 row unfailed unchanged
+  refuses_handled e (Ok reply) refused row unfailed unchanged =
+      refused_in e reply refused.0 refused.1 row unfailed unchanged
   refuses_handled e (Err Device) refused row unfailed unchanged = absurd refused
-  refuses_handled e (Err OutOfMemory) refused row unfailed unchanged = starved_handled laws told app now root c was m Same same law resting is
+  refuses_handled e (Err OutOfMemory) refused row unfailed unchanged =
+      starved_handled laws told app now root c was m Same same law resting is
 
   -- as the call on the storage was answered
   pub local_handled : (given : Result Answer PerError) (result : Result Reply Stop) → Settles given result
       → IfOk given (λ a. in_session (config_in o) now (session_in o) c ≡ Ok (a, session_in later)) → IfOk given HasText
-      → IfErr given (λ e. IsRefusal (in_session (config_in o) now (session_in o) c) e) → IfErr given (λ e. e ≢ error.PhysicalStorageFailure)
+      → IfErr given (λ e. IsRefusal (in_session (config_in o) now (session_in o) c) e)
+      → IfErr given (λ e. e ≢ error.PhysicalStorageFailure)
       → OnErr given (session_in later ≡ session_in o) → IsHandled told app now root c was is m m Same result
   local_handled (Ok a) result settles row text refused unfailed unchanged =
-      subst (λ (r : Result Reply Stop). IsHandled told app now root c was is m m Same r) (sym settles) (answered_handled a (record { reports = []; answer = a }) refl row text)
-  local_handled (Err e) result settles row text refused unfailed unchanged = refuses_handled e result settles refused unfailed unchanged
+      subst (λ (r : Result Reply Stop). IsHandled told app now root c was is m m Same r) (sym settles)
+      (answered_handled a (record { reports = []; answer = a }) refl row text)
+  local_handled (Err e) result settles row text refused unfailed unchanged =
+      refuses_handled e result settles refused unfailed unchanged

@@ -11,15 +11,18 @@ use Rattle.command_text.specs.declared.calls.Call.TheVariants as call
 use Rattle.command_text.specs.declared.replies.Answer.{Answer}
 use Rattle.command_text.specs.declared.replies.Answer.TheVariants as answer
 use Rattle.deploy_rows.specs.Rows.{◌>>=◌}
-use Rattle.run_model.specs.Calls.{answered, app_step, found_or, local_on, local_step, opened_session, session_at, with_session}
+use Rattle.run_model.specs.Calls.{answered, app_step, found_or, local_on, local_step, opened_session, session_at}
+use Rattle.run_model.specs.Calls.{with_session}
 use Rattle.run_model.specs.Found.{Found, storage_in}
-use Rattle.run_model.specs.Sessions.{Answered, KeySession, Session, Working, changes, files, in_session, keys, moves, on_keys, on_working, sees, shows, works}
+use Rattle.run_model.specs.Sessions.{Answered, KeySession, Session, Working, changes, files, in_session, keys, moves}
+use Rattle.run_model.specs.Sessions.{on_keys, on_working, sees, shows, works}
 use Rattle.run_model.specs.Runtimes.{is_durable}
 use Rattle.run_model.specs.Worlds.{Application}
 
 -- ---- the row
 
-local_is : (app now : ℕ) (r : Application) (c : Call) → is_some (local_on c) ≡ true → app_step app r now c ≡ local_step r now (local_on c) c
+local_is : (app now : ℕ) (r : Application) (c : Call) → is_some (local_on c) ≡ true
+    → app_step app r now c ≡ local_step r now (local_on c) c
 unfolding app_step
 local_is app now r call.Status is = absurd (true≢false (sym is))
 local_is app now r (call.Install t) is = absurd (true≢false (sym is))
@@ -49,31 +52,42 @@ local_not_durable other is = refl
 is_some_at : {A : Type 0} (o : Option A) (x : A) → o ≡ Some x → is_some o ≡ true
 is_some_at o x is = ap is_some is
 
-module _ (app now : ℕ) (r : Application) (c : Call) (name : List ℕ) (kind : Option StoreKind) (on : local_on c ≡ Some (name, kind)) where
+module _ (app now : ℕ) (r : Application) (c : Call) (name : List ℕ) (kind : Option StoreKind)
+    (on : local_on c ≡ Some (name, kind)) where
   local_row : app_step app r now c ≡ local_step r now (Some (name, kind)) c
-  local_row = local_is app now r c (is_some_at (local_on c) (name, kind) on) ∙ ap (λ (o : Option (List ℕ × Option StoreKind)). local_step r now o c) on
+  local_row = local_is app now r c (is_some_at (local_on c) (name, kind) on)
+      ∙ ap (λ (o : Option (List ℕ × Option StoreKind)). local_step r now o c) on
 
   pub local_not_found : (e : PerError) → storage_in r.disk name kind ≡ Err e → app_step app r now c ≡ Err e
-  local_not_found e is = local_row ∙ ap (λ (row : Result Found PerError). row >>= λ f. opened_session r f >>= λ s. in_session f.config now s c >>= λ a.
+  local_not_found e is = local_row ∙ ap (λ (row : Result Found PerError). row >>= λ f. opened_session r f >>= λ s.
+      in_session f.config now s c >>= λ a.
       Ok (answered a.0 (with_session r f.number a.1))) is
 
   module _ (f : Found) (found : storage_in r.disk name kind ≡ Ok f) where
-    local_found : app_step app r now c ≡ (opened_session r f >>= λ s. in_session f.config now s c >>= λ a. Ok (answered a.0 (with_session r f.number a.1)))
-    local_found = local_row ∙ ap (λ (row : Result Found PerError). row >>= λ g. opened_session r g >>= λ s. in_session g.config now s c >>= λ a.
+    local_found : app_step app r now c ≡ (opened_session r f >>= λ s. in_session f.config now s c >>= λ a.
+        Ok (answered a.0 (with_session r f.number a.1)))
+    local_found = local_row ∙ ap (λ (row : Result Found PerError). row >>= λ g. opened_session r g >>= λ s.
+        in_session g.config now s c >>= λ a.
         Ok (answered a.0 (with_session r g.number a.1))) found
 
     pub local_not_open : session_at r f.number ≡ None → app_step app r now c ≡ Err error.NotOpen
-    local_not_open none = local_found ∙ ap (λ (o : Option Session). found_or o error.NotOpen >>= λ s. in_session f.config now s c >>= λ a. Ok (answered a.0 (with_session r f.number a.1))) none
+    local_not_open none = local_found ∙ ap (λ (o : Option Session). found_or o error.NotOpen >>= λ s.
+        in_session f.config now s c >>= λ a. Ok (answered a.0 (with_session r f.number a.1))) none
 
     module _ (s : Session) (there : session_at r f.number ≡ Some s) where
-      local_open : app_step app r now c ≡ (in_session f.config now s c >>= λ a. Ok (answered a.0 (with_session r f.number a.1)))
-      local_open = local_found ∙ ap (λ (o : Option Session). found_or o error.NotOpen >>= λ s. in_session f.config now s c >>= λ a. Ok (answered a.0 (with_session r f.number a.1))) there
+      local_open : app_step app r now c ≡ (in_session f.config now s c >>= λ a.
+          Ok (answered a.0 (with_session r f.number a.1)))
+      local_open = local_found ∙ ap (λ (o : Option Session). found_or o error.NotOpen >>= λ s.
+          in_session f.config now s c >>= λ a. Ok (answered a.0 (with_session r f.number a.1))) there
 
-      pub local_answered : (a : Answer) (s' : Session) → in_session f.config now s c ≡ Ok (a, s') → app_step app r now c ≡ Ok (answered a (with_session r f.number s'))
-      local_answered a s' is = local_open ∙ ap (λ (row : Answered Session). row >>= λ a. Ok (answered a.0 (with_session r f.number a.1))) is
+      pub local_answered : (a : Answer) (s' : Session) → in_session f.config now s c ≡ Ok (a, s')
+          → app_step app r now c ≡ Ok (answered a (with_session r f.number s'))
+      local_answered a s' is = local_open ∙ ap (λ (row : Answered Session). row >>= λ a.
+          Ok (answered a.0 (with_session r f.number a.1))) is
 
       pub local_refused : (e : PerError) → in_session f.config now s c ≡ Err e → app_step app r now c ≡ Err e
-      local_refused e is = local_open ∙ ap (λ (row : Answered Session). row >>= λ a. Ok (answered a.0 (with_session r f.number a.1))) is
+      local_refused e is = local_open ∙ ap (λ (row : Answered Session). row >>= λ a.
+          Ok (answered a.0 (with_session r f.number a.1))) is
 
 -- ---- an answer is no refusal
 
@@ -94,7 +108,8 @@ plain_at : {S : Type 0} (row : Answered S) (a : Answer) (s : S) → Plain row �
 plain_at (Ok x) a s is e = ap is_error (sym (ap (answer_or a) e)) ∙ is
 plain_at (Err x) a s is e = absurd cc
 
-plain_shows : (s : KeySession) {A : Type 0} (form : A → Answer) (row : Result A PerError) → ((x : A) → is_error (form x) ≡ false) → Plain (shows s {A = A} form row)
+plain_shows : (s : KeySession) {A : Type 0} (form : A → Answer) (row : Result A PerError)
+    → ((x : A) → is_error (form x) ≡ false) → Plain (shows s {A = A} form row)
 plain_shows s form (Ok x) is = is x
 plain_shows s form (Err e) is = tt
 
@@ -102,11 +117,13 @@ plain_changes : (s : KeySession) (row : Result Map PerError) → Plain (changes 
 plain_changes s (Ok x) = refl
 plain_changes s (Err e) = tt
 
-plain_sees : (w : Working) {A : Type 0} (form : A → Answer) (row : Result A PerError) → ((x : A) → is_error (form x) ≡ false) → Plain (sees w {A = A} form row)
+plain_sees : (w : Working) {A : Type 0} (form : A → Answer) (row : Result A PerError)
+    → ((x : A) → is_error (form x) ≡ false) → Plain (sees w {A = A} form row)
 plain_sees w form (Ok x) is = is x
 plain_sees w form (Err e) is = tt
 
-plain_moves : {A : Type 0} (form : A → Answer) (row : Result (A × Working) PerError) → ((x : A) → is_error (form x) ≡ false) → Plain (moves {A = A} form row)
+plain_moves : {A : Type 0} (form : A → Answer) (row : Result (A × Working) PerError)
+    → ((x : A) → is_error (form x) ≡ false) → Plain (moves {A = A} form row)
 plain_moves form (Ok x) is = is x.0
 plain_moves form (Err e) is = tt
 
@@ -157,14 +174,17 @@ plain_working c now w (call.Cat n f) = plain_moves answer.Octets _ (λ x. refl)
 plain_working c now w (call.Put n f bytes) = plain_works _
 plain_working c now w other = tt
 
-plain_mapped : {S T : Type 0} (row : Answered S) (form : S → T) → Plain row → Plain (row >>= λ (a : Answer × S). Ok (a.0, form a.1))
+plain_mapped : {S T : Type 0} (row : Answered S) (form : S → T) → Plain row
+    → Plain (row >>= λ (a : Answer × S). Ok (a.0, form a.1))
 plain_mapped (Ok x) form is = is
 plain_mapped (Err e) form is = tt
 
 plain_in : (c : StorageData) (now : ℕ) (s : Session) (l : Call) → Plain (in_session c now s l)
 plain_in c now (keys s) l = plain_mapped (on_keys c s l) keys (plain_keys c s l)
-plain_in c now (files s) l = plain_mapped (on_working c now s.working l) (λ (w : Working). files (record s { working = w })) (plain_working c now s.working l)
+plain_in c now (files s) l = plain_mapped (on_working c now s.working l)
+    (λ (w : Working). files (record s { working = w })) (plain_working c now s.working l)
 
 -- what an open storage answers is no refusal
-pub answers_plainly : (c : StorageData) (now : ℕ) (s : Session) (l : Call) (a : Answer) (s' : Session) → in_session c now s l ≡ Ok (a, s') → is_error a ≡ false
+pub answers_plainly : (c : StorageData) (now : ℕ) (s : Session) (l : Call) (a : Answer) (s' : Session)
+    → in_session c now s l ≡ Ok (a, s') → is_error a ≡ false
 answers_plainly c now s l a s' is = plain_at (in_session c now s l) a s' (plain_in c now s l) is

@@ -52,12 +52,14 @@ use Rattle.app_storages.proofs.SlotLaws.{none_there, session_slot, sessions_set,
 use Rattle.app_storages.proofs.Storing.{resting_after, shape_is, stays_so}
 
 -- what was found opens, or is corrupt
-seen_by : (state : State) (shape : Shape) (config : StorageData) (o : Open) (reported : Vec Report Global) → IsOpeningOf state shape config (given.Opened o reported)
+seen_by : (state : State) (shape : Shape) (config : StorageData) (o : Open) (reported : Vec Report Global)
+    → IsOpeningOf state shape config (given.Opened o reported)
     → (v : View) × (others : List View) × (state ≡ Opens v others) × Shows shape config v o reported.items
 seen_by (Opens v others) shape config o reported is = (v, others, refl, is)
 seen_by (Corrupt salvage others) shape config o reported is = absurd is
 
-corrupt_by : (state : State) (shape : Shape) (config : StorageData) (report : Report) → IsOpeningOf state shape config (given.Corrupt report)
+corrupt_by : (state : State) (shape : Shape) (config : StorageData) (report : Report)
+    → IsOpeningOf state shape config (given.Corrupt report)
     → (salvage : Option View) × (others : List View) × (state ≡ Corrupt salvage others) × (report ≡ failed_report shape)
 corrupt_by (Opens v others) shape config report is = absurd is
 corrupt_by (Corrupt salvage others) shape config report is = (salvage, others, refl, is)
@@ -71,17 +73,21 @@ none_of None is = refl
 none_of (Some x) is = absurd (true≢false is)
 
 -- whether its slot is taken, whether its session is open
-pub session_there : (image : Image) (app : ℕ) (slots : Slots) (n : ℕ) → is_some (session_at (resting_with image app slots) n) ≡ is_some (slot_at slots n)
+pub session_there : (image : Image) (app : ℕ) (slots : Slots) (n : ℕ)
+    → is_some (session_at (resting_with image app slots) n) ≡ is_some (slot_at slots n)
 session_there image app slots n = ap is_some (session_slot image app slots n) ∙ is_some_map session_in (slot_at slots n)
 
 -- it is refused because it is open, before any call of the disk
 pub is_early_busy : (name : List ℕ) → IsEarly (error.ResourceBusy (holder.Storage name))
 is_early_busy name = record { no_failure = λ e. absurd cc; no_want = λ e. absurd cc }
 
-module _ (laws : StorageLaws) (told : Bool) (app now : ℕ) (root : Root) (kind : StoreKind) (name : List ℕ) (was : Slots) (old : Medium) (l : Located)
+module _ (laws : StorageLaws) (told : Bool) (app now : ℕ) (root : Root) (kind : StoreKind) (name : List ℕ) (was : Slots)
+    (old : Medium) (l : Located)
     (located : IsLocated app (root_says root) l) (resting : IsResting told old.image app root was)
-    (found : (image : Image) → IsRootOn image app root → storage_in (app_at image app) name (Some kind) ≡ Ok (found_on image l))
-    (named : (image : Image) → IsRootOn image app root → storage_in (app_at image app) name None ≡ Ok (found_on image l))
+    (found : (image : Image) → IsRootOn image app root → storage_in (app_at image app) name (Some kind)
+    ≡ Ok (found_on image l))
+    (named : (image : Image) → IsRootOn image app root → storage_in (app_at image app) name None
+    ≡ Ok (found_on image l))
     (closed : is_some (slot_at was l.number) ≡ false) where
   abbrev before : Application
   before = resting_with old.image app was
@@ -101,7 +107,9 @@ module _ (laws : StorageLaws) (told : Bool) (app now : ℕ) (root : Root) (kind 
 
   -- the slot is empty, and to empty it changes nothing
   emptied : IsSet l.number None was was
-  emptied = sym (set_same was.open.items l.number None (none_there was l.number (let room = resting.open_on.room in let lt = located.within.in_slots in omega (arith, room, lt)) (none_of (slot_at was l.number) closed)))
+  emptied = sym (set_same was.open.items l.number None (none_there was l.number
+      (let room = resting.open_on.room in let lt = located.within.in_slots in omega (arith, room, lt))
+      (none_of (slot_at was l.number) closed)))
 
   module _ (new : Medium) (Same : Type 0) (storing : (after : State) → IsStoring told (shape_at l) after old new) where
     never_idle : IsTrue told → uses_device (app_at old.image app) (open_call kind name) ≡ false → Same
@@ -110,23 +118,28 @@ module _ (laws : StorageLaws) (told : Bool) (app now : ℕ) (root : Root) (kind 
     none_due : MayWrite app (open_call kind name) before old new
     none_due durable g s is there = absurd (true≢false (sym durable ∙ open_not_durable kind name))
 
-    same_app : IsTrue told → with_state (app_at old.image app) f (store_at old.image (shape_at l)) ≡ app_at old.image app
+    same_app : IsTrue told → with_state (app_at old.image app) f (store_at old.image (shape_at l))
+        ≡ app_at old.image app
     same_app tells = stays_so laws app root l located told tells old.image resting.root_at
 
     -- the device failed, or memory ran out
-    pub open_failed : (stop : Stop) → (stop ≡ Device → Rose old.faults new.faults) → IsHandled told app now root (open_call kind name) was was old new Same (Err stop)
+    pub open_failed : (stop : Stop) → (stop ≡ Device → Rose old.faults new.faults)
+        → IsHandled told app now root (open_call kind name) was was old new Same (Err stop)
     open_failed Device rose = record {
-      ends = lost laws told app now root (open_call kind name) was was old new l located resting (store_at old.image (shape_at l)) (storing (store_at old.image (shape_at l)))
+      ends = lost laws told app now root (open_call kind name) was was old new l located resting
+          (store_at old.image (shape_at l)) (storing (store_at old.image (shape_at l)))
           (λ tells. open_reaches app now before kind name (opened app before f f.state) refl (row tells))
           (λ tells. inl (same_app tells))
-          (λ tells. open_named before kind name ∙ ap (λ (x : Result Found PerError). Some x) (named old.image (resting.root_at.disk tells)))
+          (λ tells. open_named before kind name ∙ ap (λ (x : Result Found PerError). Some x)
+          (named old.image (resting.root_at.disk tells)))
           emptied (rose refl);
       idle = never_idle;
       written = λ tells. none_due;
       time = (storing (store_at old.image (shape_at l))).time;
     }
     open_failed OutOfMemory rose = record {
-      ends = stopped laws told app now root (open_call kind name) was was old new l located resting (store_at old.image (shape_at l)) (storing (store_at old.image (shape_at l))) (λ tells. inl (same_app tells));
+      ends = stopped laws told app now root (open_call kind name) was was old new l located resting
+          (store_at old.image (shape_at l)) (storing (store_at old.image (shape_at l))) (λ tells. inl (same_app tells));
       idle = never_idle;
       written = λ tells. none_due;
       time = (storing (store_at old.image (shape_at l))).time;
@@ -134,17 +147,22 @@ module _ (laws : StorageLaws) (told : Bool) (app now : ℕ) (root : Root) (kind 
 
     -- it is corrupt, and so it stays
     pub open_corrupt : (report : Report) → (new.image ≡ old.image) × (new.written ≡ old.written) → Quiet new
-        → (IsTrue told → IsOpeningOf (store_at old.image (shape_at l)) (shape_at l) (config_of l) (given.Corrupt report))
-        → (reply : Reply) → reply ≡ corrupt_reply (config_of l).name report → IsHandled told app now root (open_call kind name) was was old new Same (Ok reply)
+        → (IsTrue told → IsOpeningOf (store_at old.image (shape_at l)) (shape_at l) (config_of l)
+        (given.Corrupt report))
+        → (reply : Reply) → reply ≡ corrupt_reply (config_of l).name report
+        → IsHandled told app now root (open_call kind name) was was old new Same (Ok reply)
     open_corrupt report untouched quiet opening reply says = record {
       ends = record {
         answered = λ tells.
             let seen = corrupt_by (store_at old.image (shape_at l)) (shape_at l) (config_of l) report (opening tells) in
-            answered_so laws told app now root (open_call kind name) was was old new l located resting (store_at old.image (shape_at l)) (storing (store_at old.image (shape_at l)))
+            answered_so laws told app now root (open_call kind name) was was old new l located resting
+            (store_at old.image (shape_at l)) (storing (store_at old.image (shape_at l)))
             tells (ap (λ (i : Image). store_at i (shape_at l)) untouched.0) reply before
-            (ap (λ (r : Reply). (r, before)) (says ∙ ap (corrupt_reply (config_of l).name) (seen.3 ∙ ap failed_report (sym shape_same)))
+            (ap (λ (r : Reply). (r, before)) (says ∙ ap (corrupt_reply (config_of l).name)
+            (seen.3 ∙ ap failed_report (sym shape_same)))
             ∙ sym (ap (opened app before f) seen.2) ∙ sym (ap (settle before) (row tells)))
-            (sym (same_app tells)) refl refl (λ clean. subst (λ (i : Image). IsClean (shape_at l) i) (sym untouched.0) clean);
+            (sym (same_app tells)) refl refl (λ clean. subst (λ (i : Image). IsClean (shape_at l) i) (sym untouched.0)
+            clean);
         memory = subst (λ (i : Image). IsResting told i app root was) (sym untouched.0) resting;
         quiet = λ was_quiet. quiet;
         unwritten = λ refused. untouched;
@@ -157,30 +175,50 @@ module _ (laws : StorageLaws) (told : Bool) (app now : ℕ) (root : Root) (kind 
     }
 
     -- it is open
-    pub open_opened : (o : Open) (reported : Vec Report Global) (is : Slots) → IsPlaced (shape_at l) (config_of l) o → IsUsed told new.image (store_in o) → IsShown o → Quiet new
-        → IsSet l.number (Some o) was is → (IsTrue told → IsClean (shape_at l) old.image → IsClean (shape_at l) new.image)
-        → (IsTrue told → IsOpeningOf (store_at old.image (shape_at l)) (shape_at l) (config_of l) (given.Opened o reported))
-        → (reply : Reply) → reply ≡ record { reports = reported.items; answer = answer.Done } → IsHandled told app now root (open_call kind name) was is old new Same (Ok reply)
+    pub open_opened : (o : Open) (reported : Vec Report Global) (is : Slots) → IsPlaced (shape_at l) (config_of l) o
+        → IsUsed told new.image (store_in o) → IsShown o → Quiet new
+        → IsSet l.number (Some o) was is → (IsTrue told → IsClean (shape_at l) old.image
+        → IsClean (shape_at l) new.image)
+        → (IsTrue told → IsOpeningOf (store_at old.image (shape_at l)) (shape_at l) (config_of l)
+        (given.Opened o reported))
+        → (reply : Reply) → reply ≡ record { reports = reported.items; answer = answer.Done }
+        → IsHandled told app now root (open_call kind name) was is old new Same (Ok reply)
     open_opened o reported is placed used shown quiet set clean opening reply says = record {
       ends = record {
         answered = λ tells.
-            let seen = seen_by (store_at old.image (shape_at l)) (shape_at l) (config_of l) o reported (opening tells) in
+            let seen = seen_by (store_at old.image (shape_at l)) (shape_at l) (config_of l) o reported (opening tells)
+            in
             let v = seen.0 in
             let next = Opens (mended_view (shape_at l) v) [] in
-            let after : Application = record { disk = with_state before.disk f next; stage = at_rest; sessions = slice_set before.sessions l.number (Some (session_of (config_of l).kind v)) } in
-            answered_so laws told app now root (open_call kind name) was is old new l located resting next (storing next)
+            let after : Application = record {
+              disk = with_state before.disk f next;
+              stage = at_rest;
+              sessions =
+                  slice_set before.sessions l.number (Some (session_of (config_of l).kind v));
+            } in
+            answered_so laws told app now root (open_call kind name) was is old new l located resting next
+            (storing next)
             tells (opens_so tells o placed used v seen.3.view) reply after
-            (ap (λ (r : Reply). (r, after)) (says ∙ ap (λ (rs : List Report). record { reports = rs; answer = answer.Done }) seen.3.all)
+            (ap (λ (r : Reply). (r, after)) (says ∙ ap (λ (rs : List Report).
+            record { reports = rs; answer = answer.Done }) seen.3.all)
             ∙ ap (λ (sh : Shape). (
               record { reports = reports (is_content (config_of l).kind) sh v; answer = answer.Done },
-              record { disk = with_state before.disk f (Opens (mended_view sh v) []); stage = at_rest; sessions = after.sessions },
+              record {
+                disk = with_state before.disk f (Opens (mended_view sh v) []);
+                stage = at_rest;
+                sessions =
+                    after.sessions;
+              },
             )) (sym shape_same)
             ∙ sym (ap (opened app before f) seen.2) ∙ sym (ap (settle before) (row tells)))
             refl refl
-            (sessions_set was is l.number (Some o) set ∙ ap (λ (s : Session). slice_set before.sessions l.number (Some s)) seen.3.session)
+            (sessions_set was is l.number (Some o) set ∙ ap (λ (s : Session).
+            slice_set before.sessions l.number (Some s)) seen.3.session)
             (clean tells);
-        memory = resting_after laws app root l located told old.image new.image (storing (store_at old.image (shape_at l))).elsewhere was is (Some o) resting set
-            (λ p e. let same : o ≡ p = grind arith in subst (λ (q : Open). IsOpenAt told new.image app located.version l.number q) same (newly_open o placed used shown));
+        memory = resting_after laws app root l located told old.image new.image
+            (storing (store_at old.image (shape_at l))).elsewhere was is (Some o) resting set
+            (λ p e. let same : o ≡ p = grind arith in subst (λ (q : Open).
+            IsOpenAt told new.image app located.version l.number q) same (newly_open o placed used shown));
         quiet = λ was_quiet. quiet;
         unwritten = λ refused. absurd (let e = sym (ap (λ (r : Reply). is_refusal r.answer) says) ∙ refused in cc);
         unfailed = λ failed. absurd (let e = sym (ap (λ (r : Reply). r.answer) says) ∙ failed in cc);
@@ -191,14 +229,18 @@ module _ (laws : StorageLaws) (told : Bool) (app now : ℕ) (root : Root) (kind 
       time = (storing (store_at old.image (shape_at l))).time;
     }
       where
-        opens_so : IsTrue told → (p : Open) → IsPlaced (shape_at l) (config_of l) p → IsUsed told new.image (store_in p) → (v : View) → view_in (store_in p) ≡ mended_view (shape_at l) v
+        opens_so : IsTrue told → (p : Open) → IsPlaced (shape_at l) (config_of l) p → IsUsed told new.image (store_in p)
+            → (v : View) → view_in (store_in p) ≡ mended_view (shape_at l) v
             → store_at new.image (shape_at l) ≡ Opens (mended_view (shape_at l) v) []
-        opens_so tells p at is_used v view = ap (store_at new.image) (sym at.placed) ∙ (is_used.disk tells).opens ∙ ap (λ (w : View). Opens w []) view
+        opens_so tells p at is_used v view = ap (store_at new.image) (sym at.placed) ∙ (is_used.disk tells).opens
+            ∙ ap (λ (w : View). Opens w []) view
 
-        newly_open : (p : Open) → IsPlaced (shape_at l) (config_of l) p → IsUsed told new.image (store_in p) → IsShown p → IsOpenAt told new.image app located.version l.number p
+        newly_open : (p : Open) → IsPlaced (shape_at l) (config_of l) p → IsUsed told new.image (store_in p) → IsShown p
+            → IsOpenAt told new.image app located.version l.number p
         newly_open p at is_used show = record {
           configured = located.place ∙ ap (λ (s : StorageData). Some s) (sym at.configured);
-          placed = at.placed ∙ sym (shape_is app (root_says root) l located) ∙ ap (λ (s : StorageData). shape_of app located.version.bank l.number s) (sym at.configured);
+          placed = at.placed ∙ sym (shape_is app (root_says root) l located)
+              ∙ ap (λ (s : StorageData). shape_of app located.version.bank l.number s) (sym at.configured);
           used = is_used;
           kind = show.kind;
           shows = show.shows;

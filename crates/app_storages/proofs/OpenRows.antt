@@ -17,7 +17,8 @@ use Rattle.run_model.specs.Worlds.{Application, Stage, at_rest, update_in}
 use Rattle.app_storages.specs.Openings.{open_call}
 use Rattle.std.proofs.Common.{◌&&◌}
 
-open_is : (app now : ℕ) (r : Application) (kind : StoreKind) (name : List ℕ) → app_step app r now (open_call kind name) ≡ open_step app r name kind
+open_is : (app now : ℕ) (r : Application) (kind : StoreKind) (name : List ℕ)
+    → app_step app r now (open_call kind name) ≡ open_step app r name kind
 unfolding app_step
 open_is app now r Keys name = refl
 open_is app now r Files name = refl
@@ -31,31 +32,43 @@ pub open_not_durable : (kind : StoreKind) (name : List ℕ) → is_durable (open
 open_not_durable Keys name = refl
 open_not_durable Files name = refl
 
-open_goes : (app now : ℕ) (r : Application) (kind : StoreKind) (name : List ℕ) → goes_on app r now (open_call kind name) ≡ is_ok (app_step app r now (open_call kind name))
+open_goes : (app now : ℕ) (r : Application) (kind : StoreKind) (name : List ℕ)
+    → goes_on app r now (open_call kind name) ≡ is_ok (app_step app r now (open_call kind name))
 open_goes app now r Keys name = refl
 open_goes app now r Files name = refl
 
-pub open_named : (r : Application) (kind : StoreKind) (name : List ℕ) → found_named r (open_call kind name) ≡ Some (storage_in r.disk name None)
+pub open_named : (r : Application) (kind : StoreKind) (name : List ℕ)
+    → found_named r (open_call kind name) ≡ Some (storage_in r.disk name None)
 open_named r Keys name = refl
 open_named r Files name = refl
 
 module _ (app now : ℕ) (r : Application) (kind : StoreKind) (name : List ℕ) where
-  pub open_not_found : (e : PerError) → storage_in r.disk name (Some kind) ≡ Err e → app_step app r now (open_call kind name) ≡ Err e
+  pub open_not_found : (e : PerError) → storage_in r.disk name (Some kind) ≡ Err e
+      → app_step app r now (open_call kind name) ≡ Err e
   unfolding open_step
-  open_not_found e is = open_is app now r kind name ∙ ap (λ (row : Result Found PerError). row >>= λ f. unless_open r f (Ok (opened app r f f.state))) is
+  open_not_found e is = open_is app now r kind name ∙ ap
+      (λ (row : Result Found PerError). row >>= λ f. unless_open r f (Ok (opened app r f f.state))) is
 
   module _ (f : Found) (found : storage_in r.disk name (Some kind) ≡ Ok f) where
     open_found : app_step app r now (open_call kind name) ≡ unless_open r f (Ok (opened app r f f.state))
     unfolding open_step
-    open_found = open_is app now r kind name ∙ ap (λ (row : Result Found PerError). row >>= λ g. unless_open r g (Ok (opened app r g g.state))) found
+    open_found = open_is app now r kind name ∙ ap (λ (row : Result Found PerError). row >>= λ g.
+        unless_open r g (Ok (opened app r g g.state))) found
 
-    pub open_busy : is_some (session_at r f.number) ≡ true → app_step app r now (open_call kind name) ≡ Err (error.ResourceBusy (holder.Storage f.config.name))
-    open_busy there = open_found ∙ ap (λ (b : Bool). refuse b (error.ResourceBusy (holder.Storage f.config.name)) (Ok (opened app r f f.state))) there
+    pub open_busy : is_some (session_at r f.number) ≡ true
+        → app_step app r now (open_call kind name) ≡ Err (error.ResourceBusy (holder.Storage f.config.name))
+    open_busy there = open_found ∙ ap (λ (b : Bool). refuse b (error.ResourceBusy (holder.Storage f.config.name))
+        (Ok (opened app r f f.state))) there
 
-    pub open_row : is_some (session_at r f.number) ≡ false → app_step app r now (open_call kind name) ≡ Ok (opened app r f f.state)
-    open_row closed = open_found ∙ ap (λ (b : Bool). refuse b (error.ResourceBusy (holder.Storage f.config.name)) (Ok (opened app r f f.state))) closed
+    pub open_row : is_some (session_at r f.number) ≡ false
+        → app_step app r now (open_call kind name) ≡ Ok (opened app r f f.state)
+    open_row closed = open_found ∙ ap (λ (b : Bool). refuse b (error.ResourceBusy (holder.Storage f.config.name))
+        (Ok (opened app r f f.state))) closed
 
-  pub open_reaches : (x : Outcome) → r.stage ≡ at_rest → app_step app r now (open_call kind name) ≡ Ok x → IsTrue (reaches_device app r now (open_call kind name))
-  open_reaches x rests row = ap (λ (b : Bool). b && is_none (beside_update (update_in r.stage) (open_call kind name)) && goes_on app r now (open_call kind name)) (open_uses r.disk kind name)
-      ∙ (ap (λ (stage : Stage). is_none (beside_update (update_in stage) (open_call kind name)) && goes_on app r now (open_call kind name)) rests
+  pub open_reaches : (x : Outcome) → r.stage ≡ at_rest → app_step app r now (open_call kind name) ≡ Ok x
+      → IsTrue (reaches_device app r now (open_call kind name))
+  open_reaches x rests row = ap (λ (b : Bool). b && is_none (beside_update (update_in r.stage) (open_call kind name))
+      && goes_on app r now (open_call kind name)) (open_uses r.disk kind name)
+      ∙ (ap (λ (stage : Stage). is_none (beside_update (update_in stage) (open_call kind name))
+      && goes_on app r now (open_call kind name)) rests
       ∙ (open_goes app now r kind name ∙ ap is_ok row))

@@ -50,7 +50,8 @@ use Rattle.app_storages.specs.StorageLaws.{StorageLaws}
 use Rattle.app_storages.specs.declared.finding.Located.{Located}
 use Rattle.app_storages.specs.declared.slots.Slots.{Slots}
 use Rattle.app_storages.proofs.DurableRows.{flush_row, sync_row}
-use Rattle.app_storages.proofs.Durables.{Makes, at, done_handled, err_not_due, may_write, opens, row_err, session_is, set_over, shape_in_is, shape_there, stopped_handled}
+use Rattle.app_storages.proofs.Durables.{Makes, at, done_handled, err_not_due, may_write, opens, row_err, session_is}
+use Rattle.app_storages.proofs.Durables.{set_over, shape_in_is, shape_there, stopped_handled}
 use Rattle.app_storages.proofs.Ended.{TextLaw, early_handled}
 use Rattle.app_storages.proofs.SlotLaws.{put_back, sessions_set}
 use Rattle.app_storages.proofs.Storing.{resting_after}
@@ -79,14 +80,16 @@ not_found_early = record { no_failure = λ is. absurd cc; no_want = λ is. absur
 no_write_early : IsEarly error.IllegalWriteAccess
 no_write_early = record { no_failure = λ is. absurd cc; no_want = λ is. absurd cc }
 
-pub first_early : (one other : Option PerError) (e : PerError) → ((x : PerError) → one ≡ Some x → IsEarly x) → ((x : PerError) → other ≡ Some x → IsEarly x) → first one other ≡ Some e → IsEarly e
+pub first_early : (one other : Option PerError) (e : PerError) → ((x : PerError) → one ≡ Some x → IsEarly x)
+    → ((x : PerError) → other ≡ Some x → IsEarly x) → first one other ≡ Some e → IsEarly e
 first_early None other e early late is = late e is
 first_early (Some x) other e early late is = early e is
 
 pub sync_early : (storage : Open) (e : PerError) → sync_refused storage ≡ Some e → IsEarly e
 sync_early storage e is = when_early _ (error.LimitReached limit.Generations) e worn_early is
 
-refuse_early : (test : Bool) (x e : PerError) → IsEarly x → error_of {A = ⊤} (refuse {A = ⊤} test x (Ok tt)) ≡ Some e → IsEarly e
+refuse_early : (test : Bool) (x e : PerError) → IsEarly x → error_of {A = ⊤} (refuse {A = ⊤} test x (Ok tt)) ≡ Some e
+    → IsEarly e
 refuse_early true x e early is = early_some x e early is
 refuse_early false x e early is = absurd cc
 
@@ -94,17 +97,22 @@ may_early : (s : Session) (h : ℕ) (e : PerError) → error_of (may_flush s h) 
 may_early (keys s) h e is = early_some error.StorageNotFound e not_found_early is
 may_early (files s) h e is = by (open_at s.working h) is
   where
-    by : (o : Option (Handle × Element)) → error_of {A = ⊤} (on_open {A = ⊤} o (λ handle file. refuse {A = ⊤} (not (writes handle.cursor.kind)) error.IllegalWriteAccess (Ok tt))) ≡ Some e → IsEarly e
+    by : (o : Option (Handle × Element)) → error_of {A = ⊤}
+        (on_open {A = ⊤} o (λ handle file. refuse {A = ⊤} (not (writes handle.cursor.kind)) error.IllegalWriteAccess
+        (Ok tt))) ≡ Some e → IsEarly e
     by None is = early_some error.NotOpen e not_open_early is
     by (Some x) is = refuse_early (not (writes x.0.cursor.kind)) error.IllegalWriteAccess e no_write_early is
 
 pub flush_early : (storage : Open) (h : ℕ) (e : PerError) → flush_refused storage h ≡ Some e → IsEarly e
-flush_early storage h e is = first_early (error_of (may_flush (session_in storage) h)) (sync_refused storage) e (may_early (session_in storage) h) (sync_early storage) is
+flush_early storage h e is = first_early (error_of (may_flush (session_in storage) h)) (sync_refused storage) e
+    (may_early (session_in storage) h) (sync_early storage) is
 
 -- ---- the calls
 
-module _ (laws : StorageLaws) (texts : TextLaw) (told : Bool) (app now : ℕ) (root : Root) (was : Slots) (old : Medium) (law : IsLawful told old)
-    (resting : IsResting told old.image app root was) (l : Located) (located : IsLocated app (root_says root) l) (storage : Open) (there_is : slot_at was l.number ≡ Some storage) where
+module _ (laws : StorageLaws) (texts : TextLaw) (told : Bool) (app now : ℕ) (root : Root) (was : Slots) (old : Medium)
+    (law : IsLawful told old)
+    (resting : IsResting told old.image app root was) (l : Located) (located : IsLocated app (root_says root) l)
+    (storage : Open) (there_is : slot_at was l.number ≡ Some storage) where
   abbrev before : Application
   before = resting_with old.image app was
 
@@ -114,21 +122,26 @@ module _ (laws : StorageLaws) (texts : TextLaw) (told : Bool) (app now : ℕ) (r
   abbrev after_by : Shape → Application
   after_by shape = with_session (record before {
     disk = with_state (app_at old.image app) f
-        (Opens (synced_view shape (view_in (store_in storage)) (synced_of (session_in storage)) (seen_of (session_in storage))) []);
+        (Opens (synced_view shape (view_in (store_in storage)) (synced_of (session_in storage))
+        (seen_of (session_in storage))) []);
   }) l.number (made_durable (session_in storage))
 
   abbrev after : Application
   after = after_by (stores.shape_of (store_in storage))
 
-  shaped : (refused : Option PerError) → refused_by {A = Outcome} refused (Ok (answered answer.Done (after_by (shape_in app f)))) ≡ refused_by refused (Ok (answered answer.Done after))
+  shaped : (refused : Option PerError) → refused_by {A = Outcome} refused
+      (Ok (answered answer.Done (after_by (shape_in app f)))) ≡ refused_by refused (Ok (answered answer.Done after))
   shaped refused = ap (λ (shape : Shape). refused_by {A = Outcome} refused (Ok (answered answer.Done (after_by shape))))
       (shape_in_is laws texts told app now root was old resting l located storage there_is)
 
-  module _ (c : Call) (refused : Option PerError) (row : IsTrue told → app_step app before now c ≡ refused_by refused (Ok (answered answer.Done after)))
+  module _ (c : Call) (refused : Option PerError) (row : IsTrue told
+      → app_step app before now c ≡ refused_by refused (Ok (answered answer.Done after)))
       (named : IsTrue told → found_named before c ≡ Some (Ok f))
-      (reaches : IsTrue told → (x : Outcome) → app_step app before now c ≡ Ok x → IsTrue (reaches_device app before now c))
+      (reaches : IsTrue told → (x : Outcome) → app_step app before now c ≡ Ok x
+      → IsTrue (reaches_device app before now c))
       (uses : uses_device (app_at old.image app) c ≡ true) (early : (e : PerError) → refused ≡ Some e → IsEarly e)
-      (new : Medium) (Same : Type 0) (by_disk : Same → new ≡ old) (result : Result Durable Stop) (makes : Makes told storage refused old new Same result) where
+      (new : Medium) (Same : Type 0) (by_disk : Same → new ≡ old) (result : Result Durable Stop)
+      (makes : Makes told storage refused old new Same result) where
     idle : IsTrue told → uses_device (app_at old.image app) c ≡ false → Same
     idle tells unused = absurd (true≢false (sym uses ∙ unused))
 
@@ -137,36 +150,48 @@ module _ (laws : StorageLaws) (texts : TextLaw) (told : Bool) (app now : ℕ) (r
         (λ still. ap (λ (m : Medium). m.written) (by_disk (makes.unchanged still).1)) makes.at_most
 
     storing : IsStoring told (shape_at l) (Opens (durable_view storage) []) old new
-    storing = subst (λ (shape : Shape). IsStoring told shape (Opens (durable_view storage) []) old new) (shape_there laws texts told app now root was old resting l located storage there_is) makes.storing
+    storing = subst (λ (shape : Shape). IsStoring told shape (Opens (durable_view storage) []) old new)
+        (shape_there laws texts told app now root was old resting l located storage there_is) makes.storing
 
     -- it stopped
-    pub made_err : (is : Slots) → IsSet l.number None was is → (e : Stop) → result ≡ Err e → IsHandled told app now root c was is old new Same (Err e)
-    made_err is emptied e err = stopped_handled laws texts told app now root was old resting l located storage there_is c refused after refl refl row named reaches
+    pub made_err : (is : Slots) → IsSet l.number None was is → (e : Stop) → result ≡ Err e
+        → IsHandled told app now root c was is old new Same (Err e)
+    made_err is emptied e err = stopped_handled laws texts told app now root was old resting l located storage there_is
+        c refused after refl refl row named reaches
         new Same idle written storing is emptied e (err_not_due told storage refused old new Same result e makes err)
         (λ device. makes.cause (err ∙ ap (λ (x : Stop). Err x) device))
 
     -- it was answered
-    pub made_ok : (made : Durable) → result ≡ Ok made → (mid is : Slots) → IsSet l.number None was mid → (reply : Reply) → IsPutBack l.number made mid is reply
+    pub made_ok : (made : Durable) → result ≡ Ok made → (mid is : Slots) → IsSet l.number None was mid → (reply : Reply)
+        → IsPutBack l.number made mid is reply
         → IsHandled told app now root c was is old new Same (Ok reply)
     made_ok (made.Done later) ok mid is emptied reply (shown, set, says) =
-        let durable : (refused ≡ None) × IsDurable told new.image storage later = subst (λ (r : Result Durable Stop). IfOk r (IsMade told new.image storage refused)) ok makes.done in
+        let durable : (refused ≡ None) × IsDurable told new.image storage later =
+        subst (λ (r : Result Durable Stop). IfOk r (IsMade told new.image storage refused)) ok makes.done in
         let is_at = at laws texts told app now root was old resting l located storage there_is in
         let shape = shape_there laws texts told app now root was old resting l located storage there_is in
         let set_there = set_over l.number (Some later) was mid is emptied set in
         let open_now : IsOpenAt told new.image app located.version l.number later = record {
           configured = is_at.configured ∙ ap (λ (d : StorageData). Some d) (sym durable.1.config);
-          placed = durable.1.shape ∙ is_at.placed ∙ ap (λ (d : StorageData). places.shape_of app located.version.bank l.number d) (sym durable.1.config);
+          placed = durable.1.shape ∙ is_at.placed ∙ ap (λ (d : StorageData).
+              places.shape_of app located.version.bank l.number d) (sym durable.1.config);
           used = durable.1.used;
           kind = shown.kind;
           shows = shown.shows;
         } in
-        done_handled laws texts told app now root was old resting l located storage there_is c refused after refl refl row named reaches new Same idle written storing is reply durable.0 says
-        (resting_after laws app root l located told old.image new.image storing.elsewhere was is (Some later) resting set_there
-        (λ o is_later. subst (λ (x : Open). IsOpenAt told new.image app located.version l.number x) (some_is later o is_later) open_now))
-        (λ tells. ap (store_at new.image) (sym shape ∙ sym durable.1.shape) ∙ (durable.1.used.disk tells).opens ∙ ap (λ (w : View). Opens w []) durable.1.view)
-        (sessions_set was is l.number (Some later) set_there ∙ ap (λ (t : Session). slice_set (sessions_in was) l.number (Some t)) durable.1.session)
+        done_handled laws texts told app now root was old resting l located storage there_is c refused after refl refl
+        row named reaches new Same idle written storing is reply durable.0 says
+        (resting_after laws app root l located told old.image new.image storing.elsewhere was is (Some later) resting
+        set_there
+        (λ o is_later. subst (λ (x : Open). IsOpenAt told new.image app located.version l.number x)
+        (some_is later o is_later) open_now))
+        (λ tells. ap (store_at new.image) (sym shape ∙ sym durable.1.shape) ∙ (durable.1.used.disk tells).opens
+        ∙ ap (λ (w : View). Opens w []) durable.1.view)
+        (sessions_set was is l.number (Some later) set_there
+        ∙ ap (λ (t : Session). slice_set (sessions_in was) l.number (Some t)) durable.1.session)
         (λ tells clean. subst (λ (sh : Shape). IsClean sh new.image) shape
-        (on_made (made.Done later) ok (IsClean (stores.shape_of (store_in storage)) new.image) (makes.clean tells (subst (λ (sh : Shape). IsClean sh old.image) (sym shape) clean))))
+        (on_made (made.Done later) ok (IsClean (stores.shape_of (store_in storage)) new.image)
+        (makes.clean tells (subst (λ (sh : Shape). IsClean sh old.image) (sym shape) clean))))
         (λ quiet. on_made (made.Done later) ok (Quiet new) (makes.quiet quiet))
       where
         some_is : (x o : Open) → Some x ≡ Some o → x ≡ o
@@ -175,23 +200,33 @@ module _ (laws : StorageLaws) (texts : TextLaw) (told : Bool) (app now : ℕ) (r
         on_made : (m : Durable) → result ≡ Ok m → (P : Type 0) → OnOk result P → P
         on_made m ok P on = subst (λ (r : Result Durable Stop). OnOk r P) ok on
     made_ok (made.Refused same e) ok mid is emptied reply (set, says) =
-        let refusal : (refused ≡ Some e) × (same ≡ storage) = subst (λ (r : Result Durable Stop). IfOk r (IsMade told new.image storage refused)) ok makes.done in
+        let refusal : (refused ≡ Some e) × (same ≡ storage) =
+        subst (λ (r : Result Durable Stop). IfOk r (IsMade told new.image storage refused)) ok makes.done in
         let due = makes.due e refusal.0 in
-        let back = put_back was is l.number storage there_is (set ∙ (ap (λ (o : Open). slice_set mid.open.items l.number (Some o)) refusal.1
+        let back = put_back was is l.number storage there_is
+        (set ∙ (ap (λ (o : Open). slice_set mid.open.items l.number (Some o)) refusal.1
         ∙ ap (λ (xs : List (Option Open)). slice_set xs l.number (Some storage)) emptied)) in
         subst (λ (m : Medium). IsHandled told app now root c was is old m Same (Ok reply)) (sym (by_disk due.1))
-        (early_handled laws told app now root c was old Same due.1 law resting texts is back e (early e refusal.0) reply says
-        (row_err laws texts told app now root was old resting l located storage there_is c refused after refl refl row named reaches e refusal.0))
+        (early_handled laws told app now root c was old Same due.1 law resting texts is back e (early e refusal.0) reply
+        says
+        (row_err laws texts told app now root was old resting l located storage there_is c refused after refl refl row
+        named reaches e refusal.0))
 
   -- ---- rows
 
   module _ (name : List ℕ) (named : IsTrue told → storage_in (app_at old.image app) name None ≡ Ok f) where
     module _ (found : IsTrue told → storage_in (app_at old.image app) name (Some kinds.Keys) ≡ Ok f) where
-      pub synced_row : IsTrue told → app_step app before now (call.Sync name) ≡ refused_by (sync_refused storage) (Ok (answered answer.Done after))
-      synced_row tells = sync_row app now before name f (session_in storage) (view_in (store_in storage)) (session_is laws texts told app now root was old resting l located storage there_is)
-          (opens laws texts told app now root was old resting l located storage there_is tells) (found tells) ∙ shaped (sync_refused storage)
+      pub synced_row : IsTrue told → app_step app before now (call.Sync name)
+          ≡ refused_by (sync_refused storage) (Ok (answered answer.Done after))
+      synced_row tells = sync_row app now before name f (session_in storage) (view_in (store_in storage))
+          (session_is laws texts told app now root was old resting l located storage there_is)
+          (opens laws texts told app now root was old resting l located storage there_is tells) (found tells)
+          ∙ shaped (sync_refused storage)
 
     module _ (found : IsTrue told → storage_in (app_at old.image app) name (Some kinds.Files) ≡ Ok f) where
-      pub flushed_row : (h : ℕ) → IsTrue told → app_step app before now (call.Flush name h) ≡ refused_by (flush_refused storage h) (Ok (answered answer.Done after))
-      flushed_row h tells = flush_row app now before name f (session_in storage) (view_in (store_in storage)) (session_is laws texts told app now root was old resting l located storage there_is)
-          (opens laws texts told app now root was old resting l located storage there_is tells) h (found tells) ∙ shaped (flush_refused storage h)
+      pub flushed_row : (h : ℕ) → IsTrue told → app_step app before now (call.Flush name h)
+          ≡ refused_by (flush_refused storage h) (Ok (answered answer.Done after))
+      flushed_row h tells = flush_row app now before name f (session_in storage) (view_in (store_in storage))
+          (session_is laws texts told app now root was old resting l located storage there_is)
+          (opens laws texts told app now root was old resting l located storage there_is tells) h (found tells)
+          ∙ shaped (flush_refused storage h)

@@ -15,23 +15,26 @@ use Rattle.run_model.specs.Steps.{storage_named, reaches_device, after_failure, 
 abbrev pub is_on_storage : Call → Bool
 is_on_storage c = is_some (local_on c) || is_some (storage_named c)
 
--- each moment stands between what was and what the call leads to, and no file of another application changes, at the end and at any moment
+-- each moment stands between what was and what the call leads to, and no file of another application changes, at the
+-- end and at any moment
 pub record CallsTo (app : ℕ) (next : App) (old new : Medium) : Type 0 where
   pub any_moment : StandsThroughout app next old new
   pub outside : Quiet old → EachCase (IsSettledOn (IsNoFileOf app) old.image) old new
   pub elsewhere : Spares (IsNoFileOf app) old.image new.image
 
 -- a call on a storage was answered, and the application is what its row says
-pub record IsAnswered (app now : ℕ) (c : Call) (before after : Application) (reply : Reply) (old new : Medium) : Type 0 where
-  pub row : (reply, after) ≡ settle before (app_step app before now c)
-  pub calls : CallsTo app after.disk old new
-  pub clean : IsCleanApp app old.image → IsCleanApp app new.image
+pub record IsAnswered (app now : ℕ) (c : Call) (before after : Application) (reply : Reply) (old new : Medium) : Type 0
+  where
+    pub row : (reply, after) ≡ settle before (app_step app before now c)
+    pub calls : CallsTo app after.disk old new
+    pub clean : IsCleanApp app old.image → IsCleanApp app new.image
 
 -- what lies on the disk after a call that did not end: what its row leads to, or what lay there before
 abbrev pub MayLead : (app now : ℕ) → Call → (before : Application) → App → Type 0
 MayLead app now c before next = (next ≡ before.disk) ⊎ (next ≡ (settle before (app_step app before now c)).1.disk)
 
--- its device failed, behind the refusals that need none: the application is what the failure leaves, and its files are on the way
+-- its device failed, behind the refusals that need none: the application is what the failure leaves, and its files are
+-- on the way
 pub record HasFailed (app now : ℕ) (c : Call) (before after : Application) (old new : Medium) : Type 0 where
   pub reaches : IsTrue (reaches_device app before now c)
   pub next : App

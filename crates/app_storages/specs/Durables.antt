@@ -22,7 +22,8 @@ done_or (Some e) = answer.Error e
 abbrev pub Says : Reply → Option PerError → Type 0
 Says reply refused = reply ≡ record { reports = []; answer = done_or refused }
 
--- what always holds of an open storage: its session is one of its kind, and what is synchronised is what the storage below shows
+-- what always holds of an open storage: its session is one of its kind, and what is synchronised is what the storage
+-- below shows
 pub record IsShown (o : Open) : Type 0 where
   pub kind : kind_of (session_in o) ≡ (config_in o).kind
   pub shows : synced_of (session_in o) ≡ seen_in (config_in o).kind (view_in (store_in o))

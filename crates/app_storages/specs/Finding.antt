@@ -47,7 +47,8 @@ pub record IsLocated (app : ℕ) (says : Says) (l : Located) : Type 0 where
 
 -- by what a root says it is the storage that is asked for, whatever its state
 abbrev pub IsAsked : Says → List ℕ → Option StoreKind → Located → Type 0
-IsAsked says name kind l = (states : List State) (state : State) → slice_get states l.number ≡ Some state → found_in says states name kind ≡ Ok (found_as l state)
+IsAsked says name kind l = (states : List State) (state : State) → slice_get states l.number ≡ Some state
+    → found_in says states name kind ≡ Ok (found_as l state)
 
 -- by what a root says this is the refusal, whatever the states
 abbrev pub IsMissing : Says → List ℕ → Option StoreKind → PerError → Type 0

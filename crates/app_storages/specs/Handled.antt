@@ -27,8 +27,10 @@ MayWrite app c before old new = is_durable c ≡ true → (f : Found) (s : Sessi
     → session_at before f.number ≡ Some s → WritesWithin app f s old new
 
 -- the call was answered
-pub record IsReplied (told : Bool) (app now : ℕ) (root : Root) (c : Call) (was is : Slots) (old new : Medium) (reply : Reply) : Type 0 where
-  pub answered : IsTrue told → IsAnswered app now c (resting_with old.image app was) (resting_with new.image app is) reply old new
+pub record IsReplied (told : Bool) (app now : ℕ) (root : Root) (c : Call) (was is : Slots) (old new : Medium)
+    (reply : Reply) : Type 0 where
+  pub answered : IsTrue told → IsAnswered app now c (resting_with old.image app was) (resting_with new.image app is)
+      reply old new
   pub memory : IsResting told new.image app root is
   pub quiet : Quiet old → Quiet new
   pub unwritten : is_refusal reply.answer ≡ true → IsUnwritten old new
@@ -36,18 +38,23 @@ pub record IsReplied (told : Bool) (app now : ℕ) (root : Root) (c : Call) (was
   pub text : HasText reply.answer
 
 -- its device failed
-pub record IsLost (told : Bool) (app now : ℕ) (root : Root) (c : Call) (was is : Slots) (old new : Medium) : Type 0 where
-  pub failed : IsTrue told → HasFailed app now c (resting_with old.image app was) (resting_with new.image app is) old new
-  pub memory : IsResting told new.image app root is
-  pub cause : Rose old.faults new.faults
+pub record IsLost (told : Bool) (app now : ℕ) (root : Root) (c : Call) (was is : Slots) (old new : Medium) : Type 0
+  where
+    pub failed : IsTrue told → HasFailed app now c (resting_with old.image app was) (resting_with new.image app is) old
+        new
+    pub memory : IsResting told new.image app root is
+    pub cause : Rose old.faults new.faults
 
-abbrev pub EndsSo : (told : Bool) (app now : ℕ) (root : Root) (c : Call) (was is : Slots) (old new : Medium) → Result Reply Stop → Type 0
+abbrev pub EndsSo : (told : Bool) (app now : ℕ) (root : Root) (c : Call) (was is : Slots) (old new : Medium)
+    → Result Reply Stop → Type 0
 EndsSo told app now root c was is old new (Ok reply) = IsReplied told app now root c was is old new reply
 EndsSo told app now root c was is old new (Err Device) = IsLost told app now root c was is old new
-EndsSo told app now root c was is old new (Err OutOfMemory) = IsTrue told → HasStopped app now c (resting_with old.image app was) old new
+EndsSo told app now root c was is old new (Err OutOfMemory) =
+    IsTrue told → HasStopped app now c (resting_with old.image app was) old new
 
 -- A call on a storage of an application at rest, from these slots to those; that it called no disk is said by `Same`.
-pub record IsHandled (told : Bool) (app now : ℕ) (root : Root) (c : Call) (was is : Slots) (old new : Medium) (Same : Type 0) (result : Result Reply Stop) : Type 0 where
+pub record IsHandled (told : Bool) (app now : ℕ) (root : Root) (c : Call) (was is : Slots) (old new : Medium)
+    (Same : Type 0) (result : Result Reply Stop) : Type 0 where
   pub ends : EndsSo told app now root c was is old new result
   pub idle : IsTrue told → uses_device (app_at old.image app) c ≡ false → Same
   pub written : IsTrue told → MayWrite app c (resting_with old.image app was) old new

@@ -22,7 +22,11 @@ open_call Files name = call.OpenFiles name
 
 -- it is corrupt, which is reported
 abbrev pub corrupt_reply : List ℕ → Report → Reply
-corrupt_reply name report = record { reports = report ∷ []; answer = answer.Error (error.IntegrityCorrupted (unit.Whole name)) }
+corrupt_reply name report = record {
+  reports = report ∷ [];
+  answer =
+      answer.Error (error.IntegrityCorrupted (unit.Whole name));
+}
 
 -- a refusal is told, and want of memory ends the run
 abbrev pub Refuses : PerError → Result Reply Stop → Type 0

@@ -16,10 +16,12 @@ use Rattle.app_storages.specs.declared.slots.Slots.{Slots}
 -- a storage of the active version of this name, which is not open
 pub record IsClosed (app : ℕ) (root : Root) (name : List ℕ) (slots : Slots) (l : Located) : Type 0 where
   pub located : IsLocated app (root_says root) l
-  pub named : (image : Image) → IsRootOn image app root → storage_in (app_at image app) name None ≡ Ok (found_on image l)
+  pub named : (image : Image) → IsRootOn image app root
+      → storage_in (app_at image app) name None ≡ Ok (found_on image l)
   pub free : slot_at slots l.number ≡ None
 
 -- whatever is to be made of it, this is the refusal
 pub record IsNoneClosed (app : ℕ) (root : Root) (name : List ℕ) (slots : Slots) (e : PerError) : Type 0 where
   pub early : IsEarly e
-  pub row : (image : Image) → IsRootOn image app root → (state_of : Found → Result State PerError) → rebuild_step (resting_with image app slots) name state_of ≡ Err e
+  pub row : (image : Image) → IsRootOn image app root → (state_of : Found → Result State PerError)
+      → rebuild_step (resting_with image app slots) name state_of ≡ Err e

@@ -10,7 +10,8 @@ use Rattle.deploy.specs.Laws.{InUseLaw, RootFrameLaw}
 
 -- a storage in use stays so where the files of its place are as they were
 abbrev pub UsedFrameLaw : Type 0
-UsedFrameLaw = (told : Bool) (store : Store) (old new : Image) → (IsTrue told → Spares (IsOfPlace (shape_of store).place) old new)
+UsedFrameLaw = (told : Bool) (store : Store) (old new : Image)
+    → (IsTrue told → Spares (IsOfPlace (shape_of store).place) old new)
     → IsUsed told old store → IsUsed told new store
 
 pub record StorageLaws : Type 0 where

@@ -40,9 +40,11 @@ impl Slots {
         requires memory { IsResting D.told (D.medium disk.old).image app root.now self.old }
         requires on_storage { IsTrue (is_on_storage call.now) }
 
-        // The reply and the application after it are those of the row; where the device failed, or memory ran out, the call is in progress.
+        // The reply and the application after it are those of the row; where the device failed, or memory ran out, the
+        // call is in progress.
         ensures answered { IsTrue D.told → IfOk result (λ reply. IsAnswered app now call.now
-            (resting_with (D.medium disk.old).image app self.old) (resting_with (D.medium disk.new).image app self.new) reply
+            (resting_with (D.medium disk.old).image app self.old) (resting_with (D.medium disk.new).image app self.new)
+            reply
             (D.medium disk.old) (D.medium disk.new)) }
         ensures failed { IsTrue D.told → IsErrOf result Stop.Device → HasFailed app now call.now
             (resting_with (D.medium disk.old).image app self.old) (resting_with (D.medium disk.new).image app self.new)
@@ -51,14 +53,18 @@ impl Slots {
             (resting_with (D.medium disk.old).image app self.old) (D.medium disk.old) (D.medium disk.new) }
 
         // What is kept in memory stays in use; after a failure too.
-        ensures memory { (IsErrOf result Stop.OutOfMemory → ⊥) → IsResting D.told (D.medium disk.new).image app root.now self.new }
+        ensures memory { (IsErrOf result Stop.OutOfMemory → ⊥)
+            → IsResting D.told (D.medium disk.new).image app root.now self.new }
         ensures quiet { Quiet (D.medium disk.old) → OnOk result (Quiet (D.medium disk.new)) }
 
         // A call that needs no device calls none, whatever the disk tells; a refused one writes nothing.
-        ensures idle { IsTrue D.told → uses_device (app_at (D.medium disk.old).image app) call.now ≡ false → disk.new ≡ disk.old }
-        ensures unwritten { IfOk result (λ reply. is_refusal reply.answer ≡ true → IsUnwritten (D.medium disk.old) (D.medium disk.new)) }
+        ensures idle { IsTrue D.told → uses_device (app_at (D.medium disk.old).image app) call.now ≡ false
+            → disk.new ≡ disk.old }
+        ensures unwritten { IfOk result (λ reply. is_refusal reply.answer ≡ true
+            → IsUnwritten (D.medium disk.old) (D.medium disk.new)) }
 
-        // However a call ends that is to make an open storage durable: nothing where nothing differs, and never more than what does.
+        // However a call ends that is to make an open storage durable: nothing where nothing differs, and never more
+        // than what does.
         ensures written { IsTrue D.told → is_durable call.now ≡ true → (f : Found) (s : Session)
             → found_named (resting_with (D.medium disk.old).image app self.old) call.now ≡ Some (Ok f)
             → session_at (resting_with (D.medium disk.old).image app self.old) f.number ≡ Some s

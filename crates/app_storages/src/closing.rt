@@ -18,11 +18,12 @@ use per_base::{Name, PerError};
 use std::alloc::Global;
 
 impl Slots {
-    /// Closes an open storage of an application at rest: what is pending of keys is dropped, and the working files are made durable.
+    /// Closes an open storage of an application at rest: what is pending of keys is dropped, and the working files are
+    /// made durable.
     ///
-    /// Refusals, the first that holds: `IntegrityCorrupted` with the root where it is bad; `NotInstalled`; `StorageNotFound`; `NotOpen`;
-    /// `ResourceBusy` of the lowest handle where one is open; `LimitReached` with `Generations` where files differ and no generation is
-    /// left.
+    /// Refusals, the first that holds: `IntegrityCorrupted` with the root where it is bad; `NotInstalled`;
+    /// `StorageNotFound`; `NotOpen`; `ResourceBusy` of the lowest handle where one is open; `LimitReached` with
+    /// `Generations` where files differ and no generation is left.
     ///
     /// # Errors
     ///

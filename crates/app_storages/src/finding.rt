@@ -7,7 +7,8 @@ ghost use Rattle.element_state.specs.Conditions.{IsShape};
 ghost use Rattle.deploy_laws.specs.Apps.{app_at};
 ghost use Rattle.deploy.specs.Roots.{AreParts, IsRootOf, IsRootOn, root_says};
 ghost use Rattle.run_model.specs.Found.{of_kind, storage_in};
-ghost use Rattle.app_storages.specs.Finding.{IsAsked, IsEarly, IsLocated, IsMissing, IsWithin, config_of, found_on, shape_at};
+ghost use Rattle.app_storages.specs.Finding.{IsAsked, IsEarly, IsLocated, IsMissing, IsWithin, config_of, found_on};
+ghost use Rattle.app_storages.specs.Finding.{shape_at};
 
 use crate::laws::storages_stand;
 use deploy::{Installed, Root, shape_of};
@@ -30,7 +31,10 @@ pub(crate) struct Located<'a> {
 
 /// The storage of this name, and of this kind where one is asked for.
 ///
-/// Errors: `IntegrityCorrupted` where the root is bad, then `NotInstalled`, then `StorageNotFound`; so it is whatever lies on the disk.
+/// # Errors
+///
+/// `IntegrityCorrupted` where the root is bad, then `NotInstalled`, then `StorageNotFound`; so it is whatever lies on
+/// the disk.
 pub(crate) fn find<'a>(
     app: u32,
     root: &'a Root,
@@ -40,10 +44,13 @@ pub(crate) fn find<'a>(
     requires below { app < 8 }
     requires root { IsRootOf app root.now }
     ensures located { IfOk result (IsLocated app (root_says root.now)) }
-    ensures found { IfOk result (λ l. (image : Image) → IsRootOn image app root.now → storage_in (app_at image app) name.now kind ≡ Ok (found_on image l)) }
-    ensures named { IfOk result (λ l. (image : Image) → IsRootOn image app root.now → storage_in (app_at image app) name.now None ≡ Ok (found_on image l)) }
+    ensures found { IfOk result (λ l. (image : Image) → IsRootOn image app root.now
+        → storage_in (app_at image app) name.now kind ≡ Ok (found_on image l)) }
+    ensures named { IfOk result (λ l. (image : Image) → IsRootOn image app root.now
+        → storage_in (app_at image app) name.now None ≡ Ok (found_on image l)) }
     ensures kind { IfOk result (λ l. of_kind kind (config_of l).kind ≡ true) }
-    ensures refused { IfErr result (λ e. (image : Image) → IsRootOn image app root.now → storage_in (app_at image app) name.now kind ≡ Err e) }
+    ensures refused { IfErr result (λ e. (image : Image) → IsRootOn image app root.now
+        → storage_in (app_at image app) name.now kind ≡ Err e) }
     ensures early { IfErr result IsEarly }
 {
     storages_stand();

@@ -20,8 +20,8 @@ use std::alloc::Global;
 impl Slots {
     /// Answers a call on an open storage that touches no disk, at a moment in seconds, of an application at rest.
     ///
-    /// Refusals, the first that holds: `IntegrityCorrupted` with the root where it is bad; `NotInstalled`; `StorageNotFound`; `NotOpen`;
-    /// those of the call.
+    /// Refusals, the first that holds: `IntegrityCorrupted` with the root where it is bad; `NotInstalled`;
+    /// `StorageNotFound`; `NotOpen`; those of the call.
     ///
     /// # Errors
     ///

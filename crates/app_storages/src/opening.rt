@@ -17,10 +17,12 @@ use per_base::{Holder, Name, PerError, Report, Sequence, StoreKind, Unit};
 use std::alloc::{AllocError, Global};
 
 impl Slots {
-    /// Opens a closed storage of this kind, of an application at rest: what was lacking or could not be read is reported.
+    /// Opens a closed storage of this kind, of an application at rest: what was lacking or could not be read is
+    /// reported.
     ///
-    /// Refusals, the first that holds: `IntegrityCorrupted` with the root where it is bad; `NotInstalled`; `StorageNotFound`;
-    /// `ResourceBusy` where it is open; `IntegrityCorrupted` with the storage where it is corrupt, with its report.
+    /// Refusals, the first that holds: `IntegrityCorrupted` with the root where it is bad; `NotInstalled`;
+    /// `StorageNotFound`; `ResourceBusy` where it is open; `IntegrityCorrupted` with the storage where it is corrupt,
+    /// with its report.
     ///
     /// # Errors
     ///

@@ -21,9 +21,9 @@ use std::alloc::{AllocError, Global};
 impl Slots {
     /// Makes a closed storage of an application at rest anew of what can be read of it, at a moment in seconds.
     ///
-    /// Refusals, the first that holds: `IntegrityCorrupted` with the root where it is bad; `NotInstalled`; `StorageNotFound`;
-    /// `ResourceBusy` with the storage where it is open; `OutOfStorageSpace` where what can be read is more than it may have;
-    /// `LimitReached` with `Generations` where no generation is left.
+    /// Refusals, the first that holds: `IntegrityCorrupted` with the root where it is bad; `NotInstalled`;
+    /// `StorageNotFound`; `ResourceBusy` with the storage where it is open; `OutOfStorageSpace` where what can be read
+    /// is more than it may have; `LimitReached` with `Generations` where no generation is left.
     ///
     /// # Errors
     ///
@@ -59,8 +59,9 @@ impl Slots {
 
     /// Makes a closed storage of an application at rest anew with its initial contents, at a moment in seconds.
     ///
-    /// Refusals, the first that holds: `IntegrityCorrupted` with the root where it is bad; `NotInstalled`; `StorageNotFound`;
-    /// `ResourceBusy` with the storage where it is open; `LimitReached` with `Generations` where no generation is left.
+    /// Refusals, the first that holds: `IntegrityCorrupted` with the root where it is bad; `NotInstalled`;
+    /// `StorageNotFound`; `ResourceBusy` with the storage where it is open; `LimitReached` with `Generations` where no
+    /// generation is left.
     ///
     /// # Errors
     ///
@@ -96,7 +97,9 @@ impl Slots {
 
     /// The storage of this name, where it is not open, or why it is not to be made anew.
     ///
-    /// Errors: want of memory, for the name of a storage that is open.
+    /// # Errors
+    ///
+    /// Want of memory, for the name of a storage that is open.
     fn closed<'a>(
         &self,
         app: u32,

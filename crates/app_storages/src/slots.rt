@@ -1,6 +1,7 @@
 //! The open storages, in sixteen slots.
 
-ghost use Rattle.std.specs.Prelude.{◌≡◌, ◌<◌, IfOk, None, Option, Some, is_some, length, map, option_map, replicate, slice_set};
+ghost use Rattle.std.specs.Prelude.{◌≡◌, ◌<◌, IfOk, None, Option, Some, is_some, length, map, option_map, replicate};
+ghost use Rattle.std.specs.Prelude.{slice_set};
 ghost use Rattle.deployment_model.specs.Data.{storage_data};
 ghost use Rattle.deploy.specs.Roots.{root_says};
 ghost use Rattle.open_storages.specs.declared.opens.Open.{Open};
@@ -41,9 +42,11 @@ impl Slots {
         }
     }
 
-    /// The name of the open storage with the least number, which is the least name, by the root whose storages are open.
+    /// The name of the open storage with the least number, which is the least name, by the root whose storages are
+    /// open.
     pub fn least_open<'a>(&self, root: &'a Root) -> Option<&'a Name>
-        ensures { option_map (λ n. n.now) result ≡ first_open (sessions_in self.now) (active_storages (root_says root.now)) }
+        ensures { option_map (λ n. n.now) result ≡ first_open (sessions_in self.now)
+            (active_storages (root_says root.now)) }
     {
         match root {
             Root::Bad => None,

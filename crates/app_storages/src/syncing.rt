@@ -20,8 +20,8 @@ use std::alloc::Global;
 impl Slots {
     /// Makes what the calls see of an open storage of keys durable, of an application at rest.
     ///
-    /// Refusals, the first that holds: `IntegrityCorrupted` with the root where it is bad; `NotInstalled`; `StorageNotFound`; `NotOpen`;
-    /// `LimitReached` with `Generations` where keys differ and no generation is left.
+    /// Refusals, the first that holds: `IntegrityCorrupted` with the root where it is bad; `NotInstalled`;
+    /// `StorageNotFound`; `NotOpen`; `LimitReached` with `Generations` where keys differ and no generation is left.
     ///
     /// # Errors
     ///
@@ -55,8 +55,9 @@ impl Slots {
 
     /// Makes the working files of an open storage durable through one of its handles, of an application at rest.
     ///
-    /// Refusals, the first that holds: those in front of `sync`; `NotOpen` too where there is no such handle; `IllegalWriteAccess` for one
-    /// that only reads; `LimitReached` with `Generations` where files differ and no generation is left.
+    /// Refusals, the first that holds: those in front of `sync`; `NotOpen` too where there is no such handle;
+    /// `IllegalWriteAccess` for one that only reads; `LimitReached` with `Generations` where files differ and no
+    /// generation is left.
     ///
     /// # Errors
     ///

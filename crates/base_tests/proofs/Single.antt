@@ -27,7 +27,8 @@ weight e = length e.name + e.len
 size_insert : (f : Entry) (fs : List Entry) → size_of (insert_item entry_name f fs) ≡ weight f + size_of fs
 size_insert f [] = sum_by-cons weight f []
 size_insert f (g ∷ fs) = elim (cases_Bool (is_lt (name_cmp g.name f.name))) [
-  | inl t ↦ rw t (let a = sum_by-cons weight g (insert_item entry_name f fs) in let b = size_insert f fs in let c = sum_by-cons weight g fs in omega (arith, a, b, c))
+  | inl t ↦ rw t (let a = sum_by-cons weight g (insert_item entry_name f fs) in let b = size_insert f fs in let c =
+      sum_by-cons weight g fs in omega (arith, a, b, c))
   | inr n ↦ rw n (sum_by-cons weight f (g ∷ fs))
 ]
 
@@ -35,7 +36,9 @@ size_without : (name : List ℕ) (fs : List Entry) → size_of (without_item ent
 size_without name [] = omega arith
 size_without name (g ∷ fs) = elim (cases_Bool (bytes_eq g.name name)) [
   | inl t ↦ rw t (let a = size_without name fs in let c = sum_by-cons weight g fs in omega (arith, a, c))
-  | inr n ↦ rw n (let a = size_without name fs in let b = sum_by-cons weight g (without_item entry_name name fs) in let c = sum_by-cons weight g fs in omega (arith, a, b, c))
+  | inr n ↦ rw n (let a = size_without name fs in let b =
+      sum_by-cons weight g (without_item entry_name name fs) in let c =
+      sum_by-cons weight g fs in omega (arith, a, b, c))
 ]
 
 length_insert : (f : Entry) (fs : List Entry) → length (insert_item entry_name f fs) ≡ suc (length fs)
@@ -53,7 +56,8 @@ length_without name (g ∷ fs) = elim (cases_Bool (bytes_eq g.name name)) [
 ]
 
 -- one change that the storage can take is a commit's
-pub one_change : (shape : Shape) (v : View) (change : Change) → IsAddition shape (size_of v.entries) change → length v.entries < 1024
+pub one_change : (shape : Shape) (v : View) (change : Change) → IsAddition shape (size_of v.entries) change
+    → length v.entries < 1024
     → v.generation < greatest_generation → AreChanges shape v (change ∷ [])
 unfolding IsDistinct
 one_change shape v (Put f) fits few not_worn =
@@ -84,7 +88,8 @@ one_change shape v (Remove name) fits few not_worn =
 one_change shape v (Touch name info) fits few not_worn = absurd fits
 
 -- one element that fits is all that a storage is made with
-pub one_content : (shape : Shape) (f : Fresh) → IsFresh shape.kind f → length f.name + length f.bytes ≤ shape.allowed → AreContents shape.kind shape.allowed (f ∷ [])
+pub one_content : (shape : Shape) (f : Fresh) → IsFresh shape.kind f → length f.name + length f.bytes ≤ shape.allowed
+    → AreContents shape.kind shape.allowed (f ∷ [])
 one_content shape f fresh small = let sum = sum_by-cons (λ (f : Fresh). length f.name + length f.bytes) f [] in record {
   each = (fresh, tt);
   names_ascend = sorted_from_ascends (f.name ∷ []) refl;

@@ -50,8 +50,8 @@ impl Disk for Silent {
     }
 }
 
-/// Writes a text, makes it durable, and writes another over it. At any moment a crash leaves what was there with the first text torn
-/// over it, or the whole first text with the second torn over that.
+/// Writes a text, makes it durable, and writes another over it. At any moment a crash leaves what was there with the
+/// first text torn over it, or the whole first text with the second torn over that.
 fn write_twice<D: Disk>(
     disk: &mut D,
     file: u32,
@@ -77,7 +77,8 @@ fn written<D: Disk>(disk: &mut D) -> &'static str {
     }
 }
 
-/// `twice silent`, `twice memory`: both writes to such a disk; then its count of faults, or the size of the file and the bytes written.
+/// `twice silent`, `twice memory`: both writes to such a disk; then its count of faults, or the size of the file and
+/// the bytes written.
 pub fn twice(alloc: Global, word: &str) -> Result<String, Trouble> {
     match word {
         "silent" => twice_silent(alloc),

@@ -65,7 +65,8 @@ fn compared(text: &Option<Bytes>, bytes: &[u8]) -> &'static str {
     }
 }
 
-/// `shared COPIES OLD NEW`: the blocks of the old bytes, those of the new ones beside them, and how many bytes the second put wrote.
+/// `shared COPIES OLD NEW`: the blocks of the old bytes, those of the new ones beside them, and how many bytes the
+/// second put wrote.
 pub fn shared(alloc: Global, words: &str) -> Result<String, Trouble> {
     let (copies, words) = cut(words, ' ');
     let (old, new) = cut(words, ' ');

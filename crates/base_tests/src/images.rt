@@ -7,7 +7,8 @@ use disk_model::{Disk, MemDisk};
 use hash_guard::{MAX_BODY, seal};
 use std::alloc::Global;
 
-/// `COPY:GENERATION:BYTES`: seals a text, and makes it durable in the slot of a copy, counted from 1 in a place that begins at file 0.
+/// `COPY:GENERATION:BYTES`: seals a text, and makes it durable in the slot of a copy, counted from 1 in a place that
+/// begins at file 0.
 pub fn hold(alloc: Global, disk: &mut MemDisk, rest: &str) -> Result<(), Trouble> {
     let (copy, rest) = cut(rest, ':');
     let (generation, text) = cut(rest, ':');

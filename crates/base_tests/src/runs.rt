@@ -60,7 +60,8 @@ pub fn step(alloc: Global, plan: Plan, kept: Kept, word: &str) -> Result<(Kept, 
     }
 }
 
-/// `restart:all`, `restart:none`, `restart:PATTERN`: after a power loss that keeps all writes since the last sync, none, or those of the pattern.
+/// `restart:all`, `restart:none`, `restart:PATTERN`: after a power loss that keeps all writes since the last sync,
+/// none, or those of the pattern.
 pub fn restarted(disk: MemDisk, word: &str) -> Result<MemDisk, Trouble> {
     let disk = match word {
         "all" => disk.crash(true)?,

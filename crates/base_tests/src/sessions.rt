@@ -109,7 +109,8 @@ fn stop(alloc: Global, run: Run, word: &str) -> Result<(Run, String), Trouble>
     Ok((Run { disk, cell }, text(alloc, "ok")?))
 }
 
-// `crash:all`, `crash:none`, `crash:PATTERN`: a power loss that keeps all writes since the last sync, none, or those of the pattern.
+// `crash:all`, `crash:none`, `crash:PATTERN`: a power loss that keeps all writes since the last sync, none, or those of
+// the pattern.
 fn crash(alloc: Global, run: Run, word: &str) -> Result<(Run, String), Trouble>
     ensures { IfOk result (λ next. IsRun next.0) }
 {

@@ -11,8 +11,8 @@ use std::alloc::Global;
 /// No word makes so many calls of the disk here.
 const ENOUGH: u64 = 400;
 
-/// What a restart keeps of the writes since the last sync: all, nothing, or those that the bits of a number say: 0x5555555555555555,
-/// 0xaaaaaaaaaaaaaaaa, 6.
+/// What a restart keeps of the writes since the last sync: all, nothing, or those that the bits of a number say:
+/// 0x5555555555555555, 0xaaaaaaaaaaaaaaaa, 6.
 const RESTARTS: [&str; 5] = [
     "all",
     "none",
@@ -33,8 +33,8 @@ struct Course<'a> {
     between: &'a str,
 }
 
-/// `stops PLAN WORD .. / WORD / BEFORE / AFTER`, and ` / BETWEEN`: `kept`, or where another state was found. BEFORE may be `=`, what an opening
-/// finds if the word does not come.
+/// `stops PLAN WORD .. / WORD / BEFORE / AFTER`, and ` / BETWEEN`: `kept`, or where another state was found. BEFORE may
+/// be `=`, what an opening finds if the word does not come.
 pub fn stops(alloc: Global, rest: &str) -> Result<String, Trouble> {
     let (plan, rest) = cut(rest, ' ');
     let plan = plan_of(plan)?;
@@ -80,8 +80,8 @@ fn follow_all(alloc: Global, course: Course<'_>) -> Result<String, Trouble> {
     text(alloc, "kept")
 }
 
-// Stops the word after each call, until it succeeds. Where a restart keeps all writes or none, an opening finds the state of after from one
-// call on.
+// Stops the word after each call, until it succeeds. Where a restart keeps all writes or none, an opening finds the
+// state of after from one call on.
 fn follow(alloc: Global, course: Course<'_>, way: &str) -> Result<Option<String>, Trouble> {
     let is_whole = way == "all" || way == "none";
     let mut is_over = false;

@@ -4,7 +4,8 @@ use case_words::{Trouble, add, bytes_of, bytes_text, cut, number, numbers, text}
 use per_base::{MemSink, MemSource, Sink, Source};
 use std::alloc::Global;
 
-/// `source PIECE FAILING BYTES ROOM ..`: what a read into room of each size answers: the count, and the room, which held zeros.
+/// `source PIECE FAILING BYTES ROOM ..`: what a read into room of each size answers: the count, and the room, which
+/// held zeros.
 pub fn source(alloc: Global, words: &str) -> Result<String, Trouble> {
     let (piece, words) = cut(words, ' ');
     let (failing, words) = cut(words, ' ');

@@ -1,5 +1,6 @@
 -- What a copy gives by its hash, and the lists of what copies give.
-use Rattle.std.proofs.Common.{◌≡◌, ℕ, suc, zero, ◌+◌, ◌<◌, ◌≤◌, List, [], ◌∷◌, ◌++◌, length, get_or, Bool, true, false, cond, Option, Some, None, refl, sym, ap, ◌∙◌, arith, ⊎_elim, Vec, Global}
+use Rattle.std.proofs.Common.{◌≡◌, ℕ, suc, zero, ◌+◌, ◌<◌, ◌≤◌, List, [], ◌∷◌, ◌++◌, length, get_or, Bool, true, false}
+use Rattle.std.proofs.Common.{cond, Option, Some, None, refl, sym, ap, ◌∙◌, arith, ⊎_elim, Vec, Global}
 use Rattle.std.specs.Prelude.{slice_index_or, map, filter, IfSome}
 use Rattle.std.specs.List.{range_with_len}
 use Rattle.std.specs.Option.{option_map}
@@ -16,7 +17,8 @@ use Rattle.m_of_n.specs.Vote.{texts_of, holders, voted}
 use Rattle.m_of_n.specs.Laws.{holders-cons, voted-held}
 use Rattle.block_files.specs.BlockSets.{Ascend}
 use Rattle.block_files.specs.Areas.{joined, within}
-use Rattle.block_files.specs.Contents.{counting, contents, first_content, lacks, lacking, lacking_in, AreCopies, HaveSize}
+use Rattle.block_files.specs.Contents.{counting, contents, first_content, lacks, lacking, lacking_in, AreCopies}
+use Rattle.block_files.specs.Contents.{HaveSize}
 
 -- ---- one copy
 
@@ -31,7 +33,8 @@ module _ (file blocks : List ℕ) (len : ℕ) (hash bytes : List ℕ) (is : byte
   unfolding counting
   counting_some same =
       let e = ap (λ xs. bytes_eq (sha256 xs) hash) (sym is) ∙ same in
-      ap (λ xs. Some xs) is ∙ sym (cond-true (bytes_eq (sha256 (joined file blocks len)) hash) (Some (joined file blocks len)) None e)
+      ap (λ xs. Some xs) is ∙ sym (cond-true (bytes_eq (sha256 (joined file blocks len)) hash)
+      (Some (joined file blocks len)) None e)
 
 -- ---- a list of numbers, one more
 
@@ -39,7 +42,8 @@ pub range_more : (n : ℕ) → range_with_len 0 (n + 1) ≡ range_with_len 0 n +
 range_more n =
     let same = λ (xs : List ℕ). map_same xs in
     let e : 0 + n ≡ n = omega arith in
-    sym (map_same (range_with_len 0 (n + 1))) ∙ map-range_with_len_more (λ (x : ℕ). x) 0 n n e ∙ ap (λ xs. xs ++ n ∷ []) (map_same (range_with_len 0 n))
+    sym (map_same (range_with_len 0 (n + 1))) ∙ map-range_with_len_more (λ (x : ℕ). x) 0 n n e
+    ∙ ap (λ xs. xs ++ n ∷ []) (map_same (range_with_len 0 n))
   where
     map_same : (xs : List ℕ) → map (λ (x : ℕ). x) xs ≡ xs
     map_same [] = refl
@@ -47,8 +51,10 @@ range_more n =
 
 -- ---- what several copies give
 
-pub texts_more : (first i : ℕ) (blocks : List ℕ) (len : ℕ) (hash : List ℕ) (image : Image) (texts : List (Option (Vec ℕ Global))) (text : Option (Vec ℕ Global))
-    → texts_of texts ≡ contents first i blocks len hash image → option_map (λ t. t.items) text ≡ counting (image (area first i)) blocks len hash
+pub texts_more : (first i : ℕ) (blocks : List ℕ) (len : ℕ) (hash : List ℕ) (image : Image)
+    (texts : List (Option (Vec ℕ Global))) (text : Option (Vec ℕ Global))
+    → texts_of texts ≡ contents first i blocks len hash image
+    → option_map (λ t. t.items) text ≡ counting (image (area first i)) blocks len hash
     → texts_of (texts ++ text ∷ []) ≡ contents first (i + 1) blocks len hash image
 texts_more first i blocks len hash image texts text were is =
     let give = λ (c : ℕ). counting (image (area first c)) blocks len hash in
@@ -58,7 +64,8 @@ texts_more first i blocks len hash image texts text were is =
     ∙ sym (map-range_with_len_more give 0 i i (omega arith))
 
 pub inside_more : (first i : ℕ) (blocks : List ℕ) (len : ℕ) (image : Image) (inside : List Bool) (here : Bool)
-    → inside ≡ map (λ c. within (image (area first c)) blocks len) (range_with_len 0 i) → here ≡ within (image (area first i)) blocks len
+    → inside ≡ map (λ c. within (image (area first c)) blocks len) (range_with_len 0 i)
+    → here ≡ within (image (area first i)) blocks len
     → inside ++ here ∷ [] ≡ map (λ c. within (image (area first c)) blocks len) (range_with_len 0 (i + 1))
 inside_more first i blocks len image inside here were is =
     let test = λ (c : ℕ). within (image (area first c)) blocks len in
@@ -80,10 +87,13 @@ module _ (value : Option (List ℕ)) (given : List (Option (List ℕ))) (inside 
   abbrev test : ℕ → Bool
   test = lacks_at value given inside
 
-  one_more : lacking_to value given inside (i + 1) ≡ map suc (filter test (range_with_len 0 i) ++ cond (test i) (i ∷ []) [])
-  one_more = ap (λ xs. map suc (filter test xs)) (range_more i) ∙ ap (map suc) (filter-append test (range_with_len 0 i) (i ∷ []))
+  one_more : lacking_to value given inside (i + 1) ≡ map suc
+      (filter test (range_with_len 0 i) ++ cond (test i) (i ∷ []) [])
+  one_more = ap (λ xs. map suc (filter test xs)) (range_more i)
+      ∙ ap (map suc) (filter-append test (range_with_len 0 i) (i ∷ []))
 
-  pub lacking_yes : lacks_at value given inside i ≡ true → lacking_to value given inside i ++ (i + 1) ∷ [] ≡ lacking_to value given inside (i + 1)
+  pub lacking_yes : lacks_at value given inside i ≡ true
+      → lacking_to value given inside i ++ (i + 1) ∷ [] ≡ lacking_to value given inside (i + 1)
   lacking_yes is =
       let e : i + 1 ≡ suc i = omega arith in
       let f = cond-true (test i) (i ∷ []) [] is in
@@ -92,7 +102,8 @@ module _ (value : Option (List ℕ)) (given : List (Option (List ℕ))) (inside 
       ∙ ap (λ xs. map suc (filter test (range_with_len 0 i) ++ xs)) (sym f)
       ∙ sym one_more
 
-  pub lacking_no : lacks_at value given inside i ≡ false → lacking_to value given inside i ≡ lacking_to value given inside (i + 1)
+  pub lacking_no : lacks_at value given inside i ≡ false
+      → lacking_to value given inside i ≡ lacking_to value given inside (i + 1)
   lacking_no is =
       let f = cond-false (test i) (i ∷ []) [] is in
       ap (map suc) (sym (append-nil (filter test (range_with_len 0 i))))
@@ -100,14 +111,18 @@ module _ (value : Option (List ℕ)) (given : List (Option (List ℕ))) (inside 
       ∙ sym one_more
 
 -- by the copies in place of the lists
-filter_same : (p q : ℕ → Bool) (a n : ℕ) → ((c : ℕ) → a ≤ c → c < a + n → p c ≡ q c) → filter p (range_with_len a n) ≡ filter q (range_with_len a n)
+filter_same : (p q : ℕ → Bool) (a n : ℕ) → ((c : ℕ) → a ≤ c → c < a + n → p c ≡ q c)
+    → filter p (range_with_len a n) ≡ filter q (range_with_len a n)
 filter_same p q a zero same = refl
 filter_same p q a (suc n) same =
-    ap (λ b. cond b (a ∷ filter p (range_with_len (a + 1) n)) (filter p (range_with_len (a + 1) n))) (same a (omega arith) (omega arith))
+    ap (λ b. cond b (a ∷ filter p (range_with_len (a + 1) n)) (filter p (range_with_len (a + 1) n)))
+    (same a (omega arith) (omega arith))
     ∙ ap (λ xs. cond (q a) (a ∷ xs) xs) (filter_same p q (a + 1) n (λ c le lt. same c (omega arith) (omega arith)))
 
-pub lacking_is : (value : Option (List ℕ)) (first copies : ℕ) (blocks : List ℕ) (len : ℕ) (hash : List ℕ) (image : Image) (given : List (Option (List ℕ))) (inside : List Bool)
-    → given ≡ contents first copies blocks len hash image → inside ≡ map (λ c. within (image (area first c)) blocks len) (range_with_len 0 copies)
+pub lacking_is : (value : Option (List ℕ)) (first copies : ℕ) (blocks : List ℕ) (len : ℕ) (hash : List ℕ)
+    (image : Image) (given : List (Option (List ℕ))) (inside : List Bool)
+    → given ≡ contents first copies blocks len hash image
+    → inside ≡ map (λ c. within (image (area first c)) blocks len) (range_with_len 0 copies)
     → lacking_in value given inside ≡ lacking value first copies blocks len hash image
 lacking_is value first copies blocks len hash image given inside given_is inside_is =
     let give = λ (c : ℕ). counting (image (area first c)) blocks len hash in
@@ -115,8 +130,10 @@ lacking_is value first copies blocks len hash image given inside given_is inside
     let long : length given ≡ copies = ap length given_is ∙ length-map-range_with_len give 0 copies in
     ap (λ n. lacking_to value given inside n) long
     ∙ ap (map suc) (filter_same (lacks_at value given inside) (λ c. lacks value (give c) (full c)) 0 copies (λ c le lt.
-    let a = ap (λ xs. get_or xs c None) given_is ∙ get_or-map-range_with_len give 0 copies c c None (omega arith) (omega arith) in
-    let b = ap (λ xs. get_or xs c false) inside_is ∙ get_or-map-range_with_len full 0 copies c c false (omega arith) (omega arith) in
+    let a = ap (λ xs. get_or xs c None) given_is ∙ get_or-map-range_with_len give 0 copies c c None (omega arith)
+    (omega arith) in
+    let b = ap (λ xs. get_or xs c false) inside_is ∙ get_or-map-range_with_len full 0 copies c c false (omega arith)
+    (omega arith) in
     ap (λ x. lacks value x (get_or inside c false)) a ∙ ap (lacks value (give c)) b))
 
 -- ---- the numbers ascend, and name copies
@@ -127,7 +144,8 @@ record IsKept (a n : ℕ) (kept : List ℕ) : Type 0 where
   high : (i : ℕ) → i < length kept → get_or kept i 0 < a + n
   ascend : Ascend kept
 
-kept_more : (a n : ℕ) (kept : List ℕ) (keeps : Bool) → IsKept (a + 1) n kept → IsKept a (suc n) (cond keeps (a ∷ kept) kept)
+kept_more : (a n : ℕ) (kept : List ℕ) (keeps : Bool) → IsKept (a + 1) n kept
+    → IsKept a (suc n) (cond keeps (a ∷ kept) kept)
 kept_more a n kept true is = record {
   low = low;
   high = high;
@@ -153,15 +171,23 @@ kept_more a n kept false is = record {
 }
 
 filter_kept : (p : ℕ → Bool) (a n : ℕ) → IsKept a n (filter p (range_with_len a n))
-filter_kept p a zero = record { low = λ i lt. absurd (omega arith); high = λ i lt. absurd (omega arith); ascend = λ i j less lt. absurd (omega arith) }
+filter_kept p a zero = record {
+  low = λ i lt. absurd (omega arith);
+  high = λ i lt. absurd (omega arith);
+  ascend =
+      λ i j less lt. absurd (omega arith);
+}
 filter_kept p a (suc n) = kept_more a n (filter p (range_with_len (a + 1) n)) (p a) (filter_kept p (a + 1) n)
 
-module _ (value : Option (List ℕ)) (given : List (Option (List ℕ))) (inside : List Bool) (copies : ℕ) (long : length given ≡ copies) where
+module _ (value : Option (List ℕ)) (given : List (Option (List ℕ))) (inside : List Bool) (copies : ℕ)
+    (long : length given ≡ copies) where
   abbrev kept : List ℕ
   kept = filter (lacks_at value given inside) (range_with_len 0 (length given))
 
-  number_at : (i : ℕ) → i < length (map suc kept) → (i < length kept) × (get_or (map suc kept) i 0 ≡ suc (get_or kept i 0))
-  number_at i lt = let inner : i < length kept = omega (arith, length-map kept suc) in (inner, get_or-map suc kept i 0 0 inner)
+  number_at : (i : ℕ) → i < length (map suc kept) → (i < length kept)
+      × (get_or (map suc kept) i 0 ≡ suc (get_or kept i 0))
+  number_at i lt = let inner : i < length kept = omega (arith, length-map kept suc) in
+      (inner, get_or-map suc kept i 0 0 inner)
 
   pub lacking_copies : AreCopies copies (lacking_in value given inside)
   lacking_copies i lt =
@@ -180,17 +206,22 @@ module _ (value : Option (List ℕ)) (given : List (Option (List ℕ))) (inside 
 pub sizes_none : (size : ℕ) → HaveSize size []
 sizes_none size i text is = cc
 
-pub sizes_more : (size : ℕ) (texts : List (Option (Vec ℕ Global))) (text : Option (Vec ℕ Global)) → HaveSize size (texts_of texts) → IfSome text (λ t. length t.items ≡ size) → HaveSize size (texts_of (texts ++ text ∷ []))
+pub sizes_more : (size : ℕ) (texts : List (Option (Vec ℕ Global))) (text : Option (Vec ℕ Global))
+    → HaveSize size (texts_of texts) → IfSome text (λ t. length t.items ≡ size)
+    → HaveSize size (texts_of (texts ++ text ∷ []))
 sizes_more size [] text were is zero other same = one text is same
   where
-    one : (t : Option (Vec ℕ Global)) → IfSome t (λ x. length x.items ≡ size) → option_map (λ x. x.items) t ≡ Some other → length other ≡ size
+    one : (t : Option (Vec ℕ Global)) → IfSome t (λ x. length x.items ≡ size) → option_map (λ x. x.items) t ≡ Some other
+        → length other ≡ size
     one None is same = cc
     one (Some x) is same = let e : x.items ≡ other = cc in sym (ap length e) ∙ is
 sizes_more size [] text were is (suc i) other same = cc
 sizes_more size (first ∷ texts) text were is zero other same = were 0 other same
-sizes_more size (first ∷ texts) text were is (suc i) other same = sizes_more size texts text (λ k. were (suc k)) is i other same
+sizes_more size (first ∷ texts) text were is (suc i) other same =
+    sizes_more size texts text (λ k. were (suc k)) is i other same
 
-held_size : (size : ℕ) (given : List (Option (List ℕ))) (text : List ℕ) → HaveSize size given → 1 ≤ holders given text → length text ≡ size
+held_size : (size : ℕ) (given : List (Option (List ℕ))) (text : List ℕ) → HaveSize size given → 1 ≤ holders given text
+    → length text ≡ size
 held_size size [] text sizes held = absurd (omega arith)
 held_size size (None ∷ given) text sizes held =
     held_size size given text (λ i. sizes (suc i)) (omega (arith, holders-cons None given text))
@@ -200,12 +231,14 @@ held_size size (Some other ∷ given) text sizes held = ⊎_elim
     (let e = ap (λ b. cond {A = ℕ} b 1 0) differ in omega (arith, holders-cons (Some other) given text, e)))
     (cases_Bool (bytes_eq other text))
 
-pub voted_size : (size m : ℕ) (given : List (Option (List ℕ))) (value : Option (List ℕ)) → 1 ≤ m → value ≡ voted m given → HaveSize size given → IfSome value (λ text. length text ≡ size)
+pub voted_size : (size m : ℕ) (given : List (Option (List ℕ))) (value : Option (List ℕ)) → 1 ≤ m → value ≡ voted m given
+    → HaveSize size given → IfSome value (λ text. length text ≡ size)
 voted_size size m given None positive is sizes = tt
 voted_size size m given (Some text) positive is sizes =
     held_size size given text sizes (omega (arith, voted-held m given text (sym is)))
 
-pub first_size : (size : ℕ) (given : List (Option (List ℕ))) (salvage : Option (List ℕ)) → salvage ≡ first_content given → HaveSize size given → IfSome salvage (λ text. length text ≡ size)
+pub first_size : (size : ℕ) (given : List (Option (List ℕ))) (salvage : Option (List ℕ)) → salvage ≡ first_content given
+    → HaveSize size given → IfSome salvage (λ text. length text ≡ size)
 first_size size given None is sizes = tt
 first_size size [] (Some text) is sizes = cc
 first_size size (None ∷ given) (Some text) is sizes = first_size size given (Some text) is (λ i. sizes (suc i))

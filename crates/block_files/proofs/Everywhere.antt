@@ -1,5 +1,6 @@
 -- From copies that are named, counted from 1, to all copies of a place.
-use Rattle.std.proofs.Common.{◌≡◌, ℕ, ◌+◌, ◌-◌, ◌*◌, ◌<◌, ◌≤◌, List, [], ◌∷◌, length, get_or, take, refl, sym, ap, ◌∙◌, subst, arith}
+use Rattle.std.proofs.Common.{◌≡◌, ℕ, ◌+◌, ◌-◌, ◌*◌, ◌<◌, ◌≤◌, List, [], ◌∷◌, length, get_or, take, refl, sym, ap, ◌∙◌}
+use Rattle.std.proofs.Common.{subst, arith}
 use Rattle.std.proofs.Math.Nat.{mul-le-mul_left}
 use Rattle.std.specs.List.{range_with_len}
 use Rattle.std.proofs.lemmas.List.{get_or-take, length-take-le}
@@ -29,27 +30,34 @@ module _ (copies : ℕ) (few : copies ≤ 8) where
       let e : 1 + i ≡ i + 1 = omega arith in
       get_or-take copies numbers i 0 lt ∙ get_or-range_with_len 1 8 i 0 (omega arith) ∙ e
 
-  pub numbers_named : (i : ℕ) → i < length (take copies numbers) → (1 ≤ get_or (take copies numbers) i 0) × (get_or (take copies numbers) i 0 ≤ copies)
-  numbers_named i lt = let inside : i < copies = omega (arith, length-numbers) in let e = number_at i inside in (omega arith, omega arith)
+  pub numbers_named : (i : ℕ) → i < length (take copies numbers)
+      → (1 ≤ get_or (take copies numbers) i 0) × (get_or (take copies numbers) i 0 ≤ copies)
+  numbers_named i lt = let inside : i < copies = omega (arith, length-numbers) in let e =
+      number_at i inside in (omega arith, omega arith)
 
   -- the area of each
   area_is : (first i : ℕ) → i < copies → area_of first (get_or (take copies numbers) i 0) ≡ area first i
-  area_is first i lt = let e : get_or (take copies numbers) i 0 - 1 ≡ i = omega (arith, number_at i lt) in ap (area first) e
+  area_is first i lt = let e : get_or (take copies numbers) i 0 - 1 ≡ i =
+      omega (arith, number_at i lt) in ap (area first) e
 
-  pub shared_named : (first : ℕ) (blocks bytes was : List ℕ) (image : Image) → ((c : ℕ) → c < copies → HoldsShared (image (area first c)) blocks bytes was)
-      → (i : ℕ) → i < length (take copies numbers) → HoldsShared (image (area_of first (get_or (take copies numbers) i 0))) blocks bytes was
+  pub shared_named : (first : ℕ) (blocks bytes was : List ℕ) (image : Image)
+      → ((c : ℕ) → c < copies → HoldsShared (image (area first c)) blocks bytes was)
+      → (i : ℕ) → i < length (take copies numbers) → HoldsShared
+      (image (area_of first (get_or (take copies numbers) i 0))) blocks bytes was
   shared_named first blocks bytes was image shared i lt =
       let inside : i < copies = omega (arith, length-numbers) in
       let P : ℕ → Type 0 = λ f. HoldsShared (image f) blocks bytes was in
       subst P (sym (area_is first i inside)) (shared i inside)
 
-  pub all_full : (first : ℕ) (blocks bytes : List ℕ) (image : Image) → NamedFull first (take copies numbers) blocks bytes image → AllFull first copies blocks bytes image
+  pub all_full : (first : ℕ) (blocks bytes : List ℕ) (image : Image)
+      → NamedFull first (take copies numbers) blocks bytes image → AllFull first copies blocks bytes image
   all_full first blocks bytes image named c lt =
       let P : ℕ → Type 0 = λ f. IsFull (image f) blocks bytes in
       subst P (area_is first c lt) (named c (omega (arith, length-numbers)))
 
   pub none_named : (first f : ℕ) → IsNoArea first copies f → IsNoneOf first (take copies numbers) f
-  none_named first f none i lt e = let inside : i < copies = omega (arith, length-numbers) in none i inside (e ∙ area_is first i inside)
+  none_named first f none i lt e = let inside : i < copies =
+      omega (arith, length-numbers) in none i inside (e ∙ area_is first i inside)
 
 -- beside an empty content each part that has bytes is a change
 pub shared_none : (file blocks bytes : List ℕ) → HoldsShared file blocks bytes []
@@ -63,7 +71,9 @@ pub apart_none : (blocks bytes was : List ℕ) (k : ℕ) → IsApart blocks k �
 apart_none blocks bytes was k apart i lt differ = apart i lt
 
 -- so many copies, each of which writes no more than all of its blocks
-pub whole_le : (bytes : List ℕ) (copies count : ℕ) → length bytes ≤ 256 * count → copies * (256 * changed bytes []) ≤ copies * (256 * count)
+pub whole_le : (bytes : List ℕ) (copies count : ℕ) → length bytes ≤ 256 * count
+    → copies * (256 * changed bytes []) ≤ copies * (256 * count)
 whole_le bytes copies count room =
-    let few : 256 * changed bytes [] ≤ 256 * count = omega (arith, changed_to-le bytes [] (blocks_for (length bytes))) in
+    let few : 256 * changed bytes [] ≤ 256 * count = omega (arith, changed_to-le bytes [] (blocks_for (length bytes)))
+    in
     mul-le-mul_left copies few

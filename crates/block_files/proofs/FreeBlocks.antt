@@ -1,5 +1,6 @@
 -- The free blocks of a set: how many, which, and how a choice of the lowest goes on.
-use Rattle.std.proofs.Common.{◌≡◌, ℕ, suc, zero, ◌+◌, ◌-◌, ◌<◌, ◌≤◌, List, [], ◌∷◌, ◌++◌, length, get_or, take, drop, Bool, true, false, not, cond, refl, sym, ap, ◌∙◌, subst, arith, append_assoc}
+use Rattle.std.proofs.Common.{◌≡◌, ℕ, suc, zero, ◌+◌, ◌-◌, ◌<◌, ◌≤◌, List, [], ◌∷◌, ◌++◌, length, get_or, take, drop}
+use Rattle.std.proofs.Common.{Bool, true, false, not, cond, refl, sym, ap, ◌∙◌, subst, arith, append_assoc}
 use Rattle.std.specs.Prelude.{count_by}
 use Rattle.std.proofs.lemmas.List.{append-nil, drop_more, drop_all, length-append, get_or-take, length-take-le}
 use Rattle.std.proofs.lemmas.List.Sums.{sum_by-cons}
@@ -26,10 +27,12 @@ further : (b : ℕ) (flag : Bool) (flags : List Bool) (k : ℕ) → IsFreeFrom (
 further b flag flags k is = record {
   low = omega (arith, is.low);
   high = omega (arith, is.high);
-  free = let e : k - b ≡ suc (k - (b + 1)) = omega (arith, is.low) in ap (λ n. get_or (flag ∷ flags) n false) e ∙ is.free;
+  free = let e : k - b ≡ suc (k - (b + 1)) = omega (arith, is.low) in
+      ap (λ n. get_or (flag ∷ flags) n false) e ∙ is.free;
 }
 
-pub free_from-at : (b : ℕ) (flags : List Bool) (i : ℕ) → i < length (free_from b flags) → IsFreeFrom b flags (get_or (free_from b flags) i 0)
+pub free_from-at : (b : ℕ) (flags : List Bool) (i : ℕ) → i < length (free_from b flags)
+    → IsFreeFrom b flags (get_or (free_from b flags) i 0)
 free_from-at b [] i lt = absurd (omega arith)
 free_from-at b (true ∷ flags) i lt = further b true flags _ (free_from-at (b + 1) flags i lt)
 free_from-at b (false ∷ flags) zero lt = record {
@@ -39,12 +42,15 @@ free_from-at b (false ∷ flags) zero lt = record {
 }
 free_from-at b (false ∷ flags) (suc i) lt = further b false flags _ (free_from-at (b + 1) flags i (omega arith))
 
-pub free_from-ascend : (b : ℕ) (flags : List Bool) (i j : ℕ) → i < j → j < length (free_from b flags) → get_or (free_from b flags) i 0 < get_or (free_from b flags) j 0
+pub free_from-ascend : (b : ℕ) (flags : List Bool) (i j : ℕ) → i < j → j < length (free_from b flags)
+    → get_or (free_from b flags) i 0 < get_or (free_from b flags) j 0
 free_from-ascend b [] i j less lt = absurd (omega arith)
 free_from-ascend b (true ∷ flags) i j less lt = free_from-ascend (b + 1) flags i j less lt
 free_from-ascend b (false ∷ flags) i zero less lt = absurd (omega arith)
-free_from-ascend b (false ∷ flags) zero (suc j) less lt = omega (arith, (free_from-at (b + 1) flags j (omega arith)).low)
-free_from-ascend b (false ∷ flags) (suc i) (suc j) less lt = free_from-ascend (b + 1) flags i j (omega arith) (omega arith)
+free_from-ascend b (false ∷ flags) zero (suc j) less lt =
+    omega (arith, (free_from-at (b + 1) flags j (omega arith)).low)
+free_from-ascend b (false ∷ flags) (suc i) (suc j) less lt =
+    free_from-ascend (b + 1) flags i j (omega arith) (omega arith)
 
 -- ---- the lowest of them
 
@@ -88,16 +94,19 @@ choosing_none set count = record {
 }
 
 -- the rest begins at a block whose flag is this
-rest_at : (set : List Bool) (i : ℕ) (flag : Bool) → i < length set → holds set i ≡ flag → free_from i (drop i set) ≡ free_from i (flag ∷ drop (i + 1) set)
+rest_at : (set : List Bool) (i : ℕ) (flag : Bool) → i < length set → holds set i ≡ flag
+    → free_from i (drop i set) ≡ free_from i (flag ∷ drop (i + 1) set)
 rest_at set i flag lt is = ap (free_from i) (drop_more set i false lt) ∙ ap (λ f. free_from i (f ∷ drop (i + 1) set)) is
 
-pub choosing_skip : (set : List Bool) (count i : ℕ) (blocks : List ℕ) → i < length set → holds set i ≡ true → IsChoosing set count i blocks → IsChoosing set count (i + 1) blocks
+pub choosing_skip : (set : List Bool) (count i : ℕ) (blocks : List ℕ) → i < length set → holds set i ≡ true
+    → IsChoosing set count i blocks → IsChoosing set count (i + 1) blocks
 choosing_skip set count i blocks lt is now = record {
   few = now.few;
   rest = ap (λ rest. blocks ++ take (count - length blocks) rest) (sym (rest_at set i true lt is)) ∙ now.rest;
 }
 
-pub choosing_more : (set : List Bool) (count i : ℕ) (blocks : List ℕ) → i < length set → holds set i ≡ false → length blocks < count → IsChoosing set count i blocks → IsChoosing set count (i + 1) (blocks ++ i ∷ [])
+pub choosing_more : (set : List Bool) (count i : ℕ) (blocks : List ℕ) → i < length set → holds set i ≡ false
+    → length blocks < count → IsChoosing set count i blocks → IsChoosing set count (i + 1) (blocks ++ i ∷ [])
 choosing_more set count i blocks lt is room now =
     let later = free_from (i + 1) (drop (i + 1) set) in
     let long = length-append blocks (i ∷ []) in
@@ -113,7 +122,8 @@ choosing_more set count i blocks lt is room now =
           ∙ now.rest;
     }
 
-pub choosing_full : (set : List Bool) (count i : ℕ) (blocks : List ℕ) → length blocks ≡ count → IsChoosing set count i blocks → blocks ≡ take count (free_blocks set)
+pub choosing_full : (set : List Bool) (count i : ℕ) (blocks : List ℕ) → length blocks ≡ count
+    → IsChoosing set count i blocks → blocks ≡ take count (free_blocks set)
 choosing_full set count i blocks full now =
     let e : count - length blocks ≡ 0 = omega arith in
     sym (append-nil blocks) ∙ ap (λ n. blocks ++ take n (free_from i (drop i set))) (sym e) ∙ now.rest
@@ -122,7 +132,8 @@ take-nil : (n : ℕ) → take {A = ℕ} n [] ≡ []
 take-nil zero = refl
 take-nil (suc n) = refl
 
-pub choosing_all : (set : List Bool) (count i : ℕ) (blocks : List ℕ) → length set ≤ i → IsChoosing set count i blocks → blocks ≡ take count (free_blocks set)
+pub choosing_all : (set : List Bool) (count i : ℕ) (blocks : List ℕ) → length set ≤ i → IsChoosing set count i blocks
+    → blocks ≡ take count (free_blocks set)
 choosing_all set count i blocks past now =
     sym (append-nil blocks)
     ∙ ap (λ rest. blocks ++ rest) (sym (take-nil (count - length blocks)))
@@ -131,7 +142,8 @@ choosing_all set count i blocks past now =
 
 -- ---- a list that was chosen so
 
-module _ (set : List Bool) (count : ℕ) (fresh : List ℕ) (is : fresh ≡ take count (free_blocks set)) (enough : count ≤ free_of set) where
+module _ (set : List Bool) (count : ℕ) (fresh : List ℕ) (is : fresh ≡ take count (free_blocks set))
+    (enough : count ≤ free_of set) where
   pub chosen_free : AreFree set fresh
   chosen_free = let P : List ℕ → Type 0 = λ xs. AreFree set xs in subst P (sym is) (lowest_free set count enough)
 

@@ -1,5 +1,6 @@
 -- Parts of contents: how they are cut, and when two of them differ.
-use Rattle.std.proofs.Common.{◌≡◌, ℕ, suc, zero, ◌+◌, ◌-◌, ◌*◌, ◌<◌, ◌≤◌, min, List, length, take, drop, true, false, cond, ap, ◌∙◌, subst, arith, ⊎_elim}
+use Rattle.std.proofs.Common.{◌≡◌, ℕ, suc, zero, ◌+◌, ◌-◌, ◌*◌, ◌<◌, ◌≤◌, min, List, length, take, drop, true, false}
+use Rattle.std.proofs.Common.{cond, ap, ◌∙◌, subst, arith, ⊎_elim}
 use Rattle.std.specs.Str.{bytes_eq}
 use Rattle.std.proofs.lemmas.List.{take_min, drop_min}
 use Rattle.std.proofs.lemmas.Bool.{not-false, cases_Bool}
@@ -7,7 +8,8 @@ use Rattle.std.proofs.lemmas.Slice.Eq.{bytes_eq-Decides}
 use Rattle.block_files.specs.Parts.{part, is_changed, changed_to}
 
 -- a part cut within the bounds
-pub part_cut : (bytes rest : List ℕ) (i a b : ℕ) → rest ≡ drop a bytes → a ≡ min (256 * i) (length bytes) → b ≡ min 256 (length rest) → take b rest ≡ part bytes i
+pub part_cut : (bytes rest : List ℕ) (i a b : ℕ) → rest ≡ drop a bytes → a ≡ min (256 * i) (length bytes)
+    → b ≡ min 256 (length rest) → take b rest ≡ part bytes i
 part_cut bytes rest i a b cut at size =
     ap (λ n. take n rest) size
     ∙ take_min 256 rest
@@ -16,7 +18,8 @@ part_cut bytes rest i a b cut at size =
 -- parts that do not differ are equal
 pub same_part : (bytes was : List ℕ) (i : ℕ) → is_changed bytes was i ≡ false → part bytes i ≡ part was i
 unfolding is_changed
-same_part bytes was i same = (bytes_eq-Decides (part bytes i) (part was i)).0 (not-false (bytes_eq (part bytes i) (part was i)) same)
+same_part bytes was i same = (bytes_eq-Decides (part bytes i) (part was i)).0
+    (not-false (bytes_eq (part bytes i) (part was i)) same)
 
 -- so many parts differ at most
 pub changed_to-le : (bytes was : List ℕ) (n : ℕ) → changed_to bytes was n ≤ n
@@ -27,12 +30,14 @@ changed_to-le bytes was (suc n) = ⊎_elim
     (cases_Bool (is_changed bytes was n))
 
 -- one more part
-pub changed_more : (bytes was : List ℕ) (i : ℕ) → is_changed bytes was i ≡ true → changed_to bytes was (i + 1) ≡ changed_to bytes was i + 1
+pub changed_more : (bytes was : List ℕ) (i : ℕ) → is_changed bytes was i ≡ true
+    → changed_to bytes was (i + 1) ≡ changed_to bytes was i + 1
 changed_more bytes was i differ =
     let e : i + 1 ≡ suc i = omega arith in
     ap (changed_to bytes was) e ∙ ap (λ b. changed_to bytes was i + cond b 1 0) differ
 
-pub changed_same : (bytes was : List ℕ) (i : ℕ) → is_changed bytes was i ≡ false → changed_to bytes was (i + 1) ≡ changed_to bytes was i
+pub changed_same : (bytes was : List ℕ) (i : ℕ) → is_changed bytes was i ≡ false
+    → changed_to bytes was (i + 1) ≡ changed_to bytes was i
 changed_same bytes was i same =
     let e : i + 1 ≡ suc i = omega arith in
     let f = ap (λ b. changed_to bytes was i + cond b 1 0) same in
@@ -41,7 +46,8 @@ changed_same bytes was i same =
 
 -- the count never falls
 pub changed_to-grows : (bytes was : List ℕ) (i n : ℕ) → changed_to bytes was i ≤ changed_to bytes was (i + n)
-changed_to-grows bytes was i zero = let e : i + 0 ≡ i = omega arith in let f = ap (changed_to bytes was) e in omega arith
+changed_to-grows bytes was i zero = let e : i + 0 ≡ i = omega arith in let f =
+    ap (changed_to bytes was) e in omega arith
 changed_to-grows bytes was i (suc n) =
     let e : i + suc n ≡ (i + n) + 1 = omega arith in
     let f = ap (changed_to bytes was) e in
@@ -57,5 +63,10 @@ changed_to-mono bytes was i j le =
     subst P e (changed_to-grows bytes was i (j - i))
 
 -- a part that differs is counted
-pub changed_at : (bytes was : List ℕ) (i j : ℕ) → i < j → is_changed bytes was i ≡ true → changed_to bytes was i < changed_to bytes was j
-changed_at bytes was i j less differ = omega (arith, changed_more bytes was i differ, changed_to-mono bytes was (i + 1) j (omega arith))
+pub changed_at : (bytes was : List ℕ) (i j : ℕ) → i < j → is_changed bytes was i ≡ true
+    → changed_to bytes was i < changed_to bytes was j
+changed_at bytes was i j less differ = omega (
+  arith,
+  changed_more bytes was i differ,
+  changed_to-mono bytes was (i + 1) j (omega arith),
+)

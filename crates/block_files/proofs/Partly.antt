@@ -1,5 +1,6 @@
 -- A content that is written part by part into one file.
-use Rattle.std.proofs.Common.{◌≡◌, ◌≢◌, ◌⊎◌, ℕ, ◌+◌, ◌-◌, ◌*◌, ◌<◌, ◌≤◌, min, List, length, get_or, drop, Bool, true, false, IsTrue, sym, ap, ◌∙◌, subst, arith, ⊎_elim, inl, inr}
+use Rattle.std.proofs.Common.{◌≡◌, ◌≢◌, ◌⊎◌, ℕ, ◌+◌, ◌-◌, ◌*◌, ◌<◌, ◌≤◌, min, List, length, get_or, drop, Bool, true}
+use Rattle.std.proofs.Common.{false, IsTrue, sym, ap, ◌∙◌, subst, arith, ⊎_elim, inl, inr}
 use Rattle.std.proofs.lemmas.List.{length-take, length-drop, get_or-take, get_or-drop}
 use Rattle.std.proofs.lemmas.Bool.{cases_eq, cases_lt}
 use Rattle.per_base.specs.Causes.{Rose}
@@ -23,10 +24,12 @@ read_part bytes i j lt = get_or-take 256 (drop (256 * i) bytes) j 0 lt ∙ get_o
 
 -- the parts below i, and those that do not differ, are in their blocks
 abbrev pub HoldsTo : (file blocks bytes was : List ℕ) (i : ℕ) → Type 0
-HoldsTo file blocks bytes was i = (m : ℕ) → m < length blocks → (m < i) ⊎ (is_changed bytes was m ≡ false) → HoldsPart file blocks bytes m
+HoldsTo file blocks bytes was i = (m : ℕ) → m < length blocks → (m < i) ⊎ (is_changed bytes was m ≡ false)
+    → HoldsPart file blocks bytes m
 
 -- a block that a write puts in one block of a file: a part whole in it, and the parts in other blocks
-put_part : (file blocks bytes : List ℕ) (i : ℕ) → HoldsPart (put_bytes file (256 * get_or blocks i 0) (part bytes i)) blocks bytes i
+put_part : (file blocks bytes : List ℕ) (i : ℕ) → HoldsPart (put_bytes file (256 * get_or blocks i 0) (part bytes i))
+    blocks bytes i
 put_part file blocks bytes i j small inside =
     let lt : j < length (part bytes i) = omega (arith, length-part bytes i) in
     let some : length (part bytes i) ≢ 0 = omega arith in (
@@ -39,15 +42,18 @@ pub record IsPartly (told : Bool) (file : ℕ) (blocks bytes was : List ℕ) (i 
   pub holds : IsTrue told → HoldsTo (now.image file) blocks bytes was i
 
 module _ (told : Bool) (file : ℕ) (blocks bytes was : List ℕ) where
-  pub partly_none : (m : Medium) → IsLawful told m → (IsTrue told → HoldsShared (m.image file) blocks bytes was) → IsPartly told file blocks bytes was 0 m m
+  pub partly_none : (m : Medium) → IsLawful told m → (IsTrue told → HoldsShared (m.image file) blocks bytes was)
+      → IsPartly told file blocks bytes was 0 m m
   partly_none m law shared = record {
     wrote = wrote_none told (λ f. f ≢ file) (IsApartFromChanged blocks bytes was) m law;
     holds = λ tells k lt which. ⊎_elim (λ less. absurd (omega arith)) (λ same. shared tells k lt same) which;
   }
 
-  pub partly_skip : (i : ℕ) (old now : Medium) → is_changed bytes was i ≡ false → IsPartly told file blocks bytes was i old now → IsPartly told file blocks bytes was (i + 1) old now
+  pub partly_skip : (i : ℕ) (old now : Medium) → is_changed bytes was i ≡ false
+      → IsPartly told file blocks bytes was i old now → IsPartly told file blocks bytes was (i + 1) old now
   partly_skip i old now same partly = record {
-    wrote = (let P : ℕ → Type 0 = λ n. Wrote told (λ f. f ≢ file) (IsApartFromChanged blocks bytes was) (256 * n) old now in
+    wrote = (let P : ℕ → Type 0 = λ n. Wrote told (λ f. f ≢ file) (IsApartFromChanged blocks bytes was) (256 * n) old
+        now in
         subst P (sym (changed_same bytes was i same)) partly.wrote);
     holds = λ tells m lt which. partly.holds tells m lt (⊎_elim
         (λ less. ⊎_elim
@@ -58,21 +64,26 @@ module _ (told : Bool) (file : ℕ) (blocks bytes was : List ℕ) where
         which);
   }
 
-  pub partly_more : (i : ℕ) (old mid new : Medium) → i < length blocks → AreDistinct blocks → is_changed bytes was i ≡ true
+  pub partly_more : (i : ℕ) (old mid new : Medium) → i < length blocks → AreDistinct blocks
+      → is_changed bytes was i ≡ true
       → Wrote told (λ f. f ≢ file) (λ k. k ≢ get_or blocks i 0) 256 mid new
       → (IsTrue told → new.image ≡ put_image mid.image file (256 * get_or blocks i 0) (part bytes i))
       → IsPartly told file blocks bytes was i old mid → IsPartly told file blocks bytes was (i + 1) old new
   partly_more i old mid new lt distinct differ one image partly = record {
     wrote = (
-        let next = wrote_less told (λ f. f ≢ file) (λ k. k ≢ get_or blocks i 0) (λ f. f ≢ file) (IsApartFromChanged blocks bytes was)
+        let next = wrote_less told (λ f. f ≢ file) (λ k. k ≢ get_or blocks i 0) (λ f. f ≢ file)
+        (IsApartFromChanged blocks bytes was)
         (λ f ne. ne) (λ k apart. apart i lt differ) 256 256 (omega arith) mid new one in
-        let both = wrote_on told (λ f. f ≢ file) (IsApartFromChanged blocks bytes was) (256 * changed_to bytes was i) 256 old mid new partly.wrote next in
-        let e : 256 * changed_to bytes was i + 256 ≡ 256 * changed_to bytes was (i + 1) = omega (arith, changed_more bytes was i differ) in
+        let both = wrote_on told (λ f. f ≢ file) (IsApartFromChanged blocks bytes was) (256 * changed_to bytes was i)
+        256 old mid new partly.wrote next in
+        let e : 256 * changed_to bytes was i + 256 ≡ 256 * changed_to bytes was (i + 1) =
+        omega (arith, changed_more bytes was i differ) in
         let P : ℕ → Type 0 = λ n. Wrote told (λ f. f ≢ file) (IsApartFromChanged blocks bytes was) n old new in
         subst P e both);
     holds = λ tells m below which. ⊎_elim
         (λ here. (
-        let e = ap (λ im. im file) (image tells) ∙ put_image_here mid.image file (256 * get_or blocks i 0) (part bytes i) in
+        let e = ap (λ im. im file) (image tells) ∙ put_image_here mid.image file (256 * get_or blocks i 0)
+        (part bytes i) in
         let P : List ℕ → Type 0 = λ xs. HoldsPart xs blocks bytes i in
         let Q : ℕ → Type 0 = λ n. HoldsPart (new.image file) blocks bytes n in
         subst Q (sym here) (subst P (sym e) (put_part (mid.image file) blocks bytes i))))
@@ -80,7 +91,8 @@ module _ (told : Bool) (file : ℕ) (blocks bytes was : List ℕ) where
         (cases_eq m i);
   }
     where
-      kept : IsTrue told → (m : ℕ) → m < length blocks → m ≢ i → (m < i) ⊎ (is_changed bytes was m ≡ false) → HoldsPart (new.image file) blocks bytes m
+      kept : IsTrue told → (m : ℕ) → m < length blocks → m ≢ i → (m < i) ⊎ (is_changed bytes was m ≡ false)
+          → HoldsPart (new.image file) blocks bytes m
       kept tells m below other which j small inside =
           let keeps = one.keeps tells in
           let held = partly.holds tells m below which j small inside in
@@ -90,23 +102,32 @@ module _ (told : Bool) (file : ℕ) (blocks bytes was : List ℕ) where
           (cases_lt m i) in
           (omega (arith, held.0, keeps.no_shorter file), keeps.bytes file (get_or blocks m 0) j small apart ∙ held.1)
 
-  pub partly_failed : (i : ℕ) (old mid new : Medium) → i < length blocks → i < blocks_for (length bytes) → is_changed bytes was i ≡ true
+  pub partly_failed : (i : ℕ) (old mid new : Medium) → i < length blocks → i < blocks_for (length bytes)
+      → is_changed bytes was i ≡ true
       → Tore told (λ f. f ≢ file) (λ k. k ≢ get_or blocks i 0) 256 mid new
-      → IsPartly told file blocks bytes was i old mid → Tore told (λ f. f ≢ file) (IsApartFromChanged blocks bytes was) (256 * changed bytes was) old new
+      → IsPartly told file blocks bytes was i old mid → Tore told (λ f. f ≢ file) (IsApartFromChanged blocks bytes was)
+      (256 * changed bytes was) old new
   partly_failed i old mid new lt part_lt differ one partly =
-      let next = tore_less told (λ f. f ≢ file) (λ k. k ≢ get_or blocks i 0) (λ f. f ≢ file) (IsApartFromChanged blocks bytes was)
+      let next = tore_less told (λ f. f ≢ file) (λ k. k ≢ get_or blocks i 0) (λ f. f ≢ file)
+      (IsApartFromChanged blocks bytes was)
       (λ f ne. ne) (λ k apart. apart i lt differ) 256 256 (omega arith) mid new one in
-      let both = wrote_tore told (λ f. f ≢ file) (IsApartFromChanged blocks bytes was) (256 * changed_to bytes was i) 256 old mid new partly.wrote next in
-      tore_less told (λ f. f ≢ file) (IsApartFromChanged blocks bytes was) (λ f. f ≢ file) (IsApartFromChanged blocks bytes was) (λ f ne. ne) (λ k apart. apart)
-      (256 * changed_to bytes was i + 256) (256 * changed bytes was) (omega (arith, changed_at bytes was i (blocks_for (length bytes)) part_lt differ)) old new both
+      let both = wrote_tore told (λ f. f ≢ file) (IsApartFromChanged blocks bytes was) (256 * changed_to bytes was i)
+      256 old mid new partly.wrote next in
+      tore_less told (λ f. f ≢ file) (IsApartFromChanged blocks bytes was) (λ f. f ≢ file)
+      (IsApartFromChanged blocks bytes was) (λ f ne. ne) (λ k apart. apart)
+      (256 * changed_to bytes was i + 256) (256 * changed bytes was)
+      (omega (arith, changed_at bytes was i (blocks_for (length bytes)) part_lt differ)) old new both
 
-  pub partly_all : (i : ℕ) (old now : Medium) → i ≡ blocks_for (length bytes) → IsPartly told file blocks bytes was i old now
+  pub partly_all : (i : ℕ) (old now : Medium) → i ≡ blocks_for (length bytes)
+      → IsPartly told file blocks bytes was i old now
       → Wrote told (λ f. f ≢ file) (IsApartFromChanged blocks bytes was) (256 * changed bytes was) old now
   partly_all i old now all partly =
-      let P : ℕ → Type 0 = λ n. Wrote told (λ f. f ≢ file) (IsApartFromChanged blocks bytes was) (256 * changed_to bytes was n) old now in
+      let P : ℕ → Type 0 = λ n. Wrote told (λ f. f ≢ file) (IsApartFromChanged blocks bytes was)
+      (256 * changed_to bytes was n) old now in
       subst P all partly.wrote
 
-  pub partly_holds : (i : ℕ) (old now : Medium) → i ≡ blocks_for (length bytes) → IsPartly told file blocks bytes was i old now
+  pub partly_holds : (i : ℕ) (old now : Medium) → i ≡ blocks_for (length bytes)
+      → IsPartly told file blocks bytes was i old now
       → IsTrue told → HoldsBytes (now.image file) blocks bytes
   partly_holds i old now all partly tells m lt = ⊎_elim
       (λ less. partly.holds tells m lt (inl less))
@@ -114,25 +135,30 @@ module _ (told : Bool) (file : ℕ) (blocks bytes was : List ℕ) where
       (cases_lt m i)
 
   -- the same from what a write says of its file, its block and the bytes that it sent
-  pub partly_write : (i b : ℕ) (sent : List ℕ) (old mid new : Medium) → i < length blocks → AreDistinct blocks → is_changed bytes was i ≡ true
+  pub partly_write : (i b : ℕ) (sent : List ℕ) (old mid new : Medium) → i < length blocks → AreDistinct blocks
+      → is_changed bytes was i ≡ true
       → b ≡ get_or blocks i 0 → sent ≡ part bytes i → length sent ≤ 256
       → (IsTrue told → new.image ≡ put_image mid.image file (256 * b) sent)
       → Follows (WriteCase file (256 * b) sent) mid.now new.now
       → Follows (WriteOrNot file (256 * b) sent) mid.now (new.since mid.moment)
       → new.written ≤ mid.written + length sent → Elapses mid new → new.faults ≡ mid.faults
       → IsPartly told file blocks bytes was i old mid → IsPartly told file blocks bytes was (i + 1) old new
-  partly_write i b sent old mid new lt distinct differ block_is sent_is small image now during written time passes partly =
+  partly_write i b sent old mid new lt distinct differ block_is sent_is small image now during written time passes
+      partly =
       let one = wrote_one told file b sent small mid new image now during written time passes in
       let P : ℕ → Type 0 = λ k. Wrote told (λ f. f ≢ file) (λ x. x ≢ k) 256 mid new in
       partly_more i old mid new lt distinct differ (subst P block_is one)
-      (λ tells. image tells ∙ ap (λ k. put_image mid.image file (256 * k) sent) block_is ∙ ap (put_image mid.image file (256 * get_or blocks i 0)) sent_is) partly
+      (λ tells. image tells ∙ ap (λ k. put_image mid.image file (256 * k) sent) block_is
+      ∙ ap (put_image mid.image file (256 * get_or blocks i 0)) sent_is) partly
 
-  pub partly_tear : (i b : ℕ) (sent : List ℕ) (old mid new : Medium) → i < length blocks → i < blocks_for (length bytes) → is_changed bytes was i ≡ true
+  pub partly_tear : (i b : ℕ) (sent : List ℕ) (old mid new : Medium) → i < length blocks → i < blocks_for (length bytes)
+      → is_changed bytes was i ≡ true
       → b ≡ get_or blocks i 0 → length sent ≤ 256
       → (IsTrue told → TornImage file (256 * b) (length sent) mid.image new.image)
       → Follows (WriteOrNot file (256 * b) sent) mid.now (new.since mid.moment)
       → new.written ≤ mid.written + length sent → Elapses mid new → Rose mid.faults new.faults
-      → IsPartly told file blocks bytes was i old mid → Tore told (λ f. f ≢ file) (IsApartFromChanged blocks bytes was) (256 * changed bytes was) old new
+      → IsPartly told file blocks bytes was i old mid → Tore told (λ f. f ≢ file) (IsApartFromChanged blocks bytes was)
+      (256 * changed bytes was) old new
   partly_tear i b sent old mid new lt part_lt differ block_is small torn during written time cause partly =
       let one = tore_one told file b sent small mid new torn during written time cause in
       let P : ℕ → Type 0 = λ k. Tore told (λ f. f ≢ file) (λ x. x ≢ k) 256 mid new in

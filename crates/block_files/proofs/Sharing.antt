@@ -1,5 +1,7 @@
--- The blocks of a content beside an earlier one: how they are merged of the earlier and the fresh ones, and what they hold.
-use Rattle.std.proofs.Common.{◌≡◌, ◌≢◌, ℕ, suc, zero, ◌+◌, ◌*◌, ◌<◌, ◌≤◌, List, [], ◌∷◌, ◌++◌, length, get_or, Bool, true, false, cond, refl, sym, ap, ◌∙◌, arith, ⊎_elim}
+-- The blocks of a content beside an earlier one: how they are merged of the earlier and the fresh ones, and what they
+-- hold.
+use Rattle.std.proofs.Common.{◌≡◌, ◌≢◌, ℕ, suc, zero, ◌+◌, ◌*◌, ◌<◌, ◌≤◌, List, [], ◌∷◌, ◌++◌, length, get_or, Bool}
+use Rattle.std.proofs.Common.{true, false, cond, refl, sym, ap, ◌∙◌, arith, ⊎_elim}
 use Rattle.std.specs.Prelude.{slice_index}
 use Rattle.std.proofs.lemmas.List.{length-append, get_or_append_left, get_or_push}
 use Rattle.std.proofs.lemmas.Bool.{cases_lt, cases_Bool, cond-true, cond-false, both_ways}
@@ -15,19 +17,22 @@ use Rattle.block_files.proofs.Joined.{holds_from}
 
 -- the block of part i
 abbrev merged : (bytes was old fresh : List ℕ) (i : ℕ) → ℕ
-merged bytes was old fresh i = cond (is_changed bytes was i) (slice_index fresh (changed_to bytes was i)) (slice_index old i)
+merged bytes was old fresh i = cond (is_changed bytes was i) (slice_index fresh (changed_to bytes was i))
+    (slice_index old i)
 
 pub record IsMerging (bytes was old fresh : List ℕ) (i next : ℕ) (blocks : List ℕ) : Type 0 where
   pub next_is : next ≡ changed_to bytes was i
   pub count : length blocks ≡ i
-  pub each : (m : ℕ) → m < i → get_or blocks m 0 ≡ cond (is_changed bytes was m) (slice_index fresh (changed_to bytes was m)) (slice_index old m)
+  pub each : (m : ℕ) → m < i → get_or blocks m 0 ≡ cond (is_changed bytes was m)
+      (slice_index fresh (changed_to bytes was m)) (slice_index old m)
 
 module _ (bytes was old fresh : List ℕ) where
   pub merging_none : IsMerging bytes was old fresh 0 0 []
   merging_none = record { next_is = refl; count = refl; each = λ m lt. absurd (omega arith) }
 
   each_more : (i b : ℕ) (blocks : List ℕ) → length blocks ≡ i → b ≡ merged bytes was old fresh i
-      → ((m : ℕ) → m < i → get_or blocks m 0 ≡ merged bytes was old fresh m) → (m : ℕ) → m < i + 1 → get_or (blocks ++ b ∷ []) m 0 ≡ merged bytes was old fresh m
+      → ((m : ℕ) → m < i → get_or blocks m 0 ≡ merged bytes was old fresh m) → (m : ℕ) → m < i + 1
+      → get_or (blocks ++ b ∷ []) m 0 ≡ merged bytes was old fresh m
   each_more i b blocks long is each m lt = ⊎_elim
       (λ before. get_or_append_left blocks (b ∷ []) 0 m (omega arith) ∙ each m before)
       (λ past. (
@@ -36,12 +41,15 @@ module _ (bytes was old fresh : List ℕ) where
       (cases_lt m i)
 
   pub merging_fresh : (i next b : ℕ) (blocks : List ℕ) → is_changed bytes was i ≡ true → b ≡ get_or fresh next 0
-      → IsMerging bytes was old fresh i next blocks → IsMerging bytes was old fresh (i + 1) (next + 1) (blocks ++ b ∷ [])
+      → IsMerging bytes was old fresh i next blocks → IsMerging bytes was old fresh (i + 1) (next + 1)
+      (blocks ++ b ∷ [])
   merging_fresh i next b blocks differ is now = record {
     next_is = omega (arith, now.next_is, changed_more bytes was i differ);
     count = omega (arith, now.count, length-append blocks (b ∷ []));
     each = each_more i b blocks now.count
-        (is ∙ ap (λ n. get_or fresh n 0) now.next_is ∙ sym (cond-true (is_changed bytes was i) (slice_index fresh (changed_to bytes was i)) (slice_index old i) differ))
+        (is ∙ ap (λ n. get_or fresh n 0) now.next_is ∙ sym
+        (cond-true (is_changed bytes was i) (slice_index fresh (changed_to bytes was i)) (slice_index old i)
+        differ))
         now.each;
   }
 
@@ -51,21 +59,34 @@ module _ (bytes was old fresh : List ℕ) where
     next_is = omega (arith, now.next_is, changed_same bytes was i same);
     count = omega (arith, now.count, length-append blocks (b ∷ []));
     each = each_more i b blocks now.count
-        (is ∙ sym (cond-false (is_changed bytes was i) (slice_index fresh (changed_to bytes was i)) (slice_index old i) same))
+        (is ∙ sym (cond-false (is_changed bytes was i) (slice_index fresh (changed_to bytes was i)) (slice_index old i)
+        same))
         now.each;
   }
 
-  pub merging_all : (i next : ℕ) (blocks : List ℕ) → i ≡ blocks_for (length bytes) → IsMerging bytes was old fresh i next blocks → IsMerged bytes was old fresh blocks
-  merging_all i next blocks all now = record { count = now.count ∙ all; each = λ m lt. now.each m (omega (arith, now.count)) }
+  pub merging_all : (i next : ℕ) (blocks : List ℕ) → i ≡ blocks_for (length bytes)
+      → IsMerging bytes was old fresh i next blocks → IsMerged bytes was old fresh blocks
+  merging_all i next blocks all now = record {
+    count = now.count ∙ all;
+    each =
+        λ m lt. now.each m (omega (arith, now.count));
+  }
 
 -- a part that is as in the earlier content lies within both
-pub same_inside : (bytes was : List ℕ) (i j : ℕ) → is_changed bytes was i ≡ false → j < 256 → 256 * i + j < length bytes → 256 * i + j < length was
-same_inside bytes was i j same small inside = omega (arith, ap length (same_part bytes was i same), length-part bytes i, length-part was i)
+pub same_inside : (bytes was : List ℕ) (i j : ℕ) → is_changed bytes was i ≡ false → j < 256 → 256 * i + j < length bytes
+    → 256 * i + j < length was
+same_inside bytes was i j same small inside = omega (
+  arith,
+  ap length (same_part bytes was i same),
+  length-part bytes i,
+  length-part was i,
+)
 
 -- ---- the merged blocks
 
 -- each fresh block has its part
-part_of : (bytes was : List ℕ) (n t : ℕ) → t < changed_to bytes was n → (i : ℕ) × (i < n) × (is_changed bytes was i ≡ true) × (changed_to bytes was i ≡ t)
+part_of : (bytes was : List ℕ) (n t : ℕ) → t < changed_to bytes was n
+    → (i : ℕ) × (i < n) × (is_changed bytes was i ≡ true) × (changed_to bytes was i ≡ t)
 part_of bytes was zero t lt = absurd (omega arith)
 part_of bytes was (suc n) t lt = ⊎_elim
     (λ before. let (i, less, differ, is) = part_of bytes was n t before in (i, omega arith, differ, is))
@@ -77,18 +98,26 @@ part_of bytes was (suc n) t lt = ⊎_elim
     (cases_Bool (is_changed bytes was n)))
     (cases_lt t (changed_to bytes was n))
 
-module _ (bytes was old fresh blocks : List ℕ) (set : List Bool) (is : IsMerged bytes was old fresh blocks) (free : AreFree set fresh) (many : length fresh ≡ changed bytes was) where
+module _ (bytes was old fresh blocks : List ℕ) (set : List Bool) (is : IsMerged bytes was old fresh blocks)
+    (free : AreFree set fresh) (many : length fresh ≡ changed bytes was) where
   abbrev at_fresh : ℕ → ℕ
   at_fresh i = changed_to bytes was i
 
   fresh_lt : (i : ℕ) → i < length blocks → is_changed bytes was i ≡ true → at_fresh i < length fresh
-  fresh_lt i lt differ = omega (arith, changed_at bytes was i (blocks_for (length bytes)) (omega (arith, is.count)) differ)
+  fresh_lt i lt differ = omega (
+    arith,
+    changed_at bytes was i (blocks_for (length bytes)) (omega (arith, is.count))
+        differ,
+  )
 
-  fresh_is : (i : ℕ) → i < length blocks → is_changed bytes was i ≡ true → get_or blocks i 0 ≡ get_or fresh (at_fresh i) 0
-  fresh_is i lt differ = is.each i lt ∙ cond-true (is_changed bytes was i) (slice_index fresh (changed_to bytes was i)) (slice_index old i) differ
+  fresh_is : (i : ℕ) → i < length blocks → is_changed bytes was i ≡ true
+      → get_or blocks i 0 ≡ get_or fresh (at_fresh i) 0
+  fresh_is i lt differ = is.each i lt ∙ cond-true (is_changed bytes was i) (slice_index fresh (changed_to bytes was i))
+      (slice_index old i) differ
 
   old_is : (i : ℕ) → i < length blocks → is_changed bytes was i ≡ false → get_or blocks i 0 ≡ get_or old i 0
-  old_is i lt same = is.each i lt ∙ cond-false (is_changed bytes was i) (slice_index fresh (changed_to bytes was i)) (slice_index old i) same
+  old_is i lt same = is.each i lt ∙ cond-false (is_changed bytes was i) (slice_index fresh (changed_to bytes was i))
+      (slice_index old i) same
 
   pub shares : SharesBlocks bytes was old set blocks
   shares = record {
@@ -103,7 +132,8 @@ module _ (bytes was old fresh blocks : List ℕ) (set : List Bool) (is : IsMerge
   taken_apart : (a b : ℕ) → holds set a ≡ true → holds set b ≡ false → a ≢ b
   taken_apart a b taken out e = both_ways (holds set b) out (sym (ap (holds set) e) ∙ taken)
 
-  module _ (apart : AreDistinct old) (taken : (i : ℕ) → i < length old → holds set (slice_index old i) ≡ true) (room : length was ≤ 256 * length old) where
+  module _ (apart : AreDistinct old) (taken : (i : ℕ) → i < length old → holds set (slice_index old i) ≡ true)
+      (room : length was ≤ 256 * length old) where
     old_lt : (i : ℕ) → i < length blocks → is_changed bytes was i ≡ false → i < length old
     old_lt i lt same = omega (arith, is.count, same_inside bytes was i 0 same (omega arith) (omega (arith, is.count)))
 
@@ -113,12 +143,21 @@ module _ (bytes was old fresh blocks : List ℕ) (set : List Bool) (is : IsMerge
     pub distinct : AreDistinct blocks
     distinct i j less lt = ⊎_elim
         (λ differ_i. ⊎_elim
-        (λ differ_j. λ e. absurd (omega (arith, free.ascend (at_fresh i) (at_fresh j) (changed_at bytes was i j less differ_i) (fresh_lt j lt differ_j), fresh_is i (omega arith) differ_i, fresh_is j lt differ_j)))
-        (λ same_j. λ e. taken_apart (get_or blocks j 0) (get_or blocks i 0) (old_taken j lt same_j) (shares.fresh i (omega arith) differ_i).1 (sym e))
+        (λ differ_j. λ e. absurd (omega (
+          arith,
+          free.ascend (at_fresh i) (at_fresh j)
+              (changed_at bytes was i j less differ_i) (fresh_lt j lt differ_j),
+          fresh_is i (omega arith) differ_i,
+          fresh_is j lt differ_j,
+        )))
+        (λ same_j. λ e. taken_apart (get_or blocks j 0) (get_or blocks i 0) (old_taken j lt same_j)
+        (shares.fresh i (omega arith) differ_i).1 (sym e))
         (cases_Bool (is_changed bytes was j)))
         (λ same_i. ⊎_elim
-        (λ differ_j. λ e. taken_apart (get_or blocks i 0) (get_or blocks j 0) (old_taken i (omega arith) same_i) (shares.fresh j lt differ_j).1 e)
-        (λ same_j. λ e. apart i j less (old_lt j lt same_j) (sym (old_is i (omega arith) same_i) ∙ e ∙ old_is j lt same_j))
+        (λ differ_j. λ e. taken_apart (get_or blocks i 0) (get_or blocks j 0) (old_taken i (omega arith) same_i)
+        (shares.fresh j lt differ_j).1 e)
+        (λ same_j. λ e. apart i j less (old_lt j lt same_j)
+        (sym (old_is i (omega arith) same_i) ∙ e ∙ old_is j lt same_j))
         (cases_Bool (is_changed bytes was j)))
         (cases_Bool (is_changed bytes was i))
 
@@ -127,7 +166,9 @@ module _ (bytes was old fresh blocks : List ℕ) (set : List Bool) (is : IsMerge
     added_merged new added = record {
       added = λ i lt. ⊎_elim
           (λ differ. ap (holds new) (fresh_is i lt differ) ∙ added.added (at_fresh i) (fresh_lt i lt differ))
-          (λ same. added.kept (get_or blocks i 0) (λ t inside. taken_apart (get_or blocks i 0) (get_or fresh t 0) (old_taken i lt same) (free.free t inside)) ∙ old_taken i lt same)
+          (λ same. added.kept (get_or blocks i 0) (λ t inside.
+          taken_apart (get_or blocks i 0) (get_or fresh t 0) (old_taken i lt same) (free.free t inside))
+          ∙ old_taken i lt same)
           (cases_Bool (is_changed bytes was i));
       kept = λ b none. added.kept b (λ t inside e. (
           let (i, less, differ, here) = part_of bytes was (blocks_for (length bytes)) t (omega arith) in
@@ -139,22 +180,27 @@ module _ (bytes was old fresh blocks : List ℕ) (set : List Bool) (is : IsMerge
 
 -- ---- what they hold, and what is apart from them
 
-pub holds_shared : (file blocks bytes old was : List ℕ) (set : List Bool) → SharesBlocks bytes was old set blocks → length blocks ≡ blocks_for (length bytes) → length was ≤ 256 * length old
+pub holds_shared : (file blocks bytes old was : List ℕ) (set : List Bool) → SharesBlocks bytes was old set blocks
+    → length blocks ≡ blocks_for (length bytes) → length was ≤ 256 * length old
     → IsFull file old was → HoldsShared file blocks bytes was
 holds_shared file blocks bytes old was set shares count room full i lt same j small inside =
     let within_was = same_inside bytes was i j same small inside in
     let held = holds_from file old was full i (omega arith) j small within_was in
     let e = shares.equal i lt same in
     let f = ap (λ k. get_or file (256 * k + j) 0) e in
-    let g = sym (read_part was i j small) ∙ ap (λ xs. get_or xs j 0) (sym (same_part bytes was i same)) ∙ read_part bytes i j small in
+    let g = sym (read_part was i j small) ∙ ap (λ xs. get_or xs j 0) (sym (same_part bytes was i same))
+    ∙ read_part bytes i j small in
     (omega (arith, held.0, e), f ∙ held.1 ∙ g)
 
-pub taken_apart_changed : (blocks bytes old was : List ℕ) (set : List Bool) → SharesBlocks bytes was old set blocks → (k : ℕ) → IsTaken set k → IsApartFromChanged blocks bytes was k
+pub taken_apart_changed : (blocks bytes old was : List ℕ) (set : List Bool) → SharesBlocks bytes was old set blocks
+    → (k : ℕ) → IsTaken set k → IsApartFromChanged blocks bytes was k
 taken_apart_changed blocks bytes old was set shares k taken i lt differ e =
     both_ways (holds set (get_or blocks i 0)) (shares.fresh i lt differ).1 (sym (ap (holds set) e) ∙ taken)
 
-pub taken_apart_free : (set : List Bool) (blocks : List ℕ) → AreFree set blocks → (k : ℕ) → IsTaken set k → IsApart blocks k
-taken_apart_free set blocks free k taken i lt e = both_ways (holds set (get_or blocks i 0)) (free.free i lt) (sym (ap (holds set) e) ∙ taken)
+pub taken_apart_free : (set : List Bool) (blocks : List ℕ) → AreFree set blocks → (k : ℕ) → IsTaken set k
+    → IsApart blocks k
+taken_apart_free set blocks free k taken i lt e = both_ways (holds set (get_or blocks i 0)) (free.free i lt)
+    (sym (ap (holds set) e) ∙ taken)
 
 pub free_distinct : (set : List Bool) (blocks : List ℕ) → AreFree set blocks → AreDistinct blocks
 free_distinct set blocks free i j less lt e = omega (arith, free.ascend i j less lt)

@@ -1,12 +1,15 @@
 -- Stretches of writes: none, one after another, a failure after some, and less said of them.
-use Rattle.std.proofs.Common.{◌≡◌, ◌≢◌, ℕ, ◌+◌, ◌*◌, ◌≤◌, List, length, Bool, IsTrue, refl, sym, ◌∙◌, subst, arith, ⊎_elim}
+use Rattle.std.proofs.Common.{◌≡◌, ◌≢◌, ℕ, ◌+◌, ◌*◌, ◌≤◌, List, length, Bool, IsTrue, refl, sym, ◌∙◌, subst, arith}
+use Rattle.std.proofs.Common.{⊎_elim}
 use Rattle.per_base.specs.Causes.{Rose}
 use Rattle.disk_model.specs.Image.{put_image, TornImage}
 use Rattle.disk_model.specs.Case.{WriteCase, WriteOrNot, Follows}
 use Rattle.disk_model.specs.Medium.{Medium, IsLawful, Elapses}
 use Rattle.disk_model.specs.Frame.{Keeps, KeepsCase}
 use Rattle.disk_model.proofs.Moments.{rose_before, elapses_none, elapses_on, cases_on, follows_less, follows_on}
-use Rattle.disk_model.proofs.Frames.{IsApart, apart_block, keeps_none, keeps_on, keeps_less, keeps_tears, tears_on, tears_less, case_none, case_on, case_less, keeps_put, tears_torn, case_write, case_or_not}
+use Rattle.disk_model.proofs.Frames.{IsApart, apart_block, keeps_none, keeps_on, keeps_less, keeps_tears, tears_on}
+use Rattle.disk_model.proofs.Frames.{tears_less, case_none, case_on, case_less, keeps_put, tears_torn, case_write}
+use Rattle.disk_model.proofs.Frames.{case_or_not}
 use Rattle.block_files.specs.Writes.{Wrote, Tore}
 
 -- ---- none, and one after another
@@ -24,24 +27,29 @@ module _ (told : Bool) (spared apart : ℕ → Type 0) where
 
   -- each case since the start of two stretches
   during_on : (a b c : Medium) → Elapses a b → Elapses b c → Follows (KeepsCase spared apart) a.now b.now
-      → Follows (KeepsCase spared apart) a.now (b.since a.moment) → Follows (KeepsCase spared apart) b.now (c.since b.moment)
+      → Follows (KeepsCase spared apart) a.now (b.since a.moment)
+      → Follows (KeepsCase spared apart) b.now (c.since b.moment)
       → Follows (KeepsCase spared apart) a.now (c.since a.moment)
   during_on a b c first next now was new x past = ⊎_elim
       (λ before. was x before)
-      (λ after. follows_on (KeepsCase spared apart) (KeepsCase spared apart) (KeepsCase spared apart) a.now b.now (c.since b.moment) (λ x y z first next. case_on first next) now new x after)
+      (λ after. follows_on (KeepsCase spared apart) (KeepsCase spared apart) (KeepsCase spared apart) a.now b.now
+      (c.since b.moment) (λ x y z first next. case_on first next) now new x after)
       (cases_on first next x past)
 
-  pub wrote_on : (n more : ℕ) (a b c : Medium) → Wrote told spared apart n a b → Wrote told spared apart more b c → Wrote told spared apart (n + more) a c
+  pub wrote_on : (n more : ℕ) (a b c : Medium) → Wrote told spared apart n a b → Wrote told spared apart more b c
+      → Wrote told spared apart (n + more) a c
   wrote_on n more a b c first next = record {
     keeps = λ tells. keeps_on (first.keeps tells) (next.keeps tells);
-    now = follows_on (KeepsCase spared apart) (KeepsCase spared apart) (KeepsCase spared apart) a.now b.now c.now (λ x y z first next. case_on first next) first.now next.now;
+    now = follows_on (KeepsCase spared apart) (KeepsCase spared apart) (KeepsCase spared apart) a.now b.now c.now
+        (λ x y z first next. case_on first next) first.now next.now;
     during = during_on a b c first.time next.time first.now first.during next.during;
     written = omega (arith, first.written, next.written);
     time = elapses_on first.time next.time;
     passes = next.passes ∙ first.passes;
   }
 
-  pub wrote_tore : (n more : ℕ) (a b c : Medium) → Wrote told spared apart n a b → Tore told spared apart more b c → Tore told spared apart (n + more) a c
+  pub wrote_tore : (n more : ℕ) (a b c : Medium) → Wrote told spared apart n a b → Tore told spared apart more b c
+      → Tore told spared apart (n + more) a c
   wrote_tore n more a b c first next = record {
     tears = λ tells. tears_on (keeps_tears (first.keeps tells)) (next.tears tells);
     during = during_on a b c first.time next.time first.now first.during next.during;
@@ -52,12 +60,15 @@ module _ (told : Bool) (spared apart : ℕ → Type 0) where
 
 -- ---- less said
 
-module _ (told : Bool) (spared apart fewer closer : ℕ → Type 0) (files : (f : ℕ) → fewer f → spared f) (blocks : (k : ℕ) → closer k → apart k) (n more : ℕ) (le : n ≤ more) (old new : Medium) where
+module _ (told : Bool) (spared apart fewer closer : ℕ → Type 0) (files : (f : ℕ) → fewer f → spared f)
+    (blocks : (k : ℕ) → closer k → apart k) (n more : ℕ) (le : n ≤ more) (old new : Medium) where
   pub wrote_less : Wrote told spared apart n old new → Wrote told fewer closer more old new
   wrote_less wrote = record {
     keeps = λ tells. keeps_less files blocks (wrote.keeps tells);
-    now = follows_less (KeepsCase spared apart) (KeepsCase fewer closer) old.now new.now (λ x y step. case_less files blocks step) wrote.now;
-    during = follows_less (KeepsCase spared apart) (KeepsCase fewer closer) old.now (new.since old.moment) (λ x y step. case_less files blocks step) wrote.during;
+    now = follows_less (KeepsCase spared apart) (KeepsCase fewer closer) old.now new.now
+        (λ x y step. case_less files blocks step) wrote.now;
+    during = follows_less (KeepsCase spared apart) (KeepsCase fewer closer) old.now (new.since old.moment)
+        (λ x y step. case_less files blocks step) wrote.during;
     written = omega (arith, wrote.written);
     time = wrote.time;
     passes = wrote.passes;
@@ -66,7 +77,8 @@ module _ (told : Bool) (spared apart fewer closer : ℕ → Type 0) (files : (f 
   pub tore_less : Tore told spared apart n old new → Tore told fewer closer more old new
   tore_less tore = record {
     tears = λ tells. tears_less files blocks (tore.tears tells);
-    during = follows_less (KeepsCase spared apart) (KeepsCase fewer closer) old.now (new.since old.moment) (λ x y step. case_less files blocks step) tore.during;
+    during = follows_less (KeepsCase spared apart) (KeepsCase fewer closer) old.now (new.since old.moment)
+        (λ x y step. case_less files blocks step) tore.during;
     written = omega (arith, tore.written);
     time = tore.time;
     cause = tore.cause;
@@ -87,10 +99,13 @@ module _ (told : Bool) (file b : ℕ) (bytes : List ℕ) (small : length bytes �
   pub wrote_one : (IsTrue told → new.image ≡ put_image old.image file (256 * b) bytes)
       → Follows (WriteCase file (256 * b) bytes) old.now new.now
       → Follows (WriteOrNot file (256 * b) bytes) old.now (new.since old.moment)
-      → new.written ≤ old.written + length bytes → Elapses old new → new.faults ≡ old.faults → Wrote told (λ f. f ≢ file) (λ k. k ≢ b) 256 old new
+      → new.written ≤ old.written + length bytes → Elapses old new → new.faults ≡ old.faults
+      → Wrote told (λ f. f ≢ file) (λ k. k ≢ b) 256 old new
   wrote_one image now during written time passes = record {
-    keeps = λ tells. subst (Keeps others apart old.image) (sym (image tells)) (keeps_put old.image file (256 * b) bytes one_block);
-    now = follows_less (WriteCase file (256 * b) bytes) (KeepsCase others apart) old.now new.now (λ x y step. case_write file (256 * b) bytes one_block step) now;
+    keeps = λ tells. subst (Keeps others apart old.image) (sym (image tells))
+        (keeps_put old.image file (256 * b) bytes one_block);
+    now = follows_less (WriteCase file (256 * b) bytes) (KeepsCase others apart) old.now new.now
+        (λ x y step. case_write file (256 * b) bytes one_block step) now;
     during = follows_less (WriteOrNot file (256 * b) bytes) (KeepsCase others apart) old.now (new.since old.moment)
         (λ x y step. case_or_not x y file (256 * b) bytes one_block step) during;
     written = omega arith;
@@ -100,7 +115,8 @@ module _ (told : Bool) (file b : ℕ) (bytes : List ℕ) (small : length bytes �
 
   pub tore_one : (IsTrue told → TornImage file (256 * b) (length bytes) old.image new.image)
       → Follows (WriteOrNot file (256 * b) bytes) old.now (new.since old.moment)
-      → new.written ≤ old.written + length bytes → Elapses old new → Rose old.faults new.faults → Tore told (λ f. f ≢ file) (λ k. k ≢ b) 256 old new
+      → new.written ≤ old.written + length bytes → Elapses old new → Rose old.faults new.faults
+      → Tore told (λ f. f ≢ file) (λ k. k ≢ b) 256 old new
   tore_one torn during written time cause = record {
     tears = λ tells. tears_torn old.image new.image file (256 * b) (length bytes) one_block (torn tells);
     during = follows_less (WriteOrNot file (256 * b) bytes) (KeepsCase others apart) old.now (new.since old.moment)

@@ -1,5 +1,6 @@
 -- What the blocks of an area hold: the bytes of a content, read from blocks or put into them.
-use Rattle.std.specs.Prelude.{◌≡◌, ℕ, ◌+◌, ◌-◌, ◌*◌, ◌<◌, min, List, [], ◌∷◌, ◌++◌, length, take, drop, replicate, slice_index, flat_map, Bool, true, false, ◌&&◌, ◌||◌, nat_eq, nat_le}
+use Rattle.std.specs.Prelude.{◌≡◌, ℕ, ◌+◌, ◌-◌, ◌*◌, ◌<◌, min, List, [], ◌∷◌, ◌++◌, length, take, drop, replicate}
+use Rattle.std.specs.Prelude.{slice_index, flat_map, Bool, true, false, ◌&&◌, ◌||◌, nat_eq, nat_le}
 use Rattle.disk_model.specs.Image.{Image}
 use Rattle.disk_model.specs.Place.{area}
 use Rattle.block_files.specs.Parts.{is_changed}
@@ -15,7 +16,8 @@ joined file blocks len = take len (flat_map (block file) blocks)
 -- whether a file of this size has all bytes of a content
 abbrev pub is_within : ℕ → List ℕ → ℕ → Bool
 is_within size [] len = true
-is_within size (k ∷ blocks) len = nat_eq len 0 || (nat_le (256 * k + min 256 len) size && is_within size blocks (len - 256))
+is_within size (k ∷ blocks) len = nat_eq len 0 || (nat_le (256 * k + min 256 len) size
+    && is_within size blocks (len - 256))
 
 abbrev pub within : List ℕ → List ℕ → ℕ → Bool
 within file blocks len = is_within (length file) blocks len
@@ -35,14 +37,16 @@ AllFull first copies blocks bytes image = (c : ℕ) → c < copies → IsFull (i
 
 -- so has each of these copies, counted from 1
 abbrev pub NamedFull : (first : ℕ) (copies blocks bytes : List ℕ) → Image → Type 0
-NamedFull first copies blocks bytes image = (i : ℕ) → i < length copies → IsFull (image (area_of first (slice_index copies i))) blocks bytes
+NamedFull first copies blocks bytes image = (i : ℕ) → i < length copies
+    → IsFull (image (area_of first (slice_index copies i))) blocks bytes
 
 -- ---- byte by byte
 
 -- the i-th block has the bytes of the content's i-th part
 abbrev pub HoldsPart : (file blocks bytes : List ℕ) (i : ℕ) → Type 0
 HoldsPart file blocks bytes i = (j : ℕ) → j < 256 → 256 * i + j < length bytes
-    → (256 * slice_index blocks i + j < length file) × (slice_index file (256 * slice_index blocks i + j) ≡ slice_index bytes (256 * i + j))
+    → (256 * slice_index blocks i + j < length file) × (slice_index file (256 * slice_index blocks i + j)
+    ≡ slice_index bytes (256 * i + j))
 
 -- each block has its part
 abbrev pub HoldsBytes : (file blocks bytes : List ℕ) → Type 0
@@ -50,4 +54,5 @@ HoldsBytes file blocks bytes = (i : ℕ) → i < length blocks → HoldsPart fil
 
 -- each block has its part where this is as in an earlier content
 abbrev pub HoldsShared : (file blocks bytes was : List ℕ) → Type 0
-HoldsShared file blocks bytes was = (i : ℕ) → i < length blocks → is_changed bytes was i ≡ false → HoldsPart file blocks bytes i
+HoldsShared file blocks bytes was = (i : ℕ) → i < length blocks → is_changed bytes was i ≡ false
+    → HoldsPart file blocks bytes i

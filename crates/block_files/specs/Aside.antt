@@ -13,11 +13,12 @@ pub record Where : Type 0 where
   pub len : ℕ
   pub hash : List ℕ
 
--- a content in one area, from a start at which nothing was pending: where the area had all of its bytes, a crash leaves it as it was,
--- and none of its copies appears that was not there
+-- a content in one area, from a start at which nothing was pending: where the area had all of its bytes, a crash leaves
+-- it as it was, and none of its copies appears that was not there
 pub record StandsAside (at : Where) (start base full left : List ℕ) : Type 0 where
   pub whole : within start at.blocks at.len ≡ true
-      → (counting left at.blocks at.len at.hash ≡ counting start at.blocks at.len at.hash) × (within left at.blocks at.len ≡ true)
+      → (counting left at.blocks at.len at.hash ≡ counting start at.blocks at.len at.hash)
+      × (within left at.blocks at.len ≡ true)
   pub piece : (bytes : List ℕ)
       → (counting base at.blocks at.len at.hash ≡ Some bytes) ⊎ (counting full at.blocks at.len at.hash ≡ Some bytes)
       → counting start at.blocks at.len at.hash ≡ Some bytes
@@ -26,5 +27,6 @@ pub record StandsAside (at : Where) (start base full left : List ℕ) : Type 0 w
 abbrev pub AsideLaw : Type 0
 AsideLaw = (first copies : ℕ) (taken : ℕ → Bool) (start : Image) (old new : Case) → IsSettledAt start old
     → KeepsCase (IsNoArea first copies) (λ k. taken k ≡ true) old new
-    → (at : Where) → ((m : ℕ) → m < length at.blocks → taken (slice_index at.blocks m) ≡ true) → at.len ≤ 256 * length at.blocks
+    → (at : Where) → ((m : ℕ) → m < length at.blocks → taken (slice_index at.blocks m) ≡ true)
+    → at.len ≤ 256 * length at.blocks
     → (f : ℕ) → StandsAside at (start f) (new.base f) (new.full f) (new.left f)

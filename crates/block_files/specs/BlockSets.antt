@@ -1,5 +1,6 @@
 -- Sets of blocks as contracts see them: a list of flags, true for each block that is taken.
-use Rattle.std.specs.Prelude.{◌≡◌, ◌≢◌, ℕ, ◌+◌, ◌<◌, ◌≤◌, List, [], ◌∷◌, length, slice_index, slice_index_or, Bool, true, false, not, count_by}
+use Rattle.std.specs.Prelude.{◌≡◌, ◌≢◌, ℕ, ◌+◌, ◌<◌, ◌≤◌, List, [], ◌∷◌, length, slice_index, slice_index_or, Bool}
+use Rattle.std.specs.Prelude.{true, false, not, count_by}
 use Rattle.block_files.specs.Parts.{is_changed}
 
 -- whether the block is in the set; no set holds a block past its capacity
@@ -44,8 +45,10 @@ pub record IsAdded (blocks : List ℕ) (old new : List Bool) : Type 0 where
   pub capacity : length new ≡ length old
   pub free : free_of old ≤ free_of new + length blocks
 
--- the blocks of a content beside an earlier one: the earlier block where the parts are equal, else one that the set does not hold
+-- the blocks of a content beside an earlier one: the earlier block where the parts are equal, else one that the set
+-- does not hold
 pub record SharesBlocks (bytes was old_blocks : List ℕ) (set : List Bool) (blocks : List ℕ) : Type 0 where
-  pub equal : (i : ℕ) → i < length blocks → is_changed bytes was i ≡ false → slice_index blocks i ≡ slice_index old_blocks i
+  pub equal : (i : ℕ) → i < length blocks → is_changed bytes was i ≡ false
+      → slice_index blocks i ≡ slice_index old_blocks i
   pub fresh : (i : ℕ) → i < length blocks → is_changed bytes was i ≡ true
       → (slice_index blocks i < length set) × (holds set (slice_index blocks i) ≡ false)

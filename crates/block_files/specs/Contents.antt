@@ -1,5 +1,6 @@
 -- What the copies of a content agree on: the value, the salvage and the copies that lack it.
-use Rattle.std.specs.Prelude.{◌≡◌, ◌<◌, ◌≤◌, ℕ, suc, List, [], ◌∷◌, length, slice_index, slice_index_or, map, filter, Bool, true, false, cond, ◌&&◌, not, Option, Some, None, is_some}
+use Rattle.std.specs.Prelude.{◌≡◌, ◌<◌, ◌≤◌, ℕ, suc, List, [], ◌∷◌, length, slice_index, slice_index_or, map, filter}
+use Rattle.std.specs.Prelude.{Bool, true, false, cond, ◌&&◌, not, Option, Some, None, is_some}
 use Rattle.std.specs.List.{range_with_len}
 use Rattle.std.specs.Str.{bytes_eq}
 use Rattle.sha2.specs.Sha256.{sha256}
@@ -9,11 +10,13 @@ use Rattle.block_files.specs.Areas.{joined, within}
 
 -- a copy counts where its bytes have the hash: what it gives then
 unfoldable pub counting : (file blocks : List ℕ) (len : ℕ) (hash : List ℕ) → Option (List ℕ)
-counting file blocks len hash = cond (bytes_eq (sha256 (joined file blocks len)) hash) (Some (joined file blocks len)) None
+counting file blocks len hash = cond (bytes_eq (sha256 (joined file blocks len)) hash) (Some (joined file blocks len))
+    None
 
 -- what each copy of a place gives, in order
 abbrev pub contents : (first copies : ℕ) (blocks : List ℕ) (len : ℕ) (hash : List ℕ) → Image → List (Option (List ℕ))
-contents first copies blocks len hash image = map (λ c. counting (image (area first c)) blocks len hash) (range_with_len 0 copies)
+contents first copies blocks len hash image = map (λ c. counting (image (area first c)) blocks len hash)
+    (range_with_len 0 copies)
 
 -- the first content that some copy gives
 abbrev pub first_content : List (Option (List ℕ)) → Option (List ℕ)
@@ -29,7 +32,8 @@ lacks (Some value) None inside = true
 lacks (Some value) (Some given) inside = not (inside && bytes_eq given value)
 
 -- the copies that lack the value, counted from 1 and ascending
-abbrev pub lacking : (value : Option (List ℕ)) (first copies : ℕ) (blocks : List ℕ) (len : ℕ) (hash : List ℕ) → Image → List ℕ
+abbrev pub lacking : (value : Option (List ℕ)) (first copies : ℕ) (blocks : List ℕ) (len : ℕ) (hash : List ℕ) → Image
+    → List ℕ
 lacking value first copies blocks len hash image = map suc (filter
     (λ c. lacks value (counting (image (area first c)) blocks len hash) (within (image (area first c)) blocks len))
     (range_with_len 0 copies))

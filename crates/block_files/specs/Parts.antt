@@ -1,5 +1,6 @@
 -- Contents in parts of 256 bytes, one for each block, and which parts differ from those of an earlier content.
-use Rattle.std.specs.Prelude.{◌≡◌, ℕ, zero, suc, ◌+◌, ◌*◌, ◌/◌, ◌<◌, List, length, take, drop, slice_index, Bool, not, cond}
+use Rattle.std.specs.Prelude.{◌≡◌, ℕ, zero, suc, ◌+◌, ◌*◌, ◌/◌, ◌<◌, List, length, take, drop, slice_index, Bool, not}
+use Rattle.std.specs.Prelude.{cond}
 use Rattle.std.specs.Str.{bytes_eq}
 
 -- how many blocks so many bytes take
@@ -23,8 +24,10 @@ changed_to bytes was (suc n) = changed_to bytes was n + cond (is_changed bytes w
 abbrev pub changed : List ℕ → List ℕ → ℕ
 changed bytes was = changed_to bytes was (blocks_for (length bytes))
 
--- the blocks of a content that shares with an earlier one: the earlier block where both are equal, else the next of the fresh ones
+-- the blocks of a content that shares with an earlier one: the earlier block where both are equal, else the next of the
+-- fresh ones
 pub record IsMerged (bytes was old fresh blocks : List ℕ) : Type 0 where
   pub count : length blocks ≡ blocks_for (length bytes)
   pub each : (i : ℕ) → i < length blocks
-      → slice_index blocks i ≡ cond (is_changed bytes was i) (slice_index fresh (changed_to bytes was i)) (slice_index old i)
+      → slice_index blocks i ≡ cond (is_changed bytes was i) (slice_index fresh (changed_to bytes was i))
+      (slice_index old i)

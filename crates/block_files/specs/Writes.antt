@@ -8,8 +8,9 @@ use Rattle.block_files.specs.BlockSets.{holds}
 use Rattle.block_files.specs.Parts.{is_changed}
 use Rattle.block_files.specs.Areas.{area_of}
 
--- Writes that were all done, of at most n bytes: files that are spared and blocks that are apart read as before, and so they do in each
--- case of a crash after the writes or at any moment of them, but for what a crash may leave past an old end. No call failed.
+-- Writes that were all done, of at most n bytes: files that are spared and blocks that are apart read as before, and so
+-- they do in each case of a crash after the writes or at any moment of them, but for what a crash may leave past an old
+-- end. No call failed.
 pub record Wrote (told : Bool) (spared apart : ℕ → Type 0) (n : ℕ) (old new : Medium) : Type 0 where
   pub keeps : IsTrue told → Keeps spared apart old.image new.image
   pub now : Follows (KeepsCase spared apart) old.now new.now
@@ -40,4 +41,5 @@ IsTaken set k = holds set k ≡ true
 
 -- the block is none of those whose part differs from that of an earlier content
 abbrev pub IsApartFromChanged : (blocks bytes was : List ℕ) (k : ℕ) → Type 0
-IsApartFromChanged blocks bytes was k = (i : ℕ) → i < length blocks → is_changed bytes was i ≡ true → k ≢ slice_index blocks i
+IsApartFromChanged blocks bytes was k = (i : ℕ) → i < length blocks → is_changed bytes was i ≡ true
+    → k ≢ slice_index blocks i

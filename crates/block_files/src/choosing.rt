@@ -35,7 +35,8 @@ pub(crate) fn add(used: &mut BlockSet, blocks: &[u32])
     }
 }
 
-// The blocks of a content beside an earlier one: the earlier block where the parts are equal, else the next of the fresh ones.
+// The blocks of a content beside an earlier one: the earlier block where the parts are equal, else the next of the
+// fresh ones.
 pub(crate) fn merge(
     alloc: Global,
     bytes: &[u8],

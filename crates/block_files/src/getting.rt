@@ -22,13 +22,14 @@ pub struct Blob {
     pub value: Option<Bytes>,
     /// The bytes of the first copy that has the hash, whatever the others hold.
     pub salvage: Option<Bytes>,
-    /// The copies that lack the value, counted from 1 and ascending; where there is no value, those that do not have the hash.
+    /// The copies that lack the value, counted from 1 and ascending; where there is no value, those that do not have
+    /// the hash.
     pub lacking: Numbers,
 }
 
-/// The content of these blocks: a copy counts where its blocks, joined and cut to `len`, with zeros past the area's end, have this
-/// hash. The value is the vote of the counting copies for `m`, and the copies lack it that do not count, that have other bytes, or whose
-/// area does not reach to the end of all of them. No byte changes.
+/// The content of these blocks: a copy counts where its blocks, joined and cut to `len`, with zeros past the area's
+/// end, have this hash. The value is the vote of the counting copies for `m`, and the copies lack it that do not count,
+/// that have other bytes, or whose area does not reach to the end of all of them. No byte changes.
 ///
 /// # Errors
 ///
@@ -52,7 +53,8 @@ pub fn get_blob<D: Disk>(
 
     // Whether the disk tells its bytes or not.
     ensures size { IfOk result (λ blob. IfSome blob.value (λ value. length value ≡ min len (256 * length blocks.now))) }
-    ensures salvage_size { IfOk result (λ blob. IfSome blob.salvage (λ salvage. length salvage ≡ min len (256 * length blocks.now))) }
+    ensures salvage_size { IfOk result (λ blob. IfSome blob.salvage
+        (λ salvage. length salvage ≡ min len (256 * length blocks.now))) }
     ensures copies { IfOk result (λ blob. AreCopies place.copies blob.lacking) }
     ensures ascending { IfOk result (λ blob. Ascend blob.lacking) }
 
@@ -70,7 +72,8 @@ pub fn get_blob<D: Disk>(
 // What the copies agree on, by what each gives.
 fn judge(alloc: Global, looked: &Looked, m: u32) -> Result<Blob, AllocError>
     requires m { 1 ≤ m }
-    requires copies { (length looked.now.texts.items ≡ length looked.now.inside.items) × (length looked.now.texts.items ≤ 8) }
+    requires copies { (length looked.now.texts.items ≡ length looked.now.inside.items)
+        × (length looked.now.texts.items ≤ 8) }
     ensures value { IfOk result (λ blob. blob.value ≡ voted m (texts_of looked.now.texts.items)) }
     ensures salvage { IfOk result (λ blob. blob.salvage ≡ first_content (texts_of looked.now.texts.items)) }
     ensures lacking { IfOk result (λ blob. blob.lacking
@@ -112,7 +115,8 @@ fn copied(alloc: Global, text: Option<&[u8]>) -> Result<Option<Bytes>, AllocErro
 // The copies that lack the value, counted from 1.
 fn list_lacking(alloc: Global, value: Option<&[u8]>, looked: &Looked) -> Result<Numbers, AllocError>
     requires { (length looked.now.texts.items ≡ length looked.now.inside.items) × (length looked.now.texts.items ≤ 8) }
-    ensures { IfOk result (λ numbers. numbers ≡ lacking_in (option_copied value.entry) (texts_of looked.now.texts.items) looked.now.inside.items) }
+    ensures { IfOk result (λ numbers. numbers ≡ lacking_in (option_copied value.entry) (texts_of looked.now.texts.items)
+        looked.now.inside.items) }
 {
     let mut numbers = Vec::new(alloc);
     for copy in 0..looked.texts.len() {

@@ -10,8 +10,8 @@ use crate::errors::BlobError;
 use crate::writing::write_copies;
 use disk_model::{Disk, Place};
 
-/// Writes the bytes into their blocks in these copies alone, counted from 1. Takes no memory. The bytes are durable after the caller's
-/// next sync.
+/// Writes the bytes into their blocks in these copies alone, counted from 1. Takes no memory. The bytes are durable
+/// after the caller's next sync.
 ///
 /// # Errors
 ///

@@ -13,7 +13,8 @@ pub(crate) fn count_blocks(len: usize) -> usize
     (len + (BLOCK - 1)) / BLOCK
 }
 
-// The bytes that go into a content's i-th block: the last part may be shorter than a block, and those past it are empty.
+// The bytes that go into a content's i-th block: the last part may be shorter than a block, and those past it are
+// empty.
 pub(crate) fn part_at(bytes: &[u8], i: usize) -> &[u8]
     requires { 256 * i < 2 ^ 63 }
     ensures value { result.now ≡ part bytes.now i }

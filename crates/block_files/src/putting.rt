@@ -1,6 +1,7 @@
 //! Contents put into fresh blocks, or into fresh and shared ones.
 
-ghost use Rattle.std.specs.Prelude.{◌≡◌, ◌<◌, ◌≤◌, ◌+◌, ◌*◌, ℕ, List, true, IsTrue, IfOk, OnOk, OnErr, IsErrOf, length, slice_index};
+ghost use Rattle.std.specs.Prelude.{◌≡◌, ◌<◌, ◌≤◌, ◌+◌, ◌*◌, ℕ, List, true, IsTrue, IfOk, OnOk, OnErr, IsErrOf, length};
+ghost use Rattle.std.specs.Prelude.{slice_index};
 ghost use Rattle.sha2.specs.Sha256.{sha256};
 ghost use Rattle.disk_model.specs.Place.{IsNoArea};
 ghost use Rattle.block_files.specs.BlockSets.{holds, free_of, AreFree, AreDistinct, IsApart, IsAdded, SharesBlocks};
@@ -48,12 +49,13 @@ pub fn reserve_blob(alloc: Global, used: &mut BlockSet, bytes: &[u8]) -> Result<
     })
 }
 
-/// Writes the bytes into blocks outside `used` in every copy, and adds the blocks to `used`. The bytes are durable after the
-/// caller's next sync.
+/// Writes the bytes into blocks outside `used` in every copy, and adds the blocks to `used`. The bytes are durable
+/// after the caller's next sync.
 ///
 /// # Errors
 ///
-/// `Device` where the disk fails; then `used` has the blocks that were chosen. `OutOfMemory` leaves `used` and the disk as they were.
+/// `Device` where the disk fails; then `used` has the blocks that were chosen. `OutOfMemory` leaves `used` and the disk
+/// as they were.
 pub fn put_blob<D: Disk>(
     alloc: Global,
     disk: &mut D,
@@ -76,7 +78,8 @@ pub fn put_blob<D: Disk>(
 
     // Errors.
     ensures memory { IsErrOf result BlobError.OutOfMemory → (used.new ≡ used.old) × (disk.new ≡ disk.old) }
-    ensures failed { IsErrOf result BlobError.Device → Tore D.told (IsNoArea place.first place.copies) (IsTaken used.old)
+    ensures failed { IsErrOf result BlobError.Device → Tore D.told (IsNoArea place.first place.copies)
+        (IsTaken used.old)
         (place.copies * (256 * blocks_for (length bytes.now))) (D.medium disk.old) (D.medium disk.new) }
     ensures reserved { IsErrOf result BlobError.Device → (blocks : List ℕ)
         × (length blocks ≡ blocks_for (length bytes.now)) × AreFree used.old blocks × IsAdded blocks used.old used.new }
@@ -86,7 +89,8 @@ pub fn put_blob<D: Disk>(
     Ok(blob)
 }
 
-/// Chooses blocks for the bytes and adds them to `used`: all of a `put_shared` but its writes, which are for `write_shared`.
+/// Chooses blocks for the bytes and adds them to `used`: all of a `put_shared` but its writes, which are for
+/// `write_shared`.
 ///
 /// # Errors
 ///
@@ -119,12 +123,13 @@ pub fn reserve_shared(
     })
 }
 
-/// Puts the bytes beside an earlier content: a block that is equal in both is shared, and the others are written into blocks outside
-/// `used`, which are added to it. The bytes are durable after the caller's next sync.
+/// Puts the bytes beside an earlier content: a block that is equal in both is shared, and the others are written into
+/// blocks outside `used`, which are added to it. The bytes are durable after the caller's next sync.
 ///
 /// # Errors
 ///
-/// `Device` where the disk fails; then `used` has the blocks that were chosen. `OutOfMemory` leaves `used` and the disk as they were.
+/// `Device` where the disk fails; then `used` has the blocks that were chosen. `OutOfMemory` leaves `used` and the disk
+/// as they were.
 pub fn put_shared<D: Disk>(
     alloc: Global,
     disk: &mut D,
@@ -157,10 +162,12 @@ pub fn put_shared<D: Disk>(
 
     // Errors.
     ensures memory { IsErrOf result BlobError.OutOfMemory → (used.new ≡ used.old) × (disk.new ≡ disk.old) }
-    ensures failed { IsErrOf result BlobError.Device → Tore D.told (IsNoArea place.first place.copies) (IsTaken used.old)
+    ensures failed { IsErrOf result BlobError.Device → Tore D.told (IsNoArea place.first place.copies)
+        (IsTaken used.old)
         (place.copies * (256 * changed bytes.now old_bytes.now)) (D.medium disk.old) (D.medium disk.new) }
     ensures reserved { IsErrOf result BlobError.Device → (blocks : List ℕ)
-        × (length blocks ≡ blocks_for (length bytes.now)) × SharesBlocks bytes.now old_bytes.now old_blocks.now used.old blocks
+        × (length blocks ≡ blocks_for (length bytes.now)) × SharesBlocks bytes.now old_bytes.now old_blocks.now used.old
+        blocks
         × IsAdded blocks used.old used.new }
 {
     let blob = reserve_shared(alloc, used, bytes, old_bytes, old_blocks)?;

@@ -1,6 +1,7 @@
 //! What the copies of a content hold.
 
-ghost use Rattle.std.specs.Prelude.{◌≡◌, ◌≤◌, ◌-◌, ◌*◌, ◌++◌, IsTrue, IfOk, IfSome, OnErr, IsErrOf, length, map, min, take, replicate, OnOk};
+ghost use Rattle.std.specs.Prelude.{◌≡◌, ◌≤◌, ◌-◌, ◌*◌, ◌++◌, IsTrue, IfOk, IfSome, OnErr, IsErrOf, length, map, min};
+ghost use Rattle.std.specs.Prelude.{take, replicate, OnOk};
 ghost use Rattle.std.specs.List.{range_with_len};
 ghost use Rattle.std.specs.Option.{option_map};
 ghost use Rattle.per_base.specs.Causes.{Rose};
@@ -35,8 +36,10 @@ pub(crate) fn look<D: Disk>(
     ensures texts { IsTrue D.told → IfOk result (λ looked. texts_of looked.texts.items
         ≡ contents place.first place.copies blocks.now len hash.now (D.medium disk.old).image) }
     ensures inside { IsTrue D.told → IfOk result (λ looked. looked.inside.items
-        ≡ map (λ c. within ((D.medium disk.old).image (area place.first c)) blocks.now len) (range_with_len 0 place.copies)) }
-    ensures copies { IfOk result (λ looked. (length looked.texts.items ≡ place.copies) × (length looked.inside.items ≡ place.copies)) }
+        ≡ map (λ c. within ((D.medium disk.old).image (area place.first c)) blocks.now len)
+        (range_with_len 0 place.copies)) }
+    ensures copies { IfOk result (λ looked. (length looked.texts.items ≡ place.copies)
+        × (length looked.inside.items ≡ place.copies)) }
     ensures size { IfOk result (λ looked. HaveSize (min len (256 * length blocks.now)) (texts_of looked.texts.items)) }
     ensures reads { OnlyReads (D.medium disk.old) (D.medium disk.new) }
     ensures time { Elapses (D.medium disk.old) (D.medium disk.new) }
@@ -89,7 +92,8 @@ fn read_joined<D: Disk>(
     blocks: &[u32],
     len: usize,
 ) -> Result<Vec<u8>, BlobError>
-    ensures bytes { IsTrue D.told → IfOk result (λ bytes. bytes.items ≡ joined ((D.medium disk.old).image file) blocks.now len) }
+    ensures bytes { IsTrue D.told → IfOk result (λ bytes. bytes.items
+        ≡ joined ((D.medium disk.old).image file) blocks.now len) }
     ensures size { IfOk result (λ bytes. length bytes.items ≡ min len (256 * length blocks.now)) }
     ensures reads { OnlyReads (D.medium disk.old) (D.medium disk.new) }
     ensures time { Elapses (D.medium disk.old) (D.medium disk.new) }

@@ -15,8 +15,8 @@ use per_base::BLOCK;
 /// The numbers of the copies that a place can have.
 const NUMBERS: [u32; 8] = [1, 2, 3, 4, 5, 6, 7, 8];
 
-/// Writes the bytes into these blocks in every copy, for a caller who has chosen the blocks before. Takes no memory. The bytes are
-/// durable after the caller's next sync.
+/// Writes the bytes into these blocks in every copy, for a caller who has chosen the blocks before. Takes no memory.
+/// The bytes are durable after the caller's next sync.
 ///
 /// # Errors
 ///
@@ -39,8 +39,8 @@ pub fn write_blob<D: Disk>(
     write_shared(disk, place, blocks, bytes, &[])
 }
 
-/// Writes those parts of the bytes that differ from `was` into their blocks in every copy, for a caller who has chosen the blocks
-/// before. Takes no memory. The bytes are durable after the caller's next sync.
+/// Writes those parts of the bytes that differ from `was` into their blocks in every copy, for a caller who has chosen
+/// the blocks before. Takes no memory. The bytes are durable after the caller's next sync.
 ///
 /// # Errors
 ///
@@ -58,9 +58,11 @@ pub fn write_shared<D: Disk>(
         → HoldsShared ((D.medium disk.old).image (area place.first c)) blocks.now bytes.now was.now }
     ensures whole { IsTrue D.told → OnOk result
         (AllFull place.first place.copies blocks.now bytes.now (D.medium disk.new).image) }
-    ensures done { OnOk result (Wrote D.told (IsNoArea place.first place.copies) (IsApartFromChanged blocks.now bytes.now was.now)
+    ensures done { OnOk result (Wrote D.told (IsNoArea place.first place.copies)
+        (IsApartFromChanged blocks.now bytes.now was.now)
         (place.copies * (256 * changed bytes.now was.now)) (D.medium disk.old) (D.medium disk.new)) }
-    ensures failed { OnErr result (Tore D.told (IsNoArea place.first place.copies) (IsApartFromChanged blocks.now bytes.now was.now)
+    ensures failed { OnErr result (Tore D.told (IsNoArea place.first place.copies)
+        (IsApartFromChanged blocks.now bytes.now was.now)
         (place.copies * (256 * changed bytes.now was.now)) (D.medium disk.old) (D.medium disk.new)) }
 {
     write_copies(
@@ -86,12 +88,15 @@ pub(crate) fn write_copies<D: Disk>(
     requires room { length bytes.now ≤ 256 * length blocks.now }
     requires distinct { AreDistinct blocks.now }
     requires shared { IsTrue D.told → (i : ℕ) → i < length copies.now
-        → HoldsShared ((D.medium disk.old).image (area_of place.first (slice_index copies.now i))) blocks.now bytes.now was.now }
+        → HoldsShared ((D.medium disk.old).image (area_of place.first (slice_index copies.now i))) blocks.now bytes.now
+        was.now }
     ensures whole { IsTrue D.told → OnOk result
         (NamedFull place.first copies.now blocks.now bytes.now (D.medium disk.new).image) }
-    ensures done { OnOk result (Wrote D.told (IsNoneOf place.first copies.now) (IsApartFromChanged blocks.now bytes.now was.now)
+    ensures done { OnOk result (Wrote D.told (IsNoneOf place.first copies.now)
+        (IsApartFromChanged blocks.now bytes.now was.now)
         (length copies.now * (256 * changed bytes.now was.now)) (D.medium disk.old) (D.medium disk.new)) }
-    ensures failed { OnErr result (Tore D.told (IsNoneOf place.first copies.now) (IsApartFromChanged blocks.now bytes.now was.now)
+    ensures failed { OnErr result (Tore D.told (IsNoneOf place.first copies.now)
+        (IsApartFromChanged blocks.now bytes.now was.now)
         (length copies.now * (256 * changed bytes.now was.now)) (D.medium disk.old) (D.medium disk.new)) }
 {
     for number in copies {

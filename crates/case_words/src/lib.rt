@@ -1,7 +1,7 @@
 //! The words in which cases are written: numbers, bytes, and lists of both.
 //!
-//! Bytes are hexadecimal digits; `3*07` is a piece that repeats, parts are joined by `+`, and `empty` is no byte. What is printed has the
-//! same form, so that the answer of one case can stand in another.
+//! Bytes are hexadecimal digits; `3*07` is a piece that repeats, parts are joined by `+`, and `empty` is no byte. What
+//! is printed has the same form, so that the answer of one case can stand in another.
 #![tactic(auto)]
 
 use block_files::BlobError;

@@ -29,15 +29,56 @@ rows =
     (record { reports = []; answer = answer.Names (codes "a" ∷ codes "b" ∷ []) }, codes "names a b\n") ∷
     (record { reports = []; answer = answer.Status status.Absent }, codes "status absent\n") ∷
     (record { reports = []; answer = answer.Status (status.Active 7 None) }, codes "status version 7\n") ∷
-    (record { reports = []; answer = answer.Status (status.Active 2 (Some 1)) }, codes "status version 2 previous 1\n") ∷
-    (record { reports = []; answer = answer.Info (record { created = 1000; modified = 1060; accessed = 1001; creation = cause.Installation; modification = cause.Application }) }, codes "info 1000 1060 1001 installation application\n") ∷
-    (record { reports = []; answer = answer.Info (record { created = 1000; modified = 1060; accessed = 1001; creation = cause.Update; modification = cause.Reset }) }, codes "info 1000 1060 1001 update reset\n") ∷
-    (record { reports = []; answer = answer.Info (record { created = 1000; modified = 1060; accessed = 1001; creation = cause.Recovery; modification = cause.Update }) }, codes "info 1000 1060 1001 recovery update\n") ∷
+    (record { reports = []; answer = answer.Status (status.Active 2 (Some 1)) }, codes "status version 2 previous 1\n")
+    ∷ (
+      record {
+        reports = [];
+        answer = answer.Info (record {
+          created = 1000;
+          modified = 1060;
+          accessed = 1001;
+          creation =
+              cause.Installation;
+          modification = cause.Application;
+        });
+      },
+      codes "info 1000 1060 1001 installation application\n",
+    ) ∷ (
+      record {
+        reports = [];
+        answer = answer.Info (record {
+          created = 1000;
+          modified = 1060;
+          accessed = 1001;
+          creation =
+              cause.Update;
+          modification = cause.Reset;
+        });
+      },
+      codes "info 1000 1060 1001 update reset\n",
+    ) ∷ (
+      record {
+        reports = [];
+        answer = answer.Info (record {
+          created = 1000;
+          modified = 1060;
+          accessed = 1001;
+          creation =
+              cause.Recovery;
+          modification = cause.Update;
+        });
+      },
+      codes "info 1000 1060 1001 recovery update\n",
+    ) ∷
     (record { reports = []; answer = answer.Error error.StorageNotFound }, codes "error 1 StorageNotFound\n") ∷
     (record { reports = []; answer = answer.Error error.KeyNotFound }, codes "error 2 KeyNotFound\n") ∷
-    (record { reports = []; answer = answer.Error error.IllegalWriteAccess }, codes "error 3 IllegalWriteAccess\n") ∷
-    (record { reports = []; answer = answer.Error error.PhysicalStorageFailure }, codes "error 4 PhysicalStorageFailure\n") ∷
-    (record { reports = []; answer = answer.Error error.InitValueNotAvailable }, codes "error 8 InitValueNotAvailable\n") ∷
+    (record { reports = []; answer = answer.Error error.IllegalWriteAccess }, codes "error 3 IllegalWriteAccess\n") ∷ (
+      record { reports = []; answer = answer.Error error.PhysicalStorageFailure },
+      codes "error 4 PhysicalStorageFailure\n",
+    ) ∷ (
+      record { reports = []; answer = answer.Error error.InitValueNotAvailable },
+      codes "error 8 InitValueNotAvailable\n",
+    ) ∷
     (record { reports = []; answer = answer.Error error.FileNotFound }, codes "error 11 FileNotFound\n") ∷
     (record { reports = []; answer = answer.Error error.InvalidPosition }, codes "error 12 InvalidPosition\n") ∷
     (record { reports = []; answer = answer.Error error.IsEof }, codes "error 13 IsEof\n") ∷
@@ -50,33 +91,136 @@ rows =
     (record { reports = []; answer = answer.Error error.IllegalReadAccess }, codes "error 26 IllegalReadAccess\n") ∷
     (record { reports = []; answer = answer.Error error.BadName }, codes "error 29 BadName\n") ∷
     (record { reports = []; answer = answer.Error error.NoUpdateInProgress }, codes "error 30 NoUpdateInProgress\n") ∷
-    (record { reports = []; answer = answer.Error error.ExportRejected }, codes "error 31 ExportRejected\n") ∷
-    (record { reports = []; answer = answer.Error (error.IntegrityCorrupted unit.Root) }, codes "error 5 IntegrityCorrupted root\n") ∷
-    (record { reports = []; answer = answer.Error (error.IntegrityCorrupted (unit.Whole (codes "fav"))) }, codes "error 5 IntegrityCorrupted fav\n") ∷
-    (record { reports = []; answer = answer.Error (error.IntegrityCorrupted (unit.Part (codes "fav") (codes "home"))) }, codes "error 5 IntegrityCorrupted fav:home\n") ∷
-    (record { reports = []; answer = answer.Error (error.ResourceBusy (holder.Storage (codes "fav"))) }, codes "error 9 ResourceBusy storage fav\n") ∷
-    (record { reports = []; answer = answer.Error (error.ResourceBusy (holder.Handle 1)) }, codes "error 9 ResourceBusy handle 1\n") ∷
-    (record { reports = []; answer = answer.Error (error.ResourceBusy (holder.Update 2)) }, codes "error 9 ResourceBusy update 2\n") ∷
-    (record { reports = []; answer = answer.Error (error.DataTypeMismatch (codes "u8") (codes "u16")) }, codes "error 7 DataTypeMismatch u8 u16\n") ∷
-    (record { reports = []; answer = answer.Error (error.OutOfStorageSpace 12 8) }, codes "error 10 OutOfStorageSpace 12 8\n") ∷
+    (record { reports = []; answer = answer.Error error.ExportRejected }, codes "error 31 ExportRejected\n") ∷ (
+      record { reports = []; answer = answer.Error (error.IntegrityCorrupted unit.Root) },
+      codes "error 5 IntegrityCorrupted root\n",
+    ) ∷ (
+      record { reports = []; answer = answer.Error (error.IntegrityCorrupted (unit.Whole (codes "fav"))) },
+      codes "error 5 IntegrityCorrupted fav\n",
+    ) ∷ (
+      record {
+        reports = [];
+        answer = answer.Error (error.IntegrityCorrupted (unit.Part (codes "fav") (codes "home")));
+      },
+      codes "error 5 IntegrityCorrupted fav:home\n",
+    ) ∷ (
+      record { reports = []; answer = answer.Error (error.ResourceBusy (holder.Storage (codes "fav"))) },
+      codes "error 9 ResourceBusy storage fav\n",
+    ) ∷ (
+      record { reports = []; answer = answer.Error (error.ResourceBusy (holder.Handle 1)) },
+      codes "error 9 ResourceBusy handle 1\n",
+    ) ∷ (
+      record { reports = []; answer = answer.Error (error.ResourceBusy (holder.Update 2)) },
+      codes "error 9 ResourceBusy update 2\n",
+    ) ∷ (
+      record { reports = []; answer = answer.Error (error.DataTypeMismatch (codes "u8") (codes "u16")) },
+      codes "error 7 DataTypeMismatch u8 u16\n",
+    ) ∷ (
+      record { reports = []; answer = answer.Error (error.OutOfStorageSpace 12 8) },
+      codes "error 10 OutOfStorageSpace 12 8\n",
+    ) ∷
     (record { reports = []; answer = answer.Error (error.ManifestRejected 4) }, codes "error 22 ManifestRejected 4\n") ∷
-    (record { reports = []; answer = answer.Error (error.UpdateNotFinished 1) }, codes "error 27 UpdateNotFinished 1\n") ∷
-    (record { reports = []; answer = answer.Error (error.VersionNotNewer 2 1) }, codes "error 28 VersionNotNewer 2 1\n") ∷
-    (record { reports = []; answer = answer.Error (error.LimitReached limit.Elements) }, codes "error 25 LimitReached elements\n") ∷
-    (record { reports = []; answer = answer.Error (error.LimitReached limit.Handles) }, codes "error 25 LimitReached handles\n") ∷
-    (record { reports = []; answer = answer.Error (error.LimitReached limit.FileBytes) }, codes "error 25 LimitReached file-bytes\n") ∷
-    (record { reports = []; answer = answer.Error (error.LimitReached limit.ValueBytes) }, codes "error 25 LimitReached value-bytes\n") ∷
-    (record { reports = []; answer = answer.Error (error.LimitReached limit.ValueDepth) }, codes "error 25 LimitReached value-depth\n") ∷
-    (record { reports = []; answer = answer.Error (error.LimitReached limit.Generations) }, codes "error 25 LimitReached generations\n") ∷
-    (record { reports = (record { kind = report.KvsRecovered; storage = codes "cal"; element = None; copies = 1 ∷ [] }) ∷ []; answer = answer.Done }, codes "report kvs-recovered cal 1\nok\n") ∷
-    (record { reports = (record { kind = report.KvsFailed; storage = codes "cal"; element = None; copies = 1 ∷ [] }) ∷ []; answer = answer.Done }, codes "report kvs-failed cal 1\nok\n") ∷
-    (record { reports = (record { kind = report.KeyRecovered; storage = codes "cal"; element = None; copies = 1 ∷ [] }) ∷ []; answer = answer.Done }, codes "report key-recovered cal 1\nok\n") ∷
-    (record { reports = (record { kind = report.KeyFailed; storage = codes "cal"; element = None; copies = 1 ∷ [] }) ∷ []; answer = answer.Done }, codes "report key-failed cal 1\nok\n") ∷
-    (record { reports = (record { kind = report.FilesRecovered; storage = codes "cal"; element = None; copies = 1 ∷ [] }) ∷ []; answer = answer.Done }, codes "report files-recovered cal 1\nok\n") ∷
-    (record { reports = (record { kind = report.FilesFailed; storage = codes "cal"; element = None; copies = 1 ∷ [] }) ∷ []; answer = answer.Done }, codes "report files-failed cal 1\nok\n") ∷
-    (record { reports = (record { kind = report.FileRecovered; storage = codes "cal"; element = None; copies = 1 ∷ [] }) ∷ []; answer = answer.Done }, codes "report file-recovered cal 1\nok\n") ∷
-    (record { reports = (record { kind = report.FileFailed; storage = codes "cal"; element = None; copies = 1 ∷ [] }) ∷ []; answer = answer.Done }, codes "report file-failed cal 1\nok\n") ∷
-    (record { reports = (record { kind = report.KvsRecovered; storage = codes "fav"; element = None; copies = 2 ∷ 3 ∷ [] }) ∷ (record { kind = report.KeyFailed; storage = codes "fav"; element = Some (codes "home"); copies = [] }) ∷ []; answer = answer.Error error.NotOpen }, codes "report kvs-recovered fav 2,3\nreport key-failed fav:home -\nerror 24 NotOpen\n") ∷
+    (record { reports = []; answer = answer.Error (error.UpdateNotFinished 1) }, codes "error 27 UpdateNotFinished 1\n")
+    ∷
+    (record { reports = []; answer = answer.Error (error.VersionNotNewer 2 1) }, codes "error 28 VersionNotNewer 2 1\n")
+    ∷ (
+      record { reports = []; answer = answer.Error (error.LimitReached limit.Elements) },
+      codes "error 25 LimitReached elements\n",
+    ) ∷ (
+      record { reports = []; answer = answer.Error (error.LimitReached limit.Handles) },
+      codes "error 25 LimitReached handles\n",
+    ) ∷ (
+      record { reports = []; answer = answer.Error (error.LimitReached limit.FileBytes) },
+      codes "error 25 LimitReached file-bytes\n",
+    ) ∷ (
+      record { reports = []; answer = answer.Error (error.LimitReached limit.ValueBytes) },
+      codes "error 25 LimitReached value-bytes\n",
+    ) ∷ (
+      record { reports = []; answer = answer.Error (error.LimitReached limit.ValueDepth) },
+      codes "error 25 LimitReached value-depth\n",
+    ) ∷ (
+      record { reports = []; answer = answer.Error (error.LimitReached limit.Generations) },
+      codes "error 25 LimitReached generations\n",
+    ) ∷ (
+      record {
+        reports = (record { kind = report.KvsRecovered; storage = codes "cal"; element = None; copies = 1 ∷ [] })
+            ∷ [];
+        answer = answer.Done;
+      },
+      codes "report kvs-recovered cal 1\nok\n",
+    ) ∷ (
+      record {
+        reports = (record { kind = report.KvsFailed; storage = codes "cal"; element = None; copies = 1 ∷ [] })
+            ∷ [];
+        answer = answer.Done;
+      },
+      codes "report kvs-failed cal 1\nok\n",
+    ) ∷ (
+      record {
+        reports = (record { kind = report.KeyRecovered; storage = codes "cal"; element = None; copies = 1 ∷ [] })
+            ∷ [];
+        answer = answer.Done;
+      },
+      codes "report key-recovered cal 1\nok\n",
+    ) ∷ (
+      record {
+        reports = (record { kind = report.KeyFailed; storage = codes "cal"; element = None; copies = 1 ∷ [] })
+            ∷ [];
+        answer = answer.Done;
+      },
+      codes "report key-failed cal 1\nok\n",
+    ) ∷ (
+      record {
+        reports = (record {
+          kind = report.FilesRecovered;
+          storage = codes "cal";
+          element = None;
+          copies =
+              1 ∷ [];
+        }) ∷ [];
+        answer = answer.Done;
+      },
+      codes "report files-recovered cal 1\nok\n",
+    ) ∷ (
+      record {
+        reports = (record { kind = report.FilesFailed; storage = codes "cal"; element = None; copies = 1 ∷ [] })
+            ∷ [];
+        answer = answer.Done;
+      },
+      codes "report files-failed cal 1\nok\n",
+    ) ∷ (
+      record {
+        reports = (record { kind = report.FileRecovered; storage = codes "cal"; element = None; copies = 1 ∷ [] })
+            ∷ [];
+        answer = answer.Done;
+      },
+      codes "report file-recovered cal 1\nok\n",
+    ) ∷ (
+      record {
+        reports = (record { kind = report.FileFailed; storage = codes "cal"; element = None; copies = 1 ∷ [] })
+            ∷ [];
+        answer = answer.Done;
+      },
+      codes "report file-failed cal 1\nok\n",
+    ) ∷ (
+      record {
+        reports = (record {
+          kind = report.KvsRecovered;
+          storage = codes "fav";
+          element = None;
+          copies =
+              2 ∷ 3 ∷ [];
+        }) ∷ (record {
+          kind = report.KeyFailed;
+          storage = codes "fav";
+          element =
+              Some (codes "home");
+          copies = [];
+        }) ∷ [];
+        answer = answer.Error error.NotOpen;
+      },
+      codes "report kvs-recovered fav 2,3\nreport key-failed fav:home -\nerror 24 NotOpen\n",
+    ) ∷
     []
 
 texts : map (λ (row : Reply × List ℕ). reply_text row.0) rows ≡ map (λ (row : Reply × List ℕ). row.1) rows

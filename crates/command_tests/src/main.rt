@@ -1,5 +1,5 @@
-//! Lines and replies of the whole engine, both ways: each row of standard input is a line or describes a reply, and what comes of it
-//! is printed.
+//! Lines and replies of the whole engine, both ways: each row of standard input is a line or describes a reply, and
+//! what comes of it is printed.
 //!
 //! | row | what is printed |
 //! |---|---|

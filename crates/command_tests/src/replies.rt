@@ -1,4 +1,5 @@
-//! Replies, as rows describe them: the reports, each with `; ` behind it, and the answer. The words are those of the types.
+//! Replies, as rows describe them: the reports, each with `; ` behind it, and the answer. The words are those of the
+//! types.
 
 ghost use Rattle.std.specs.Prelude.{IfOk};
 ghost use Rattle.command_text.specs.Replies.{HasText};

@@ -1,5 +1,6 @@
 -- A name is ASCII, so bytes that are no text are no name.
-use Rattle.std.proofs.Common.{◌≡◌, ℕ, zero, suc, ◌<◌, Bool, true, false, cond, IsTrue, List, [], ◌∷◌, Some, None, refl, arith}
+use Rattle.std.proofs.Common.{◌≡◌, ℕ, zero, suc, ◌<◌, Bool, true, false, cond, IsTrue, List, [], ◌∷◌, Some, None, refl}
+use Rattle.std.proofs.Common.{arith}
 use Rattle.std.specs.List.{list_all, slice_index}
 use Rattle.std.specs.Str.{IsAscii, IsUtf8}
 use Rattle.std.proofs.lemmas.Bool.Decides.{nat_tests}
@@ -15,10 +16,12 @@ all_ascii [] all = λ i. omega arith
 all_ascii (b ∷ bytes) all =
     let here : in_name b ≡ true = grind arith in
     let there : list_all in_name bytes ≡ true = grind arith in
-    λ i. elim i as (λ k. slice_index (b ∷ bytes) k < 128) [ zero ↦ in_name_ascii b here | suc k ↦ all_ascii bytes there k ]
+    λ i. elim i as (λ k. slice_index (b ∷ bytes) k < 128)
+    [ zero ↦ in_name_ascii b here | suc k ↦ all_ascii bytes there k ]
 
 name_utf8 : (bytes : List ℕ) → IsName bytes → IsUtf8 bytes
-name_utf8 bytes is = let all : list_all in_name bytes ≡ true = grind arith in IsUtf8-from_ascii bytes (all_ascii bytes all)
+name_utf8 bytes is = let all : list_all in_name bytes ≡ true =
+    grind arith in IsUtf8-from_ascii bytes (all_ascii bytes all)
 
 none_unless : (b : Bool) (text : List ℕ) → (IsTrue b → ⊥) → cond b (Some text) None ≡ None
 none_unless true text lacks = absurd (lacks refl)

@@ -1,5 +1,6 @@
 -- Each line of a generated input spells an event.
-use Rattle.std.proofs.Common.{◌≡◌, ℕ, zero, suc, ◌≤◌, ◌<◌, ◌+◌, ◌/◌, ◌%◌, ◌^◌, ◌&&◌, ◌==◌, if◌then◌else◌, true, false, Bool, List, ◌++◌, length, inl, inr, refl, arith, lit≤, length-append}
+use Rattle.std.proofs.Common.{◌≡◌, ℕ, zero, suc, ◌≤◌, ◌<◌, ◌+◌, ◌/◌, ◌%◌, ◌^◌, ◌&&◌, ◌==◌, if◌then◌else◌, true, false}
+use Rattle.std.proofs.Common.{Bool, List, ◌++◌, length, inl, inr, refl, arith, lit≤, length-append}
 use Rattle.std.specs.Prelude.{codes}
 use Rattle.std.specs.Fmt.{decimal, digits}
 use Rattle.std.specs.List.{AllByRecursion}
@@ -11,7 +12,8 @@ use Rattle.value_model.specs.Trees.{unsigned_tree}
 use Rattle.value_model.specs.Validity.{IsValue}
 use Rattle.command_text.specs.declared.calls.Call.TheVariants as call
 use Rattle.command_text.specs.declared.calls.Event.TheVariants as event
-use Rattle.command_text.specs.Generated.{generated, generated_key, generated_line, generated_lines, last_lines, next_number}
+use Rattle.command_text.specs.Generated.{generated, generated_key, generated_line, generated_lines, last_lines}
+use Rattle.command_text.specs.Generated.{next_number}
 use Rattle.command_text.specs.Grammar.{IsEventLine}
 
 -- ---- keys
@@ -60,19 +62,33 @@ sync_line : IsEventLine (codes "0 sync g")
 sync_line = (event.App 0 (call.Sync (codes "g")), record { short = lit≤ tt; spelled = (refl, (lit≤ tt, (refl, tt))) })
 
 get_line : (x : ℕ) → IsEventLine (codes "0 get g " ++ generated_key x)
-get_line x = (event.App 0 (call.Get (codes "g") (generated_key x)), record { short = omega (arith, key_short x); spelled = (refl, (lit≤ tt, (refl, (key_named x, tt)))) })
+get_line x = (
+  event.App 0 (call.Get (codes "g") (generated_key x)),
+  record { short = omega (arith, key_short x); spelled = (refl, (lit≤ tt, (refl, (key_named x, tt)))) },
+)
 
 remove_line : (x : ℕ) → IsEventLine (codes "0 remove g " ++ generated_key x)
-remove_line x = (event.App 0 (call.Remove (codes "g") (generated_key x)), record { short = omega (arith, key_short x); spelled = (refl, (lit≤ tt, (refl, (key_named x, tt)))) })
+remove_line x = (
+  event.App 0 (call.Remove (codes "g") (generated_key x)),
+  record { short = omega (arith, key_short x); spelled = (refl, (lit≤ tt, (refl, (key_named x, tt)))) },
+)
 
 exists_line : (x : ℕ) → IsEventLine (codes "0 exists g " ++ generated_key x)
-exists_line x = (event.App 0 (call.Exists (codes "g") (generated_key x)), record { short = omega (arith, key_short x); spelled = (refl, (lit≤ tt, (refl, (key_named x, tt)))) })
+exists_line x = (
+  event.App 0 (call.Exists (codes "g") (generated_key x)),
+  record { short = omega (arith, key_short x); spelled = (refl, (lit≤ tt, (refl, (key_named x, tt)))) },
+)
 
 set_line : (x : ℕ) → x < 2 ^ 31 → IsEventLine (codes "0 set g " ++ (generated_key x ++ (codes " u64:" ++ decimal x)))
 set_line x small = (
   event.App 0 (call.Set (codes "g") (generated_key x) (unsigned_tree eight x)),
   record {
-    short = omega (arith, key_short x, number_short x small, length-append (decimal (x / 65536 % 64)) (codes " u64:" ++ decimal x));
+    short = omega (
+      arith,
+      key_short x,
+      number_short x small,
+      length-append (decimal (x / 65536 % 64)) (codes " u64:" ++ decimal x),
+    );
     spelled = (refl, (lit≤ tt, (refl, (key_named x, (number_is_value x small, tt)))));
   },
 )
@@ -84,26 +100,37 @@ either false t u p q = q
 pub line_is_spelled : (x i : ℕ) → x < 2 ^ 31 → IsEventLine (generated_line x i)
 line_is_spelled x i small =
     either (i % 8 == 0) _ _ sync_line
-    (either (i % 8 == 4) _ _ (get_line x) (either (i % 8 == 6) _ _ (remove_line x) (either (i % 8 == 7) _ _ (exists_line x) (set_line x small))))
+    (either (i % 8 == 4) _ _ (get_line x) (either (i % 8 == 6) _ _ (remove_line x)
+    (either (i % 8 == 7) _ _ (exists_line x) (set_line x small))))
 
 -- ---- the whole
 
 next_small : (x : ℕ) → next_number x < 2 ^ 31
 next_small x = omega arith
 
-lines_are_spelled : (count i x : ℕ) (rest : List (List ℕ)) → AllByRecursion IsEventLine rest → AllByRecursion IsEventLine (generated_lines count i x ++ rest)
+lines_are_spelled : (count i x : ℕ) (rest : List (List ℕ)) → AllByRecursion IsEventLine rest
+    → AllByRecursion IsEventLine (generated_lines count i x ++ rest)
 lines_are_spelled zero i x rest all = all
 lines_are_spelled (suc count) i x rest all =
     (line_is_spelled (next_number x) i (next_small x), lines_are_spelled count (i + 1) (next_number x) rest all)
 
-install_line : IsEventLine (codes "0 install {\"version\":1,\"keyValueStorages\":[{\"name\":\"g\",\"redundancy\":{\"m\":2,\"n\":3}}]}")
+install_line : IsEventLine
+    (codes "0 install {\"version\":1,\"keyValueStorages\":[{\"name\":\"g\",\"redundancy\":{\"m\":2,\"n\":3}}]}")
 install_line = (
-  event.App 0 (call.Install (codes "{\"version\":1,\"keyValueStorages\":[{\"name\":\"g\",\"redundancy\":{\"m\":2,\"n\":3}}]}")),
+  event.App 0
+      (call.Install (codes "{\"version\":1,\"keyValueStorages\":[{\"name\":\"g\",\"redundancy\":{\"m\":2,\"n\":3}}]}")),
   record { short = lit≤ tt; spelled = (refl, (lit≤ tt, ((lit≤ tt, refl), tt))) },
 )
 
 open_line : IsEventLine (codes "0 open-kvs g")
-open_line = (event.App 0 (call.OpenKvs (codes "g")), record { short = lit≤ tt; spelled = (refl, (lit≤ tt, (refl, tt))) })
+open_line = (
+  event.App 0 (call.OpenKvs (codes "g")),
+  record {
+    short = lit≤ tt;
+    spelled =
+        (refl, (lit≤ tt, (refl, tt)));
+  },
+)
 
 size_line : IsEventLine (codes "0 size g")
 size_line = (event.App 0 (call.Size (codes "g")), record { short = lit≤ tt; spelled = (refl, (lit≤ tt, (refl, tt))) })
@@ -112,4 +139,11 @@ close_line : IsEventLine (codes "0 close g")
 close_line = (event.App 0 (call.Close (codes "g")), record { short = lit≤ tt; spelled = (refl, (lit≤ tt, (refl, tt))) })
 
 pub whole_is_spelled : (n : ℕ) → n < 2 ^ 31 → AllByRecursion IsEventLine (generated n)
-whole_is_spelled n small = (install_line, (open_line, lines_are_spelled n 1 n last_lines (sync_line, (size_line, (close_line, tt)))))
+whole_is_spelled n small = (
+  install_line,
+  (
+    open_line,
+    lines_are_spelled n 1 n last_lines
+        (sync_line, (size_line, (close_line, tt))),
+  ),
+)

@@ -1,7 +1,15 @@
 -- Every error but want of memory has a number, and so a text.
 use Rattle.std.proofs.Common.{◌≢◌, refl}
 use Rattle.per_base.specs.declared.errors.PerError.{PerError}
-use Rattle.per_base.specs.declared.errors.PerError.TheVariants.{StorageNotFound, KeyNotFound, IllegalWriteAccess, PhysicalStorageFailure, IntegrityCorrupted, DataTypeMismatch, InitValueNotAvailable, ResourceBusy, OutOfStorageSpace, FileNotFound, InvalidPosition, IsEof, InvalidOpenMode, InvalidSize, NotInstalled, AlreadyInstalled, ManifestRejected, NoPreviousVersion, NotOpen, LimitReached, IllegalReadAccess, UpdateNotFinished, VersionNotNewer, BadName, NoUpdateInProgress, ExportRejected, OutOfMemory}
+use Rattle.per_base.specs.declared.errors.PerError.TheVariants.{StorageNotFound, KeyNotFound, IllegalWriteAccess}
+use Rattle.per_base.specs.declared.errors.PerError.TheVariants.{PhysicalStorageFailure, IntegrityCorrupted}
+use Rattle.per_base.specs.declared.errors.PerError.TheVariants.{DataTypeMismatch, InitValueNotAvailable, ResourceBusy}
+use Rattle.per_base.specs.declared.errors.PerError.TheVariants.{OutOfStorageSpace, FileNotFound, InvalidPosition, IsEof}
+use Rattle.per_base.specs.declared.errors.PerError.TheVariants.{InvalidOpenMode, InvalidSize, NotInstalled}
+use Rattle.per_base.specs.declared.errors.PerError.TheVariants.{AlreadyInstalled, ManifestRejected, NoPreviousVersion}
+use Rattle.per_base.specs.declared.errors.PerError.TheVariants.{NotOpen, LimitReached, IllegalReadAccess}
+use Rattle.per_base.specs.declared.errors.PerError.TheVariants.{UpdateNotFinished, VersionNotNewer, BadName}
+use Rattle.per_base.specs.declared.errors.PerError.TheVariants.{NoUpdateInProgress, ExportRejected, OutOfMemory}
 use Rattle.command_text.specs.declared.replies.Answer.TheVariants as answer
 use Rattle.command_text.specs.Replies.{HasText}
 

@@ -25,7 +25,8 @@ generated_lines (suc count) i x = generated_line (next_number x) i ∷ generated
 
 -- the lines before these: the storage is installed and opened
 abbrev pub first_lines : List (List ℕ)
-first_lines = codes "0 install {\"version\":1,\"keyValueStorages\":[{\"name\":\"g\",\"redundancy\":{\"m\":2,\"n\":3}}]}" ∷ codes "0 open-kvs g" ∷ []
+first_lines = codes "0 install {\"version\":1,\"keyValueStorages\":[{\"name\":\"g\",\"redundancy\":{\"m\":2,\"n\":3}}]}"
+    ∷ codes "0 open-kvs g" ∷ []
 
 -- the lines behind them
 abbrev pub last_lines : List (List ℕ)

@@ -1,5 +1,6 @@
 -- The lines: of each call its word and its arguments, and the one line that spells an event.
-use Rattle.std.specs.Prelude.{◌≡◌, ◌⊎◌, ◌≤◌, ◌<◌, ◌+◌, ◌^◌, ⊤, ℕ, ℤ, List, [], ◌∷◌, ◌++◌, length, map, slice_index, codes, Bool, true, false, nat_eq}
+use Rattle.std.specs.Prelude.{◌≡◌, ◌⊎◌, ◌≤◌, ◌<◌, ◌+◌, ◌^◌, ⊤, ℕ, ℤ, List, [], ◌∷◌, ◌++◌, length, map, slice_index}
+use Rattle.std.specs.Prelude.{codes, Bool, true, false, nat_eq}
 use Rattle.std.specs.List.{AllByRecursion, join_with_byte, list_any}
 use Rattle.std.specs.Fmt.{decimal, signed_decimal}
 use lib.Signed.{mag}
@@ -45,7 +46,8 @@ joined [] = codes "none"
 joined (w ∷ ws) = join_with_byte 43 (w ∷ ws)
 
 abbrev pub mode_text : OpenMode → List ℕ
-mode_text mode = joined (flag (at_beginning mode) (codes "begin") ++ flag (at_end mode) (codes "end") ++ flag (truncates mode) (codes "truncate") ++ flag (appends mode) (codes "append"))
+mode_text mode = joined (flag (at_beginning mode) (codes "begin") ++ flag (at_end mode) (codes "end")
+    ++ flag (truncates mode) (codes "truncate") ++ flag (appends mode) (codes "append"))
 
 -- ---- arguments
 

@@ -1,5 +1,6 @@
 -- Reading a line: its words at the spaces, the call of its word, and each argument from the whole of its text.
-use Rattle.std.specs.Prelude.{◌≡◌, ◌-◌, ◌^◌, ⊤, ℕ, ℤ, List, [], ◌∷◌, length, ◌&&◌, nat_le, nat_eq, if◌then◌else◌, Option, Some, None, Result, Ok, Err, codes}
+use Rattle.std.specs.Prelude.{◌≡◌, ◌-◌, ◌^◌, ⊤, ℕ, ℤ, List, [], ◌∷◌, length, ◌&&◌, nat_le, nat_eq, if◌then◌else◌}
+use Rattle.std.specs.Prelude.{Option, Some, None, Result, Ok, Err, codes}
 use Rattle.std.specs.Str.{bytes_eq}
 use Rattle.per_base.specs.declared.opening.OpenKind.{OpenKind}
 use Rattle.per_base.specs.declared.opening.OpenKind.TheVariants as kind

@@ -103,12 +103,14 @@ cause_text cause.Recovery = codes "recovery"
 cause_text cause.Application = codes "application"
 
 abbrev pub info_text : FileInfo → List ℕ
-info_text i = decimal i.created ++ codes " " ++ decimal i.modified ++ codes " " ++ decimal i.accessed ++ codes " " ++ cause_text i.creation ++ codes " " ++ cause_text i.modification
+info_text i = decimal i.created ++ codes " " ++ decimal i.modified ++ codes " " ++ decimal i.accessed ++ codes " "
+    ++ cause_text i.creation ++ codes " " ++ cause_text i.modification
 
 abbrev pub status_text : AppStatus → List ℕ
 status_text status.Absent = codes "absent"
 status_text (status.Active version None) = codes "version " ++ decimal version
-status_text (status.Active version (Some previous)) = codes "version " ++ decimal version ++ codes " previous " ++ decimal previous
+status_text (status.Active version (Some previous)) = codes "version " ++ decimal version ++ codes " previous "
+    ++ decimal previous
 
 -- a space stands only before some bytes
 abbrev pub octets_text : List ℕ → List ℕ
@@ -156,7 +158,8 @@ copies_text [] = codes "-"
 copies_text (c ∷ copies) = decimal c ++ flat_map (λ d. 44 ∷ decimal d) copies
 
 abbrev pub report_line : Report → List ℕ
-report_line r = codes "report " ++ report_word r.kind ++ codes " " ++ reported_text r.storage r.element ++ codes " " ++ copies_text r.copies ++ codes "\n"
+report_line r = codes "report " ++ report_word r.kind ++ codes " " ++ reported_text r.storage r.element ++ codes " "
+    ++ copies_text r.copies ++ codes "\n"
 
 -- ---- replies
 

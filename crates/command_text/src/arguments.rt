@@ -4,7 +4,9 @@ ghost use Rattle.std.specs.Prelude.{◌≡◌, ◌^◌, ◌<◌};
 ghost use Rattle.value_text.specs.Parsing.{kind_in, value_in};
 ghost use Rattle.value_text.specs.Readers.{Finds};
 ghost use Rattle.value_text.specs.Whole.{bytes_in, signed_in, unsigned_in};
-ghost use Rattle.command_text.specs.Reading.{Reads, distance_in, element_front, element_in, handle_front, handle_in, kind_word_in, manifest_in, mode_end_in, mode_in, mode_of, name_in, octet_in, opening_in, origin_in};
+ghost use Rattle.command_text.specs.Reading.{Reads, distance_in, element_front, element_in, handle_front, handle_in};
+ghost use Rattle.command_text.specs.Reading.{kind_word_in, manifest_in, mode_end_in, mode_in, mode_of, name_in};
+ghost use Rattle.command_text.specs.Reading.{octet_in, opening_in, origin_in};
 
 use crate::asked::AskedType;
 use crate::errors::LineError;

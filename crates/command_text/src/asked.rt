@@ -7,7 +7,8 @@ ghost use Rattle.value_text.specs.Types.{IsType};
 use std::marker::Model;
 use value_model::ValueType;
 
-/// A type that has a text: it nests at most 8 deep, and its groups of fields have 1 to 32 members. Contracts see its kind.
+/// A type that has a text: it nests at most 8 deep, and its groups of fields have 1 to 32 members. Contracts see its
+/// kind.
 #[derive(Debug, Drop)]
 pub struct AskedType {
     value_type: ValueType,

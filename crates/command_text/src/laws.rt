@@ -12,7 +12,8 @@ ghost use Rattle.command_text.specs.declared.replies.Answer.{Answer};
 
 /// An event has one text, and two events have two.
 pub fn one_event()
-    ensures text { (e : Event) (text other : List ℕ) → Spells text (Line.Event e) → Spells other (Line.Event e) → text ≡ other }
+    ensures text { (e : Event) (text other : List ℕ) → Spells text (Line.Event e) → Spells other (Line.Event e)
+        → text ≡ other }
     ensures event { (e f : Event) → IsEvent e → IsEvent f → line_of e ≡ line_of f → e ≡ f }
 {}
 

@@ -1,8 +1,9 @@
 //! The lines that a user writes, and the replies to them.
 //!
-//! [`parse_line`] reads one line: nothing, the end, or an [`Event`], which sets the moment or makes a [`Call`] of an application. The
-//! grammar is one table in `specs/Grammar`: of each call its word and its arguments. An event has one line and a line one event, and
-//! every other text is refused. [`print_reply`] gives the one text of a [`Reply`]: a line for each report, and the answer's line.
+//! [`parse_line`] reads one line: nothing, the end, or an [`Event`], which sets the moment or makes a [`Call`] of an
+//! application. The grammar is one table in `specs/Grammar`: of each call its word and its arguments. An event has one
+//! line and a line one event, and every other text is refused. [`print_reply`] gives the one text of a [`Reply`]: a
+//! line for each report, and the answer's line.
 //!
 //! [`generated_line`] and [`next_number`] make a large input from a number, between [`first_lines`] and [`last_lines`].
 #![tactic(auto)]

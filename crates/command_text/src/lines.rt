@@ -27,7 +27,9 @@ pub const LINE_BYTES: usize = 262_144;
 
 /// What the line says; it comes without its line feed.
 ///
-/// Errors: `NotALine` exactly where the bytes are outside the grammar; `OutOfMemory`.
+/// # Errors
+///
+/// `NotALine` exactly where the bytes are outside the grammar; `OutOfMemory`.
 pub fn parse_line(alloc: Global, line: &[u8]) -> Result<Line, LineError>
     // what is read is spelled so, and what is spelled so is read
     ensures line { IfOk result (IsLine line.now) }

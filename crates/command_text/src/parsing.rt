@@ -1,7 +1,8 @@
 //! Calls, by their word. The words stand in groups, by what stands behind them.
 
 ghost use Rattle.std.specs.Prelude.{◌≡◌};
-ghost use Rattle.command_text.specs.Reading.{Reads, bare_call, call_in, detail_call, element_call, handle_bytes_call, handle_call, handle_number_call, manifest_call, move_call, storage_call};
+ghost use Rattle.command_text.specs.Reading.{Reads, bare_call, call_in, detail_call, element_call, handle_bytes_call};
+ghost use Rattle.command_text.specs.Reading.{handle_call, handle_number_call, manifest_call, move_call, storage_call};
 
 use crate::arguments::{
     bytes, distance, element, element_front, handle, handle_front, kind_of_value, manifest, name,

@@ -3,7 +3,9 @@
 ghost use Rattle.std.specs.Prelude.{◌≡◌, ◌∷◌, ◌++◌, OnOk, IfOk, IsSome, string_bytes};
 ghost use Rattle.std.specs.List.{flat_map};
 ghost use Rattle.per_base.specs.Errors.{error_number};
-ghost use Rattle.command_text.specs.Replies.{HasText, answer_text, carried_text, cause_text, copies_text, error_name, error_title, holder_text, info_text, limit_text, octets_text, reply_text, report_line, report_word, reported_text, status_text, unit_text};
+ghost use Rattle.command_text.specs.Replies.{HasText, answer_text, carried_text, cause_text, copies_text, error_name};
+ghost use Rattle.command_text.specs.Replies.{error_title, holder_text, info_text, limit_text, octets_text, reply_text};
+ghost use Rattle.command_text.specs.Replies.{report_line, report_word, reported_text, status_text, unit_text};
 
 use crate::replies::{Answer, AppStatus, Reply};
 use per_base::{Cause, FileInfo, Holder, Limit, Name, PerError, Report, ReportKind, Unit};

@@ -16,7 +16,8 @@ use Rattle.deploy.proofs.Formatted.{HeldAloneLaw}
 use Rattle.deploy.proofs.Found.{texts_at}
 
 -- no slot is to be written where the text is held alone
-all_right : (image : Image) (first copies g : ℕ) (t : List ℕ) → IsAlone image first copies g t → (f : ℕ) → IsRight image first copies g t f
+all_right : (image : Image) (first copies g : ℕ) (t : List ℕ) → IsAlone image first copies g t → (f : ℕ)
+    → IsRight image first copies g t f
 all_right image first copies g t alone f copy lt = (
   λ is. subst (λ (n : ℕ). Holds (λ (any : ℕ). image n) first copy g t) (sym is) (alone.held copy lt),
   λ is. subst (λ (n : ℕ). IsBlank (image n)) (sym is) (alone.blank copy lt),
@@ -34,11 +35,13 @@ already_at place app g t u old new same text right written alone =
     (fun_ext (λ f. right f (all_right old.image place.first place.copies g t here f)), written here)
 
 -- the text that is found is the one that is held alone
-pub found_alone : HeldAloneLaw → (image : Image) (app g : ℕ) (t : List ℕ) (s : Standing) → IsFirst (texts_at image app) s
+pub found_alone : HeldAloneLaw → (image : Image) (app g : ℕ) (t : List ℕ) (s : Standing)
+    → IsFirst (texts_at image app) s
     → IsAlone image (root_place app).first 3 g t → IsAlone image (root_place app).first 3 s.seen.generation s.seen.text
 found_alone law image app g t s first alone =
     let it : Seen = record { generation = g; text = t; copies = copies_that (λ c. true) 3 } in
-    let found : Some it ≡ Some s.seen = sym (ap (standing_in 2) (law image (root_place app).first 3 g t (omega arith) alone).0) ∙ first.stands in
+    let found : Some it ≡ Some s.seen = sym (ap (standing_in 2)
+    (law image (root_place app).first 3 g t (omega arith) alone).0) ∙ first.stands in
     let same : it ≡ s.seen = cc in
     subst (λ (seen : Seen). IsAlone image (root_place app).first 3 seen.generation seen.text) same alone
 

@@ -11,7 +11,8 @@ use Rattle.guarded_cell.specs.Stops.{AfterStop, FormatStops, HoldsLess, KeepsTex
 -- of guarded_cell
 abbrev pub StillLaw : Type 0
 StillLaw = (first copies : ℕ) (start : Image) (c : Case) → IsSettledOn (λ f. ¬ (IsNoSlot first copies f)) start c
-    → AfterStop first copies (λ damaged image. HoldsLess first copies start image × ((g : ℕ) (text : List ℕ) → KeepsText first copies g text damaged start image)) c
+    → AfterStop first copies (λ damaged image. HoldsLess first copies start image
+    × ((g : ℕ) (text : List ℕ) → KeepsText first copies g text damaged start image)) c
 
 nowhere_pending : (Files : ℕ → Type 0) {image : Image} {c : Case} → IsSettledAt image c → IsSettledOn Files image c
 nowhere_pending Files settled = record {
@@ -24,7 +25,8 @@ module _ (still : StillLaw) (first copies generation : ℕ) (text : List ℕ) wh
   put_still : (start : Image) (c : Case) → IsSettledAt start c → PutStops first copies generation text start c
   put_still start c settled = record {
     slots = λ sound damaged image decays.
-        let left = still first copies start c (nowhere_pending (λ f. ¬ (IsNoSlot first copies f)) settled) sound damaged image decays in
+        let left = still first copies start c (nowhere_pending (λ f. ¬ (IsNoSlot first copies f)) settled) sound damaged
+        image decays in
         record {
           known = λ copy lt g t holds. inl (left.0 copy lt g t holds);
           kept = left.1 generation text;
@@ -36,14 +38,19 @@ module _ (still : StillLaw) (first copies generation : ℕ) (text : List ℕ) wh
   format_still : (start : Image) (c : Case) → IsSettledAt start c → FormatStops first copies generation text start c
   format_still start c settled = record {
     slots = λ sound damaged image decays.
-        inl (still first copies start c (nowhere_pending (λ f. ¬ (IsNoSlot first copies f)) settled) sound damaged image decays).0;
+        inl (still first copies start c (nowhere_pending (λ f. ¬ (IsNoSlot first copies f)) settled) sound damaged image
+        decays).0;
     elsewhere = nowhere_pending (IsNoSlot first copies) settled;
   }
 
   -- a register that was to be written
-  pub unwritten : (told : Bool) (m : Medium) → IsLawful told m → Quiet m → EachCase (PutStops first copies generation text m.image) m m
-  unwritten told m law quiet = goes_none (PutStops first copies generation text m.image) law (λ c now. put_still m.image c (quiet c now))
+  pub unwritten : (told : Bool) (m : Medium) → IsLawful told m → Quiet m
+      → EachCase (PutStops first copies generation text m.image) m m
+  unwritten told m law quiet = goes_none (PutStops first copies generation text m.image) law
+      (λ c now. put_still m.image c (quiet c now))
 
   -- a register that was to be made anew
-  pub unformatted : (told : Bool) (m : Medium) → IsLawful told m → Quiet m → EachCase (FormatStops first copies generation text m.image) m m
-  unformatted told m law quiet = goes_none (FormatStops first copies generation text m.image) law (λ c now. format_still m.image c (quiet c now))
+  pub unformatted : (told : Bool) (m : Medium) → IsLawful told m → Quiet m
+      → EachCase (FormatStops first copies generation text m.image) m m
+  unformatted told m law quiet = goes_none (FormatStops first copies generation text m.image) law
+      (λ c now. format_still m.image c (quiet c now))

@@ -22,19 +22,23 @@ use Rattle.deploy.proofs.InUse.{AgainLaw}
 use Rattle.deploy.proofs.UpdateRow.{states_one}
 
 -- the states that were read are those of the application
-pub states_read : AgainLaw → AloneLaw → (told : Bool) (image : Image) (app : ℕ) (i : Installed) (stored : List Stored) → RootAt told image app (root.Installed i)
+pub states_read : AgainLaw → AloneLaw → (told : Bool) (image : Image) (app : ℕ) (i : Installed) (stored : List Stored)
+    → RootAt told image app (root.Installed i)
     → i.previous ≡ None
-    → (read : IsRead told image (shapes_from app i.bank 0 (map storage_data i.active.deployment.storages)) (map storage_data i.active.deployment.storages) stored)
+    → (read : IsRead told image (shapes_from app i.bank 0 (map storage_data i.active.deployment.storages))
+    (map storage_data i.active.deployment.storages) stored)
     → IsTrue told → (app_at image app).states ≡ read.states
 states_read again alone told image app i stored at none read tells =
     states_one again alone image app i at.memory (at.disk tells) none ∙ read.theirs tells
 
 -- a root in use is so on the same image
-pub root_same : (told : Bool) (old new : Image) (app : ℕ) (r : Root) → new ≡ old → RootAt told old app r → RootAt told new app r
+pub root_same : (told : Bool) (old new : Image) (app : ℕ) (r : Root) → new ≡ old → RootAt told old app r
+    → RootAt told new app r
 root_same told old new app r same at = subst (λ (image : Image). RootAt told image app r) (sym same) at
 
 -- nothing is made of it yet
-pub staged_begun : (told : Bool) (old new : Image) (app : ℕ) (s : Staged) → new ≡ old → app < 8 → RootAt told old app (root.Installed s.root) → s.app ≡ app
+pub staged_begun : (told : Bool) (old new : Image) (app : ℕ) (s : Staged) → new ≡ old → app < 8
+    → RootAt told old app (root.Installed s.root) → s.app ≡ app
     → s.root.previous ≡ None → generation_of s.root.cell < greatest_generation → IsKept s.version
     → AllFit (map storage_data s.version.deployment.storages) s.contents.items → s.built ≡ 0 → StagedAt told new app s
 staged_begun told old new app s same lt at of_app none left kept fit zero =
@@ -50,5 +54,7 @@ staged_begun told old new app s same lt at of_app none left kept fit zero =
         within = omega (arith, zero);
       };
       root_on = at.disk;
-      made = λ tells. subst (λ (n : ℕ). AreMade old (take n (shapes_from app (1 - s.root.bank) 0 (map storage_data s.version.deployment.storages))) (take n s.contents.items)) (sym zero) tt;
+      made = λ tells. subst (λ (n : ℕ). AreMade old (take n
+          (shapes_from app (1 - s.root.bank) 0 (map storage_data s.version.deployment.storages)))
+          (take n s.contents.items)) (sym zero) tt;
     })

@@ -22,7 +22,8 @@ use Rattle.deploy.specs.Roots.{IfKept, IsKept, IsRootOf, IsRootOn, RootAt}
 use Rattle.deploy.proofs.InUse.{AgainLaw, in_use}
 use Rattle.deploy.proofs.InstallRow.{installed_next}
 
-module _ (again : AgainLaw) (alone : AloneLaw) (image : Image) (app : ℕ) (cell : Cell) (of : IsRootOf app (root.Absent cell))
+module _ (again : AgainLaw) (alone : AloneLaw) (image : Image) (app : ℕ) (cell : Cell)
+    (of : IsRootOf app (root.Absent cell))
     (on : IsRootOn image app (root.Absent cell)) where
   pub says_absent : (app_at image app).says ≡ absent (generation_of cell)
   says_absent = ap (λ (a : App). a.says) (in_use again alone image app (root.Absent cell) of on)
@@ -33,24 +34,33 @@ module _ (again : AgainLaw) (alone : AloneLaw) (image : Image) (app : ℕ) (cell
 
   -- it is what the row installs
   pub next_installed : (now : ℕ) (v : Version) (contents : List (List Fresh)) → contents ≡ initial_all now v.deployment
-      → next_app (generation_of cell + 1) 0 v None contents (app_at image app) ≡ installed_app (generation_of cell) now v.deployment
-  next_installed now v contents are = installed_next (generation_of cell) now v contents (app_at image app) no_states are
+      → next_app (generation_of cell + 1) 0 v None contents (app_at image app)
+      ≡ installed_app (generation_of cell) now v.deployment
+  next_installed now v contents are = installed_next (generation_of cell) now v contents (app_at image app) no_states
+      are
 
-  pub comes_later : (now : ℕ) (d : DeploymentData) → IsLater (app_at image app) (installed_app (generation_of cell) now d)
+  pub comes_later : (now : ℕ) (d : DeploymentData) → IsLater (app_at image app)
+      (installed_app (generation_of cell) now d)
   unfolding installed_app
   comes_later now d =
-      let counts : apps.generation_of (app_at image app).says ≡ generation_of cell = ap apps.generation_of says_absent in
+      let counts : apps.generation_of (app_at image app).says ≡ generation_of cell =
+      ap apps.generation_of says_absent in
       next_root (omega (arith, counts))
 
 -- ---- a root that was written is in use
 
-pub root_written : (told : Bool) (image : Image) (app g : ℕ) (i : Installed) → IsCellOf (root_place app) (g + 1) i.cell → i.bank ≤ 1 → IsKept i.active → IfKept i.previous
-    → (IsTrue told → CellAt image i.cell (root_text (text.installed i.bank (version_said i.active) (option_map version_said i.previous))))
+pub root_written : (told : Bool) (image : Image) (app g : ℕ) (i : Installed) → IsCellOf (root_place app) (g + 1) i.cell
+    → i.bank ≤ 1 → IsKept i.active → IfKept i.previous
+    → (IsTrue told → CellAt image i.cell (root_text (text.installed i.bank (version_said i.active)
+    (option_map version_said i.previous))))
     → RootAt told image app (root.Installed i)
 root_written told image app g i of in_bank active previous held =
     let counts : generation_of i.cell ≡ g + 1 = of.counts in
     record {
-      memory = (record { place = of.lies; positive = omega (arith, counts) }, record { in_bank = in_bank; active = active; previous = previous });
+      memory = (
+        record { place = of.lies; positive = omega (arith, counts) },
+        record { in_bank = in_bank; active = active; previous = previous },
+      );
       disk = held;
     }
 

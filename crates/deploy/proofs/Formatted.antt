@@ -1,5 +1,6 @@
 -- Roots that are made anew, one application after another.
-use Rattle.std.proofs.Common.{◌≡◌, ℕ, ◌+◌, ◌<◌, ◌≤◌, List, [], ◌∷◌, Bool, true, length, refl, sym, ap, ◌∙◌, subst, ⊎_elim, inl, inr, arith}
+use Rattle.std.proofs.Common.{◌≡◌, ℕ, ◌+◌, ◌<◌, ◌≤◌, List, [], ◌∷◌, Bool, true, length, refl, sym, ap, ◌∙◌, subst}
+use Rattle.std.proofs.Common.{⊎_elim, inl, inr, arith}
 use Rattle.std.specs.Prelude.{IsTrue, nat_le}
 use Rattle.std.proofs.lemmas.Bool.{cases_eq, cases_lt}
 use Rattle.disk_model.specs.Frame.{IsSettledOn, Spares}
@@ -33,13 +34,16 @@ IsNoRoot file = (app : ℕ) → app < 8 → IsNoRootSlot app file
 
 -- ---- one root
 
-pub formatted : (image : Image) (app : ℕ) (cell : Cell) → IsCellOf (root_place app) 1 cell → CellAt image cell (root_text absent) → IsEmptyRoot image app
-formatted image app cell is at = subst (λ (g : ℕ). IsAlone image (root_place app).first 3 g (root_text absent)) is.counts
+pub formatted : (image : Image) (app : ℕ) (cell : Cell) → IsCellOf (root_place app) 1 cell
+    → CellAt image cell (root_text absent) → IsEmptyRoot image app
+formatted image app cell is at = subst (λ (g : ℕ). IsAlone image (root_place app).first 3 g (root_text absent))
+    is.counts
     (cell_alone image app cell (root_text absent) is.lies at)
 
 -- ---- and the others
 
-module _ (files : RootFilesLaw) (slots : RootSlotsLaw) (frame : AloneFrameLaw) (app : ℕ) (lt : app < 8) (old new : Image)
+module _ (files : RootFilesLaw) (slots : RootSlotsLaw) (frame : AloneFrameLaw) (app : ℕ) (lt : app < 8)
+    (old new : Image)
     (spared : Spares (IsNoSlot (root_place app).first (root_place app).copies) old new) where
   apart : (other f : ℕ) → ¬ (other ≡ app) → (first_file other ≤ f) × (f < first_file other + 12) → IsNoRootFile app f
   apart other f differs of = ⊎_elim
@@ -54,7 +58,8 @@ module _ (files : RootFilesLaw) (slots : RootSlotsLaw) (frame : AloneFrameLaw) (
       → (other : ℕ) → other < n + 1 → IsEmptyRoot new other
   one_more n at were it other small = ⊎_elim
       (λ (same : other ≡ app). subst (λ (a : ℕ). IsEmptyRoot new a) (sym same) it)
-      (λ (differs : ¬ (other ≡ app)). frame other 1 (root_text absent) old new (other_spared other (omega (arith, small, at, lt)) differs)
+      (λ (differs : ¬ (other ≡ app)). frame other 1 (root_text absent) old new
+      (other_spared other (omega (arith, small, at, lt)) differs)
       (were other (below other differs small)))
       (cases_eq other app)
     where
@@ -66,13 +71,15 @@ module _ (files : RootFilesLaw) (slots : RootSlotsLaw) (frame : AloneFrameLaw) (
 pub none_left : (told : Bool) (m : Medium) → IsLawful told m → Leaves told IsNoRoot m m
 none_left told m law = record {
   at_the_end = λ tells f no. refl;
-  throughout = λ tells quiet. goes_none (IsSettledOn IsNoRoot m.image) law (λ c now. settled_here IsNoRoot m.image c (quiet c now));
+  throughout = λ tells quiet. goes_none (IsSettledOn IsNoRoot m.image) law
+      (λ c now. settled_here IsNoRoot m.image c (quiet c now));
 }
 
 pub one_left : (told : Bool) (app : ℕ) → app < 8 → (old mid new : Medium) → Elapses old mid → Elapses mid new
     → Leaves told IsNoRoot old mid → (Quiet old → Quiet mid)
     → (IsTrue told → Spares (IsNoSlot (root_place app).first (root_place app).copies) mid.image new.image)
-    → (IsTrue told → Quiet mid → EachCase (FormatStops (root_place app).first (root_place app).copies 1 (root_text absent) mid.image) mid new)
+    → (IsTrue told → Quiet mid → EachCase (FormatStops (root_place app).first (root_place app).copies 1
+    (root_text absent) mid.image) mid new)
     → Leaves told IsNoRoot old new
 one_left told app lt old mid new first next were still spared stops = record {
   at_the_end = λ tells f no. spared tells f (no app lt) ∙ were.at_the_end tells f no;

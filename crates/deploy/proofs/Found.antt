@@ -1,5 +1,6 @@
 -- What stands in a root's place, by the texts that its copies hold.
-use Rattle.std.proofs.Common.{◌≡◌, ℕ, suc, ◌+◌, ◌≤◌, List, [], ◌∷◌, ◌++◌, Bool, true, false, not, cond, Option, Some, None, find, refl, sym, ap, ◌∙◌, subst, ⊎_elim, arith}
+use Rattle.std.proofs.Common.{◌≡◌, ℕ, suc, ◌+◌, ◌≤◌, List, [], ◌∷◌, ◌++◌, Bool, true, false, not, cond, Option, Some}
+use Rattle.std.proofs.Common.{None, find, refl, sym, ap, ◌∙◌, subst, ⊎_elim, arith}
 use Rattle.std.specs.Prelude.{◌==◌}
 use Rattle.std.specs.List.{All, list_any}
 use Rattle.std.proofs.lemmas.Bool.{cases_Bool, cond-true, cond-false}
@@ -23,18 +24,21 @@ use Rattle.deploy.proofs.InUse.{app_says}
 -- ---- of a list
 
 -- what is found in a list is as all of it
-pub found_is : {X : Type 0} (P : X → Type 0) (test : X → Bool) (xs : List X) (x : X) → find test xs ≡ Some x → All P xs → P x
+pub found_is : {X : Type 0} (P : X → Type 0) (test : X → Bool) (xs : List X) (x : X) → find test xs ≡ Some x → All P xs
+    → P x
 found_is P test [] x e every = absurd cc
 found_is P test (y ∷ ys) x e every = ⊎_elim
     (λ passes. let same : Some y ≡ Some x = sym (cond-true (test y) (Some y) (find test ys) passes) ∙ e in
     let it : y ≡ x = cc in subst P it (every 0 y (omega arith)))
-    (λ fails. found_is P test ys x (sym (cond-false (test y) (Some y) (find test ys) fails) ∙ e) (λ k d lt. every (suc k) d (omega (arith, lt))))
+    (λ fails. found_is P test ys x (sym (cond-false (test y) (Some y) (find test ys) fails) ∙ e)
+    (λ k d lt. every (suc k) d (omega (arith, lt))))
     (cases_Bool (test y))
 
 pub no_first : (seens : List Seen) (found : Option Standing) → found ≡ None → IsAmong seens found → IsAmong seens None
 no_first seens found is among = subst (λ (o : Option Standing). IsAmong seens o) is among
 
-pub is_first : (seens : List Seen) (found : Option Standing) (s : Standing) → found ≡ Some s → IsAmong seens found → IsFirst seens s
+pub is_first : (seens : List Seen) (found : Option Standing) (s : Standing) → found ≡ Some s → IsAmong seens found
+    → IsFirst seens s
 is_first seens found s is among = subst (λ (o : Option Standing). IsAmong seens o) is among
 
 pub is_spelled : (found : Option Standing) (s : Standing) → found ≡ Some s → IfSpelled found → IsSpelled s
@@ -43,14 +47,17 @@ is_spelled found s is spelled = subst IfSpelled is spelled
 -- ---- of an image
 
 -- what is found among the texts that a look at the root's place gave
-pub among_at : (place : Place) (app : ℕ) (image : Image) (seens : List Seen) (found : Option Standing) → place ≡ root_place app
-    → seens ≡ held image place.first place.copies → IsAmong seens found → IsAmong (held image (root_place app).first 3) found
+pub among_at : (place : Place) (app : ℕ) (image : Image) (seens : List Seen) (found : Option Standing)
+    → place ≡ root_place app
+    → seens ≡ held image place.first place.copies → IsAmong seens found
+    → IsAmong (held image (root_place app).first 3) found
 among_at place app image seens found same are among =
     subst (λ (xs : List Seen). IsAmong xs found) (are ∙ ap (λ (p : Place). held image p.first p.copies) same) among
 
 -- of guarded_cell
 abbrev pub AmongLaw : Type 0
-AmongLaw = (image : Image) (first copies m : ℕ) → standing image first copies m ≡ standing_in m (held image first copies)
+AmongLaw = (image : Image) (first copies m : ℕ) → standing image first copies m
+    ≡ standing_in m (held image first copies)
 
 abbrev pub ChoosesLaw : Type 0
 ChoosesLaw = (image : Image) (first copies m : ℕ) → 1 ≤ m → Chooses image first copies m (standing image first copies m)
@@ -72,7 +79,8 @@ module _ (among : AmongLaw) (image : Image) (app : ℕ) where
     found_stands = among image (root_place app).first 3 2 ∙ first.stands
 
     pub found_says : says_at image app ≡ says_by s.seen.generation (Some (root_said s.says))
-    found_says = says_among ∙ ap says_in first.stands ∙ ap (λ (r : Option text.Root). says_by s.seen.generation r) first.said
+    found_says = says_among ∙ ap says_in first.stands ∙ ap (λ (r : Option text.Root). says_by s.seen.generation r)
+        first.said
 
 -- ---- the copies that lack it
 
@@ -98,21 +106,25 @@ others_fail : (test : ℕ → Bool) → others (copies_that test 3) ≡ copies_t
 others_fail test = others_of (test 0) (test 1) (test 2)
 
 lacking_of : (image : Image) (app : ℕ) (r : text.Root) (g : ℕ) (seen : Seen)
-    → lacking_in image app (says_by g (Some r)) (Some seen) ≡ lacking image (root_place app).first 3 seen.generation seen.text
+    → lacking_in image app (says_by g (Some r)) (Some seen)
+    ≡ lacking image (root_place app).first 3 seen.generation seen.text
 lacking_of image app text.absent g seen = refl
 lacking_of image app (text.installed bank active previous) g seen = refl
 
-app_lacking : (image : Image) (app : ℕ) → (app_at image app).lacking ≡ lacking_in image app (says_at image app) (standing image (root_place app).first 3 2)
+app_lacking : (image : Image) (app : ℕ) → (app_at image app).lacking
+    ≡ lacking_in image app (says_at image app) (standing image (root_place app).first 3 2)
 unfolding app_at
 app_lacking image app = refl
 
-module _ (chooses : ChoosesLaw) (image : Image) (app : ℕ) (seen : Seen) (stands : standing image (root_place app).first 3 2 ≡ Some seen) where
+module _ (chooses : ChoosesLaw) (image : Image) (app : ℕ) (seen : Seen)
+    (stands : standing image (root_place app).first 3 2 ≡ Some seen) where
   lacking_is : others seen.copies ≡ lacking image (root_place app).first 3 seen.generation seen.text
   unfolding lacking
   lacking_is = ap others ((chooses image (root_place app).first 3 2 (omega arith)).copies_are seen stands)
       ∙ others_fail (λ copy. holds image (root_place app).first copy (seen.generation, seen.text))
 
-  pub app_lacks : (r : text.Root) → says_at image app ≡ says_by seen.generation (Some r) → (app_at image app).lacking ≡ others seen.copies
+  pub app_lacks : (r : text.Root) → says_at image app ≡ says_by seen.generation (Some r)
+      → (app_at image app).lacking ≡ others seen.copies
   app_lacks r says = app_lacking image app
       ∙ ap (λ (s : Says). lacking_in image app s (standing image (root_place app).first 3 2)) says
       ∙ ap (λ (o : Option Seen). lacking_in image app (says_by seen.generation (Some r)) o) stands
@@ -122,10 +134,13 @@ module _ (chooses : ChoosesLaw) (image : Image) (app : ℕ) (seen : Seen) (stand
 -- ---- what is seen
 
 pub bad_seen : (image : Image) (app : ℕ) → says_at image app ≡ nothing → bad ≡ seen_at image app
-bad_seen image app none = sym (ap (λ (s : Says). seen_by s (app_at image app).lacking (root_settled image app)) (app_says image app ∙ none))
+bad_seen image app none = sym (ap (λ (s : Says). seen_by s (app_at image app).lacking (root_settled image app))
+    (app_says image app ∙ none))
 
-pub root_is_seen : (image : Image) (app : ℕ) (says : Says) (numbers : List ℕ) (settled : Bool) → says_at image app ≡ says
-    → numbers ≡ (app_at image app).lacking → settled ≡ root_settled image app → seen_by says numbers settled ≡ seen_at image app
+pub root_is_seen : (image : Image) (app : ℕ) (says : Says) (numbers : List ℕ) (settled : Bool)
+    → says_at image app ≡ says
+    → numbers ≡ (app_at image app).lacking → settled ≡ root_settled image app
+    → seen_by says numbers settled ≡ seen_at image app
 root_is_seen image app says numbers settled is lacks alone =
     ap (λ (s : Says). seen_by s numbers settled) (sym (app_says image app ∙ is))
     ∙ ap (λ (ns : List ℕ). seen_by (app_at image app).says ns settled) lacks
@@ -137,11 +152,18 @@ root_is_seen image app says numbers settled is lacks alone =
 abbrev pub KeepsLaw : Type 0
 KeepsLaw = (text : List ℕ) (d : DeploymentData) → deployment_in text ≡ Some d → IsDeployment d
 
-pub shows_versions : KeepsLaw → (r : text.Root) → text.IsRoot r → (g : ℕ) (lacking : List ℕ) (settled : Bool) → ShowsVersions (seen_by (says_by g (Some r)) lacking settled)
+pub shows_versions : KeepsLaw → (r : text.Root) → text.IsRoot r → (g : ℕ) (lacking : List ℕ) (settled : Bool)
+    → ShowsVersions (seen_by (says_by g (Some r)) lacking settled)
 shows_versions keeps text.absent is g lacking settled = tt
-shows_versions keeps (text.installed bank active None) is g lacking settled = record { in_bank = is.in_bank; keeps = keeps active.text active.deployment is.of_active }
-shows_versions keeps (text.installed bank active (Some previous)) is g lacking settled = let low = is.in_bank in record {
-  of_active = record { in_bank = is.in_bank; keeps = keeps active.text active.deployment is.of_active };
-  of_previous = record { in_bank = omega (arith, low); keeps = keeps previous.text previous.deployment is.of_previous };
-  apart = refl;
-}
+shows_versions keeps (text.installed bank active None) is g lacking settled =
+    record { in_bank = is.in_bank; keeps = keeps active.text active.deployment is.of_active }
+shows_versions keeps (text.installed bank active (Some previous)) is g lacking settled = let low =
+    is.in_bank in record {
+      of_active = record { in_bank = is.in_bank; keeps = keeps active.text active.deployment is.of_active };
+      of_previous = record {
+        in_bank = omega (arith, low);
+        keeps =
+            keeps previous.text previous.deployment is.of_previous;
+      };
+      apart = refl;
+    }

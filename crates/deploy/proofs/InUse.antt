@@ -14,7 +14,8 @@ use Rattle.root_text.specs.declared.versions.VersionText.{VersionText}
 use Rattle.root_text.specs.RootText.{IsRoot, IfVersion, root_of, root_text}
 use Rattle.root_text.specs.RootText as text
 use Rattle.root_text.specs.Views.{version_said}
-use Rattle.deploy_laws.specs.Apps.{AreClean, AreVersions, App, IsCleanApp, Says, app_at, installed, lacking_in, named, nothing, says_at, says_by, shapes_named}
+use Rattle.deploy_laws.specs.Apps.{AreClean, AreVersions, App, IsCleanApp, Says, app_at, installed, lacking_in, named}
+use Rattle.deploy_laws.specs.Apps.{nothing, says_at, says_by, shapes_named}
 use Rattle.deploy_laws.specs.Laws.{AloneCleanLaw, AloneLaw, RootAloneLaw, RootSlotsLaw, VersionsLaw}
 use Rattle.deploy_laws.specs.Places.{IsNoRootFile, Named, root_place}
 use Rattle.deploy.specs.declared.roots.Installed as parts
@@ -33,25 +34,35 @@ if_version None kept = tt
 if_version (Some v) kept = kept.said
 
 pub parts_are_root : (i : parts.Installed) → AreParts i → IsRoot (text_of i)
-parts_are_root i are = record { in_bank = are.in_bank; of_active = are.active.said; of_previous = if_version i.previous are.previous }
+parts_are_root i are = record {
+  in_bank = are.in_bank;
+  of_active = are.active.said;
+  of_previous =
+      if_version i.previous are.previous;
+}
 
 previous_named : (bank : ℕ) (previous : Option VersionText)
-    → option_map (named (1 - bank)) (option_map version_said previous) ≡ option_map (λ v. named (1 - bank) (version_said v)) previous
+    → option_map (named (1 - bank)) (option_map version_said previous)
+    ≡ option_map (λ v. named (1 - bank) (version_said v)) previous
 previous_named bank None = refl
 previous_named bank (Some v) = refl
 
 pub parts_say : (i : parts.Installed) → says_by (generation_of i.cell) (Some (text_of i)) ≡ root_says (Installed i)
-parts_say i = ap (λ (p : Option Named). installed (generation_of i.cell) (named i.bank (version_said i.active)) p) (previous_named i.bank i.previous)
+parts_say i = ap (λ (p : Option Named). installed (generation_of i.cell) (named i.bank (version_said i.active)) p)
+    (previous_named i.bank i.previous)
 
 -- ---- where it lies
 
-pub cell_alone : (image : Image) (app : ℕ) (cell : Cell) (t : List ℕ) → place_of cell ≡ root_place app → CellAt image cell t
+pub cell_alone : (image : Image) (app : ℕ) (cell : Cell) (t : List ℕ) → place_of cell ≡ root_place app
+    → CellAt image cell t
     → IsAlone image (root_place app).first 3 (generation_of cell) t
-cell_alone image app cell t lies at = subst (λ (p : Place). IsAlone image p.first p.copies (generation_of cell) t) lies at
+cell_alone image app cell t lies at = subst (λ (p : Place). IsAlone image p.first p.copies (generation_of cell) t) lies
+    at
 
 pub alone_cell : (image : Image) (app : ℕ) (cell : Cell) (t : List ℕ) → place_of cell ≡ root_place app
     → IsAlone image (root_place app).first 3 (generation_of cell) t → CellAt image cell t
-alone_cell image app cell t lies at = subst (λ (p : Place). IsAlone image p.first p.copies (generation_of cell) t) (sym lies) at
+alone_cell image app cell t lies at = subst (λ (p : Place). IsAlone image p.first p.copies (generation_of cell) t)
+    (sym lies) at
 
 -- ---- what the image says
 
@@ -79,14 +90,18 @@ module _ (again : AgainLaw) (alone : AloneLaw) (image : Image) (app : ℕ) where
   -- a root's text that is held alone
   pub held_app : (g : ℕ) (r : text.Root) → IsRoot r → IsAlone image (root_place app).first 3 g (root_text r)
       → app_at image app ≡ app_that image app (says_by g (Some r))
-  held_app g r is held = alone app g (root_text r) image held ∙ ap (λ (o : Option text.Root). app_that image app (says_by g o)) (again r is)
+  held_app g r is held = alone app g (root_text r) image held
+      ∙ ap (λ (o : Option text.Root). app_that image app (says_by g o)) (again r is)
 
   -- a root in use
-  pub in_use : (root : Root) → IsRootOf app root → IsRootOn image app root → app_at image app ≡ app_that image app (root_says root)
+  pub in_use : (root : Root) → IsRootOf app root → IsRootOn image app root
+      → app_at image app ≡ app_that image app (root_says root)
   in_use Bad of on = bad_app image app on
-  in_use (Absent cell) of on = held_app (generation_of cell) text.absent tt (cell_alone image app cell (root_text text.absent) of.place on)
+  in_use (Absent cell) of on = held_app (generation_of cell) text.absent tt
+      (cell_alone image app cell (root_text text.absent) of.place on)
   in_use (Installed i) of on =
-      held_app (generation_of i.cell) (text_of i) (parts_are_root i of.1) (cell_alone image app i.cell (root_text (text_of i)) of.0.place on)
+      held_app (generation_of i.cell) (text_of i) (parts_are_root i of.1)
+      (cell_alone image app i.cell (root_text (text_of i)) of.0.place on)
       ∙ ap (λ (s : Says). app_that image app s) (parts_say i)
 
   pub in_use_says : (root : Root) → IsRootOf app root → IsRootOn image app root → says_at image app ≡ root_says root
@@ -94,14 +109,17 @@ module _ (again : AgainLaw) (alone : AloneLaw) (image : Image) (app : ℕ) where
 
 -- ---- the root is written
 
-module _ (again : AgainLaw) (alone : AloneLaw) (versions : VersionsLaw) (slots : RootSlotsLaw) (aside : RootAloneLaw) (clean : AloneCleanLaw)
-    (app g : ℕ) (r : text.Root) (old new : Image) (lt : app < 8) (is : IsRoot r) (spared : Spares (IsNoSlot (root_place app).first 3) old new)
+module _ (again : AgainLaw) (alone : AloneLaw) (versions : VersionsLaw) (slots : RootSlotsLaw) (aside : RootAloneLaw)
+    (clean : AloneCleanLaw)
+    (app g : ℕ) (r : text.Root) (old new : Image) (lt : app < 8) (is : IsRoot r)
+    (spared : Spares (IsNoSlot (root_place app).first 3) old new)
     (held : IsAlone new (root_place app).first 3 g (root_text r)) where
   abbrev pub next : Says
   next = says_by g (Some r)
 
   next_versions : AreVersions next
-  next_versions = subst AreVersions (sym (app_says new app) ∙ ap (λ (a : App). a.says) (held_app again alone new app g r is held)) (versions new app)
+  next_versions = subst AreVersions (sym (app_says new app)
+      ∙ ap (λ (a : App). a.says) (held_app again alone new app g r is held)) (versions new app)
 
   -- only files of the root changed
   pub root_spared : Spares (IsNoRootFile app) old new
@@ -110,7 +128,9 @@ module _ (again : AgainLaw) (alone : AloneLaw) (versions : VersionsLaw) (slots :
   -- the application is what the root says, and its storages are as they were
   pub written_app : app_at new app ≡ app_that old app next
   written_app = held_app again alone new app g r is held
-      ∙ ap (λ (states : List State). record { says = next; lacking = []; states = states }) (aside app next old new lt next_versions root_spared).0
+      ∙ ap (λ (states : List State). record { says = next; lacking = []; states = states })
+      (aside app next old new lt next_versions root_spared).0
 
   pub written_clean : AreClean old (shapes_named app next) → IsCleanApp app new
-  written_clean were = clean app g (root_text r) r new held (again r is) ((aside app next old new lt next_versions root_spared).1 were)
+  written_clean were = clean app g (root_text r) r new held (again r is)
+      ((aside app next old new lt next_versions root_spared).1 were)

@@ -19,9 +19,11 @@ use Rattle.deploy.specs.Next.{next_app}
 use Rattle.deploy.specs.Roots.{root_app}
 
 by_says : (now g : ℕ) (text lacking : List ℕ) (states : List State) (s : Says) → s ≡ absent g
-    → installing now text (record { says = s; lacking = lacking; states = states }) ≡ (deployment_of text >>= (λ d. not_worn g (Ok (installed_app g now d))))
+    → installing now text (record { says = s; lacking = lacking; states = states })
+    ≡ (deployment_of text >>= (λ d. not_worn g (Ok (installed_app g now d))))
 unfolding installing
-by_says now g text lacking states s is = subst (λ (t : Says). installing now text (record { says = t; lacking = lacking; states = states })
+by_says now g text lacking states s is = subst (λ (t : Says).
+    installing now text (record { says = t; lacking = lacking; states = states })
     ≡ (deployment_of text >>= (λ d. not_worn g (Ok (installed_app g now d))))) (sym is) refl
 
 pub install_row : (now g : ℕ) (text : List ℕ) (a : App) → a.says ≡ absent g
@@ -30,11 +32,14 @@ install_row now g text a is = by_says now g text a.lacking a.states a.says is
 
 -- ---- whether a generation is left
 
-pub worn : {A : Type 0} (g : ℕ) (x : Result A PerError) → greatest_generation ≤ g → not_worn g x ≡ Err (error.LimitReached limit.Generations)
-worn {A} g x le = ap (λ (b : Bool). cond b (Err (error.LimitReached limit.Generations)) x) (le-leb greatest_generation g le)
+pub worn : {A : Type 0} (g : ℕ) (x : Result A PerError) → greatest_generation ≤ g
+    → not_worn g x ≡ Err (error.LimitReached limit.Generations)
+worn {A} g x le = ap (λ (b : Bool). cond b (Err (error.LimitReached limit.Generations)) x)
+    (le-leb greatest_generation g le)
 
 pub left : {A : Type 0} (g : ℕ) (x : Result A PerError) → g < greatest_generation → not_worn g x ≡ x
-left {A} g x lt = ap (λ (b : Bool). cond b (Err (error.LimitReached limit.Generations)) x) (lt-leb greatest_generation g lt)
+left {A} g x lt = ap (λ (b : Bool). cond b (Err (error.LimitReached limit.Generations)) x)
+    (lt-leb greatest_generation g lt)
 
 -- ---- the ways that it goes
 
@@ -43,28 +48,41 @@ module _ (now g : ℕ) (text : List ℕ) (a : App) (is : a.says ≡ absent g) wh
   rejected e refusal = install_row now g text a is
       ∙ ap (λ (r : Result DeploymentData PerError). r >>= (λ d. not_worn g (Ok (installed_app g now d)))) refusal
 
-  pub worn_out : (d : DeploymentData) → deployment_of text ≡ Ok d → greatest_generation ≤ g → installing now text a ≡ Err (error.LimitReached limit.Generations)
+  pub worn_out : (d : DeploymentData) → deployment_of text ≡ Ok d → greatest_generation ≤ g
+      → installing now text a ≡ Err (error.LimitReached limit.Generations)
   worn_out d said le = install_row now g text a is
-      ∙ ap (λ (r : Result DeploymentData PerError). r >>= (λ d. not_worn g (Ok (installed_app g now d)))) said ∙ worn g (Ok (installed_app g now d)) le
+      ∙ ap (λ (r : Result DeploymentData PerError). r >>= (λ d. not_worn g (Ok (installed_app g now d)))) said
+      ∙ worn g (Ok (installed_app g now d)) le
 
-  pub installs : (d : DeploymentData) → deployment_of text ≡ Ok d → g < greatest_generation → installing now text a ≡ Ok (installed_app g now d)
+  pub installs : (d : DeploymentData) → deployment_of text ≡ Ok d → g < greatest_generation
+      → installing now text a ≡ Ok (installed_app g now d)
   installs d said lt = install_row now g text a is
-      ∙ ap (λ (r : Result DeploymentData PerError). r >>= (λ d. not_worn g (Ok (installed_app g now d)))) said ∙ left g (Ok (installed_app g now d)) lt
+      ∙ ap (λ (r : Result DeploymentData PerError). r >>= (λ d. not_worn g (Ok (installed_app g now d)))) said
+      ∙ left g (Ok (installed_app g now d)) lt
 
 -- what is installed is the next version, where nothing was
-pub installed_next : (g now : ℕ) (v : Version) (contents : List (List Fresh)) (a : App) → a.states ≡ [] → contents ≡ initial_all now v.deployment
+pub installed_next : (g now : ℕ) (v : Version) (contents : List (List Fresh)) (a : App) → a.states ≡ []
+    → contents ≡ initial_all now v.deployment
     → next_app (g + 1) 0 v None contents a ≡ installed_app g now v.deployment
 unfolding installed_app
 installed_next g now v contents a none are =
-    ap (λ (states : List State). record { says = (next_app (g + 1) 0 v None contents a).says; lacking = []; states = states })
-    (ap (λ (states : List State). made_states contents ++ states) none ∙ append-nil (made_states contents) ∙ ap made_states are)
+    ap (λ (states : List State). record {
+      says = (next_app (g + 1) 0 v None contents a).says;
+      lacking = [];
+      states =
+          states;
+    })
+    (ap (λ (states : List State). made_states contents ++ states) none ∙ append-nil (made_states contents)
+    ∙ ap made_states are)
 
 -- ---- over another root
 
-pub over_bad : (now : ℕ) (text : List ℕ) → installing now text (root_app root.Bad []) ≡ Err (error.IntegrityCorrupted unit.Root)
+pub over_bad : (now : ℕ) (text : List ℕ) → installing now text (root_app root.Bad [])
+    ≡ Err (error.IntegrityCorrupted unit.Root)
 unfolding installing
 over_bad now text = refl
 
-pub over_installed : (now : ℕ) (text : List ℕ) (i : Installed) → installing now text (root_app (root.Installed i) []) ≡ Err error.AlreadyInstalled
+pub over_installed : (now : ℕ) (text : List ℕ) (i : Installed)
+    → installing now text (root_app (root.Installed i) []) ≡ Err error.AlreadyInstalled
 unfolding installing
 over_installed now text i = refl

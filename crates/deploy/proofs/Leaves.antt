@@ -16,14 +16,16 @@ settled_all Files settled = record {
   left = λ f is. ap (λ (i : Image). i f) settled.left;
 }
 
-settled_since : {Files : ℕ → Type 0} {old new : Image} {c : Case} → Spares Files old new → IsSettledOn Files new c → IsSettledOn Files old c
+settled_since : {Files : ℕ → Type 0} {old new : Image} {c : Case} → Spares Files old new → IsSettledOn Files new c
+    → IsSettledOn Files old c
 settled_since same settled = record {
   base = λ f is. settled.base f is ∙ same f is;
   full = λ f is. settled.full f is ∙ same f is;
   left = λ f is. settled.left f is ∙ same f is;
 }
 
-settled_fewer : {Files Fewer : ℕ → Type 0} {image : Image} {c : Case} → ((f : ℕ) → Fewer f → Files f) → IsSettledOn Files image c → IsSettledOn Fewer image c
+settled_fewer : {Files Fewer : ℕ → Type 0} {image : Image} {c : Case} → ((f : ℕ) → Fewer f → Files f)
+    → IsSettledOn Files image c → IsSettledOn Fewer image c
 settled_fewer less settled = record {
   base = λ f is. settled.base f (less f is);
   full = λ f is. settled.full f (less f is);
@@ -40,7 +42,8 @@ leaves_none told Files m law = record {
 }
 
 -- so do calls one after another, where the first ones end quiet
-pub leaves_on : (told : Bool) (Files : ℕ → Type 0) (old mid new : Medium) → Elapses old mid → Elapses mid new → (Quiet old → Quiet mid)
+pub leaves_on : (told : Bool) (Files : ℕ → Type 0) (old mid new : Medium) → Elapses old mid → Elapses mid new
+    → (Quiet old → Quiet mid)
     → Leaves told Files old mid → Leaves told Files mid new → Leaves told Files old new
 leaves_on told Files old mid new first next quiets was now = record {
   at_the_end = λ tells f is. now.at_the_end tells f is ∙ was.at_the_end tells f is;
@@ -49,7 +52,8 @@ leaves_on told Files old mid new first next quiets was now = record {
 }
 
 -- what is left alone of many files is so of fewer
-pub leaves_less : (told : Bool) (Files Fewer : ℕ → Type 0) (old new : Medium) → ((f : ℕ) → Fewer f → Files f) → Leaves told Files old new
+pub leaves_less : (told : Bool) (Files Fewer : ℕ → Type 0) (old new : Medium) → ((f : ℕ) → Fewer f → Files f)
+    → Leaves told Files old new
     → Leaves told Fewer old new
 leaves_less told Files Fewer old new less leaves = record {
   at_the_end = λ tells f is. leaves.at_the_end tells f (less f is);

@@ -1,5 +1,7 @@
 -- Rows that leave one version, or none.
-use Rattle.std.proofs.Common.{◌≡◌, ℕ, suc, ◌+◌, ◌-◌, ◌<◌, ◌≤◌, List, [], ◌∷◌, ◌++◌, length, map, take, drop, Bool, true, false, cond, Option, Some, None, IfNone, is_some, option_map, Result, Ok, Err, refl, sym, ap, ◌∙◌, subst, arith}
+use Rattle.std.proofs.Common.{◌≡◌, ℕ, suc, ◌+◌, ◌-◌, ◌<◌, ◌≤◌, List, [], ◌∷◌, ◌++◌, length, map, take, drop, Bool, true}
+use Rattle.std.proofs.Common.{false, cond, Option, Some, None, IfNone, is_some, option_map, Result, Ok, Err, refl, sym}
+use Rattle.std.proofs.Common.{ap, ◌∙◌, subst, arith}
 use Rattle.std.proofs.lemmas.Bool.{le-leb, lt-leb}
 use Rattle.per_base.specs.declared.errors.PerError.{PerError}
 use Rattle.per_base.specs.declared.errors.PerError.TheVariants as error
@@ -24,23 +26,28 @@ use Rattle.deploy.specs.declared.roots.Installed as parts
 use Rattle.deploy.specs.declared.roots.Outcome.{Outcome}
 use Rattle.deploy.specs.declared.roots.Root.{Root}
 use Rattle.deploy.specs.declared.roots.Root.TheVariants.{Bad, Absent, Installed}
-use Rattle.deploy.specs.Leaving.{IfRegister, IsEmptied, IsLone, IsRefused, IsRegister, Leads, app_saying, empty_says, refused_or, register_of}
+use Rattle.deploy.specs.Leaving.{IfRegister, IsEmptied, IsLone, IsRefused, IsRegister, Leads, app_saying, empty_says}
+use Rattle.deploy.specs.Leaving.{refused_or, register_of}
 use Rattle.deploy.specs.Roots.{AreParts, previous_text, root_app, root_says, texts_in}
 
 -- ---- generations
 
-pub worn : (g : ℕ) (x : Result App PerError) → greatest_generation ≤ g → not_worn g x ≡ Err (error.LimitReached limit.Generations)
+pub worn : (g : ℕ) (x : Result App PerError) → greatest_generation ≤ g
+    → not_worn g x ≡ Err (error.LimitReached limit.Generations)
 worn g x le = ap (λ (b : Bool). cond b (Err (error.LimitReached limit.Generations)) x) (le-leb greatest_generation g le)
 
 pub not_yet_worn : (g : ℕ) (x : Result App PerError) → g < greatest_generation → not_worn g x ≡ x
-not_yet_worn g x lt = ap (λ (b : Bool). cond b (Err (error.LimitReached limit.Generations)) x) (lt-leb greatest_generation g lt)
+not_yet_worn g x lt = ap (λ (b : Bool). cond b (Err (error.LimitReached limit.Generations)) x)
+    (lt-leb greatest_generation g lt)
 
 -- ---- the storages of one of two versions
 
 first_states : (image : Image) (app bank n : ℕ) (ss : List StorageData) (more : List Shape)
-    → take (length ss) (map (store_at image) (shapes_from app bank n ss ++ more)) ≡ map (store_at image) (shapes_from app bank n ss ++ [])
+    → take (length ss) (map (store_at image) (shapes_from app bank n ss ++ more))
+    ≡ map (store_at image) (shapes_from app bank n ss ++ [])
 first_states image app bank n [] more = refl
-first_states image app bank n (s ∷ ss) more = ap (λ (states : List State). store_at image (shape_of app bank n s) ∷ states) (first_states image app bank (suc n) ss more)
+first_states image app bank n (s ∷ ss) more = ap (λ (states : List State). store_at image (shape_of app bank n s)
+    ∷ states) (first_states image app bank (suc n) ss more)
 
 append_none : (shapes : List Shape) → shapes ++ [] ≡ shapes
 append_none [] = refl
@@ -48,10 +55,12 @@ append_none (shape ∷ shapes) = ap (λ (more : List Shape). shape ∷ more) (ap
 
 last_states : (image : Image) (app bank n : ℕ) (ss : List StorageData) (more : List Shape)
     → drop (length ss) (map (store_at image) (shapes_from app bank n ss ++ more)) ≡ map (store_at image) (more ++ [])
-last_states image app bank n [] more = ap (λ (shapes : List Shape). map (store_at image) shapes) (sym (append_none more))
+last_states image app bank n [] more = ap (λ (shapes : List Shape). map (store_at image) shapes)
+    (sym (append_none more))
 last_states image app bank n (s ∷ ss) more = last_states image app bank (suc n) ss more
 
-first_clean : (image : Image) (shapes more : List Shape) → AreClean image (shapes ++ more) → AreClean image (shapes ++ [])
+first_clean : (image : Image) (shapes more : List Shape) → AreClean image (shapes ++ more)
+    → AreClean image (shapes ++ [])
 first_clean image [] more all = tt
 first_clean image (shape ∷ shapes) more all = (all.0, first_clean image shapes more all.1)
 
@@ -65,34 +74,57 @@ module _ (g : ℕ) (active previous : Named) (left : g < greatest_generation) wh
   abbrev both : Says
   both = installed g active (Some previous)
 
-  finish_row : (image : Image) (app : ℕ) → finishing (app_saying image app both) ≡ Ok (app_saying image app (installed (g + 1) active None))
+  finish_row : (image : Image) (app : ℕ) → finishing (app_saying image app both)
+      ≡ Ok (app_saying image app (installed (g + 1) active None))
   unfolding finishing shapes_named
   finish_row image app = not_yet_worn g _ left
-      ∙ ap (λ (states : List State). Ok (record { says = installed (g + 1) active None; lacking = []; states = states }))
+      ∙ ap (λ (states : List State). Ok (record {
+        says = installed (g + 1) active None;
+        lacking = [];
+        states =
+            states;
+      }))
       (first_states image app active.bank 0 active.deployment.storages (shapes_in app previous))
 
-  finish_clean : (image : Image) (app : ℕ) → AreClean image (shapes_named app both) → AreClean image (shapes_named app (installed (g + 1) active None))
+  finish_clean : (image : Image) (app : ℕ) → AreClean image (shapes_named app both)
+      → AreClean image (shapes_named app (installed (g + 1) active None))
   unfolding shapes_named
   finish_clean image app all = first_clean image (shapes_in app active) (shapes_in app previous) all
 
   finish_leads : Leads finishing both (installed (g + 1) active None)
   finish_leads = record { row_is = finish_row; clean = finish_clean }
 
-  rollback_row : (image : Image) (app : ℕ) → rolling_back None (app_saying image app both) ≡ Ok (app_saying image app (installed (g + 1) previous None))
+  rollback_row : (image : Image) (app : ℕ) → rolling_back None (app_saying image app both)
+      ≡ Ok (app_saying image app (installed (g + 1) previous None))
   unfolding rolling_back shapes_named
   rollback_row image app = not_yet_worn g _ left
-      ∙ ap (λ (states : List State). Ok (record { says = installed (g + 1) previous None; lacking = []; states = states }))
+      ∙ ap (λ (states : List State). Ok (record {
+        says = installed (g + 1) previous None;
+        lacking = [];
+        states =
+            states;
+      }))
       (last_states image app active.bank 0 active.deployment.storages (shapes_in app previous))
 
-  rollback_clean : (image : Image) (app : ℕ) → AreClean image (shapes_named app both) → AreClean image (shapes_named app (installed (g + 1) previous None))
+  rollback_clean : (image : Image) (app : ℕ) → AreClean image (shapes_named app both)
+      → AreClean image (shapes_named app (installed (g + 1) previous None))
   unfolding shapes_named
   rollback_clean image app all = last_clean image (shapes_in app active) (shapes_in app previous) all
 
   rollback_leads : Leads (rolling_back None) both (installed (g + 1) previous None)
   rollback_leads = record { row_is = rollback_row; clean = rollback_clean }
 
-installed_register : (i : parts.Installed) → generation_of i.cell < greatest_generation → IsRegister (Installed i) i.cell
-installed_register i left = record { of_root = λ app of. of.0; held = λ image app on. (root_text (text.installed i.bank (version_said i.active) (option_map version_said i.previous)), on); left = left }
+installed_register : (i : parts.Installed) → generation_of i.cell < greatest_generation
+    → IsRegister (Installed i) i.cell
+installed_register i left = record {
+  of_root = λ app of. of.0;
+  held =
+      λ image app on. (
+        root_text (text.installed i.bank (version_said i.active) (option_map version_said i.previous)),
+        on,
+      );
+  left = left;
+}
 
 module _ (cell : Cell) (bank : ℕ) (active : VersionText) where
   abbrev parts_with : Option VersionText → parts.Installed
@@ -104,79 +136,122 @@ module _ (cell : Cell) (bank : ℕ) (active : VersionText) where
   abbrev only_previous : VersionText → Lone
   only_previous v = record { cell = cell; bank = 1 - bank; version = v }
 
-  pub finish_lone : (previous : Option VersionText) → is_some previous ≡ true → AreParts (parts_with previous) → generation_of cell < greatest_generation
+  pub finish_lone : (previous : Option VersionText) → is_some previous ≡ true → AreParts (parts_with previous)
+      → generation_of cell < greatest_generation
       → IsLone finishing (Installed (parts_with previous)) only_active
   finish_lone None some are left = absurd cc
   finish_lone (Some v) some are left = record {
     register = installed_register (parts_with (Some v)) left;
     in_bank = are.in_bank;
     kept = are.active;
-    leads = finish_leads (generation_of cell) (named bank (version_said active)) (named (1 - bank) (version_said v)) left;
+    leads = finish_leads (generation_of cell) (named bank (version_said active)) (named (1 - bank) (version_said v))
+        left;
   }
 
-  pub first_text : (previous : Option VersionText) → active.text ∷ [] ≡ take 1 (texts_in (Installed (parts_with previous)))
+  pub first_text : (previous : Option VersionText) → active.text ∷ []
+      ≡ take 1 (texts_in (Installed (parts_with previous)))
   first_text None = refl
   first_text (Some v) = refl
 
-  pub last_text : (previous : Option VersionText) (v : VersionText) → previous ≡ Some v → v.text ∷ [] ≡ drop 1 (texts_in (Installed (parts_with previous)))
+  pub last_text : (previous : Option VersionText) (v : VersionText) → previous ≡ Some v
+      → v.text ∷ [] ≡ drop 1 (texts_in (Installed (parts_with previous)))
   last_text previous v some = sym (ap previous_text some)
 
   pub finish_none : (previous : Option VersionText) (o : Outcome) → is_some previous ≡ false
-      → o ≡ record { root = Installed (parts_with previous); refused = Some error.NoPreviousVersion } → IsRefused finishing (Installed (parts_with previous)) o
+      → o ≡ record { root = Installed (parts_with previous); refused = Some error.NoPreviousVersion }
+      → IsRefused finishing (Installed (parts_with previous)) o
   unfolding finishing
-  finish_none None o none is = record { same = ap (λ (x : Outcome). x.root) is; refusal = (error.NoPreviousVersion, ap (λ (x : Outcome). x.refused) is, refl) }
+  finish_none None o none is = record {
+    same = ap (λ (x : Outcome). x.root) is;
+    refusal =
+        (error.NoPreviousVersion, ap (λ (x : Outcome). x.refused) is, refl);
+  }
   finish_none (Some v) o none is = absurd cc
 
-  pub finish_worn : (previous : Option VersionText) (o : Outcome) (e : PerError) → is_some previous ≡ true → greatest_generation ≤ generation_of cell
-      → e ≡ error.LimitReached limit.Generations → o ≡ record { root = Installed (parts_with previous); refused = Some e }
+  pub finish_worn : (previous : Option VersionText) (o : Outcome) (e : PerError) → is_some previous ≡ true
+      → greatest_generation ≤ generation_of cell
+      → e ≡ error.LimitReached limit.Generations → o ≡ record {
+        root = Installed (parts_with previous);
+        refused =
+            Some e;
+      }
       → IsRefused finishing (Installed (parts_with previous)) o
   unfolding finishing
   finish_worn None o e some le e_is is = absurd cc
   finish_worn (Some v) o e some le e_is is = record {
     same = ap (λ (x : Outcome). x.root) is;
-    refusal = (e, ap (λ (x : Outcome). x.refused) is, worn (generation_of cell) _ le ∙ ap (λ (x : PerError). Err x) (sym e_is));
+    refusal = (
+      e,
+      ap (λ (x : Outcome). x.refused) is,
+      worn (generation_of cell) _ le
+          ∙ ap (λ (x : PerError). Err x) (sym e_is),
+    );
   }
 
   -- where there is a previous version, a rollback is refused while a storage is open and where no generation is left
   module _ (busy : Option (List ℕ)) (g : ℕ) (counts : g ≡ generation_of cell) (refused : Option PerError)
       (row : (x : Result App PerError) → not_busy busy (not_worn g x) ≡ refused_or refused x) where
-    row_at : (now : Option PerError) → refused ≡ now → (x : Result App PerError) → not_busy busy (not_worn (generation_of cell) x) ≡ refused_or now x
-    row_at now is x = subst (λ (n : ℕ). not_busy busy (not_worn n x) ≡ refused_or now x) counts (row x ∙ ap (λ (o : Option PerError). refused_or o x) is)
+    row_at : (now : Option PerError) → refused ≡ now → (x : Result App PerError)
+        → not_busy busy (not_worn (generation_of cell) x) ≡ refused_or now x
+    row_at now is x = subst (λ (n : ℕ). not_busy busy (not_worn n x) ≡ refused_or now x) counts
+        (row x ∙ ap (λ (o : Option PerError). refused_or o x) is)
 
-    left_at : (now : Option PerError) → now ≡ None → IfNone now (g < greatest_generation) → generation_of cell < greatest_generation
+    left_at : (now : Option PerError) → now ≡ None → IfNone now (g < greatest_generation)
+        → generation_of cell < greatest_generation
     left_at None is left = subst (λ (n : ℕ). n < greatest_generation) counts left
     left_at (Some e) is left = absurd cc
 
-    lone_if : (storage : Option (List ℕ)) (v : VersionText) → ((x : Result App PerError) → not_busy storage (not_worn (generation_of cell) x) ≡ x)
-        → AreParts (parts_with (Some v)) → generation_of cell < greatest_generation → IsLone (rolling_back storage) (Installed (parts_with (Some v))) (only_previous v)
+    lone_if : (storage : Option (List ℕ)) (v : VersionText)
+        → ((x : Result App PerError) → not_busy storage (not_worn (generation_of cell) x) ≡ x)
+        → AreParts (parts_with (Some v)) → generation_of cell < greatest_generation
+        → IsLone (rolling_back storage) (Installed (parts_with (Some v))) (only_previous v)
     lone_if None v so are left = record {
       register = installed_register (parts_with (Some v)) left;
       in_bank = omega arith;
       kept = are.previous;
-      leads = rollback_leads (generation_of cell) (named bank (version_said active)) (named (1 - bank) (version_said v)) left;
+      leads = rollback_leads (generation_of cell) (named bank (version_said active)) (named (1 - bank) (version_said v))
+          left;
     }
     lone_if (Some name) v so are left = absurd (let e = so (Ok (empty_app 0)) in cc)
 
-    pub rollback_lone : (previous : Option VersionText) (v : VersionText) → previous ≡ Some v → refused ≡ None → IfNone refused (g < greatest_generation)
-        → AreParts (parts_with previous) → IsLone (rolling_back busy) (Installed (parts_with previous)) (only_previous v)
-    rollback_lone previous v some none left are = subst (λ (p : Option VersionText). IsLone (rolling_back busy) (Installed (parts_with p)) (only_previous v)) (sym some)
-        (lone_if busy v (row_at None none) (subst (λ (p : Option VersionText). AreParts (parts_with p)) some are) (left_at refused none left))
+    pub rollback_lone : (previous : Option VersionText) (v : VersionText) → previous ≡ Some v → refused ≡ None
+        → IfNone refused (g < greatest_generation)
+        → AreParts (parts_with previous) → IsLone (rolling_back busy) (Installed (parts_with previous))
+        (only_previous v)
+    rollback_lone previous v some none left are = subst (λ (p : Option VersionText).
+        IsLone (rolling_back busy) (Installed (parts_with p)) (only_previous v)) (sym some)
+        (lone_if busy v (row_at None none) (subst (λ (p : Option VersionText). AreParts (parts_with p)) some are)
+        (left_at refused none left))
 
-    pub rollback_refused : (previous : Option VersionText) (v : VersionText) (e : PerError) (o : Outcome) → previous ≡ Some v → refused ≡ Some e
-        → o ≡ record { root = Installed (parts_with (Some v)); refused = Some e } → IsRefused (rolling_back busy) (Installed (parts_with previous)) o
+    pub rollback_refused : (previous : Option VersionText) (v : VersionText) (e : PerError) (o : Outcome)
+        → previous ≡ Some v → refused ≡ Some e
+        → o ≡ record { root = Installed (parts_with (Some v)); refused = Some e }
+        → IsRefused (rolling_back busy) (Installed (parts_with previous)) o
     unfolding rolling_back
-    rollback_refused previous v e o some is made = subst (λ (p : Option VersionText). IsRefused (rolling_back busy) (Installed (parts_with p)) o) (sym some)
-        (record { same = ap (λ (x : Outcome). x.root) made; refusal = (e, ap (λ (x : Outcome). x.refused) made, row_at (Some e) is _) })
+    rollback_refused previous v e o some is made = subst
+        (λ (p : Option VersionText). IsRefused (rolling_back busy) (Installed (parts_with p)) o) (sym some)
+        (record {
+          same = ap (λ (x : Outcome). x.root) made;
+          refusal =
+              (e, ap (λ (x : Outcome). x.refused) made, row_at (Some e) is _);
+        })
 
   pub rollback_none : (busy : Option (List ℕ)) (previous : Option VersionText) (o : Outcome) → previous ≡ None
-      → o ≡ record { root = Installed (parts_with None); refused = Some error.NoPreviousVersion } → IsRefused (rolling_back busy) (Installed (parts_with previous)) o
+      → o ≡ record { root = Installed (parts_with None); refused = Some error.NoPreviousVersion }
+      → IsRefused (rolling_back busy) (Installed (parts_with previous)) o
   unfolding rolling_back
-  rollback_none busy previous o none is = subst (λ (p : Option VersionText). IsRefused (rolling_back busy) (Installed (parts_with p)) o) (sym none)
-      (record { same = ap (λ (x : Outcome). x.root) is; refusal = (error.NoPreviousVersion, ap (λ (x : Outcome). x.refused) is, refl) })
+  rollback_none busy previous o none is = subst (λ (p : Option VersionText).
+      IsRefused (rolling_back busy) (Installed (parts_with p)) o) (sym none)
+      (record {
+        same = ap (λ (x : Outcome). x.root) is;
+        refusal =
+            (error.NoPreviousVersion, ap (λ (x : Outcome). x.refused) is, refl);
+      })
 
 -- ---- no version to leave
 
-pub is_refused : (row : App → Result App PerError) (root same : Root) (o : Outcome) (e : PerError) → root ≡ same → o ≡ record { root = same; refused = Some e }
+pub is_refused : (row : App → Result App PerError) (root same : Root) (o : Outcome) (e : PerError) → root ≡ same
+    → o ≡ record { root = same; refused = Some e }
     → row (root_app same []) ≡ Err e → IsRefused row root o
 is_refused row root same o e is made refuses = subst (λ (r : Root). IsRefused row r o) (sym is)
     (record { same = ap (λ (x : Outcome). x.root) made; refusal = (e, ap (λ (x : Outcome). x.refused) made, refuses) })
@@ -189,11 +264,13 @@ pub finish_absent : (cell : Cell) → finishing (root_app (Absent cell) []) ≡ 
 unfolding finishing
 finish_absent cell = refl
 
-pub rollback_bad : (busy : Option (List ℕ)) → rolling_back busy (root_app Bad []) ≡ Err (error.IntegrityCorrupted unit.Root)
+pub rollback_bad : (busy : Option (List ℕ)) → rolling_back busy (root_app Bad [])
+    ≡ Err (error.IntegrityCorrupted unit.Root)
 unfolding rolling_back
 rollback_bad busy = refl
 
-pub rollback_absent : (busy : Option (List ℕ)) (cell : Cell) → rolling_back busy (root_app (Absent cell) []) ≡ Err error.NotInstalled
+pub rollback_absent : (busy : Option (List ℕ)) (cell : Cell)
+    → rolling_back busy (root_app (Absent cell) []) ≡ Err error.NotInstalled
 unfolding rolling_back
 rollback_absent busy cell = refl
 
@@ -223,24 +300,36 @@ empty_next Bad = refl
 empty_next (Absent cell) = refl
 empty_next (Installed i) = refl
 
-registered : (root : Root) → apps.generation_of (root_says root) < greatest_generation → IfRegister root (register_of root)
+registered : (root : Root) → apps.generation_of (root_says root) < greatest_generation
+    → IfRegister root (register_of root)
 registered Bad left = refl
-registered (Absent cell) left = record { of_root = λ app of. of; held = λ image app on. (root_text text.absent, on); left = left }
+registered (Absent cell) left = record {
+  of_root = λ app of. of;
+  held =
+      λ image app on. (root_text text.absent, on);
+  left = left;
+}
 registered (Installed i) left = installed_register i left
 
-module _ (busy : Option (List ℕ)) (root : Root) (g : ℕ) (counts : g ≡ apps.generation_of (root_says root)) (refused : Option PerError)
+module _ (busy : Option (List ℕ)) (root : Root) (g : ℕ) (counts : g ≡ apps.generation_of (root_says root))
+    (refused : Option PerError)
     (row : (x : Result App PerError) → not_busy busy (not_worn g x) ≡ refused_or refused x) where
   row_next : (lacking : List ℕ) (states : List State) (now : Option PerError) → refused ≡ now
-      → wiping busy (record { says = root_says root; lacking = lacking; states = states }) ≡ refused_or now (Ok (empty_app (apps.generation_of (root_says root) + 1)))
+      → wiping busy (record { says = root_says root; lacking = lacking; states = states })
+      ≡ refused_or now (Ok (empty_app (apps.generation_of (root_says root) + 1)))
   row_next lacking states now is = wipe_is busy (root_says root) lacking states
-      ∙ subst (λ (n : ℕ). not_busy busy (not_worn n (Ok (empty_app (apps.generation_of (root_says root) + 1)))) ≡ refused_or now (Ok (empty_app (apps.generation_of (root_says root) + 1)))) counts
-      (row (Ok (empty_app (apps.generation_of (root_says root) + 1))) ∙ ap (λ (o : Option PerError). refused_or o (Ok (empty_app (apps.generation_of (root_says root) + 1)))) is)
+      ∙ subst (λ (n : ℕ). not_busy busy (not_worn n (Ok (empty_app (apps.generation_of (root_says root) + 1))))
+      ≡ refused_or now (Ok (empty_app (apps.generation_of (root_says root) + 1)))) counts
+      (row (Ok (empty_app (apps.generation_of (root_says root) + 1)))
+      ∙ ap (λ (o : Option PerError). refused_or o (Ok (empty_app (apps.generation_of (root_says root) + 1)))) is)
 
-  left_next : (now : Option PerError) → now ≡ None → IfNone now (g < greatest_generation) → apps.generation_of (root_says root) < greatest_generation
+  left_next : (now : Option PerError) → now ≡ None → IfNone now (g < greatest_generation)
+      → apps.generation_of (root_says root) < greatest_generation
   left_next None is left = subst (λ (n : ℕ). n < greatest_generation) counts left
   left_next (Some e) is left = absurd cc
 
-  pub wipe_emptied : (cell : Option Cell) → cell ≡ register_of root → refused ≡ None → IfNone refused (g < greatest_generation) → IsEmptied (wiping busy) root cell
+  pub wipe_emptied : (cell : Option Cell) → cell ≡ register_of root → refused ≡ None
+      → IfNone refused (g < greatest_generation) → IsEmptied (wiping busy) root cell
   wipe_emptied cell is none left = subst (λ (c : Option Cell). IsEmptied (wiping busy) root c) (sym is) (record {
     register = registered root (left_next refused none left);
     leads = subst (λ (s : Says). Leads (wiping busy) (root_says root) s) (sym (empty_next root)) (record {
@@ -250,5 +339,6 @@ module _ (busy : Option (List ℕ)) (root : Root) (g : ℕ) (counts : g ≡ apps
     });
   })
 
-  pub wipe_refused : (e : PerError) (o : Outcome) → refused ≡ Some e → o ≡ record { root = root; refused = Some e } → IsRefused (wiping busy) root o
+  pub wipe_refused : (e : PerError) (o : Outcome) → refused ≡ Some e → o ≡ record { root = root; refused = Some e }
+      → IsRefused (wiping busy) root o
   wipe_refused e o is made = is_refused (wiping busy) root root o e refl made (row_next [] [] (Some e) is)

@@ -16,25 +16,45 @@ use Rattle.deploy.proofs.InUse.{cell_alone}
 
 module _ (app : ℕ) (cell : Cell) (of : IsRootCell app cell) where
   pub next_cell : (g : ℕ) (next : Cell) → 1 ≤ g → IsCellOf (place_of cell) g next → IsRootCell app next
-  next_cell g next some is = record { place = is.lies ∙ of.place; positive = subst (λ (h : ℕ). 1 ≤ h) (sym is.counts) some }
+  next_cell g next some is = record {
+    place = is.lies ∙ of.place;
+    positive =
+        subst (λ (h : ℕ). 1 ≤ h) (sym is.counts) some;
+  }
 
-  pub next_alone : (image : Image) (g : ℕ) (next : Cell) (t : List ℕ) → IsCellOf (place_of cell) g next → CellAt image next t
+  pub next_alone : (image : Image) (g : ℕ) (next : Cell) (t : List ℕ) → IsCellOf (place_of cell) g next
+      → CellAt image next t
       → IsAlone image (root_place app).first 3 g t
-  next_alone image g next t is at = subst (λ (h : ℕ). IsAlone image (root_place app).first 3 h t) is.counts (cell_alone image app next t (is.lies ∙ of.place) at)
+  next_alone image g next t is at = subst (λ (h : ℕ). IsAlone image (root_place app).first 3 h t) is.counts
+      (cell_alone image app next t (is.lies ∙ of.place) at)
 
-  pub slots_spared : (old new : Image) → Spares (IsNoSlot (place_of cell).first (place_of cell).copies) old new → Spares (IsNoSlot (root_place app).first 3) old new
+  pub slots_spared : (old new : Image) → Spares (IsNoSlot (place_of cell).first (place_of cell).copies) old new
+      → Spares (IsNoSlot (root_place app).first 3) old new
   slots_spared old new spared = subst (λ (p : Place). Spares (IsNoSlot p.first p.copies) old new) of.place spared
 
-  pub puts_here : (g : ℕ) (t : List ℕ) (start : Image) (old new : Medium) → EachCase (PutStops (place_of cell).first (place_of cell).copies g t start) old new
+  pub puts_here : (g : ℕ) (t : List ℕ) (start : Image) (old new : Medium)
+      → EachCase (PutStops (place_of cell).first (place_of cell).copies g t start) old new
       → EachCase (PutStops (root_place app).first 3 g t start) old new
-  puts_here g t start old new puts = subst (λ (p : Place). EachCase (PutStops p.first p.copies g t start) old new) of.place puts
+  puts_here g t start old new puts = subst (λ (p : Place). EachCase (PutStops p.first p.copies g t start) old new)
+      of.place puts
 
 -- files that are no slots of the root change neither at the end nor at any moment
-module _ (told : Bool) (app : ℕ) (old new : Medium) (spared : IsTrue told → Spares (IsNoSlot (root_place app).first 3) old.image new.image) where
-  pub put_leaves : (g : ℕ) (t : List ℕ) → (IsTrue told → Quiet old → EachCase (PutStops (root_place app).first 3 g t old.image) old new)
+module _ (told : Bool) (app : ℕ) (old new : Medium) (spared : IsTrue told
+    → Spares (IsNoSlot (root_place app).first 3) old.image new.image) where
+  pub put_leaves : (g : ℕ) (t : List ℕ) → (IsTrue told → Quiet old
+      → EachCase (PutStops (root_place app).first 3 g t old.image) old new)
       → Leaves told (IsNoRootSlot app) old new
-  put_leaves g t puts = record { at_the_end = spared; throughout = λ tells quiet c past. (puts tells quiet c past).elsewhere }
+  put_leaves g t puts = record {
+    at_the_end = spared;
+    throughout =
+        λ tells quiet c past. (puts tells quiet c past).elsewhere;
+  }
 
-  pub format_leaves : (g : ℕ) (t : List ℕ) → (IsTrue told → Quiet old → EachCase (FormatStops (root_place app).first 3 g t old.image) old new)
+  pub format_leaves : (g : ℕ) (t : List ℕ) → (IsTrue told → Quiet old
+      → EachCase (FormatStops (root_place app).first 3 g t old.image) old new)
       → Leaves told (IsNoRootSlot app) old new
-  format_leaves g t stops = record { at_the_end = spared; throughout = λ tells quiet c past. (stops tells quiet c past).elsewhere }
+  format_leaves g t stops = record {
+    at_the_end = spared;
+    throughout =
+        λ tells quiet c past. (stops tells quiet c past).elsewhere;
+  }

@@ -1,5 +1,6 @@
 -- An update in one call: it begins, which writes nothing, and what began is committed.
-use Rattle.std.proofs.Common.{◌≡◌, ℕ, ◌<◌, List, [], length, Bool, IsTrue, Option, None, Some, inl, inr, refl, sym, ap, ◌∙◌, subst}
+use Rattle.std.proofs.Common.{◌≡◌, ℕ, ◌<◌, List, [], length, Bool, IsTrue, Option, None, Some, inl, inr, refl, sym, ap}
+use Rattle.std.proofs.Common.{◌∙◌, subst}
 use Rattle.std.specs.Prelude.{Result, Ok, Err, IfOk, IsErr, IsErrAnd, IsErrOf, IsOk, OnOk, map}
 use Rattle.per_base.specs.declared.errors.PerError.{PerError}
 use Rattle.disk_model.specs.Image.{Image}
@@ -74,20 +75,24 @@ module _ {T E : Type 0} (result : Result T E) (e : E) (passed : IsErrAnd result 
 -- ---- what begins
 
 -- where the root is in use, the application is what the root says
-pub app_in_use : InUseLaw → (image : Image) (app : ℕ) (told : Bool) (root : Root) (states : List State) → RootAt told image app root → IsTrue told
+pub app_in_use : InUseLaw → (image : Image) (app : ℕ) (told : Bool) (root : Root) (states : List State)
+    → RootAt told image app root → IsTrue told
     → (app_at image app).states ≡ states → app_at image app ≡ root_app root states
 app_in_use in_use image app told root states at tells theirs =
-    let is : app_at image app ≡ root_app root (map (store_at image) (shapes_named app (root_says root))) = in_use image app root at.memory (at.disk tells) in
+    let is : app_at image app ≡ root_app root (map (store_at image) (shapes_named app (root_says root))) =
+    in_use image app root at.memory (at.disk tells) in
     is ∙ ap (λ (xs : List State). root_app root xs) (sym (ap (λ (a : App). a.states) is) ∙ theirs)
 
-offer_of_row : (rules : List Rule) (answers : fns.Answers) (now : ℕ) (states : List State) (offer : Result Offer PerError) (p : InProgress)
+offer_of_row : (rules : List Rule) (answers : fns.Answers) (now : ℕ) (states : List State)
+    (offer : Result Offer PerError) (p : InProgress)
     → BeginsWith rules answers now states offer (Ok p) → IsOk offer
 offer_of_row rules answers now states (Ok o) p begins = refl
 offer_of_row rules answers now states (Err e) p begins = absurd cc
 
 -- what the next root says does not depend on the states
 says_by : (p : InProgress) (lacking : List ℕ) (xs ys : List State) (s : Says)
-    → (updated_app p (record { says = s; lacking = lacking; states = xs })).says ≡ (updated_app p (record { says = s; lacking = lacking; states = ys })).says
+    → (updated_app p (record { says = s; lacking = lacking; states = xs })).says
+    ≡ (updated_app p (record { says = s; lacking = lacking; states = ys })).says
 unfolding updated_app
 says_by p lacking xs ys nothing = refl
 says_by p lacking xs ys (absent g) = refl
@@ -96,21 +101,26 @@ says_by p lacking xs ys (installed g active previous) = refl
 -- ---- a disk that was read alone, and then written
 
 -- a read leaves all files alone
-pub leaves_read : (told : Bool) (Files : ℕ → Type 0) (old mid : Medium) → (Quiet old → IsIdle old mid) → mid.image ≡ old.image → Leaves told Files old mid
+pub leaves_read : (told : Bool) (Files : ℕ → Type 0) (old mid : Medium) → (Quiet old → IsIdle old mid)
+    → mid.image ≡ old.image → Leaves told Files old mid
 leaves_read told Files old mid idle same = record {
   at_the_end = λ tells f is. ap (λ (i : Image). i f) same;
   throughout = λ tells quiet c past. settled_so Files old.image c ((idle quiet).during c past);
 }
 
-module _ (app : ℕ) (old mid new : Medium) (first : Elapses old mid) (next : Elapses mid new) (idle : Quiet old → IsIdle old mid) (same : mid.image ≡ old.image) where
+module _ (app : ℕ) (old mid new : Medium) (first : Elapses old mid) (next : Elapses mid new)
+    (idle : Quiet old → IsIdle old mid) (same : mid.image ≡ old.image) where
   pub leaves_then : (told : Bool) (Files : ℕ → Type 0) → Leaves told Files mid new → Leaves told Files old new
   leaves_then told Files leaves =
-      leaves_on told Files old mid new first next (λ quiet. (idle quiet).quiet) (leaves_read told Files old mid idle same) leaves
+      leaves_on told Files old mid new first next (λ quiet. (idle quiet).quiet)
+      (leaves_read told Files old mid idle same) leaves
 
-  pub stands_then : StillAppLaw → app < 8 → (after : App) → IsLater (app_at old.image app) after → StandsThroughout app after mid new
+  pub stands_then : StillAppLaw → app < 8 → (after : App) → IsLater (app_at old.image app) after
+      → StandsThroughout app after mid new
       → StandsThroughout app after old new
   stands_then still lt after later stands quiet clean = goes_on (StandsCase app (app_at old.image app) after) first next
-      (λ c past. still app old.image after c lt clean (settled_so (IsFileOf app) old.image c ((idle quiet).during c past)) later)
+      (λ c past. still app old.image after c lt clean (settled_so (IsFileOf app) old.image c
+      ((idle quiet).during c past)) later)
       (subst (λ (i : Image). EachCase (StandsCase app (app_at i app) after) mid new) same
       (stands (idle quiet).quiet (subst (λ (i : Image). IsCleanApp app i) (sym same) clean)))
 
@@ -134,11 +144,13 @@ module _ (rules : List Rule) (answers : fns.Answers) (now : ℕ) (busy : Option 
   }
 
   module _ (told : Bool) (old mid : Medium) (r : Root) (b : Begin)
-      (begins : (states : List State) × (IsTrue told → (app_at old.image app).states ≡ states) × Row (root_app r states) (begun_as b))
+      (begins : (states : List State) × (IsTrue told → (app_at old.image app).states ≡ states)
+      × Row (root_app r states) (begun_as b))
       (begun : IsBegun told mid.image app r b) (same : mid.image ≡ old.image) where
     -- ---- it is refused
 
-    module _ (t : Root) (e : PerError) (is : b ≡ begin.Refused t e) (o : Outcome) (answer : o ≡ record { root = t; refused = Some e }) where
+    module _ (t : Root) (e : PerError) (is : b ≡ begin.Refused t e) (o : Outcome)
+        (answer : o ≡ record { root = t; refused = Some e }) where
       handed_back : (t ≡ r) × RootAt told mid.image app t
       handed_back = subst (λ (x : Begin). IsBegun told mid.image app r x) is begun
 
@@ -182,7 +194,8 @@ module _ (rules : List Rule) (answers : fns.Answers) (now : ℕ) (busy : Option 
 
       pub was_offered : IsOk (offered busy text (root_app r []))
       was_offered = subst (λ (o : Result Offer PerError). IsOk o) (offered_alike busy text r begins.0)
-          (offer_of_row rules answers now begins.0 (offered busy text (root_app r begins.0)) (progress_in s) begins_ready)
+          (offer_of_row rules answers now begins.0 (offered busy text (root_app r begins.0)) (progress_in s)
+          begins_ready)
 
       -- what it leads to, over what the disk says
       abbrev pub led : App
@@ -191,7 +204,8 @@ module _ (rules : List Rule) (answers : fns.Answers) (now : ℕ) (busy : Option 
       may_lead : InUseLaw → RootAt told old.image app r → IsTrue told → May (app_at old.image app) led
       may_lead in_use at tells = inr (
         Ok (progress_in s),
-        subst (λ (a : App). Row a (Ok (progress_in s))) (sym (app_in_use in_use old.image app told r begins.0 at tells (begins.1 tells))) begins_ready,
+        subst (λ (a : App). Row a (Ok (progress_in s))) (sym
+            (app_in_use in_use old.image app told r begins.0 at tells (begins.1 tells))) begins_ready,
         refl,
       )
 
@@ -204,7 +218,8 @@ module _ (rules : List Rule) (answers : fns.Answers) (now : ℕ) (busy : Option 
         pub clause_of : (P : ℕ → Type 0) → P s.app → P app
         clause_of P holds = subst P of_app holds
 
-        app_led : (app_at new.image s.app ≡ updated_app (progress_in s) (app_at mid.image s.app)) → app_at new.image app ≡ led
+        app_led : (app_at new.image s.app ≡ updated_app (progress_in s) (app_at mid.image s.app))
+            → app_at new.image app ≡ led
         app_led is = subst (λ (i : Image). app_at new.image app ≡ updated_app (progress_in s) (app_at i app)) same
             (clause_of (λ n. app_at new.image n ≡ updated_app (progress_in s) (app_at mid.image n)) is)
 
@@ -223,21 +238,26 @@ module _ (rules : List Rule) (answers : fns.Answers) (now : ℕ) (busy : Option 
         }
 
         module _ (first : Elapses old mid) (next : Elapses mid new) (idle : Quiet old → IsIdle old mid) where
-          pub leaves_led : Leaves told (IsBesideCommit s.app (free_bank (root_in s)) s.built (length s.contents.items)) mid new
+          pub leaves_led : Leaves told (IsBesideCommit s.app (free_bank (root_in s)) s.built (length s.contents.items))
+              mid new
               → Leaves told (IsBesideNext app (free_bank r)) old new
           leaves_led leaves = leaves_then app old mid new first next idle same told (IsBesideNext app (free_bank r))
               (subst (λ (x : Root). Leaves told (IsBesideNext app (free_bank x)) mid new) over_root
               (clause_of (λ n. Leaves told (IsBesideNext n (free_bank (root_in s))) mid new)
-              (leaves_whole told s.app (free_bank (root_in s)) s.built (length s.contents.items) mid new leaves (few_storages app s ready.0.memory).0)))
+              (leaves_whole told s.app (free_bank (root_in s)) s.built (length s.contents.items) mid new leaves
+              (few_storages app s ready.0.memory).0)))
 
-          module _ (in_use : InUseLaw) (later : UpdateLaterLaw) (still : StillAppLaw) (lt : app < 8) (at : RootAt told old.image app r) (tells : IsTrue told)
+          module _ (in_use : InUseLaw) (later : UpdateLaterLaw) (still : StillAppLaw) (lt : app < 8)
+              (at : RootAt told old.image app r) (tells : IsTrue told)
               (stands : StandsThroughout s.app (updated_app (progress_in s) (app_at mid.image s.app)) mid new) where
             stands_led : StandsThroughout app led old new
-            stands_led = stands_then app old mid new first next idle same still lt led (later (progress_in s) (app_at old.image app))
+            stands_led = stands_then app old mid new first next idle same still lt led
+                (later (progress_in s) (app_at old.image app))
                 (subst (λ (i : Image). StandsThroughout app (updated_app (progress_in s) (app_at i app)) mid new) same
                 (clause_of (λ n. StandsThroughout n (updated_app (progress_in s) (app_at mid.image n)) mid new) stands))
 
-            pub leads_led : {T E : Type 0} (result : Result T E) → OnOk result (app_at new.image s.app ≡ updated_app (progress_in s) (app_at mid.image s.app))
+            pub leads_led : {T E : Type 0} (result : Result T E)
+                → OnOk result (app_at new.image s.app ≡ updated_app (progress_in s) (app_at mid.image s.app))
                 → LeadsTo app (May (app_at old.image app)) result old new
             leads_led {T} {E} result is = record {
               next = led;

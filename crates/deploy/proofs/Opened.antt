@@ -1,4 +1,5 @@
--- Opening a root: what looking leaves of the application, and what bringing every copy to the text that stands leaves of it.
+-- Opening a root: what looking leaves of the application, and what bringing every copy to the text that stands leaves
+-- of it.
 use Rattle.std.proofs.Common.{◌≡◌, ℕ, ◌<◌, Bool, Some, refl, sym, ap, ◌∙◌, subst}
 use Rattle.std.specs.Prelude.{IsTrue, Result, Ok}
 use Rattle.disk_model.specs.Case.{Case, IsSettledAt}
@@ -14,7 +15,8 @@ use Rattle.guarded_cell.specs.Stops.{PutStops}
 use Rattle.root_text.specs.RootText.{IsRoot, root_text}
 use Rattle.root_text.specs.RootText as text
 use Rattle.deploy_laws.specs.Apps.{AreClean, IsCleanApp, Says, app_at, nothing, says_at, says_by, shapes_named}
-use Rattle.deploy_laws.specs.Laws.{AloneCleanLaw, AloneLaw, OpeningLaw, RootAloneLaw, RootSlotsLaw, StillAppLaw, VersionsLaw}
+use Rattle.deploy_laws.specs.Laws.{AloneCleanLaw, AloneLaw, OpeningLaw, RootAloneLaw, RootSlotsLaw, StillAppLaw}
+use Rattle.deploy_laws.specs.Laws.{VersionsLaw}
 use Rattle.deploy_laws.specs.Places.{IsFileOf, root_place}
 use Rattle.deploy_laws.specs.Stands.{StandsCase}
 use Rattle.deploy_rows.specs.Rows.{reopened}
@@ -35,7 +37,8 @@ settled_here Files image c at = record {
 }
 
 -- of fewer files
-pub settled_of : (Files Fewer : ℕ → Type 0) (image : Image) (c : Case) → ((f : ℕ) → Fewer f → Files f) → IsSettledOn Files image c
+pub settled_of : (Files Fewer : ℕ → Type 0) (image : Image) (c : Case) → ((f : ℕ) → Fewer f → Files f)
+    → IsSettledOn Files image c
     → IsSettledOn Fewer image c
 settled_of Files Fewer image c less at = record {
   base = λ f is. at.base f (less f is);
@@ -44,7 +47,8 @@ settled_of Files Fewer image c less at = record {
 }
 
 -- since before a call that spares them
-pub settled_since : (Files : ℕ → Type 0) (old mid : Image) (c : Case) → Spares Files old mid → IsSettledOn Files mid c → IsSettledOn Files old c
+pub settled_since : (Files : ℕ → Type 0) (old mid : Image) (c : Case) → Spares Files old mid → IsSettledOn Files mid c
+    → IsSettledOn Files old c
 settled_since Files old mid c spared at = record {
   base = λ f is. at.base f is ∙ spared f is;
   full = λ f is. at.full f is ∙ spared f is;
@@ -53,33 +57,42 @@ settled_since Files old mid c spared at = record {
 
 -- ---- looking
 
-pub look_leaves : (told : Bool) (Files : ℕ → Type 0) (old new : Medium) → new.image ≡ old.image → (Quiet old → IsIdle old new)
+pub look_leaves : (told : Bool) (Files : ℕ → Type 0) (old new : Medium) → new.image ≡ old.image
+    → (Quiet old → IsIdle old new)
     → Leaves told Files old new
 look_leaves told Files old new same idle = record {
   at_the_end = λ tells f is. ap (λ (i : Image). i f) same;
   throughout = λ tells quiet c past. settled_here Files old.image c ((idle quiet).during c past);
 }
 
-pub look_stands : (still : StillAppLaw) (app : ℕ) → app < 8 → (old new : Medium) → (Quiet old → IsIdle old new) → StandsOnTheWay app old new
+pub look_stands : (still : StillAppLaw) (app : ℕ) → app < 8 → (old new : Medium) → (Quiet old → IsIdle old new)
+    → StandsOnTheWay app old new
 look_stands still app lt old new idle quiet clean next later c past =
     still app old.image next c lt clean (settled_here (IsFileOf app) old.image c ((idle quiet).during c past)) later
 
 -- ---- and then bringing every copy to the text that stands
 
-module _ (app : ℕ) (lt : app < 8) (told : Bool) (seen : Seen) (old mid new : Medium) (same : mid.image ≡ old.image) (idle : Quiet old → IsIdle old mid)
+module _ (app : ℕ) (lt : app < 8) (told : Bool) (seen : Seen) (old mid new : Medium) (same : mid.image ≡ old.image)
+    (idle : Quiet old → IsIdle old mid)
     (first : Elapses old mid) (next : Elapses mid new)
-    (puts : IsTrue told → Quiet mid → EachCase (PutStops (root_place app).first 3 seen.generation seen.text mid.image) mid new) where
-  puts_then : IsTrue told → Quiet old → (c : Case) → new.since mid.moment c → PutStops (root_place app).first 3 seen.generation seen.text old.image c
+    (puts : IsTrue told → Quiet mid → EachCase (PutStops (root_place app).first 3 seen.generation seen.text mid.image)
+    mid new) where
+  puts_then : IsTrue told → Quiet old → (c : Case) → new.since mid.moment c
+      → PutStops (root_place app).first 3 seen.generation seen.text old.image c
   puts_then tells quiet c past =
-      subst (λ (i : Image). PutStops (root_place app).first 3 seen.generation seen.text i c) same (puts tells (idle quiet).quiet c past)
+      subst (λ (i : Image). PutStops (root_place app).first 3 seen.generation seen.text i c) same
+      (puts tells (idle quiet).quiet c past)
 
-  pub brought_stands : (still : StillAppLaw) (opening : OpeningLaw) → IsTrue told → standing old.image (root_place app).first 3 2 ≡ Some seen
+  pub brought_stands : (still : StillAppLaw) (opening : OpeningLaw) → IsTrue told
+      → standing old.image (root_place app).first 3 2 ≡ Some seen
       → StandsOnTheWay app old new
   brought_stands still opening tells stands quiet clean after later =
-      goes_on (StandsCase app (app_at old.image app) after) first next (look_stands still app lt old mid idle quiet clean after later)
+      goes_on (StandsCase app (app_at old.image app) after) first next
+      (look_stands still app lt old mid idle quiet clean after later)
       (λ c past. opening app seen old.image after c lt clean stands (puts_then tells quiet c past) later)
 
-  pub brought_leaves : (IsTrue told → Spares (IsNoSlot (root_place app).first 3) mid.image new.image) → Leaves told (IsNoRootSlot app) old new
+  pub brought_leaves : (IsTrue told → Spares (IsNoSlot (root_place app).first 3) mid.image new.image)
+      → Leaves told (IsNoRootSlot app) old new
   brought_leaves elsewhere = record {
     at_the_end = λ tells f no. elsewhere tells f no ∙ ap (λ (i : Image). i f) same;
     throughout = λ tells quiet. goes_on (IsSettledOn (IsNoRootSlot app) old.image) first next
@@ -94,11 +107,13 @@ unfolding app_at
 reopened_is image app = refl
 
 -- a bad root is as it was
-pub bad_reopened : (old new : Image) (app : ℕ) → new ≡ old → says_at old app ≡ nothing → app_at new app ≡ reopened (app_at old app)
+pub bad_reopened : (old new : Image) (app : ℕ) → new ≡ old → says_at old app ≡ nothing
+    → app_at new app ≡ reopened (app_at old app)
 bad_reopened old new app same none = ap (λ (i : Image). app_at i app) same ∙ bad_app old app none
     ∙ ap (λ (s : Says). app_that old app s) (sym none) ∙ reopened_is old app
 
-pub bad_at : (told : Bool) (old new : Image) (app : ℕ) → new ≡ old → (IsTrue told → says_at old app ≡ nothing) → RootAt told new app Bad
+pub bad_at : (told : Bool) (old new : Image) (app : ℕ) → new ≡ old → (IsTrue told → says_at old app ≡ nothing)
+    → RootAt told new app Bad
 bad_at told old new app same none = record {
   memory = tt;
   disk = λ tells. subst (λ (i : Image). says_at i app ≡ nothing) (sym same) (none tells);
@@ -120,8 +135,10 @@ not_bad Bad g r says is = says_some g r says
 not_bad (Absent cell) g r says is = absurd cc
 not_bad (Installed i) g r says is = absurd cc
 
-module _ (again : AgainLaw) (alone : AloneLaw) (versions : VersionsLaw) (slots : RootSlotsLaw) (aside : RootAloneLaw) (clean : AloneCleanLaw)
-    (app g : ℕ) (r : text.Root) (old mid new : Image) (lt : app < 8) (is : IsRoot r) (same : mid ≡ old) (spared : Spares (IsNoSlot (root_place app).first 3) mid new)
+module _ (again : AgainLaw) (alone : AloneLaw) (versions : VersionsLaw) (slots : RootSlotsLaw) (aside : RootAloneLaw)
+    (clean : AloneCleanLaw)
+    (app g : ℕ) (r : text.Root) (old mid new : Image) (lt : app < 8) (is : IsRoot r) (same : mid ≡ old)
+    (spared : Spares (IsNoSlot (root_place app).first 3) mid new)
     (held : IsAlone new (root_place app).first 3 g (root_text r)) (says : says_at old app ≡ says_by g (Some r)) where
   spared_since : Spares (IsNoSlot (root_place app).first 3) old new
   spared_since = subst (λ (i : Image). Spares (IsNoSlot (root_place app).first 3) i new) same spared

@@ -1,5 +1,6 @@
 -- What is read of storages before an update, one after another.
-use Rattle.std.proofs.Common.{◌≡◌, ℕ, zero, suc, ◌+◌, ◌≤◌, ◌<◌, List, [], ◌∷◌, ◌++◌, length, get_or, slice_get, take, Bool, true, false, IsTrue, Option, None, Some, refl, sym, ap, ◌∙◌, subst, arith}
+use Rattle.std.proofs.Common.{◌≡◌, ℕ, zero, suc, ◌+◌, ◌≤◌, ◌<◌, List, [], ◌∷◌, ◌++◌, length, get_or, slice_get, take}
+use Rattle.std.proofs.Common.{Bool, true, false, IsTrue, Option, None, Some, refl, sym, ap, ◌∙◌, subst, arith}
 use Rattle.std.specs.Prelude.{map}
 use Rattle.std.specs.List.{AllByRecursion}
 use Rattle.std.proofs.lemmas.Bool.{false≢true}
@@ -46,39 +47,49 @@ small : (kind : StoreKind) (len : ℕ) (c : Content) → HasLength len c → len
 small kind len (Good bytes) long le = subst (λ (n : ℕ). n ≤ max_len kind) (sym long) le
 small kind len (Bad salvage) long le = tt
 
-entries_stored : (shape : Shape) (es : List Entry) → AllByRecursion (IsEntryOf shape) es → AllByRecursion (IsStored shape.kind) es
+entries_stored : (shape : Shape) (es : List Entry) → AllByRecursion (IsEntryOf shape) es
+    → AllByRecursion (IsStored shape.kind) es
 entries_stored shape [] all = tt
-entries_stored shape (e ∷ es) all =
-    (record { info = all.0.info; small = small shape.kind e.len e.content all.0.content all.0.len }, entries_stored shape es all.1)
+entries_stored shape (e ∷ es) all = (
+  record { info = all.0.info; small = small shape.kind e.len e.content all.0.content all.0.len },
+  entries_stored shape es all.1,
+)
 
 -- a view is of the kind of its storage
-pub view_stored : (shape : Shape) (v : View) (kind : StoreKind) → shape.kind ≡ kind → IsView shape v → AreStored kind v.entries
+pub view_stored : (shape : Shape) (v : View) (kind : StoreKind) → shape.kind ≡ kind → IsView shape v
+    → AreStored kind v.entries
 view_stored shape v kind same is = subst (λ (k : StoreKind). AreStored k v.entries) same
     (record { names_ascend = is.names_ascend; each = entries_stored shape v.entries is.each })
 
-pub shape_kind : (app bank number : ℕ) (s : StorageData) (shape : Shape) → shape ≡ shape_of app bank number s → shape.kind ≡ s.kind
+pub shape_kind : (app bank number : ℕ) (s : StorageData) (shape : Shape) → shape ≡ shape_of app bank number s
+    → shape.kind ≡ s.kind
 unfolding shape_of
 shape_kind app bank number s shape is = ap (λ (x : Shape). x.kind) is
 
 -- ---- one more
 
 more_shapes : (app bank number : ℕ) (ss : List StorageData) (s : StorageData)
-    → shapes_from app bank number (ss ++ s ∷ []) ≡ shapes_from app bank number ss ++ shape_of app bank (number + length ss) s ∷ []
+    → shapes_from app bank number (ss ++ s ∷ []) ≡ shapes_from app bank number ss
+    ++ shape_of app bank (number + length ss) s ∷ []
 more_shapes app bank number [] s =
     let here : number ≡ number + 0 = omega arith in
     ap (λ (n : ℕ). shape_of app bank n s ∷ []) here
 more_shapes app bank number (x ∷ ss) s =
     let on : suc number + length ss ≡ number + suc (length ss) = omega arith in
     ap (λ (shapes : List Shape). shape_of app bank number x ∷ shapes) (more_shapes app bank (suc number) ss s)
-    ∙ ap (λ (n : ℕ). shape_of app bank number x ∷ (shapes_from app bank (suc number) ss ++ shape_of app bank n s ∷ [])) on
+    ∙ ap (λ (n : ℕ). shape_of app bank number x ∷ (shapes_from app bank (suc number) ss ++ shape_of app bank n s ∷ []))
+    on
 
-more_stored : (ss : List StorageData) (states : List State) (s : StorageData) (state : State) → length states ≡ length ss
-    → stored_in (ss ++ s ∷ []) (states ++ state ∷ []) ≡ stored_in ss states ++ record { name = s.name; contents = contents_of state } ∷ []
+more_stored : (ss : List StorageData) (states : List State) (s : StorageData) (state : State)
+    → length states ≡ length ss
+    → stored_in (ss ++ s ∷ []) (states ++ state ∷ []) ≡ stored_in ss states
+    ++ record { name = s.name; contents = contents_of state } ∷ []
 more_stored [] [] s state same = refl
 more_stored [] (x ∷ states) s state same = absurd (omega (arith, same))
 more_stored (y ∷ ss) [] s state same = absurd (omega (arith, same))
 more_stored (y ∷ ss) (x ∷ states) s state same =
-    ap (λ (xs : List Stored). record { name = y.name; contents = contents_of x } ∷ xs) (more_stored ss states s state (omega (arith, same)))
+    ap (λ (xs : List Stored). record { name = y.name; contents = contents_of x } ∷ xs)
+    (more_stored ss states s state (omega (arith, same)))
 
 one_longer : {A : Type 0} (xs : List A) (x : A) → length (xs ++ x ∷ []) ≡ suc (length xs)
 one_longer [] x = refl
@@ -93,15 +104,23 @@ pub record IsStateOf (told : Bool) (theirs : State) (contents : StorageContents)
 state_of : (told : Bool) (theirs : State) (contents : StorageContents) → (IsTrue told → contents_of theirs ≡ contents)
     → (state : State) × (contents_of state ≡ contents) → IsStateOf told theirs contents
 state_of true theirs contents tells some = record { state = theirs; same = λ _. refl; holds = tells refl }
-state_of false theirs contents tells some = record { state = some.0; same = λ no. absurd (false≢true no); holds = some.1 }
+state_of false theirs contents tells some = record {
+  state = some.0;
+  same = λ no. absurd (false≢true no);
+  holds =
+      some.1;
+}
 
-module _ (told : Bool) (image : Image) (app bank : ℕ) (ss : List StorageData) (s : StorageData) (contents : List Stored) (x : Stored) where
+module _ (told : Bool) (image : Image) (app bank : ℕ) (ss : List StorageData) (s : StorageData) (contents : List Stored)
+    (x : Stored) where
   pub read_more : IsRead told image (shapes_from app bank 0 ss) ss contents → x.name ≡ s.name
-      → (IsTrue told → contents_of (store_at image (shape_of app bank (length ss) s)) ≡ x.contents) → (state : State) × (contents_of state ≡ x.contents)
+      → (IsTrue told → contents_of (store_at image (shape_of app bank (length ss) s)) ≡ x.contents)
+      → (state : State) × (contents_of state ≡ x.contents)
       → IsRead told image (shapes_from app bank 0 (ss ++ s ∷ [])) (ss ++ s ∷ []) (contents ++ x ∷ [])
   read_more read name tells some =
       let shape : Shape = shape_of app bank (length ss) s in
-      let of : IsStateOf told (store_at image shape) x.contents = state_of told (store_at image shape) x.contents tells some in
+      let of : IsStateOf told (store_at image shape) x.contents =
+      state_of told (store_at image shape) x.contents tells some in
       let zero_on : 0 + length ss ≡ length ss = omega arith in
       let shapes : shapes_from app bank 0 (ss ++ s ∷ []) ≡ shapes_from app bank 0 ss ++ shape ∷ [] =
       more_shapes app bank 0 ss s ∙ ap (λ (n : ℕ). shapes_from app bank 0 ss ++ shape_of app bank n s ∷ []) zero_on in
@@ -111,10 +130,12 @@ module _ (told : Bool) (image : Image) (app bank : ℕ) (ss : List StorageData) 
       record {
         states = read.states ++ of.state ∷ [];
         each = one_longer read.states of.state ∙ ap suc read.each ∙ sym (one_longer ss s);
-        theirs = λ told_so. ap (λ (xs : List Shape). map (store_at image) xs) shapes ∙ map-append (store_at image) (shapes_from app bank 0 ss) (shape ∷ [])
+        theirs = λ told_so. ap (λ (xs : List Shape). map (store_at image) xs) shapes
+            ∙ map-append (store_at image) (shapes_from app bank 0 ss) (shape ∷ [])
             ∙ ap (λ (states : List State). states ++ store_at image shape ∷ []) (read.theirs told_so)
             ∙ ap (λ (state : State). read.states ++ state ∷ []) (of.same told_so);
-        stored = ap (λ (xs : List Stored). xs ++ x ∷ []) read.stored ∙ ap (λ (y : Stored). stored_in ss read.states ++ y ∷ []) last
+        stored = ap (λ (xs : List Stored). xs ++ x ∷ []) read.stored
+            ∙ ap (λ (y : Stored). stored_in ss read.states ++ y ∷ []) last
             ∙ sym (more_stored ss read.states s of.state read.each);
       }
 
@@ -123,21 +144,26 @@ read_none told image app bank = record { states = []; each = refl; theirs = λ _
 
 -- ---- of their kinds
 
-pub all_more : {A : Type 0} (P : A → Type 0) (xs : List A) (x : A) → AllByRecursion P xs → P x → AllByRecursion P (xs ++ x ∷ [])
+pub all_more : {A : Type 0} (P : A → Type 0) (xs : List A) (x : A) → AllByRecursion P xs → P x
+    → AllByRecursion P (xs ++ x ∷ [])
 all_more P [] x all is = (is, tt)
 all_more P (y ∷ xs) x all is = (all.0, all_more P xs x all.1 is)
 
-pub is_of : (d : DeploymentData) (s : StorageData) (x : Stored) → x.name ≡ s.name → storage_named d s.name ≡ Some s → ArePresent s.kind x.contents → IsOf d x
-is_of d s x name found are = subst (λ (o : Option StorageData). AreOf o x.contents) (sym (ap (λ (n : List ℕ). storage_named d n) name ∙ found)) are
+pub is_of : (d : DeploymentData) (s : StorageData) (x : Stored) → x.name ≡ s.name → storage_named d s.name ≡ Some s
+    → ArePresent s.kind x.contents → IsOf d x
+is_of d s x name found are = subst (λ (o : Option StorageData). AreOf o x.contents)
+    (sym (ap (λ (n : List ℕ). storage_named d n) name ∙ found)) are
 
 -- ---- a list and its images, by a number
 
-at_number : {A B : Type 0} (f : A → B) (xs : List A) (i : ℕ) (x : A) → i < length xs → x ≡ get_or xs i x → slice_get (map f xs) i ≡ Some (f x)
+at_number : {A B : Type 0} (f : A → B) (xs : List A) (i : ℕ) (x : A) → i < length xs → x ≡ get_or xs i x
+    → slice_get (map f xs) i ≡ Some (f x)
 at_number f [] i x lt is = absurd (omega (arith, lt))
 at_number f (y ∷ ys) zero x lt is = ap (λ z. Some (f z)) (sym is)
 at_number f (y ∷ ys) (suc i) x lt is = at_number f ys i x (omega (arith, lt)) is
 
-taken_more : {A B : Type 0} (f : A → B) (xs : List A) (i : ℕ) (x : A) → i < length xs → x ≡ get_or xs i x → take (suc i) (map f xs) ≡ take i (map f xs) ++ f x ∷ []
+taken_more : {A B : Type 0} (f : A → B) (xs : List A) (i : ℕ) (x : A) → i < length xs → x ≡ get_or xs i x
+    → take (suc i) (map f xs) ≡ take i (map f xs) ++ f x ∷ []
 taken_more f [] i x lt is = absurd (omega (arith, lt))
 taken_more f (y ∷ ys) zero x lt is = ap (λ z. f z ∷ []) (sym is)
 taken_more f (y ∷ ys) (suc i) x lt is = ap (λ zs. f y ∷ zs) (taken_more f ys i x (omega (arith, lt)) is)
@@ -154,8 +180,10 @@ as_long f (x ∷ xs) = ap suc (as_long f xs)
 -- ---- one after another
 
 -- so many of the storages were read, and nothing changed
-pub record IsReading (told : Bool) (app bank number : ℕ) (d : Deployment) (contents : List Stored) (old now : Medium) : Type 0 where
-  pub read : IsRead told old.image (shapes_from app bank 0 (take number (map storage_data d.storages))) (take number (map storage_data d.storages)) contents
+pub record IsReading (told : Bool) (app bank number : ℕ) (d : Deployment) (contents : List Stored)
+    (old now : Medium) : Type 0 where
+  pub read : IsRead told old.image (shapes_from app bank 0 (take number (map storage_data d.storages)))
+      (take number (map storage_data d.storages)) contents
   pub kinds : AllByRecursion (IsOf (deployment_data d)) contents
   pub image : now.image ≡ old.image
   pub idle : Quiet old → IsIdle old now
@@ -163,7 +191,8 @@ pub record IsReading (told : Bool) (app bank number : ℕ) (d : Deployment) (con
   pub passes : now.faults ≡ old.faults
   pub time : Elapses old now
 
-pub reading_none : (told : Bool) (app bank : ℕ) (d : Deployment) (m : Medium) → IsLawful told m → IsReading told app bank 0 d [] m m
+pub reading_none : (told : Bool) (app bank : ℕ) (d : Deployment) (m : Medium) → IsLawful told m
+    → IsReading told app bank 0 d [] m m
 reading_none told app bank d m law = record {
   read = read_none told m.image app bank;
   kinds = tt;
@@ -179,16 +208,20 @@ abbrev pub NamesLaw : Type 0
 NamesLaw = (d : DeploymentData) (i : ℕ) (s : StorageData) → IsDeployment d → slice_get d.storages i ≡ Some s
     → (storage_named d s.name ≡ Some s) × (storage_number d s.name ≡ Some i)
 
-module _ (told : Bool) (app bank number : ℕ) (d : Deployment) (contents : List Stored) (old mid new : Medium) (before : IsReading told app bank number d contents old mid)
+module _ (told : Bool) (app bank number : ℕ) (d : Deployment) (contents : List Stored) (old mid new : Medium)
+    (before : IsReading told app bank number d contents old mid)
     (time : Elapses mid new) where
   pub more_idle : new.image ≡ mid.image → (Quiet mid → IsIdle mid new) → Quiet old → IsIdle old new
   more_idle image idle quiet = idle_on before.time (before.idle quiet) time (idle (before.idle quiet).quiet)
 
-  module _ (names : NamesLaw) (is : IsDeployment (deployment_data d)) (config : StorageConfig) (some : number < length d.storages)
+  module _ (names : NamesLaw) (is : IsDeployment (deployment_data d)) (config : StorageConfig)
+      (some : number < length d.storages)
       (here : config ≡ get_or d.storages number config) (x : Stored) (name : x.name ≡ config.name)
-      (theirs : IsTrue told → contents_of (store_at mid.image (shape_of app bank number (storage_data config))) ≡ x.contents)
+      (theirs : IsTrue told → contents_of (store_at mid.image (shape_of app bank number (storage_data config)))
+      ≡ x.contents)
       (some_state : (state : State) × (contents_of state ≡ x.contents)) (present : ArePresent config.kind x.contents)
-      (image : new.image ≡ mid.image) (idle : Quiet mid → IsIdle mid new) (written : new.written ≡ mid.written) (passes : new.faults ≡ mid.faults) where
+      (image : new.image ≡ mid.image) (idle : Quiet mid → IsIdle mid new) (written : new.written ≡ mid.written)
+      (passes : new.faults ≡ mid.faults) where
     pub reading_more : IsReading told app bank (number + 1) d (contents ++ x ∷ []) old new
     reading_more =
         let s : StorageData = storage_data config in
@@ -199,14 +232,18 @@ module _ (told : Bool) (app bank number : ℕ) (d : Deployment) (contents : List
         let its_number : length (take number ss) ≡ number = taken ss number low in
         subst (λ (n : ℕ). IsReading told app bank n d (contents ++ x ∷ []) old new) on
         (record {
-          read = subst (λ (ts : List StorageData). IsRead told old.image (shapes_from app bank 0 ts) ts (contents ++ x ∷ []))
+          read = subst (λ (ts : List StorageData). IsRead told old.image (shapes_from app bank 0 ts) ts
+              (contents ++ x ∷ []))
               (sym (taken_more storage_data d.storages number config some here))
               (read_more told old.image app bank (take number ss) s contents x before.read name
-              (λ tells. subst (λ (n : ℕ). contents_of (store_at old.image (shape_of app bank n s)) ≡ x.contents) (sym its_number)
-              (subst (λ (i : Image). contents_of (store_at i (shape_of app bank number s)) ≡ x.contents) before.image (theirs tells)))
+              (λ tells. subst (λ (n : ℕ). contents_of (store_at old.image (shape_of app bank n s)) ≡ x.contents)
+              (sym its_number)
+              (subst (λ (i : Image). contents_of (store_at i (shape_of app bank number s)) ≡ x.contents) before.image
+              (theirs tells)))
               some_state);
           kinds = all_more (IsOf (deployment_data d)) contents x before.kinds
-              (is_of (deployment_data d) s x name (names (deployment_data d) number s is (at_number storage_data d.storages number config some here)).0 present);
+              (is_of (deployment_data d) s x name (names (deployment_data d) number s is
+              (at_number storage_data d.storages number config some here)).0 present);
           image = image ∙ before.image;
           idle = more_idle image idle;
           written = written ∙ before.written;
@@ -215,8 +252,10 @@ module _ (told : Bool) (app bank number : ℕ) (d : Deployment) (contents : List
         })
 
 -- all of them were
-pub read_all : (told : Bool) (app bank number : ℕ) (d : Deployment) (contents : List Stored) (old now : Medium) → IsReading told app bank number d contents old now
-    → length d.storages ≤ number → IsRead told old.image (shapes_from app bank 0 (map storage_data d.storages)) (map storage_data d.storages) contents
+pub read_all : (told : Bool) (app bank number : ℕ) (d : Deployment) (contents : List Stored) (old now : Medium)
+    → IsReading told app bank number d contents old now
+    → length d.storages ≤ number → IsRead told old.image (shapes_from app bank 0 (map storage_data d.storages))
+    (map storage_data d.storages) contents
 read_all told app bank number d contents old now reading past =
     let long = as_long storage_data d.storages in
     subst (λ (ts : List StorageData). IsRead told old.image (shapes_from app bank 0 ts) ts contents)

@@ -1,5 +1,6 @@
 -- What a call on a root answers, by its row, where the root is in use.
-use Rattle.std.proofs.Common.{◌≡◌, ℕ, List, [], Bool, IsTrue, Option, Some, None, Result, Ok, Err, IfErr, IfOk, OnOk, IsOk, refl, sym, ap, ◌∙◌, subst}
+use Rattle.std.proofs.Common.{◌≡◌, ℕ, List, [], Bool, IsTrue, Option, Some, None, Result, Ok, Err, IfErr, IfOk, OnOk}
+use Rattle.std.proofs.Common.{IsOk, refl, sym, ap, ◌∙◌, subst}
 use Rattle.per_base.specs.declared.errors.PerError.{PerError}
 use Rattle.disk_model.specs.Image.{Image}
 use Rattle.disk_model.specs.Medium.{Medium}
@@ -26,15 +27,20 @@ ok_of {T} {E} P r x is found = subst (λ (s : Result T E). IfOk s P) is found
 pub err_of : {T E : Type 0} (P : E → Type 0) (r : Result T E) (e : E) → r ≡ Err e → IfErr r P → P e
 err_of {T} {E} P r e is found = subst (λ (s : Result T E). IfErr s P) is found
 
-answers_err : (refused : Option PerError) (r : Result App PerError) (e : PerError) → refused ≡ Some e → r ≡ Err e → Answers refused r
-answers_err refused r e is row = subst (λ (o : Option PerError). Answers o r) (sym is) (subst (λ (s : Result App PerError). Answers (Some e) s) (sym row) refl)
+answers_err : (refused : Option PerError) (r : Result App PerError) (e : PerError) → refused ≡ Some e → r ≡ Err e
+    → Answers refused r
+answers_err refused r e is row = subst (λ (o : Option PerError). Answers o r) (sym is)
+    (subst (λ (s : Result App PerError). Answers (Some e) s) (sym row) refl)
 
-answers_ok : (refused : Option PerError) (r : Result App PerError) (x : App) → refused ≡ None → r ≡ Ok x → Answers refused r
-answers_ok refused r x is row = subst (λ (o : Option PerError). Answers o r) (sym is) (subst (λ (s : Result App PerError). Answers None s) (sym row) tt)
+answers_ok : (refused : Option PerError) (r : Result App PerError) (x : App) → refused ≡ None → r ≡ Ok x
+    → Answers refused r
+answers_ok refused r x is row = subst (λ (o : Option PerError). Answers o r) (sym is)
+    (subst (λ (s : Result App PerError). Answers None s) (sym row) tt)
 
 -- ---- the root on the disk
 
-module _ (again : AgainLaw) (alone : AloneLaw) (told : Bool) (image : Image) (app : ℕ) (root : Root) (at : RootAt told image app root) (tells : IsTrue told) where
+module _ (again : AgainLaw) (alone : AloneLaw) (told : Bool) (image : Image) (app : ℕ) (root : Root)
+    (at : RootAt told image app root) (tells : IsTrue told) where
   pub app_is : app_at image app ≡ app_saying image app (root_says root)
   app_is = in_use again alone image app root at.memory (at.disk tells)
 
@@ -45,10 +51,13 @@ module _ (again : AgainLaw) (alone : AloneLaw) (told : Bool) (image : Image) (ap
   named_clean clean = subst (λ (s : Says). AreClean image (shapes_named app s)) says_is clean.storages
 
 -- its register, which a bad root has not
-pub register_at : AgainLaw → AloneLaw → (told : Bool) (image : Image) (app : ℕ) (root : Root) (cell : Option Cell) → RootAt told image app root → IfRegister root cell
+pub register_at : AgainLaw → AloneLaw → (told : Bool) (image : Image) (app : ℕ) (root : Root) (cell : Option Cell)
+    → RootAt told image app root → IfRegister root cell
     → IsRegisterAt told image app cell
-register_at again alone told image app root None at bad = λ tells. says_is again alone told image app root at tells ∙ bad
-register_at again alone told image app root (Some cell) at is = (is.of_root app at.memory, is.left, λ tells. is.held image app (at.disk tells))
+register_at again alone told image app root None at bad =
+    λ tells. says_is again alone told image app root at tells ∙ bad
+register_at again alone told image app root (Some cell) at is =
+    (is.of_root app at.memory, is.left, λ tells. is.held image app (at.disk tells))
 
 -- ---- a call that is refused
 
@@ -60,7 +69,8 @@ module _ (row : App → Result App PerError) (root : Root) (o : Outcome) (refuse
   refused_answers = answers_err o.refused (row (root_app root [])) refused.refusal.0 refused.refusal.1 refused.refusal.2
 
   pub refused_says : root_says o.root ≡ (after (root_app root []) (row (root_app root []))).says
-  refused_says = ap root_says refused.same ∙ sym (ap (λ (r : Result App PerError). (after (root_app root []) r).says) refused.refusal.2)
+  refused_says = ap root_says refused.same ∙ sym (ap (λ (r : Result App PerError). (after (root_app root []) r).says)
+      refused.refusal.2)
 
   pub refused_some : o.refused ≡ None → ⊥
   refused_some none = let some = refused.refusal.1 in absurd cc
@@ -68,27 +78,33 @@ module _ (row : App → Result App PerError) (root : Root) (o : Outcome) (refuse
   pub refused_text : (texts : List (List ℕ)) → o.refused ≡ None → texts_in o.root ≡ texts
   refused_text texts none = absurd (refused_some none)
 
-  pub refused_app : RefusesAlike row → AgainLaw → AloneLaw → (told : Bool) (image : Image) (app : ℕ) → RootAt told image app root → IsTrue told
+  pub refused_app : RefusesAlike row → AgainLaw → AloneLaw → (told : Bool) (image : Image) (app : ℕ)
+      → RootAt told image app root → IsTrue told
       → app_at image app ≡ after (app_at image app) (row (app_at image app))
-  refused_app alike again alone told image app at tells = sym (ap (λ (r : Result App PerError). after (app_at image app) r)
+  refused_app alike again alone told image app at tells =
+      sym (ap (λ (r : Result App PerError). after (app_at image app) r)
       (alike (root_app root []) (app_at image app) refused.refusal.0
       (sym (ap (λ (a : App). a.says) (app_is again alone told image app root at tells))) refused.refusal.2))
 
 -- ---- a call that leads to the next root
 
-pub led_text : (result : Result Outcome Stop) (written next : List (List ℕ)) → IfOk result (λ o. texts_in o.root ≡ written) → written ≡ next
+pub led_text : (result : Result Outcome Stop) (written next : List (List ℕ))
+    → IfOk result (λ o. texts_in o.root ≡ written) → written ≡ next
     → IfOk result (λ o. o.refused ≡ None → texts_in o.root ≡ next)
-led_text result written next is so = if_ok (λ (o : Outcome). texts_in o.root ≡ written) (λ (o : Outcome). o.refused ≡ None → texts_in o.root ≡ next) result
+led_text result written next is so = if_ok (λ (o : Outcome). texts_in o.root ≡ written)
+    (λ (o : Outcome). o.refused ≡ None → texts_in o.root ≡ next) result
     (λ o holds none. holds ∙ so) is
 
-module _ (row : App → Result App PerError) (alike : RefusesAlike row) (so_said : SaysAlike row) (root : Root) (next : Says) (leads : Leads row (root_says root) next) where
+module _ (row : App → Result App PerError) (alike : RefusesAlike row) (so_said : SaysAlike row) (root : Root)
+    (next : Says) (leads : Leads row (root_says root) next) where
   in_memory : (r : Result App PerError) → row (root_app root []) ≡ r → (x : App) × (r ≡ Ok x) × (x.says ≡ next)
   in_memory (Ok x) so = (
     x,
     refl,
     sym (ap (λ (r : Result App PerError). (after (root_app root []) r).says) so)
         ∙ so_said (root_app root []) (app_saying (λ f. []) 0 (root_says root)) refl
-        ∙ ap (λ (r : Result App PerError). (after (app_saying (λ f. []) 0 (root_says root)) r).says) (leads.row_is (λ f. []) 0),
+        ∙ ap (λ (r : Result App PerError). (after (app_saying (λ f. []) 0 (root_says root)) r).says)
+        (leads.row_is (λ f. []) 0),
   )
   in_memory (Err e) so = absurd (
       let err = alike (root_app root []) (app_saying (λ f. []) 0 (root_says root)) e refl so in
@@ -104,33 +120,42 @@ module _ (row : App → Result App PerError) (alike : RefusesAlike row) (so_said
   pub led_ok : IsOk (row (root_app root []))
   led_ok = subst (λ (r : Result App PerError). IsOk r) (sym led.1) refl
 
-  pub led_answers : (result : Result Outcome Stop) → IfOk result (λ o. o.refused ≡ None) → IfOk result (λ o. Answers o.refused (row (root_app root [])))
-  led_answers result done = if_ok (λ (o : Outcome). o.refused ≡ None) (λ (o : Outcome). Answers o.refused (row (root_app root []))) result
+  pub led_answers : (result : Result Outcome Stop) → IfOk result (λ o. o.refused ≡ None)
+      → IfOk result (λ o. Answers o.refused (row (root_app root [])))
+  led_answers result done = if_ok (λ (o : Outcome). o.refused ≡ None)
+      (λ (o : Outcome). Answers o.refused (row (root_app root []))) result
       (λ o none. answers_ok o.refused (row (root_app root [])) led.0 none led.1) done
 
   pub led_says : (result : Result Outcome Stop) → IfOk result (λ o. root_says o.root ≡ next)
       → IfOk result (λ o. root_says o.root ≡ (after (root_app root []) (row (root_app root []))).says)
-  led_says result said = if_ok (λ (o : Outcome). root_says o.root ≡ next) (λ (o : Outcome). root_says o.root ≡ (after (root_app root []) (row (root_app root []))).says) result
+  led_says result said = if_ok (λ (o : Outcome). root_says o.root ≡ next)
+      (λ (o : Outcome). root_says o.root ≡ (after (root_app root []) (row (root_app root []))).says) result
       (λ o so. so ∙ sym led.2 ∙ sym (ap (λ (r : Result App PerError). (after (root_app root []) r).says) led.1)) said
 
-  pub led_unchanged : (result : Result Outcome Stop) (Same : Outcome → Type 0) → IfOk result (λ o. o.refused ≡ None) → IfOk result (λ o. (o.refused ≡ None → ⊥) → Same o)
-  led_unchanged result Same done = if_ok (λ (o : Outcome). o.refused ≡ None) (λ (o : Outcome). (o.refused ≡ None → ⊥) → Same o) result
+  pub led_unchanged : (result : Result Outcome Stop) (Same : Outcome → Type 0) → IfOk result (λ o. o.refused ≡ None)
+      → IfOk result (λ o. (o.refused ≡ None → ⊥) → Same o)
+  led_unchanged result Same done = if_ok (λ (o : Outcome). o.refused ≡ None)
+      (λ (o : Outcome). (o.refused ≡ None → ⊥) → Same o) result
       (λ o none refused. absurd (refused none)) done
 
-  module _ (again : AgainLaw) (alone : AloneLaw) (told : Bool) (image : Image) (app : ℕ) (at : RootAt told image app root) (tells : IsTrue told) where
+  module _ (again : AgainLaw) (alone : AloneLaw) (told : Bool) (image : Image) (app : ℕ)
+      (at : RootAt told image app root) (tells : IsTrue told) where
     pub after_is : after (app_at image app) (row (app_at image app)) ≡ app_saying image app next
     after_is = ap (λ (a : App). after a (row a)) (app_is again alone told image app root at tells)
         ∙ ap (λ (r : Result App PerError). after (app_saying image app (root_says root)) r) (leads.row_is image app)
 
-    pub led_app : (result : Result Outcome Stop) (new : Image) → OnOk result (app_at new app ≡ app_saying image app next)
+    pub led_app : (result : Result Outcome Stop) (new : Image)
+        → OnOk result (app_at new app ≡ app_saying image app next)
         → OnOk result (app_at new app ≡ after (app_at image app) (row (app_at image app)))
-    led_app result new on = if_ok (λ (o : Outcome). app_at new app ≡ app_saying image app next) (λ (o : Outcome). app_at new app ≡ after (app_at image app) (row (app_at image app))) result
+    led_app result new on = if_ok (λ (o : Outcome). app_at new app ≡ app_saying image app next)
+        (λ (o : Outcome). app_at new app ≡ after (app_at image app) (row (app_at image app))) result
         (λ o so. so ∙ sym after_is) on
 
     pub next_clean : IsCleanApp app image → AreClean image (shapes_named app next)
     next_clean clean = leads.clean image app (named_clean again alone told image app root at tells clean)
 
-  pub led_stands : AgainLaw → AloneLaw → (told : Bool) (app : ℕ) (old new : Medium) → RootAt told old.image app root → IsTrue told
+  pub led_stands : AgainLaw → AloneLaw → (told : Bool) (app : ℕ) (old new : Medium) → RootAt told old.image app root
+      → IsTrue told
       → (AreClean old.image (shapes_named app next) → StandsThroughout app (app_saying old.image app next) old new)
       → StandsThroughout app (after (app_at old.image app) (row (app_at old.image app))) old new
   led_stands again alone told app old new at tells stands quiet clean =

@@ -41,8 +41,14 @@ module _ (keeps : KeepsLaw) where
   if_kept None is = tt
   if_kept (Some v) is = kept v is
 
-  pub parts_kept : (i : parts.Installed) → IsInstalled i.bank (version_said i.active) (option_map version_said i.previous) → AreParts i
-  parts_kept i is = record { in_bank = is.in_bank; active = kept i.active is.of_active; previous = if_kept i.previous is.of_previous }
+  pub parts_kept : (i : parts.Installed) → IsInstalled i.bank (version_said i.active)
+      (option_map version_said i.previous) → AreParts i
+  parts_kept i is = record {
+    in_bank = is.in_bank;
+    active = kept i.active is.of_active;
+    previous =
+        if_kept i.previous is.of_previous;
+  }
 
 -- parts that were read
 module _ (i : parts.Installed) (says : RootSays) (is : says ≡ Said i.bank i.active i.previous) where
@@ -55,7 +61,8 @@ module _ (i : parts.Installed) (says : RootSays) (is : says ≡ Said i.bank i.ac
 -- ---- the register
 
 -- a register of this place that holds this text under this generation, the text of the root that was read
-module _ (image : Image) (app g : ℕ) (cell : Cell) (t : List ℕ) (r : text.Root) (is : IsCellOf (root_place app) g cell) (spelled : t ≡ root_text r) where
+module _ (image : Image) (app g : ℕ) (cell : Cell) (t : List ℕ) (r : text.Root) (is : IsCellOf (root_place app) g cell)
+    (spelled : t ≡ root_text r) where
   pub root_cell : 1 ≤ g → IsRootCell app cell
   root_cell positive = record { place = is.lies; positive = subst (λ (n : ℕ). 1 ≤ n) (sym is.counts) positive }
 
@@ -67,7 +74,8 @@ module _ (image : Image) (app g : ℕ) (cell : Cell) (t : List ℕ) (r : text.Ro
       (cell_alone image app cell (root_text r) is.lies (cell_on at))
 
 -- a root in memory that says what was read
-module _ (told : Bool) (image : Image) (app g : ℕ) (cell : Cell) (t : List ℕ) (r : text.Root) (root : Root) (is : IsCellOf (root_place app) g cell)
+module _ (told : Bool) (image : Image) (app g : ℕ) (cell : Cell) (t : List ℕ) (r : text.Root) (root : Root)
+    (is : IsCellOf (root_place app) g cell)
     (spelled : t ≡ root_text r) where
   pub root_in_use : 1 ≤ g → (IsTrue told → CellAt image cell t) → (IsRootCell app cell → IsRootOf app root)
       → (CellAt image cell (root_text r) → IsRootOn image app root) → RootAt told image app root
@@ -89,12 +97,16 @@ module _ (place : Place) (app : ℕ) (same : place ≡ root_place app) where
       → Spares (IsNoSlot (root_place app).first (root_place app).copies) old new
   spares_at old new spared = subst (λ (p : Place). Spares (IsNoSlot p.first p.copies) old new) same spared
 
-  pub puts_at : (g : ℕ) (t u : List ℕ) (old new : Medium) → t ≡ u → EachCase (PutStops place.first place.copies g t old.image) old new
+  pub puts_at : (g : ℕ) (t u : List ℕ) (old new : Medium) → t ≡ u
+      → EachCase (PutStops place.first place.copies g t old.image) old new
       → EachCase (PutStops (root_place app).first 3 g u old.image) old new
-  puts_at g t u old new written puts = subst (λ (p : Place). EachCase (PutStops p.first p.copies g u old.image) old new) same
+  puts_at g t u old new written puts = subst (λ (p : Place). EachCase (PutStops p.first p.copies g u old.image) old new)
+      same
       (subst (λ (v : List ℕ). EachCase (PutStops place.first place.copies g v old.image) old new) written puts)
 
-  pub formats_at : (t u : List ℕ) (old new : Medium) → t ≡ u → EachCase (FormatStops place.first place.copies 1 t old.image) old new
+  pub formats_at : (t u : List ℕ) (old new : Medium) → t ≡ u
+      → EachCase (FormatStops place.first place.copies 1 t old.image) old new
       → EachCase (FormatStops (root_place app).first (root_place app).copies 1 u old.image) old new
-  formats_at t u old new written formats = subst (λ (p : Place). EachCase (FormatStops p.first p.copies 1 u old.image) old new) same
+  formats_at t u old new written formats = subst (λ (p : Place).
+      EachCase (FormatStops p.first p.copies 1 u old.image) old new) same
       (subst (λ (v : List ℕ). EachCase (FormatStops place.first place.copies 1 v old.image) old new) written formats)

@@ -20,7 +20,8 @@ settled_so Files image c at = record {
   left = λ f in_them. ap (λ (i : Image). i f) at.left;
 }
 
-pub settled_fewer : (Files Fewer : ℕ → Type 0) (image : Image) (c : Case) → ((f : ℕ) → Fewer f → Files f) → IsSettledOn Files image c → IsSettledOn Fewer image c
+pub settled_fewer : (Files Fewer : ℕ → Type 0) (image : Image) (c : Case) → ((f : ℕ) → Fewer f → Files f)
+    → IsSettledOn Files image c → IsSettledOn Fewer image c
 settled_fewer Files Fewer image c less settled = record {
   base = λ f in_them. settled.base f (less f in_them);
   full = λ f in_them. settled.full f (less f in_them);
@@ -32,16 +33,19 @@ by_row : (a : App) (r : Result App PerError) → ((b : App) → r ≡ Ok b → I
 by_row a (Ok b) later = later b refl
 by_row a (Err e) later = same_root refl refl
 
-pub later_after : (row : App → Result App PerError) → ((a b : App) → row a ≡ Ok b → IsLater a b) → (a : App) → IsLater a (after a (row a))
+pub later_after : (row : App → Result App PerError) → ((a b : App) → row a ≡ Ok b → IsLater a b) → (a : App)
+    → IsLater a (after a (row a))
 later_after row later a = by_row a (row a) (later a)
 
 module _ (told : Bool) (m : Medium) (law : IsLawful told m) where
   pub still_leaves : (Files : ℕ → Type 0) → Leaves told Files m m
   still_leaves Files = record {
     at_the_end = λ tells f in_them. refl;
-    throughout = λ tells quiet. goes_none (IsSettledOn Files m.image) law (λ c now. settled_so Files m.image c (quiet c now));
+    throughout = λ tells quiet. goes_none (IsSettledOn Files m.image) law
+        (λ c now. settled_so Files m.image c (quiet c now));
   }
 
-  pub still_stands : StillAppLaw → (app : ℕ) → app < 8 → (next : App) → IsLater (app_at m.image app) next → StandsThroughout app next m m
+  pub still_stands : StillAppLaw → (app : ℕ) → app < 8 → (next : App) → IsLater (app_at m.image app) next
+      → StandsThroughout app next m m
   still_stands still app lt next later quiet clean = goes_none (StandsCase app (app_at m.image app) next) law
       (λ c now. still app m.image next c lt clean (settled_so (IsFileOf app) m.image c (quiet c now)) later)

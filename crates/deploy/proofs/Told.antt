@@ -15,13 +15,16 @@ pub told_read : (text : List ℕ) (d : DeploymentData) → deployment_in text �
 unfolding deployment_of
 told_read text d says = ap (λ (o : Option DeploymentData). said_or_broken o (broken_rule text)) says
 
-pub told_rejected : (text : List ℕ) (rule : ℕ) → deployment_in text ≡ None → broken_rule text ≡ Some rule → deployment_of text ≡ Err (ManifestRejected rule)
+pub told_rejected : (text : List ℕ) (rule : ℕ) → deployment_in text ≡ None → broken_rule text ≡ Some rule
+    → deployment_of text ≡ Err (ManifestRejected rule)
 unfolding deployment_of
 told_rejected text rule none broken =
-    ap (λ (o : Option DeploymentData). said_or_broken o (broken_rule text)) none ∙ ap (λ (r : Option ℕ). said_or_broken None r) broken
+    ap (λ (o : Option DeploymentData). said_or_broken o (broken_rule text)) none
+    ∙ ap (λ (r : Option ℕ). said_or_broken None r) broken
 
 -- by the error of the reader, which is no want of memory
-pub told_refused : (text : List ℕ) (error : ManifestError) (rule : ℕ) → error ≡ Rejected rule → Refuses (broken_rule text) error
+pub told_refused : (text : List ℕ) (error : ManifestError) (rule : ℕ) → error ≡ Rejected rule
+    → Refuses (broken_rule text) error
     → (error ≢ OutOfMemory → deployment_in text ≡ None) → deployment_of text ≡ Err (ManifestRejected rule)
 told_refused text (Rejected r) rule is broken unsaid =
     let same : r ≡ rule = cc in
@@ -29,6 +32,7 @@ told_refused text (Rejected r) rule is broken unsaid =
 told_refused text OutOfMemory rule is broken unsaid = absurd cc
 
 -- what was read is kept with its text
-pub kept_with : (text : List ℕ) (v : VersionText) → v.text ≡ text → deployment_in text ≡ Some (deployment_data v.deployment) → IsDeployment (deployment_data v.deployment)
+pub kept_with : (text : List ℕ) (v : VersionText) → v.text ≡ text
+    → deployment_in text ≡ Some (deployment_data v.deployment) → IsDeployment (deployment_data v.deployment)
     → IsKept v
 kept_with text v same says keeps = record { said = ap deployment_in same ∙ says; keeps = keeps }

@@ -1,5 +1,6 @@
 -- What is committed over a root with one version is the row of an update.
-use Rattle.std.proofs.Common.{◌≡◌, ℕ, suc, ◌+◌, ◌-◌, ◌≤◌, List, [], ◌∷◌, ◌++◌, length, take, Option, None, Some, refl, sym, ap, ◌∙◌, subst, arith}
+use Rattle.std.proofs.Common.{◌≡◌, ℕ, suc, ◌+◌, ◌-◌, ◌≤◌, List, [], ◌∷◌, ◌++◌, length, take, Option, None, Some, refl}
+use Rattle.std.proofs.Common.{sym, ap, ◌∙◌, subst, arith}
 use Rattle.std.specs.Prelude.{map, option_map}
 use Rattle.std.proofs.lemmas.List.{append-nil, length-map, take_all}
 use Rattle.per_base.specs.declared.elements.Fresh.{Fresh}
@@ -24,7 +25,8 @@ use Rattle.deploy.proofs.InUse.{AgainLaw, in_use}
 
 -- ---- the row
 
-by_says : (p : InProgress) (g : ℕ) (active : Named) (previous : Option Named) (lacking : List ℕ) (states : List State) (s : Says)
+by_says : (p : InProgress) (g : ℕ) (active : Named) (previous : Option Named) (lacking : List ℕ) (states : List State)
+    (s : Says)
     → s ≡ installed g active previous
     → updated_app p (record { says = s; lacking = lacking; states = states }) ≡ record {
       says = installed (g + 1) (record { bank = 1 - active.bank; deployment = p.deployment }) (Some active);
@@ -32,13 +34,15 @@ by_says : (p : InProgress) (g : ℕ) (active : Named) (previous : Option Named) 
       states = made_states p.contents ++ take (storage_count active) states;
     }
 unfolding updated_app
-by_says p g active previous lacking states s is = subst (λ (t : Says). updated_app p (record { says = t; lacking = lacking; states = states }) ≡ record {
-  says = installed (g + 1) (record { bank = 1 - active.bank; deployment = p.deployment }) (Some active);
-  lacking = [];
-  states = made_states p.contents ++ take (storage_count active) states;
-}) (sym is) refl
+by_says p g active previous lacking states s is = subst
+    (λ (t : Says). updated_app p (record { says = t; lacking = lacking; states = states }) ≡ record {
+      says = installed (g + 1) (record { bank = 1 - active.bank; deployment = p.deployment }) (Some active);
+      lacking = [];
+      states = made_states p.contents ++ take (storage_count active) states;
+    }) (sym is) refl
 
-pub committed : (p : InProgress) (g : ℕ) (active : Named) (previous : Option Named) (a : App) → a.says ≡ installed g active previous
+pub committed : (p : InProgress) (g : ℕ) (active : Named) (previous : Option Named) (a : App)
+    → a.says ≡ installed g active previous
     → updated_app p a ≡ record {
       says = installed (g + 1) (record { bank = 1 - active.bank; deployment = p.deployment }) (Some active);
       lacking = [];
@@ -51,17 +55,22 @@ committed p g active previous a is = by_says p g active previous a.lacking a.sta
 pub other_bank : (bank : ℕ) → bank ≤ 1 → 1 - (1 - bank) ≡ bank
 other_bank bank le = omega (arith, le)
 
-pub says_one : (i : Installed) → i.previous ≡ None → root_says (root.Installed i) ≡ installed (generation_of i.cell) (named i.bank (version_said i.active)) None
-says_one i none = ap (λ (p : Option VersionText). installed (generation_of i.cell) (named i.bank (version_said i.active))
+pub says_one : (i : Installed) → i.previous ≡ None → root_says (root.Installed i)
+    ≡ installed (generation_of i.cell) (named i.bank (version_said i.active)) None
+says_one i none = ap (λ (p : Option VersionText). installed (generation_of i.cell)
+    (named i.bank (version_said i.active))
     (option_map (λ (v : VersionText). named (1 - i.bank) (version_said v)) p)) none
 
 -- it is what the next version is made over
 pub held_before : (image : Image) (i : Installed) → i.bank ≤ 1 → i.previous ≡ None
-    → CellAt image i.cell (root_text (text.installed i.bank (version_said i.active) (option_map version_said i.previous)))
+    → CellAt image i.cell (root_text (text.installed i.bank (version_said i.active)
+    (option_map version_said i.previous)))
     → CellAt image i.cell (root_text (root_before (1 - i.bank) (Some (version_said i.active))))
 held_before image i le none at =
-    subst (λ (bank : ℕ). CellAt image i.cell (root_text (text.installed bank (version_said i.active) None))) (sym (other_bank i.bank le))
-    (subst (λ (p : Option VersionText). CellAt image i.cell (root_text (text.installed i.bank (version_said i.active) (option_map version_said p)))) none at)
+    subst (λ (bank : ℕ). CellAt image i.cell (root_text (text.installed bank (version_said i.active) None)))
+    (sym (other_bank i.bank le))
+    (subst (λ (p : Option VersionText). CellAt image i.cell
+    (root_text (text.installed i.bank (version_said i.active) (option_map version_said p)))) none at)
 
 -- ---- the application
 
@@ -73,7 +82,8 @@ names_one : (app g : ℕ) (v : Named) → shapes_named app (installed g v None) 
 unfolding shapes_named
 names_one app g v = append-nil (shapes_in app v)
 
-module _ (again : AgainLaw) (alone : AloneLaw) (image : Image) (app : ℕ) (i : Installed) (of : IsRootOf app (root.Installed i))
+module _ (again : AgainLaw) (alone : AloneLaw) (image : Image) (app : ℕ) (i : Installed)
+    (of : IsRootOf app (root.Installed i))
     (on : IsRootOn image app (root.Installed i)) (none : i.previous ≡ None) where
   abbrev pub active : Named
   active = named i.bank (version_said i.active)
@@ -95,30 +105,51 @@ module _ (again : AgainLaw) (alone : AloneLaw) (image : Image) (app : ℕ) (i : 
 
   abbrev pub with_one : (bank : ℕ) → VersionText → List State → App
   with_one bank v states = record {
-    says = installed (generation_of i.cell + 1) (named (1 - i.bank) (version_said v)) (Some (named bank (version_said i.active)));
+    says = installed (generation_of i.cell + 1) (named (1 - i.bank) (version_said v))
+        (Some (named bank (version_said i.active)));
     lacking = [];
     states = states;
   }
 
   -- the next version joins it as the row has it
   pub next_committed : (v : VersionText) (contents : List (List Fresh)) (built : ℕ)
-      → next_app (generation_of i.cell + 1) (1 - i.bank) (version_said v) (Some (version_said i.active)) contents (app_at image app)
-      ≡ updated_app (record { deployment = deployment_data v.deployment; contents = contents; built = built }) (app_at image app)
+      → next_app (generation_of i.cell + 1) (1 - i.bank) (version_said v) (Some (version_said i.active)) contents
+      (app_at image app)
+      ≡ updated_app (record { deployment = deployment_data v.deployment; contents = contents; built = built })
+      (app_at image app)
   next_committed v contents built =
-      ap (λ (bank : ℕ). with_one bank v (made_states contents ++ (app_at image app).states)) (other_bank i.bank of.1.in_bank)
+      ap (λ (bank : ℕ). with_one bank v (made_states contents ++ (app_at image app).states))
+      (other_bank i.bank of.1.in_bank)
       ∙ ap (λ (states : List State). with_one i.bank v (made_states contents ++ states)) (sym all_states)
-      ∙ sym (committed (record { deployment = deployment_data v.deployment; contents = contents; built = built }) (generation_of i.cell) active None
+      ∙ sym (committed (record { deployment = deployment_data v.deployment; contents = contents; built = built })
+      (generation_of i.cell) active None
       (app_at image app) app_says_one)
 
 -- what the next root says, as the row has it
-pub says_committed : (i j : Installed) (v : VersionText) (contents : List (List Fresh)) (built : ℕ) → i.bank ≤ 1 → i.previous ≡ None
+pub says_committed : (i j : Installed) (v : VersionText) (contents : List (List Fresh)) (built : ℕ) → i.bank ≤ 1
+    → i.previous ≡ None
     → generation_of j.cell ≡ generation_of i.cell + 1 → j.bank ≡ 1 - i.bank → j.active ≡ v → j.previous ≡ Some i.active
-    → root_says (root.Installed j) ≡ (updated_app (record { deployment = deployment_data v.deployment; contents = contents; built = built }) (root_app (root.Installed i) [])).says
+    → root_says (root.Installed j) ≡ (updated_app (record {
+      deployment = deployment_data v.deployment;
+      contents =
+          contents;
+      built = built;
+    }) (root_app (root.Installed i) [])).says
 says_committed i j v contents built le none counts in_bank of_active of_previous =
-    ap (λ (p : Option VersionText). installed (generation_of j.cell) (named j.bank (version_said j.active)) (option_map (λ (w : VersionText). named (1 - j.bank) (version_said w)) p)) of_previous
-    ∙ ap (λ (w : VersionText). installed (generation_of j.cell) (named j.bank (version_said w)) (Some (named (1 - j.bank) (version_said i.active)))) of_active
-    ∙ ap (λ (bank : ℕ). installed (generation_of j.cell) (named bank (version_said v)) (Some (named (1 - bank) (version_said i.active)))) in_bank
-    ∙ ap (λ (g : ℕ). installed g (named (1 - i.bank) (version_said v)) (Some (named (1 - (1 - i.bank)) (version_said i.active)))) counts
-    ∙ ap (λ (bank : ℕ). installed (generation_of i.cell + 1) (named (1 - i.bank) (version_said v)) (Some (named bank (version_said i.active)))) (other_bank i.bank le)
-    ∙ sym (ap (λ (a : App). a.says) (committed (record { deployment = deployment_data v.deployment; contents = contents; built = built }) (generation_of i.cell)
+    ap (λ (p : Option VersionText). installed (generation_of j.cell) (named j.bank (version_said j.active))
+    (option_map (λ (w : VersionText). named (1 - j.bank) (version_said w)) p)) of_previous
+    ∙ ap (λ (w : VersionText). installed (generation_of j.cell) (named j.bank (version_said w))
+    (Some (named (1 - j.bank) (version_said i.active)))) of_active
+    ∙ ap (λ (bank : ℕ). installed (generation_of j.cell) (named bank (version_said v))
+    (Some (named (1 - bank) (version_said i.active)))) in_bank
+    ∙ ap (λ (g : ℕ). installed g (named (1 - i.bank) (version_said v))
+    (Some (named (1 - (1 - i.bank)) (version_said i.active)))) counts
+    ∙ ap (λ (bank : ℕ). installed (generation_of i.cell + 1) (named (1 - i.bank) (version_said v))
+    (Some (named bank (version_said i.active)))) (other_bank i.bank le)
+    ∙ sym (ap (λ (a : App). a.says) (committed (record {
+      deployment = deployment_data v.deployment;
+      contents =
+          contents;
+      built = built;
+    }) (generation_of i.cell)
     (named i.bank (version_said i.active)) None (root_app (root.Installed i) []) (says_one i none)))

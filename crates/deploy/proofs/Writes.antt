@@ -11,7 +11,8 @@ use Rattle.deploy_laws.specs.Places.{root_place}
 use Rattle.deploy_laws.specs.Stands.{StandsCase}
 use Rattle.deploy.proofs.InUse.{AgainLaw}
 
-module _ (again : AgainLaw) (writing : WritingLaw) (app g : ℕ) (r : text.Root) (t : List ℕ) (lt : app < 8) (is : IsRoot r) (after : App)
+module _ (again : AgainLaw) (writing : WritingLaw) (app g : ℕ) (r : text.Root) (t : List ℕ) (lt : app < 8)
+    (is : IsRoot r) (after : App)
     (says : after.says ≡ says_by (g + 1) (Some r)) where
   pub write_stands : (old new : Medium) → IsCleanApp app old.image → IsAlone old.image (root_place app).first 3 g t
       → AreOn old.image (shapes_named app after.says) after.states

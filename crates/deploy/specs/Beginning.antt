@@ -26,8 +26,10 @@ abbrev pub IsOffered : Result Offer PerError → Installed → Result VersionTex
 IsOffered row root (Ok v) = row ≡ Ok (offer_of root v)
 IsOffered row root (Err e) = row ≡ Err e
 
--- what was read of storages is what some states have stored, a state for each, and those are theirs where the disk tells
-pub record IsRead (told : Bool) (image : Image) (shapes : List Shape) (storages : List StorageData) (contents : List Stored) : Type 0 where
+-- what was read of storages is what some states have stored, a state for each, and those are theirs where the disk
+-- tells
+pub record IsRead (told : Bool) (image : Image) (shapes : List Shape) (storages : List StorageData)
+    (contents : List Stored) : Type 0 where
   pub states : List State
   pub each : length states ≡ length storages
   pub theirs : IsTrue told → map (store_at image) shapes ≡ states

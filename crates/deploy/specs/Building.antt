@@ -1,5 +1,6 @@
 -- An update in progress: the storages of the next version are made one after another.
-use Rattle.std.specs.Prelude.{◌≡◌, ◌≤◌, ◌<◌, ◌-◌, ℕ, List, suc, length, take, map, Bool, IsTrue, None, Result, Ok, Err, cond, nat_lt}
+use Rattle.std.specs.Prelude.{◌≡◌, ◌≤◌, ◌<◌, ◌-◌, ℕ, List, suc, length, take, map, Bool, IsTrue, None, Result, Ok, Err}
+use Rattle.std.specs.Prelude.{cond, nat_lt}
 use Rattle.per_base.specs.declared.errors.PerError.{PerError}
 use Rattle.disk_model.specs.Image.{Image}
 use Rattle.deployment_model.specs.Data.{deployment_data, storage_data}
@@ -20,7 +21,12 @@ use Rattle.deploy.specs.Made.{AreMade}
 
 -- the next version, the contents of its storages, and how many of them are made
 abbrev pub progress_in : Staged → InProgress
-progress_in s = record { deployment = deployment_data s.version.deployment; contents = s.contents.items; built = s.built }
+progress_in s = record {
+  deployment = deployment_data s.version.deployment;
+  contents = s.contents.items;
+  built =
+      s.built;
+}
 
 -- the manifest of the next version
 abbrev pub text_in : Staged → List ℕ
@@ -45,7 +51,8 @@ pub record IsStaged (app : ℕ) (s : Staged) : Type 0 where
   pub fit : AllFit (map storage_data s.version.deployment.storages) s.contents.items
   pub within : s.built ≤ length s.contents.items
 
--- it is in use on a disk: the root stands, and those of the next version's storages that are made open at their contents
+-- it is in use on a disk: the root stands, and those of the next version's storages that are made open at their
+-- contents
 pub record StagedAt (told : Bool) (image : Image) (app : ℕ) (s : Staged) : Type 0 where
   pub memory : IsStaged app s
   pub root_on : IsTrue told → IsRootOn image app (Installed s.root)

@@ -1,4 +1,5 @@
--- The errors of the crates below, as reasons to stop. A corrupt text is never one: the calls below that could say it say that they do not.
+-- The errors of the crates below, as reasons to stop. A corrupt text is never one: the calls below that could say it
+-- say that they do not.
 use Rattle.guarded_cell.specs.declared.errors.CellError.{CellError}
 use Rattle.guarded_cell.specs.declared.errors.CellError.TheVariants as cell
 use Rattle.guarded_cell.specs.declared.errors.WriteFault.{WriteFault}

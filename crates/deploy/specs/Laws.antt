@@ -1,4 +1,5 @@
--- A root in use and an update in progress: what the image says of the application, and what leaves them in use. The statements of the laws.
+-- A root in use and an update in progress: what the image says of the application, and what leaves them in use. The
+-- statements of the laws.
 use Rattle.std.specs.Prelude.{◌≡◌, ◌<◌, ◌+◌, ◌≤◌, ℕ, Bool, IsTrue, map}
 use Rattle.disk_model.specs.Frame.{Spares}
 use Rattle.disk_model.specs.Image.{Image}
@@ -21,7 +22,8 @@ IsRootFile app file = (first_file app ≤ file) × (file < first_file app + 12)
 
 -- a root stays in use where none of its files changes
 abbrev pub RootFrameLaw : Type 0
-RootFrameLaw = (told : Bool) (app : ℕ) (old new : Image) (root : Root) → app < 8 → (IsTrue told → Spares (IsRootFile app) old new)
+RootFrameLaw = (told : Bool) (app : ℕ) (old new : Image) (root : Root) → app < 8
+    → (IsTrue told → Spares (IsRootFile app) old new)
     → RootAt told old app root → RootAt told new app root
 
 -- and an update in progress where no file of its application does

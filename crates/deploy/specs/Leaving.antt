@@ -42,7 +42,8 @@ refused_or (Some e) x = Err e
 -- it leads from what the root says to what the next one says, which names storages of the same application, as they are
 pub record Leads (row : App → Result App PerError) (before next : Says) : Type 0 where
   pub row_is : (image : Image) (app : ℕ) → row (app_saying image app before) ≡ Ok (app_saying image app next)
-  pub clean : (image : Image) (app : ℕ) → AreClean image (shapes_named app before) → AreClean image (shapes_named app next)
+  pub clean : (image : Image) (app : ℕ) → AreClean image (shapes_named app before)
+      → AreClean image (shapes_named app next)
 
 -- it refuses the root, which is handed back
 pub record IsRefused (row : App → Result App PerError) (root : Root) (o : Outcome) : Type 0 where
@@ -77,4 +78,5 @@ pub record IsEmptied (row : App → Result App PerError) (root : Root) (cell : O
 abbrev pub IsRegisterAt : (told : Bool) → Image → ℕ → Option Cell → Type 0
 IsRegisterAt told image app None = IsTrue told → says_at image app ≡ nothing
 IsRegisterAt told image app (Some cell) =
-    IsRootCell app cell × (generation_of cell < greatest_generation) × (IsTrue told → (text : List ℕ) × CellAt image cell text)
+    IsRootCell app cell × (generation_of cell < greatest_generation)
+    × (IsTrue told → (text : List ℕ) × CellAt image cell text)

@@ -11,7 +11,8 @@ abbrev pub root_before : (bank : ℕ) → (previous : Option Version) → text.R
 root_before bank None = text.absent
 root_before bank (Some v) = text.installed (1 - bank) v None
 
--- the application once the root is written: its storages have these contents, and those of the version before it are as they were
+-- the application once the root is written: its storages have these contents, and those of the version before it are as
+-- they were
 abbrev pub next_app : (generation bank : ℕ) → Version → (previous : Option Version) → List (List Fresh) → App → App
 next_app g bank v previous contents a = record {
   says = says_by g (Some (text.installed bank v previous));

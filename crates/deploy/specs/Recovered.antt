@@ -15,7 +15,8 @@ use Rattle.deploy_rows.specs.Recovering.{is_content, rescued}
 abbrev pub rescued_entry : StorageData → ℕ → Entry → Option Fresh
 rescued_entry s now e = rescued s now e (judged_content (is_content s.kind) e.content)
 
--- elements of a storage of this kind, whatever their size together: at most 1024, each as its kind asks, and names that ascend
+-- elements of a storage of this kind, whatever their size together: at most 1024, each as its kind asks, and names that
+-- ascend
 pub record AreElements (kind : StoreKind) (contents : List Fresh) : Type 0 where
   pub each : AllByRecursion (IsFresh kind) contents
   pub names_ascend : IsStrictlySortedBy name_cmp (map (λ (f : Fresh). f.name) contents)

@@ -1,11 +1,12 @@
 -- Refusals that are answered at once.
 use Rattle.std.specs.Prelude.{⊤}
 use Rattle.per_base.specs.declared.errors.PerError.{PerError}
-use Rattle.per_base.specs.declared.errors.PerError.TheVariants.{AlreadyInstalled, IntegrityCorrupted, NoPreviousVersion, NotInstalled, UpdateNotFinished}
+use Rattle.per_base.specs.declared.errors.PerError.TheVariants.{AlreadyInstalled, IntegrityCorrupted, NoPreviousVersion}
+use Rattle.per_base.specs.declared.errors.PerError.TheVariants.{NotInstalled, UpdateNotFinished}
 use Rattle.per_base.specs.declared.errors.Unit.TheVariants as unit
 
--- The root alone decides it, ahead of all that takes memory, and it carries no text. That no generation is left is none of these: it is
--- judged behind a manifest, or behind an open storage whose name is copied.
+-- The root alone decides it, ahead of all that takes memory, and it carries no text. That no generation is left is none
+-- of these: it is judged behind a manifest, or behind an open storage whose name is copied.
 abbrev pub TakesNoMemory : PerError → Type 0
 TakesNoMemory (IntegrityCorrupted unit.Root) = ⊤
 TakesNoMemory NotInstalled = ⊤

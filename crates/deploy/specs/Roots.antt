@@ -20,7 +20,8 @@ use Rattle.deploy_laws.specs.Apps.{Says, nothing, absent, installed, App, named,
 abbrev pub root_says : Root → Says
 root_says Bad = nothing
 root_says (Absent cell) = absent (generation_of cell)
-root_says (Installed i) = installed (generation_of i.cell) (named i.bank (version_said i.active)) (option_map (λ v. named (1 - i.bank) (version_said v)) i.previous)
+root_says (Installed i) = installed (generation_of i.cell) (named i.bank (version_said i.active))
+    (option_map (λ v. named (1 - i.bank) (version_said v)) i.previous)
 
 -- as an application whose storages have these states
 abbrev pub root_app : Root → List State → App
@@ -75,7 +76,8 @@ IsRootOf app (Installed i) = IsRootCell app i.cell × AreParts i
 abbrev pub IsRootOn : Image → ℕ → Root → Type 0
 IsRootOn image app Bad = says_at image app ≡ nothing
 IsRootOn image app (Absent cell) = CellAt image cell (root_text text.absent)
-IsRootOn image app (Installed i) = CellAt image i.cell (root_text (text.installed i.bank (version_said i.active) (option_map version_said i.previous)))
+IsRootOn image app (Installed i) = CellAt image i.cell
+    (root_text (text.installed i.bank (version_said i.active) (option_map version_said i.previous)))
 
 -- the root is in use on a disk: where the disk tells its bytes, they are the root's
 pub record RootAt (told : Bool) (image : Image) (app : ℕ) (root : Root) : Type 0 where

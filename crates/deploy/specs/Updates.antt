@@ -12,7 +12,8 @@ use Rattle.deploy.specs.declared.roots.Root.{Root}
 use Rattle.deploy.specs.Roots.{root_app, root_says}
 
 -- an update over this root answers one of its rows: that row's refusal, or the application to which the row leads
-pub record IsUpdated (told : Bool) (Rows : App → Result InProgress PerError → Type 0) (app : ℕ) (old new : Image) (root : Root) (o : Outcome) : Type 0 where
+pub record IsUpdated (told : Bool) (Rows : App → Result InProgress PerError → Type 0) (app : ℕ) (old new : Image)
+    (root : Root) (o : Outcome) : Type 0 where
   -- what the storages hold, and how the update begins over it
   pub states : List State
   pub row : Result InProgress PerError
@@ -23,8 +24,8 @@ pub record IsUpdated (told : Bool) (Rows : App → Result InProgress PerError �
   pub says : root_says o.root ≡ (after (root_app root states) (updated (root_app root states) row)).says
   pub leads : IsTrue told → app_at new app ≡ after (app_at old app) (updated (app_at old app) row)
 
--- at every moment of a call the application stands between what it was and one other, to which the call may lead; the call's end, where
--- it ends well, is that one
+-- at every moment of a call the application stands between what it was and one other, to which the call may lead; the
+-- call's end, where it ends well, is that one
 pub record LeadsTo {T E : Type 0} (app : ℕ) (May : App → Type 0) (result : Result T E) (old new : Medium) : Type 0 where
   pub next : App
   pub may : May next

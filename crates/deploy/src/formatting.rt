@@ -30,8 +30,10 @@ const APPS: u32 = 8;
 ///
 /// `Device` where the disk fails, and `OutOfMemory`: some of the applications may be formatted.
 pub fn format_all<D: Disk>(alloc: Global, disk: &mut D) -> Result<(), Stop>
-    ensures apps { IsTrue D.told → OnOk result ((app : ℕ) → app < 8 → app_at (D.medium disk.new).image app ≡ empty_app 1) }
-    ensures settled { IsTrue D.told → OnOk result ((app : ℕ) → app < 8 → IsTrue (root_settled (D.medium disk.new).image app)) }
+    ensures apps { IsTrue D.told → OnOk result ((app : ℕ) → app < 8
+        → app_at (D.medium disk.new).image app ≡ empty_app 1) }
+    ensures settled { IsTrue D.told → OnOk result ((app : ℕ) → app < 8
+        → IsTrue (root_settled (D.medium disk.new).image app)) }
     ensures clean { IsTrue D.told → OnOk result ((app : ℕ) → app < 8 → IsCleanApp app (D.medium disk.new).image) }
     ensures quiet { OnOk result (Quiet (D.medium disk.new)) }
     ensures cause { IsErrOf result Stop.Device → Rose (D.medium disk.old).faults (D.medium disk.new).faults }
@@ -39,7 +41,8 @@ pub fn format_all<D: Disk>(alloc: Global, disk: &mut D) -> Result<(), Stop>
     ensures fed { IsErrOf result Stop.OutOfMemory → (D.medium disk.new).faults ≡ (D.medium disk.old).faults }
 
     // Only slots of roots change.
-    ensures outside { Leaves D.told (λ file. (app : ℕ) → app < 8 → IsNoRootSlot app file) (D.medium disk.old) (D.medium disk.new) }
+    ensures outside { Leaves D.told (λ file. (app : ℕ) → app < 8 → IsNoRootSlot app file) (D.medium disk.old)
+        (D.medium disk.new) }
     ensures time { Elapses (D.medium disk.old) (D.medium disk.new) }
 {
     roots_say();
@@ -62,9 +65,11 @@ pub(crate) fn format_root<D: Disk>(alloc: Global, disk: &mut D, app: u32) -> Res
     ensures cause { IsErrOf result Stop.Device → Rose (D.medium disk.old).faults (D.medium disk.new).faults }
     ensures passes { OnOk result ((D.medium disk.new).faults ≡ (D.medium disk.old).faults) }
     ensures elsewhere { IsTrue D.told
-        → Spares (IsNoSlot (root_place app).first (root_place app).copies) (D.medium disk.old).image (D.medium disk.new).image }
+        → Spares (IsNoSlot (root_place app).first (root_place app).copies) (D.medium disk.old).image
+        (D.medium disk.new).image }
     ensures any_moment { IsTrue D.told → Quiet (D.medium disk.old)
-        → EachCase (FormatStops (root_place app).first (root_place app).copies 1 (root_text absent) (D.medium disk.old).image)
+        → EachCase (FormatStops (root_place app).first (root_place app).copies 1 (root_text absent)
+        (D.medium disk.old).image)
         (D.medium disk.old) (D.medium disk.new) }
     ensures time { Elapses (D.medium disk.old) (D.medium disk.new) }
 {

@@ -1,6 +1,7 @@
 //! Installing a first version.
 
-ghost use Rattle.std.specs.Prelude.{◌≡◌, ◌≤◌, ◌<◌, ◌+◌, ◌⊎◌, [], ◌∷◌, Err, IfOk, IsErrOf, IsOk, IsTrue, None, Ok, OnOk, length, map, option_map, take};
+ghost use Rattle.std.specs.Prelude.{◌≡◌, ◌≤◌, ◌<◌, ◌+◌, ◌⊎◌, [], ◌∷◌, Err, IfOk, IsErrOf, IsOk, IsTrue, None, Ok, OnOk};
+ghost use Rattle.std.specs.Prelude.{length, map, option_map, take};
 ghost use Rattle.std.specs.Option.{ForSome};
 ghost use Rattle.per_base.specs.Causes.{Rose};
 ghost use Rattle.per_base.specs.declared.errors.PerError.{PerError};
@@ -34,11 +35,12 @@ use per_base::{Fresh, Limit, PerError, Sequence, Unit};
 use root_text::{VersionText, one_root};
 use std::alloc::Global;
 
-/// Installs the version that a manifest describes, at a moment in seconds: its storages are made in bank 0 with their initial contents,
-/// and then the root is written.
+/// Installs the version that a manifest describes, at a moment in seconds: its storages are made in bank 0 with their
+/// initial contents, and then the root is written.
 ///
-/// Refusals, the first that holds: `IntegrityCorrupted` with the root where it is bad; `AlreadyInstalled`; `ManifestRejected` with the
-/// least rule that is broken; `LimitReached` with `Generations` where the root has none left. They come before any call of the disk.
+/// Refusals, the first that holds: `IntegrityCorrupted` with the root where it is bad; `AlreadyInstalled`;
+/// `ManifestRejected` with the least rule that is broken; `LimitReached` with `Generations` where the root has none
+/// left. They come before any call of the disk.
 ///
 /// # Errors
 ///
@@ -56,25 +58,30 @@ pub fn install<D: Disk>(
 
     ensures root { IfOk result (λ o. RootAt D.told (D.medium disk.new).image app o.root) }
     ensures refused { IfOk result (λ o. Answers o.refused (installing now manifest.now (root_app root []))) }
-    ensures says { IfOk result (λ o. root_says o.root ≡ (after (root_app root []) (installing now manifest.now (root_app root []))).says) }
+    ensures says { IfOk result (λ o. root_says o.root ≡ (after (root_app root [])
+        (installing now manifest.now (root_app root []))).says) }
     ensures text { IfOk result (λ o. o.refused ≡ None → texts_in o.root ≡ manifest.now ∷ []) }
     ensures app { IsTrue D.told → OnOk result (app_at (D.medium disk.new).image app
-        ≡ after (app_at (D.medium disk.old).image app) (installing now manifest.now (app_at (D.medium disk.old).image app))) }
+        ≡ after (app_at (D.medium disk.old).image app) (installing now manifest.now
+        (app_at (D.medium disk.old).image app))) }
     ensures clean { IsTrue D.told → IfOk result (λ o. (o.refused ≡ None) ⊎ IsCleanApp app (D.medium disk.old).image
         → IsCleanApp app (D.medium disk.new).image) }
     ensures quiet { Quiet (D.medium disk.old) → OnOk result (Quiet (D.medium disk.new)) }
     ensures unchanged { IfOk result (λ o. (o.refused ≡ None → ⊥) → (disk.new ≡ disk.old) × (o.root ≡ root)) }
     ensures early { (e : PerError) → installing now manifest.now (root_app root []) ≡ Err e → disk.new ≡ disk.old }
-    ensures due { (e : PerError) → installing now manifest.now (root_app root []) ≡ Err e → TakesNoMemory e → IsOk result }
+    ensures due { (e : PerError) → installing now manifest.now (root_app root []) ≡ Err e → TakesNoMemory e
+        → IsOk result }
     ensures cause { IsErrOf result Stop.Device → Rose (D.medium disk.old).faults (D.medium disk.new).faults }
     ensures device_only { IsErrOf result Stop.Device → IsOk (installing now manifest.now (root_app root [])) }
     ensures passes { OnOk result ((D.medium disk.new).faults ≡ (D.medium disk.old).faults) }
     ensures fed { IsErrOf result Stop.OutOfMemory → (D.medium disk.new).faults ≡ (D.medium disk.old).faults }
 
-    // Only slots of the root and files of bank 0 change, and at any moment the application stands as before or as after.
+    // Only slots of the root and files of bank 0 change, and at any moment the application stands as before or as
+    // after.
     ensures outside { Leaves D.told (IsBesideNext app 0) (D.medium disk.old) (D.medium disk.new) }
     ensures any_moment { IsTrue D.told → StandsThroughout app
-        (after (app_at (D.medium disk.old).image app) (installing now manifest.now (app_at (D.medium disk.old).image app)))
+        (after (app_at (D.medium disk.old).image app) (installing now manifest.now
+        (app_at (D.medium disk.old).image app)))
         (D.medium disk.old) (D.medium disk.new) }
     ensures time { Elapses (D.medium disk.old) (D.medium disk.new) }
 {
@@ -103,24 +110,31 @@ fn install_first<D: Disk>(
     requires root { RootAt D.told (D.medium disk.old).image app (Root.Absent cell) }
 
     ensures root { IfOk result (λ o. RootAt D.told (D.medium disk.new).image app o.root) }
-    ensures refused { IfOk result (λ o. Answers o.refused (installing now manifest.now (root_app (Root.Absent cell) []))) }
+    ensures refused { IfOk result (λ o. Answers o.refused
+        (installing now manifest.now (root_app (Root.Absent cell) []))) }
     ensures says { IfOk result (λ o. root_says o.root
-        ≡ (after (root_app (Root.Absent cell) []) (installing now manifest.now (root_app (Root.Absent cell) []))).says) }
+        ≡ (after (root_app (Root.Absent cell) []) (installing now manifest.now
+        (root_app (Root.Absent cell) []))).says) }
     ensures text { IfOk result (λ o. o.refused ≡ None → texts_in o.root ≡ manifest.now ∷ []) }
     ensures app { IsTrue D.told → OnOk result (app_at (D.medium disk.new).image app
-        ≡ after (app_at (D.medium disk.old).image app) (installing now manifest.now (app_at (D.medium disk.old).image app))) }
+        ≡ after (app_at (D.medium disk.old).image app) (installing now manifest.now
+        (app_at (D.medium disk.old).image app))) }
     ensures clean { IsTrue D.told → IfOk result (λ o. (o.refused ≡ None) ⊎ IsCleanApp app (D.medium disk.old).image
         → IsCleanApp app (D.medium disk.new).image) }
     ensures quiet { Quiet (D.medium disk.old) → OnOk result (Quiet (D.medium disk.new)) }
-    ensures unchanged { IfOk result (λ o. (o.refused ≡ None → ⊥) → (disk.new ≡ disk.old) × (o.root ≡ Root.Absent cell)) }
-    ensures early { (e : PerError) → installing now manifest.now (root_app (Root.Absent cell) []) ≡ Err e → disk.new ≡ disk.old }
+    ensures unchanged { IfOk result (λ o. (o.refused ≡ None → ⊥)
+        → (disk.new ≡ disk.old) × (o.root ≡ Root.Absent cell)) }
+    ensures early { (e : PerError) → installing now manifest.now (root_app (Root.Absent cell) []) ≡ Err e
+        → disk.new ≡ disk.old }
     ensures cause { IsErrOf result Stop.Device → Rose (D.medium disk.old).faults (D.medium disk.new).faults }
-    ensures device_only { IsErrOf result Stop.Device → IsOk (installing now manifest.now (root_app (Root.Absent cell) [])) }
+    ensures device_only { IsErrOf result Stop.Device → IsOk
+        (installing now manifest.now (root_app (Root.Absent cell) [])) }
     ensures passes { OnOk result ((D.medium disk.new).faults ≡ (D.medium disk.old).faults) }
     ensures fed { IsErrOf result Stop.OutOfMemory → (D.medium disk.new).faults ≡ (D.medium disk.old).faults }
     ensures outside { Leaves D.told (IsBesideNext app 0) (D.medium disk.old) (D.medium disk.new) }
     ensures any_moment { IsTrue D.told → StandsThroughout app
-        (after (app_at (D.medium disk.old).image app) (installing now manifest.now (app_at (D.medium disk.old).image app)))
+        (after (app_at (D.medium disk.old).image app) (installing now manifest.now
+        (app_at (D.medium disk.old).image app)))
         (D.medium disk.old) (D.medium disk.new) }
     ensures time { Elapses (D.medium disk.old) (D.medium disk.new) }
 {
@@ -155,17 +169,20 @@ fn install_version<D: Disk>(
 
     ensures root { IfOk result (λ o. RootAt D.told (D.medium disk.new).image app o.root) }
     ensures installed { IfOk result (λ o. o.refused ≡ None) }
-    ensures says { IfOk result (λ o. root_says o.root ≡ (installed_app (generation_of cell) now (deployment_data version.deployment)).says) }
+    ensures says { IfOk result (λ o. root_says o.root ≡ (installed_app (generation_of cell) now
+        (deployment_data version.deployment)).says) }
     ensures text { IfOk result (λ o. texts_in o.root ≡ version.text ∷ []) }
     ensures app { IsTrue D.told → OnOk result
-        (app_at (D.medium disk.new).image app ≡ installed_app (generation_of cell) now (deployment_data version.deployment)) }
+        (app_at (D.medium disk.new).image app ≡ installed_app (generation_of cell) now
+        (deployment_data version.deployment)) }
     ensures clean { IsTrue D.told → OnOk result (IsCleanApp app (D.medium disk.new).image) }
     ensures quiet { OnOk result (Quiet (D.medium disk.new)) }
     ensures cause { IsErrOf result Stop.Device → Rose (D.medium disk.old).faults (D.medium disk.new).faults }
     ensures passes { OnOk result ((D.medium disk.new).faults ≡ (D.medium disk.old).faults) }
     ensures fed { IsErrOf result Stop.OutOfMemory → (D.medium disk.new).faults ≡ (D.medium disk.old).faults }
     ensures outside { Leaves D.told (IsBesideNext app 0) (D.medium disk.old) (D.medium disk.new) }
-    ensures any_moment { IsTrue D.told → StandsThroughout app (installed_app (generation_of cell) now (deployment_data version.deployment))
+    ensures any_moment { IsTrue D.told → StandsThroughout app
+        (installed_app (generation_of cell) now (deployment_data version.deployment))
         (D.medium disk.old) (D.medium disk.new) }
     ensures time { Elapses (D.medium disk.old) (D.medium disk.new) }
 {
@@ -185,8 +202,9 @@ fn install_version<D: Disk>(
     })
 }
 
-/// Makes the storages of the next version, from the one with number `built` on, in a bank in which no version lies, and then writes the
-/// root: that version is active, and the one before it, if there is one, lies in the other bank as it was.
+/// Makes the storages of the next version, from the one with number `built` on, in a bank in which no version lies, and
+/// then writes the root: that version is active, and the one before it, if there is one, lies in the other bank as it
+/// was.
 pub(crate) fn make_version<D: Disk>(
     alloc: Global,
     disk: &mut D,
@@ -207,28 +225,34 @@ pub(crate) fn make_version<D: Disk>(
     requires fit { AllFit (map storage_data version.now.deployment.storages) contents.now }
     requires within { built ≤ length contents.now }
     requires held { IsTrue D.told
-        → CellAt (D.medium disk.old).image cell (root_text (root_before bank (option_map (λ v. version_said v.now) previous))) }
+        → CellAt (D.medium disk.old).image cell (root_text
+        (root_before bank (option_map (λ v. version_said v.now) previous))) }
     requires made { IsTrue D.told → AreMade (D.medium disk.old).image
-        (take built (shapes_from app bank 0 (map storage_data version.now.deployment.storages))) (take built contents.now) }
+        (take built (shapes_from app bank 0 (map storage_data version.now.deployment.storages)))
+        (take built contents.now) }
 
     ensures next { IfOk result (IsCellOf (root_place app) (generation_of cell + 1)) }
     ensures held { IsTrue D.told → IfOk result (λ next. CellAt (D.medium disk.new).image next
         (root_text (installed bank (version_said version.now) (option_map (λ v. version_said v.now) previous.entry)))) }
     ensures app { IsTrue D.told → OnOk result (app_at (D.medium disk.new).image app
-        ≡ next_app (generation_of cell + 1) bank (version_said version.now) (option_map (λ v. version_said v.now) previous.entry) contents.now
+        ≡ next_app (generation_of cell + 1) bank (version_said version.now)
+        (option_map (λ v. version_said v.now) previous.entry) contents.now
         (app_at (D.medium disk.old).image app)) }
-    ensures clean { IsTrue D.told → (option_map (λ v. version_said v.now) previous.entry ≡ None) ⊎ IsCleanApp app (D.medium disk.old).image
+    ensures clean { IsTrue D.told → (option_map (λ v. version_said v.now) previous.entry ≡ None)
+        ⊎ IsCleanApp app (D.medium disk.old).image
         → OnOk result (IsCleanApp app (D.medium disk.new).image) }
     ensures quiet { OnOk result (Quiet (D.medium disk.new)) }
     ensures cause { IsErrOf result Stop.Device → Rose (D.medium disk.old).faults (D.medium disk.new).faults }
     ensures passes { OnOk result ((D.medium disk.new).faults ≡ (D.medium disk.old).faults) }
     ensures fed { IsErrOf result Stop.OutOfMemory → (D.medium disk.new).faults ≡ (D.medium disk.old).faults }
 
-    // Only slots of the root and files of the storages that remain change, and at any moment the application stands as before or as
-    // after.
-    ensures outside { Leaves D.told (IsBesideCommit app bank built (length contents.now)) (D.medium disk.old) (D.medium disk.new) }
+    // Only slots of the root and files of the storages that remain change, and at any moment the application stands as
+    // before or as after.
+    ensures outside { Leaves D.told (IsBesideCommit app bank built (length contents.now)) (D.medium disk.old)
+        (D.medium disk.new) }
     ensures any_moment { IsTrue D.told → StandsThroughout app
-        (next_app (generation_of cell + 1) bank (version_said version.now) (option_map (λ v. version_said v.now) previous.entry) contents.now
+        (next_app (generation_of cell + 1) bank (version_said version.now)
+        (option_map (λ v. version_said v.now) previous.entry) contents.now
         (app_at (D.medium disk.old).image app))
         (D.medium disk.old) (D.medium disk.new) }
     ensures time { Elapses (D.medium disk.old) (D.medium disk.new) }

@@ -6,7 +6,8 @@ use deploy_laws::{files_lie_apart, roots_say};
 use element_laws::places_stand_apart;
 use root_text::one_root;
 
-/// What an image says of an application whose root is in use is what the root says, with the states of the storages that it names.
+/// What an image says of an application whose root is in use is what the root says, with the states of the storages
+/// that it names.
 pub fn roots_in_use()
     ensures app { InUseLaw }
 {
@@ -14,7 +15,8 @@ pub fn roots_in_use()
     roots_say();
 }
 
-/// A root stays in use while none of its files changes, and an update in progress while none of the files of its application does.
+/// A root stays in use while none of its files changes, and an update in progress while none of the files of its
+/// application does.
 pub fn in_use_stays()
     ensures root { RootFrameLaw }
     ensures staged { StagedFrameLaw }

@@ -1,6 +1,7 @@
 //! Leaving one of two versions behind: the previous one is forgotten, or it is active again.
 
-ghost use Rattle.std.specs.Prelude.{◌≡◌, ◌≤◌, ◌<◌, ◌⊎◌, ℕ, List, [], ◌∷◌, Err, IfErr, IfNone, IfOk, IsErrOf, IsOk, IsTrue, None, Ok, OnOk, Result, drop, option_map, take};
+ghost use Rattle.std.specs.Prelude.{◌≡◌, ◌≤◌, ◌<◌, ◌⊎◌, ℕ, List, [], ◌∷◌, Err, IfErr, IfNone, IfOk, IsErrOf, IsOk};
+ghost use Rattle.std.specs.Prelude.{IsTrue, None, Ok, OnOk, Result, drop, option_map, take};
 ghost use Rattle.per_base.specs.Causes.{Rose};
 ghost use Rattle.per_base.specs.declared.errors.PerError.{PerError};
 ghost use Rattle.disk_model.specs.Medium.{Elapses, Quiet};
@@ -28,8 +29,8 @@ use std::alloc::Global;
 
 /// Forgets the previous version: the root is written. What its bank holds stays, and nothing names it.
 ///
-/// Refusals, the first that holds: `IntegrityCorrupted` with the root where it is bad; `NotInstalled`; `NoPreviousVersion`; `LimitReached`
-/// with `Generations`. They come before any call of the disk and take no memory.
+/// Refusals, the first that holds: `IntegrityCorrupted` with the root where it is bad; `NotInstalled`;
+/// `NoPreviousVersion`; `LimitReached` with `Generations`. They come before any call of the disk and take no memory.
 ///
 /// # Errors
 ///
@@ -41,7 +42,8 @@ pub fn finish<D: Disk>(alloc: Global, disk: &mut D, root: Root) -> Result<Outcom
         → IfOk result (λ o. RootAt D.told (D.medium disk.new).image app o.root) }
     ensures refused { IfOk result (λ o. Answers o.refused (finishing (root_app root []))) }
     ensures due { (e : PerError) → finishing (root_app root []) ≡ Err e → IsOk result }
-    ensures says { IfOk result (λ o. root_says o.root ≡ (after (root_app root []) (finishing (root_app root []))).says) }
+    ensures says { IfOk result (λ o. root_says o.root ≡ (after (root_app root [])
+        (finishing (root_app root []))).says) }
     ensures text { IfOk result (λ o. o.refused ≡ None → texts_in o.root ≡ take 1 (texts_in root)) }
     ensures app { IsTrue D.told → (app : ℕ) → app < 8 → RootAt D.told (D.medium disk.old).image app root
         → OnOk result (app_at (D.medium disk.new).image app
@@ -59,7 +61,8 @@ pub fn finish<D: Disk>(alloc: Global, disk: &mut D, root: Root) -> Result<Outcom
     // Only slots of the root change, and at any moment the application stands as before or as after.
     ensures outside { (app : ℕ) → app < 8 → RootAt D.told (D.medium disk.old).image app root
         → Leaves D.told (IsNoRootSlot app) (D.medium disk.old) (D.medium disk.new) }
-    ensures any_moment { IsTrue D.told → (app : ℕ) → app < 8 → RootAt D.told (D.medium disk.old).image app root → StandsThroughout app
+    ensures any_moment { IsTrue D.told → (app : ℕ) → app < 8 → RootAt D.told (D.medium disk.old).image app root
+        → StandsThroughout app
         (after (app_at (D.medium disk.old).image app) (finishing (app_at (D.medium disk.old).image app)))
         (D.medium disk.old) (D.medium disk.new) }
     ensures time { Elapses (D.medium disk.old) (D.medium disk.new) }
@@ -75,11 +78,12 @@ pub fn finish<D: Disk>(alloc: Global, disk: &mut D, root: Root) -> Result<Outcom
     }
 }
 
-/// Makes the previous version active again, as it was when the update began: the root is written. What the bank of the newer version
-/// holds stays, and nothing names it.
+/// Makes the previous version active again, as it was when the update began: the root is written. What the bank of the
+/// newer version holds stays, and nothing names it.
 ///
-/// Refusals, the first that holds: `IntegrityCorrupted` with the root where it is bad; `NotInstalled`; `NoPreviousVersion`;
-/// `ResourceBusy` where `busy` names an open storage; `LimitReached` with `Generations`. They come before any call of the disk.
+/// Refusals, the first that holds: `IntegrityCorrupted` with the root where it is bad; `NotInstalled`;
+/// `NoPreviousVersion`; `ResourceBusy` where `busy` names an open storage; `LimitReached` with `Generations`. They come
+/// before any call of the disk.
 ///
 /// # Errors
 ///
@@ -94,7 +98,8 @@ pub fn rollback<D: Disk>(
 
     ensures root { (app : ℕ) → app < 8 → RootAt D.told (D.medium disk.old).image app root
         → IfOk result (λ o. RootAt D.told (D.medium disk.new).image app o.root) }
-    ensures refused { IfOk result (λ o. Answers o.refused (rolling_back (option_map (λ n. n.now) busy.entry) (root_app root []))) }
+    ensures refused { IfOk result (λ o. Answers o.refused
+        (rolling_back (option_map (λ n. n.now) busy.entry) (root_app root []))) }
     ensures says { IfOk result (λ o. root_says o.root
         ≡ (after (root_app root []) (rolling_back (option_map (λ n. n.now) busy.entry) (root_app root []))).says) }
     ensures text { IfOk result (λ o. o.refused ≡ None → texts_in o.root ≡ drop 1 (texts_in root)) }
@@ -105,21 +110,25 @@ pub fn rollback<D: Disk>(
         → IsCleanApp app (D.medium disk.old).image → OnOk result (IsCleanApp app (D.medium disk.new).image) }
     ensures quiet { Quiet (D.medium disk.old) → OnOk result (Quiet (D.medium disk.new)) }
     ensures unchanged { IfOk result (λ o. (o.refused ≡ None → ⊥) → (disk.new ≡ disk.old) × (o.root ≡ root)) }
-    ensures early { (e : PerError) → rolling_back (option_map (λ n. n.now) busy.entry) (root_app root []) ≡ Err e → disk.new ≡ disk.old }
+    ensures early { (e : PerError) → rolling_back (option_map (λ n. n.now) busy.entry) (root_app root []) ≡ Err e
+        → disk.new ≡ disk.old }
 
     // Where no storage is open, no refusal takes memory.
     ensures due { (e : PerError) → rolling_back (option_map (λ n. n.now) busy.entry) (root_app root []) ≡ Err e
         → TakesNoMemory e ⊎ (busy.entry ≡ None) → IsOk result }
     ensures cause { IsErrOf result Stop.Device → Rose (D.medium disk.old).faults (D.medium disk.new).faults }
-    ensures device_only { IsErrOf result Stop.Device → IsOk (rolling_back (option_map (λ n. n.now) busy.entry) (root_app root [])) }
+    ensures device_only { IsErrOf result Stop.Device → IsOk
+        (rolling_back (option_map (λ n. n.now) busy.entry) (root_app root [])) }
     ensures memory { IsErrOf result Stop.OutOfMemory → disk.new ≡ disk.old }
     ensures passes { OnOk result ((D.medium disk.new).faults ≡ (D.medium disk.old).faults) }
 
     // Only slots of the root change, and at any moment the application stands as before or as after.
     ensures outside { (app : ℕ) → app < 8 → RootAt D.told (D.medium disk.old).image app root
         → Leaves D.told (IsNoRootSlot app) (D.medium disk.old) (D.medium disk.new) }
-    ensures any_moment { IsTrue D.told → (app : ℕ) → app < 8 → RootAt D.told (D.medium disk.old).image app root → StandsThroughout app
-        (after (app_at (D.medium disk.old).image app) (rolling_back (option_map (λ n. n.now) busy.entry) (app_at (D.medium disk.old).image app)))
+    ensures any_moment { IsTrue D.told → (app : ℕ) → app < 8 → RootAt D.told (D.medium disk.old).image app root
+        → StandsThroughout app
+        (after (app_at (D.medium disk.old).image app) (rolling_back (option_map (λ n. n.now) busy.entry)
+        (app_at (D.medium disk.old).image app)))
         (D.medium disk.old) (D.medium disk.new) }
     ensures time { Elapses (D.medium disk.old) (D.medium disk.new) }
 {
@@ -187,9 +196,11 @@ impl Root {
     // The previous version without the active one, or why that is refused.
     fn with_previous(self, busy: Option<&Name>) -> Result<Result<Lone, Outcome>, Stop>
         requires { (app : ℕ) × IsRootOf app self }
-        ensures lone { IfOk result (λ left. IfOk left (IsLone (rolling_back (option_map (λ n. n.now) busy.entry)) self)) }
+        ensures lone { IfOk result (λ left. IfOk left (IsLone (rolling_back (option_map (λ n. n.now) busy.entry))
+            self)) }
         ensures text { IfOk result (λ left. IfOk left (λ l. l.version.text ∷ [] ≡ drop 1 (texts_in self))) }
-        ensures refused { IfOk result (λ left. IfErr left (IsRefused (rolling_back (option_map (λ n. n.now) busy.entry)) self)) }
+        ensures refused { IfOk result (λ left. IfErr left (IsRefused (rolling_back (option_map (λ n. n.now) busy.entry))
+            self)) }
         ensures due { (e : PerError) → rolling_back (option_map (λ n. n.now) busy.entry) (root_app self []) ≡ Err e
             → TakesNoMemory e ⊎ (busy.entry ≡ None) → IsOk result }
         ensures memory { IsErrOf result Stop.Device → ⊥ }
@@ -228,10 +239,14 @@ impl Installed {
     // The same where something is installed.
     fn with_previous(self, busy: Option<&Name>) -> Result<Result<Lone, Outcome>, Stop>
         requires { AreParts self }
-        ensures lone { IfOk result (λ left. IfOk left (IsLone (rolling_back (option_map (λ n. n.now) busy.entry)) (Root.Installed self))) }
-        ensures text { IfOk result (λ left. IfOk left (λ l. l.version.text ∷ [] ≡ drop 1 (texts_in (Root.Installed self)))) }
-        ensures refused { IfOk result (λ left. IfErr left (IsRefused (rolling_back (option_map (λ n. n.now) busy.entry)) (Root.Installed self))) }
-        ensures due { (e : PerError) → rolling_back (option_map (λ n. n.now) busy.entry) (root_app (Root.Installed self) []) ≡ Err e
+        ensures lone { IfOk result (λ left. IfOk left (IsLone (rolling_back (option_map (λ n. n.now) busy.entry))
+            (Root.Installed self))) }
+        ensures text { IfOk result (λ left. IfOk left (λ l. l.version.text ∷ []
+            ≡ drop 1 (texts_in (Root.Installed self)))) }
+        ensures refused { IfOk result (λ left. IfErr left (IsRefused (rolling_back (option_map (λ n. n.now) busy.entry))
+            (Root.Installed self))) }
+        ensures due { (e : PerError) → rolling_back (option_map (λ n. n.now) busy.entry)
+            (root_app (Root.Installed self) []) ≡ Err e
             → TakesNoMemory e ⊎ (busy.entry ≡ None) → IsOk result }
         ensures memory { IsErrOf result Stop.Device → ⊥ }
     {
@@ -275,14 +290,17 @@ impl Lone {
         requires generation { generation_of self.cell < greatest_generation }
         requires held { IsTrue D.told → (text : List ℕ) × CellAt (D.medium disk.old).image self.cell text }
 
-        ensures root { (app : ℕ) → IsRootCell app self.cell → IfOk result (λ o. RootAt D.told (D.medium disk.new).image app o.root) }
+        ensures root { (app : ℕ) → IsRootCell app self.cell
+            → IfOk result (λ o. RootAt D.told (D.medium disk.new).image app o.root) }
         ensures says { IfOk result (λ o. root_says o.root ≡ lone_says self) }
         ensures text { IfOk result (λ o. texts_in o.root ≡ self.version.text ∷ []) }
         ensures done { IfOk result (λ o. o.refused ≡ None) }
         ensures app { IsTrue D.told → (app : ℕ) → app < 8 → IsRootCell app self.cell
-            → OnOk result (app_at (D.medium disk.new).image app ≡ app_saying (D.medium disk.old).image app (lone_says self)) }
+            → OnOk result (app_at (D.medium disk.new).image app
+            ≡ app_saying (D.medium disk.old).image app (lone_says self)) }
         ensures clean { IsTrue D.told → (app : ℕ) → app < 8 → IsRootCell app self.cell
-            → AreClean (D.medium disk.old).image (shapes_named app (lone_says self)) → OnOk result (IsCleanApp app (D.medium disk.new).image) }
+            → AreClean (D.medium disk.old).image (shapes_named app (lone_says self))
+            → OnOk result (IsCleanApp app (D.medium disk.new).image) }
         ensures quiet { OnOk result (Quiet (D.medium disk.new)) }
         ensures cause { IsErrOf result Stop.Device → Rose (D.medium disk.old).faults (D.medium disk.new).faults }
         ensures memory { IsErrOf result Stop.OutOfMemory → disk.new ≡ disk.old }
@@ -293,7 +311,8 @@ impl Lone {
             → Leaves D.told (IsNoRootSlot app) (D.medium disk.old) (D.medium disk.new) }
         ensures any_moment { IsTrue D.told → (app : ℕ) → app < 8 → IsRootCell app self.cell
             → AreClean (D.medium disk.old).image (shapes_named app (lone_says self))
-            → StandsThroughout app (app_saying (D.medium disk.old).image app (lone_says self)) (D.medium disk.old) (D.medium disk.new) }
+            → StandsThroughout app (app_saying (D.medium disk.old).image app (lone_says self)) (D.medium disk.old)
+            (D.medium disk.new) }
         ensures time { Elapses (D.medium disk.old) (D.medium disk.new) }
     {
         roots_say();

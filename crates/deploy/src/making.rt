@@ -45,8 +45,8 @@ pub(crate) fn initial_contents(
     Ok(all)
 }
 
-/// Makes the storages of a version in a bank, from the one with number `built` on; those before it are made already. What the bank held
-/// of an earlier version is given up.
+/// Makes the storages of a version in a bank, from the one with number `built` on; those before it are made already.
+/// What the bank held of an earlier version is given up.
 pub(crate) fn create_rest<D: Disk>(
     alloc: Global,
     disk: &mut D,
@@ -73,7 +73,8 @@ pub(crate) fn create_rest<D: Disk>(
     ensures fed { IsErrOf result Stop.OutOfMemory → (D.medium disk.new).faults ≡ (D.medium disk.old).faults }
 
     // Only files of the storages that remain change.
-    ensures outside { Leaves D.told (IsBesideRest app bank built (length contents.now)) (D.medium disk.old) (D.medium disk.new) }
+    ensures outside { Leaves D.told (IsBesideRest app bank built (length contents.now)) (D.medium disk.old)
+        (D.medium disk.new) }
     ensures time { Elapses (D.medium disk.old) (D.medium disk.new) }
 {
     files_lie_apart();
@@ -109,8 +110,10 @@ pub(crate) fn create_one<D: Disk>(
     requires contents { AreContents config.now.kind config.now.maximum contents.now }
 
     ensures made { IsTrue D.told → OnOk result
-        (store_at (D.medium disk.new).image (shape_of app bank number (storage_data config.now)) ≡ fresh_state 1 (fresh_map contents.now)) }
-    ensures clean { IsTrue D.told → OnOk result (IsClean (shape_of app bank number (storage_data config.now)) (D.medium disk.new).image) }
+        (store_at (D.medium disk.new).image (shape_of app bank number (storage_data config.now))
+        ≡ fresh_state 1 (fresh_map contents.now)) }
+    ensures clean { IsTrue D.told → OnOk result (IsClean (shape_of app bank number (storage_data config.now))
+        (D.medium disk.new).image) }
     ensures quiet { OnOk result (Quiet (D.medium disk.new)) }
     ensures cause { IsErrOf result Stop.Device → Rose (D.medium disk.old).faults (D.medium disk.new).faults }
     ensures passes { OnOk result ((D.medium disk.new).faults ≡ (D.medium disk.old).faults) }

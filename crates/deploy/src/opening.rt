@@ -29,8 +29,8 @@ use manifest::said_is_kept;
 use root_text::{RootSays, one_root};
 use std::alloc::Global;
 
-/// Opens the root of an application: brings every copy to the text that two of them hold, without a report. A root that is bad is left
-/// as it is.
+/// Opens the root of an application: brings every copy to the text that two of them hold, without a report. A root that
+/// is bad is left as it is.
 ///
 /// # Errors
 ///
@@ -40,13 +40,17 @@ pub fn open_root<D: Disk>(alloc: Global, disk: &mut D, app: u32) -> Result<Root,
 
     ensures root { IfOk result (RootAt D.told (D.medium disk.new).image app) }
     ensures says { IsTrue D.told → IfOk result (λ root. root_says root ≡ says_at (D.medium disk.old).image app) }
-    ensures app { IsTrue D.told → OnOk result (app_at (D.medium disk.new).image app ≡ reopened (app_at (D.medium disk.old).image app)) }
-    ensures clean { IsTrue D.told → IsCleanApp app (D.medium disk.old).image → OnOk result (IsCleanApp app (D.medium disk.new).image) }
+    ensures app { IsTrue D.told → OnOk result (app_at (D.medium disk.new).image app
+        ≡ reopened (app_at (D.medium disk.old).image app)) }
+    ensures clean { IsTrue D.told → IsCleanApp app (D.medium disk.old).image
+        → OnOk result (IsCleanApp app (D.medium disk.new).image) }
     ensures untouched { result ≡ Ok Root.Bad
-        → ((D.medium disk.new).image ≡ (D.medium disk.old).image) × ((D.medium disk.new).written ≡ (D.medium disk.old).written) }
+        → ((D.medium disk.new).image ≡ (D.medium disk.old).image)
+        × ((D.medium disk.new).written ≡ (D.medium disk.old).written) }
     ensures quiet { OnOk result (Quiet (D.medium disk.new)) }
     ensures memory { IsErrOf result Stop.OutOfMemory
-        → ((D.medium disk.new).image ≡ (D.medium disk.old).image) × ((D.medium disk.new).written ≡ (D.medium disk.old).written) }
+        → ((D.medium disk.new).image ≡ (D.medium disk.old).image)
+        × ((D.medium disk.new).written ≡ (D.medium disk.old).written) }
     ensures cause { IsErrOf result Stop.Device → Rose (D.medium disk.old).faults (D.medium disk.new).faults }
     ensures passes { OnOk result ((D.medium disk.new).faults ≡ (D.medium disk.old).faults) }
     ensures fed { IsErrOf result Stop.OutOfMemory → (D.medium disk.new).faults ≡ (D.medium disk.old).faults }
@@ -54,9 +58,11 @@ pub fn open_root<D: Disk>(alloc: Global, disk: &mut D, app: u32) -> Result<Root,
     // Where every copy holds one text and no other is held, nothing is written, however it ends.
     ensures already { IsTrue D.told → (generation : ℕ) (text : List ℕ)
         → IsAlone (D.medium disk.old).image (root_place app).first 3 generation text
-        → ((D.medium disk.new).image ≡ (D.medium disk.old).image) × ((D.medium disk.new).written ≡ (D.medium disk.old).written) }
+        → ((D.medium disk.new).image ≡ (D.medium disk.old).image)
+        × ((D.medium disk.new).written ≡ (D.medium disk.old).written) }
 
-    // Only slots of the root change, and at any moment the application stands as it was, also on its way to whatever may come of it.
+    // Only slots of the root change, and at any moment the application stands as it was, also on its way to whatever
+    // may come of it.
     ensures outside { Leaves D.told (IsNoRootSlot app) (D.medium disk.old) (D.medium disk.new) }
     ensures any_moment { IsTrue D.told → StandsOnTheWay app (D.medium disk.old) (D.medium disk.new) }
     ensures time { Elapses (D.medium disk.old) (D.medium disk.new) }
@@ -86,7 +92,8 @@ fn settle_on<D: Disk>(
     requires spelled { IsSpelled standing }
 
     ensures root { IfOk result (RootAt D.told (D.medium disk.new).image app) }
-    ensures says { IfOk result (λ root. root_says root ≡ says_by standing.seen.generation (Some (root_said standing.says))) }
+    ensures says { IfOk result (λ root. root_says root ≡ says_by standing.seen.generation
+        (Some (root_said standing.says))) }
     ensures alone { IsTrue D.told → OnOk result (IsAlone (D.medium disk.new).image (root_place app).first 3
         standing.seen.generation (root_text (root_said standing.says))) }
     ensures quiet { OnOk result (Quiet (D.medium disk.new)) }
@@ -94,15 +101,17 @@ fn settle_on<D: Disk>(
     ensures cause { IsErrOf result Stop.Device → Rose (D.medium disk.old).faults (D.medium disk.new).faults }
     ensures passes { OnOk result ((D.medium disk.new).faults ≡ (D.medium disk.old).faults) }
 
-    // Only slots of the root change, and none where every copy holds the text alone. A stop at any moment leaves every copy what it held
-    // or every copy the text.
+    // Only slots of the root change, and none where every copy holds the text alone. A stop at any moment leaves every
+    // copy what it held or every copy the text.
     ensures already { IsTrue D.told
         → IsAlone (D.medium disk.old).image (root_place app).first 3 standing.seen.generation standing.seen.text
-        → ((D.medium disk.new).image ≡ (D.medium disk.old).image) × ((D.medium disk.new).written ≡ (D.medium disk.old).written) }
+        → ((D.medium disk.new).image ≡ (D.medium disk.old).image)
+        × ((D.medium disk.new).written ≡ (D.medium disk.old).written) }
     ensures elsewhere { IsTrue D.told
         → Spares (IsNoSlot (root_place app).first 3) (D.medium disk.old).image (D.medium disk.new).image }
     ensures any_moment { IsTrue D.told → Quiet (D.medium disk.old)
-        → EachCase (PutStops (root_place app).first 3 standing.seen.generation standing.seen.text (D.medium disk.old).image)
+        → EachCase (PutStops (root_place app).first 3 standing.seen.generation standing.seen.text
+        (D.medium disk.old).image)
         (D.medium disk.old) (D.medium disk.new) }
     ensures time { Elapses (D.medium disk.old) (D.medium disk.new) }
 {
@@ -124,7 +133,8 @@ impl Root {
     fn of(cell: Cell, says: RootSays) -> Root
         ensures says { root_says result ≡ says_by (generation_of cell) (Some (root_said says)) }
         ensures memory { (app : ℕ) → IsRootCell app cell → IsRoot (root_said says) → IsRootOf app result }
-        ensures disk { (image : Image) (app : ℕ) → CellAt image cell (root_text (root_said says)) → IsRootOn image app result }
+        ensures disk { (image : Image) (app : ℕ) → CellAt image cell (root_text (root_said says))
+            → IsRootOn image app result }
     {
         said_is_kept();
         match says {

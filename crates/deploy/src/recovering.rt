@@ -1,6 +1,7 @@
 //! Making a closed storage anew: recovered, reset, or with contents that are given.
 
-ghost use Rattle.std.specs.Prelude.{◌≡◌, ◌≤◌, ◌⊎◌, IfOk, IfSome, IsErr, IsErrOf, IsSome, IsTrue, None, OnOk, Some, [], filter_map, length, option_map, sum_by, true};
+ghost use Rattle.std.specs.Prelude.{◌≡◌, ◌≤◌, ◌⊎◌, IfOk, IfSome, IsErr, IsErrOf, IsSome, IsTrue, None, OnOk, Some, []};
+ghost use Rattle.std.specs.Prelude.{filter_map, length, option_map, sum_by, true};
 ghost use Rattle.std.specs.List.{AllByRecursion};
 ghost use Rattle.per_base.specs.Causes.{Rose};
 ghost use Rattle.file_core.specs.Infos as infos;
@@ -15,7 +16,8 @@ ghost use Rattle.element_state.specs.Conditions.{IsShape};
 ghost use Rattle.element_state.specs.Kept.{KeptThroughout};
 ghost use Rattle.element_state.specs.Read.{IsView};
 ghost use Rattle.element_state.specs.States.{Corrupt, State, salvage_of, store_at};
-ghost use Rattle.deploy_rows.specs.Recovering.{after_state, if_fits, is_content, is_worn_out, rebuilding, recovered_contents, recovering, rescued, resetting};
+ghost use Rattle.deploy_rows.specs.Recovering.{after_state, if_fits, is_content, is_worn_out, rebuilding};
+ghost use Rattle.deploy_rows.specs.Recovering.{recovered_contents, recovering, rescued, resetting};
 ghost use Rattle.deploy_rows.specs.Rows.{Answers};
 ghost use Rattle.deploy.specs.Clauses.{ChangesNothing, Leaves};
 ghost use Rattle.deploy.specs.Recovered.{AreElements, rescued_entry};
@@ -33,11 +35,11 @@ use std::alloc::{AllocError, Global};
 use update_plan::initial_of;
 use value_code::encodes;
 
-/// Makes a closed storage anew of what can be read of it, at a moment in seconds: of each element its content, or else its salvage, or
-/// else what it starts with; of a storage of which nothing is seen, what it is installed with.
+/// Makes a closed storage anew of what can be read of it, at a moment in seconds: of each element its content, or else
+/// its salvage, or else what it starts with; of a storage of which nothing is seen, what it is installed with.
 ///
-/// Refusals, the first that holds: `OutOfStorageSpace` where that is more than the storage may have; `LimitReached` with `Generations`
-/// where no generation is left. Then nothing was written.
+/// Refusals, the first that holds: `OutOfStorageSpace` where that is more than the storage may have; `LimitReached`
+/// with `Generations` where no generation is left. Then nothing was written.
 ///
 /// # Errors
 ///
@@ -53,14 +55,17 @@ pub fn recover_storage<D: Disk>(
     requires config { IsStorage (storage_data config.now) }
     requires configured { IsConfigured config.now.kind (storage_data config.now) shape.now }
 
-    ensures refused { IfOk result (λ refused. (state : State) × (IsTrue D.told → store_at (D.medium disk.old).image shape.now ≡ state)
+    ensures refused { IfOk result (λ refused. (state : State)
+        × (IsTrue D.told → store_at (D.medium disk.old).image shape.now ≡ state)
         × Answers refused (recovering (storage_data config.now) now state)) }
     ensures state { IsTrue D.told → OnOk result (store_at (D.medium disk.new).image shape.now
         ≡ after_state (store_at (D.medium disk.old).image shape.now)
         (recovering (storage_data config.now) now (store_at (D.medium disk.old).image shape.now))) }
     ensures unchanged { IfOk result (λ refused. (refused ≡ None → ⊥)
-        → ((D.medium disk.new).image ≡ (D.medium disk.old).image) × ((D.medium disk.new).written ≡ (D.medium disk.old).written)) }
-    ensures clean { IsTrue D.told → IfOk result (λ refused. (refused ≡ None) ⊎ IsClean shape.now (D.medium disk.old).image
+        → ((D.medium disk.new).image ≡ (D.medium disk.old).image)
+        × ((D.medium disk.new).written ≡ (D.medium disk.old).written)) }
+    ensures clean { IsTrue D.told → IfOk result (λ refused. (refused ≡ None)
+        ⊎ IsClean shape.now (D.medium disk.old).image
         → IsClean shape.now (D.medium disk.new).image) }
     ensures quiet { OnOk result (Quiet (D.medium disk.new)) }
     ensures cause { IsErrOf result Stop.Device → Rose (D.medium disk.old).faults (D.medium disk.new).faults }
@@ -68,7 +73,8 @@ pub fn recover_storage<D: Disk>(
     ensures fed { IsErrOf result Stop.OutOfMemory → (D.medium disk.new).faults ≡ (D.medium disk.old).faults }
 
     // Only files of the storage change, and at any moment it is as it was or as it is made anew.
-    ensures outside { Leaves D.told (IsOutside shape.now.place.first shape.now.place.copies) (D.medium disk.old) (D.medium disk.new) }
+    ensures outside { Leaves D.told (IsOutside shape.now.place.first shape.now.place.copies) (D.medium disk.old)
+        (D.medium disk.new) }
     ensures any_moment { IsTrue D.told → KeptThroughout shape.now
         (after_state (store_at (D.medium disk.old).image shape.now)
         (recovering (storage_data config.now) now (store_at (D.medium disk.old).image shape.now)))
@@ -106,14 +112,17 @@ pub fn reset_storage<D: Disk>(
     requires config { IsStorage (storage_data config.now) }
     requires configured { IsConfigured config.now.kind (storage_data config.now) shape.now }
 
-    ensures refused { IfOk result (λ refused. (state : State) × (IsTrue D.told → store_at (D.medium disk.old).image shape.now ≡ state)
+    ensures refused { IfOk result (λ refused. (state : State)
+        × (IsTrue D.told → store_at (D.medium disk.old).image shape.now ≡ state)
         × Answers refused (resetting (storage_data config.now) now state)) }
     ensures state { IsTrue D.told → OnOk result (store_at (D.medium disk.new).image shape.now
         ≡ after_state (store_at (D.medium disk.old).image shape.now)
         (resetting (storage_data config.now) now (store_at (D.medium disk.old).image shape.now))) }
     ensures unchanged { IfOk result (λ refused. (refused ≡ None → ⊥)
-        → ((D.medium disk.new).image ≡ (D.medium disk.old).image) × ((D.medium disk.new).written ≡ (D.medium disk.old).written)) }
-    ensures clean { IsTrue D.told → IfOk result (λ refused. (refused ≡ None) ⊎ IsClean shape.now (D.medium disk.old).image
+        → ((D.medium disk.new).image ≡ (D.medium disk.old).image)
+        × ((D.medium disk.new).written ≡ (D.medium disk.old).written)) }
+    ensures clean { IsTrue D.told → IfOk result (λ refused. (refused ≡ None)
+        ⊎ IsClean shape.now (D.medium disk.old).image
         → IsClean shape.now (D.medium disk.new).image) }
     ensures quiet { OnOk result (Quiet (D.medium disk.new)) }
     ensures cause { IsErrOf result Stop.Device → Rose (D.medium disk.old).faults (D.medium disk.new).faults }
@@ -121,7 +130,8 @@ pub fn reset_storage<D: Disk>(
     ensures fed { IsErrOf result Stop.OutOfMemory → (D.medium disk.new).faults ≡ (D.medium disk.old).faults }
 
     // Only files of the storage change, and at any moment it is as it was or as it is made anew.
-    ensures outside { Leaves D.told (IsOutside shape.now.place.first shape.now.place.copies) (D.medium disk.old) (D.medium disk.new) }
+    ensures outside { Leaves D.told (IsOutside shape.now.place.first shape.now.place.copies) (D.medium disk.old)
+        (D.medium disk.new) }
     ensures any_moment { IsTrue D.told → KeptThroughout shape.now
         (after_state (store_at (D.medium disk.old).image shape.now)
         (resetting (storage_data config.now) now (store_at (D.medium disk.old).image shape.now)))
@@ -136,8 +146,8 @@ pub fn reset_storage<D: Disk>(
 
 /// Makes a closed storage anew with exactly these contents, infos included, under the generation of a reset.
 ///
-/// Refusals, the first that holds: `OutOfStorageSpace` where the contents are more than the storage may have; `LimitReached` with
-/// `Generations` where no generation is left. Then nothing was changed.
+/// Refusals, the first that holds: `OutOfStorageSpace` where the contents are more than the storage may have;
+/// `LimitReached` with `Generations` where no generation is left. Then nothing was changed.
 ///
 /// # Errors
 ///
@@ -153,16 +163,20 @@ pub fn replace_contents<D: Disk>(
     requires configured { IsConfigured config.now.kind (storage_data config.now) shape.now }
     requires contents { AreElements config.now.kind contents.items }
 
-    ensures refused { IfOk result (λ refused. (state : State) × (IsTrue D.told → store_at (D.medium disk.old).image shape.now ≡ state)
+    ensures refused { IfOk result (λ refused. (state : State)
+        × (IsTrue D.told → store_at (D.medium disk.old).image shape.now ≡ state)
         × Answers refused (if_fits (storage_data config.now) state contents.items)) }
     ensures state { IsTrue D.told → OnOk result (store_at (D.medium disk.new).image shape.now
         ≡ after_state (store_at (D.medium disk.old).image shape.now)
         (if_fits (storage_data config.now) (store_at (D.medium disk.old).image shape.now) contents.items)) }
-    ensures unchanged { IfOk result (λ refused. IsSome refused → ChangesNothing (D.medium disk.old) (D.medium disk.new)) }
+    ensures unchanged { IfOk result (λ refused. IsSome refused
+        → ChangesNothing (D.medium disk.old) (D.medium disk.new)) }
     // What the row refuses changes nothing, however the call ends.
-    ensures stays { IsTrue D.told → IsErr (if_fits (storage_data config.now) (store_at (D.medium disk.old).image shape.now) contents.items)
+    ensures stays { IsTrue D.told → IsErr (if_fits (storage_data config.now)
+        (store_at (D.medium disk.old).image shape.now) contents.items)
         → ChangesNothing (D.medium disk.old) (D.medium disk.new) }
-    ensures clean { IsTrue D.told → IfOk result (λ refused. (refused ≡ None) ⊎ IsClean shape.now (D.medium disk.old).image
+    ensures clean { IsTrue D.told → IfOk result (λ refused. (refused ≡ None)
+        ⊎ IsClean shape.now (D.medium disk.old).image
         → IsClean shape.now (D.medium disk.new).image) }
     ensures quiet { OnOk result (Quiet (D.medium disk.new)) }
     ensures cause { IsErrOf result Stop.Device → Rose (D.medium disk.old).faults (D.medium disk.new).faults }
@@ -170,7 +184,8 @@ pub fn replace_contents<D: Disk>(
     ensures fed { IsErrOf result Stop.OutOfMemory → (D.medium disk.new).faults ≡ (D.medium disk.old).faults }
 
     // Only files of the storage change, and at any moment it is as it was or as it is made anew.
-    ensures outside { Leaves D.told (IsOutside shape.now.place.first shape.now.place.copies) (D.medium disk.old) (D.medium disk.new) }
+    ensures outside { Leaves D.told (IsOutside shape.now.place.first shape.now.place.copies) (D.medium disk.old)
+        (D.medium disk.new) }
     ensures any_moment { IsTrue D.told → KeptThroughout shape.now
         (after_state (store_at (D.medium disk.old).image shape.now)
         (if_fits (storage_data config.now) (store_at (D.medium disk.old).image shape.now) contents.items))
@@ -207,14 +222,16 @@ fn rebuild_over<D: Disk>(
         (rebuilding (store_at (D.medium disk.old).image shape.now) contents.items)) }
     ensures untouched { IfOk result (λ refused. (refused ≡ None → ⊥) → disk.new ≡ disk.old) }
     ensures worn { is_worn_out view.now ≡ true → disk.new ≡ disk.old }
-    ensures clean { IsTrue D.told → IfOk result (λ refused. (refused ≡ None) ⊎ IsClean shape.now (D.medium disk.old).image
+    ensures clean { IsTrue D.told → IfOk result (λ refused. (refused ≡ None)
+        ⊎ IsClean shape.now (D.medium disk.old).image
         → IsClean shape.now (D.medium disk.new).image) }
     ensures quiet { Quiet (D.medium disk.old) → OnOk result (Quiet (D.medium disk.new)) }
     ensures cause { IsErrOf result Stop.Device → Rose (D.medium disk.old).faults (D.medium disk.new).faults }
     ensures passes { OnOk result ((D.medium disk.new).faults ≡ (D.medium disk.old).faults) }
     ensures fed { IsErrOf result Stop.OutOfMemory → (D.medium disk.new).faults ≡ (D.medium disk.old).faults }
 
-    ensures outside { Leaves D.told (IsOutside shape.now.place.first shape.now.place.copies) (D.medium disk.old) (D.medium disk.new) }
+    ensures outside { Leaves D.told (IsOutside shape.now.place.first shape.now.place.copies) (D.medium disk.old)
+        (D.medium disk.new) }
     ensures any_moment { IsTrue D.told → KeptThroughout shape.now
         (after_state (store_at (D.medium disk.old).image shape.now)
         (rebuilding (store_at (D.medium disk.old).image shape.now) contents.items))
@@ -248,7 +265,8 @@ fn recovered(
 ) -> Result<Vec<Fresh>, AllocError>
     requires { IsStorage (storage_data config.now) }
     ensures contents { IfOk result (λ made. made.items ≡ recovered_contents (storage_data config.now) now view.now) }
-    ensures limits { IfOk result (λ made. (shape : Shape) → shape.kind ≡ config.now.kind → IfSome view.now (IsView shape)
+    ensures limits { IfOk result (λ made. (shape : Shape) → shape.kind ≡ config.now.kind
+        → IfSome view.now (IsView shape)
         → AreElements config.now.kind made.items) }
 {
     found_is_kept();

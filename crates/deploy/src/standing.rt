@@ -25,8 +25,8 @@ pub(crate) struct Standing {
     pub(crate) settled: bool,
 }
 
-/// Looks for the root of an application and changes nothing. Where no two copies hold one text, or what they hold is no root's, there is
-/// none.
+/// Looks for the root of an application and changes nothing. Where no two copies hold one text, or what they hold is no
+/// root's, there is none.
 pub(crate) fn find_standing<D: Disk>(
     alloc: Global,
     disk: &mut D,

@@ -1,6 +1,7 @@
 //! Updates: the next version is made in the other bank, storage by storage, and then the root is written once.
 
-ghost use Rattle.std.specs.Prelude.{◌≡◌, ◌≤◌, ◌<◌, ◌-◌, ℕ, List, [], ◌∷◌, Err, IfOk, IsErrOf, IsOk, IsTrue, None, Ok, OnOk, length, map, option_map};
+ghost use Rattle.std.specs.Prelude.{◌≡◌, ◌≤◌, ◌<◌, ◌-◌, ℕ, List, [], ◌∷◌, Err, IfOk, IsErrOf, IsOk, IsTrue, None, Ok};
+ghost use Rattle.std.specs.Prelude.{OnOk, length, map, option_map};
 ghost use Rattle.std.specs.List.{AllByRecursion};
 ghost use Rattle.per_base.specs.Causes.{Rose};
 ghost use Rattle.per_base.specs.declared.errors.PerError.{PerError};
@@ -40,8 +41,8 @@ use root_text::{VersionText, one_root};
 use std::alloc::Global;
 use update_plan::{Contents, StorageContents, Stored, plan};
 
-/// An update in progress: the next version, the contents of its storages, and how many of them are made. To let it go costs nothing but
-/// what was made; the root is as it was.
+/// An update in progress: the next version, the contents of its storages, and how many of them are made. To let it go
+/// costs nothing but what was made; the root is as it was.
 #[derive(Drop)]
 pub struct Staged {
     alloc: Global,
@@ -61,12 +62,13 @@ pub enum Begin {
     Refused(Root, PerError),
 }
 
-/// Begins an update to the version that a manifest describes, at a moment in seconds: reads what the storages hold and plans what those
-/// of the next version are to hold. It writes nothing.
+/// Begins an update to the version that a manifest describes, at a moment in seconds: reads what the storages hold and
+/// plans what those of the next version are to hold. It writes nothing.
 ///
-/// Refusals, the first that holds: `IntegrityCorrupted` with the root where it is bad; `NotInstalled`; `UpdateNotFinished` with the
-/// previous version; `ResourceBusy` where `busy` names an open storage; `ManifestRejected` with the least rule that is broken;
-/// `VersionNotNewer`; those of the plan; `LimitReached` with `Generations`. Those before the plan come before any call of the disk.
+/// Refusals, the first that holds: `IntegrityCorrupted` with the root where it is bad; `NotInstalled`;
+/// `UpdateNotFinished` with the previous version; `ResourceBusy` where `busy` names an open storage; `ManifestRejected`
+/// with the least rule that is broken; `VersionNotNewer`; those of the plan; `LimitReached` with `Generations`. Those
+/// before the plan come before any call of the disk.
 ///
 /// # Errors
 ///
@@ -85,8 +87,10 @@ pub fn begin_update<D: Disk>(
     requires root { RootAt D.told (D.medium disk.old).image app root }
 
     // The refusals of an update, in their order, or the contents of one plan.
-    ensures begins { IfOk result (λ b. (states : List State) × (IsTrue D.told → (app_at (D.medium disk.old).image app).states ≡ states)
-        × Begins (rules_of migrations.now) (answers_of migrations.now) now (option_map (λ n. n.now) busy.entry) manifest.now
+    ensures begins { IfOk result (λ b. (states : List State)
+        × (IsTrue D.told → (app_at (D.medium disk.old).image app).states ≡ states)
+        × Begins (rules_of migrations.now) (answers_of migrations.now) now (option_map (λ n. n.now) busy.entry)
+        manifest.now
         (root_app root states) (begun_as b)) }
     ensures staged { IfOk result (IsBegun D.told (D.medium disk.new).image app root) }
 
@@ -95,8 +99,10 @@ pub fn begin_update<D: Disk>(
     ensures image { (D.medium disk.new).image ≡ (D.medium disk.old).image }
     ensures idle { Quiet (D.medium disk.old) → IsIdle (D.medium disk.old) (D.medium disk.new) }
     ensures written { (D.medium disk.new).written ≡ (D.medium disk.old).written }
-    ensures early { (e : PerError) → offered (option_map (λ n. n.now) busy.entry) manifest.now (root_app root []) ≡ Err e → disk.new ≡ disk.old }
-    ensures due { (e : PerError) → offered (option_map (λ n. n.now) busy.entry) manifest.now (root_app root []) ≡ Err e → TakesNoMemory e
+    ensures early { (e : PerError) → offered (option_map (λ n. n.now) busy.entry) manifest.now (root_app root [])
+        ≡ Err e → disk.new ≡ disk.old }
+    ensures due { (e : PerError) → offered (option_map (λ n. n.now) busy.entry) manifest.now (root_app root []) ≡ Err e
+        → TakesNoMemory e
         → IsOk result }
     ensures cause { IsErrOf result Stop.Device → Rose (D.medium disk.old).faults (D.medium disk.new).faults }
     ensures device_only { IsErrOf result Stop.Device
@@ -135,17 +141,21 @@ fn begin_over<D: Disk>(
     requires app { app < 8 }
     requires root { RootAt D.told (D.medium disk.old).image app (Root.Installed root) }
 
-    ensures begins { IfOk result (λ b. (states : List State) × (IsTrue D.told → (app_at (D.medium disk.old).image app).states ≡ states)
-        × Begins (rules_of migrations.now) (answers_of migrations.now) now (option_map (λ n. n.now) busy.entry) manifest.now
+    ensures begins { IfOk result (λ b. (states : List State)
+        × (IsTrue D.told → (app_at (D.medium disk.old).image app).states ≡ states)
+        × Begins (rules_of migrations.now) (answers_of migrations.now) now (option_map (λ n. n.now) busy.entry)
+        manifest.now
         (root_app (Root.Installed root) states) (begun_as b)) }
     ensures staged { IfOk result (IsBegun D.told (D.medium disk.new).image app (Root.Installed root)) }
     ensures text { (s : Staged) → result ≡ Ok (Begin.Ready s) → text_in s ≡ manifest.now }
     ensures image { (D.medium disk.new).image ≡ (D.medium disk.old).image }
     ensures idle { Quiet (D.medium disk.old) → IsIdle (D.medium disk.old) (D.medium disk.new) }
     ensures written { (D.medium disk.new).written ≡ (D.medium disk.old).written }
-    ensures early { (e : PerError) → offered (option_map (λ n. n.now) busy.entry) manifest.now (root_app (Root.Installed root) []) ≡ Err e
+    ensures early { (e : PerError) → offered (option_map (λ n. n.now) busy.entry) manifest.now
+        (root_app (Root.Installed root) []) ≡ Err e
         → disk.new ≡ disk.old }
-    ensures due { (e : PerError) → offered (option_map (λ n. n.now) busy.entry) manifest.now (root_app (Root.Installed root) []) ≡ Err e
+    ensures due { (e : PerError) → offered (option_map (λ n. n.now) busy.entry) manifest.now
+        (root_app (Root.Installed root) []) ≡ Err e
         → TakesNoMemory e → IsOk result }
     ensures cause { IsErrOf result Stop.Device → Rose (D.medium disk.old).faults (D.medium disk.new).faults }
     ensures device_only { IsErrOf result Stop.Device
@@ -171,8 +181,10 @@ fn offer(
     manifest: &[u8],
 ) -> Result<Result<VersionText, PerError>, Stop>
     ensures offered { IfOk result
-        (IsOffered (offered (option_map (λ n. n.now) busy.entry) manifest.now (root_app (Root.Installed root.now) [])) root.now) }
-    ensures due { (e : PerError) → offered (option_map (λ n. n.now) busy.entry) manifest.now (root_app (Root.Installed root.now) []) ≡ Err e
+        (IsOffered (offered (option_map (λ n. n.now) busy.entry) manifest.now (root_app (Root.Installed root.now) []))
+        root.now) }
+    ensures due { (e : PerError) → offered (option_map (λ n. n.now) busy.entry) manifest.now
+        (root_app (Root.Installed root.now) []) ≡ Err e
         → TakesNoMemory e → IsOk result }
     ensures alone { IfOk result (λ offer. IfOk offer (λ version. root.now.previous ≡ None)) }
     ensures text { IfOk result (λ offer. IfOk offer (λ version. version.text ≡ manifest.now)) }
@@ -214,8 +226,10 @@ fn begin_with<D: Disk>(
     requires alone { root.previous ≡ None }
     requires version { IsKept version }
 
-    ensures begins { IfOk result (λ b. (states : List State) × (IsTrue D.told → (app_at (D.medium disk.old).image app).states ≡ states)
-        × BeginsWith (rules_of migrations.now) (answers_of migrations.now) now states (Ok (offer_of root version)) (begun_as b)) }
+    ensures begins { IfOk result (λ b. (states : List State)
+        × (IsTrue D.told → (app_at (D.medium disk.old).image app).states ≡ states)
+        × BeginsWith (rules_of migrations.now) (answers_of migrations.now) now states (Ok (offer_of root version))
+        (begun_as b)) }
     ensures staged { IfOk result (IsBegun D.told (D.medium disk.new).image app (Root.Installed root)) }
     ensures text { (s : Staged) → result ≡ Ok (Begin.Ready s) → text_in s ≡ version.text }
     ensures image { (D.medium disk.new).image ≡ (D.medium disk.old).image }
@@ -279,8 +293,10 @@ fn stored_contents<D: Disk>(
     requires active { IsDeployment (deployment_data root.now.active.deployment) }
 
     ensures read { IfOk result (IsRead D.told (D.medium disk.old).image
-        (shapes_from app root.now.bank 0 (map storage_data root.now.active.deployment.storages)) (map storage_data root.now.active.deployment.storages)) }
-    ensures kinds { IfOk result (λ contents. AllByRecursion (IsOf (deployment_data root.now.active.deployment)) contents) }
+        (shapes_from app root.now.bank 0 (map storage_data root.now.active.deployment.storages))
+        (map storage_data root.now.active.deployment.storages)) }
+    ensures kinds { IfOk result (λ contents. AllByRecursion (IsOf (deployment_data root.now.active.deployment))
+        contents) }
     ensures image { (D.medium disk.new).image ≡ (D.medium disk.old).image }
     ensures idle { Quiet (D.medium disk.old) → IsIdle (D.medium disk.old) (D.medium disk.new) }
     ensures written { (D.medium disk.new).written ≡ (D.medium disk.old).written }
@@ -315,7 +331,8 @@ fn read_stored<D: Disk>(
 
     ensures name { IfOk result (λ stored. stored.name ≡ config.now.name) }
     ensures contents { IsTrue D.told → IfOk result (λ stored.
-        contents_of (store_at (D.medium disk.old).image (shape_of app bank number (storage_data config.now))) ≡ stored.contents) }
+        contents_of (store_at (D.medium disk.old).image (shape_of app bank number (storage_data config.now)))
+        ≡ stored.contents) }
     ensures some { IfOk result (λ stored. (state : State) × (contents_of state ≡ stored.contents)) }
     ensures present { IfOk result (λ stored. ArePresent config.now.kind stored.contents) }
     ensures image { (D.medium disk.new).image ≡ (D.medium disk.old).image }
@@ -359,8 +376,8 @@ impl Staged {
         &self.root
     }
 
-    /// Gives the update up: the root is the one that it began over. What was made of the next version stays in its bank, and nothing
-    /// names it. Takes no memory.
+    /// Gives the update up: the root is the one that it began over. What was made of the next version stays in its
+    /// bank, and nothing names it. Takes no memory.
     pub fn abort(self) -> Root
         ensures { result ≡ root_in self }
     {
@@ -379,10 +396,13 @@ impl Staged {
         ensures root { IfOk result (λ s. root_in s ≡ root_in self) }
         ensures progress { IfOk result (λ s. progress_in s ≡ one_more (progress_in self)) }
         ensures text { IfOk result (λ s. text_in s ≡ text_in self) }
-        ensures app { IsTrue D.told → app_at (D.medium disk.new).image self.app ≡ app_at (D.medium disk.old).image self.app }
-        ensures clean { IsTrue D.told → IsCleanApp self.app (D.medium disk.old).image → IsCleanApp self.app (D.medium disk.new).image }
+        ensures app { IsTrue D.told → app_at (D.medium disk.new).image self.app
+            ≡ app_at (D.medium disk.old).image self.app }
+        ensures clean { IsTrue D.told → IsCleanApp self.app (D.medium disk.old).image
+            → IsCleanApp self.app (D.medium disk.new).image }
         ensures quiet { Quiet (D.medium disk.old) → OnOk result (Quiet (D.medium disk.new)) }
-        ensures done { length (progress_in self).contents ≤ (progress_in self).built → (result ≡ Ok self) × (disk.new ≡ disk.old) }
+        ensures done { length (progress_in self).contents ≤ (progress_in self).built
+            → (result ≡ Ok self) × (disk.new ≡ disk.old) }
         ensures cause { IsErrOf result Stop.Device → Rose (D.medium disk.old).faults (D.medium disk.new).faults }
         ensures passes { OnOk result ((D.medium disk.new).faults ≡ (D.medium disk.old).faults) }
         ensures fed { IsErrOf result Stop.OutOfMemory → (D.medium disk.new).faults ≡ (D.medium disk.old).faults }
@@ -391,7 +411,8 @@ impl Staged {
         ensures outside { Leaves D.told (IsBeside self.app (free_bank (root_in self)) (progress_in self).built)
             (D.medium disk.old) (D.medium disk.new) }
         ensures any_moment { IsTrue D.told
-            → StandsThroughout self.app (app_at (D.medium disk.old).image self.app) (D.medium disk.old) (D.medium disk.new) }
+            → StandsThroughout self.app (app_at (D.medium disk.old).image self.app) (D.medium disk.old)
+            (D.medium disk.new) }
         ensures time { Elapses (D.medium disk.old) (D.medium disk.new) }
     {
         one_root();
@@ -418,7 +439,8 @@ impl Staged {
         Ok(staged)
     }
 
-    /// Makes the storages that remain, and then writes the root: the next version is active, and the one before it is kept as it was.
+    /// Makes the storages that remain, and then writes the root: the next version is active, and the one before it is
+    /// kept as it was.
     ///
     /// # Errors
     ///
@@ -427,7 +449,8 @@ impl Staged {
         requires staged { StagedAt D.told (D.medium disk.old).image self.app self }
 
         ensures root { IfOk result (RootAt D.told (D.medium disk.new).image self.app) }
-        ensures says { IfOk result (λ root. root_says root ≡ (updated_app (progress_in self) (root_app (root_in self) [])).says) }
+        ensures says { IfOk result (λ root. root_says root
+            ≡ (updated_app (progress_in self) (root_app (root_in self) [])).says) }
         ensures text { IfOk result (λ root. texts_in root ≡ text_in self ∷ texts_in (root_in self)) }
         ensures app { IsTrue D.told → OnOk result (app_at (D.medium disk.new).image self.app
             ≡ updated_app (progress_in self) (app_at (D.medium disk.old).image self.app)) }
@@ -438,14 +461,15 @@ impl Staged {
         ensures passes { OnOk result ((D.medium disk.new).faults ≡ (D.medium disk.old).faults) }
         ensures fed { IsErrOf result Stop.OutOfMemory → (D.medium disk.new).faults ≡ (D.medium disk.old).faults }
 
-        // Only slots of the root and files of the storages that remain change, with none remaining only slots of the root, and at any
-        // moment the application stands as before or as after.
+        // Only slots of the root and files of the storages that remain change, with none remaining only slots of the
+        // root, and at any moment the application stands as before or as after.
         ensures outside { Leaves D.told (IsBesideCommit self.app (free_bank (root_in self)) (progress_in self).built
             (length (progress_in self).contents)) (D.medium disk.old) (D.medium disk.new) }
         ensures root_alone { length (progress_in self).contents ≤ (progress_in self).built
             → Leaves D.told (IsNoRootSlot self.app) (D.medium disk.old) (D.medium disk.new) }
         ensures any_moment { IsTrue D.told → StandsThroughout self.app
-            (updated_app (progress_in self) (app_at (D.medium disk.old).image self.app)) (D.medium disk.old) (D.medium disk.new) }
+            (updated_app (progress_in self) (app_at (D.medium disk.old).image self.app)) (D.medium disk.old)
+            (D.medium disk.new) }
         ensures time { Elapses (D.medium disk.old) (D.medium disk.new) }
     {
         one_root();

@@ -23,10 +23,12 @@ use migrate_fns::Migrations;
 use per_base::Name;
 use std::alloc::Global;
 
-/// Updates an application to the version that a manifest describes, at a moment in seconds: its storages are made in the other bank, and
-/// then the root is written once. The version before it is kept as it was, until it is finished or rolled back.
+/// Updates an application to the version that a manifest describes, at a moment in seconds: its storages are made in
+/// the other bank, and then the root is written once. The version before it is kept as it was, until it is finished or
+/// rolled back.
 ///
-/// Refusals are those of [`begin_update`], and then nothing was written. Those before the plan come before any call of the disk.
+/// Refusals are those of [`begin_update`], and then nothing was written. Those before the plan come before any call of
+/// the disk.
 ///
 /// # Errors
 ///
@@ -48,15 +50,20 @@ pub fn update<D: Disk>(
 
     // One row is answered: its refusal, or the application to which it leads, in memory and where the disk tells.
     ensures updates { IfOk result (IsUpdated D.told
-        (Begins (rules_of migrations.now) (answers_of migrations.now) now (option_map (λ n. n.now) busy.entry) manifest.now)
+        (Begins (rules_of migrations.now) (answers_of migrations.now) now (option_map (λ n. n.now) busy.entry)
+        manifest.now)
         app (D.medium disk.old).image (D.medium disk.new).image root) }
     ensures text { IfOk result (λ o. o.refused ≡ None → texts_in o.root ≡ manifest.now ∷ texts_in root) }
-    ensures clean { IsTrue D.told → IsCleanApp app (D.medium disk.old).image → OnOk result (IsCleanApp app (D.medium disk.new).image) }
+    ensures clean { IsTrue D.told → IsCleanApp app (D.medium disk.old).image
+        → OnOk result (IsCleanApp app (D.medium disk.new).image) }
     ensures quiet { Quiet (D.medium disk.old) → OnOk result (Quiet (D.medium disk.new)) }
-    ensures unchanged { IfOk result (λ o. (o.refused ≡ None → ⊥) → ((D.medium disk.new).image ≡ (D.medium disk.old).image)
+    ensures unchanged { IfOk result (λ o. (o.refused ≡ None → ⊥)
+        → ((D.medium disk.new).image ≡ (D.medium disk.old).image)
         × ((D.medium disk.new).written ≡ (D.medium disk.old).written) × (o.root ≡ root)) }
-    ensures early { (e : PerError) → offered (option_map (λ n. n.now) busy.entry) manifest.now (root_app root []) ≡ Err e → disk.new ≡ disk.old }
-    ensures due { (e : PerError) → offered (option_map (λ n. n.now) busy.entry) manifest.now (root_app root []) ≡ Err e → TakesNoMemory e
+    ensures early { (e : PerError) → offered (option_map (λ n. n.now) busy.entry) manifest.now (root_app root [])
+        ≡ Err e → disk.new ≡ disk.old }
+    ensures due { (e : PerError) → offered (option_map (λ n. n.now) busy.entry) manifest.now (root_app root []) ≡ Err e
+        → TakesNoMemory e
         → IsOk result }
     ensures cause { IsErrOf result Stop.Device → Rose (D.medium disk.old).faults (D.medium disk.new).faults }
     ensures device_only { IsErrOf result Stop.Device
@@ -64,11 +71,12 @@ pub fn update<D: Disk>(
     ensures passes { OnOk result ((D.medium disk.new).faults ≡ (D.medium disk.old).faults) }
     ensures fed { IsErrOf result Stop.OutOfMemory → (D.medium disk.new).faults ≡ (D.medium disk.old).faults }
 
-    // Only slots of the root and files of the other bank change, and at any moment the application stands as before or as one next
-    // application, to which the update may lead and which is there where it ends well.
+    // Only slots of the root and files of the other bank change, and at any moment the application stands as before or
+    // as one next application, to which the update may lead and which is there where it ends well.
     ensures outside { Leaves D.told (IsBesideNext app (free_bank root)) (D.medium disk.old) (D.medium disk.new) }
     ensures any_moment { IsTrue D.told → LeadsTo app
-        (MayLead (rules_of migrations.now) (answers_of migrations.now) now (option_map (λ n. n.now) busy.entry) manifest.now
+        (MayLead (rules_of migrations.now) (answers_of migrations.now) now (option_map (λ n. n.now) busy.entry)
+        manifest.now
         (app_at (D.medium disk.old).image app)) result (D.medium disk.old) (D.medium disk.new) }
     ensures time { Elapses (D.medium disk.old) (D.medium disk.new) }
 {

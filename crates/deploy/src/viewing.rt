@@ -88,7 +88,8 @@ impl RootView {
 
     // The view of a root that says this.
     fn of(says: RootSays, lacking: Numbers, settled: bool) -> RootView
-        ensures { (generation : ℕ) → root_seen result ≡ seen_by (says_by generation (Some (root_said says))) lacking settled }
+        ensures { (generation : ℕ) → root_seen result ≡ seen_by (says_by generation (Some (root_said says))) lacking
+            settled }
     {
         match says {
             RootSays::Absent => RootView::Absent { lacking, settled },

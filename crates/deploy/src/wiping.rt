@@ -1,6 +1,7 @@
 //! Wiping an application.
 
-ghost use Rattle.std.specs.Prelude.{◌≡◌, ◌<◌, ◌+◌, ◌^◌, ◌⊎◌, ℕ, List, [], Err, IfErr, IfOk, IsErrOf, IsOk, IsTrue, None, Ok, OnOk, option_map};
+ghost use Rattle.std.specs.Prelude.{◌≡◌, ◌<◌, ◌+◌, ◌^◌, ◌⊎◌, ℕ, List, [], Err, IfErr, IfOk, IsErrOf, IsOk, IsTrue};
+ghost use Rattle.std.specs.Prelude.{None, Ok, OnOk, option_map};
 ghost use Rattle.per_base.specs.Causes.{Rose};
 ghost use Rattle.per_base.specs.declared.errors.PerError.{PerError};
 ghost use Rattle.disk_model.specs.Frame.{Spares};
@@ -29,11 +30,11 @@ use per_base::Name;
 use root_text::{one_root, write_absent};
 use std::alloc::Global;
 
-/// Takes everything that is installed away: the root is written, and one that is bad is made anew. What the banks hold stays, and nothing
-/// names it.
+/// Takes everything that is installed away: the root is written, and one that is bad is made anew. What the banks hold
+/// stays, and nothing names it.
 ///
-/// Refusals, the first that holds: `ResourceBusy` where `busy` names an open storage; `LimitReached` with `Generations` where a root that
-/// is not bad has none left. They come before any call of the disk.
+/// Refusals, the first that holds: `ResourceBusy` where `busy` names an open storage; `LimitReached` with `Generations`
+/// where a root that is not bad has none left. They come before any call of the disk.
 ///
 /// # Errors
 ///
@@ -49,28 +50,34 @@ pub fn wipe<D: Disk>(
     requires root { RootAt D.told (D.medium disk.old).image app root }
 
     ensures root { IfOk result (λ o. RootAt D.told (D.medium disk.new).image app o.root) }
-    ensures refused { IfOk result (λ o. Answers o.refused (wiping (option_map (λ n. n.now) busy.entry) (root_app root []))) }
+    ensures refused { IfOk result (λ o. Answers o.refused
+        (wiping (option_map (λ n. n.now) busy.entry) (root_app root []))) }
     ensures says { IfOk result (λ o. root_says o.root
         ≡ (after (root_app root []) (wiping (option_map (λ n. n.now) busy.entry) (root_app root []))).says) }
-    ensures app { IsTrue D.told → OnOk result (app_at (D.medium disk.new).image app ≡ after (app_at (D.medium disk.old).image app)
+    ensures app { IsTrue D.told → OnOk result (app_at (D.medium disk.new).image app
+        ≡ after (app_at (D.medium disk.old).image app)
         (wiping (option_map (λ n. n.now) busy.entry) (app_at (D.medium disk.old).image app))) }
     ensures clean { IsTrue D.told → IfOk result (λ o. (o.refused ≡ None) ⊎ IsCleanApp app (D.medium disk.old).image
         → IsCleanApp app (D.medium disk.new).image) }
     ensures quiet { Quiet (D.medium disk.old) → OnOk result (Quiet (D.medium disk.new)) }
     ensures unchanged { IfOk result (λ o. (o.refused ≡ None → ⊥) → (disk.new ≡ disk.old) × (o.root ≡ root)) }
-    ensures early { (e : PerError) → wiping (option_map (λ n. n.now) busy.entry) (root_app root []) ≡ Err e → disk.new ≡ disk.old }
+    ensures early { (e : PerError) → wiping (option_map (λ n. n.now) busy.entry) (root_app root []) ≡ Err e
+        → disk.new ≡ disk.old }
 
     // Where no storage is open, no refusal takes memory.
-    ensures due { (e : PerError) → wiping (option_map (λ n. n.now) busy.entry) (root_app root []) ≡ Err e → busy.entry ≡ None → IsOk result }
+    ensures due { (e : PerError) → wiping (option_map (λ n. n.now) busy.entry) (root_app root []) ≡ Err e
+        → busy.entry ≡ None → IsOk result }
     ensures cause { IsErrOf result Stop.Device → Rose (D.medium disk.old).faults (D.medium disk.new).faults }
-    ensures device_only { IsErrOf result Stop.Device → IsOk (wiping (option_map (λ n. n.now) busy.entry) (root_app root [])) }
+    ensures device_only { IsErrOf result Stop.Device → IsOk
+        (wiping (option_map (λ n. n.now) busy.entry) (root_app root [])) }
     ensures memory { IsErrOf result Stop.OutOfMemory → disk.new ≡ disk.old }
     ensures passes { OnOk result ((D.medium disk.new).faults ≡ (D.medium disk.old).faults) }
 
     // Only slots of the root change, and at any moment the application stands as before or as after.
     ensures outside { Leaves D.told (IsNoRootSlot app) (D.medium disk.old) (D.medium disk.new) }
     ensures any_moment { IsTrue D.told → StandsThroughout app
-        (after (app_at (D.medium disk.old).image app) (wiping (option_map (λ n. n.now) busy.entry) (app_at (D.medium disk.old).image app)))
+        (after (app_at (D.medium disk.old).image app) (wiping (option_map (λ n. n.now) busy.entry)
+        (app_at (D.medium disk.old).image app)))
         (D.medium disk.old) (D.medium disk.new) }
     ensures time { Elapses (D.medium disk.old) (D.medium disk.new) }
 {
@@ -88,8 +95,10 @@ pub fn wipe<D: Disk>(
 impl Root {
     // The register of the root to be emptied, which a bad root has not, or why that is refused.
     fn without_versions(self, busy: Option<&Name>) -> Result<Result<Option<Cell>, Outcome>, Stop>
-        ensures emptied { IfOk result (λ left. IfOk left (IsEmptied (wiping (option_map (λ n. n.now) busy.entry)) self)) }
-        ensures refused { IfOk result (λ left. IfErr left (IsRefused (wiping (option_map (λ n. n.now) busy.entry)) self)) }
+        ensures emptied { IfOk result (λ left. IfOk left (IsEmptied (wiping (option_map (λ n. n.now) busy.entry))
+            self)) }
+        ensures refused { IfOk result (λ left. IfErr left (IsRefused (wiping (option_map (λ n. n.now) busy.entry))
+            self)) }
         ensures due { busy.entry ≡ None → IsOk result }
         ensures memory { IsErrOf result Stop.Device → ⊥ }
     {
@@ -135,7 +144,8 @@ fn empty<D: Disk>(
     ensures root { IfOk result (λ o. RootAt D.told (D.medium disk.new).image app o.root) }
     ensures says { IfOk result (λ o. root_says o.root ≡ empty_says register) }
     ensures done { IfOk result (λ o. o.refused ≡ None) }
-    ensures app { IsTrue D.told → OnOk result (app_at (D.medium disk.new).image app ≡ app_saying (D.medium disk.old).image app (empty_says register)) }
+    ensures app { IsTrue D.told → OnOk result (app_at (D.medium disk.new).image app
+        ≡ app_saying (D.medium disk.old).image app (empty_says register)) }
     ensures clean { IsTrue D.told → OnOk result (IsCleanApp app (D.medium disk.new).image) }
     ensures quiet { OnOk result (Quiet (D.medium disk.new)) }
     ensures cause { IsErrOf result Stop.Device → Rose (D.medium disk.old).faults (D.medium disk.new).faults }
@@ -145,7 +155,8 @@ fn empty<D: Disk>(
     // Only slots of the root change, and at any moment the application stands as before or with nothing installed.
     ensures outside { Leaves D.told (IsNoRootSlot app) (D.medium disk.old) (D.medium disk.new) }
     ensures any_moment { IsTrue D.told
-        → StandsThroughout app (app_saying (D.medium disk.old).image app (empty_says register)) (D.medium disk.old) (D.medium disk.new) }
+        → StandsThroughout app (app_saying (D.medium disk.old).image app (empty_says register)) (D.medium disk.old)
+        (D.medium disk.new) }
     ensures time { Elapses (D.medium disk.old) (D.medium disk.new) }
 {
     roots_say();
@@ -179,9 +190,11 @@ fn write_none<D: Disk>(alloc: Global, disk: &mut D, cell: Cell) -> Result<Cell, 
 
     // Only slots of the root change, and a stop at any moment leaves the old text or the new one.
     ensures elsewhere { IsTrue D.told
-        → Spares (IsNoSlot (place_of cell).first (place_of cell).copies) (D.medium disk.old).image (D.medium disk.new).image }
+        → Spares (IsNoSlot (place_of cell).first (place_of cell).copies) (D.medium disk.old).image
+        (D.medium disk.new).image }
     ensures any_moment { IsTrue D.told → Quiet (D.medium disk.old)
-        → EachCase (PutStops (place_of cell).first (place_of cell).copies (generation_of cell + 1) (root_text absent) (D.medium disk.old).image)
+        → EachCase (PutStops (place_of cell).first (place_of cell).copies (generation_of cell + 1) (root_text absent)
+        (D.medium disk.old).image)
         (D.medium disk.old) (D.medium disk.new) }
     ensures time { Elapses (D.medium disk.old) (D.medium disk.new) }
 {

@@ -20,7 +20,8 @@ abbrev pub AreSound : Case → List Shape → Type 0
 AreSound c shapes = AllByRecursion (λ (shape : Shape). IsSound shape.place c) shapes
 
 abbrev pub AreDecayed : List ℕ → Image → Image → List Shape → Type 0
-AreDecayed damaged old new shapes = AllByRecursion (λ (shape : Shape). DecaysFor (IsPiece shape.place) damaged old new) shapes
+AreDecayed damaged old new shapes = AllByRecursion (λ (shape : Shape). DecaysFor (IsPiece shape.place) damaged old new)
+    shapes
 
 -- both, of a list
 pub record AreCovered (c : Case) (damaged : List ℕ) (image : Image) (shapes : List Shape) : Type 0 where
@@ -30,7 +31,8 @@ pub record AreCovered (c : Case) (damaged : List ℕ) (image : Image) (shapes : 
 own_small : (g : ℕ) → own g < 2
 own_small g = omega arith
 
-module _ (app : ℕ) (c : Case) (sound : IsSoundApp app c) (damaged : List ℕ) (image : Image) (decays : DecaysApp app damaged c.left image) where
+module _ (app : ℕ) (c : Case) (sound : IsSoundApp app c) (damaged : List ℕ) (image : Image)
+    (decays : DecaysApp app damaged c.left image) where
   pub root_sound : IsSoundFor (IsPiece (root_place app)) c
   root_sound = (sound (root_place app) (inl (of_root refl))).pieces
 
@@ -45,22 +47,30 @@ module _ (app : ℕ) (c : Case) (sound : IsSoundApp app c) (damaged : List ℕ) 
     on_left = root_decays.pieces piece (record { copy = lt; parity = own_small g; verifies = v })
 
     -- a place that the text names is one of what lay before the damage
-    was_named : (shape : Shape) → Contains (shapes_named app (says_by g (root_of t))) shape → IsPlaceOn app c.left shape.place
+    was_named : (shape : Shape) → Contains (shapes_named app (says_by g (root_of t))) shape
+        → IsPlaceOn app c.left shape.place
     was_named shape named = of_storage copy g t shape lt on_left.verifies named refl
 
     -- and of base or full
-    pub covered : (shape : Shape) → Contains (shapes_named app (says_by g (root_of t))) shape → IsPlaceOn app c.base shape.place ⊎ IsPlaceOn app c.full shape.place
+    pub covered : (shape : Shape) → Contains (shapes_named app (says_by g (root_of t))) shape
+        → IsPlaceOn app c.base shape.place ⊎ IsPlaceOn app c.full shape.place
     covered shape named = ⊎_elim
         (λ (p : IsPiece (root_place app) c.base piece). inl (of_storage copy g t shape lt p.verifies named refl))
         (λ (p : IsPiece (root_place app) c.full piece). inr (of_storage copy g t shape lt p.verifies named refl))
         (root_sound piece on_left)
 
-    each : (shapes : List Shape) → ((shape : Shape) → Contains shapes shape → Contains (shapes_named app (says_by g (root_of t))) shape) → AreCovered c damaged image shapes
+    each : (shapes : List Shape) → ((shape : Shape) → Contains shapes shape
+        → Contains (shapes_named app (says_by g (root_of t))) shape) → AreCovered c damaged image shapes
     each [] among = record { sound = tt; decayed = tt }
     each (s ∷ ss) among =
         let first : Contains (shapes_named app (says_by g (root_of t))) s = among s (0, omega arith, refl) in
-        let rest : AreCovered c damaged image ss = each ss (λ shape at. among shape (suc at.0, (let lt = at.1 in omega (arith, lt)), at.2)) in
-        record { sound = (sound s.place (covered s first), rest.sound); decayed = (decays s.place (was_named s first), rest.decayed) }
+        let rest : AreCovered c damaged image ss = each ss
+        (λ shape at. among shape (suc at.0, (let lt = at.1 in omega (arith, lt)), at.2)) in
+        record {
+          sound = (sound s.place (covered s first), rest.sound);
+          decayed =
+              (decays s.place (was_named s first), rest.decayed);
+        }
 
     pub text_covers : AreCovered c damaged image (shapes_named app (says_by g (root_of t)))
     text_covers = each (shapes_named app (says_by g (root_of t))) (λ shape at. at)
@@ -75,7 +85,8 @@ module _ (app : ℕ) (c : Case) (sound : IsSoundApp app c) (damaged : List ℕ) 
       (λ none. subst (λ (s : Says). AreCovered c damaged image (shapes_named app s)) (sym none.0 ∙ is) none_covers)
       (λ some. let (h, t, it) = some in
       let (copy, lt, v) = at_least_one (λ copy. Holds image (first_of app) copy h t) 3 2 (omega arith) it.held in
-      subst (λ (s : Says). AreCovered c damaged image (shapes_named app s)) (sym it.says ∙ is) (text_covers copy h t lt v))
+      subst (λ (s : Says). AreCovered c damaged image (shapes_named app s)) (sym it.says ∙ is)
+      (text_covers copy h t lt v))
       (says_cases image app)
 
   no_shape : (shape : Shape) → Contains (shapes_named app nothing) shape → ⊥
@@ -83,7 +94,8 @@ module _ (app : ℕ) (c : Case) (sound : IsSoundApp app c) (damaged : List ℕ) 
   no_shape shape at = let below = at.1 in omega (arith, below)
 
   -- and each storage of it
-  pub each_covered : (shape : Shape) → Contains (shapes_named app (says_at image app)) shape → IsSound shape.place c × DecaysFor (IsPiece shape.place) damaged c.left image
+  pub each_covered : (shape : Shape) → Contains (shapes_named app (says_at image app)) shape
+      → IsSound shape.place c × DecaysFor (IsPiece shape.place) damaged c.left image
   each_covered shape at = ⊎_elim
       (λ none. absurd (no_shape shape (subst (λ (s : Says). Contains (shapes_named app s) shape) none.0 at)))
       (λ some. let (h, t, it) = some in

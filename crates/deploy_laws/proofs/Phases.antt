@@ -25,12 +25,15 @@ generation_is g text.absent = refl
 generation_is g (text.installed bank active previous) = refl
 
 -- the storages that its root names, on this image
-own_on : (app : ℕ) (start : Image) → IsCleanApp app start → AreOn start (shapes_named app (app_at start app).says) (app_at start app).states
+own_on : (app : ℕ) (start : Image) → IsCleanApp app start
+    → AreOn start (shapes_named app (app_at start app).says) (app_at start app).states
 unfolding app_at
 own_on app start clean = record { clean = clean.storages; states_are = refl }
 
-module _ (said : SaidLaw) (app g : ℕ) (lt : app < 8) (t next : List ℕ) (root : Root) (start : Image) (after : App) (clean : IsCleanApp app start)
-    (alone : IsAlone start (first_of app) 3 g t) (is_next : root_of next ≡ Some root) (says_next : after.says ≡ says_by (g + 1) (Some root)) where
+module _ (said : SaidLaw) (app g : ℕ) (lt : app < 8) (t next : List ℕ) (root : Root) (start : Image) (after : App)
+    (clean : IsCleanApp app start)
+    (alone : IsAlone start (first_of app) 3 g t) (is_next : root_of next ≡ Some root)
+    (says_next : after.says ≡ says_by (g + 1) (Some root)) where
   abbrev before : App
   before = app_at start app
 
@@ -56,19 +59,27 @@ module _ (said : SaidLaw) (app g : ℕ) (lt : app < 8) (t next : List ℕ) (root
       is_root = its_root;
       says = says_before;
       something_next = λ none. says_some (g + 1) root (sym says_next ∙ none);
-      differs = λ same. let old = old_generation in let new = new_generation in let one : generation_of after.says ≡ generation_of before.says = ap generation_of same in omega (arith, old, new, one);
+      differs = λ same. let old = old_generation in let new =
+          new_generation in let one : generation_of after.says ≡ generation_of before.says =
+          ap generation_of same in omega (arith, old, new, one);
     };
     is_next = (root, is_next);
     says_next = next_says;
   }
 
-  pub writing : UntouchedLaw → AreOn start (shapes_named app after.says) after.states → (c : Case) → PutStops (first_of app) 3 (g + 1) next start c → StandsCase app before after c
+  pub writing : UntouchedLaw → AreOn start (shapes_named app after.says) after.states → (c : Case)
+      → PutStops (first_of app) 3 (g + 1) next start c → StandsCase app before after c
   writing untouched on_next c puts sound damaged image decays =
       let versions : AreVersions before.says = subst AreVersions (sym says_before) (said g t) in
       let versions_next : AreVersions after.says = subst AreVersions (sym next_says) (said (g + 1) next) in
       let on = own_on app start clean in
-      stands_putting app g t next before after start between damaged image c puts (root_sound app c sound damaged image decays) (root_decays app c sound damaged image decays)
-      (λ e. stay_as untouched start c damaged image (shapes_named app before.says) before.states (named_covers app c sound damaged image decays before.says e)
-      (all_fit app lt before.says versions) on.clean (beside_untouched app lt before.says versions start c puts.elsewhere) on.states_are)
-      (λ e. stay_as untouched start c damaged image (shapes_named app after.says) after.states (named_covers app c sound damaged image decays after.says e)
-      (all_fit app lt after.says versions_next) on_next.clean (beside_untouched app lt after.says versions_next start c puts.elsewhere) on_next.states_are)
+      stands_putting app g t next before after start between damaged image c puts
+      (root_sound app c sound damaged image decays) (root_decays app c sound damaged image decays)
+      (λ e. stay_as untouched start c damaged image (shapes_named app before.says) before.states
+      (named_covers app c sound damaged image decays before.says e)
+      (all_fit app lt before.says versions) on.clean (beside_untouched app lt before.says versions start c
+      puts.elsewhere) on.states_are)
+      (λ e. stay_as untouched start c damaged image (shapes_named app after.says) after.states
+      (named_covers app c sound damaged image decays after.says e)
+      (all_fit app lt after.says versions_next) on_next.clean
+      (beside_untouched app lt after.says versions_next start c puts.elsewhere) on_next.states_are)

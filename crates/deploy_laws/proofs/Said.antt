@@ -1,5 +1,6 @@
 -- What a root says, by the texts that its copies hold.
-use Rattle.std.proofs.Common.{◌≡◌, ◌⊎◌, ℕ, zero, suc, ◌+◌, ◌<◌, List, [], ◌∷◌, ◌++◌, true, false, not, cond, Option, Some, None, refl, sym, ap, ◌∙◌, inl, inr, arith}
+use Rattle.std.proofs.Common.{◌≡◌, ◌⊎◌, ℕ, zero, suc, ◌+◌, ◌<◌, List, [], ◌∷◌, ◌++◌, true, false, not, cond, Option}
+use Rattle.std.proofs.Common.{Some, None, refl, sym, ap, ◌∙◌, inl, inr, arith}
 use Rattle.std.specs.Prelude.{map, Bool}
 use Rattle.std.proofs.lemmas.Bool.{cond-false}
 use Rattle.disk_model.specs.Image.{Image}
@@ -12,7 +13,8 @@ use Rattle.root_text.specs.RootText.{Root, root_of}
 use Rattle.root_text.specs.RootText as text
 use Rattle.deploy_laws.proofs.Files.{first_of}
 use Rattle.element_state.specs.States.{store_at}
-use Rattle.deploy_laws.specs.Apps.{Says, nothing, absent, installed, App, says_by, says_in, says_at, lacking_in, shapes_named, app_at}
+use Rattle.deploy_laws.specs.Apps.{Says, nothing, absent, installed, App, says_by, says_in, says_at, lacking_in}
+use Rattle.deploy_laws.specs.Apps.{shapes_named, app_at}
 
 -- a root says something
 pub says_some : (g : ℕ) (r : Root) → says_by g (Some r) ≡ nothing → ⊥
@@ -32,11 +34,20 @@ pub record Says-as (image : Image) (app g : ℕ) (t : List ℕ) : Type 0 where
 abbrev pub SaysNone : Image → ℕ → Type 0
 SaysNone image app = (says_at image app ≡ nothing) × HasNoStanding image (first_of app) 3 2
 
-says_cases_in : (image : Image) (app : ℕ) (answer : Option Seen) → standing image (first_of app) 3 2 ≡ answer → says_at image app ≡ says_in answer
+says_cases_in : (image : Image) (app : ℕ) (answer : Option Seen) → standing image (first_of app) 3 2 ≡ answer
+    → says_at image app ≡ says_in answer
     → SaysNone image app ⊎ ((g : ℕ) × (t : List ℕ) × Says-as image app g t)
 says_cases_in image app None e says = inl (says, standing_none image (first_of app) 3 2 (omega arith) e)
 says_cases_in image app (Some seen) e says =
-    inr (seen.generation, seen.text, record { held = (standing_stands image (first_of app) 3 2 seen (omega arith) e).enough; says = says })
+    inr (
+      seen.generation,
+      seen.text,
+      record {
+        held = (standing_stands image (first_of app) 3 2 seen (omega arith)
+            e).enough;
+        says = says;
+      },
+    )
 
 pub says_is : (image : Image) (app : ℕ) → says_at image app ≡ says_in (standing image (first_of app) 3 2)
 unfolding says_at
@@ -51,7 +62,8 @@ says_cases image app = says_cases_in image app (standing image (first_of app) 3 
 module _ (image : Image) (app g : ℕ) (t : List ℕ) (alone : IsAlone image (first_of app) 3 g t) where
   alone_one : IsOneEach image (first_of app) 3
   alone_one a b h s u lta ltb va vb =
-      (alone_only image (first_of app) 3 g t alone a lta h s va).1 ∙ sym (alone_only image (first_of app) 3 g t alone b ltb h u vb).1
+      (alone_only image (first_of app) 3 g t alone a lta h s va).1
+      ∙ sym (alone_only image (first_of app) 3 g t alone b ltb h u vb).1
 
   three_hold : IsHeldBy image (first_of app) 3 2 g t
   three_hold = inl (alone.held 2 (omega arith), inl (alone.held 1 (omega arith), tt))
@@ -59,14 +71,17 @@ module _ (image : Image) (app g : ℕ) (t : List ℕ) (alone : IsAlone image (fi
   alone_stands : IsStanding image (first_of app) 3 2 g t
   alone_stands = record {
     enough = three_hold;
-    greatest = λ h u some. let (c, lt, v) = at_least_one (λ c. Holds image (first_of app) c h u) 3 2 (omega arith) some in
+    greatest = λ h u some. let (c, lt, v) = at_least_one (λ c. Holds image (first_of app) c h u) 3 2 (omega arith) some
+        in
         let same = (alone_only image (first_of app) 3 g t alone c lt h u v).0 in omega (arith, same);
   }
 
   pub alone_says : says_at image app ≡ says_by g (root_of t)
   alone_says =
-      let (seen, e, same_g, same_t) = stands_standing image (first_of app) 3 2 g t (omega arith) alone_one alone_stands in
-      says_is image app ∙ ap says_in e ∙ ap (λ (h : ℕ). says_by h (root_of seen.text)) same_g ∙ ap (λ (u : List ℕ). says_by g (root_of u)) same_t
+      let (seen, e, same_g, same_t) = stands_standing image (first_of app) 3 2 g t (omega arith) alone_one alone_stands
+      in
+      says_is image app ∙ ap says_in e ∙ ap (λ (h : ℕ). says_by h (root_of seen.text)) same_g
+      ∙ ap (λ (u : List ℕ). says_by g (root_of u)) same_t
 
 -- ---- no copy lacks it
 
@@ -83,25 +98,43 @@ module _ (image : Image) (app g : ℕ) (t : List ℕ) (alone : IsAlone image (fi
   nobody_lacks : lacking image (first_of app) 3 g t ≡ []
   unfolding lacking
   nobody_lacks = none_that (λ copy. not (holds image (first_of app) copy (g, t))) 3
-      (λ c lt. not_passing (holds image (first_of app) c (g, t)) (is_holds image (first_of app) c (g, t) (alone.held c lt)))
+      (λ c lt. not_passing (holds image (first_of app) c (g, t))
+      (is_holds image (first_of app) c (g, t) (alone.held c lt)))
 
-  lacking_none : (says : Says) (seen : Seen) → seen.generation ≡ g → seen.text ≡ t → lacking_in image app says (Some seen) ≡ []
+  lacking_none : (says : Says) (seen : Seen) → seen.generation ≡ g → seen.text ≡ t
+      → lacking_in image app says (Some seen) ≡ []
   lacking_none nothing seen same_g same_t = refl
-  lacking_none (absent h) seen same_g same_t = ap (λ (x : ℕ). lacking image (first_of app) 3 x seen.text) same_g ∙ ap (λ (u : List ℕ). lacking image (first_of app) 3 g u) same_t ∙ nobody_lacks
-  lacking_none (installed h active previous) seen same_g same_t = ap (λ (x : ℕ). lacking image (first_of app) 3 x seen.text) same_g ∙ ap (λ (u : List ℕ). lacking image (first_of app) 3 g u) same_t ∙ nobody_lacks
+  lacking_none (absent h) seen same_g same_t = ap (λ (x : ℕ). lacking image (first_of app) 3 x seen.text) same_g
+      ∙ ap (λ (u : List ℕ). lacking image (first_of app) 3 g u) same_t ∙ nobody_lacks
+  lacking_none (installed h active previous) seen same_g same_t =
+      ap (λ (x : ℕ). lacking image (first_of app) 3 x seen.text) same_g
+      ∙ ap (λ (u : List ℕ). lacking image (first_of app) 3 g u) same_t ∙ nobody_lacks
 
   -- the application as this text says it
   abbrev pub app_by : Says → App
   app_by says = record { says = says; lacking = []; states = map (store_at image) (shapes_named app says) }
 
-  app_is : (answer : Option Seen) (says : Says) → standing image (first_of app) 3 2 ≡ answer → says_at image app ≡ says → lacking_in image app says answer ≡ [] → app_at image app ≡ app_by says
+  app_is : (answer : Option Seen) (says : Says) → standing image (first_of app) 3 2 ≡ answer → says_at image app ≡ says
+      → lacking_in image app says answer ≡ [] → app_at image app ≡ app_by says
   unfolding app_at
   app_is answer says e is none =
-      ap (λ (s : Says). record { says = s; lacking = lacking_in image app s (standing image (first_of app) 3 2); states = map (store_at image) (shapes_named app s) }) is
-      ∙ ap (λ (o : Option Seen). record { says = says; lacking = lacking_in image app says o; states = map (store_at image) (shapes_named app says) }) e
-      ∙ ap (λ (l : List ℕ). record { says = says; lacking = l; states = map (store_at image) (shapes_named app says) }) none
+      ap (λ (s : Says). record {
+        says = s;
+        lacking = lacking_in image app s (standing image (first_of app) 3 2);
+        states = map (store_at image) (shapes_named app s);
+      }) is
+      ∙ ap (λ (o : Option Seen). record {
+        says = says;
+        lacking = lacking_in image app says o;
+        states =
+            map (store_at image) (shapes_named app says);
+      }) e
+      ∙ ap (λ (l : List ℕ). record { says = says; lacking = l; states = map (store_at image) (shapes_named app says) })
+      none
 
   pub alone_app : app_at image app ≡ app_by (says_by g (root_of t))
   alone_app =
-      let (seen, e, same_g, same_t) = stands_standing image (first_of app) 3 2 g t (omega arith) (alone_one image app g t alone) (alone_stands image app g t alone) in
-      app_is (Some seen) (says_by g (root_of t)) e (alone_says image app g t alone) (lacking_none (says_by g (root_of t)) seen same_g same_t)
+      let (seen, e, same_g, same_t) = stands_standing image (first_of app) 3 2 g t (omega arith)
+      (alone_one image app g t alone) (alone_stands image app g t alone) in
+      app_is (Some seen) (says_by g (root_of t)) e (alone_says image app g t alone)
+      (lacking_none (says_by g (root_of t)) seen same_g same_t)

@@ -1,5 +1,6 @@
 -- What a disk's image says of an application.
-use Rattle.std.specs.Prelude.{◌≡◌, ◌<◌, ◌≤◌, ℕ, ◌-◌, List, [], ◌++◌, map, length, nat_le, Bool, Option, Some, None, option_map, ⊤}
+use Rattle.std.specs.Prelude.{◌≡◌, ◌<◌, ◌≤◌, ℕ, ◌-◌, List, [], ◌++◌, map, length, nat_le, Bool, Option, Some, None}
+use Rattle.std.specs.Prelude.{option_map, ⊤}
 use Rattle.std.specs.List.{AllByRecursion}
 use Rattle.disk_model.specs.Image.{Image}
 use Rattle.deployment_model.specs.Conditions.{IsDeployment}
@@ -13,8 +14,8 @@ use Rattle.root_text.specs.RootText.{Root, Version, root_of}
 use Rattle.root_text.specs.RootText as text
 use Rattle.deploy_laws.specs.Places.{Named, root_place, shapes_in, shapes_if}
 
--- what the root of an application says: nothing that counts; that nothing is installed; or the active version and the previous one, with
--- the generation of its text
+-- what the root of an application says: nothing that counts; that nothing is installed; or the active version and the
+-- previous one, with the generation of its text
 pub data Says : Type 0 where
   nothing : Says
   absent : (generation : ℕ) → Says
@@ -26,7 +27,8 @@ shapes_named app nothing = []
 shapes_named app (absent g) = []
 shapes_named app (installed g active previous) = shapes_in app active ++ shapes_if app previous
 
--- an application: what its root says, the copies that lack the root, counted from 1, and the state of each storage that the root names
+-- an application: what its root says, the copies that lack the root, counted from 1, and the state of each storage that
+-- the root names
 pub record App : Type 0 where
   pub says : Says
   pub lacking : List ℕ
@@ -46,7 +48,8 @@ named bank v = record { bank = bank; deployment = v.deployment }
 abbrev pub says_by : ℕ → Option Root → Says
 says_by g None = nothing
 says_by g (Some text.absent) = absent g
-says_by g (Some (text.installed bank active previous)) = installed g (named bank active) (option_map (named (1 - bank)) previous)
+says_by g (Some (text.installed bank active previous)) =
+    installed g (named bank active) (option_map (named (1 - bank)) previous)
 
 abbrev pub says_in : Option Seen → Says
 says_in None = nothing
@@ -62,7 +65,8 @@ lacking_in image app nothing seen = []
 lacking_in image app (absent g) None = []
 lacking_in image app (absent g) (Some seen) = lacking image (root_place app).first 3 seen.generation seen.text
 lacking_in image app (installed g active previous) None = []
-lacking_in image app (installed g active previous) (Some seen) = lacking image (root_place app).first 3 seen.generation seen.text
+lacking_in image app (installed g active previous) (Some seen) =
+    lacking image (root_place app).first 3 seen.generation seen.text
 
 -- the application, on every image
 unfoldable pub app_at : Image → ℕ → App

@@ -1,4 +1,5 @@
--- What an image says of an application, and what a stop at each moment of a call, and then damage, leave of it: the statements of the laws.
+-- What an image says of an application, and what a stop at each moment of a call, and then damage, leave of it: the
+-- statements of the laws.
 use Rattle.std.specs.Prelude.{◌≡◌, ℕ, ◌+◌, ◌<◌, ◌≤◌, List, [], map, Contains, Option, Some, slice_get, slice_set}
 use Rattle.disk_model.specs.Image.{Image}
 use Rattle.disk_model.specs.Case.{Case}
@@ -17,8 +18,10 @@ use Rattle.element_state.specs.States.{State, store_at}
 use Rattle.element_laws.specs.Phases.{IsOfPlace}
 use Rattle.root_text.specs.RootText.{Root, root_of}
 use Rattle.root_text.specs.RootText as text
-use Rattle.deploy_laws.specs.Places.{Named, root_place, first_file, storage_file, shape_of, shapes_in, IsFileOf, IsNoFileOf, IsNoRootFile, IsBeside, IsOutsideBank}
-use Rattle.deploy_laws.specs.Apps.{Says, nothing, absent, installed, App, says_by, says_at, app_at, shapes_named, AreVersions, IsFree, AreClean, AreOn, IsCleanApp}
+use Rattle.deploy_laws.specs.Places.{Named, root_place, first_file, storage_file, shape_of, shapes_in, IsFileOf}
+use Rattle.deploy_laws.specs.Places.{IsNoFileOf, IsNoRootFile, IsBeside, IsOutsideBank}
+use Rattle.deploy_laws.specs.Apps.{Says, nothing, absent, installed, App, says_by, says_at, app_at, shapes_named}
+use Rattle.deploy_laws.specs.Apps.{AreVersions, IsFree, AreClean, AreOn, IsCleanApp}
 use Rattle.deploy_laws.specs.Pieces.{IsSoundApp, DecaysApp}
 use Rattle.deploy_laws.specs.Stands.{Stands, StandsCase, IsRootSpared, IsLater}
 
@@ -35,7 +38,8 @@ AloneFrameLaw = (app g : ℕ) (text : List ℕ) (old new : Image) → Spares (Is
 
 -- what a root says depends on the files of its place alone
 abbrev pub SaysFrameLaw : Type 0
-SaysFrameLaw = (app : ℕ) (old new : Image) → Spares (IsOfPlace (root_place app)) old new → says_at new app ≡ says_at old app
+SaysFrameLaw = (app : ℕ) (old new : Image) → Spares (IsOfPlace (root_place app)) old new
+    → says_at new app ≡ says_at old app
 
 -- the storages of a version, by their numbers
 abbrev pub NumberLaw : Type 0
@@ -44,26 +48,30 @@ NumberLaw = (app number : ℕ) (v : Named) (s : StorageData) → slice_get v.dep
 
 -- where a root's text is held alone, the application is what it says
 abbrev pub AloneLaw : Type 0
-AloneLaw = (app g : ℕ) (text : List ℕ) (image : Image) → IsAlone image (root_place app).first 3 g text → app_at image app ≡ record {
-  says = says_by g (root_of text);
-  lacking = [];
-  states = map (store_at image) (shapes_named app (says_by g (root_of text)));
-}
+AloneLaw = (app g : ℕ) (text : List ℕ) (image : Image) → IsAlone image (root_place app).first 3 g text
+    → app_at image app ≡ record {
+      says = says_by g (root_of text);
+      lacking = [];
+      states = map (store_at image) (shapes_named app (says_by g (root_of text)));
+    }
 
 -- and its places are clean, where those that the text names are
 abbrev pub AloneCleanLaw : Type 0
-AloneCleanLaw = (app g : ℕ) (text : List ℕ) (root : Root) (image : Image) → IsAlone image (root_place app).first 3 g text → root_of text ≡ Some root
+AloneCleanLaw = (app g : ℕ) (text : List ℕ) (root : Root) (image : Image)
+    → IsAlone image (root_place app).first 3 g text → root_of text ≡ Some root
     → AreClean image (shapes_named app (says_by g (Some root))) → IsCleanApp app image
 
 -- ---- files
 
 -- the root has twelve files
 abbrev pub RootFilesLaw : Type 0
-RootFilesLaw = (app file : ℕ) → app < 8 → IsOfPlace (root_place app) file → (first_file app ≤ file) × (file < first_file app + 12)
+RootFilesLaw = (app file : ℕ) → app < 8 → IsOfPlace (root_place app) file
+    → (first_file app ≤ file) × (file < first_file app + 12)
 
 -- and each storage of a bank 32
 abbrev pub StorageFilesLaw : Type 0
-StorageFilesLaw = (app bank number file : ℕ) (s : StorageData) → app < 8 → bank ≤ 1 → number < 16 → IsOfPlace (shape_of app bank number s).place file
+StorageFilesLaw = (app bank number file : ℕ) (s : StorageData) → app < 8 → bank ≤ 1 → number < 16
+    → IsOfPlace (shape_of app bank number s).place file
     → (storage_file app bank number ≤ file) × (file < storage_file app bank number + 32)
 
 -- a file that is not among the root's is no slot of it
@@ -72,12 +80,14 @@ RootSlotsLaw = (app file : ℕ) → app < 8 → IsNoRootFile app file → IsNoSl
 
 -- a file beside those of a storage lies outside its place
 abbrev pub BesideLaw : Type 0
-BesideLaw = (app bank number file : ℕ) (s : StorageData) → app < 8 → bank ≤ 1 → number < 16 → IsBeside app bank number file
+BesideLaw = (app bank number file : ℕ) (s : StorageData) → app < 8 → bank ≤ 1 → number < 16
+    → IsBeside app bank number file
     → IsOutside (shape_of app bank number s).place.first (shape_of app bank number s).place.copies file
 
 -- where files of the root alone change, each storage that a root may name is as it was
 abbrev pub RootAloneLaw : Type 0
-RootAloneLaw = (app : ℕ) (says : Says) (old new : Image) → app < 8 → AreVersions says → Spares (IsNoRootFile app) old new
+RootAloneLaw = (app : ℕ) (says : Says) (old new : Image) → app < 8 → AreVersions says
+    → Spares (IsNoRootFile app) old new
     → (map (store_at new) (shapes_named app says) ≡ map (store_at old) (shapes_named app says))
     × (AreClean old (shapes_named app says) → AreClean new (shapes_named app says))
 
@@ -91,7 +101,10 @@ abbrev pub StoredLaw : Type 0
 StoredLaw = (app g number : ℕ) (old new : Image) (active : Named) (previous : Option Named) (s : StorageData) → app < 8
     → says_at old app ≡ installed g active previous → slice_get active.deployment.storages number ≡ Some s
     → Spares (λ file. IsFileOf app file × IsBeside app active.bank number file) old new
-    → (app_at new app ≡ record (app_at old app) { states = slice_set (app_at old app).states number (store_at new (shape_of app active.bank number s)) })
+    → (app_at new app ≡ record (app_at old app) {
+      states =
+          slice_set (app_at old app).states number (store_at new (shape_of app active.bank number s));
+    })
     × (IsCleanApp app old → IsClean (shape_of app active.bank number s) new → IsCleanApp app new)
 
 -- the files of one application are none of another's
@@ -112,32 +125,39 @@ OthersCaseLaw = (one other : ℕ) (start : Image) (c : Case) → ¬ (one ≡ oth
 
 -- what is granted of an application holds of each storage that its root names after a stop and damage
 abbrev pub CoveredLaw : Type 0
-CoveredLaw = (app : ℕ) (c : Case) (damaged : List ℕ) (image : Image) (shape : Shape) → IsSoundApp app c → DecaysApp app damaged c.left image
-    → Contains (shapes_named app (says_at image app)) shape → IsSound shape.place c × DecaysFor (IsPiece shape.place) damaged c.left image
+CoveredLaw = (app : ℕ) (c : Case) (damaged : List ℕ) (image : Image) (shape : Shape) → IsSoundApp app c
+    → DecaysApp app damaged c.left image
+    → Contains (shapes_named app (says_at image app)) shape
+    → IsSound shape.place c × DecaysFor (IsPiece shape.place) damaged c.left image
 
 -- what two copies hold is spared where nothing is damaged
 abbrev pub RootStandsLaw : Type 0
-RootStandsLaw = (app : ℕ) (start : Image) → ¬ ((app_at start app).says ≡ nothing) → AtLeast (IsRootSpared app [] (app_at start app).lacking) 3 2
+RootStandsLaw = (app : ℕ) (start : Image) → ¬ ((app_at start app).says ≡ nothing)
+    → AtLeast (IsRootSpared app [] (app_at start app).lacking) 3 2
 
 -- what stands with nothing damaged has clean places
 abbrev pub StandsCleanLaw : Type 0
-StandsCleanLaw = (app : ℕ) (start image : Image) (after : App) → Stands app image [] (app_at start app) after → IsCleanApp app image
+StandsCleanLaw = (app : ℕ) (start image : Image) (after : App) → Stands app image [] (app_at start app) after
+    → IsCleanApp app image
 
 -- copies of the root that lack it matter to nothing but whether two are left
 abbrev pub RootMendLaw : Type 0
-RootMendLaw = (app : ℕ) (image : Image) (damaged : List ℕ) (before after : App) → Stands app image damaged (record before { lacking = [] }) after
+RootMendLaw = (app : ℕ) (image : Image) (damaged : List ℕ) (before after : App)
+    → Stands app image damaged (record before { lacking = [] }) after
     → Stands app image damaged before after
 
 -- ---- at rest
 
 -- an application of which no file is touched stands as it was
 abbrev pub UntouchedAppLaw : Type 0
-UntouchedAppLaw = (app : ℕ) (start : Image) (c : Case) → app < 8 → IsCleanApp app start → IsSettledOn (IsFileOf app) start c
+UntouchedAppLaw = (app : ℕ) (start : Image) (c : Case) → app < 8 → IsCleanApp app start
+    → IsSettledOn (IsFileOf app) start c
     → StandsCase app (app_at start app) (app_at start app) c
 
 -- and so it does on its way to whatever may come of it: damage brings up no root of a greater generation
 abbrev pub StillAppLaw : Type 0
-StillAppLaw = (app : ℕ) (start : Image) (after : App) (c : Case) → app < 8 → IsCleanApp app start → IsSettledOn (IsFileOf app) start c
+StillAppLaw = (app : ℕ) (start : Image) (after : App) (c : Case) → app < 8 → IsCleanApp app start
+    → IsSettledOn (IsFileOf app) start c
     → IsLater (app_at start app) after → StandsCase app (app_at start app) after c
 
 -- ---- on the way
@@ -145,30 +165,42 @@ StillAppLaw = (app : ℕ) (start : Image) (after : App) (c : Case) → app < 8 �
 -- the text of the root that stands is brought to every copy, before whatever may come of the application
 abbrev pub OpeningLaw : Type 0
 OpeningLaw = (app : ℕ) (seen : Seen) (start : Image) (after : App) (c : Case) → app < 8 → IsCleanApp app start
-    → standing start (root_place app).first 3 2 ≡ Some seen → PutStops (root_place app).first 3 seen.generation seen.text start c
+    → standing start (root_place app).first 3 2 ≡ Some seen
+    → PutStops (root_place app).first 3 seen.generation seen.text start c
     → IsLater (app_at start app) after → StandsCase app (app_at start app) after c
 
 -- a bad root is made anew
 abbrev pub FormattingLaw : Type 0
-FormattingLaw = (app : ℕ) (next : List ℕ) (start : Image) (c : Case) → IsCleanApp app start → says_at start app ≡ nothing → root_of next ≡ Some text.absent
-    → FormatStops (root_place app).first 3 1 next start c → StandsCase app (app_at start app) (record { says = absent 1; lacking = []; states = [] }) c
+FormattingLaw = (app : ℕ) (next : List ℕ) (start : Image) (c : Case) → IsCleanApp app start
+    → says_at start app ≡ nothing → root_of next ≡ Some text.absent
+    → FormatStops (root_place app).first 3 1 next start c
+    → StandsCase app (app_at start app) (record { says = absent 1; lacking = []; states = [] }) c
 
 -- storages are made in a bank in which no version lies, before whatever may come of the application
 abbrev pub CreatingLaw : Type 0
-CreatingLaw = (app bank : ℕ) (start : Image) (after : App) (c : Case) → app < 8 → bank ≤ 1 → IsCleanApp app start → IsFree bank (says_at start app)
-    → IsSettledOn (IsOutsideBank app bank) start c → IsLater (app_at start app) after → StandsCase app (app_at start app) after c
+CreatingLaw = (app bank : ℕ) (start : Image) (after : App) (c : Case) → app < 8 → bank ≤ 1 → IsCleanApp app start
+    → IsFree bank (says_at start app)
+    → IsSettledOn (IsOutsideBank app bank) start c → IsLater (app_at start app) after
+    → StandsCase app (app_at start app) after c
 
 -- the root, whose text is held alone, is written
 abbrev pub WritingLaw : Type 0
-WritingLaw = (app g : ℕ) (text next : List ℕ) (root : Root) (start : Image) (after : App) (c : Case) → app < 8 → IsCleanApp app start
-    → IsAlone start (root_place app).first 3 g text → root_of next ≡ Some root → after.says ≡ says_by (g + 1) (Some root)
+WritingLaw = (app g : ℕ) (text next : List ℕ) (root : Root) (start : Image) (after : App) (c : Case) → app < 8
+    → IsCleanApp app start
+    → IsAlone start (root_place app).first 3 g text → root_of next ≡ Some root
+    → after.says ≡ says_by (g + 1) (Some root)
     → AreOn start (shapes_named app after.says) after.states → PutStops (root_place app).first 3 (g + 1) next start c
     → StandsCase app (app_at start app) after c
 
 -- a storage of the active version is on its way to another state, and nothing else of the application is touched
 abbrev pub StoringLaw : Type 0
-StoringLaw = (app g number : ℕ) (start : Image) (active : Named) (previous : Option Named) (s : StorageData) (after : State) (c : Case)
-    → app < 8 → IsCleanApp app start → says_at start app ≡ installed g active previous → slice_get active.deployment.storages number ≡ Some s
+StoringLaw = (app g number : ℕ) (start : Image) (active : Named) (previous : Option Named) (s : StorageData)
+    (after : State) (c : Case)
+    → app < 8 → IsCleanApp app start → says_at start app ≡ installed g active previous
+    → slice_get active.deployment.storages number ≡ Some s
     → IsSettledOn (λ file. IsFileOf app file × IsBeside app active.bank number file) start c
     → IsKeptCase (shape_of app active.bank number s) start after c
-    → StandsCase app (app_at start app) (record (app_at start app) { states = slice_set (app_at start app).states number after }) c
+    → StandsCase app (app_at start app) (record (app_at start app) {
+      states =
+          slice_set (app_at start app).states number after;
+    }) c

@@ -11,12 +11,14 @@ use Rattle.root_text.specs.RootText.{root_of}
 use Rattle.deploy_laws.specs.Places.{root_place}
 use Rattle.deploy_laws.specs.Apps.{shapes_named, says_by}
 
--- A place of the application on this image: its root's, and those of the storages that a held text of its root names, each with its own
--- copies. Not only the text that stands counts: damage may bring up another one that is held.
+-- A place of the application on this image: its root's, and those of the storages that a held text of its root names,
+-- each with its own copies. Not only the text that stands counts: damage may bring up another one that is held.
 pub data IsPlaceOn (app : ℕ) (image : Image) (place : Place) : Type 0 where
   of_root : place ≡ root_place app → IsPlaceOn app image place
-  of_storage : (copy generation : ℕ) (text : List ℕ) (shape : Shape) → copy < 3 → Holds image (root_place app).first copy generation text
-      → Contains (shapes_named app (says_by generation (root_of text))) shape → place ≡ shape.place → IsPlaceOn app image place
+  of_storage : (copy generation : ℕ) (text : List ℕ) (shape : Shape) → copy < 3
+      → Holds image (root_place app).first copy generation text
+      → Contains (shapes_named app (says_by generation (root_of text))) shape → place ≡ shape.place
+      → IsPlaceOn app image place
 
 -- each of its places is sound, as base or full name them
 abbrev pub IsSoundApp : ℕ → Case → Type 0

@@ -7,7 +7,8 @@ use Rattle.deployment_model.specs.Data.{DeploymentData, StorageData}
 
 -- ---- places
 
--- A place has from 1 to 8 copies, and its files have numbers below 2^32. What goes beyond is cut off; nothing that a deployment gives does.
+-- A place has from 1 to 8 copies, and its files have numbers below 2^32. What goes beyond is cut off; nothing that a
+-- deployment gives does.
 abbrev pub cut_first : ℕ → ℕ
 cut_first first = min first 4294967263
 

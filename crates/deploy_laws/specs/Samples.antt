@@ -1,4 +1,5 @@
--- Applications that compute: disks that were never formatted, roots that lost copies, and a storage with areas that were spoiled.
+-- Applications that compute: disks that were never formatted, roots that lost copies, and a storage with areas that
+-- were spoiled.
 use Rattle.std.specs.Prelude.{◌≡◌, ℕ, List, [], ◌∷◌, map, Option, Some, None, cond, codes, true, false}
 use Rattle.std.proofs.Common.{refl, ap, ◌∙◌}
 use Rattle.sha2.specs.Sha256.{sha256, digest_bytes, hash_after, compress, rounds, schedule, first_words}
@@ -26,12 +27,16 @@ use Rattle.element_state.specs.States.{Opens, Corrupt, store_at}
 use Rattle.root_text.specs.RootText.{Root, root_of, root_in}
 use Rattle.root_text.specs.RootText as text
 use Rattle.deploy_laws.specs.Places.{shape_of}
-use Rattle.deploy_laws.specs.Apps.{Says, nothing, absent, installed, App, says_by, says_at, app_at, shapes_named, root_settled}
+use Rattle.deploy_laws.specs.Apps.{Says, nothing, absent, installed, App, says_by, says_at, app_at, shapes_named}
+use Rattle.deploy_laws.specs.Apps.{root_settled}
 use Rattle.deploy_laws.specs.Laws.{AloneLaw}
 
 -- all that the samples compute with
 unfoldable computed : ℕ
-unfolding voted sealed numbered verified generation_in length_in held standing lacking counting index_text entry_text index_of header_at entry_at name_at info_at changed_at len_at many bytes_at number_at fit_index fit_texts entry_view view_of store_at sha256 digest_bytes hash_after compress rounds schedule first_words root_of root_in says_at app_at shapes_named shape_of
+unfolding voted sealed numbered verified generation_in length_in held standing lacking counting index_text entry_text
+    index_of header_at entry_at name_at info_at changed_at len_at many bytes_at number_at fit_index fit_texts entry_view
+    view_of store_at sha256 digest_bytes hash_after compress rounds schedule first_words root_of root_in says_at app_at
+    shapes_named shape_of
 computed = 0
 
 abbrev without : Says → List ℕ → App
@@ -112,7 +117,8 @@ unfolding computed
 place_of_fav = refl
 
 -- whatever the manifest's text is, where the root is held alone
-installed_app : AloneLaw → (image : Image) (manifest root : List ℕ) → root_of root ≡ Some (text.installed 0 (record { text = manifest; deployment = favourites }) None)
+installed_app : AloneLaw → (image : Image) (manifest root : List ℕ)
+    → root_of root ≡ Some (text.installed 0 (record { text = manifest; deployment = favourites }) None)
     → IsAlone image 0 3 2 root → app_at image 0 ≡ record {
       says = installed 2 (record { bank = 0; deployment = favourites }) None;
       lacking = [];
@@ -128,20 +134,34 @@ installed_app alone image manifest root is held = alone 0 2 root image held ∙ 
 -- the key `home`, synchronised once, in its second generation
 abbrev home : Index
 unfolding computed
-home = record { format = 2; kind = Keys; entries = record { name = codes "home"; info = None; changed = 2; len = 3; hash = sha256 (3 ∷ 9 ∷ 0 ∷ []); blocks = 0 ∷ [] } ∷ [] }
+home = record {
+  format = 2;
+  kind = Keys;
+  entries = record {
+    name = codes "home";
+    info = None;
+    changed = 2;
+    len =
+        3;
+    hash = sha256 (3 ∷ 9 ∷ 0 ∷ []);
+    blocks = 0 ∷ [];
+  } ∷ [];
+}
 
 -- the storage on disk, with these areas spoiled
 abbrev spoiled : List ℕ → Image
 unfolding computed
 spoiled files f = cond (named_in files f) (252 ∷ 246 ∷ 255 ∷ [])
-    (cond (named_in (1024 ∷ 1028 ∷ 1032 ∷ []) f) (sealed 2 (index_text home)) (cond (named_in (1026 ∷ 1030 ∷ 1034 ∷ []) f) (3 ∷ 9 ∷ 0 ∷ []) []))
+    (cond (named_in (1024 ∷ 1028 ∷ 1032 ∷ []) f) (sealed 2 (index_text home))
+    (cond (named_in (1026 ∷ 1030 ∷ 1034 ∷ []) f) (3 ∷ 9 ∷ 0 ∷ []) []))
 
 abbrev seen : Content → (lacking : List ℕ) → View
 seen content lacking = record {
   generation = 2;
   lacking = lacking;
   settled = true;
-  entries = record { name = codes "home"; info = None; changed = 2; len = 3; content = content; lacking = lacking } ∷ [];
+  entries = record { name = codes "home"; info = None; changed = 2; len = 3; content = content; lacking = lacking }
+      ∷ [];
 }
 
 -- one spoiled area is a copy that lacks the storage; with two it is corrupt, and what is left is its salvage
@@ -149,6 +169,7 @@ one_spoiled : store_at (spoiled (1026 ∷ [])) (shape_of 0 0 0 fav) ≡ Opens (s
 unfolding computed
 one_spoiled = refl
 
-two_spoiled : store_at (spoiled (1026 ∷ 1030 ∷ [])) (shape_of 0 0 0 fav) ≡ Corrupt (Some (seen (Bad (Some (3 ∷ 9 ∷ 0 ∷ []))) (1 ∷ 2 ∷ []))) []
+two_spoiled : store_at (spoiled (1026 ∷ 1030 ∷ [])) (shape_of 0 0 0 fav)
+    ≡ Corrupt (Some (seen (Bad (Some (3 ∷ 9 ∷ 0 ∷ []))) (1 ∷ 2 ∷ []))) []
 unfolding computed
 two_spoiled = refl

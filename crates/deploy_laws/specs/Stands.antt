@@ -8,7 +8,8 @@ use Rattle.element_state.specs.declared.shapes.Shape.{Shape}
 use Rattle.element_state.specs.States.{State, store_at}
 use Rattle.element_state.specs.Kept.{Kept}
 use Rattle.deploy_laws.specs.Places.{root_place}
-use Rattle.deploy_laws.specs.Apps.{nothing, App, says_at, app_at, shapes_named, generation_of, IsCleanRoot, IsCleanApp, AreClean}
+use Rattle.deploy_laws.specs.Apps.{nothing, App, says_at, app_at, shapes_named, generation_of, IsCleanRoot, IsCleanApp}
+use Rattle.deploy_laws.specs.Apps.{AreClean}
 use Rattle.deploy_laws.specs.Pieces.{IsSoundApp, DecaysApp}
 
 -- each storage is kept, by its states before and after
@@ -21,7 +22,8 @@ AreKept image damaged (shape ∷ shapes) (state ∷ before) (next ∷ after) =
 
 -- the damage spares this copy of the root, counted from 0, and it did not lack it
 abbrev pub IsRootSpared : ℕ → (damaged lacking : List ℕ) → ℕ → Type 0
-IsRootSpared app damaged lacking copy = IsUndamaged damaged (root_place app).first copy × ¬ (Contains lacking (copy + 1))
+IsRootSpared app damaged lacking copy = IsUndamaged damaged (root_place app).first copy
+    × ¬ (Contains lacking (copy + 1))
 
 pub record Stands (app : ℕ) (image : Image) (damaged : List ℕ) (before after : App) : Type 0 where
   -- a root that said nothing says nothing, or what it says after
@@ -38,18 +40,21 @@ pub record Stands (app : ℕ) (image : Image) (damaged : List ℕ) (before after
       → AreKept image damaged (shapes_named app after.says) after.states after.states
   -- the places stay clean
   pub clean_root : IsCleanRoot app image
-  pub clean : (says_at image app ≡ before.says) ⊎ (says_at image app ≡ after.says) → AreClean image (shapes_named app (says_at image app))
+  pub clean : (says_at image app ≡ before.says) ⊎ (says_at image app ≡ after.says)
+      → AreClean image (shapes_named app (says_at image app))
 
 -- ---- every moment of a call
 
 -- so it is of each sound case, after each damage
 abbrev pub StandsCase : ℕ → (before after : App) → Case → Type 0
-StandsCase app before after c = IsSoundApp app c → (damaged : List ℕ) (image : Image) → DecaysApp app damaged c.left image
+StandsCase app before after c = IsSoundApp app c → (damaged : List ℕ) (image : Image)
+    → DecaysApp app damaged c.left image
     → Stands app image damaged before after
 
 -- so it is of every moment since a start at which nothing was pending and the application's places were clean
 abbrev pub StandsThroughout : ℕ → (after : App) → (old new : Medium) → Type 0
-StandsThroughout app after old new = Quiet old → IsCleanApp app old.image → EachCase (StandsCase app (app_at old.image app) after) old new
+StandsThroughout app after old new = Quiet old → IsCleanApp app old.image
+    → EachCase (StandsCase app (app_at old.image app) after) old new
 
 -- ---- what may come of an application
 

@@ -10,7 +10,11 @@ ghost use Rattle.element_state.specs.States.{State, store_at};
 ghost use Rattle.deploy_laws.specs.Places.{IsOutsideBank};
 ghost use Rattle.deploy_laws.specs.Apps.{App, IsCleanApp, IsFree, app_at, nothing, says_at, shapes_named};
 ghost use Rattle.deploy_laws.specs.Stands.{IsRootSpared, Stands};
-ghost use Rattle.deploy_laws.specs.Laws.{VersionsLaw, SaysFrameLaw, AloneFrameLaw, NumberLaw, AloneLaw, AloneCleanLaw, RootFilesLaw, RootSlotsLaw, StorageFilesLaw, BesideLaw, ApartLaw, RootAloneLaw, AppFrameLaw, StoredLaw, OthersLaw, OthersCaseLaw, CoveredLaw, RootStandsLaw, StandsCleanLaw, RootMendLaw, UntouchedAppLaw, StillAppLaw, OpeningLaw, FormattingLaw, CreatingLaw, WritingLaw, StoringLaw};
+ghost use Rattle.deploy_laws.specs.Laws.{VersionsLaw, SaysFrameLaw, AloneFrameLaw, NumberLaw, AloneLaw, AloneCleanLaw};
+ghost use Rattle.deploy_laws.specs.Laws.{RootFilesLaw, RootSlotsLaw, StorageFilesLaw, BesideLaw, ApartLaw};
+ghost use Rattle.deploy_laws.specs.Laws.{RootAloneLaw, AppFrameLaw, StoredLaw, OthersLaw, OthersCaseLaw, CoveredLaw};
+ghost use Rattle.deploy_laws.specs.Laws.{RootStandsLaw, StandsCleanLaw, RootMendLaw, UntouchedAppLaw, StillAppLaw};
+ghost use Rattle.deploy_laws.specs.Laws.{OpeningLaw, FormattingLaw, CreatingLaw, WritingLaw, StoringLaw};
 ghost use Rattle.deploy_laws.specs.Refused.{OldVersionLost, OtherRoot, RootRaised, RootTooEarly, StorageStrays};
 
 use element_laws::{places_stand_apart, untouched_is_kept};
@@ -18,8 +22,9 @@ use guarded_cell::held_is_lawful;
 use manifest::said_is_kept;
 use root_text::one_root;
 
-/// What a root says, on every image: versions that lie in their banks and keep what deployments keep, told by the root's own files alone.
-/// Where a root's text is held alone the application is what it says, and clean where its storages are.
+/// What a root says, on every image: versions that lie in their banks and keep what deployments keep, told by the
+/// root's own files alone. Where a root's text is held alone the application is what it says, and clean where its
+/// storages are.
 pub fn roots_say()
     ensures versions { VersionsLaw }
     ensures says { SaysFrameLaw }
@@ -33,7 +38,8 @@ pub fn roots_say()
     held_is_lawful();
 }
 
-/// The files of a root, of the storages in both banks, and of other applications lie apart, and hold all slots and areas.
+/// The files of a root, of the storages in both banks, and of other applications lie apart, and hold all slots and
+/// areas.
 pub fn files_lie_apart()
     ensures root { RootFilesLaw }
     ensures storage { StorageFilesLaw }
@@ -42,8 +48,9 @@ pub fn files_lie_apart()
     ensures beside { BesideLaw }
 {}
 
-/// What leaves the files of an application alone leaves the application as it was, and so does what writes in a bank in which no version
-/// lies. What writes the files of one storage changes the state of that storage alone, and what writes those of the root that of none.
+/// What leaves the files of an application alone leaves the application as it was, and so does what writes in a bank in
+/// which no version lies. What writes the files of one storage changes the state of that storage alone, and what writes
+/// those of the root that of none.
 pub fn others_stand()
     ensures frame { AppFrameLaw }
     ensures free_bank { (app bank : ℕ) (old new : Image) → app < 8 → bank ≤ 1 → IsFree bank (says_at old app)
@@ -60,8 +67,9 @@ pub fn others_stand()
     places_stand_apart();
 }
 
-/// What is granted of chance and damage covers every storage that a root names afterwards. A root that is read stands while nothing is
-/// damaged, and then what stands has clean places; copies that lack the root do not matter beside two that hold it.
+/// What is granted of chance and damage covers every storage that a root names afterwards. A root that is read stands
+/// while nothing is damaged, and then what stands has clean places; copies that lack the root do not matter beside two
+/// that hold it.
 pub fn roots_stay()
     ensures covered { CoveredLaw }
     ensures root { RootStandsLaw }
@@ -79,8 +87,8 @@ pub fn untouched_stands()
     untouched_is_kept();
 }
 
-/// A stop while the root is brought to every copy, while a bad root is made anew, while storages are made in a bank in which no version
-/// lies, and while the root is written, leaves the application as before or as after.
+/// A stop while the root is brought to every copy, while a bad root is made anew, while storages are made in a bank in
+/// which no version lies, and while the root is written, leaves the application as before or as after.
 pub fn deploying_stands()
     ensures opening { OpeningLaw }
     ensures formatting { FormattingLaw }
@@ -101,8 +109,9 @@ pub fn storing_stands()
     untouched_is_kept();
 }
 
-/// What a stop may not leave: a root that two spared copies held and that is gone, or is another one; a bad root that says what no call
-/// gave it; an old version whose bank was touched; a next version that is not built; a storage that went another way.
+/// What a stop may not leave: a root that two spared copies held and that is gone, or is another one; a bad root that
+/// says what no call gave it; an old version whose bank was touched; a next version that is not built; a storage that
+/// went another way.
 pub fn outcomes_are_refused()
     ensures root_gone { (app : ℕ) (image : Image) (damaged : List ℕ) (before after : App)
         → ¬ (before.says ≡ nothing) → ¬ (after.says ≡ nothing)
@@ -112,7 +121,8 @@ pub fn outcomes_are_refused()
     ensures root_raised { RootRaised }
 
     // The root is that of before, and a storage of the old version is not as it was.
-    ensures old_bank_touched { (app number : ℕ) (image : Image) (damaged : List ℕ) (before after : App) (shape : Shape) (state : State)
+    ensures old_bank_touched { (app number : ℕ) (image : Image) (damaged : List ℕ) (before after : App) (shape : Shape)
+        (state : State)
         → slice_get (shapes_named app before.says) number ≡ Some shape → slice_get before.states number ≡ Some state
         → ¬ (Kept shape damaged (store_at image shape) state state)
         → says_at image app ≡ before.says → ¬ (after.says ≡ before.says) → ¬ (Stands app image damaged before after) }

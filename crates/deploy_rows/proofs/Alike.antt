@@ -26,7 +26,8 @@ says a b (Ok x) (Err d) same rows = absurd rows
 says a b (Err d) (Ok x) same rows = absurd rows
 says a b (Err c) (Err d) same rows = same
 
-worn_same : (worn : Bool) (e : PerError) (x y : App) → x.says ≡ y.says → SameRow (cond worn (Err e) (Ok x)) (cond worn (Err e) (Ok y))
+worn_same : (worn : Bool) (e : PerError) (x y : App) → x.says ≡ y.says
+    → SameRow (cond worn (Err e) (Ok x)) (cond worn (Err e) (Ok y))
 worn_same true e x y same = refl
 worn_same false e x y same = same
 
@@ -48,7 +49,8 @@ module _ (k l : List ℕ) (xs ys : List State) where
   finish_same (installed g active None) = refl
   finish_same (installed g active (Some previous)) = row_same g _ _ refl
 
-  rollback_same : (busy : Option (List ℕ)) (s : Says) → SameRow (rolling_back busy (app s k xs)) (rolling_back busy (app s l ys))
+  rollback_same : (busy : Option (List ℕ)) (s : Says) → SameRow (rolling_back busy (app s k xs))
+      (rolling_back busy (app s l ys))
   unfolding rolling_back
   rollback_same busy nothing = refl
   rollback_same busy (absent g) = refl
@@ -63,21 +65,25 @@ module _ (k l : List ℕ) (xs ys : List State) where
   wipe_same None (absent g) = row_same g _ _ refl
   wipe_same None (installed g active previous) = row_same g _ _ refl
 
-  install_same : (now : ℕ) (text : List ℕ) (s : Says) → SameRow (installing now text (app s k xs)) (installing now text (app s l ys))
+  install_same : (now : ℕ) (text : List ℕ) (s : Says) → SameRow (installing now text (app s k xs))
+      (installing now text (app s l ys))
   unfolding installing
   install_same now text nothing = refl
   install_same now text (absent g) = same_row _
   install_same now text (installed g active previous) = refl
 
-  offer_same : (busy : Option (List ℕ)) (text : List ℕ) (s : Says) → offered busy text (app s k xs) ≡ offered busy text (app s l ys)
+  offer_same : (busy : Option (List ℕ)) (text : List ℕ) (s : Says)
+      → offered busy text (app s k xs) ≡ offered busy text (app s l ys)
   unfolding offered
   offer_same busy text nothing = refl
   offer_same busy text (absent g) = refl
   offer_same busy text (installed g active previous) = refl
 
-module _ (row : App → Result App PerError) (same : (k l : List ℕ) (xs ys : List State) (s : Says) → SameRow (row (app s k xs)) (row (app s l ys))) where
+module _ (row : App → Result App PerError) (same : (k l : List ℕ) (xs ys : List State) (s : Says)
+    → SameRow (row (app s k xs)) (row (app s l ys))) where
   both : (a b : App) → a.says ≡ b.says → SameRow (row a) (row b)
-  both a b e = subst (λ (s : Says). SameRow (row a) (row (app s b.lacking b.states))) e (same a.lacking b.lacking a.states b.states a.says)
+  both a b e = subst (λ (s : Says). SameRow (row a) (row (app s b.lacking b.states))) e
+      (same a.lacking b.lacking a.states b.states a.says)
 
   pub refuses : RefusesAlike row
   refuses a b e is refusal = refused (row a) (row b) (both a b is) e refusal
@@ -111,4 +117,5 @@ install_says now text = says_next (installing now text) (λ k l xs ys s. install
 
 pub offer_refuses : (busy : Option (List ℕ)) (text : List ℕ) → RefusesAlike (offered busy text)
 offer_refuses busy text a b e is refusal =
-    sym (subst (λ (s : Says). offered busy text a ≡ offered busy text (app s b.lacking b.states)) is (offer_same a.lacking b.lacking a.states b.states busy text a.says)) ∙ refusal
+    sym (subst (λ (s : Says). offered busy text a ≡ offered busy text (app s b.lacking b.states)) is
+    (offer_same a.lacking b.lacking a.states b.states busy text a.says)) ∙ refusal

@@ -13,7 +13,8 @@ abbrev pub IsRejected : (broken : Option ℕ) → PerError → Type 0
 IsRejected broken e = (rule : ℕ) × (broken ≡ Some rule) × (e ≡ error.ManifestRejected rule)
 
 -- a text of which no rule is broken is read
-read_where_unbroken : (short json : Bool) (later : Option ℕ) → or_else (cond short (cond json None (Some 2)) (Some 1)) later ≡ None → json ≡ true
+read_where_unbroken : (short json : Bool) (later : Option ℕ)
+    → or_else (cond short (cond json None (Some 2)) (Some 1)) later ≡ None → json ≡ true
 read_where_unbroken true true later e = refl
 read_where_unbroken true false later e = absurd cc
 read_where_unbroken false json later e = absurd cc
@@ -28,7 +29,8 @@ err_is d e is = cc
 no_err : (d : DeploymentData) (e : PerError) → ◌≡◌ {A = Result DeploymentData PerError} (Ok d) (Err e) → ⊥
 no_err d e is = absurd cc
 
-by_parts : (value : Option Data) (broken : Option ℕ) (e : PerError) → (broken ≡ None → is_some value ≡ true) → said_or_broken (said_in value broken) broken ≡ Err e → IsRejected broken e
+by_parts : (value : Option Data) (broken : Option ℕ) (e : PerError) → (broken ≡ None → is_some value ≡ true)
+    → said_or_broken (said_in value broken) broken ≡ Err e → IsRejected broken e
 by_parts None None e read is = absurd (let no : false ≡ true = read refl in cc)
 by_parts (Some d) None e read is = absurd (no_err _ e is)
 by_parts None (Some rule) e read is = (rule, refl, err_is (error.ManifestRejected rule) e is)

@@ -5,7 +5,8 @@ use Rattle.per_base.specs.declared.errors.PerError.TheVariants as error
 use Rattle.manifest.specs.Reading.{broken_rule}
 use Rattle.deploy_laws.specs.Apps.{App}
 use Rattle.deploy_laws.specs.Stands.{IsLater}
-use Rattle.deploy_rows.specs.Rows.{InProgress, deployment_of, installing, finishing, rolling_back, wiping, updated_app, reopened, after}
+use Rattle.deploy_rows.specs.Rows.{InProgress, deployment_of, installing, finishing, rolling_back, wiping, updated_app}
+use Rattle.deploy_rows.specs.Rows.{reopened, after}
 
 -- ---- what a row leads to comes later: it has a greater generation, or nothing changed but the copies of the root
 
@@ -31,7 +32,8 @@ ReopenedLaterLaw = (a : App) → IsLater a (reopened a)
 
 -- a manifest that is rejected breaks a rule, and is rejected with the least
 abbrev pub RejectedLaw : Type 0
-RejectedLaw = (text : List ℕ) (e : PerError) → deployment_of text ≡ Err e → (rule : ℕ) × (broken_rule text ≡ Some rule) × (e ≡ error.ManifestRejected rule)
+RejectedLaw = (text : List ℕ) (e : PerError) → deployment_of text ≡ Err e
+    → (rule : ℕ) × (broken_rule text ≡ Some rule) × (e ≡ error.ManifestRejected rule)
 
 -- ---- a row refuses by what the root says alone: what is in memory of a root decides it
 

@@ -1,5 +1,6 @@
 -- What a recovery and a reset make of a closed storage.
-use Rattle.std.specs.Prelude.{ℕ, List, filter_map, sum_by, Bool, true, false, cond, nat_lt, Option, Some, None, option_map, Result, Ok, Err, is_some}
+use Rattle.std.specs.Prelude.{ℕ, List, filter_map, sum_by, Bool, true, false, cond, nat_lt, Option, Some, None}
+use Rattle.std.specs.Prelude.{option_map, Result, Ok, Err, is_some}
 use Rattle.per_base.specs.declared.elements.Cause.TheVariants as cause
 use Rattle.per_base.specs.declared.elements.Content.{Content}
 use Rattle.per_base.specs.declared.elements.Content.TheVariants.{Good, Bad}
@@ -26,7 +27,12 @@ is_content Keys bytes = is_some (decoded bytes)
 is_content Files bytes = true
 
 abbrev pub rescued_as : StorageData → ℕ → Entry → List ℕ → Fresh
-rescued_as s now e bytes = record { name = e.name; info = option_map (changed now cause.Recovery) e.info; bytes = bytes }
+rescued_as s now e bytes = record {
+  name = e.name;
+  info = option_map (changed now cause.Recovery) e.info;
+  bytes =
+      bytes;
+}
 
 -- what is readable stays; else its salvage, else what it starts with, else nothing
 abbrev pub rescued : StorageData → ℕ → Entry → Content → Option Fresh
@@ -37,7 +43,8 @@ rescued s now e (Bad None) = option_map (rescued_as s now e) (initial_of s e.nam
 -- what a storage is recovered to: all of its elements, or its initial contents where there is no view of it
 abbrev pub recovered_contents : StorageData → ℕ → Option View → List Fresh
 recovered_contents s now None = initial_contents s cause.Recovery now
-recovered_contents s now (Some v) = filter_map (λ (e : Entry). rescued s now e (judged_content (is_content s.kind) e.content)) v.entries
+recovered_contents s now (Some v) = filter_map (λ (e : Entry).
+    rescued s now e (judged_content (is_content s.kind) e.content)) v.entries
 
 -- a generation is left after the text that was chosen
 abbrev pub is_worn_out : Option View → Bool
@@ -45,10 +52,12 @@ is_worn_out None = false
 is_worn_out (Some v) = is_worn v
 
 abbrev pub rebuilding : State → List Fresh → Result State PerError
-rebuilding state contents = cond (is_worn_out (salvage_of state)) (Err (error.LimitReached limit.Generations)) (Ok (fresh_state (next_generation (salvage_of state)) (fresh_map contents)))
+rebuilding state contents = cond (is_worn_out (salvage_of state)) (Err (error.LimitReached limit.Generations))
+    (Ok (fresh_state (next_generation (salvage_of state)) (fresh_map contents)))
 
 abbrev pub if_fits : StorageData → State → List Fresh → Result State PerError
-if_fits s state contents = cond (nat_lt s.maximum (sum_by fresh_size contents)) (Err (error.OutOfStorageSpace (sum_by fresh_size contents) s.maximum)) (rebuilding state contents)
+if_fits s state contents = cond (nat_lt s.maximum (sum_by fresh_size contents))
+    (Err (error.OutOfStorageSpace (sum_by fresh_size contents) s.maximum)) (rebuilding state contents)
 
 unfoldable pub recovering : StorageData → ℕ → State → Result State PerError
 recovering s now state = if_fits s state (recovered_contents s now (salvage_of state))

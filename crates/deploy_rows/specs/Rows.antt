@@ -1,5 +1,6 @@
 -- What a call makes of an application: the application after it, or the refusal.
-use Rattle.std.specs.Prelude.{◌≡◌, ◌⊎◌, ℕ, ◌+◌, ◌-◌, List, [], ◌∷◌, ◌++◌, length, map, take, drop, nat_le, cond, Option, Some, None, Result, Ok, Err, ⊤}
+use Rattle.std.specs.Prelude.{◌≡◌, ◌⊎◌, ℕ, ◌+◌, ◌-◌, List, [], ◌∷◌, ◌++◌, length, map, take, drop, nat_le, cond, Option}
+use Rattle.std.specs.Prelude.{Some, None, Result, Ok, Err, ⊤}
 use Rattle.per_base.specs.declared.elements.Cause.TheVariants as cause
 use Rattle.per_base.specs.declared.elements.Fresh.{Fresh}
 use Rattle.per_base.specs.declared.errors.PerError.{PerError}
@@ -162,19 +163,24 @@ pub record InProgress : Type 0 where
   pub built : ℕ
 
 abbrev pub begun : Offer → Result (List (List Fresh)) PerError → Result InProgress PerError
-begun o plan = plan >>= (λ contents. not_worn o.generation (Ok (record { deployment = o.deployment; contents = contents; built = 0 })))
+begun o plan = plan >>= (λ contents. not_worn o.generation
+    (Ok (record { deployment = o.deployment; contents = contents; built = 0 })))
 
-abbrev pub BeginsWith : List Rule → fns.Answers → (now : ℕ) → List State → Result Offer PerError → Result InProgress PerError → Type 0
+abbrev pub BeginsWith : List Rule → fns.Answers → (now : ℕ) → List State → Result Offer PerError
+    → Result InProgress PerError → Type 0
 BeginsWith rules answers now states (Err e) result = result ≡ Err e
 BeginsWith rules answers now states (Ok o) result = (plan : Result (List (List Fresh)) PerError)
-    × PlansAll rules answers now (stored_for o.active.deployment (stored_in o.active.deployment.storages states)) o.deployment.storages plan
+    × PlansAll rules answers now (stored_for o.active.deployment (stored_in o.active.deployment.storages states))
+    o.deployment.storages plan
     × (result ≡ begun o plan)
 
 -- an update begins: a refusal, or the contents of one plan
-abbrev pub Begins : List Rule → fns.Answers → (now : ℕ) → (busy : Option (List ℕ)) → List ℕ → App → Result InProgress PerError → Type 0
+abbrev pub Begins : List Rule → fns.Answers → (now : ℕ) → (busy : Option (List ℕ)) → List ℕ → App
+    → Result InProgress PerError → Type 0
 Begins rules answers now busy text a result = BeginsWith rules answers now a.states (offered busy text a) result
 
--- the application once an update in progress is committed: the new version in the other bank, and the old one behind it as it was
+-- the application once an update in progress is committed: the new version in the other bank, and the old one behind it
+-- as it was
 unfoldable pub updated_app : InProgress → App → App
 updated_app p a = elim a.says [
   | nothing ↦ a
@@ -212,6 +218,8 @@ abbrev pub reopened : App → App
 reopened a = record a { lacking = [] }
 
 -- an application to which an update may lead, or the same
-abbrev pub MayLead : List Rule → fns.Answers → (now : ℕ) → (busy : Option (List ℕ)) → List ℕ → (before after : App) → Type 0
+abbrev pub MayLead : List Rule → fns.Answers → (now : ℕ) → (busy : Option (List ℕ)) → List ℕ → (before after : App)
+    → Type 0
 MayLead rules answers now busy manifest before next = (next ≡ before)
-    ⊎ ((row : Result InProgress PerError) × Begins rules answers now busy manifest before row × (next ≡ after before (updated before row)))
+    ⊎ ((row : Result InProgress PerError) × Begins rules answers now busy manifest before row
+    × (next ≡ after before (updated before row)))

@@ -1,4 +1,5 @@
--- Rows that compute: what each call makes of a bad root, of an application that is absent, and of one with a version or with two.
+-- Rows that compute: what each call makes of a bad root, of an application that is absent, and of one with a version or
+-- with two.
 use Rattle.std.specs.Prelude.{◌≡◌, ℕ, List, [], ◌∷◌, Some, None, Ok, Err, codes, false}
 use Rattle.std.proofs.Common.{refl}
 use Rattle.per_base.specs.declared.elements.Fresh.{Fresh}
@@ -24,7 +25,19 @@ abbrev bad : App
 bad = record { says = nothing; lacking = []; states = [] }
 
 abbrev storage : StorageData
-storage = record { name = codes "s"; kind = Keys; minimum = 0; maximum = 64; strategy = KeepExisting; read_only = false; m = 1; n = 1; scope = Element; elements = [] }
+storage = record {
+  name = codes "s";
+  kind = Keys;
+  minimum = 0;
+  maximum = 64;
+  strategy = KeepExisting;
+  read_only =
+      false;
+  m = 1;
+  n = 1;
+  scope = Element;
+  elements = [];
+}
 
 abbrev version_of : ℕ → DeploymentData
 version_of version = record { version = version; storages = storage ∷ [] }
@@ -40,7 +53,12 @@ abbrev one_version : App
 one_version = record { says = installed 2 (in_bank 0 1) None; lacking = 3 ∷ []; states = state 5 ∷ [] }
 
 abbrev two_versions : App
-two_versions = record { says = installed 3 (in_bank 1 2) (Some (in_bank 0 1)); lacking = []; states = state 1 ∷ state 5 ∷ [] }
+two_versions = record {
+  says = installed 3 (in_bank 1 2) (Some (in_bank 0 1));
+  lacking = [];
+  states =
+      state 1 ∷ state 5 ∷ [];
+}
 
 -- ---- a disk that was never formatted is wiped, and nothing else
 
@@ -71,8 +89,18 @@ unfolding computed
 none_to_finish = refl
 
 -- the new version in the other bank, beside the old one as it was
-committed : (contents : List Fresh) → updated_app (record { deployment = version_of 2; contents = contents ∷ []; built = 1 }) one_version
-    ≡ record { says = installed 3 (in_bank 1 2) (Some (in_bank 0 1)); lacking = []; states = fresh_state 1 (fresh_map contents) ∷ state 5 ∷ [] }
+committed : (contents : List Fresh) → updated_app (record {
+  deployment = version_of 2;
+  contents = contents ∷ [];
+  built =
+      1;
+}) one_version
+    ≡ record {
+      says = installed 3 (in_bank 1 2) (Some (in_bank 0 1));
+      lacking = [];
+      states =
+          fresh_state 1 (fresh_map contents) ∷ state 5 ∷ [];
+    }
 unfolding computed
 committed contents = refl
 
@@ -80,11 +108,21 @@ not_before_it_is_finished : (text : List ℕ) → offered None text two_versions
 unfolding computed
 not_before_it_is_finished text = refl
 
-finished : finishing two_versions ≡ Ok (record { says = installed 4 (in_bank 1 2) None; lacking = []; states = state 1 ∷ [] })
+finished : finishing two_versions ≡ Ok (record {
+  says = installed 4 (in_bank 1 2) None;
+  lacking = [];
+  states =
+      state 1 ∷ [];
+})
 unfolding computed
 finished = refl
 
-rolled_back : rolling_back None two_versions ≡ Ok (record { says = installed 4 (in_bank 0 1) None; lacking = []; states = state 5 ∷ [] })
+rolled_back : rolling_back None two_versions ≡ Ok (record {
+  says = installed 4 (in_bank 0 1) None;
+  lacking =
+      [];
+  states = state 5 ∷ [];
+})
 unfolding computed
 rolled_back = refl
 
@@ -93,6 +131,7 @@ unfolding computed
 not_while_open = refl
 
 -- no generation is left
-worn_out : wiping None (record { says = absent greatest_generation; lacking = []; states = [] }) ≡ Err (error.LimitReached limit.Generations)
+worn_out : wiping None (record { says = absent greatest_generation; lacking = []; states = [] })
+    ≡ Err (error.LimitReached limit.Generations)
 unfolding computed
 worn_out = refl

@@ -1,10 +1,12 @@
 //! The laws of the rows, for the proofs of callers: none of these functions does anything when it runs.
 
 ghost use Rattle.std.specs.Prelude.{ℕ, List, Option};
-ghost use Rattle.deploy_rows.specs.Laws.{FinishLaterLaw, InstallLaterLaw, RefusesAlike, RejectedLaw, ReopenedLaterLaw, RollbackLaterLaw, SaysAlike, UpdateLaterLaw, WipeLaterLaw};
+ghost use Rattle.deploy_rows.specs.Laws.{FinishLaterLaw, InstallLaterLaw, RefusesAlike, RejectedLaw, ReopenedLaterLaw};
+ghost use Rattle.deploy_rows.specs.Laws.{RollbackLaterLaw, SaysAlike, UpdateLaterLaw, WipeLaterLaw};
 ghost use Rattle.deploy_rows.specs.Rows.{finishing, installing, offered, rolling_back, wiping};
 
-/// What a call leads to comes later than what was: under the next generation, or with the same root and as many storages.
+/// What a call leads to comes later than what was: under the next generation, or with the same root and as many
+/// storages.
 pub fn rows_lead_on()
     ensures install { InstallLaterLaw }
     ensures finish { FinishLaterLaw }

@@ -9,7 +9,8 @@ use guarded_cell::look;
 use hash_guard::{MAX_BODY, seal};
 use std::alloc::{AllocError, Global};
 
-/// `FILE,..`: replaces each of the first bytes of these files, at most 1,024 of each, by its complement, and makes that durable.
+/// `FILE,..`: replaces each of the first bytes of these files, at most 1,024 of each, by its complement, and makes that
+/// durable.
 pub fn flip(alloc: Global, disk: &mut MemDisk, files: &str) -> Result<(), Fault> {
     for file in files.split(',') {
         complement(alloc, disk, small(file)?)?;

@@ -9,8 +9,8 @@ use std::alloc::Global;
 /// No word makes so many calls of the disk here.
 const ENOUGH: u64 = 1_000;
 
-/// What a restart keeps of the writes since the last sync: all, nothing, or those that the bits of a number say: 0x5555555555555555,
-/// 0xaaaaaaaaaaaaaaaa, 6.
+/// What a restart keeps of the writes since the last sync: all, nothing, or those that the bits of a number say:
+/// 0x5555555555555555, 0xaaaaaaaaaaaaaaaa, 6.
 const RESTARTS: [&str; 5] = [
     "all",
     "none",
@@ -85,8 +85,8 @@ fn cut_part(text: &str) -> (&str, &str) {
     }
 }
 
-// After how many calls the word is stopped: those at which it has written more than before, and all of its calls, as the last. What a stop
-// at another call may leave is among what these leave.
+// After how many calls the word is stopped: those at which it has written more than before, and all of its calls, as
+// the last. What a stop at another call may leave is among what these leave.
 fn moments(alloc: Global, start: &Snapshot, word: &str) -> Result<Vec<u64>, Trouble> {
     let mut moments = Vec::new(alloc);
     let mut written = 0;
@@ -103,7 +103,8 @@ fn moments(alloc: Global, start: &Snapshot, word: &str) -> Result<Vec<u64>, Trou
     Err(Trouble::NoCase)
 }
 
-// Stops the word at each of these moments. Where a restart keeps all writes or none, the answer is that of after from one moment on.
+// Stops the word at each of these moments. Where a restart keeps all writes or none, the answer is that of after from
+// one moment on.
 fn follow(
     alloc: Global,
     start: &Snapshot,

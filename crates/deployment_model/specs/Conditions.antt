@@ -1,5 +1,6 @@
 -- What every deployment keeps, and every storage of one.
-use Rattle.std.specs.Prelude.{◌≡◌, ◌≤◌, ℕ, ◌+◌, List, length, map, sum_by, Bool, true, false, ◌||◌, not, Option, None, Some, is_some, ⊤, IsTrue}
+use Rattle.std.specs.Prelude.{◌≡◌, ◌≤◌, ℕ, ◌+◌, List, length, map, sum_by, Bool, true, false, ◌||◌, not, Option, None}
+use Rattle.std.specs.Prelude.{Some, is_some, ⊤, IsTrue}
 use Rattle.std.specs.List.{AllByRecursion}
 use Rattle.std.specs.List.Sorted.{IsStrictlySortedBy}
 use Rattle.per_base.specs.declared.elements.StoreKind.{StoreKind}
@@ -27,7 +28,8 @@ pub record IsEncodingOf (k : Kind) (bytes : List ℕ) : Type 0 where
   pub of_type : type_of value ≡ k
   pub encoded : bytes ≡ encoding value
 
--- a key starts with the encoding of a value of its type, of at most 65,536 bytes, and a file with at most 1,048,576 bytes
+-- a key starts with the encoding of a value of its type, of at most 65,536 bytes, and a file with at most 1,048,576
+-- bytes
 abbrev pub IsInitial : StoreKind → Option Kind → List ℕ → Type 0
 IsInitial Keys None bytes = ⊥
 IsInitial Keys (Some k) bytes = IsEncodingOf k bytes

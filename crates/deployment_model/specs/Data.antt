@@ -33,7 +33,13 @@ pub record DeploymentData : Type 0 where
   pub storages : List StorageData
 
 abbrev pub element_data : ElementConfig → ElementData
-element_data e = record { name = e.name; value_type = option_map kind_of e.value_type; initial = e.initial; strategy = e.strategy }
+element_data e = record {
+  name = e.name;
+  value_type = option_map kind_of e.value_type;
+  initial = e.initial;
+  strategy =
+      e.strategy;
+}
 
 abbrev pub storage_data : StorageConfig → StorageData
 storage_data s = record {

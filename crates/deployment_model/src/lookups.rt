@@ -1,6 +1,7 @@
 //! Elements and storages by name.
 
-ghost use Rattle.std.specs.Prelude.{◌≡◌, ◌<◌, IfSome, MatchResult, find, length, map, option_copied, option_map, position, slice_get, Some, None, List, ℕ};
+ghost use Rattle.std.specs.Prelude.{◌≡◌, ◌<◌, IfSome, MatchResult, find, length, map, option_copied, option_map};
+ghost use Rattle.std.specs.Prelude.{position, slice_get, Some, None, List, ℕ};
 ghost use Rattle.std.specs.Option.{option_copied};
 ghost use Rattle.std.specs.Str.{bytes_eq};
 ghost use Rattle.std.specs.List.Sorted.{IsStrictlySortedBy};
@@ -59,7 +60,8 @@ impl Deployment {
     /// The storage of this name.
     pub fn storage(&self, name: &Name) -> Option<&StorageConfig>
         requires { IsDeployment (deployment_data self.now) }
-        ensures found { option_map (λ s. storage_data s.now) result ≡ storage_named (deployment_data self.now) name.now }
+        ensures found { option_map (λ s. storage_data s.now) result
+            ≡ storage_named (deployment_data self.now) name.now }
         ensures keeps { IfSome result (λ s. IsStorage (storage_data s.now)) }
     {
         let storages = self.storages.as_slice();

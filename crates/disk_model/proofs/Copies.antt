@@ -21,8 +21,10 @@ lookup_copy test (e ∷ es) [] copies = absurd copies
 lookup_copy test (e ∷ es) (f ∷ fs) copies =
     let (copy, others) = copies in
     let same : f.1.items ≡ e.1.items = each_same e.1.items f.1.items copy.1.0 in
-    subst (λ k. bytes_or_none (cond (test k) (Some f.1) (lookup test fs)) ≡ bytes_or_none (cond (test e.0) (Some e.1) (lookup test es))) (sym copy.0)
-    (elim (test e.0) as (λ b. bytes_or_none (cond b (Some f.1) (lookup test fs)) ≡ bytes_or_none (cond b (Some e.1) (lookup test es)))
+    subst (λ k. bytes_or_none (cond (test k) (Some f.1) (lookup test fs))
+    ≡ bytes_or_none (cond (test e.0) (Some e.1) (lookup test es))) (sym copy.0)
+    (elim (test e.0) as (λ b. bytes_or_none (cond b (Some f.1) (lookup test fs))
+    ≡ bytes_or_none (cond b (Some e.1) (lookup test es)))
     [ true ↦ same | false ↦ lookup_copy test es fs others ])
 
 -- a copy holds the same bytes

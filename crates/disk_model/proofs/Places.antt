@@ -27,15 +27,18 @@ area_no_slot first copies copy other parity inside two is = omega arith
 -- ---- soundness and damage
 
 -- all writes whole is always sound
-pub whole_is_sound : {X : Type 0} (Piece : Image → X → Type 0) (base full : Image) → IsSoundFor Piece (record { base = base; full = full; left = full })
+pub whole_is_sound : {X : Type 0} (Piece : Image → X → Type 0) (base full : Image)
+    → IsSoundFor Piece (record { base = base; full = full; left = full })
 whole_is_sound Piece base full x piece = inr piece
 
 -- no damage
-pub decays_none : {X : Type 0} (Piece : Image → X → Type 0) (damaged : List ℕ) (image : Image) → DecaysFor Piece damaged image image
+pub decays_none : {X : Type 0} (Piece : Image → X → Type 0) (damaged : List ℕ) (image : Image)
+    → DecaysFor Piece damaged image image
 decays_none Piece damaged image = record { others = λ f no. refl; pieces = λ x piece. piece }
 
 -- damage and more damage
-pub decays_on : {X : Type 0} (Piece : Image → X → Type 0) (damaged : List ℕ) (a b c : Image) → DecaysFor Piece damaged a b → DecaysFor Piece damaged b c → DecaysFor Piece damaged a c
+pub decays_on : {X : Type 0} (Piece : Image → X → Type 0) (damaged : List ℕ) (a b c : Image)
+    → DecaysFor Piece damaged a b → DecaysFor Piece damaged b c → DecaysFor Piece damaged a c
 decays_on Piece damaged a b c first next = record {
   others = λ f no. next.others f no ∙ first.others f no;
   pieces = λ x piece. first.pieces x (next.pieces x piece);
@@ -47,5 +50,7 @@ decays_on Piece damaged a b c first next = record {
 pub at_least_map : (P Q : ℕ → Type 0) (n m : ℕ) → ((c : ℕ) → c < n → P c → Q c) → AtLeast P n m → AtLeast Q n m
 at_least_map P Q n zero each some = tt
 at_least_map P Q zero (suc m) each some = some
-at_least_map P Q (suc n) (suc m) each (inl (here, others)) = inl (each n (omega arith) here, at_least_map P Q n m (λ c lt. each c (omega arith)) others)
-at_least_map P Q (suc n) (suc m) each (inr others) = inr (at_least_map P Q n (suc m) (λ c lt. each c (omega arith)) others)
+at_least_map P Q (suc n) (suc m) each (inl (here, others)) =
+    inl (each n (omega arith) here, at_least_map P Q n m (λ c lt. each c (omega arith)) others)
+at_least_map P Q (suc n) (suc m) each (inr others) = inr
+    (at_least_map P Q n (suc m) (λ c lt. each c (omega arith)) others)

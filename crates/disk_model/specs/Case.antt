@@ -2,8 +2,8 @@
 use Rattle.std.specs.Prelude.{◌≡◌, ◌⊎◌, ℕ, List, length}
 use Rattle.disk_model.specs.Image.{Image, put_image, TornImage}
 
--- One case of a crash: what reads gave after the last sync, what they would give had each write since then been done whole,
--- and what the crash leaves.
+-- One case of a crash: what reads gave after the last sync, what they would give had each write since then been done
+-- whole, and what the crash leaves.
 pub record Case : Type 0 where
   pub base : Image
   pub full : Image

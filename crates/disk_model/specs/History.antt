@@ -1,5 +1,6 @@
 -- What a disk in memory says of each moment, by its record of calls.
-use Rattle.std.specs.Prelude.{◌≡◌, ℕ, suc, ◌≤◌, ◌-◌, ◌/◌, ◌%◌, ◌^◌, ◌==◌, List, [], ◌∷◌, ◌++◌, length, take, replicate, Bool, Option, Some, None, Vec, if◌then◌else◌}
+use Rattle.std.specs.Prelude.{◌≡◌, ℕ, suc, ◌≤◌, ◌-◌, ◌/◌, ◌%◌, ◌^◌, ◌==◌, List, [], ◌∷◌, ◌++◌, length, take, replicate}
+use Rattle.std.specs.Prelude.{Bool, Option, Some, None, Vec, if◌then◌else◌}
 use Rattle.std.specs.Ordering.{nat_cmp}
 use Rattle.std.specs.BTreeMap.{BTreeMap, get}
 use Rattle.std.specs.declared.alloc.Global.{Global}
@@ -92,11 +93,13 @@ grown old n = old ++ replicate (n - length old) 0
 abbrev pub grow_image : Image → ℕ → ℕ → Image
 grow_image image file n f = if f == file then grown (image f) n else image f
 
--- the image after calls of whose writes, counted from i, only those stand that the pattern says; the others leave zeros past an old end
+-- the image after calls of whose writes, counted from i, only those stand that the pattern says; the others leave zeros
+-- past an old end
 abbrev pub torn_after : ℕ → ℕ → List Call → Image → Image
 torn_after pattern i [] image = image
 torn_after pattern i (Write file at bytes ∷ calls) image = torn_after pattern (suc i) calls
-    (if stands pattern i then put_image image file at bytes.items else grow_image image file (end_of at (length bytes.items)))
+    (if stands pattern i then put_image image file at bytes.items else grow_image image file
+    (end_of at (length bytes.items)))
 torn_after pattern i (Sync ∷ calls) image = torn_after pattern i calls image
 torn_after pattern i (Read ∷ calls) image = torn_after pattern i calls image
 

@@ -17,7 +17,8 @@ pub record WholeCase (cases : Case → Type 0) (image : Image) : Type 0 where
   pub left : case.left ≡ image
 
 -- all writes may stand, whatever was called
-pub all_stand : (calls : List Call) (cases : Case → Type 0) (image : Image) → WholeCase cases image → WholeCase (cases_after calls cases) (image_after calls image)
+pub all_stand : (calls : List Call) (cases : Case → Type 0) (image : Image) → WholeCase cases image
+    → WholeCase (cases_after calls cases) (image_after calls image)
 all_stand [] cases image start = start
 all_stand (Write file at bytes ∷ calls) cases image start =
     let new : Image = put_image image file at bytes.items in
@@ -29,7 +30,8 @@ all_stand (Write file at bytes ∷ calls) cases image start =
         record {
           base = refl;
           full = ap (λ i. put_image i file at bytes.items) (sym start.full);
-          left = subst (λ old. TornImage file at (length bytes.items) old new) (sym start.left) (put_tears image file at bytes.items);
+          left = subst (λ old. TornImage file at (length bytes.items) old new) (sym start.left)
+              (put_tears image file at bytes.items);
         },
       );
       full = refl;
@@ -38,7 +40,16 @@ all_stand (Write file at bytes ∷ calls) cases image start =
 all_stand (Sync ∷ calls) cases image start =
     all_stand calls _ image (record {
       case = record { base = image; full = image; left = image };
-      possible = (start.case, start.possible, record { base = sym start.full; full = sym start.full; left = sym start.full });
+      possible = (
+        start.case,
+        start.possible,
+        record {
+          base = sym start.full;
+          full = sym start.full;
+          left =
+              sym start.full;
+        },
+      );
       full = refl;
       left = refl;
     })
@@ -73,7 +84,14 @@ record_is_lawful image start calls faults written tied = record {
     case = subst (λ xs. cases_after xs (IsSettledAt start) c) (sym (take_all (length calls) calls (le_refl _))) now;
     image = left ∙ tied ∙ ap (λ xs. image_after xs start) (sym (take_all (length calls) calls (le_refl _)));
   };
-  gave_counts = λ t c le gave. record { k = gave.k; from = le_trans le gave.from; to = gave.to; case = gave.case; image = gave.image };
+  gave_counts = λ t c le gave. record {
+    k = gave.k;
+    from = le_trans le gave.from;
+    to = gave.to;
+    case =
+        gave.case;
+    image = gave.image;
+  };
   gives_only = λ c gave. (
     subst (λ xs. cases_after xs (IsSettledAt start) c) (take_all gave.k calls gave.from) gave.case,
     gave.image ∙ ap (λ xs. image_after xs start) (take_all gave.k calls gave.from) ∙ sym tied,

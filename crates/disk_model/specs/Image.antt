@@ -1,5 +1,6 @@
 -- What the files of a disk hold at one moment, and what a write makes of them, whole or torn.
-use Rattle.std.specs.Prelude.{◌≡◌, ◌≢◌, ◌⊎◌, ℕ, ◌+◌, ◌-◌, ◌<◌, ◌≤◌, ◌==◌, max, List, ◌++◌, length, take, drop, replicate, slice_index, if◌then◌else◌}
+use Rattle.std.specs.Prelude.{◌≡◌, ◌≢◌, ◌⊎◌, ℕ, ◌+◌, ◌-◌, ◌<◌, ◌≤◌, ◌==◌, max, List, ◌++◌, length, take, drop}
+use Rattle.std.specs.Prelude.{replicate, slice_index, if◌then◌else◌}
 
 -- the bytes of each file; a file that was never written is empty
 abbrev pub Image : Type 0
@@ -18,7 +19,8 @@ put_bytes old at bytes = if length bytes == 0 then old
 abbrev pub put_image : Image → ℕ → ℕ → List ℕ → Image
 put_image image file at bytes f = if f == file then put_bytes (image f) at bytes else image f
 
--- the bytes of a file after a write of n bytes that was cut short: the range and what lies past the old end may hold anything
+-- the bytes of a file after a write of n bytes that was cut short: the range and what lies past the old end may hold
+-- anything
 pub record Torn (at n : ℕ) (old new : List ℕ) : Type 0 where
   pub kept : (i : ℕ) → i < length old → (i < at) ⊎ (at + n ≤ i) → slice_index new i ≡ slice_index old i
   pub no_shorter : length old ≤ length new

@@ -30,7 +30,8 @@ elapses_none law = record {
   written = le_refl _;
 }
 
-grows_on : {X : Type 0} {a b : ℕ} {old mid new : ℕ → X → Type 0} → a ≤ b → Grows a old mid → Grows b mid new → Grows a old new
+grows_on : {X : Type 0} {a b : ℕ} {old mid new : ℕ → X → Type 0} → a ≤ b → Grows a old mid → Grows b mid new
+    → Grows a old new
 grows_on {X} {a} later first next = record {
   nothing_else = λ t x le past. ⊎_elim
       (λ was. ⊎_elim (λ before. inl before) (λ since. inr (next.keeps a x later since)) (first.nothing_else t x le was))
@@ -48,7 +49,8 @@ pub elapses_on : {a b c : Medium} → Elapses a b → Elapses b c → Elapses a 
 elapses_on {a} {b} {c} first next = record {
   later = le_trans first.later next.later;
   nothing_else = λ t x le past. ⊎_elim
-      (λ was. ⊎_elim (λ old. inl old) (λ new. inr (next.keeps a.moment x first.later new)) (first.nothing_else t x le was))
+      (λ was. ⊎_elim (λ old. inl old) (λ new. inr (next.keeps a.moment x first.later new))
+      (first.nothing_else t x le was))
       (λ new. inr (next.adds a.moment x first.later new))
       (next.nothing_else t x (le_trans le first.later) past);
   keeps = λ t x le past. next.keeps t x (le_trans le first.later) (first.keeps t x le past);
@@ -64,15 +66,18 @@ elapses_on {a} {b} {c} first next = record {
 }
 
 -- a case since the start of two stretches of calls is one of the first or one of the second
-pub cases_on : {a b c : Medium} → Elapses a b → Elapses b c → (x : Case) → c.since a.moment x → b.since a.moment x ⊎ c.since b.moment x
+pub cases_on : {a b c : Medium} → Elapses a b → Elapses b c → (x : Case) → c.since a.moment x
+    → b.since a.moment x ⊎ c.since b.moment x
 cases_on {a} first next x past = next.nothing_else a.moment x first.later past
 
 -- what each case of two stretches says, each case of both says
-pub goes_on : (P : Case → Type 0) {a b c : Medium} → Elapses a b → Elapses b c → EachCase P a b → EachCase P b c → EachCase P a c
+pub goes_on : (P : Case → Type 0) {a b c : Medium} → Elapses a b → Elapses b c → EachCase P a b → EachCase P b c
+    → EachCase P a c
 goes_on P {a} first next was new x past = ⊎_elim (was x) (new x) (cases_on first next x past)
 
 -- with no call between, what is said of each case now is said of each since now
-pub goes_none : (P : Case → Type 0) {told : Bool} {m : Medium} → IsLawful told m → ((c : Case) → m.now c → P c) → EachCase P m m
+pub goes_none : (P : Case → Type 0) {told : Bool} {m : Medium} → IsLawful told m → ((c : Case) → m.now c → P c)
+    → EachCase P m m
 goes_none P law now c past = now c (law.only_now c past)
 
 -- a case after a call is one since its start
@@ -82,7 +87,8 @@ case_now {told} {a} law time c now = law.counts_now a.moment c time.later now
 -- ---- cases from step to step
 
 -- a step that leads to fewer places
-pub follows_less : (P Q : Case → Case → Type 0) (old new : Case → Type 0) → ((d c : Case) → P d c → Q d c) → Follows P old new → Follows Q old new
+pub follows_less : (P Q : Case → Case → Type 0) (old new : Case → Type 0) → ((d c : Case) → P d c → Q d c)
+    → Follows P old new → Follows Q old new
 follows_less P Q old new less steps c now = let (d, was, step) = steps c now in (d, was, less d c step)
 
 -- a step and then another
@@ -120,12 +126,23 @@ reads_quiet quiet reads c now = subst (λ image. IsSettledAt image c) (sym reads
 
 -- reads write nothing
 pub reads_write_nothing : {a b : Medium} → OnlyReads a b → WritesNothing a b
-reads_write_nothing reads = record { image = reads.image; during = λ c past. inl (reads.during c past); written = reads.written }
+reads_write_nothing reads = record {
+  image = reads.image;
+  during = λ c past. inl (reads.during c past);
+  written =
+      reads.written;
+}
 
 -- ---- reads and syncs on a quiet disk
 
 pub idle_none : {told : Bool} {m : Medium} → IsLawful told m → Quiet m → IsIdle m m
-idle_none law quiet = record { image = refl; quiet = quiet; during = λ c past. quiet c (law.only_now c past); written = refl }
+idle_none law quiet = record {
+  image = refl;
+  quiet = quiet;
+  during = λ c past. quiet c (law.only_now c past);
+  written =
+      refl;
+}
 
 pub idle_reads : {a b : Medium} → Quiet a → OnlyReads a b → IsIdle a b
 idle_reads quiet reads = record {
@@ -140,7 +157,8 @@ pub idle_sync : {a b : Medium} → Quiet a → WritesNothing a b → Quiet b →
 idle_sync {a} {b} quiet calls after = record {
   image = calls.image;
   quiet = after;
-  during = λ c past. ⊎_elim (quiet c) (λ now. subst (λ image. IsSettledAt image c) calls.image (after c now)) (calls.during c past);
+  during = λ c past. ⊎_elim (quiet c) (λ now. subst (λ image. IsSettledAt image c) calls.image (after c now))
+      (calls.during c past);
   written = calls.written;
 }
 
@@ -148,6 +166,7 @@ pub idle_on : {a b c : Medium} → Elapses a b → IsIdle a b → Elapses b c �
 idle_on {a} {b} {c} time first later next = record {
   image = next.image ∙ first.image;
   quiet = next.quiet;
-  during = λ x past. ⊎_elim (first.during x) (λ new. subst (λ image. IsSettledAt image x) first.image (next.during x new)) (cases_on time later x past);
+  during = λ x past. ⊎_elim (first.during x) (λ new. subst (λ image. IsSettledAt image x) first.image
+      (next.during x new)) (cases_on time later x past);
   written = next.written ∙ first.written;
 }

@@ -40,7 +40,8 @@ pub record IsLawful (told : Bool) (m : Medium) : Type 0 where
   pub only_now : (c : Case) → m.since m.moment c → m.now c
   -- what reads give is what some crash now leaves
   pub reads_one : IsTrue told → IsOutcome m m.image
-  -- a case that leaves what reads give now counts among those that reads gave since an earlier moment, and since this one no other does
+  -- a case that leaves what reads give now counts among those that reads gave since an earlier moment, and since this
+  -- one no other does
   pub gives : IsTrue told → (c : Case) → m.now c → c.left ≡ m.image → m.gave m.moment c
   pub gave_counts : (t : ℕ) (c : Case) → t ≤ m.moment → m.gave m.moment c → m.gave t c
   pub gives_only : (c : Case) → m.gave m.moment c → m.now c × (c.left ≡ m.image)
@@ -53,8 +54,9 @@ pub record Grows {X : Type 0} (moment : ℕ) (old new : ℕ → X → Type 0) : 
   pub keeps : (t : ℕ) (x : X) → t ≤ moment → old t x → new t x
   pub adds : (t : ℕ) (x : X) → t ≤ moment → new moment x → new t x
 
--- Time goes on: the cases since t are those from before and those since the start of the call, and so are those that reads gave;
--- what could be opened again at every moment since t can be so at each of the call and at its end; and no count falls.
+-- Time goes on: the cases since t are those from before and those since the start of the call, and so are those that
+-- reads gave; what could be opened again at every moment since t can be so at each of the call and at its end; and no
+-- count falls.
 pub record Elapses (old new : Medium) : Type 0 where
   pub later : old.moment ≤ new.moment
   pub nothing_else : (t : ℕ) (c : Case) → t ≤ old.moment → new.since t c → old.since t c ⊎ new.since old.moment c

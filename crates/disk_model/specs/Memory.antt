@@ -11,7 +11,8 @@ use Rattle.disk_model.specs.Orders.{names, stops}
 
 -- what is said of it as a disk
 abbrev pub mem_medium : MemDisk → Medium
-mem_medium disk = recorded (image_of disk.files) (start_of disk.files disk.start) disk.calls.items disk.faults disk.written
+mem_medium disk = recorded (image_of disk.files) (start_of disk.files disk.start) disk.calls.items disk.faults
+    disk.written
 
 -- how many calls failed for want of memory
 abbrev pub starved_count : MemDisk → ℕ
@@ -21,7 +22,8 @@ starved_count disk = disk.starved
 abbrev pub synced_image : MemDisk → Image
 synced_image disk = base_after disk.calls.items (start_of disk.files disk.start) (start_of disk.files disk.start)
 
--- what is left where the writes since the last sync stand that the pattern says, and every file is as long as all of them make it
+-- what is left where the writes since the last sync stand that the pattern says, and every file is as long as all of
+-- them make it
 abbrev pub torn_image : MemDisk → ℕ → Image
 torn_image disk pattern = torn_after pattern 0 (pending_after disk.calls.items []) (synced_image disk)
 
@@ -64,8 +66,8 @@ pub record KeepsCounts (old new : MemDisk) : Type 0 where
   pub faults : (mem_medium new).faults ≡ (mem_medium old).faults
   pub starved : starved_count new ≡ starved_count old
 
--- How a call answers: it fails where the plan names it and where it comes after the stop, and else for want of memory alone,
--- which is counted beside the fault.
+-- How a call answers: it fails where the plan names it and where it comes after the stop, and else for want of memory
+-- alone, which is counted beside the fault.
 pub record Answers (old new : MemDisk) (failed : Bool) : Type 0 where
   pub due : IsTrue (is_due old) → IsTrue failed × (starved_count new ≡ starved_count old)
   pub starves : IsFalse (is_due old) → IsTrue failed → starved_count new ≡ raised (starved_count old)
@@ -75,10 +77,12 @@ pub record Answers (old new : MemDisk) (failed : Bool) : Type 0 where
   pub planned : (k : ℕ) → is_planned new k ≡ is_planned old (suc k)
   pub stopped : (k : ℕ) → is_stopped new k ≡ is_stopped old (suc k)
 
--- a disk with no plan and no stop has none after the call either, and its faults rise only together with the count of want
+-- a disk with no plan and no stop has none after the call either, and its faults rise only together with the count of
+-- want
 abbrev pub FailsForWant : MemDisk → MemDisk → Type 0
 FailsForWant old new = HasNoOrders old → HasNoOrders new
-    × (KeepsCounts old new ⊎ (((mem_medium new).faults ≡ raised (mem_medium old).faults) × (starved_count new ≡ raised (starved_count old))))
+    × (KeepsCounts old new ⊎ (((mem_medium new).faults ≡ raised (mem_medium old).faults)
+    × (starved_count new ≡ raised (starved_count old))))
 
 -- a call that fails changes nothing but the counts and the orders
 pub record Fails (old new : MemDisk) : Type 0 where

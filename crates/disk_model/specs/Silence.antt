@@ -5,7 +5,18 @@ use Rattle.disk_model.specs.Medium.{Medium, IsLawful}
 
 -- the disk that tells nothing, with this count of faults
 abbrev pub silent_medium : ℕ → Medium
-silent_medium faults = record { image = λ _. []; now = λ _. ⊥; moment = 0; since = λ _ _. ⊥; gave = λ _ _. ⊥; opens = λ _. Unit {0}; agrees = λ _. Unit {0}; faults = faults; written = 0 }
+silent_medium faults = record {
+  image = λ _. [];
+  now = λ _. ⊥;
+  moment = 0;
+  since = λ _ _. ⊥;
+  gave = λ _ _. ⊥;
+  opens =
+      λ _. Unit {0};
+  agrees = λ _. Unit {0};
+  faults = faults;
+  written = 0;
+}
 
 pub silent_is_lawful : (faults : ℕ) → IsLawful false (silent_medium faults)
 silent_is_lawful faults = record {

@@ -12,8 +12,8 @@ pub struct DiskFailed;
 
 /// A disk of files that are named by numbers. A file that was never written is empty.
 ///
-/// What is said of bytes holds where the disk tells them, and so does what is said of crashes: a disk that tells nothing names no
-/// case. Whether a disk tells is a constant of its type, so it never changes from call to call.
+/// What is said of bytes holds where the disk tells them, and so does what is said of crashes: a disk that tells
+/// nothing names no case. Whether a disk tells is a constant of its type, so it never changes from call to call.
 pub trait Disk {
     /// Whether a disk of this type tells its bytes.
     ghost told: { Bool };
@@ -21,7 +21,8 @@ pub trait Disk {
     /// What reads give, what a crash may leave, the clock, and the counts of faults and of bytes written.
     ghost medium: { Self → Medium };
 
-    /// Reads from the byte `at` on as many bytes as there are, and at most as many as `out` has room for. The rest of `out` is free.
+    /// Reads from the byte `at` on as many bytes as there are, and at most as many as `out` has room for. The rest of
+    /// `out` is free.
     fn read(&mut self, file: u32, at: u64, out: &mut [u8]) -> Result<usize, DiskFailed>
         ensures count { IfOk result (λ n. n ≤ length out.old) }
         ensures bytes { IsTrue told → IfOk result (λ n.
@@ -33,8 +34,8 @@ pub trait Disk {
         ensures cause { OnErr result (Rose (medium self.old).faults (medium self.new).faults) }
         ensures passes { OnOk result ((medium self.new).faults ≡ (medium self.old).faults) };
 
-    /// Writes the bytes from the byte `at` on; a gap before them reads as zeros, and no bytes change nothing. They are durable after
-    /// the next `sync`. Where the call fails, the range may hold anything, as after a crash.
+    /// Writes the bytes from the byte `at` on; a gap before them reads as zeros, and no bytes change nothing. They are
+    /// durable after the next `sync`. Where the call fails, the range may hold anything, as after a crash.
     fn write_at(&mut self, file: u32, at: u64, bytes: &[u8]) -> Result<(), DiskFailed>
         ensures image { IsTrue told → OnOk result
             ((medium self.new).image ≡ put_image (medium self.old).image file at bytes.now) }
@@ -46,7 +47,8 @@ pub trait Disk {
         ensures during { Follows (WriteOrNot file at bytes.now) (medium self.old).now
             ((medium self.new).since (medium self.old).moment) }
 
-        ensures written { IsTrue told → OnOk result ((medium self.new).written ≡ (medium self.old).written + length bytes.now) }
+        ensures written { IsTrue told → OnOk result ((medium self.new).written
+            ≡ (medium self.old).written + length bytes.now) }
         ensures at_most { (medium self.new).written ≤ (medium self.old).written + length bytes.now }
         ensures time { Elapses (medium self.old) (medium self.new) }
         ensures cause { OnErr result (Rose (medium self.old).faults (medium self.new).faults) }
@@ -71,6 +73,7 @@ pub trait Disk {
         ensures cause { OnErr result (Rose (medium self.old).faults (medium self.new).faults) }
         ensures passes { OnOk result ((medium self.new).faults ≡ (medium self.old).faults) };
 
-    /// This moment counts among those since an earlier one, since now there is no other, and what reads give is what some crash leaves.
+    /// This moment counts among those since an earlier one, since now there is no other, and what reads give is what
+    /// some crash leaves.
     ghost lawful: { (disk : Self) → IsLawful told (medium disk) };
 }

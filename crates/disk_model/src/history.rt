@@ -1,9 +1,11 @@
 //! The files of a disk in memory, and the record of its calls.
 
-ghost use Rattle.std.specs.Prelude.{◌≡◌, ◌≤◌, ◌<◌, ◌+◌, ◌-◌, ◌*◌, ◌==◌, ◌↔◌, ◌⊎◌, ℕ, [], IsTrue, IfOk, OnOk, OnErr, min, length, take, drop, slice_index, slice_set, vec_len, if◌then◌else◌};
+ghost use Rattle.std.specs.Prelude.{◌≡◌, ◌≤◌, ◌<◌, ◌+◌, ◌-◌, ◌*◌, ◌==◌, ◌↔◌, ◌⊎◌, ℕ, [], IsTrue, IfOk, OnOk, OnErr};
+ghost use Rattle.std.specs.Prelude.{min, length, take, drop, slice_index, slice_set, vec_len, if◌then◌else◌};
 ghost use Rattle.std.specs.Bool.{OnTrue, OnFalse};
 ghost use Rattle.disk_model.specs.Image.{Image, end_of, put_bytes, put_image};
-ghost use Rattle.disk_model.specs.History.{image_of, start_of, image_after, base_after, pending_after, torn_after, grown, grow_image, stands};
+ghost use Rattle.disk_model.specs.History.{image_of, start_of, image_after, base_after, pending_after, torn_after};
+ghost use Rattle.disk_model.specs.History.{grown, grow_image, stands};
 
 use std::alloc::{AllocError, Global};
 use std::collections::BTreeMap;
@@ -237,7 +239,8 @@ fn overwrite(file: &mut Vec<u8>, at: usize, bytes: &[u8])
     requires { at + length bytes.now ≤ vec_len file.old }
     ensures len { length file.new.items ≡ length file.old.items }
     ensures inside { (j : ℕ) → j < length bytes.now → slice_index file.new.items (at + j) ≡ slice_index bytes.now j }
-    ensures outside { (i : ℕ) → (i < at) ⊎ (at + length bytes.now ≤ i) → slice_index file.new.items i ≡ slice_index file.old.items i }
+    ensures outside { (i : ℕ) → (i < at) ⊎ (at + length bytes.now ≤ i)
+        → slice_index file.new.items i ≡ slice_index file.old.items i }
 {
     for (j, byte) in bytes.iter().enumerate() {
         file[at + j] = *byte;

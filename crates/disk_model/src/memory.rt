@@ -1,6 +1,8 @@
 //! A disk in memory, which fails, stops, takes damage and crashes as it is told.
 
-ghost use Rattle.std.specs.Prelude.{◌≡◌, ◌≤◌, ◌<◌, ◌+◌, ◌-◌, ◌==◌, ◌↔◌, ◌++◌, ◌∷◌, [], MatchResult, Vec, ℕ, true, false, IsTrue, IfOk, OnOk, OnErr, is_err, nat_le, length, take, drop, min, slice_set, if◌then◌else◌};
+ghost use Rattle.std.specs.Prelude.{◌≡◌, ◌≤◌, ◌<◌, ◌+◌, ◌-◌, ◌==◌, ◌↔◌, ◌++◌, ◌∷◌, [], MatchResult, Vec, ℕ, true};
+ghost use Rattle.std.specs.Prelude.{false, IsTrue, IfOk, OnOk, OnErr, is_err, nat_le, length, take, drop, min};
+ghost use Rattle.std.specs.Prelude.{slice_set, if◌then◌else◌};
 ghost use Rattle.std.specs.Bool.{OnTrue, OnFalse};
 ghost use Rattle.per_base.specs.Causes.{Rose};
 ghost use Rattle.disk_model.specs.Image.{put_image, TornImage};
@@ -35,7 +37,9 @@ pub struct MemDisk {
 
 impl MemDisk {
     ghost use Rattle.disk_model.specs.Orders.{named_in};
-    ghost use Rattle.disk_model.specs.Memory.{mem_medium, starved_count, synced_image, torn_image, is_planned, is_stopped, IsFresh, IsUnchanged, KeepsCounts, Shows, SameRecord, Begins, Succeeds, Wants, Passes, Fails};
+    ghost use Rattle.disk_model.specs.Memory.{mem_medium, starved_count, synced_image, torn_image, is_planned};
+    ghost use Rattle.disk_model.specs.Memory.{is_stopped, IsFresh, IsUnchanged, KeepsCounts, Shows, SameRecord, Begins};
+    ghost use Rattle.disk_model.specs.Memory.{Succeeds, Wants, Passes, Fails};
 
     /// A disk whose files are all empty.
     pub fn new(alloc: Global) -> MemDisk
@@ -65,13 +69,14 @@ impl MemDisk {
         self.orders.stop(k);
     }
 
-    /// Sets one byte of a quiet disk, as damage that stands in every case from then on; `false` and no change where the file is not
-    /// that long. The record begins anew.
+    /// Sets one byte of a quiet disk, as damage that stands in every case from then on; `false` and no change where the
+    /// file is not that long. The record begins anew.
     pub fn spoil(&mut self, file: u32, at: u64, byte: u8) -> bool
         requires { Quiet (mem_medium self.old) }
         ensures within { IsTrue result ↔ (at < length ((mem_medium self.old).image file)) }
         ensures set { OnTrue result ((f : ℕ) → (mem_medium self.new).image f
-            ≡ (if f == file then slice_set ((mem_medium self.old).image f) at byte else (mem_medium self.old).image f)) }
+            ≡ (if f == file then slice_set ((mem_medium self.old).image f) at byte else (mem_medium self.old).image
+            f)) }
         ensures quiet { Quiet (mem_medium self.new) }
         ensures none { OnFalse result (self.new ≡ self.old) }
 
@@ -91,7 +96,8 @@ impl MemDisk {
 
     /// The disk after a crash: with every completed write, or with none since the last sync.
     pub fn crash(self, keep: bool) -> Result<MemDisk, AllocError>
-        ensures bytes { IfOk result (λ disk. (mem_medium disk).image ≡ (if keep then (mem_medium self).image else synced_image self)) }
+        ensures bytes { IfOk result (λ disk. (mem_medium disk).image
+            ≡ (if keep then (mem_medium self).image else synced_image self)) }
         ensures outcome { IfOk result (λ disk. IsOutcome (mem_medium self) (mem_medium disk).image) }
         ensures fresh { IfOk result IsFresh }
     {
@@ -110,11 +116,13 @@ impl MemDisk {
         Ok(MemDisk::holding(alloc, stable))
     }
 
-    /// The disk after a crash that tears: each file is as long as all writes since the last sync make it, and the i-th of these writes,
-    /// from 0, stands where bit `i mod 64` of the pattern is 1. Past the old end, bytes that no standing write gave are zeros.
+    /// The disk after a crash that tears: each file is as long as all writes since the last sync make it, and the i-th
+    /// of these writes, from 0, stands where bit `i mod 64` of the pattern is 1. Past the old end, bytes that no
+    /// standing write gave are zeros.
     pub fn crash_torn(self, pattern: u64) -> Result<MemDisk, AllocError>
         ensures bytes { IfOk result (λ disk. (mem_medium disk).image ≡ torn_image self pattern) }
-        ensures long { IfOk result (λ disk. (f : ℕ) → length ((mem_medium disk).image f) ≡ length ((mem_medium self).image f)) }
+        ensures long { IfOk result (λ disk. (f : ℕ) → length ((mem_medium disk).image f)
+            ≡ length ((mem_medium self).image f)) }
         ensures outcome { IfOk result (λ disk. IsOutcome (mem_medium self) (mem_medium disk).image) }
         ensures fresh { IfOk result IsFresh }
     {
@@ -215,7 +223,8 @@ impl MemDisk {
     // Writes, and adds the write to the record; what fails changes nothing that is seen.
     fn write(&mut self, file: u32, at: u64, bytes: &[u8]) -> Result<(), AllocError>
         ensures ok { OnOk result ((copy : Vec ℕ Global) × (copy.items ≡ bytes.now)
-            × Shows self.new (put_image (image_of self.old.files) file at bytes.now) (start_of self.old.files self.old.start)
+            × Shows self.new (put_image (image_of self.old.files) file at bytes.now)
+            (start_of self.old.files self.old.start)
             (self.old.calls.items ++ Call.Write file at copy ∷ []) (self.old.written + length bytes.now)) }
         ensures err { OnErr result (SameRecord self.old self.new) }
         ensures rest { Succeeds self.old self.new }
@@ -240,7 +249,8 @@ impl MemDisk {
 
     // Keeps a copy of the files as the record begins, before the first write.
     fn keep_start(&mut self) -> Result<(), AllocError>
-        ensures start { OnOk result ((files : Files) → start_of files self.new.start ≡ start_of self.old.files self.old.start) }
+        ensures start { OnOk result ((files : Files) → start_of files self.new.start
+            ≡ start_of self.old.files self.old.start) }
         ensures record { SameRecord self.old self.new }
         ensures rest { Succeeds self.old self.new }
     {
@@ -259,7 +269,8 @@ impl Disk for MemDisk {
 
     ghost medium = { mem_medium };
 
-    ghost lawful = { λ disk. record_is_lawful (image_of disk.files) (start_of disk.files disk.start) disk.calls.items disk.faults disk.written disk.tied };
+    ghost lawful = { λ disk. record_is_lawful (image_of disk.files) (start_of disk.files disk.start) disk.calls.items
+        disk.faults disk.written disk.tied };
 
     fn read(&mut self, file: u32, at: u64, out: &mut [u8]) -> Result<usize, DiskFailed>
         ensures count { IfOk result (λ n. n ≤ length out.old) }
@@ -281,19 +292,24 @@ impl Disk for MemDisk {
     }
 
     fn write_at(&mut self, file: u32, at: u64, bytes: &[u8]) -> Result<(), DiskFailed>
-        ensures image { OnOk result ((mem_medium self.new).image ≡ put_image (mem_medium self.old).image file at bytes.now) }
-        ensures torn { OnErr result (TornImage file at (length bytes.now) (mem_medium self.old).image (mem_medium self.new).image) }
-        ensures now { OnOk result (Follows (WriteCase file at bytes.now) (mem_medium self.old).now (mem_medium self.new).now) }
+        ensures image { OnOk result ((mem_medium self.new).image
+            ≡ put_image (mem_medium self.old).image file at bytes.now) }
+        ensures torn { OnErr result (TornImage file at (length bytes.now) (mem_medium self.old).image
+            (mem_medium self.new).image) }
+        ensures now { OnOk result (Follows (WriteCase file at bytes.now) (mem_medium self.old).now
+            (mem_medium self.new).now) }
         ensures during { Follows (WriteOrNot file at bytes.now) (mem_medium self.old).now
             ((mem_medium self.new).since (mem_medium self.old).moment) }
-        ensures written { OnOk result ((mem_medium self.new).written ≡ (mem_medium self.old).written + length bytes.now) }
+        ensures written { OnOk result ((mem_medium self.new).written
+            ≡ (mem_medium self.old).written + length bytes.now) }
         ensures at_most { (mem_medium self.new).written ≤ (mem_medium self.old).written + length bytes.now }
         ensures time { Elapses (mem_medium self.old) (mem_medium self.new) }
         ensures cause { OnErr result (Rose (mem_medium self.old).faults (mem_medium self.new).faults) }
         ensures passes { OnOk result ((mem_medium self.new).faults ≡ (mem_medium self.old).faults) }
 
         // Every way to tear the write is a case.
-        ensures tears { OnOk result (Reaches (WriteCase file at bytes.now) (mem_medium self.old).now (mem_medium self.new).now) }
+        ensures tears { OnOk result (Reaches (WriteCase file at bytes.now) (mem_medium self.old).now
+            (mem_medium self.new).now) }
 
         // Which calls fail, and that they change nothing.
         ensures answers { Answers self.old self.new (is_err result) }

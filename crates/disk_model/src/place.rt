@@ -3,8 +3,8 @@
 ghost use Rattle.std.specs.Prelude.{◌≡◌, ◌+◌, ◌*◌, ◌<◌, ◌≤◌};
 ghost use Rattle.disk_model.specs.Place.{slot, area};
 
-/// The files of one thing that is kept in copies. Copy c, counted from 0, has four numbers from `first + 4 * c` on: the slot for
-/// texts of even generation, the slot for those of odd generation, the area, and one that is not used.
+/// The files of one thing that is kept in copies. Copy c, counted from 0, has four numbers from `first + 4 * c` on: the
+/// slot for texts of even generation, the slot for those of odd generation, the area, and one that is not used.
 #[derive(Clone, Copy, Debug, PartialEq, Eq)]
 pub struct Place {
     /// The number of the first file of the first copy.

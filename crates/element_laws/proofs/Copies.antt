@@ -1,5 +1,7 @@
--- Copies that pass a test, however they are listed or counted: as numbers, among what each copy gives, or as so many at least.
-use Rattle.std.proofs.Common.{◌≡◌, ℕ, zero, suc, ◌+◌, ◌<◌, ◌≤◌, ◌⊎◌, Bool, true, false, cond, List, [], ◌∷◌, ◌++◌, length, Option, Some, None, refl, sym, ap, subst, ◌∙◌, inl, inr, length-append, arith}
+-- Copies that pass a test, however they are listed or counted: as numbers, among what each copy gives, or as so many at
+-- least.
+use Rattle.std.proofs.Common.{◌≡◌, ℕ, zero, suc, ◌+◌, ◌<◌, ◌≤◌, ◌⊎◌, Bool, true, false, cond, List, [], ◌∷◌, ◌++◌}
+use Rattle.std.proofs.Common.{length, Option, Some, None, refl, sym, ap, subst, ◌∙◌, inl, inr, length-append, arith}
 use Rattle.std.specs.Prelude.{map, count_by, nat_eq}
 use Rattle.std.specs.List.{range_with_len, filter, Contains}
 use Rattle.std.proofs.lemmas.Bool.{eqb-true, eq-eqb, cases_eq}
@@ -19,7 +21,8 @@ use Rattle.per_base.specs.declared.elements.Content.{Content}
 use Rattle.per_base.specs.declared.elements.Content.TheVariants.{Good, Bad}
 use Rattle.element_state.specs.Views.{content_of}
 use Rattle.element_state.specs.Kept.{IsLeftOf}
-use Rattle.element_laws.proofs.Lists.{In, In-Contains, Contains-In, In-map, map-In, not_none, not_false, list_any-In, In-list_any}
+use Rattle.element_laws.proofs.Lists.{In, In-Contains, Contains-In, In-map, map-In, not_none, not_false, list_any-In}
+use Rattle.element_laws.proofs.Lists.{In-list_any}
 
 pub good_same : (v w : List ℕ) → Good v ≡ Good w → v ≡ w
 good_same v w e = cc
@@ -42,7 +45,8 @@ last_number p n =
     let e : 0 + n ≡ n = omega arith in
     let f : suc n ≡ n + 1 = omega arith in
     ap (λ (x : ℕ). map suc (filter p (x ∷ []))) e
-    ∙ elim (p n) as (λ b. map suc (cond b (n ∷ []) []) ≡ cond b ((n + 1) ∷ []) []) [ true ↦ ap (λ (x : ℕ). x ∷ []) f | false ↦ refl ]
+    ∙ elim (p n) as (λ b. map suc (cond b (n ∷ []) []) ≡ cond b ((n + 1) ∷ []) [])
+    [ true ↦ ap (λ (x : ℕ). x ∷ []) f | false ↦ refl ]
 
 -- the numbers that a filter keeps are those of the copies that pass
 pub filtered_that : (p : ℕ → Bool) (n : ℕ) → map suc (filter p (range_with_len 0 n)) ≡ copies_that p n
@@ -56,7 +60,8 @@ filtered_that p (suc n) =
 
 -- a number is named in a list where it stands there
 pub named_Contains : (xs : List ℕ) (k : ℕ) → named_in xs k ≡ true → Contains xs k
-named_Contains xs k e = let r = list_any-In (λ (n : ℕ). nat_eq n k) xs e in In-Contains k xs (subst (λ (x : ℕ). In x xs) (eqb-true r.0 k r.2) r.1)
+named_Contains xs k e = let r = list_any-In (λ (n : ℕ). nat_eq n k) xs e in
+    In-Contains k xs (subst (λ (x : ℕ). In x xs) (eqb-true r.0 k r.2) r.1)
 
 pub Contains_named : (xs : List ℕ) (k : ℕ) → Contains xs k → named_in xs k ≡ true
 Contains_named xs k c = In-list_any (λ (n : ℕ). nat_eq n k) k xs (Contains-In k xs c) (eq-eqb k k refl)
@@ -82,21 +87,25 @@ its_text v o e = ap (is_text v) e ∙ (bytes_eq-Decides v v).1 refl
 gifts_more : (f : Gift) (n : ℕ) → gifts f (suc n) ≡ gifts f n ++ f n ∷ []
 gifts_more f n =
     let e : 0 + n ≡ n = omega arith in
-    ap (map f) (range_more 0 n) ∙ map-append f (range_with_len 0 n) ((0 + n) ∷ []) ∙ ap (λ (x : ℕ). gifts f n ++ f x ∷ []) e
+    ap (map f) (range_more 0 n) ∙ map-append f (range_with_len 0 n) ((0 + n) ∷ [])
+    ∙ ap (λ (x : ℕ). gifts f n ++ f x ∷ []) e
 
 count_one : (t : Option (List ℕ) → Bool) (x : Option (List ℕ)) → count_by t (x ∷ []) ≡ cond (t x) 1 0
 count_one t x = omega arith
 
 more_that : (p : ℕ → Bool) (n : ℕ) → length (copies_that p (suc n)) ≡ length (copies_that p n) + cond (p n) 1 0
 more_that p n = length-append (copies_that p n) (cond (p n) ((n + 1) ∷ []) [])
-    ∙ elim (p n) as (λ b. length (copies_that p n) + length (cond b ((n + 1) ∷ []) []) ≡ length (copies_that p n) + cond b 1 0) [ true ↦ refl | false ↦ refl ]
+    ∙ elim (p n) as (λ b. length (copies_that p n) + length (cond b ((n + 1) ∷ []) [])
+    ≡ length (copies_that p n) + cond b 1 0) [ true ↦ refl | false ↦ refl ]
 
-counted_that : (t : Option (List ℕ) → Bool) (f : Gift) (n : ℕ) → count_by t (gifts f n) ≡ length (copies_that (λ c. t (f c)) n)
+counted_that : (t : Option (List ℕ) → Bool) (f : Gift) (n : ℕ)
+    → count_by t (gifts f n) ≡ length (copies_that (λ c. t (f c)) n)
 counted_that t f zero = refl
 counted_that t f (suc n) =
     ap (count_by t) (gifts_more f n)
     ∙ sum_by-append (λ (x : Option (List ℕ)). cond (t x) 1 0) (gifts f n) (f n ∷ [])
-    ∙ (let before = counted_that t f n in let one = count_one t (f n) in let more = more_that (λ c. t (f c)) n in omega (arith, before, one, more))
+    ∙ (let before = counted_that t f n in let one = count_one t (f n) in let more =
+    more_that (λ c. t (f c)) n in omega (arith, before, one, more))
 
 pub holders_many : (f : Gift) (n m : ℕ) (v : List ℕ) → m ≤ holders (gifts f n) v → AtLeast (λ c. Gives f c v) n m
 holders_many f n m v le =
@@ -107,7 +116,8 @@ holders_many f n m v le =
 pub many_holders : (f : Gift) (n m : ℕ) (v : List ℕ) → AtLeast (λ c. Gives f c v) n m → m ≤ holders (gifts f n) v
 many_holders f n m v some =
     let e = counted_that (is_text v) f n in
-    let le = passing_enough (λ c. is_text v (f c)) n m (at_least_map (λ c. Gives f c v) (λ c. is_text v (f c) ≡ true) n m (λ c lt is. its_text v (f c) is) some) in
+    let le = passing_enough (λ c. is_text v (f c)) n m (at_least_map (λ c. Gives f c v) (λ c. is_text v (f c) ≡ true) n
+    m (λ c lt is. its_text v (f c) is) some) in
     omega (arith, le, e)
 
 In_range : (x a n : ℕ) → In x (range_with_len a n) → (a ≤ x) × (x < a + n)
@@ -143,14 +153,16 @@ first_given f n s e =
 -- where there is no first content, no copy gives any
 pub none_given : (f : Gift) (n : ℕ) → first_content (gifts f n) ≡ None → (c : ℕ) (s : List ℕ) → c < n → Gives f c s → ⊥
 none_given f n e c s lt gives =
-    no_first (gifts f n) s (subst (λ o. In o (gifts f n)) gives (map-In f c (range_with_len 0 n) (range_In c 0 n (omega arith) (omega (arith, lt))))) e
+    no_first (gifts f n) s (subst (λ o. In o (gifts f n)) gives
+    (map-In f c (range_with_len 0 n) (range_In c 0 n (omega arith) (omega (arith, lt))))) e
 
 -- ---- a content, beside what the copies give
 
 -- they give its value alone; or its salvage alone, and too few; or nothing
 abbrev pub Backed : (m n : ℕ) → Gift → Content → Type 0
 Backed m n f (Good v) = (c : ℕ) (w : List ℕ) → c < n → Gives f c w → w ≡ v
-Backed m n f (Bad (Some u)) = ((c : ℕ) (w : List ℕ) → c < n → Gives f c w → w ≡ u) × ((w : List ℕ) → AtLeast (λ c. Gives f c w) n m → ⊥)
+Backed m n f (Bad (Some u)) = ((c : ℕ) (w : List ℕ) → c < n → Gives f c w → w ≡ u)
+    × ((w : List ℕ) → AtLeast (λ c. Gives f c w) n m → ⊥)
 Backed m n f (Bad None) = (c : ℕ) (w : List ℕ) → c < n → Gives f c w → ⊥
 
 abbrev pub AreAlike : Gift → ℕ → Type 0
@@ -160,45 +172,57 @@ module _ (m n : ℕ) (positive : 1 ≤ m) where
   pub voted_given : (f : Gift) (v : List ℕ) → voted m (gifts f n) ≡ Some v → (c : ℕ) × (c < n) × Gives f c v
   voted_given f v e = at_least_one (λ c. Gives f c v) n m positive (holders_many f n m v (voted-held m (gifts f n) v e))
 
-  left : (f : Gift) (there : Content) → Backed m n f there → (a s : Option (List ℕ)) → voted m (gifts f n) ≡ a → first_content (gifts f n) ≡ s
+  left : (f : Gift) (there : Content) → Backed m n f there → (a s : Option (List ℕ)) → voted m (gifts f n) ≡ a
+      → first_content (gifts f n) ≡ s
       → IsLeftOf (content_of a s) there
   left f (Good u) b (Some v) s va fs = let r = voted_given f v va in ap (λ x. Good x) (sym (b r.0 v r.1 r.2))
   left f (Bad (Some u)) b (Some v) s va fs = absurd (b.1 v (holders_many f n m v (voted-held m (gifts f n) v va)))
   left f (Bad None) b (Some v) s va fs = let r = voted_given f v va in absurd (b r.0 v r.1 r.2)
   left f there b None None va fs = tt
   left f (Good u) b None (Some s) va fs = let r = first_given f n s fs in inl (ap (λ x. Good x) (sym (b r.0 s r.1 r.2)))
-  left f (Bad (Some u)) b None (Some s) va fs = let r = first_given f n s fs in inr (ap (λ x. Bad (Some x)) (sym (b.0 r.0 s r.1 r.2)))
+  left f (Bad (Some u)) b None (Some s) va fs = let r =
+      first_given f n s fs in inr (ap (λ x. Bad (Some x)) (sym (b.0 r.0 s r.1 r.2)))
   left f (Bad None) b None (Some s) va fs = let r = first_given f n s fs in absurd (b r.0 s r.1 r.2)
 
   -- what is read is left of it
-  pub left_of : (f : Gift) (there : Content) → Backed m n f there → IsLeftOf (content_of (voted m (gifts f n)) (first_content (gifts f n))) there
+  pub left_of : (f : Gift) (there : Content) → Backed m n f there
+      → IsLeftOf (content_of (voted m (gifts f n)) (first_content (gifts f n))) there
   left_of f there b = left f there b (voted m (gifts f n)) (first_content (gifts f n)) refl refl
 
-  backed : (f : Gift) → AreAlike f n → (a s : Option (List ℕ)) → voted m (gifts f n) ≡ a → first_content (gifts f n) ≡ s → Backed m n f (content_of a s)
+  backed : (f : Gift) → AreAlike f n → (a s : Option (List ℕ)) → voted m (gifts f n) ≡ a → first_content (gifts f n) ≡ s
+      → Backed m n f (content_of a s)
   backed f alike (Some v) s va fs = λ c w lt gives. let r = voted_given f v va in alike c r.0 w v lt r.1 gives r.2
   backed f alike None (Some u) va fs = (
     λ c w lt gives. let r = first_given f n u fs in alike c r.0 w u lt r.1 gives r.2,
-    λ w some. let few = voted-none m (gifts f n) positive va w in let many = many_holders f n m w some in omega (arith, few, many),
+    λ w some. let few = voted-none m (gifts f n) positive va w in let many =
+        many_holders f n m w some in omega (arith, few, many),
   )
   backed f alike None None va fs = none_given f n fs
 
   -- where copies give no two texts, what is read is backed
-  pub backed_now : (f : Gift) → AreAlike f n → Backed m n f (content_of (voted m (gifts f n)) (first_content (gifts f n)))
+  pub backed_now : (f : Gift) → AreAlike f n → Backed m n f
+      (content_of (voted m (gifts f n)) (first_content (gifts f n)))
   backed_now f alike = backed f alike (voted m (gifts f n)) (first_content (gifts f n)) refl refl
 
   -- where copies give less, or the value
-  pub backed_less : (f g : Gift) (there : Content) → ((c : ℕ) (w : List ℕ) → c < n → Gives g c w → Gives f c w ⊎ (there ≡ Good w)) → Backed m n f there → Backed m n g there
-  backed_less f g (Good v) less b = λ c w lt gives. elim (less c w lt gives) [ inl was ↦ b c w lt was | inr is ↦ sym (good_same v w is) ]
+  pub backed_less : (f g : Gift) (there : Content) → ((c : ℕ) (w : List ℕ) → c < n → Gives g c w
+      → Gives f c w ⊎ (there ≡ Good w)) → Backed m n f there → Backed m n g there
+  backed_less f g (Good v) less b = λ c w lt gives. elim (less c w lt gives)
+      [ inl was ↦ b c w lt was | inr is ↦ sym (good_same v w is) ]
   backed_less f g (Bad (Some u)) less b = (
     λ c w lt gives. elim (less c w lt gives) [ inl was ↦ b.0 c w lt was | inr is ↦ absurd (bad_good (Some u) w is) ],
-    λ w some. b.1 w (at_least_map (λ c. Gives g c w) (λ c. Gives f c w) n m (λ c lt gives. elim (less c w lt gives) [ inl was ↦ was | inr is ↦ absurd (bad_good (Some u) w is) ]) some),
+    λ w some. b.1 w (at_least_map (λ c. Gives g c w) (λ c. Gives f c w) n m
+        (λ c lt gives. elim (less c w lt gives) [ inl was ↦ was | inr is ↦ absurd (bad_good (Some u) w is) ]) some),
   )
-  backed_less f g (Bad None) less b = λ c w lt gives. elim (less c w lt gives) [ inl was ↦ b c w lt was | inr is ↦ absurd (bad_good None w is) ]
+  backed_less f g (Bad None) less b = λ c w lt gives. elim (less c w lt gives)
+      [ inl was ↦ b c w lt was | inr is ↦ absurd (bad_good None w is) ]
 
   -- enough copies give the value: it is the vote
-  pub good_now : (f : Gift) (v : List ℕ) → Backed m n f (Good v) → AtLeast (λ c. Gives f c v) n m → voted m (gifts f n) ≡ Some v
+  pub good_now : (f : Gift) (v : List ℕ) → Backed m n f (Good v) → AtLeast (λ c. Gives f c v) n m
+      → voted m (gifts f n) ≡ Some v
   good_now f v b some = voted-only m (gifts f n) v positive (many_holders f n m v some)
-      (λ other many. let r = at_least_one (λ c. Gives f c other) n m positive (holders_many f n m other many) in b r.0 other r.1 r.2)
+      (λ other many. let r = at_least_one (λ c. Gives f c other) n m positive (holders_many f n m other many) in
+      b r.0 other r.1 r.2)
 
 -- copies that back a content give no two texts
 pub backed_alike : (m n : ℕ) (f : Gift) (there : Content) → Backed m n f there → AreAlike f n

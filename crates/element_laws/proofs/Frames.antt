@@ -31,7 +31,8 @@ module _ (shape : Shape) (copy h : ℕ) (u : List ℕ) where
   abbrev pub its_slot : SlotText
   its_slot = record { copy = copy; parity = own h; generation = h; text = u }
 
-  pub held_piece : (image : Image) → copy < shape.place.copies → Holds image shape.place.first copy h u → IsSlotPiece shape.place.first shape.place.copies image its_slot
+  pub held_piece : (image : Image) → copy < shape.place.copies → Holds image shape.place.first copy h u
+      → IsSlotPiece shape.place.first shape.place.copies image its_slot
   held_piece image lt v = record { copy = lt; parity = own_small h; verifies = v }
 
 -- what is given, as a piece
@@ -39,64 +40,81 @@ module _ (shape : Shape) (copy : ℕ) (at : Where) (w : List ℕ) where
   abbrev pub its_blocks : BlockText
   its_blocks = record { copy = copy; at = at; bytes = w }
 
-  pub given_piece : (image : Image) → copy < shape.place.copies → IsNamed shape.place image at → Gives (gift_of image shape at) copy w → IsBlockPiece shape.place image its_blocks
+  pub given_piece : (image : Image) → copy < shape.place.copies → IsNamed shape.place image at
+      → Gives (gift_of image shape at) copy w → IsBlockPiece shape.place image its_blocks
   given_piece image lt is gives = record { inside = lt; named = is; counts = gives }
 
-module _ (shape : Shape) (damaged : List ℕ) (left new : Image) (d : DecaysFor (IsPiece shape.place) damaged left new) where
-  pub held_back : (copy h : ℕ) (u : List ℕ) → copy < shape.place.copies → Holds new shape.place.first copy h u → Holds left shape.place.first copy h u
-  held_back copy h u lt v =
-      let p : IsSlotPiece shape.place.first shape.place.copies left (its_slot shape copy h u) = d.pieces (in_slot (its_slot shape copy h u)) (held_piece shape copy h u new lt v) in
-      p.verifies
+module _ (shape : Shape) (damaged : List ℕ) (left new : Image) (d : DecaysFor (IsPiece shape.place) damaged left new)
+  where
+    pub held_back : (copy h : ℕ) (u : List ℕ) → copy < shape.place.copies → Holds new shape.place.first copy h u
+        → Holds left shape.place.first copy h u
+    held_back copy h u lt v =
+        let p : IsSlotPiece shape.place.first shape.place.copies left (its_slot shape copy h u) =
+        d.pieces (in_slot (its_slot shape copy h u)) (held_piece shape copy h u new lt v) in
+        p.verifies
 
-  pub named_back : (at : Where) → IsNamed shape.place new at → IsNamed shape.place left at
-  named_back at is = record {
-    copy = is.copy;
-    generation = is.generation;
-    text = is.text;
-    index = is.index;
-    inside = is.inside;
-    held = held_back is.copy is.generation is.text is.inside is.held;
-    spelled = is.spelled;
-    named = is.named;
-  }
+    pub named_back : (at : Where) → IsNamed shape.place new at → IsNamed shape.place left at
+    named_back at is = record {
+      copy = is.copy;
+      generation = is.generation;
+      text = is.text;
+      index = is.index;
+      inside = is.inside;
+      held = held_back is.copy is.generation is.text is.inside is.held;
+      spelled = is.spelled;
+      named = is.named;
+    }
 
-  pub given_back : (at : Where) → IsNamed shape.place new at → (copy : ℕ) (w : List ℕ) → copy < shape.place.copies → Gives (gift_of new shape at) copy w → Gives (gift_of left shape at) copy w
-  given_back at is copy w lt gives =
-      let p : IsBlockPiece shape.place left (its_blocks shape copy at w) = d.pieces (in_blocks (its_blocks shape copy at w)) (given_piece shape copy at w new lt is gives) in
-      p.counts
+    pub given_back : (at : Where) → IsNamed shape.place new at → (copy : ℕ) (w : List ℕ) → copy < shape.place.copies
+        → Gives (gift_of new shape at) copy w → Gives (gift_of left shape at) copy w
+    given_back at is copy w lt gives =
+        let p : IsBlockPiece shape.place left (its_blocks shape copy at w) =
+        d.pieces (in_blocks (its_blocks shape copy at w)) (given_piece shape copy at w new lt is gives) in
+        p.counts
 
-  pub held_on : (copy h : ℕ) (u : List ℕ) → IsUndamaged damaged shape.place.first copy → Holds left shape.place.first copy h u → Holds new shape.place.first copy h u
-  held_on copy h u spared v =
-      let small = own_small h in
-      subst (λ (bytes : List ℕ). VerifiesAs bytes h u) (sym (d.others (slot shape.place.first copy (own h)) (spared (own h) (omega (arith, small))))) v
+    pub held_on : (copy h : ℕ) (u : List ℕ) → IsUndamaged damaged shape.place.first copy
+        → Holds left shape.place.first copy h u → Holds new shape.place.first copy h u
+    held_on copy h u spared v =
+        let small = own_small h in
+        subst (λ (bytes : List ℕ). VerifiesAs bytes h u) (sym
+        (d.others (slot shape.place.first copy (own h)) (spared (own h) (omega (arith, small))))) v
 
-  pub area_on : (copy : ℕ) → IsUndamaged damaged shape.place.first copy → new (area shape.place.first copy) ≡ left (area shape.place.first copy)
-  area_on copy spared = d.others (area shape.place.first copy) (spared 2 (omega arith))
+    pub area_on : (copy : ℕ) → IsUndamaged damaged shape.place.first copy
+        → new (area shape.place.first copy) ≡ left (area shape.place.first copy)
+    area_on copy spared = d.others (area shape.place.first copy) (spared 2 (omega arith))
 
-  pub whole_on : (copy : ℕ) (at : Where) (v : List ℕ) → IsUndamaged damaged shape.place.first copy → (is_whole_at left shape copy at ≡ true) × Gives (gift_of left shape at) copy v
-      → (is_whole_at new shape copy at ≡ true) × Gives (gift_of new shape at) copy v
-  whole_on copy at v spared is = subst (λ (file : List ℕ). (within file at.blocks at.len ≡ true) × (counting file at.blocks at.len at.hash ≡ Some v)) (sym (area_on copy spared)) is
+    pub whole_on : (copy : ℕ) (at : Where) (v : List ℕ) → IsUndamaged damaged shape.place.first copy
+        → (is_whole_at left shape copy at ≡ true) × Gives (gift_of left shape at) copy v
+        → (is_whole_at new shape copy at ≡ true) × Gives (gift_of new shape at) copy v
+    whole_on copy at v spared is = subst (λ (file : List ℕ). (within file at.blocks at.len ≡ true)
+        × (counting file at.blocks at.len at.hash ≡ Some v)) (sym (area_on copy spared)) is
 
-  -- what damage leaves of what is less
-  pub less_decays : (g : ℕ) (t : List ℕ) (old : Image) → IsLess shape g t damaged old left → IsLess shape g t damaged old new
-  less_decays g t old less = record {
-    held = λ copy h u lt v. less.held copy h u lt (held_back copy h u lt v);
-    counted = λ at is copy w lt gives. elim (less.counted at (named_back at is) copy w lt (given_back at is copy w lt gives)) [
-      | inl was ↦ inl was
-      | inr value ↦ inr ((λ c h u ltc v. value.0 c h u ltc (held_back c h u ltc v)), value.1)
-    ];
-    text = λ copy lt spared v. held_on copy g t spared (less.text copy lt spared v);
-    whole = λ i spells e k copy v lt spared was gave. whole_on copy (where_of e) v spared (less.whole i spells e k copy v lt spared was gave);
-  }
+    -- what damage leaves of what is less
+    pub less_decays : (g : ℕ) (t : List ℕ) (old : Image) → IsLess shape g t damaged old left
+        → IsLess shape g t damaged old new
+    less_decays g t old less = record {
+      held = λ copy h u lt v. less.held copy h u lt (held_back copy h u lt v);
+      counted = λ at is copy w lt gives. elim (less.counted at (named_back at is) copy w lt
+          (given_back at is copy w lt gives)) [
+            | inl was ↦ inl was
+            | inr value ↦ inr ((λ c h u ltc v. value.0 c h u ltc (held_back c h u ltc v)), value.1)
+          ];
+      text = λ copy lt spared v. held_on copy g t spared (less.text copy lt spared v);
+      whole = λ i spells e k copy v lt spared was gave. whole_on copy (where_of e) v spared
+          (less.whole i spells e k copy v lt spared was gave);
+    }
 
-  pub fewer_decays : (old : Image) → IsFewer shape old left → IsFewer shape old new
-  fewer_decays old fewer = record {
-    held = λ copy lt h u v. fewer.held copy lt h u (held_back copy h u lt v);
-    counted = λ at is copy w lt gives. fewer.counted at (named_back at is) copy w lt (given_back at is copy w lt gives);
-  }
+    pub fewer_decays : (old : Image) → IsFewer shape old left → IsFewer shape old new
+    fewer_decays old fewer = record {
+      held = λ copy lt h u v. fewer.held copy lt h u (held_back copy h u lt v);
+      counted = λ at is copy w lt gives. fewer.counted at (named_back at is) copy w lt
+          (given_back at is copy w lt gives);
+    }
 
-  pub keeps_decays : (g : ℕ) (t : List ℕ) (old : Image) → KeepsAll shape g t damaged old left → KeepsAll shape g t damaged old new
-  keeps_decays g t old keeps = record {
-    text = λ copy lt spared v. held_on copy g t spared (keeps.text copy lt spared v);
-    whole = λ i spells e k copy v lt spared was gave. whole_on copy (where_of e) v spared (keeps.whole i spells e k copy v lt spared was gave);
-  }
+    pub keeps_decays : (g : ℕ) (t : List ℕ) (old : Image) → KeepsAll shape g t damaged old left
+        → KeepsAll shape g t damaged old new
+    keeps_decays g t old keeps = record {
+      text = λ copy lt spared v. held_on copy g t spared (keeps.text copy lt spared v);
+      whole = λ i spells e k copy v lt spared was gave. whole_on copy (where_of e) v spared
+          (keeps.whole i spells e k copy v lt spared was gave);
+    }

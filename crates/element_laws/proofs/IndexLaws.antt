@@ -1,5 +1,6 @@
 -- The phase in which an index is written: what stands under the new one, and the laws.
-use Rattle.std.proofs.Common.{◌≡◌, ℕ, ◌+◌, ◌<◌, ◌≤◌, ◌⊎◌, true, List, [], length, Option, Some, refl, sym, ap, subst, ◌∙◌, inl, inr, arith}
+use Rattle.std.proofs.Common.{◌≡◌, ℕ, ◌+◌, ◌<◌, ◌≤◌, ◌⊎◌, true, List, [], length, Option, Some, refl, sym, ap, subst}
+use Rattle.std.proofs.Common.{◌∙◌, inl, inr, arith}
 use Rattle.std.specs.Prelude.{map}
 use Rattle.std.specs.List.{Contains}
 use Rattle.std.proofs.lemmas.Bool.{leb-true}
@@ -26,19 +27,22 @@ use Rattle.element_state.specs.Views.{qualifies, supporters, entry_view, content
 use Rattle.element_state.specs.Clean.{where_of, IsNamed, IsClean}
 use Rattle.element_state.specs.Conditions.{IsMended}
 use Rattle.element_laws.specs.Phases.{OpensAt, IsWritten, IsCarried, IndexLaw}
-use Rattle.element_laws.proofs.Lists.{In, In-Contains, Contains-In, In-map, map-In, some_is, zip_with, zip_find, nothing_listed}
+use Rattle.element_laws.proofs.Lists.{In, In-Contains, Contains-In, In-map, map-In, some_is, zip_with, zip_find}
+use Rattle.element_laws.proofs.Lists.{nothing_listed}
 use Rattle.element_laws.proofs.Copies.{Gift, Gives, gifts, Backed, backed_now, backed_less, backed_alike, good_same}
 use Rattle.element_laws.proofs.Fits.{fit_at, fit-spelled}
 use Rattle.element_laws.proofs.Standing.{gift_of}
 use Rattle.element_laws.proofs.Left.{is_whole_at, value_at, with_values, spared_has, good_is}
 use Rattle.element_laws.proofs.Keeping.{HoldsOnly, IsLess}
 use Rattle.element_laws.proofs.Frames.{slot_no_area, area_no_slot}
-use Rattle.element_laws.proofs.Phases.{opens_pick, opened_on, sound_slots, decays_slots, given_then, whole_then, contents_then}
+use Rattle.element_laws.proofs.Phases.{opens_pick, opened_on, sound_slots, decays_slots, given_then, whole_then}
+use Rattle.element_laws.proofs.Phases.{contents_then}
 use Rattle.element_laws.proofs.NewText.{EntryStands}
 use Rattle.element_laws.proofs.IndexPhase.{open_at, opened_two, opened_clean}
 
 -- an entry of an index that is held names its content
-pub names_it : (shape : Shape) (image : Image) (copy g : ℕ) (t : List ℕ) (i : Index) → copy < shape.place.copies → Holds image shape.place.first copy g t
+pub names_it : (shape : Shape) (image : Image) (copy g : ℕ) (t : List ℕ) (i : Index) → copy < shape.place.copies
+    → Holds image shape.place.first copy g t
     → fit_index shape t ≡ Some i → (at : Where) → In at (map where_of i.entries) → IsNamed shape.place image at
 names_it shape image copy g t i lt v fit at h = record {
   copy = copy;
@@ -52,10 +56,14 @@ names_it shape image copy g t i lt v fit at h = record {
 }
 
 module _ (shape : Shape) (start then new : Image) (damaged : List ℕ)
-    (given : (at : Where) → IsNamed shape.place new at → (copy : ℕ) (w : List ℕ) → copy < shape.place.copies → Gives (gift_of new shape at) copy w → Gives (gift_of then shape at) copy w)
-    (whole : (at : Where) (copy : ℕ) (v : List ℕ) → IsUndamaged damaged shape.place.first copy → is_whole_at then shape copy at ≡ true
-    → Gives (gift_of then shape at) copy v → (is_whole_at new shape copy at ≡ true) × Gives (gift_of new shape at) copy v) where
-  pub written_stands : (e : IndexEntry) (f : Entry) → IsNamed shape.place new (where_of e) → IsWritten shape then e f → EntryStands shape new damaged e f
+    (given : (at : Where) → IsNamed shape.place new at → (copy : ℕ) (w : List ℕ) → copy < shape.place.copies
+    → Gives (gift_of new shape at) copy w → Gives (gift_of then shape at) copy w)
+    (whole : (at : Where) (copy : ℕ) (v : List ℕ) → IsUndamaged damaged shape.place.first copy
+    → is_whole_at then shape copy at ≡ true
+    → Gives (gift_of then shape at) copy v → (is_whole_at new shape copy at ≡ true)
+    × Gives (gift_of new shape at) copy v) where
+  pub written_stands : (e : IndexEntry) (f : Entry) → IsNamed shape.place new (where_of e) → IsWritten shape then e f
+      → EntryStands shape new damaged e f
   written_stands e f is w = record {
     headed = w.headed;
     backed = subst (λ x. Backed shape.m shape.place.copies (gift_of new shape (where_of e)) x) (sym w.good)
@@ -66,19 +74,24 @@ module _ (shape : Shape) (start then new : Image) (damaged : List ℕ)
     good = λ storage. (w.value, w.good);
   }
 
-  module _ (positive : 1 ≤ shape.m) (clean : IsClean shape start) (g : ℕ) (t : List ℕ) (i : Index) (opens : OpensAt shape start g t i)
-      (less : IsLess shape g t damaged start then) (held : (copy : ℕ) → copy < shape.place.copies → Holds then shape.place.first copy g t) where
+  module _ (positive : 1 ≤ shape.m) (clean : IsClean shape start) (g : ℕ) (t : List ℕ) (i : Index)
+      (opens : OpensAt shape start g t i)
+      (less : IsLess shape g t damaged start then) (held : (copy : ℕ) → copy < shape.place.copies
+      → Holds then shape.place.first copy g t) where
     content_at : Where → Content
-    content_at at = content_of (value_at start shape at) (first_content (gifts (gift_of start shape at) shape.place.copies))
+    content_at at = content_of (value_at start shape at)
+        (first_content (gifts (gift_of start shape at) shape.place.copies))
 
     content_is : (e : IndexEntry) → (entry_view start shape.place shape.m e).content ≡ content_at (where_of e)
     unfolding entry_view content_at
     content_is e = refl
 
-    numbers_are : (e : IndexEntry) (c : ℕ) → (entry_view start shape.place shape.m e).lacking ≡ [] → (v : List ℕ) → value_at start shape (where_of e) ≡ Some v → c < shape.place.copies
+    numbers_are : (e : IndexEntry) (c : ℕ) → (entry_view start shape.place shape.m e).lacking ≡ [] → (v : List ℕ)
+        → value_at start shape (where_of e) ≡ Some v → c < shape.place.copies
         → Gives (gift_of start shape (where_of e)) c v × (is_whole_at start shape c (where_of e) ≡ true)
     unfolding entry_view
-    numbers_are e c none v value lt = spared_has shape start (where_of e) v c value lt (λ listed. nothing_listed (c + 1) (subst (λ (xs : List ℕ). Contains xs (c + 1)) none listed))
+    numbers_are e c none v value lt = spared_has shape start (where_of e) v c value lt
+        (λ listed. nothing_listed (c + 1) (subst (λ (xs : List ℕ). Contains xs (c + 1)) none listed))
 
     module _ (at : Where) (h : In at (map where_of i.entries)) where
       named_start : IsNamed shape.place start at
@@ -87,45 +100,58 @@ module _ (shape : Shape) (start then new : Image) (damaged : List ℕ)
       named_now : IsNamed shape.place then at
       named_now = names_it shape then opens.copy g t i opens.inside (held opens.copy opens.inside) opens.fit at h
 
-      pub counted_at : IsNamed shape.place new at → (copy : ℕ) (w : List ℕ) → copy < shape.place.copies → Gives (gift_of new shape at) copy w
+      pub counted_at : IsNamed shape.place new at → (copy : ℕ) (w : List ℕ) → copy < shape.place.copies
+          → Gives (gift_of new shape at) copy w
           → Gives (gift_of start shape at) copy w ⊎ (value_at start shape at ≡ Some w)
-      counted_at is copy w lt gives = elim (less.counted at named_now copy w lt (given at is copy w lt gives)) [ inl was ↦ inl was | inr value ↦ inr value.1 ]
+      counted_at is copy w lt gives = elim (less.counted at named_now copy w lt (given at is copy w lt gives))
+          [ inl was ↦ inl was | inr value ↦ inr value.1 ]
 
-      pub whole_at : (copy : ℕ) (v : List ℕ) → copy < shape.place.copies → IsUndamaged damaged shape.place.first copy → is_whole_at start shape copy at ≡ true
-          → Gives (gift_of start shape at) copy v → (is_whole_at new shape copy at ≡ true) × Gives (gift_of new shape at) copy v
+      pub whole_at : (copy : ℕ) (v : List ℕ) → copy < shape.place.copies → IsUndamaged damaged shape.place.first copy
+          → is_whole_at start shape copy at ≡ true
+          → Gives (gift_of start shape at) copy v → (is_whole_at new shape copy at ≡ true)
+          × Gives (gift_of new shape at) copy v
       whole_at copy v lt spared was gave =
           let (e, k, same) = In-map where_of at i.entries h in
           let still = less.whole i (fit-spelled shape t i opens.fit) e k copy v lt spared
-          (subst (λ (x : Where). is_whole_at start shape copy x ≡ true) (sym same) was) (subst (λ (x : Where). Gives (gift_of start shape x) copy v) (sym same) gave) in
-          whole at copy v spared (subst (λ (x : Where). is_whole_at then shape copy x ≡ true) same still.0) (subst (λ (x : Where). Gives (gift_of then shape x) copy v) same still.1)
+          (subst (λ (x : Where). is_whole_at start shape copy x ≡ true) (sym same) was)
+          (subst (λ (x : Where). Gives (gift_of start shape x) copy v) (sym same) gave) in
+          whole at copy v spared (subst (λ (x : Where). is_whole_at then shape copy x ≡ true) same still.0)
+          (subst (λ (x : Where). Gives (gift_of then shape x) copy v) same still.1)
 
       backed_at : IsNamed shape.place new at → Backed shape.m shape.place.copies (gift_of new shape at) (content_at at)
       unfolding content_at
       backed_at is =
           let f : Gift = gift_of start shape at in
           let salvage : Option (List ℕ) = first_content (gifts f shape.place.copies) in
-          backed_less shape.m shape.place.copies positive f (gift_of new shape at) (content_of (value_at start shape at) salvage)
-          (λ c w lt gives. elim (counted_at is c w lt gives) [ inl was ↦ inl was | inr value ↦ inr (ap (λ o. content_of o salvage) value) ])
-          (backed_now shape.m shape.place.copies positive f (λ a b s u la lb ga gb. clean.alike at a b s u named_start la lb ga gb))
+          backed_less shape.m shape.place.copies positive f (gift_of new shape at)
+          (content_of (value_at start shape at) salvage)
+          (λ c w lt gives. elim (counted_at is c w lt gives)
+          [ inl was ↦ inl was | inr value ↦ inr (ap (λ o. content_of o salvage) value) ])
+          (backed_now shape.m shape.place.copies positive f
+          (λ a b s u la lb ga gb. clean.alike at a b s u named_start la lb ga gb))
 
     value_is : (at : Where) (v : List ℕ) → content_at at ≡ Good v → value_at start shape at ≡ Some v
     unfolding content_at
-    value_is at v e = good_is (value_at start shape at) (first_content (gifts (gift_of start shape at) shape.place.copies)) v e
+    value_is at v e = good_is (value_at start shape at) (first_content
+        (gifts (gift_of start shape at) shape.place.copies)) v e
 
     is_value : (at : Where) (v : List ℕ) → value_at start shape at ≡ Some v → content_at at ≡ Good v
     unfolding content_at
     is_value at v e = ap (λ o. content_of o (first_content (gifts (gift_of start shape at) shape.place.copies))) e
 
-    value_of_storage : shape.scope ≡ scope.Storage → qualifies start shape (fit_at start shape g t i) ≡ true → (at : Where) → In at (map where_of i.entries)
+    value_of_storage : shape.scope ≡ scope.Storage → qualifies start shape (fit_at start shape g t i) ≡ true
+        → (at : Where) → In at (map where_of i.entries)
         → (v : List ℕ) × (content_at at ≡ Good v)
     value_of_storage storage passes at h =
         let (e, k, same) = In-map where_of at i.entries h in
-        let le = subst (λ (s : Scope). shape.m ≤ length (supporters s start shape.place (fit_at start shape g t i))) storage
+        let le = subst (λ (s : Scope). shape.m ≤ length (supporters s start shape.place (fit_at start shape g t i)))
+        storage
         (leb-true shape.m (length (supporters shape.scope start shape.place (fit_at start shape g t i))) passes) in
         let v = with_values shape start clean opens.copy g t i opens.inside opens.held opens.fit positive le e k in
         (v.0, is_value at v.0 (subst (λ (x : Where). value_at start shape x ≡ Some v.0) same v.1))
 
-    pub carried_stands : qualifies start shape (fit_at start shape g t i) ≡ true → (e : IndexEntry) (f : Entry) → IsNamed shape.place new (where_of e)
+    pub carried_stands : qualifies start shape (fit_at start shape g t i) ≡ true → (e : IndexEntry) (f : Entry)
+        → IsNamed shape.place new (where_of e)
         → IsCarried shape start i e f → EntryStands shape new damaged e f
     carried_stands passes e f is carried =
         let at = where_of e in
@@ -133,7 +159,8 @@ module _ (shape : Shape) (start then new : Image) (damaged : List ℕ)
         let shown : f.content ≡ content_at at = carried.content ∙ content_is e in
         record {
           headed = carried.headed;
-          backed = subst (λ x. Backed shape.m shape.place.copies (gift_of new shape at) x) (sym shown) (backed_at at h is);
+          backed = subst (λ x. Backed shape.m shape.place.copies (gift_of new shape at) x) (sym shown)
+              (backed_at at h is);
           gives = λ v c good lt spared.
               let good_then : (entry_view start shape.place shape.m e).content ≡ Good v = sym carried.content ∙ good in
               let none : (entry_view start shape.place shape.m e).lacking ≡ [] =
@@ -143,15 +170,18 @@ module _ (shape : Shape) (start then new : Image) (damaged : List ℕ)
           good = λ storage. let v = value_of_storage storage passes at h in (v.0, shown ∙ v.1);
         }
 
-    pub entry_stands : qualifies start shape (fit_at start shape g t i) ≡ true → (e : IndexEntry) (f : Entry) → IsNamed shape.place new (where_of e)
+    pub entry_stands : qualifies start shape (fit_at start shape g t i) ≡ true → (e : IndexEntry) (f : Entry)
+        → IsNamed shape.place new (where_of e)
         → IsWritten shape then e f ⊎ IsCarried shape start i e f → EntryStands shape new damaged e f
     entry_stands passes e f is (inl written) = written_stands e f is written
     entry_stands passes e f is (inr carried) = carried_stands passes e f is carried
 
 -- a text is the only one of before, or the new one
 old_or_new : (shape : Shape) (then new : Image) (g : ℕ) (t next : List ℕ) → HoldsOnly shape then g t
-    → ((copy h : ℕ) (u : List ℕ) → copy < shape.place.copies → Holds new shape.place.first copy h u → Holds then shape.place.first copy h u ⊎ ((h ≡ g + 1) × (u ≡ next)))
-    → (copy h : ℕ) (u : List ℕ) → copy < shape.place.copies → Holds new shape.place.first copy h u → ((h ≡ g) × (u ≡ t)) ⊎ ((h ≡ g + 1) × (u ≡ next))
+    → ((copy h : ℕ) (u : List ℕ) → copy < shape.place.copies → Holds new shape.place.first copy h u
+    → Holds then shape.place.first copy h u ⊎ ((h ≡ g + 1) × (u ≡ next)))
+    → (copy h : ℕ) (u : List ℕ) → copy < shape.place.copies → Holds new shape.place.first copy h u
+    → ((h ≡ g) × (u ≡ t)) ⊎ ((h ≡ g + 1) × (u ≡ next))
 old_or_new shape then new g t next only known copy h u lt v = elim (known copy h u lt v) [
   | inl was ↦ inl (only copy h u lt was)
   | inr newer ↦ inr newer
@@ -159,12 +189,15 @@ old_or_new shape then new g t next only known copy h u lt v = elim (known copy h
 
 -- what an old text names, its index names
 old_named : (shape : Shape) (new : Image) (g : ℕ) (t : List ℕ) (i : Index) (next : List ℕ)
-    → ((copy h : ℕ) (u : List ℕ) → copy < shape.place.copies → Holds new shape.place.first copy h u → ((h ≡ g) × (u ≡ t)) ⊎ ((h ≡ g + 1) × (u ≡ next)))
-    → index_of t ≡ Some i → (at : Where) → (is : IsNamed shape.place new at) → (is.generation ≡ g + 1 → ⊥) → In at (map where_of i.entries)
+    → ((copy h : ℕ) (u : List ℕ) → copy < shape.place.copies → Holds new shape.place.first copy h u
+    → ((h ≡ g) × (u ≡ t)) ⊎ ((h ≡ g + 1) × (u ≡ next)))
+    → index_of t ≡ Some i → (at : Where) → (is : IsNamed shape.place new at) → (is.generation ≡ g + 1 → ⊥)
+    → In at (map where_of i.entries)
 old_named shape new g t i next texts spells at is apart = elim (texts is.copy is.generation is.text is.inside is.held) [
   | inl old ↦
       let one : is.index ≡ i = some_is is.index i (sym is.spelled ∙ ap index_of old.1 ∙ spells) in
-      subst (λ (j : Index). In at (map where_of j.entries)) one (Contains-In at (map where_of is.index.entries) is.named)
+      subst (λ (j : Index). In at (map where_of j.entries)) one
+      (Contains-In at (map where_of is.index.entries) is.named)
   | inr newer ↦ absurd (apart newer.0)
 ]
 
@@ -172,7 +205,8 @@ own_next : (g : ℕ) → own g ≡ own (g + 1 + 1)
 own_next g = omega arith
 
 pub index : AsideLaw → IndexLaw
-index aside shape start now then g t i taken next new_index view others c positive adopted is_index takes keeps fit generation_is entries stops sound damaged image d =
+index aside shape start now then g t i taken next new_index view others c positive adopted is_index takes keeps fit
+    generation_is entries stops sound damaged image d =
     let first = shape.place.first in
     let copies = shape.place.copies in
     let both = contents_then aside shape start now then g t i taken damaged adopted is_index takes keeps in
@@ -181,37 +215,53 @@ index aside shape start now then g t i taken next new_index view others c positi
     let clean = adopted.clean in
     let opens = adopted.opens in
     let slot_same = λ (copy h : ℕ). keeps.files (slot first copy (own h)) (slot_no_area first copies copy h) in
-    let held = λ (copy : ℕ) (lt : copy < copies). subst (λ (bytes : List ℕ). VerifiesAs bytes g t) (sym (slot_same copy g)) (adopted.alone.held copy lt) in
-    let it : IsOldOrNew first copies (g + 1) next damaged then image = stops.slots (sound_slots shape c sound) damaged image (decays_slots shape c damaged image d) in
+    let held = λ (copy : ℕ) (lt : copy < copies). subst (λ (bytes : List ℕ). VerifiesAs bytes g t)
+    (sym (slot_same copy g)) (adopted.alone.held copy lt) in
+    let it : IsOldOrNew first copies (g + 1) next damaged then image =
+    stops.slots (sound_slots shape c sound) damaged image (decays_slots shape c damaged image d) in
     let same = λ (copy : ℕ). stops.elsewhere.left (area first copy) (area_no_slot first copies copy) in
-    let given = λ (at : Where) (is : IsNamed shape.place image at) (copy : ℕ) (w : List ℕ) (lt : copy < copies) (gives : Gives (gift_of image shape at) copy w).
+    let given = λ (at : Where) (is : IsNamed shape.place image at) (copy : ℕ) (w : List ℕ) (lt : copy < copies)
+    (gives : Gives (gift_of image shape at) copy w).
     given_then shape then c.left image damaged same d at is copy w lt gives in
-    let whole = λ (at : Where) (copy : ℕ) (v : List ℕ) (spared : IsUndamaged damaged first copy) (was : is_whole_at then shape copy at ≡ true) (gave : Gives (gift_of then shape at) copy v).
+    let whole = λ (at : Where) (copy : ℕ) (v : List ℕ) (spared : IsUndamaged damaged first copy)
+    (was : is_whole_at then shape copy at ≡ true) (gave : Gives (gift_of then shape at) copy v).
     whole_then shape then c.left image damaged same d at copy v spared was gave in
     let (rest, state, passes) = open_at shape start g t i clean opens in
-    let entry = λ (e : IndexEntry) (f : Entry) (is : IsNamed shape.place image (where_of e)) (w : IsWritten shape then e f ⊎ IsCarried shape start i e f).
+    let entry = λ (e : IndexEntry) (f : Entry) (is : IsNamed shape.place image (where_of e))
+    (w : IsWritten shape then e f ⊎ IsCarried shape start i e f).
     entry_stands shape start then image damaged given whole positive clean g t i opens less held passes e f is w in
     let texts = λ (copy h : ℕ) (u : List ℕ) (lt : copy < copies) (v : Holds image first copy h u).
-    old_or_new shape then image g t next (λ copy h u lt v. only copy h u lt v) (λ copy h u lt v. it.known copy lt h u v) copy h u lt v in
+    old_or_new shape then image g t next (λ copy h u lt v. only copy h u lt v) (λ copy h u lt v. it.known copy lt h u v)
+    copy h u lt v in
     let stand = λ (copy : ℕ) (lt : copy < copies) (v : Holds image first copy (g + 1) next).
-    zip_with (λ e f. IsWritten shape then e f ⊎ IsCarried shape start i e f) (EntryStands shape image damaged) new_index.entries view.entries
-    (λ e f h k w. entry e f (names_it shape image copy (g + 1) next new_index lt v fit (where_of e) (map-In where_of e new_index.entries h)) w) entries in
-    let counted = λ (at : Where) (is : IsNamed shape.place image at) (apart : is.generation ≡ g + 1 → ⊥) (was : IsNamed shape.place start at) (copy : ℕ) (w : List ℕ)
+    zip_with (λ e f. IsWritten shape then e f ⊎ IsCarried shape start i e f) (EntryStands shape image damaged)
+    new_index.entries view.entries
+    (λ e f h k w. entry e f (names_it shape image copy (g + 1) next new_index lt v fit (where_of e)
+    (map-In where_of e new_index.entries h)) w) entries in
+    let counted = λ (at : Where) (is : IsNamed shape.place image at) (apart : is.generation ≡ g + 1 → ⊥)
+    (was : IsNamed shape.place start at) (copy : ℕ) (w : List ℕ)
     (lt : copy < copies) (gives : Gives (gift_of image shape at) copy w).
-    counted_at shape start then image damaged given whole positive clean g t i opens less held at (old_named shape image g t i next texts (fit-spelled shape t i opens.fit) at is apart) is copy w lt gives in
+    counted_at shape start then image damaged given whole positive clean g t i opens less held at
+    (old_named shape image g t i next texts (fit-spelled shape t i opens.fit) at is apart) is copy w lt gives in
     let alike_new = λ (e : IndexEntry) (h : In e new_index.entries) (is : IsNamed shape.place image (where_of e)).
-    let found = zip_find (λ e f. IsWritten shape then e f ⊎ IsCarried shape start i e f) new_index.entries view.entries e entries h in
+    let found = zip_find (λ e f. IsWritten shape then e f ⊎ IsCarried shape start i e f) new_index.entries view.entries
+    e entries h in
     let stands = entry e found.0 is found.2 in
     backed_alike shape.m copies (gift_of image shape (where_of e)) found.0.content stands.backed in
-    let whole_old = λ (e : IndexEntry) (h : In e i.entries) (copy : ℕ) (v : List ℕ) (lt : copy < copies) (spared : IsUndamaged damaged first copy)
+    let whole_old = λ (e : IndexEntry) (h : In e i.entries) (copy : ℕ) (v : List ℕ) (lt : copy < copies)
+    (spared : IsUndamaged damaged first copy)
     (was : is_whole_at start shape copy (where_of e) ≡ true) (gave : Gives (gift_of start shape (where_of e)) copy v).
-    whole_at shape start then image damaged given whole positive clean g t i opens less held (where_of e) (map-In where_of e i.entries h) copy v lt spared was gave in
-    let stays : ((c : ℕ) → c < copies → IsUndamaged damaged first c → Holds image first c g t) ⊎ ((c : ℕ) → c < copies → IsUndamaged damaged first c → Holds image first c (g + 1) next) =
+    whole_at shape start then image damaged given whole positive clean g t i opens less held (where_of e)
+    (map-In where_of e i.entries h) copy v lt spared was gave in
+    let stays : ((c : ℕ) → c < copies → IsUndamaged damaged first c → Holds image first c g t)
+    ⊎ ((c : ℕ) → c < copies → IsUndamaged damaged first c → Holds image first c (g + 1) next) =
     elim it.stands [
       | inl old ↦ inl (λ c lt spared. old c lt spared g t (own_next g) (held c lt))
       | inr newer ↦ inr newer
     ] in
     let (r, found, is) = opens_pick shape start opens.view opens.others opens.opens in
     opened_on shape start image damaged (Opens view others) r found
-    (opened_two shape start image damaged positive clean g t i opens next new_index view others fit generation_is stand texts counted alike_new whole_old stays)
-    (opened_clean shape start image damaged positive clean g t i opens next new_index view others fit generation_is stand texts counted alike_new whole_old stays)
+    (opened_two shape start image damaged positive clean g t i opens next new_index view others fit generation_is stand
+    texts counted alike_new whole_old stays)
+    (opened_clean shape start image damaged positive clean g t i opens next new_index view others fit generation_is
+    stand texts counted alike_new whole_old stays)

@@ -1,5 +1,6 @@
 -- Outcomes that a stop may not leave, and storages in use.
-use Rattle.std.proofs.Common.{◌≡◌, ℕ, zero, suc, ◌+◌, ◌*◌, ◌<◌, ◌≤◌, List, [], None, refl, sym, ap, subst, ◌∙◌, inl, inr, arith, ◌∷◌, Bool, true, false, cond, find, Option, Some}
+use Rattle.std.proofs.Common.{◌≡◌, ℕ, zero, suc, ◌+◌, ◌*◌, ◌<◌, ◌≤◌, List, [], None, refl, sym, ap, subst, ◌∙◌, inl}
+use Rattle.std.proofs.Common.{inr, arith, ◌∷◌, Bool, true, false, cond, find, Option, Some}
 use Rattle.std.specs.Prelude.{map}
 use Rattle.std.specs.List.{AllByRecursion, Contains}
 use Rattle.per_base.specs.declared.elements.Entry.{Entry}
@@ -21,8 +22,10 @@ use Rattle.element_state.specs.Clean.{where_of}
 use Rattle.element_state.specs.Conditions.{IsMended, IsInUse}
 use Rattle.element_state.specs.Kept.{HasEnough, IsSpared, KeepsGood}
 use Rattle.element_laws.specs.Phases.{InUseLaw, CarriedLaw, WholeLaw, OpenedLaw}
-use Rattle.element_laws.specs.Refused.{one, IndexFirst, IndexFirstAnew, OldOverwritten, OtherValue, Planted, CopyEaten, OtherRaised, SalvageRaised, SalvageLost}
-use Rattle.element_laws.proofs.Lists.{In, Contains-In, In-Contains, map-In, Contains-head, all_in, nothing_listed, not_none, some_is}
+use Rattle.element_laws.specs.Refused.{one, IndexFirst, IndexFirstAnew, OldOverwritten, OtherValue, Planted, CopyEaten}
+use Rattle.element_laws.specs.Refused.{OtherRaised, SalvageRaised, SalvageLost}
+use Rattle.element_laws.proofs.Lists.{In, Contains-In, In-Contains, map-In, Contains-head, all_in, nothing_listed}
+use Rattle.element_laws.proofs.Lists.{not_none, some_is}
 use Rattle.element_laws.proofs.Copies.{good_same, bad_good, gifts}
 use Rattle.element_laws.proofs.Standing.{gift_of, generation_of}
 use Rattle.element_laws.proofs.Left.{value_at, good_is, spared_has}
@@ -32,11 +35,15 @@ use Rattle.element_laws.proofs.Phases.{opens_pick}
 at_least_all : (P : ℕ → Type 0) (n m : ℕ) → ((c : ℕ) → c < n → P c) → m ≤ n → AtLeast P n m
 at_least_all P n zero all le = tt
 at_least_all P zero (suc m) all le = absurd (omega (arith, le))
-at_least_all P (suc n) (suc m) all le = inl (all n (omega arith), at_least_all P n m (λ c lt. all c (omega (arith, lt))) (omega (arith, le)))
+at_least_all P (suc n) (suc m) all le = inl (
+  all n (omega arith),
+  at_least_all P n m (λ c lt. all c (omega (arith, lt))) (omega (arith, le)),
+)
 
 -- without damage every copy that lacks nothing is left
 all_left : (shape : Shape) → shape.m ≤ shape.place.copies → HasEnough shape [] []
-all_left shape le = at_least_all (IsSpared shape [] []) shape.place.copies shape.m (λ c lt. (λ k small. nothing_listed (shape.place.first + 4 * c + k), nothing_listed (c + 1))) le
+all_left shape le = at_least_all (IsSpared shape [] []) shape.place.copies shape.m
+    (λ c lt. (λ k small. nothing_listed (shape.place.first + 4 * c + k), nothing_listed (c + 1))) le
 
 not_next : (g : ℕ) → g + 1 ≡ g → ⊥
 not_next g e = omega (arith, e)
@@ -72,7 +79,8 @@ old_overwritten shape g was is le k =
           bad_good None was (keeps.0 was refl (inr (all_left shape le)))
       | inr new ↦
           let after : one (g + 1) (Good is) ≡ new.1 = view_at (one (g + 1) (Good is)) new.1 [] new.2 new.3 in
-          not_next g (ap (λ (v : View). v.generation) after ∙ sym new.4.generation ∙ ap (λ (v : View). v.generation) (sym w))
+          not_next g (ap (λ (v : View). v.generation) after ∙ sym new.4.generation
+          ∙ ap (λ (v : View). v.generation) (sym w))
     ]
 
 pub other_value : OtherValue
@@ -90,7 +98,8 @@ planted shape g h was is never ng nh k = elim k.known.1.0 [
 pub copy_eaten : CopyEaten
 copy_eaten shape g copy was is lt k =
     let costs = k.copies (record { generation = refl; entries = refl }) in
-    costs.0 was copy refl lt (λ j small. nothing_listed (shape.place.first + 4 * copy + j), nothing_listed (copy + 1)) (Contains-head (copy + 1) (copy + 1) [] refl)
+    costs.0 was copy refl lt (λ j small. nothing_listed (shape.place.first + 4 * copy + j), nothing_listed (copy + 1))
+    (Contains-head (copy + 1) (copy + 1) [] refl)
 
 pub other_raised : OtherRaised
 other_raised shape g h was other others rest le ne k =
@@ -109,7 +118,14 @@ salvage_raised shape g was is others rest k = not_next g (sym (k.stays (one g (G
 
 pub salvage_lost : SalvageLost
 salvage_lost shape g was is some k =
-    let left = k.salvage (0, some, ((λ n small. nothing_listed (shape.place.first + 4 * 0 + n)), nothing_listed (0 + 1))) in
+    let left = k.salvage (
+      0,
+      some,
+      (
+        (λ n small. nothing_listed (shape.place.first + 4 * 0 + n)),
+        nothing_listed (0 + 1),
+      ),
+    ) in
     not_none left.0 (sym left.1)
 
 -- ---- storages in use
@@ -134,18 +150,22 @@ in_use shape image index v clean used =
       areas = λ f none. refl;
     }
 
-entry_named : (shape : Shape) (image : Image) (index : Index) (v : View) (old : IndexEntry) → IsInUse shape image index v → In old index.entries
+entry_named : (shape : Shape) (image : Image) (index : Index) (v : View) (old : IndexEntry)
+    → IsInUse shape image index v → In old index.entries
     → IsMended (entry_view image shape.place shape.m old).content (entry_view image shape.place shape.m old).lacking
 entry_named shape image index v old used h =
     all_in (λ (e : Entry). IsMended e.content e.lacking) (map (entry_view image shape.place shape.m) index.entries)
-    (subst (λ (es : List Entry). AllByRecursion (λ (e : Entry). IsMended e.content e.lacking) es) used.entries used.mended)
+    (subst (λ (es : List Entry). AllByRecursion (λ (e : Entry). IsMended e.content e.lacking) es) used.entries
+    used.mended)
     (entry_view image shape.place shape.m old) (map-In (entry_view image shape.place shape.m) old index.entries h)
 
 abbrev content_at : Shape → Image → Where → Content
-content_at shape image at = content_of (value_at image shape at) (first_content (gifts (gift_of image shape at) shape.place.copies))
+content_at shape image at = content_of (value_at image shape at)
+    (first_content (gifts (gift_of image shape at) shape.place.copies))
 
 abbrev lacking_at : Shape → Image → Where → List ℕ
-lacking_at shape image at = lacking (value_at image shape at) shape.place.first shape.place.copies at.blocks at.len at.hash image
+lacking_at shape image at = lacking (value_at image shape at) shape.place.first shape.place.copies at.blocks at.len
+    at.hash image
 
 -- what is seen of an entry goes by where its content lies
 seen_by : (shape : Shape) (image : Image) (a b : IndexEntry) → where_of a ≡ where_of b
@@ -160,32 +180,38 @@ carried shape image index v old e f used there same headed content =
     let seen = seen_by shape image e old same in
     record {
       headed = headed;
-      named = In-Contains (where_of e) (map where_of index.entries) (subst (λ (x : Where). In x (map where_of index.entries)) (sym same) (map-In where_of old index.entries h));
+      named = In-Contains (where_of e) (map where_of index.entries)
+          (subst (λ (x : Where). In x (map where_of index.entries)) (sym same) (map-In where_of old index.entries h));
       content = content ∙ sym seen.0;
       mended = subst (λ (x : Content). IsMended x (entry_view image shape.place shape.m e).lacking) (sym seen.0)
-          (subst (λ (xs : List ℕ). IsMended (entry_view image shape.place shape.m old).content xs) (sym seen.1) (entry_named shape image index v old used h));
+          (subst (λ (xs : List ℕ). IsMended (entry_view image shape.place shape.m old).content xs) (sym seen.1)
+          (entry_named shape image index v old used h));
     }
 
 pub whole : WholeLaw
 unfolding entry_view
 whole shape image e v good none c lt =
-    spared_has shape image (where_of e) v c (good_is (value_at image shape (where_of e)) (first_content (gifts (gift_of image shape (where_of e)) shape.place.copies)) v good) lt
+    spared_has shape image (where_of e) v c (good_is (value_at image shape (where_of e))
+    (first_content (gifts (gift_of image shape (where_of e)) shape.place.copies)) v good) lt
     (λ listed. nothing_listed (c + 1) (subst (λ (xs : List ℕ). Contains xs (c + 1)) none listed))
 
 -- ---- what a survey finds
 
-found_pick : {A : Type 0} (q : A → Bool) (xs : List A) (x : A) → find q xs ≡ Some x → (r : A × List A) × (picked q xs ≡ Some r) × (r.0 ≡ x)
+found_pick : {A : Type 0} (q : A → Bool) (xs : List A) (x : A) → find q xs ≡ Some x
+    → (r : A × List A) × (picked q xs ≡ Some r) × (r.0 ≡ x)
 found_pick q [] x e = absurd (not_none x (sym e))
-found_pick {A} q (y ∷ ys) x e = elim (q y) as (λ b. cond b (Some y) (find q ys) ≡ Some x → (r : A × List A) × (cond b (Some (y, ys)) (beside y (picked q ys)) ≡ Some r) × (r.0 ≡ x)) [
-  | true ↦ λ e. ((y, ys), refl, some_is y x e)
-  | false ↦ λ e. let r = found_pick q ys x e in ((r.0.0, y ∷ r.0.1), ap (beside y) r.1, r.2)
-] e
+found_pick {A} q (y ∷ ys) x e = elim (q y) as (λ b. cond b (Some y) (find q ys) ≡ Some x
+    → (r : A × List A) × (cond b (Some (y, ys)) (beside y (picked q ys)) ≡ Some r) × (r.0 ≡ x)) [
+      | true ↦ λ e. ((y, ys), refl, some_is y x e)
+      | false ↦ λ e. let r = found_pick q ys x e in ((r.0.0, y ∷ r.0.1), ap (beside y) r.1, r.2)
+    ] e
 
 pub opened : OpenedLaw
 unfolding store_at
 opened shape start text e =
     let (r, picks, same) = found_pick (qualifies start shape) (fit_texts shape start) text e in
-    let u = In-fit start shape r.0 ((picked_parts (qualifies start shape) (fit_texts shape start) r picks).1 r.0 (inl refl)) in
+    let u = In-fit start shape r.0 ((picked_parts (qualifies start shape) (fit_texts shape start) r picks).1 r.0
+    (inl refl)) in
     let is = u.is ∙ same in
     let generation : u.generation ≡ text.0.generation = ap (λ (x : FitText). x.0.generation) is in
     let its : u.text ≡ text.0.text = ap (λ (x : FitText). x.0.text) is in
@@ -193,8 +219,10 @@ opened shape start text e =
     record {
       copy = u.copy;
       inside = u.inside;
-      held = subst (λ (g : ℕ). Holds start shape.place.first u.copy g text.0.text) generation (subst (λ (t : List ℕ). Holds start shape.place.first u.copy u.generation t) its u.holds);
-      fit = subst (λ (i : Index). fit_index shape text.0.text ≡ Some i) index (subst (λ (t : List ℕ). fit_index shape t ≡ Some u.index) its u.fit);
+      held = subst (λ (g : ℕ). Holds start shape.place.first u.copy g text.0.text) generation
+          (subst (λ (t : List ℕ). Holds start shape.place.first u.copy u.generation t) its u.holds);
+      fit = subst (λ (i : Index). fit_index shape text.0.text ≡ Some i) index
+          (subst (λ (t : List ℕ). fit_index shape t ≡ Some u.index) its u.fit);
       view = view_of start shape r.0;
       others = map (view_of start shape) r.1;
       opens = ap (state_of (view_of start shape) (fit_texts shape start)) picks;

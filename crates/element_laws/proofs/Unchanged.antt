@@ -1,5 +1,6 @@
 -- What a storage is on two images that agree on the files of its place.
-use Rattle.std.proofs.Common.{◌≡◌, ℕ, zero, suc, ◌+◌, ◌<◌, ◌≤◌, Bool, cond, ◌&&◌, not, List, [], ◌∷◌, length, Option, Some, None, refl, sym, ap, subst, ◌∙◌, arith, ⊎_elim}
+use Rattle.std.proofs.Common.{◌≡◌, ℕ, zero, suc, ◌+◌, ◌<◌, ◌≤◌, Bool, cond, ◌&&◌, not, List, [], ◌∷◌, length, Option}
+use Rattle.std.proofs.Common.{Some, None, refl, sym, ap, subst, ◌∙◌, arith, ⊎_elim}
 use Rattle.std.specs.Prelude.{map, is_some, nat_le}
 use Rattle.std.specs.List.{filter, range_with_len, list_all}
 use Rattle.per_base.specs.declared.elements.Scope.{Scope}
@@ -21,7 +22,8 @@ use Rattle.index_text.specs.Spelling.{index_text}
 use Rattle.element_state.specs.declared.shapes.Shape.{Shape}
 use Rattle.element_state.specs.declared.shapes.View.{View}
 use Rattle.element_state.specs.Fit.{FitText, fit_among, fit_texts, is_settled}
-use Rattle.element_state.specs.Views.{holds_text, counts, holds_all, supporters, qualifies, given, content_of, entry_view, entries_of, store_lacking, lacks_number, view_of}
+use Rattle.element_state.specs.Views.{holds_text, counts, holds_all, supporters, qualifies, given, content_of}
+use Rattle.element_state.specs.Views.{entry_view, entries_of, store_lacking, lacks_number, view_of}
 use Rattle.element_state.specs.States.{Opens, corrupt_state, store_at, state_of, picked, beside}
 use Rattle.element_state.specs.Clean.{counting_at, IsNamed, IsClean}
 use Rattle.element_state.specs.Conditions.{IsInUse}
@@ -32,16 +34,19 @@ use Rattle.element_laws.proofs.Phases.{untouched}
 
 -- ---- lists by functions that agree
 
-map_alike : {B : Type 0} (f g : ℕ → B) (a n : ℕ) → ((k : ℕ) → k < a + n → f k ≡ g k) → map f (range_with_len a n) ≡ map g (range_with_len a n)
+map_alike : {B : Type 0} (f g : ℕ → B) (a n : ℕ) → ((k : ℕ) → k < a + n → f k ≡ g k)
+    → map f (range_with_len a n) ≡ map g (range_with_len a n)
 map_alike f g a zero same = refl
 map_alike f g a (suc n) same =
     ap (λ x. x ∷ map f (range_with_len (a + 1) n)) (same a (omega arith))
     ∙ ap (λ xs. g a ∷ xs) (map_alike f g (a + 1) n (λ k lt. same k (omega (arith, lt))))
 
-filter_alike : (f g : ℕ → Bool) (a n : ℕ) → ((k : ℕ) → k < a + n → f k ≡ g k) → filter f (range_with_len a n) ≡ filter g (range_with_len a n)
+filter_alike : (f g : ℕ → Bool) (a n : ℕ) → ((k : ℕ) → k < a + n → f k ≡ g k)
+    → filter f (range_with_len a n) ≡ filter g (range_with_len a n)
 filter_alike f g a zero same = refl
 filter_alike f g a (suc n) same =
-    ap (λ b. cond b (a ∷ filter f (range_with_len (a + 1) n)) (filter f (range_with_len (a + 1) n))) (same a (omega arith))
+    ap (λ b. cond b (a ∷ filter f (range_with_len (a + 1) n)) (filter f (range_with_len (a + 1) n)))
+    (same a (omega arith))
     ∙ ap (λ xs. cond (g a) (a ∷ xs) xs) (filter_alike f g (a + 1) n (λ k lt. same k (omega (arith, lt))))
 
 map_each : {A B : Type 0} (f g : A → B) → ((x : A) → f x ≡ g x) → (xs : List A) → map f xs ≡ map g xs
@@ -67,13 +72,23 @@ module _ (shape : Shape) (old new : Image) (same : (f : ℕ) → IsOfPlace shape
   abbrev copies : ℕ
   copies = shape.place.copies
 
-  slot_same : (copy parity : ℕ) → copy < copies → parity < 2 → new (slot first copy parity) ≡ old (slot first copy parity)
-  slot_same copy parity lt small = same (slot first copy parity) (record { copy = copy; kind = parity; inside = lt; small = omega (arith, small); is = refl })
+  slot_same : (copy parity : ℕ) → copy < copies → parity < 2
+      → new (slot first copy parity) ≡ old (slot first copy parity)
+  slot_same copy parity lt small = same (slot first copy parity)
+      (record { copy = copy; kind = parity; inside = lt; small = omega (arith, small); is = refl })
 
   area_same : (copy : ℕ) → copy < copies → new (area first copy) ≡ old (area first copy)
-  area_same copy lt = same (area first copy) (record { copy = copy; kind = 2; inside = lt; small = omega arith; is = refl })
+  area_same copy lt = same (area first copy) (record {
+    copy = copy;
+    kind = 2;
+    inside = lt;
+    small = omega arith;
+    is =
+        refl;
+  })
 
-  own_same : (copy generation : ℕ) → copy < copies → new (slot first copy (own generation)) ≡ old (slot first copy (own generation))
+  own_same : (copy generation : ℕ) → copy < copies → new (slot first copy (own generation))
+      ≡ old (slot first copy (own generation))
   own_same copy generation lt = slot_same copy (own generation) lt (omega arith)
 
   held_same : (n : ℕ) → n ≤ copies → held new first n ≡ held old first n
@@ -81,46 +96,59 @@ module _ (shape : Shape) (old new : Image) (same : (f : ℕ) → IsOfPlace shape
   held_same zero le = refl
   held_same (suc copy) le =
       let lt : copy < copies = omega (arith, le) in
-      ap (λ bytes. with_slot (copy + 1) (of_parity 1 (verified bytes)) (with_slot (copy + 1) (of_parity 0 (verified (new (slot first copy 0)))) (held new first copy)))
+      ap (λ bytes. with_slot (copy + 1) (of_parity 1 (verified bytes))
+      (with_slot (copy + 1) (of_parity 0 (verified (new (slot first copy 0)))) (held new first copy)))
       (slot_same copy 1 lt (omega arith))
-      ∙ ap (λ bytes. with_slot (copy + 1) (of_parity 1 (verified (old (slot first copy 1)))) (with_slot (copy + 1) (of_parity 0 (verified bytes)) (held new first copy)))
+      ∙ ap (λ bytes. with_slot (copy + 1) (of_parity 1 (verified (old (slot first copy 1))))
+      (with_slot (copy + 1) (of_parity 0 (verified bytes)) (held new first copy)))
       (slot_same copy 0 lt (omega arith))
-      ∙ ap (λ seens. with_slot (copy + 1) (of_parity 1 (verified (old (slot first copy 1)))) (with_slot (copy + 1) (of_parity 0 (verified (old (slot first copy 0)))) seens))
+      ∙ ap (λ seens. with_slot (copy + 1) (of_parity 1 (verified (old (slot first copy 1))))
+      (with_slot (copy + 1) (of_parity 0 (verified (old (slot first copy 0)))) seens))
       (held_same copy (omega (arith, le)))
 
   fit_same : fit_texts shape new ≡ fit_texts shape old
   unfolding fit_texts
   fit_same = ap (fit_among shape) (held_same copies (omega arith))
 
-  text_same : (text : FitText) (copy : ℕ) → copy < copies → holds_text new shape.place text copy ≡ holds_text old shape.place text copy
-  text_same text copy lt = ap (λ bytes. is_text (text.0.generation, text.0.text) (verified bytes)) (own_same copy text.0.generation lt)
+  text_same : (text : FitText) (copy : ℕ) → copy < copies
+      → holds_text new shape.place text copy ≡ holds_text old shape.place text copy
+  text_same text copy lt = ap (λ bytes. is_text (text.0.generation, text.0.text) (verified bytes))
+      (own_same copy text.0.generation lt)
 
-  counts_same : (e : IndexEntry) (copy : ℕ) → copy < copies → counts new shape.place e copy ≡ counts old shape.place e copy
+  counts_same : (e : IndexEntry) (copy : ℕ) → copy < copies
+      → counts new shape.place e copy ≡ counts old shape.place e copy
   counts_same e copy lt = ap (λ file. is_some (counting file e.blocks e.len e.hash)) (area_same copy lt)
 
-  all_same : (text : FitText) (copy : ℕ) → copy < copies → holds_all new shape.place text copy ≡ holds_all old shape.place text copy
+  all_same : (text : FitText) (copy : ℕ) → copy < copies
+      → holds_all new shape.place text copy ≡ holds_all old shape.place text copy
   all_same text copy lt =
       ap (λ b. b && list_all (λ e. counts new shape.place e copy) text.1.entries) (text_same text copy lt)
       ∙ ap (λ b. holds_text old shape.place text copy && b)
-      (all_each (λ e. counts new shape.place e copy) (λ e. counts old shape.place e copy) (λ e. counts_same e copy lt) text.1.entries)
+      (all_each (λ e. counts new shape.place e copy) (λ e. counts old shape.place e copy) (λ e. counts_same e copy lt)
+      text.1.entries)
 
   supporters_same : (s : Scope) (text : FitText) → supporters s new shape.place text ≡ supporters s old shape.place text
   supporters_same scope.Element text = refl
-  supporters_same scope.Storage text = copies_alike (holds_all new shape.place text) (holds_all old shape.place text) copies (all_same text)
+  supporters_same scope.Storage text = copies_alike (holds_all new shape.place text) (holds_all old shape.place text)
+      copies (all_same text)
 
   qualifies_same : (text : FitText) → qualifies new shape text ≡ qualifies old shape text
   qualifies_same text = ap (λ xs. nat_le shape.m (length xs)) (supporters_same shape.scope text)
 
   given_same : (e : IndexEntry) → given new shape.place e ≡ given old shape.place e
-  given_same e = map_alike (λ c. counting (new (area first c)) e.blocks e.len e.hash) (λ c. counting (old (area first c)) e.blocks e.len e.hash) 0 copies
+  given_same e = map_alike (λ c. counting (new (area first c)) e.blocks e.len e.hash)
+      (λ c. counting (old (area first c)) e.blocks e.len e.hash) 0 copies
       (λ c lt. ap (λ file. counting file e.blocks e.len e.hash) (area_same c (omega (arith, lt))))
 
   lacking_same : (value : Option (List ℕ)) (e : IndexEntry)
       → lacking value first copies e.blocks e.len e.hash new ≡ lacking value first copies e.blocks e.len e.hash old
   lacking_same value e = ap (map suc) (filter_alike
-      (λ c. lacks value (counting (new (area first c)) e.blocks e.len e.hash) (within (new (area first c)) e.blocks e.len))
-      (λ c. lacks value (counting (old (area first c)) e.blocks e.len e.hash) (within (old (area first c)) e.blocks e.len)) 0 copies
-      (λ c lt. ap (λ file. lacks value (counting file e.blocks e.len e.hash) (within file e.blocks e.len)) (area_same c (omega (arith, lt)))))
+      (λ c. lacks value (counting (new (area first c)) e.blocks e.len e.hash)
+      (within (new (area first c)) e.blocks e.len))
+      (λ c. lacks value (counting (old (area first c)) e.blocks e.len e.hash)
+      (within (old (area first c)) e.blocks e.len)) 0 copies
+      (λ c lt. ap (λ file. lacks value (counting file e.blocks e.len e.hash) (within file e.blocks e.len))
+      (area_same c (omega (arith, lt)))))
 
   abbrev seen : (e : IndexEntry) → List (Option (List ℕ)) → List ℕ → Entry
   seen e gives lacks_it = record {
@@ -138,32 +166,46 @@ module _ (shape : Shape) (old new : Image) (same : (f : ℕ) → IsOfPlace shape
       ap (λ gives. seen e gives (lacking (voted shape.m gives) first copies e.blocks e.len e.hash new)) (given_same e)
       ∙ ap (λ xs. seen e (given old shape.place e) xs) (lacking_same (voted shape.m (given old shape.place e)) e)
 
-  entries_same : (es : List IndexEntry) → map (entry_view new shape.place shape.m) es ≡ map (entry_view old shape.place shape.m) es
+  entries_same : (es : List IndexEntry) → map (entry_view new shape.place shape.m) es
+      ≡ map (entry_view old shape.place shape.m) es
   entries_same es = map_each (entry_view new shape.place shape.m) (entry_view old shape.place shape.m) entry_same es
 
   view_same : (text : FitText) → view_of new shape text ≡ view_of old shape text
   unfolding view_of
   view_same text =
       let view = λ (settled : List FitText) (entries : List Entry) (lacks_it : List ℕ).
-      (let v : View = record { generation = text.0.generation; lacking = lacks_it; settled = is_settled settled; entries = entries } in v) in
-      let lacks_by = λ (image : Image) (entries : List Entry). store_lacking shape.scope (λ copy. not (holds_text image shape.place text copy)) entries copies in
+      (let v : View = record {
+        generation = text.0.generation;
+        lacking = lacks_it;
+        settled =
+            is_settled settled;
+        entries = entries;
+      } in v) in
+      let lacks_by = λ (image : Image) (entries : List Entry).
+      store_lacking shape.scope (λ copy. not (holds_text image shape.place text copy)) entries copies in
       ap (λ texts. view texts (entries_of new shape text) (lacks_by new (entries_of new shape text))) fit_same
       ∙ ap (λ entries. view (fit_texts shape old) entries (lacks_by new entries)) (entries_same text.1.entries)
       ∙ ap (view (fit_texts shape old) (entries_of old shape text)) (copies_alike
-      (λ copy. lacks_number shape.scope (not (holds_text new shape.place text copy)) (entries_of old shape text) (copy + 1))
-      (λ copy. lacks_number shape.scope (not (holds_text old shape.place text copy)) (entries_of old shape text) (copy + 1)) copies
-      (λ copy lt. ap (λ b. lacks_number shape.scope (not b) (entries_of old shape text) (copy + 1)) (text_same text copy lt)))
+      (λ copy. lacks_number shape.scope (not (holds_text new shape.place text copy)) (entries_of old shape text)
+      (copy + 1))
+      (λ copy. lacks_number shape.scope (not (holds_text old shape.place text copy)) (entries_of old shape text)
+      (copy + 1)) copies
+      (λ copy lt. ap (λ b. lacks_number shape.scope (not b) (entries_of old shape text) (copy + 1))
+      (text_same text copy lt)))
 
-  state_by : (texts : List FitText) (o : Option (FitText × List FitText)) → state_of (view_of new shape) texts o ≡ state_of (view_of old shape) texts o
+  state_by : (texts : List FitText) (o : Option (FitText × List FitText))
+      → state_of (view_of new shape) texts o ≡ state_of (view_of old shape) texts o
   state_by texts None = ap corrupt_state (map_each (view_of new shape) (view_of old shape) view_same texts)
   state_by texts (Some found) = ap (λ v. Opens v (map (view_of new shape) found.1)) (view_same found.0)
-      ∙ ap (λ views. Opens (view_of old shape found.0) views) (map_each (view_of new shape) (view_of old shape) view_same found.1)
+      ∙ ap (λ views. Opens (view_of old shape found.0) views)
+      (map_each (view_of new shape) (view_of old shape) view_same found.1)
 
   pub state_same : store_at new shape ≡ store_at old shape
   unfolding store_at
   state_same =
       ap (λ texts. state_of (view_of new shape) texts (picked (qualifies new shape) texts)) fit_same
-      ∙ ap (state_of (view_of new shape) (fit_texts shape old)) (picked_each (qualifies new shape) (qualifies old shape) qualifies_same (fit_texts shape old))
+      ∙ ap (state_of (view_of new shape) (fit_texts shape old))
+      (picked_each (qualifies new shape) (qualifies old shape) qualifies_same (fit_texts shape old))
       ∙ state_by (fit_texts shape old) (picked (qualifies old shape) (fit_texts shape old))
 
   -- ---- a clean place
@@ -183,14 +225,18 @@ module _ (shape : Shape) (old new : Image) (same : (f : ℕ) → IsOfPlace shape
     named = is.named;
   }
 
-  counting_back : (copy : ℕ) (at : Where) (w : List ℕ) → copy < copies → counting_at new shape.place copy at ≡ Some w → counting_at old shape.place copy at ≡ Some w
-  counting_back copy at w lt e = subst (λ (file : List ℕ). counting file at.blocks at.len at.hash ≡ Some w) (area_same copy lt) e
+  counting_back : (copy : ℕ) (at : Where) (w : List ℕ) → copy < copies → counting_at new shape.place copy at ≡ Some w
+      → counting_at old shape.place copy at ≡ Some w
+  counting_back copy at w lt e = subst (λ (file : List ℕ). counting file at.blocks at.len at.hash ≡ Some w)
+      (area_same copy lt) e
 
   clean_same : IsClean shape old → IsClean shape new
   clean_same clean = record {
-    one_each = λ a b g s t alt blt va vb. clean.one_each a b g s t alt blt (holds_back a g s alt va) (holds_back b g t blt vb);
+    one_each = λ a b g s t alt blt va vb. clean.one_each a b g s t alt blt (holds_back a g s alt va)
+        (holds_back b g t blt vb);
     fit = λ copy g t lt v. clean.fit copy g t lt (holds_back copy g t lt v);
-    alike = λ at a b s t named alt blt ea eb. clean.alike at a b s t (named_back at named) alt blt (counting_back a at s alt ea) (counting_back b at t blt eb);
+    alike = λ at a b s t named alt blt ea eb. clean.alike at a b s t (named_back at named) alt blt
+        (counting_back a at s alt ea) (counting_back b at t blt eb);
   }
 
   -- ---- in use
@@ -221,12 +267,16 @@ frame shape old new spares = unchanged shape old new spares
 
 pub outside : OutsideLaw
 outside one other apart file is copy k lt small e = ⊎_elim
-    (λ before. (let at = is.is in let inside = is.inside in let kind = is.small in absurd (omega (arith, before, at, inside, kind, e, lt, small))))
-    (λ after. (let at = is.is in let inside = is.inside in let kind = is.small in absurd (omega (arith, after, at, inside, kind, e, lt, small))))
+    (λ before. (let at = is.is in let inside = is.inside in let kind =
+    is.small in absurd (omega (arith, before, at, inside, kind, e, lt, small))))
+    (λ after. (let at = is.is in let inside = is.inside in let kind =
+    is.small in absurd (omega (arith, after, at, inside, kind, e, lt, small))))
     apart
 
 pub elsewhere : ElsewhereLaw
-elsewhere one shape old new apart spares = unchanged shape old new (λ f is. spares f (outside one shape.place apart f is))
+elsewhere one shape old new apart spares = unchanged shape old new
+    (λ f is. spares f (outside one shape.place apart f is))
 
 pub elsewhere_case : ElsewhereCaseLaw
-elsewhere_case one shape start after c some apart clean settled = untouched shape start after c some clean (settled_less (outside one shape.place apart) settled)
+elsewhere_case one shape start after c some apart clean settled =
+    untouched shape start after c some clean (settled_less (outside one shape.place apart) settled)

@@ -1,5 +1,6 @@
 -- What a stop in each phase of a call leaves of a storage: the statements of the laws.
-use Rattle.std.specs.Prelude.{◌≡◌, ◌⊎◌, ℕ, ◌+◌, ◌*◌, ◌<◌, ◌≤◌, List, [], length, slice_index, map, Bool, true, false, Option, Some, find, None}
+use Rattle.std.specs.Prelude.{◌≡◌, ◌⊎◌, ℕ, ◌+◌, ◌*◌, ◌<◌, ◌≤◌, List, [], length, slice_index, map, Bool, true, false}
+use Rattle.std.specs.Prelude.{Option, Some, find, None}
 use Rattle.std.specs.List.{AllByRecursion, AllZip, Contains}
 use Rattle.per_base.specs.declared.elements.Entry.{Entry}
 use Rattle.per_base.specs.declared.elements.Content.TheVariants.{Good}
@@ -44,12 +45,14 @@ pub record IsOfPlace (place : Place) (file : ℕ) : Type 0 where
 
 -- damage alone keeps a storage, and its place clean
 abbrev pub DamageLaw : Type 0
-DamageLaw = (shape : Shape) (start left : Image) (damaged : List ℕ) → 1 ≤ shape.m → IsClean shape start → DecaysFor (IsPiece shape.place) damaged start left
+DamageLaw = (shape : Shape) (start left : Image) (damaged : List ℕ) → 1 ≤ shape.m → IsClean shape start
+    → DecaysFor (IsPiece shape.place) damaged start left
     → Kept shape damaged (store_at left shape) (store_at start shape) (store_at start shape) × IsClean shape left
 
 -- and so it is kept while others call, whatever its next state is to be
 abbrev pub UntouchedLaw : Type 0
-UntouchedLaw = (shape : Shape) (start : Image) (after : State) (c : Case) → 1 ≤ shape.m → IsClean shape start → IsSettledOn (IsOfPlace shape.place) start c
+UntouchedLaw = (shape : Shape) (start : Image) (after : State) (c : Case) → 1 ≤ shape.m → IsClean shape start
+    → IsSettledOn (IsOfPlace shape.place) start c
     → IsKeptCase shape start after c
 
 -- ---- where a storage stands
@@ -67,18 +70,22 @@ pub record OpensAt (shape : Shape) (start : Image) (generation : ℕ) (text : Li
 
 -- it opens at the first of its texts that qualifies
 abbrev pub OpenedLaw : Type 0
-OpenedLaw = (shape : Shape) (start : Image) (text : FitText) → find (qualifies start shape) (fit_texts shape start) ≡ Some text
+OpenedLaw = (shape : Shape) (start : Image) (text : FitText)
+    → find (qualifies start shape) (fit_texts shape start) ≡ Some text
     → OpensAt shape start text.0.generation text.0.text text.1
 
 -- it is corrupt
 abbrev pub IsCorruptAt : Shape → Image → Type 0
-IsCorruptAt shape start = (salvage : Option View) × (others : List View) × (store_at start shape ≡ Corrupt salvage others)
+IsCorruptAt shape start = (salvage : Option View) × (others : List View)
+    × (store_at start shape ≡ Corrupt salvage others)
 
 -- where none qualifies
 abbrev pub CorruptLaw : Type 0
-CorruptLaw = (shape : Shape) (start : Image) → find (qualifies start shape) (fit_texts shape start) ≡ None → IsCorruptAt shape start
+CorruptLaw = (shape : Shape) (start : Image) → find (qualifies start shape) (fit_texts shape start) ≡ None
+    → IsCorruptAt shape start
 
--- From a clean start at which a storage opens at a text, its place came to hold this text alone, in every copy, with the contents as they were.
+-- From a clean start at which a storage opens at a text, its place came to hold this text alone, in every copy, with
+-- the contents as they were.
 pub record IsAdopted (shape : Shape) (start now : Image) (generation : ℕ) (text : List ℕ) (index : Index) : Type 0 where
   pub clean : IsClean shape start
   pub opens : OpensAt shape start generation text index
@@ -89,44 +96,51 @@ pub record IsAdopted (shape : Shape) (start now : Image) (generation : ℕ) (tex
 abbrev pub IsSalvageAt : Shape → Image → FitText → Type 0
 IsSalvageAt shape start text = chosen start shape ≡ Some (false, text)
 
--- From a clean start at which a storage is corrupt, copies came to hold less, with the contents as they were; each still holds the text of
--- the salvage.
+-- From a clean start at which a storage is corrupt, copies came to hold less, with the contents as they were; each
+-- still holds the text of the salvage.
 pub record IsGivenUp (shape : Shape) (start now : Image) : Type 0 where
   pub clean : IsClean shape start
   pub corrupt : IsCorruptAt shape start
   pub less : HoldsLess shape.place.first shape.place.copies start now
-  pub salvage : (text : FitText) → IsSalvageAt shape start text → KeepsText shape.place.first shape.place.copies text.0.generation text.0.text [] start now
+  pub salvage : (text : FitText) → IsSalvageAt shape start text
+      → KeepsText shape.place.first shape.place.copies text.0.generation text.0.text [] start now
   pub areas : Spares (IsNoSlot shape.place.first shape.place.copies) start now
 
 -- ---- the index is adopted, or given up but for one text
 
 -- bringing every copy to the text at which a storage opens
 abbrev pub AdoptLaw : Type 0
-AdoptLaw = (shape : Shape) (start : Image) (generation : ℕ) (text : List ℕ) (index : Index) (after : State) (c : Case) → 1 ≤ shape.m → IsClean shape start
+AdoptLaw = (shape : Shape) (start : Image) (generation : ℕ) (text : List ℕ) (index : Index) (after : State) (c : Case)
+    → 1 ≤ shape.m → IsClean shape start
     → OpensAt shape start generation text index → PutStops shape.place.first shape.place.copies generation text start c
     → IsKeptCase shape start after c
 
 -- taking every text away but that of the salvage of a corrupt storage
 abbrev pub KeepLaw : Type 0
-KeepLaw = (shape : Shape) (start : Image) (text : FitText) (after : State) (c : Case) → 1 ≤ shape.m → IsClean shape start → IsSalvageAt shape start text
-    → KeepStops shape.place.first shape.place.copies text.0.generation text.0.text start c → IsKeptCase shape start after c
+KeepLaw = (shape : Shape) (start : Image) (text : FitText) (after : State) (c : Case) → 1 ≤ shape.m
+    → IsClean shape start → IsSalvageAt shape start text
+    → KeepStops shape.place.first shape.place.copies text.0.generation text.0.text start c
+    → IsKeptCase shape start after c
 
 -- ---- contents are written
 
 -- the blocks of the index are in the set
 abbrev pub TakesBlocks : (taken : ℕ → Bool) → Index → Type 0
-TakesBlocks taken index = AllByRecursion (λ (e : IndexEntry). (i : ℕ) → i < length e.blocks → taken (slice_index e.blocks i) ≡ true) index.entries
+TakesBlocks taken index = AllByRecursion (λ (e : IndexEntry). (i : ℕ) → i < length e.blocks
+    → taken (slice_index e.blocks i) ≡ true) index.entries
 
 -- writing contents into blocks outside those of the text that is held alone
 abbrev pub ContentsLaw : Type 0
-ContentsLaw = (shape : Shape) (start now : Image) (generation : ℕ) (text : List ℕ) (index : Index) (taken : ℕ → Bool) (after : State) (old c : Case) → 1 ≤ shape.m
+ContentsLaw = (shape : Shape) (start now : Image) (generation : ℕ) (text : List ℕ) (index : Index) (taken : ℕ → Bool)
+    (after : State) (old c : Case) → 1 ≤ shape.m
     → IsAdopted shape start now generation text index → IsIndex index → TakesBlocks taken index
     → IsSettledAt now old → KeepsCase (IsNoArea shape.place.first shape.place.copies) (λ k. taken k ≡ true) old c
     → IsKeptCase shape start after c
 
 -- and after they were made durable
 abbrev pub ContentsDoneLaw : Type 0
-ContentsDoneLaw = (shape : Shape) (start now then : Image) (generation : ℕ) (text : List ℕ) (index : Index) (taken : ℕ → Bool) (after : State) (c : Case) → 1 ≤ shape.m
+ContentsDoneLaw = (shape : Shape) (start now then : Image) (generation : ℕ) (text : List ℕ) (index : Index)
+    (taken : ℕ → Bool) (after : State) (c : Case) → 1 ≤ shape.m
     → IsAdopted shape start now generation text index → IsIndex index → TakesBlocks taken index
     → Keeps (IsNoArea shape.place.first shape.place.copies) (λ k. taken k ≡ true) now then → IsSettledAt then c
     → IsKeptCase shape start after c
@@ -136,7 +150,8 @@ ContentsDoneLaw = (shape : Shape) (start now then : Image) (generation : ℕ) (t
 -- every copy gives this value under the entry, and has all of its bytes
 abbrev pub AllWhole : Shape → Image → IndexEntry → List ℕ → Type 0
 AllWhole shape image e value = (copy : ℕ) → copy < shape.place.copies
-    → (counting_at image shape.place copy (where_of e) ≡ Some value) × (within (image (area shape.place.first copy)) e.blocks e.len ≡ true)
+    → (counting_at image shape.place copy (where_of e) ≡ Some value)
+    × (within (image (area shape.place.first copy)) e.blocks e.len ≡ true)
 
 -- the same name, info, length and number
 abbrev pub IsHeaded : IndexEntry → Entry → Type 0
@@ -154,11 +169,14 @@ pub record IsCarried (shape : Shape) (start : Image) (earlier : Index) (e : Inde
   pub headed : IsHeaded e f
   pub named : Contains (map where_of earlier.entries) (where_of e)
   pub content : f.content ≡ (entry_view start shape.place shape.m e).content
-  pub mended : IsMended (entry_view start shape.place shape.m e).content (entry_view start shape.place shape.m e).lacking
+  pub mended : IsMended (entry_view start shape.place shape.m e).content
+      (entry_view start shape.place shape.m e).lacking
 
--- writing the index of a storage under the next generation, after its contents: each new one is whole in every copy, and the others stay
+-- writing the index of a storage under the next generation, after its contents: each new one is whole in every copy,
+-- and the others stay
 abbrev pub IndexLaw : Type 0
-IndexLaw = (shape : Shape) (start now then : Image) (generation : ℕ) (text : List ℕ) (index : Index) (taken : ℕ → Bool) (next : List ℕ) (new_index : Index)
+IndexLaw = (shape : Shape) (start now then : Image) (generation : ℕ) (text : List ℕ) (index : Index) (taken : ℕ → Bool)
+    (next : List ℕ) (new_index : Index)
     (view : View) (others : List View) (c : Case) → 1 ≤ shape.m
     → IsAdopted shape start now generation text index → IsIndex index → TakesBlocks taken index
     → Keeps (IsNoArea shape.place.first shape.place.copies) (λ k. taken k ≡ true) now then
@@ -172,9 +190,11 @@ IndexLaw = (shape : Shape) (start now then : Image) (generation : ℕ) (text : L
 -- after all texts but that of the salvage were taken away, copies hold less, and only that one
 abbrev pub GivenUpLaw : Type 0
 GivenUpLaw = (shape : Shape) (start now : Image) (text : FitText) → IsClean shape start → IsSalvageAt shape start text
-    → IsKeptAlone shape.place.first shape.place.copies text.0.generation text.0.text start now → Spares (IsNoSlot shape.place.first shape.place.copies) start now
+    → IsKeptAlone shape.place.first shape.place.copies text.0.generation text.0.text start now
+    → Spares (IsNoSlot shape.place.first shape.place.copies) start now
     → IsGivenUp shape start now
-    × ((copy h : ℕ) (u : List ℕ) → copy < shape.place.copies → Holds now shape.place.first copy h u → (h ≡ text.0.generation) × (u ≡ text.0.text))
+    × ((copy h : ℕ) (u : List ℕ) → copy < shape.place.copies → Holds now shape.place.first copy h u
+    → (h ≡ text.0.generation) × (u ≡ text.0.text))
 
 -- the contents that held indexes name lie in blocks of the set, and fill no more than these
 abbrev pub TakesNamed : (taken : ℕ → Bool) → Place → Image → Type 0
@@ -201,10 +221,11 @@ AnewDoneLaw = (shape : Shape) (start now then : Image) (taken : ℕ → Bool) (a
     → Keeps (IsNoArea shape.place.first shape.place.copies) (λ k. taken k ≡ true) now then → IsSettledAt then c
     → IsKeptCase shape start after c
 
--- and then the index, under a generation above those that are held: where there is a salvage the next one, so that each copy that holds its
--- text holds it until all have the new one
+-- and then the index, under a generation above those that are held: where there is a salvage the next one, so that each
+-- copy that holds its text holds it until all have the new one
 abbrev pub AnewIndexLaw : Type 0
-AnewIndexLaw = (shape : Shape) (start now then : Image) (taken : ℕ → Bool) (generation : ℕ) (next : List ℕ) (new_index : Index)
+AnewIndexLaw = (shape : Shape) (start now then : Image) (taken : ℕ → Bool) (generation : ℕ) (next : List ℕ)
+    (new_index : Index)
     (view : View) (others : List View) (c : Case) → 1 ≤ shape.m
     → IsGivenUp shape start now → TakesNamed taken shape.place now
     → ((copy h : ℕ) (u : List ℕ) → copy < shape.place.copies → Holds now shape.place.first copy h u → h < generation)
@@ -220,7 +241,8 @@ AnewIndexLaw = (shape : Shape) (start now then : Image) (taken : ℕ → Bool) (
 -- no two copies give different bytes under the entry
 abbrev pub AreAgreed : Shape → Image → IndexEntry → Type 0
 AreAgreed shape image e = (a b : ℕ) (s t : List ℕ) → a < shape.place.copies → b < shape.place.copies
-    → counting_at image shape.place a (where_of e) ≡ Some s → counting_at image shape.place b (where_of e) ≡ Some t → s ≡ t
+    → counting_at image shape.place a (where_of e) ≡ Some s → counting_at image shape.place b (where_of e) ≡ Some t
+    → s ≡ t
 
 -- a text that fits is held alone, and copies agree on each content of its index
 abbrev pub CleanLaw : Type 0
@@ -230,15 +252,18 @@ CleanLaw = (shape : Shape) (image : Image) (generation : ℕ) (text : List ℕ) 
 
 -- what was adopted is clean
 abbrev pub AdoptedLaw : Type 0
-AdoptedLaw = (shape : Shape) (start now : Image) (generation : ℕ) (text : List ℕ) (index : Index) → IsAdopted shape start now generation text index → IsClean shape now
+AdoptedLaw = (shape : Shape) (start now : Image) (generation : ℕ) (text : List ℕ) (index : Index)
+    → IsAdopted shape start now generation text index → IsClean shape now
 
 -- where nothing is pending and the place is clean, the case is sound
 abbrev pub SoundLaw : Type 0
-SoundLaw = (shape : Shape) (image : Image) (c : Case) → IsSettledAt image c → IsClean shape image → IsSound shape.place c
+SoundLaw = (shape : Shape) (image : Image) (c : Case) → IsSettledAt image c → IsClean shape image
+    → IsSound shape.place c
 
 -- and so the storage is kept on the image at the end of a phase
 abbrev pub SettledLaw : Type 0
-SettledLaw = (shape : Shape) (start image : Image) (after : State) (c : Case) → IsSettledAt image c → IsClean shape image
+SettledLaw = (shape : Shape) (start image : Image) (after : State) (c : Case) → IsSettledAt image c
+    → IsClean shape image
     → IsKeptCase shape start after c → Kept shape [] (store_at image shape) (store_at start shape) after
 
 -- ---- contents are mended in place
@@ -266,14 +291,17 @@ pub record TakesMend (shape : Shape) (start : Image) (e : IndexEntry) (copy : �
   pub listed : Contains (lacked shape start e) (copy + 1)
 
 -- no slot changed, and in each area the blocks of contents that are not mended there stand as they were
-pub record IsSparing (keeps : (blocks old new : List ℕ) → Type 0) (shape : Shape) (start now : Image) (index : Index) (image : Image) : Type 0 where
+pub record IsSparing (keeps : (blocks old new : List ℕ) → Type 0) (shape : Shape) (start now : Image) (index : Index)
+    (image : Image) : Type 0 where
   pub slots : Spares (IsNoArea shape.place.first shape.place.copies) now image
-  pub kept : AllByRecursion (λ (e : IndexEntry). (copy : ℕ) → copy < shape.place.copies → ¬ (TakesMend shape start e copy)
+  pub kept : AllByRecursion (λ (e : IndexEntry). (copy : ℕ) → copy < shape.place.copies
+      → ¬ (TakesMend shape start e copy)
       → keeps e.blocks (now (area shape.place.first copy)) (image (area shape.place.first copy))) index.entries
 
 -- the copies that lacked a content on which enough copies agree have all of it
 abbrev pub HasMended : Shape → (start image : Image) → Index → Type 0
-HasMended shape start image index = AllByRecursion (λ (e : IndexEntry). (value : List ℕ) → voted shape.m (given start shape.place e) ≡ Some value
+HasMended shape start image index = AllByRecursion (λ (e : IndexEntry). (value : List ℕ)
+    → voted shape.m (given start shape.place e) ≡ Some value
     → NamedFull shape.place.first (lacked shape start e) e.blocks value image) index.entries
 
 -- a case while contents are mended: what is durable is as before, or all of them mended
@@ -285,13 +313,17 @@ pub record IsMending (shape : Shape) (start now : Image) (index : Index) (c : Ca
 
 -- so it is at the beginning
 abbrev pub MendStartLaw : Type 0
-MendStartLaw = (shape : Shape) (start now : Image) (index : Index) (c : Case) → IsSettledAt now c → IsMending shape start now index c
+MendStartLaw = (shape : Shape) (start now : Image) (index : Index) (c : Case) → IsSettledAt now c
+    → IsMending shape start now index c
 
 -- after writing a content again, whole or cut short, in the copies that lacked it
 abbrev pub MendStepLaw : Type 0
-MendStepLaw = (shape : Shape) (start now : Image) (index : Index) (e : IndexEntry) (value : List ℕ) (old new : Case) → IsIndex index → Contains index.entries e
-    → voted shape.m (given start shape.place e) ≡ Some value → AreCopies shape.place.copies (lacked shape start e) → IsMending shape start now index old
-    → KeepsCase (IsNoneOf shape.place.first (lacked shape start e)) (IsApart e.blocks) old new → IsMending shape start now index new
+MendStepLaw = (shape : Shape) (start now : Image) (index : Index) (e : IndexEntry) (value : List ℕ) (old new : Case)
+    → IsIndex index → Contains index.entries e
+    → voted shape.m (given start shape.place e) ≡ Some value → AreCopies shape.place.copies (lacked shape start e)
+    → IsMending shape start now index old
+    → KeepsCase (IsNoneOf shape.place.first (lacked shape start e)) (IsApart e.blocks) old new
+    → IsMending shape start now index new
 
 -- and after a sync, once all of them are mended
 abbrev pub MendSyncLaw : Type 0
@@ -300,7 +332,8 @@ MendSyncLaw = (shape : Shape) (start now : Image) (index : Index) (old new : Cas
 
 -- mending contents in the copies that lack them, after the text was adopted
 abbrev pub MendLaw : Type 0
-MendLaw = (shape : Shape) (start now : Image) (generation : ℕ) (text : List ℕ) (index : Index) (after : State) (c : Case) → 1 ≤ shape.m
+MendLaw = (shape : Shape) (start now : Image) (generation : ℕ) (text : List ℕ) (index : Index) (after : State)
+    (c : Case) → 1 ≤ shape.m
     → IsAdopted shape start now generation text index → IsIndex index → IsMending shape start now index c
     → IsKeptCase shape start after c
 
@@ -308,15 +341,19 @@ MendLaw = (shape : Shape) (start now : Image) (generation : ℕ) (text : List �
 
 -- a storage in use on a clean image stands as one that was just adopted
 abbrev pub InUseLaw : Type 0
-InUseLaw = (shape : Shape) (image : Image) (index : Index) (v : View) → IsClean shape image → IsInUse shape image index v
+InUseLaw = (shape : Shape) (image : Image) (index : Index) (v : View) → IsClean shape image
+    → IsInUse shape image index v
     → IsAdopted shape image image v.generation (index_text index) index
 
 -- an entry that keeps its blocks, length and hash, beside an element that keeps its content
 abbrev pub CarriedLaw : Type 0
-CarriedLaw = (shape : Shape) (image : Image) (index : Index) (v : View) (old e : IndexEntry) (f : Entry) → IsInUse shape image index v → Contains index.entries old
-    → where_of e ≡ where_of old → IsHeaded e f → f.content ≡ (entry_view image shape.place shape.m old).content → IsCarried shape image index e f
+CarriedLaw = (shape : Shape) (image : Image) (index : Index) (v : View) (old e : IndexEntry) (f : Entry)
+    → IsInUse shape image index v → Contains index.entries old
+    → where_of e ≡ where_of old → IsHeaded e f → f.content ≡ (entry_view image shape.place shape.m old).content
+    → IsCarried shape image index e f
 
 -- an element that is seen good, and that no copy lacks, is whole in every copy
 abbrev pub WholeLaw : Type 0
-WholeLaw = (shape : Shape) (image : Image) (e : IndexEntry) (value : List ℕ) → (entry_view image shape.place shape.m e).content ≡ Good value
+WholeLaw = (shape : Shape) (image : Image) (e : IndexEntry) (value : List ℕ)
+    → (entry_view image shape.place shape.m e).content ≡ Good value
     → (entry_view image shape.place shape.m e).lacking ≡ [] → AllWhole shape image e value

@@ -10,19 +10,40 @@ use Rattle.element_state.specs.Kept.{Kept}
 
 -- an element of one byte, which these copies lack
 abbrev pub element : Content → (lacking : List ℕ) → Entry
-element content lacking = record { name = 97 ∷ []; info = None; changed = 1; len = 1; content = content; lacking = lacking }
+element content lacking = record {
+  name = 97 ∷ [];
+  info = None;
+  changed = 1;
+  len = 1;
+  content = content;
+  lacking =
+      lacking;
+}
 
 -- a view of this element alone
 abbrev pub one : (generation : ℕ) → Content → View
-one generation content = record { generation = generation; lacking = []; settled = true; entries = element content [] ∷ [] }
+one generation content = record {
+  generation = generation;
+  lacking = [];
+  settled = true;
+  entries =
+      element content [] ∷ [];
+}
 
 abbrev pub lacking_one : (generation copy : ℕ) → Content → View
-lacking_one generation copy content = record { generation = generation; lacking = []; settled = true; entries = element content ((copy + 1) ∷ []) ∷ [] }
+lacking_one generation copy content = record {
+  generation = generation;
+  lacking = [];
+  settled = true;
+  entries =
+      element content ((copy + 1) ∷ []) ∷ [];
+}
 
 -- an index that was written before its contents: it stands, and its element cannot be read
 abbrev pub IndexFirst : Type 0
 IndexFirst = (shape : Shape) (g : ℕ) (was is : List ℕ) → shape.m ≤ shape.place.copies
-    → ¬ (Kept shape [] (Opens (one (g + 1) (Bad None)) []) (Opens (one g (Good was)) []) (Opens (one (g + 1) (Good is)) []))
+    → ¬ (Kept shape [] (Opens (one (g + 1) (Bad None)) []) (Opens (one g (Good was)) [])
+    (Opens (one (g + 1) (Good is)) []))
 
 -- and so while a corrupt storage is made anew
 abbrev pub IndexFirstAnew : Type 0
@@ -42,22 +63,29 @@ OtherValue = (shape : Shape) (g : ℕ) (was is other : List ℕ) → other ≢ w
 -- a text beside the one that stands that was never the storage's: later damage would bring it up
 abbrev pub Planted : Type 0
 Planted = (shape : Shape) (g h : ℕ) (was is never : List ℕ) → h ≢ g → h ≢ g + 1
-    → ¬ (Kept shape [] (Opens (one g (Good was)) (one h (Good never) ∷ [])) (Opens (one g (Good was)) []) (Opens (one (g + 1) (Good is)) []))
+    → ¬ (Kept shape [] (Opens (one g (Good was)) (one h (Good never) ∷ [])) (Opens (one g (Good was)) [])
+    (Opens (one (g + 1) (Good is)) []))
 
 -- a copy of an element lost without damage to it
 abbrev pub CopyEaten : Type 0
 CopyEaten = (shape : Shape) (g copy : ℕ) (was is : List ℕ) → copy < shape.place.copies
-    → ¬ (Kept shape [] (Opens (lacking_one g copy (Good was)) []) (Opens (one g (Good was)) []) (Opens (one (g + 1) (Good is)) []))
+    → ¬ (Kept shape [] (Opens (lacking_one g copy (Good was)) []) (Opens (one g (Good was)) [])
+    (Opens (one (g + 1) (Good is)) []))
 
--- another text that is held, and that enough copies came to support by what was mended before the index was adopted: the storage opens at it
+-- another text that is held, and that enough copies came to support by what was mended before the index was adopted:
+-- the storage opens at it
 abbrev pub OtherRaised : Type 0
-OtherRaised = (shape : Shape) (g h : ℕ) (was other : List ℕ) (others rest : List View) → shape.m ≤ shape.place.copies → h ≢ g
-    → ¬ (Kept shape [] (Opens (one h (Good other)) rest) (Opens (one g (Good was)) others) (Opens (one g (Good was)) []))
+OtherRaised = (shape : Shape) (g h : ℕ) (was other : List ℕ) (others rest : List View) → shape.m ≤ shape.place.copies
+    → h ≢ g
+    → ¬ (Kept shape [] (Opens (one h (Good other)) rest) (Opens (one g (Good was)) others)
+    (Opens (one g (Good was)) []))
 
--- contents in blocks of the salvage of a corrupt storage, or beside a text that was not given up: the storage opens at what it did not open at
+-- contents in blocks of the salvage of a corrupt storage, or beside a text that was not given up: the storage opens at
+-- what it did not open at
 abbrev pub SalvageRaised : Type 0
 SalvageRaised = (shape : Shape) (g : ℕ) (was is : List ℕ) (others rest : List View)
-    → ¬ (Kept shape [] (Opens (one g (Good was)) rest) (Corrupt (Some (one g (Bad None))) others) (Opens (one (g + 1) (Good is)) []))
+    → ¬ (Kept shape [] (Opens (one g (Good was)) rest) (Corrupt (Some (one g (Bad None))) others)
+    (Opens (one (g + 1) (Good is)) []))
 
 -- a corrupt storage blanked before it is made anew: its salvage is lost
 abbrev pub SalvageLost : Type 0

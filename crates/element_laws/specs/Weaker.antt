@@ -4,7 +4,8 @@ use Rattle.disk_model.specs.Image.{Image}
 use Rattle.disk_model.specs.Case.{Case}
 use Rattle.disk_model.specs.Frame.{Keeps, Tears, KeepsCase}
 
-module _ (spared apart fewer less : ℕ → Type 0) (files : (f : ℕ) → fewer f → spared f) (blocks : (k : ℕ) → less k → apart k) where
+module _ (spared apart fewer less : ℕ → Type 0) (files : (f : ℕ) → fewer f → spared f)
+    (blocks : (k : ℕ) → less k → apart k) where
   pub keeps_fewer : (old new : Image) → Keeps spared apart old new → Keeps fewer less old new
   keeps_fewer old new keeps = record {
     files = λ f is. keeps.files f (files f is);
@@ -27,7 +28,8 @@ module _ (spared apart fewer less : ℕ → Type 0) (files : (f : ℕ) → fewer
   }
 
 -- whole writes are one way to tear them
-pub keeps_tears : (spared apart : ℕ → Type 0) (old new : Image) → Keeps spared apart old new → Tears spared apart old new
+pub keeps_tears : (spared apart : ℕ → Type 0) (old new : Image) → Keeps spared apart old new
+    → Tears spared apart old new
 keeps_tears spared apart old new keeps = record {
   files = keeps.files;
   bytes = λ f k j lt is inside. keeps.bytes f k j lt is;

@@ -1,8 +1,13 @@
 //! The laws, one after another, for the proofs of callers: none of these functions does anything when it runs.
 
-ghost use Rattle.element_laws.specs.Phases.{OpenedLaw, CorruptLaw, DamageLaw, UntouchedLaw, AdoptLaw, KeepLaw, ContentsLaw, ContentsDoneLaw, IndexLaw, GivenUpLaw, TakenLaw, AnewContentsLaw, AnewDoneLaw, AnewIndexLaw, CleanLaw, AdoptedLaw, SoundLaw, SettledLaw, MendStartLaw, MendStepLaw, MendSyncLaw, MendLaw, InUseLaw, CarriedLaw, WholeLaw};
+ghost use Rattle.element_laws.specs.Phases.{OpenedLaw, CorruptLaw, DamageLaw, UntouchedLaw, AdoptLaw, KeepLaw};
+ghost use Rattle.element_laws.specs.Phases.{ContentsLaw, ContentsDoneLaw, IndexLaw, GivenUpLaw, TakenLaw};
+ghost use Rattle.element_laws.specs.Phases.{AnewContentsLaw, AnewDoneLaw, AnewIndexLaw, CleanLaw, AdoptedLaw, SoundLaw};
+ghost use Rattle.element_laws.specs.Phases.{SettledLaw, MendStartLaw, MendStepLaw, MendSyncLaw, MendLaw, InUseLaw};
+ghost use Rattle.element_laws.specs.Phases.{CarriedLaw, WholeLaw};
 ghost use Rattle.element_laws.specs.Apart.{FrameLaw, OutsideLaw, ElsewhereLaw, ElsewhereCaseLaw};
-ghost use Rattle.element_laws.specs.Refused.{IndexFirst, IndexFirstAnew, OldOverwritten, OtherValue, Planted, CopyEaten, OtherRaised, SalvageRaised, SalvageLost};
+ghost use Rattle.element_laws.specs.Refused.{IndexFirst, IndexFirstAnew, OldOverwritten, OtherValue, Planted};
+ghost use Rattle.element_laws.specs.Refused.{CopyEaten, OtherRaised, SalvageRaised, SalvageLost};
 
 use block_files::contents_stand_aside;
 
@@ -12,8 +17,9 @@ pub fn untouched_is_kept()
     ensures untouched { UntouchedLaw }
 {}
 
-/// What a storage is depends on the files of its place alone, and those of one place lie outside another that lies apart. So what leaves
-/// all files outside one place alone, at its end and at every moment, leaves a storage at the other as it was.
+/// What a storage is depends on the files of its place alone, and those of one place lie outside another that lies
+/// apart. So what leaves all files outside one place alone, at its end and at every moment, leaves a storage at the
+/// other as it was.
 pub fn places_stand_apart()
     ensures frame { FrameLaw }
     ensures outside { OutsideLaw }
@@ -21,8 +27,8 @@ pub fn places_stand_apart()
     ensures case { ElsewhereCaseLaw }
 {}
 
-/// A stop while every copy is brought to the text at which a storage opens keeps it; so does one while all texts but one are taken
-/// from a corrupt storage.
+/// A stop while every copy is brought to the text at which a storage opens keeps it; so does one while all texts but
+/// one are taken from a corrupt storage.
 pub fn adopting_keeps()
     ensures adopt { AdoptLaw }
     ensures keep { KeepLaw }
@@ -36,7 +42,8 @@ pub fn contents_keep()
     contents_stand_aside();
 }
 
-/// A stop while the next index is written, after its contents were made durable, leaves the storage of before or that of after.
+/// A stop while the next index is written, after its contents were made durable, leaves the storage of before or that
+/// of after.
 pub fn index_keeps()
     ensures { IndexLaw }
 {
@@ -54,8 +61,8 @@ pub fn making_anew_keeps()
     contents_stand_aside();
 }
 
-/// Places that hold one text alone are clean, and so is what was adopted; a case on a clean image with nothing pending is sound, so that
-/// what a phase leaves is kept at its end.
+/// Places that hold one text alone are clean, and so is what was adopted; a case on a clean image with nothing pending
+/// is sound, so that what a phase leaves is kept at its end.
 pub fn places_are_clean()
     ensures alone { CleanLaw }
     ensures adopted { AdoptedLaw }
@@ -63,8 +70,9 @@ pub fn places_are_clean()
     ensures settled { SettledLaw }
 {}
 
-/// A stop while contents are mended in the copies that lacked them, after `adopting_keeps`, keeps a storage. A mend goes block by block, so
-/// that a copy may be half mended: no two contents lie under one hash, and so it gives the value or nothing.
+/// A stop while contents are mended in the copies that lacked them, after `adopting_keeps`, keeps a storage. A mend
+/// goes block by block, so that a copy may be half mended: no two contents lie under one hash, and so it gives the
+/// value or nothing.
 pub fn mending_keeps()
     ensures start { MendStartLaw }
     ensures step { MendStepLaw }
@@ -74,8 +82,9 @@ pub fn mending_keeps()
     contents_stand_aside();
 }
 
-/// A storage opens at the first of its texts that qualifies. One in use stands as one that was just adopted, the elements that a commit does not touch are carried as they were, and one
-/// that is good and lacks nothing is whole in every copy.
+/// A storage opens at the first of its texts that qualifies. One in use stands as one that was just adopted, the
+/// elements that a commit does not touch are carried as they were, and one that is good and lacks nothing is whole in
+/// every copy.
 pub fn use_is_adopted()
     ensures opened { OpenedLaw }
     ensures corrupt { CorruptLaw }
@@ -84,8 +93,9 @@ pub fn use_is_adopted()
     ensures whole { WholeLaw }
 {}
 
-/// What a stop may not leave: an index before its contents, an old block overwritten, another value, a text that was never
-/// synchronised, a copy lost on the way, a text that stands only by what was mended or written beside it, or a salvage given up.
+/// What a stop may not leave: an index before its contents, an old block overwritten, another value, a text that was
+/// never synchronised, a copy lost on the way, a text that stands only by what was mended or written beside it, or a
+/// salvage given up.
 pub fn outcomes_are_refused()
     ensures index_first { IndexFirst }
     ensures index_first_anew { IndexFirstAnew }

@@ -1,5 +1,6 @@
 -- Copies that pass a test are copies of the place, and ascend.
-use Rattle.std.proofs.Common.{◌≡◌, ℕ, zero, suc, ◌+◌, ◌<◌, List, [], ◌∷◌, ◌++◌, length, get_or, Bool, true, false, cond, sym, subst, arith, length-append, ⊎_elim}
+use Rattle.std.proofs.Common.{◌≡◌, ℕ, zero, suc, ◌+◌, ◌<◌, List, [], ◌∷◌, ◌++◌, length, get_or, Bool, true, false, cond}
+use Rattle.std.proofs.Common.{sym, subst, arith, length-append, ⊎_elim}
 use Rattle.std.proofs.lemmas.Bool.{cases_lt}
 use Rattle.std.proofs.lemmas.List.{get_or_append_left, get_or_push, append-nil}
 use Rattle.guarded_cell.specs.Held.{copies_that}
@@ -11,10 +12,18 @@ pub record AreNumbers (copies : ℕ) (numbers : List ℕ) : Type 0 where
   pub ascend : Ascend numbers
 
 pub no_numbers : (copies : ℕ) → AreNumbers copies []
-no_numbers copies = record { copies_are = λ i lt. absurd (omega (arith, lt)); ascend = λ i j less lt. absurd (omega (arith, lt)) }
+no_numbers copies = record {
+  copies_are = λ i lt. absurd (omega (arith, lt));
+  ascend =
+      λ i j less lt. absurd (omega (arith, lt));
+}
 
 numbers_on : (n : ℕ) (xs : List ℕ) → AreNumbers n xs → AreNumbers (suc n) xs
-numbers_on n xs are = record { copies_are = λ i lt. (let at = are.copies_are i lt in (omega (arith, at.0), omega (arith, at.1))); ascend = are.ascend }
+numbers_on n xs are = record {
+  copies_are = λ i lt. (let at =
+      are.copies_are i lt in (omega (arith, at.0), omega (arith, at.1)));
+  ascend = are.ascend;
+}
 
 module _ (n : ℕ) (xs : List ℕ) (are : AreNumbers n xs) where
   abbrev more : List ℕ
@@ -31,13 +40,15 @@ module _ (n : ℕ) (xs : List ℕ) (are : AreNumbers n xs) where
 
   copies_last : AreCopies (suc n) more
   copies_last i lt = ⊎_elim
-      (λ less. (let e = before i less in let at = are.copies_are i less in (omega (arith, e, at.0), omega (arith, e, at.1))))
+      (λ less. (let e = before i less in let at = are.copies_are i less in
+      (omega (arith, e, at.0), omega (arith, e, at.1))))
       (λ end. (let e = last i (omega (arith, end, lt, long)) in (omega (arith, e), omega (arith, e))))
       (cases_lt i (length xs))
 
   ascend_last : Ascend more
   ascend_last i j less lt = ⊎_elim
-      (λ early. (let e = before i (omega (arith, less, early)) in let f = before j early in let up = are.ascend i j less early in omega (arith, e, f, up)))
+      (λ early. (let e = before i (omega (arith, less, early)) in let f = before j early in let up =
+      are.ascend i j less early in omega (arith, e, f, up)))
       (λ end. (
       let inside : i < length xs = omega (arith, less, lt, long) in
       let e = before i inside in

@@ -53,7 +53,8 @@ less_from Greater e = absurd cc
 
 -- neither below nor equal is above
 pub above_from : (a b : List ℕ) → is_lt (name_cmp a b) ≡ false → bytes_eq a b ≡ false → name_cmp b a ≡ Less
-above_from a b not_less apart = nat_list_cmp_total.antisymm b a ∙ by (name_cmp a b) not_less (is_eq-slice_cmp a b ∙ apart)
+above_from a b not_less apart = nat_list_cmp_total.antisymm b a
+    ∙ by (name_cmp a b) not_less (is_eq-slice_cmp a b ∙ apart)
   where
     by : (o : Ordering) → is_lt o ≡ false → is_eq o ≡ false → ordering_reverse o ≡ Less
     by Less e h = absurd cc

@@ -1,5 +1,6 @@
 -- Elements that are the same by test are equal, and what the difference of two says.
-use Rattle.std.proofs.Common.{◌≡◌, ◌≢◌, ℕ, List, [], ◌∷◌, Bool, true, false, cond, ◌&&◌, nat_eq, Option, Some, None, refl, sym, ap, subst, ◌∙◌}
+use Rattle.std.proofs.Common.{◌≡◌, ◌≢◌, ℕ, List, [], ◌∷◌, Bool, true, false, cond, ◌&&◌, nat_eq, Option, Some, None}
+use Rattle.std.proofs.Common.{refl, sym, ap, subst, ◌∙◌}
 use Rattle.std.proofs.lemmas.Bool.Decides.{Decides-eqb}
 use Rattle.std.proofs.lemmas.Slice.Eq.{bytes_eq-Decides}
 use Rattle.per_base.specs.declared.elements.Cause.{Cause}
@@ -33,7 +34,8 @@ number_itself a = (Decides-eqb a a).1 refl
 -- ---- causes
 
 cause_from : ℕ → Cause
-cause_from n = cond (nat_eq n 1) Installation (cond (nat_eq n 2) Update (cond (nat_eq n 3) Reset (cond (nat_eq n 4) Recovery Application)))
+cause_from n = cond (nat_eq n 1) Installation (cond (nat_eq n 2) Update
+    (cond (nat_eq n 3) Reset (cond (nat_eq n 4) Recovery Application)))
 
 cause_again : (c : Cause) → cause_from (cause_code c) ≡ c
 unfolding cause_from
@@ -49,7 +51,15 @@ same_cause a b e = sym (cause_again a) ∙ ap cause_from (same_number (cause_cod
 -- ---- infos, contents, elements
 
 abbrev info : ℕ → ℕ → ℕ → Cause → Cause → FileInfo
-info created modified accessed creation modification = record { created = created; modified = modified; accessed = accessed; creation = creation; modification = modification }
+info created modified accessed creation modification =
+    record {
+      created = created;
+      modified = modified;
+      accessed = accessed;
+      creation = creation;
+      modification =
+          modification;
+    }
 
 some_info : (a b : FileInfo) → same_info (Some a) (Some b) ≡ true → a ≡ b
 some_info a b e =
@@ -77,7 +87,9 @@ info_is (Some a) None e = absurd cc
 pub info_itself : (a : Option FileInfo) → same_info a a ≡ true
 info_itself None = refl
 info_itself (Some a) =
-    with_both _ _ (with_both _ _ (with_both _ _ (with_both _ _ (number_itself a.created) (number_itself a.modified)) (number_itself a.accessed)) (number_itself (cause_code a.creation))) (number_itself (cause_code a.modification))
+    with_both _ _ (with_both _ _ (with_both _ _ (with_both _ _ (number_itself a.created) (number_itself a.modified))
+    (number_itself a.accessed)) (number_itself (cause_code a.creation)))
+    (number_itself (cause_code a.modification))
 
 pub content_is : (a b : Content) → same_content a b ≡ true → a ≡ b
 content_is (Good a) (Good b) e = ap (λ x. Good x) ((bytes_eq-Decides a b).0 e)
@@ -99,7 +111,8 @@ abbrev pub element : Option FileInfo → ℕ → Content → Element
 element info len content = record { info = info; len = len; content = content }
 
 pub element_is : (a b : Element) → a.info ≡ b.info → a.len ≡ b.len → a.content ≡ b.content → a ≡ b
-element_is a b info len content = ap (λ x. element x a.len a.content) info ∙ ap (λ x. element b.info x a.content) len ∙ ap (λ x. element b.info b.len x) content
+element_is a b info len content = ap (λ x. element x a.len a.content) info ∙ ap (λ x. element b.info x a.content) len
+    ∙ ap (λ x. element b.info b.len x) content
 
 pub same_is : (a b : Element) → same_element a b ≡ true → a ≡ b
 same_is a b e =
@@ -145,7 +158,8 @@ same_map_from a b e = subst (λ (x : Map). same_map a x ≡ true) e (same_map_it
 pub view_stays : (shape : Shape) (v : View) (synced new : Map) → synced ≡ new → synced_view shape v synced new ≡ v
 view_stays shape v synced new is = rw (same_map_from synced new is) refl
 
-pub next_view : (shape : Shape) (v : View) (synced new : Map) → synced ≢ new → synced_view shape v synced new ≡ committed shape v synced new
+pub next_view : (shape : Shape) (v : View) (synced new : Map) → synced ≢ new
+    → synced_view shape v synced new ≡ committed shape v synced new
 next_view shape v synced new differ = by (same_map synced new) refl
   where
     by : (b : Bool) → same_map synced new ≡ b → cond b v (committed shape v synced new) ≡ committed shape v synced new

@@ -1,5 +1,6 @@
 -- All names: the entries after the changes, and the map that they stand for.
-use Rattle.std.proofs.Common.{◌≡◌, ℕ, suc, ◌+◌, ◌<◌, ◌≤◌, Bool, true, false, cond, List, [], ◌∷◌, length, map, Option, Some, None, refl, sym, ap, subst, ◌∙◌, arith}
+use Rattle.std.proofs.Common.{◌≡◌, ℕ, suc, ◌+◌, ◌<◌, ◌≤◌, Bool, true, false, cond, List, [], ◌∷◌, length, map, Option}
+use Rattle.std.proofs.Common.{Some, None, refl, sym, ap, subst, ◌∙◌, arith}
 use Rattle.std.specs.Prelude.{option_map, ◌↔◌}
 use Rattle.std.specs.List.{AllByRecursion}
 use Rattle.std.specs.Str.{bytes_eq}
@@ -18,7 +19,8 @@ use Rattle.per_base.specs.Names.{IsName, name_cmp}
 use Rattle.element_state.specs.declared.shapes.Change.{Change}
 use Rattle.element_state.specs.declared.shapes.Shape.{Shape}
 use Rattle.element_state.specs.declared.shapes.View.{View}
-use Rattle.element_state.specs.Changes.{item_at, entry_at, entry_name, is_same, kept_or_fresh, committed_entry, after_changes, committed_by, committed}
+use Rattle.element_state.specs.Changes.{item_at, entry_at, entry_name, is_same, kept_or_fresh, committed_entry}
+use Rattle.element_state.specs.Changes.{after_changes, committed_by, committed}
 use Rattle.element_state.specs.Conditions.{AreChanges, IsChange, changed_name, size_of}
 use Rattle.element_state.specs.Chosen.{HasLength}
 use Rattle.element_state.specs.Read.{IsEntryOf, IsView}
@@ -27,11 +29,13 @@ use Rattle.element_state.specs.Views.{element_of, judged_entry, judged_content, 
 use Rattle.element_maps.specs.Differences.{difference, change_at}
 use Rattle.element_maps.specs.Sessions.{IsHeld, IsNext, IsSync, Passes, synchronised}
 use Rattle.element_maps.proofs.Names.{eq_back, same_names}
-use Rattle.element_maps.proofs.InOrder.{NamesAscend, item_each, item_named, item_first, each_item, item_map, ascends_map, same_lists, names_apart}
+use Rattle.element_maps.proofs.InOrder.{NamesAscend, item_each, item_named, item_first, each_item, item_map}
+use Rattle.element_maps.proofs.InOrder.{ascends_map, same_lists, names_apart}
 use Rattle.element_maps.proofs.Same.{element, is_same_is}
 use Rattle.element_maps.proofs.Entries.{ascends_after, after_all, entry_after}
 use Rattle.element_maps.proofs.Copies.{AreNumbers, no_numbers, numbers_passing}
-use Rattle.element_maps.proofs.Points.{judged_element, judged_good, point, point_taken, no_change, unchanged, is_other, IsOther}
+use Rattle.element_maps.proofs.Points.{judged_element, judged_good, point, point_taken, no_change, unchanged, is_other}
+use Rattle.element_maps.proofs.Points.{IsOther}
 
 -- ---- maps as lists of items
 
@@ -53,39 +57,50 @@ item_in_map name (e ∷ m) = rw (at_name name e.0) (by (bytes_eq e.0 name) refl 
     by true t later = ap (λ n. Some (paired n e.1)) (same_names e.0 name t)
     by false f later = later
 
-some_pair : (name : List ℕ) (o : Option Element) (e : List ℕ × Element) → option_map (paired name) o ≡ Some e → o ≡ Some e.1
+some_pair : (name : List ℕ) (o : Option Element) (e : List ℕ × Element) → option_map (paired name) o ≡ Some e
+    → o ≡ Some e.1
 some_pair name None e is = absurd cc
 some_pair name (Some x) e is = let same : paired name x ≡ e = cc in ap (λ (p : List ℕ × Element). Some p.1) same
 
-pub found_in_map : (name : List ℕ) (m : Map) (e : List ℕ × Element) → item_at pair_name name m ≡ Some e → element_at m name ≡ Some e.1
+pub found_in_map : (name : List ℕ) (m : Map) (e : List ℕ × Element) → item_at pair_name name m ≡ Some e
+    → element_at m name ≡ Some e.1
 found_in_map name m e is = some_pair name (element_at m name) e (sym (item_in_map name m) ∙ is)
 
 -- what is found of each name is found
-pub same_found : (m n : Map) → ((name : List ℕ) → element_at m name ≡ element_at n name) → (name : List ℕ) → item_at pair_name name m ≡ item_at pair_name name n
-same_found m n found name = item_in_map name m ∙ ap (λ o. option_map (paired name) o) (found name) ∙ sym (item_in_map name n)
+pub same_found : (m n : Map) → ((name : List ℕ) → element_at m name ≡ element_at n name) → (name : List ℕ)
+    → item_at pair_name name m ≡ item_at pair_name name n
+same_found m n found name = item_in_map name m ∙ ap (λ o. option_map (paired name) o) (found name)
+    ∙ sym (item_in_map name n)
 
 abbrev pub judged_pair : (List ℕ → Bool) → Entry → List ℕ × Element
 judged_pair test e = (e.name, judged_element test e)
 
-pub maps_through : (test : List ℕ → Bool) (es : List Entry) → map element_of (map (judged_entry test) es) ≡ map (judged_pair test) es
+pub maps_through : (test : List ℕ → Bool) (es : List Entry)
+    → map element_of (map (judged_entry test) es) ≡ map (judged_pair test) es
 maps_through test [] = refl
 maps_through test (e ∷ es) = ap (λ m. (e.name, judged_element test e) ∷ m) (maps_through test es)
 
 -- what is synchronised under a name
-pub synced_at : (test : List ℕ → Bool) (v : View) (name : List ℕ) → element_at (synchronised test v) name ≡ option_map (judged_element test) (entry_at name v.entries)
+pub synced_at : (test : List ℕ → Bool) (v : View) (name : List ℕ)
+    → element_at (synchronised test v) name ≡ option_map (judged_element test) (entry_at name v.entries)
 synced_at test v name = go v.entries
   where
-    go : (es : List Entry) → element_at (map element_of (map (judged_entry test) es)) name ≡ option_map (judged_element test) (entry_at name es)
+    go : (es : List Entry) → element_at (map element_of (map (judged_entry test) es)) name
+        ≡ option_map (judged_element test) (entry_at name es)
     go [] = refl
     go (e ∷ es) = rw (at_name name e.name) (by (bytes_eq e.name name) (go es))
       where
-        by : (b : Bool) → element_at (map element_of (map (judged_entry test) es)) name ≡ option_map (judged_element test) (entry_at name es)
-            → cond b (Some (judged_element test e)) (element_at (map element_of (map (judged_entry test) es)) name) ≡ option_map (judged_element test) (cond b (Some e) (entry_at name es))
+        by : (b : Bool) → element_at (map element_of (map (judged_entry test) es)) name
+            ≡ option_map (judged_element test) (entry_at name es)
+            → cond b (Some (judged_element test e)) (element_at (map element_of (map (judged_entry test) es)) name)
+            ≡ option_map (judged_element test) (cond b (Some e) (entry_at name es))
         by true later = refl
         by false later = later
 
-synced_ascends : (test : List ℕ → Bool) (v : View) → NamesAscend entry_name v.entries → NamesAscend pair_name (synchronised test v)
-synced_ascends test v sorted = subst (λ (m : Map). NamesAscend pair_name m) (sym (maps_through test v.entries)) (ascends_map entry_name pair_name (judged_pair test) (λ e. refl) v.entries sorted)
+synced_ascends : (test : List ℕ → Bool) (v : View) → NamesAscend entry_name v.entries
+    → NamesAscend pair_name (synchronised test v)
+synced_ascends test v sorted = subst (λ (m : Map). NamesAscend pair_name m) (sym (maps_through test v.entries))
+    (ascends_map entry_name pair_name (judged_pair test) (λ e. refl) v.entries sorted)
 
 -- ---- the map of a view
 
@@ -99,7 +114,8 @@ untested v = go v.entries
   where
     go : (es : List Entry) → map element_of (map (judged_entry (λ bytes. true)) es) ≡ map element_of es
     go [] = refl
-    go (e ∷ es) = ap (λ c. (e.name, element e.info e.len c) ∷ map element_of (map (judged_entry (λ bytes. true)) es)) (untested_content e.content) ∙ ap (λ m. element_of e ∷ m) (go es)
+    go (e ∷ es) = ap (λ c. (e.name, element e.info e.len c) ∷ map element_of (map (judged_entry (λ bytes. true)) es))
+        (untested_content e.content) ∙ ap (λ m. element_of e ∷ m) (go es)
 
 synced_length : (test : List ℕ → Bool) (es : List Entry) → length (map (judged_pair test) es) ≡ length es
 synced_length test [] = refl
@@ -109,13 +125,21 @@ synced_size : (test : List ℕ → Bool) (es : List Entry) → maps.size_of (map
 synced_size test [] = refl
 synced_size test (e ∷ es) =
     let later = synced_size test es in
-    omega (arith, sum_by-cons (λ (x : Entry). length x.name + x.len) e es, sum_by-cons (λ (x : List ℕ × Element). length x.0 + x.1.len) (judged_pair test e) (map (judged_pair test) es), later)
+    omega (
+      arith,
+      sum_by-cons (λ (x : Entry). length x.name + x.len) e es,
+      sum_by-cons (λ (x : List ℕ × Element). length x.0 + x.1.len) (judged_pair test e) (map (judged_pair test) es),
+      later,
+    )
 
 -- an entry that is read shows an element as its kind asks
-read_held : (shape : Shape) (test : List ℕ → Bool) (x : Entry) (e : Element) → IsEntryOf shape x → judged_element test x ≡ e → IsHeld shape.kind (Some e) e e.content
-read_held shape test x e read is = subst (λ (y : Element). IsHeld shape.kind (Some y) y y.content) is (by (judged_content test x.content) refl)
+read_held : (shape : Shape) (test : List ℕ → Bool) (x : Entry) (e : Element) → IsEntryOf shape x
+    → judged_element test x ≡ e → IsHeld shape.kind (Some e) e e.content
+read_held shape test x e read is = subst (λ (y : Element). IsHeld shape.kind (Some y) y y.content) is
+    (by (judged_content test x.content) refl)
   where
-    by : (content : Content) → judged_content test x.content ≡ content → IsHeld shape.kind (Some (judged_element test x)) (judged_element test x) content
+    by : (content : Content) → judged_content test x.content ≡ content
+        → IsHeld shape.kind (Some (judged_element test x)) (judged_element test x) content
     by (Good bytes) good = record {
       info = read.info;
       length = subst (λ (c : Content). HasLength x.len c) (judged_good test x.content bytes good) read.content;
@@ -123,24 +147,32 @@ read_held shape test x e read is = subst (λ (y : Element). IsHeld shape.kind (S
     }
     by (Bad salvage) bad = refl
 
-pub owed : (shape : Shape) (test : List ℕ → Bool) (v : View) → IsView shape v → IsNext shape (synchronised test v) (synchronised test v)
+pub owed : (shape : Shape) (test : List ℕ → Bool) (v : View) → IsView shape v
+    → IsNext shape (synchronised test v) (synchronised test v)
 owed shape test v read = record {
   names_ascend = synced_ascends test v read.names_ascend;
-  few = let few : length v.entries ≤ 1024 = read.few in let same : length (synchronised test v) ≡ length v.entries = ap length (maps_through test v.entries) ∙ synced_length test v.entries in omega arith;
+  few = let few : length v.entries ≤ 1024 = read.few in let same : length (synchronised test v) ≡ length v.entries =
+      ap length (maps_through test v.entries) ∙ synced_length test v.entries in omega arith;
   small = let small : size_of v.entries ≤ shape.allowed = read.small in
-      let same : maps.size_of (synchronised test v) ≡ size_of v.entries = ap maps.size_of (maps_through test v.entries) ∙ synced_size test v.entries in omega arith;
+      let same : maps.size_of (synchronised test v) ≡ size_of v.entries =
+      ap maps.size_of (maps_through test v.entries) ∙ synced_size test v.entries in omega arith;
   each = λ name e is.
-      let found : option_map (judged_element test) (entry_at name v.entries) ≡ Some e = sym (synced_at test v name) ∙ is in
-      subst (λ (o : Option Element). IsHeld shape.kind o e e.content) (sym is) (by name e (entry_at name v.entries) refl found);
+      let found : option_map (judged_element test) (entry_at name v.entries) ≡ Some e =
+      sym (synced_at test v name) ∙ is in
+      subst (λ (o : Option Element). IsHeld shape.kind o e e.content) (sym is)
+      (by name e (entry_at name v.entries) refl found);
 }
   where
-    by : (name : List ℕ) (e : Element) (o : Option Entry) → entry_at name v.entries ≡ o → option_map (judged_element test) o ≡ Some e → IsHeld shape.kind (Some e) e e.content
+    by : (name : List ℕ) (e : Element) (o : Option Entry) → entry_at name v.entries ≡ o
+        → option_map (judged_element test) o ≡ Some e → IsHeld shape.kind (Some e) e e.content
     by name e None at found = absurd cc
-    by name e (Some x) at found = let one : judged_element test x ≡ e = cc in read_held shape test x e (item_each entry_name (IsEntryOf shape) name v.entries x read.each at) one
+    by name e (Some x) at found = let one : judged_element test x ≡ e =
+        cc in read_held shape test x e (item_each entry_name (IsEntryOf shape) name v.entries x read.each at) one
 
 -- ---- the entries after the changes
 
-module _ (shape : Shape) (test : List ℕ → Bool) (v : View) (synced new : Map) (changes : List Change) (sync : IsSync shape test v synced new changes) where
+module _ (shape : Shape) (test : List ℕ → Bool) (v : View) (synced new : Map) (changes : List Change)
+    (sync : IsSync shape test v synced new changes) where
   abbrev pub made : List ℕ × Element → Entry
   made e = committed_entry (v.generation + 1) v.entries synced e
 
@@ -150,36 +182,45 @@ module _ (shape : Shape) (test : List ℕ → Bool) (v : View) (synced new : Map
   pub held_at : (name : List ℕ) → element_at synced name ≡ option_map (judged_element test) (entry_at name v.entries)
   held_at name = ap (λ (m : Map). element_at m name) sync.held ∙ synced_at test v name
 
-  kept_name : (b : Bool) (e : List ℕ × Element) (o : Option Entry) → ((x : Entry) → o ≡ Some x → x.name ≡ e.0) → entry_name (kept_or_fresh (v.generation + 1) b o e) ≡ e.0
+  kept_name : (b : Bool) (e : List ℕ × Element) (o : Option Entry) → ((x : Entry) → o ≡ Some x → x.name ≡ e.0)
+      → entry_name (kept_or_fresh (v.generation + 1) b o e) ≡ e.0
   kept_name true e (Some x) named = named x refl
   kept_name true e None named = refl
   kept_name false e o named = refl
 
   made_name : (e : List ℕ × Element) → entry_name (made e) ≡ pair_name e
-  made_name e = kept_name (is_same (element_at synced e.0) e.1) e (entry_at e.0 v.entries) (λ x is. item_named entry_name e.0 v.entries x is)
+  made_name e = kept_name (is_same (element_at synced e.0) e.1) e (entry_at e.0 v.entries)
+      (λ x is. item_named entry_name e.0 v.entries x is)
 
-  pub held_new : (name : List ℕ) (e : Element) → element_at new name ≡ Some e → IsHeld shape.kind (option_map (judged_element test) (entry_at name v.entries)) e e.content
-  held_new name e is = subst (λ (o : Option Element). IsHeld shape.kind o e e.content) (held_at name) (sync.next.each name e is)
+  pub held_new : (name : List ℕ) (e : Element) → element_at new name ≡ Some e
+      → IsHeld shape.kind (option_map (judged_element test) (entry_at name v.entries)) e e.content
+  held_new name e is = subst (λ (o : Option Element). IsHeld shape.kind o e e.content) (held_at name)
+      (sync.next.each name e is)
 
   after_at : (name : List ℕ) → entry_at name after ≡ entry_at name (map made new)
   after_at name =
       let old : Option Entry = entry_at name v.entries in
       after_all (v.generation + 1) v.entries changes name sync.made.names_ascend
       ∙ ap (λ c. entry_after (v.generation + 1) c (entry_at name v.entries)) (sync.made.exact name)
-      ∙ ap (λ o. entry_after (v.generation + 1) (difference name o (element_at new name)) (entry_at name v.entries)) (held_at name)
-      ∙ point shape.kind test (v.generation + 1) name (entry_at name v.entries) (element_at new name) (λ e is. item_named entry_name name v.entries e is) (held_new name)
-      ∙ ap (λ o. option_map (λ e. kept_or_fresh (v.generation + 1) (is_same o e) (entry_at name v.entries) (name, e)) (element_at new name)) (sym (held_at name))
+      ∙ ap (λ o. entry_after (v.generation + 1) (difference name o (element_at new name)) (entry_at name v.entries))
+      (held_at name)
+      ∙ point shape.kind test (v.generation + 1) name (entry_at name v.entries) (element_at new name)
+      (λ e is. item_named entry_name name v.entries e is) (held_new name)
+      ∙ ap (λ o. option_map (λ e. kept_or_fresh (v.generation + 1) (is_same o e) (entry_at name v.entries) (name, e))
+      (element_at new name)) (sym (held_at name))
       ∙ through (element_at new name)
       ∙ ap (λ o. option_map made o) (sym (item_in_map name new))
       ∙ sym (item_map pair_name entry_name made made_name name new)
     where
-      through : (o : Option Element) → option_map (λ e. kept_or_fresh (v.generation + 1) (is_same (element_at synced name) e) (entry_at name v.entries) (name, e)) o
+      through : (o : Option Element) → option_map (λ e. kept_or_fresh (v.generation + 1)
+          (is_same (element_at synced name) e) (entry_at name v.entries) (name, e)) o
           ≡ option_map made (option_map (paired name) o)
       through None = refl
       through (Some e) = refl
 
   pub after_is : after ≡ map made new
-  after_is = same_lists entry_name after (map made new) (ascends_after (v.generation + 1) v.entries changes sync.read.names_ascend)
+  after_is = same_lists entry_name after (map made new)
+      (ascends_after (v.generation + 1) v.entries changes sync.read.names_ascend)
       (ascends_map pair_name entry_name made made_name new sync.next.names_ascend) after_at
 
   pub committed_is : committed_by shape v changes ≡ committed shape v synced new
@@ -189,14 +230,16 @@ module _ (shape : Shape) (test : List ℕ → Bool) (v : View) (synced new : Map
   -- ---- what the committed view is
 
   -- a property of each element of the new map
-  each_new : (P : List ℕ × Element → Type 0) → ((name : List ℕ) (e : Element) → element_at new name ≡ Some e → P (name, e)) → AllByRecursion P new
+  each_new : (P : List ℕ × Element → Type 0) → ((name : List ℕ) (e : Element) → element_at new name ≡ Some e
+      → P (name, e)) → AllByRecursion P new
   each_new P found = each_item pair_name P new sync.next.names_ascend (λ name e is.
       let named : e.0 ≡ name = item_named pair_name name new e is in
       let here : P (name, e.1) = found name e.1 (found_in_map name new e is) in
       subst (λ (n : List ℕ). P (n, e.1)) (sym named) here)
 
   made_read : (e : List ℕ × Element) → element_at new e.0 ≡ Some e.1 → IsName e.0 → IsEntryOf shape (made e)
-  made_read e is name = subst (λ (o : Option Element). IsEntryOf shape (kept_or_fresh (v.generation + 1) (is_same o e.1) (entry_at e.0 v.entries) e)) (sym (held_at e.0))
+  made_read e is name = subst (λ (o : Option Element). IsEntryOf shape
+      (kept_or_fresh (v.generation + 1) (is_same o e.1) (entry_at e.0 v.entries) e)) (sym (held_at e.0))
       (by (entry_at e.0 v.entries) refl (is_same (option_map (judged_element test) (entry_at e.0 v.entries)) e.1) refl)
     where
       fresh : IsOther shape.kind e.1 → IsEntryOf shape (fresh_entry (v.generation + 1) e)
@@ -209,11 +252,17 @@ module _ (shape : Shape) (test : List ℕ → Bool) (v : View) (synced new : Map
         ascend = (no_numbers shape.place.copies).ascend;
       }
 
-      by : (o : Option Entry) → entry_at e.0 v.entries ≡ o → (b : Bool) → is_same (option_map (judged_element test) o) e.1 ≡ b → IsEntryOf shape (kept_or_fresh (v.generation + 1) b o e)
+      by : (o : Option Entry) → entry_at e.0 v.entries ≡ o → (b : Bool)
+          → is_same (option_map (judged_element test) o) e.1 ≡ b
+          → IsEntryOf shape (kept_or_fresh (v.generation + 1) b o e)
       by (Some x) found true same = item_each entry_name (IsEntryOf shape) e.0 v.entries x sync.read.each found
       by None found true same = absurd cc
-      by (Some x) found false same = fresh (is_other shape.kind (Some (judged_element test x)) e.1 (subst (λ (o : Option Entry). IsHeld shape.kind (option_map (judged_element test) o) e.1 e.1.content) found (held_new e.0 e.1 is)) same)
-      by None found false same = fresh (is_other shape.kind None e.1 (subst (λ (o : Option Entry). IsHeld shape.kind (option_map (judged_element test) o) e.1 e.1.content) found (held_new e.0 e.1 is)) same)
+      by (Some x) found false same = fresh (is_other shape.kind (Some (judged_element test x)) e.1
+          (subst (λ (o : Option Entry). IsHeld shape.kind (option_map (judged_element test) o) e.1 e.1.content) found
+          (held_new e.0 e.1 is)) same)
+      by None found false same = fresh (is_other shape.kind None e.1
+          (subst (λ (o : Option Entry). IsHeld shape.kind (option_map (judged_element test) o) e.1 e.1.content) found
+          (held_new e.0 e.1 is)) same)
 
   all_made : (P : Entry → Type 0) (m : Map) → AllByRecursion (λ e. P (made e)) m → AllByRecursion P (map made m)
   all_made P [] all = tt
@@ -221,7 +270,8 @@ module _ (shape : Shape) (test : List ℕ → Bool) (v : View) (synced new : Map
 
   -- an element that is made shows what the map says
   shown : Passes test new → (e : List ℕ × Element) → element_at new e.0 ≡ Some e.1 → judged_pair test (made e) ≡ e
-  shown passes e is = subst (λ (o : Option Element). judged_pair test (kept_or_fresh (v.generation + 1) (is_same o e.1) (entry_at e.0 v.entries) e) ≡ e) (sym (held_at e.0))
+  shown passes e is = subst (λ (o : Option Element). judged_pair test
+      (kept_or_fresh (v.generation + 1) (is_same o e.1) (entry_at e.0 v.entries) e) ≡ e) (sym (held_at e.0))
       (by (entry_at e.0 v.entries) refl (is_same (option_map (judged_element test) (entry_at e.0 v.entries)) e.1) refl)
     where
       judged : (other : IsOther shape.kind e.1) → judged_content test e.1.content ≡ e.1.content
@@ -232,30 +282,40 @@ module _ (shape : Shape) (test : List ℕ → Bool) (v : View) (synced new : Map
       fresh : IsOther shape.kind e.1 → judged_pair test (fresh_entry (v.generation + 1) e) ≡ e
       fresh other = ap (λ c. (e.0, element e.1.info e.1.len c)) (judged other)
 
-      by : (o : Option Entry) → entry_at e.0 v.entries ≡ o → (b : Bool) → is_same (option_map (judged_element test) o) e.1 ≡ b → judged_pair test (kept_or_fresh (v.generation + 1) b o e) ≡ e
+      by : (o : Option Entry) → entry_at e.0 v.entries ≡ o → (b : Bool)
+          → is_same (option_map (judged_element test) o) e.1 ≡ b
+          → judged_pair test (kept_or_fresh (v.generation + 1) b o e) ≡ e
       by (Some x) found true same =
           let both : Some (judged_element test x) ≡ Some e.1 = is_same_is (Some (judged_element test x)) e.1 same in
           let one : judged_element test x ≡ e.1 = cc in
           ap (λ n. (n, judged_element test x)) (item_named entry_name e.0 v.entries x found) ∙ ap (λ y. (e.0, y)) one
       by None found true same = absurd cc
-      by (Some x) found false same = fresh (is_other shape.kind (Some (judged_element test x)) e.1 (subst (λ (o : Option Entry). IsHeld shape.kind (option_map (judged_element test) o) e.1 e.1.content) found (held_new e.0 e.1 is)) same)
-      by None found false same = fresh (is_other shape.kind None e.1 (subst (λ (o : Option Entry). IsHeld shape.kind (option_map (judged_element test) o) e.1 e.1.content) found (held_new e.0 e.1 is)) same)
+      by (Some x) found false same = fresh (is_other shape.kind (Some (judged_element test x)) e.1
+          (subst (λ (o : Option Entry). IsHeld shape.kind (option_map (judged_element test) o) e.1 e.1.content) found
+          (held_new e.0 e.1 is)) same)
+      by None found false same = fresh (is_other shape.kind None e.1
+          (subst (λ (o : Option Entry). IsHeld shape.kind (option_map (judged_element test) o) e.1 e.1.content) found
+          (held_new e.0 e.1 is)) same)
 
   map_back : (m : Map) → AllByRecursion (λ e. judged_pair test (made e) ≡ e) m → map (judged_pair test) (map made m) ≡ m
   map_back [] all = refl
-  map_back (e ∷ m) all = ap (λ x. x ∷ map (judged_pair test) (map made m)) all.0 ∙ ap (λ rest. e ∷ rest) (map_back m all.1)
+  map_back (e ∷ m) all = ap (λ x. x ∷ map (judged_pair test) (map made m)) all.0
+      ∙ ap (λ rest. e ∷ rest) (map_back m all.1)
 
   pub held_next : Passes test new → synchronised test (committed shape v synced new) ≡ new
   unfolding committed
-  held_next passes = maps_through test (map made new) ∙ map_back new (each_new (λ e. judged_pair test (made e) ≡ e) (λ name e is. shown passes (name, e) is))
+  held_next passes = maps_through test (map made new) ∙ map_back new
+      (each_new (λ e. judged_pair test (made e) ≡ e) (λ name e is. shown passes (name, e) is))
 
   -- ---- the size
 
   made_len : (e : List ℕ × Element) → (made e).len ≡ e.1.len
-  made_len e = subst (λ (o : Option Element). (kept_or_fresh (v.generation + 1) (is_same o e.1) (entry_at e.0 v.entries) e).len ≡ e.1.len) (sym (held_at e.0))
+  made_len e = subst (λ (o : Option Element). (kept_or_fresh (v.generation + 1) (is_same o e.1) (entry_at e.0 v.entries)
+      e).len ≡ e.1.len) (sym (held_at e.0))
       (by (entry_at e.0 v.entries) (is_same (option_map (judged_element test) (entry_at e.0 v.entries)) e.1) refl)
     where
-      by : (o : Option Entry) (b : Bool) → is_same (option_map (judged_element test) o) e.1 ≡ b → (kept_or_fresh (v.generation + 1) b o e).len ≡ e.1.len
+      by : (o : Option Entry) (b : Bool) → is_same (option_map (judged_element test) o) e.1 ≡ b
+          → (kept_or_fresh (v.generation + 1) b o e).len ≡ e.1.len
       by (Some x) true same =
           let both : Some (judged_element test x) ≡ Some e.1 = is_same_is (Some (judged_element test x)) e.1 same in
           let one : judged_element test x ≡ e.1 = cc in
@@ -270,7 +330,14 @@ module _ (shape : Shape) (test : List ℕ → Bool) (v : View) (synced new : Map
       let name : length (made e).name ≡ length e.0 = ap length (made_name e) in
       let len = made_len e in
       let later = sizes m in
-      omega (arith, sum_by-cons (λ (x : Entry). length x.name + x.len) (made e) (map made m), sum_by-cons (λ (x : List ℕ × Element). length x.0 + x.1.len) e m, name, len, later)
+      omega (
+        arith,
+        sum_by-cons (λ (x : Entry). length x.name + x.len) (made e) (map made m),
+        sum_by-cons (λ (x : List ℕ × Element). length x.0 + x.1.len) e m,
+        name,
+        len,
+        later,
+      )
 
   pub size_is : size_of after ≡ maps.size_of new
   size_is = ap size_of after_is ∙ sizes new
@@ -285,11 +352,13 @@ module _ (shape : Shape) (test : List ℕ → Bool) (v : View) (synced new : Map
   all_lacking scopes.Element = no_numbers shape.place.copies
   all_lacking scopes.Storage = numbers_passing (λ copy. lacks_one (map made new) (copy + 1)) shape.place.copies
 
-  each_named : (P : List ℕ → Type 0) (m : Map) → AllByRecursion P (maps.names_of m) → AllByRecursion (λ (e : List ℕ × Element). P e.0) m
+  each_named : (P : List ℕ → Type 0) (m : Map) → AllByRecursion P (maps.names_of m)
+      → AllByRecursion (λ (e : List ℕ × Element). P e.0) m
   each_named P [] all = tt
   each_named P (e ∷ m) all = (all.0, each_named P m all.1)
 
-  made_by : (m : Map) → AllByRecursion (λ (e : List ℕ × Element). element_at new e.0 ≡ Some e.1) m → AllByRecursion (λ (e : List ℕ × Element). IsName e.0) m
+  made_by : (m : Map) → AllByRecursion (λ (e : List ℕ × Element). element_at new e.0 ≡ Some e.1) m
+      → AllByRecursion (λ (e : List ℕ × Element). IsName e.0) m
       → AllByRecursion (λ e. IsEntryOf shape (made e)) m
   made_by [] found names = tt
   made_by (e ∷ m) found names = (made_read e found.0 names.0, made_by m found.1 names.1)
@@ -298,10 +367,13 @@ module _ (shape : Shape) (test : List ℕ → Bool) (v : View) (synced new : Map
   unfolding committed
   committed_read names = record {
     generation = omega arith;
-    each = all_made (IsEntryOf shape) new (made_by new (each_new (λ e. element_at new e.0 ≡ Some e.1) (λ name e is. is)) (each_named IsName new names));
+    each = all_made (IsEntryOf shape) new (made_by new (each_new (λ e. element_at new e.0 ≡ Some e.1) (λ name e is. is))
+        (each_named IsName new names));
     names_ascend = ascends_map pair_name entry_name made made_name new sync.next.names_ascend;
-    few = let few : length new ≤ 1024 = sync.next.few in let same : length (map made new) ≡ length new = length_made new in omega arith;
-    small = let small : maps.size_of new ≤ shape.allowed = sync.next.small in let same : size_of (map made new) ≡ maps.size_of new = sizes new in omega arith;
+    few = let few : length new ≤ 1024 = sync.next.few in let same : length (map made new) ≡ length new =
+        length_made new in omega arith;
+    small = let small : maps.size_of new ≤ shape.allowed =
+        sync.next.small in let same : size_of (map made new) ≡ maps.size_of new = sizes new in omega arith;
     lacking = (all_lacking shape.scope).copies_are;
     ascend = (all_lacking shape.scope).ascend;
   }
@@ -311,11 +383,14 @@ module _ (shape : Shape) (test : List ℕ → Bool) (v : View) (synced new : Map
   pub taken : v.generation < greatest_generation → AreChanges shape v changes
   taken not_worn = record {
     each = each_item changed_name (IsChange shape.kind v.entries) changes sync.made.names_ascend (λ name c is.
-        point_taken shape.kind test name v.entries (entry_at name v.entries) (element_at new name) refl (held_new name) c
+        point_taken shape.kind test name v.entries (entry_at name v.entries) (element_at new name) refl (held_new name)
+        c
         (ap (λ o. difference name o (element_at new name)) (sym (held_at name)) ∙ sym (sync.made.exact name) ∙ is));
     names_apart = names_apart (map changed_name changes) sync.made.names_ascend;
-    few = let few : length new ≤ 1024 = sync.next.few in let same : length after ≡ length new = ap length after_is ∙ length_made new in omega arith;
-    small = let small : maps.size_of new ≤ shape.allowed = sync.next.small in let same : size_of after ≡ maps.size_of new = size_is in omega arith;
+    few = let few : length new ≤ 1024 = sync.next.few in let same : length after ≡ length new =
+        ap length after_is ∙ length_made new in omega arith;
+    small = let small : maps.size_of new ≤ shape.allowed =
+        sync.next.small in let same : size_of after ≡ maps.size_of new = size_is in omega arith;
     not_worn = not_worn;
   }
 
@@ -323,16 +398,21 @@ module _ (shape : Shape) (test : List ℕ → Bool) (v : View) (synced new : Map
 
   no_changes : (cs : List Change) → ((name : List ℕ) → change_at name cs ≡ None) → cs ≡ []
   no_changes [] none = refl
-  no_changes (c ∷ cs) none = let no : Some c ≡ None = sym (item_first changed_name c cs) ∙ none (changed_name c) in absurd cc
+  no_changes (c ∷ cs) none = let no : Some c ≡ None = sym (item_first changed_name c cs) ∙ none (changed_name c) in
+      absurd cc
 
   equal_where : changes ≡ [] → synced ≡ new
   equal_where none =
-      let up : NamesAscend pair_name synced = subst (λ (m : Map). NamesAscend pair_name m) (sym sync.held) (synced_ascends test v sync.read.names_ascend) in
+      let up : NamesAscend pair_name synced = subst (λ (m : Map). NamesAscend pair_name m) (sym sync.held)
+      (synced_ascends test v sync.read.names_ascend) in
       same_lists pair_name synced new up sync.next.names_ascend (same_found synced new (λ name.
-      no_change name (element_at synced name) (element_at new name) (sym (sync.made.exact name) ∙ ap (λ (cs : List Change). change_at name cs) none)))
+      no_change name (element_at synced name) (element_at new name)
+      (sym (sync.made.exact name) ∙ ap (λ (cs : List Change). change_at name cs) none)))
 
   none_where : synced ≡ new → changes ≡ []
-  none_where same = no_changes changes (λ name. sync.made.exact name ∙ ap (λ (m : Map). difference name (element_at synced name) (element_at m name)) (sym same) ∙ unchanged name (element_at synced name))
+  none_where same = no_changes changes (λ name. sync.made.exact name
+      ∙ ap (λ (m : Map). difference name (element_at synced name) (element_at m name)) (sym same)
+      ∙ unchanged name (element_at synced name))
 
   pub nothing : (changes ≡ []) ↔ (synced ≡ new)
   nothing = (equal_where, none_where)

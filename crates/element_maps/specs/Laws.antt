@@ -21,32 +21,38 @@ use Rattle.element_maps.specs.Sessions.{IsNext, IsSync, Passes, same_map, synced
 
 -- they may be committed
 abbrev pub TakenLaw : Type 0
-TakenLaw = (shape : Shape) (test : List ℕ → Bool) (v : View) (synced new : Map) (changes : List Change) → IsSync shape test v synced new changes
+TakenLaw = (shape : Shape) (test : List ℕ → Bool) (v : View) (synced new : Map) (changes : List Change)
+    → IsSync shape test v synced new changes
     → v.generation < greatest_generation → AreChanges shape v changes
 
 -- the storage is then the one that its two maps say
 abbrev pub CommittedLaw : Type 0
-CommittedLaw = (shape : Shape) (test : List ℕ → Bool) (v : View) (synced new : Map) (changes : List Change) → IsSync shape test v synced new changes
+CommittedLaw = (shape : Shape) (test : List ℕ → Bool) (v : View) (synced new : Map) (changes : List Change)
+    → IsSync shape test v synced new changes
     → committed_by shape v changes ≡ committed shape v synced new
 
 -- and holds the new map
 abbrev pub HeldLaw : Type 0
-HeldLaw = (shape : Shape) (test : List ℕ → Bool) (v : View) (synced new : Map) (changes : List Change) → IsSync shape test v synced new changes
+HeldLaw = (shape : Shape) (test : List ℕ → Bool) (v : View) (synced new : Map) (changes : List Change)
+    → IsSync shape test v synced new changes
     → Passes test new → synchronised test (committed shape v synced new) ≡ new
 
 -- as it will be read, where all its names are in the grammar
 abbrev pub ReadLaw : Type 0
-ReadLaw = (shape : Shape) (test : List ℕ → Bool) (v : View) (synced new : Map) (changes : List Change) → IsSync shape test v synced new changes
+ReadLaw = (shape : Shape) (test : List ℕ → Bool) (v : View) (synced new : Map) (changes : List Change)
+    → IsSync shape test v synced new changes
     → AllByRecursion IsName (names_of new) → IsView shape (committed shape v synced new)
 
 -- with the size of the new map
 abbrev pub SizeLaw : Type 0
-SizeLaw = (shape : Shape) (test : List ℕ → Bool) (v : View) (synced new : Map) (changes : List Change) → IsSync shape test v synced new changes
+SizeLaw = (shape : Shape) (test : List ℕ → Bool) (v : View) (synced new : Map) (changes : List Change)
+    → IsSync shape test v synced new changes
     → size_of (after_changes (v.generation + 1) v.entries changes) ≡ maps.size_of new
 
 -- no more is paid for than what differs
 abbrev pub CostLaw : Type 0
-CostLaw = (shape : Shape) (test : List ℕ → Bool) (v : View) (synced new : Map) (changes : List Change) → IsSync shape test v synced new changes
+CostLaw = (shape : Shape) (test : List ℕ → Bool) (v : View) (synced new : Map) (changes : List Change)
+    → IsSync shape test v synced new changes
     → commit_cost shape.kind v.entries changes ≤ map_cost shape.kind synced new
 
 -- and just that, where no content of a file fails the test
@@ -55,18 +61,21 @@ IsUntested Keys test = ⊤
 IsUntested Files test = (bytes : List ℕ) → IsTrue (test bytes)
 
 abbrev pub ExactCostLaw : Type 0
-ExactCostLaw = (shape : Shape) (test : List ℕ → Bool) (v : View) (synced new : Map) (changes : List Change) → IsSync shape test v synced new changes
+ExactCostLaw = (shape : Shape) (test : List ℕ → Bool) (v : View) (synced new : Map) (changes : List Change)
+    → IsSync shape test v synced new changes
     → IsUntested shape.kind test → commit_cost shape.kind v.entries changes ≡ map_cost shape.kind synced new
 
 -- there is nothing to change exactly where both maps are equal
 abbrev pub NothingLaw : Type 0
-NothingLaw = (shape : Shape) (test : List ℕ → Bool) (v : View) (synced new : Map) (changes : List Change) → IsSync shape test v synced new changes
+NothingLaw = (shape : Shape) (test : List ℕ → Bool) (v : View) (synced new : Map) (changes : List Change)
+    → IsSync shape test v synced new changes
     → (changes ≡ []) ↔ (synced ≡ new)
 
 -- no change has a name at which both maps are alike
 abbrev pub OthersLaw : Type 0
 OthersLaw = (synced new : Map) (changes : List Change) → MakeInto changes synced new
-    → (name : List ℕ) → element_at synced name ≡ element_at new name → All (λ change. changed_name change ≢ name) changes
+    → (name : List ℕ) → element_at synced name ≡ element_at new name
+    → All (λ change. changed_name change ≢ name) changes
 
 -- ---- the map of a view
 
@@ -76,7 +85,8 @@ UntestedLaw = (v : View) → synchronised (λ bytes. true) v ≡ map_of v
 
 -- what is synchronised may be handed down as it is: in order, within the limits, each element as its kind asks
 abbrev pub SynchronisedLaw : Type 0
-SynchronisedLaw = (shape : Shape) (test : List ℕ → Bool) (v : View) → IsView shape v → IsNext shape (synchronised test v) (synchronised test v)
+SynchronisedLaw = (shape : Shape) (test : List ℕ → Bool) (v : View) → IsView shape v
+    → IsNext shape (synchronised test v) (synchronised test v)
 
 -- elements that are the same by test are equal
 abbrev pub SameLaw : Type 0
@@ -94,4 +104,5 @@ StaysLaw = (shape : Shape) (v : View) (synced new : Map) → synced ≡ new → 
 
 -- and is the next one where something does
 abbrev pub NextLaw : Type 0
-NextLaw = (shape : Shape) (v : View) (synced new : Map) → synced ≢ new → synced_view shape v synced new ≡ committed shape v synced new
+NextLaw = (shape : Shape) (v : View) (synced new : Map) → synced ≢ new
+    → synced_view shape v synced new ≡ committed shape v synced new

@@ -41,18 +41,21 @@ pub record IsNext (shape : Shape) (synced new : Map) : Type 0 where
   pub names_ascend : IsStrictlySortedBy name_cmp (names_of new)
   pub few : length new ≤ 1024
   pub small : size_of new ≤ shape.allowed
-  pub each : (name : List ℕ) (element : Element) → element_at new name ≡ Some element → IsHeld shape.kind (element_at synced name) element element.content
+  pub each : (name : List ℕ) (element : Element) → element_at new name ≡ Some element
+      → IsHeld shape.kind (element_at synced name) element element.content
 
 -- its values pass the test
 abbrev pub Passes : (List ℕ → Bool) → Map → Type 0
-Passes test new = (name : List ℕ) (element : Element) (bytes : List ℕ) → element_at new name ≡ Some element → element.content ≡ Good bytes → IsTrue (test bytes)
+Passes test new = (name : List ℕ) (element : Element) (bytes : List ℕ) → element_at new name ≡ Some element
+    → element.content ≡ Good bytes → IsTrue (test bytes)
 
 -- the changes by which a storage that was read as this view comes to hold the new map in place of what is synchronised
-pub record IsSync (shape : Shape) (test : List ℕ → Bool) (v : View) (synced new : Map) (changes : List Change) : Type 0 where
-  pub read : IsView shape v
-  pub held : synced ≡ synchronised test v
-  pub next : IsNext shape synced new
-  pub made : MakeInto changes synced new
+pub record IsSync (shape : Shape) (test : List ℕ → Bool) (v : View) (synced new : Map) (changes : List Change) : Type 0
+  where
+    pub read : IsView shape v
+    pub held : synced ≡ synchronised test v
+    pub next : IsNext shape synced new
+    pub made : MakeInto changes synced new
 
 -- ---- what it holds then
 

@@ -41,8 +41,9 @@ pub record Opened : Type 0 where
   pub synced : Map
   pub reports : List Report
 
--- What an opening gives, with a test of contents, on an image where the disk tells its bytes. An element on whose bytes enough copies
--- agree, but which fail the test, is reported as one that cannot be read, with the copies that lacked it before the opening.
+-- What an opening gives, with a test of contents, on an image where the disk tells its bytes. An element on whose bytes
+-- enough copies agree, but which fail the test, is reported as one that cannot be read, with the copies that lacked it
+-- before the opening.
 pub record IsOpened (told : Bool) (image : Image) (shape : Shape) (test : List ℕ → Bool) (given : Opened) : Type 0 where
   -- what the storage was seen as before the opening
   pub before : View
@@ -54,16 +55,18 @@ pub record IsOpened (told : Bool) (image : Image) (shape : Shape) (test : List �
 
 -- ---- what a call leaves of the disk
 
--- However a call on a storage ends: no file outside the place changes, at the end and at any moment, and a stop at any moment leaves
--- the storage of before or that of after.
+-- However a call on a storage ends: no file outside the place changes, at the end and at any moment, and a stop at any
+-- moment leaves the storage of before or that of after.
 pub record IsStoring (told : Bool) (shape : Shape) (after : State) (old new : Medium) : Type 0 where
   pub elsewhere : IsTrue told → Spares (IsOutside shape.place.first shape.place.copies) old.image new.image
-  pub outside : IsTrue told → Quiet old → EachCase (IsSettledOn (IsOutside shape.place.first shape.place.copies) old.image) old new
+  pub outside : IsTrue told → Quiet old → EachCase (IsSettledOn (IsOutside shape.place.first shape.place.copies)
+      old.image) old new
   pub any_moment : IsTrue told → KeptThroughout shape after old new
   pub time : Elapses old new
 
--- Where a call has put a map in the place of the synchronised one, under an index text of this length: what differed is durable, also
--- on a disk that was not quiet before, in each copy only that and the index were written, and no call failed.
+-- Where a call has put a map in the place of the synchronised one, under an index text of this length: what differed is
+-- durable, also on a disk that was not quiet before, in each copy only that and the index were written, and no call
+-- failed.
 pub record IsDurable (told : Bool) (shape : Shape) (synced next : Map) (index : ℕ) (old new : Medium) : Type 0 where
   pub durable : same_map synced next ≡ false → Quiet new
   pub quiet : Quiet old → Quiet new
@@ -71,7 +74,8 @@ pub record IsDurable (told : Bool) (shape : Shape) (synced next : Map) (index : 
   pub written : IsWithin shape.place.copies (map_cost shape.kind synced next) index old.written new.written
   pub passes : new.faults ≡ old.faults
 
--- an element that both maps have alike keeps its entry: the same blocks, length, hash, info and number of its last change
+-- an element that both maps have alike keeps its entry: the same blocks, length, hash, info and number of its last
+-- change
 abbrev pub KeepsEqual : (synced next : Map) → (old later : List IndexEntry) → Type 0
 KeepsEqual synced next old later = (name : List ℕ) → element_at synced name ≡ element_at next name
     → item_at (λ (e : IndexEntry). e.name) name later ≡ item_at (λ (e : IndexEntry). e.name) name old

@@ -1,9 +1,11 @@
 //! The laws, for the proofs of callers: none of these functions does anything when it runs.
 
-ghost use Rattle.element_maps.specs.Laws.{CommittedLaw, CostLaw, DecidesLaw, ExactCostLaw, HeldLaw, NextLaw, NothingLaw, OthersLaw, ReadLaw, SameLaw, SizeLaw, StaysLaw, SynchronisedLaw, TakenLaw, UntestedLaw};
+ghost use Rattle.element_maps.specs.Laws.{CommittedLaw, CostLaw, DecidesLaw, ExactCostLaw, HeldLaw, NextLaw};
+ghost use Rattle.element_maps.specs.Laws.{NothingLaw, OthersLaw, ReadLaw, SameLaw, SizeLaw, StaysLaw, SynchronisedLaw};
+ghost use Rattle.element_maps.specs.Laws.{TakenLaw, UntestedLaw};
 
-/// The changes that make the map that a storage holds into another may be committed; the storage then holds the other, and only what
-/// differs is written, nothing where both are equal, and no element that both have alike is named.
+/// The changes that make the map that a storage holds into another may be committed; the storage then holds the other,
+/// and only what differs is written, nothing where both are equal, and no element that both have alike is named.
 pub fn changes_make_maps()
     ensures taken { TakenLaw }
     ensures committed { CommittedLaw }
@@ -16,16 +18,16 @@ pub fn changes_make_maps()
     ensures others { OthersLaw }
 {}
 
-/// What a view stands for is a map as a session owes it; with no test of contents it is the view's own. Elements that are the same by
-/// test are equal.
+/// What a view stands for is a map as a session owes it; with no test of contents it is the view's own. Elements that
+/// are the same by test are equal.
 pub fn views_are_maps()
     ensures untested { UntestedLaw }
     ensures synchronised { SynchronisedLaw }
     ensures same { SameLaw }
 {}
 
-/// Whether two maps are equal is decided by a test, and by it the view after a sync: that of before where nothing differs, and else the
-/// next.
+/// Whether two maps are equal is decided by a test, and by it the view after a sync: that of before where nothing
+/// differs, and else the next.
 pub fn syncs_are_decided()
     ensures decides { DecidesLaw }
     ensures stays { StaysLaw }

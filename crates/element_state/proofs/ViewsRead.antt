@@ -1,5 +1,6 @@
 -- What is read by an index that fits is a view.
-use Rattle.std.proofs.Common.{◌≡◌, ℕ, zero, suc, ◌+◌, ◌<◌, ◌≤◌, List, [], ◌∷◌, ◌++◌, length, get_or, map, Bool, true, false, eqb, cond, Option, IsTrue, refl, sym, ap, ◌∙◌, subst, arith, length-append, ⊎_elim}
+use Rattle.std.proofs.Common.{◌≡◌, ℕ, zero, suc, ◌+◌, ◌<◌, ◌≤◌, List, [], ◌∷◌, ◌++◌, length, get_or, map, Bool, true}
+use Rattle.std.proofs.Common.{false, eqb, cond, Option, IsTrue, refl, sym, ap, ◌∙◌, subst, arith, length-append, ⊎_elim}
 use Rattle.std.specs.Prelude.{nat_le, nat_lt, ◌&&◌}
 use Rattle.std.specs.List.{AllByRecursion, AllZip, list_all}
 use Rattle.std.specs.List.Sorted.{IsStrictlySortedBy}
@@ -38,7 +39,8 @@ same_kind Files Files e = refl
 module _ (kind : StoreKind) (allowed : ℕ) (index : Index) (fit : Fits kind allowed index) where
   fit_parts : IsTrue (eqb (kind_code index.kind) (kind_code kind)) × IsTrue (nat_le (size_of index.entries) allowed)
   fit_parts =
-      let front = and_parts (eqb (kind_code index.kind) (kind_code kind) && nat_le (size_of index.entries) allowed) (list_all (λ b. nat_lt b (area_blocks allowed)) (blocks_of index.entries)) fit in
+      let front = and_parts (eqb (kind_code index.kind) (kind_code kind) && nat_le (size_of index.entries) allowed)
+      (list_all (λ b. nat_lt b (area_blocks allowed)) (blocks_of index.entries)) fit in
       and_parts (eqb (kind_code index.kind) (kind_code kind)) (nat_le (size_of index.entries) allowed) front.0
 
   pub fit_kind : index.kind ≡ kind
@@ -54,10 +56,18 @@ pub record AreNumbers (copies : ℕ) (numbers : List ℕ) : Type 0 where
   pub ascend : Ascend numbers
 
 pub no_numbers : (copies : ℕ) → AreNumbers copies []
-no_numbers copies = record { copies_are = λ i lt. absurd (omega (arith, lt)); ascend = λ i j less lt. absurd (omega (arith, lt)) }
+no_numbers copies = record {
+  copies_are = λ i lt. absurd (omega (arith, lt));
+  ascend =
+      λ i j less lt. absurd (omega (arith, lt));
+}
 
 numbers_on : (n : ℕ) (xs : List ℕ) → AreNumbers n xs → AreNumbers (suc n) xs
-numbers_on n xs are = record { copies_are = λ i lt. (let at = are.copies_are i lt in (omega (arith, at.0), omega (arith, at.1))); ascend = are.ascend }
+numbers_on n xs are = record {
+  copies_are = λ i lt. (let at =
+      are.copies_are i lt in (omega (arith, at.0), omega (arith, at.1)));
+  ascend = are.ascend;
+}
 
 module _ (n : ℕ) (xs : List ℕ) (are : AreNumbers n xs) where
   abbrev more : List ℕ
@@ -74,13 +84,15 @@ module _ (n : ℕ) (xs : List ℕ) (are : AreNumbers n xs) where
 
   copies_last : AreCopies (suc n) more
   copies_last i lt = ⊎_elim
-      (λ less. (let e = before i less in let at = are.copies_are i less in (omega (arith, e, at.0), omega (arith, e, at.1))))
+      (λ less. (let e = before i less in let at = are.copies_are i less in
+      (omega (arith, e, at.0), omega (arith, e, at.1))))
       (λ end. (let e = last i (omega (arith, end, lt, long)) in (omega (arith, e), omega (arith, e))))
       (cases_lt i (length xs))
 
   ascend_last : Ascend more
   ascend_last i j less lt = ⊎_elim
-      (λ early. (let e = before i (omega (arith, less, early)) in let f = before j early in let up = are.ascend i j less early in omega (arith, e, f, up)))
+      (λ early. (let e = before i (omega (arith, less, early)) in let f = before j early in let up =
+      are.ascend i j less early in omega (arith, e, f, up)))
       (λ end. (
       let inside : i < length xs = omega (arith, less, lt, long) in
       let e = before i inside in
@@ -102,7 +114,8 @@ numbers_passing test (suc n) = one_more n (copies_that test n) (test n) (numbers
 -- ---- the view
 
 module _ (shape : Shape) where
-  entry_of : (format : ℕ) (e : IndexEntry) (f : Entry) → IsEntry format shape.kind e → IsReadBy shape.place.copies e f → IsEntryOf shape f
+  entry_of : (format : ℕ) (e : IndexEntry) (f : Entry) → IsEntry format shape.kind e → IsReadBy shape.place.copies e f
+      → IsEntryOf shape f
   entry_of format e f is read = record {
     name = subst IsName (sym read.name) is.name;
     info = subst (λ (i : Option FileInfo). IsTrue (has_info shape.kind i)) (sym read.info) is.info;
@@ -112,21 +125,28 @@ module _ (shape : Shape) where
     ascend = read.ascend;
   }
 
-  entries_of : (format : ℕ) (es : List IndexEntry) (fs : List Entry) → AllByRecursion (IsEntry format shape.kind) es → AllZip (IsReadBy shape.place.copies) es fs
+  entries_of : (format : ℕ) (es : List IndexEntry) (fs : List Entry) → AllByRecursion (IsEntry format shape.kind) es
+      → AllZip (IsReadBy shape.place.copies) es fs
       → AllByRecursion (IsEntryOf shape) fs
   entries_of format [] [] each zip = tt
   entries_of format [] (f ∷ fs) each zip = absurd zip
   entries_of format (e ∷ es) [] each zip = absurd zip
-  entries_of format (e ∷ es) (f ∷ fs) each zip = (entry_of format e f each.0 zip.0, entries_of format es fs each.1 zip.1)
+  entries_of format (e ∷ es) (f ∷ fs) each zip = (
+    entry_of format e f each.0 zip.0,
+    entries_of format es fs each.1 zip.1,
+  )
 
-  names_are : (es : List IndexEntry) (fs : List Entry) → AllZip (IsReadBy shape.place.copies) es fs → map (λ (f : Entry). f.name) fs ≡ names_of es
+  names_are : (es : List IndexEntry) (fs : List Entry) → AllZip (IsReadBy shape.place.copies) es fs
+      → map (λ (f : Entry). f.name) fs ≡ names_of es
   names_are [] [] zip = refl
   names_are [] (f ∷ fs) zip = absurd zip
   names_are (e ∷ es) [] zip = absurd zip
   names_are (e ∷ es) (f ∷ fs) zip =
-      ap (λ (n : List ℕ). n ∷ map (λ (x : Entry). x.name) fs) zip.0.name ∙ ap (λ (ns : List (List ℕ)). e.name ∷ ns) (names_are es fs zip.1)
+      ap (λ (n : List ℕ). n ∷ map (λ (x : Entry). x.name) fs) zip.0.name
+      ∙ ap (λ (ns : List (List ℕ)). e.name ∷ ns) (names_are es fs zip.1)
 
-  sizes_are : (es : List IndexEntry) (fs : List Entry) → AllZip (IsReadBy shape.place.copies) es fs → conditions.size_of fs ≡ size_of es
+  sizes_are : (es : List IndexEntry) (fs : List Entry) → AllZip (IsReadBy shape.place.copies) es fs
+      → conditions.size_of fs ≡ size_of es
   sizes_are [] [] zip = refl
   sizes_are [] (f ∷ fs) zip = absurd zip
   sizes_are (e ∷ es) [] zip = absurd zip
@@ -139,7 +159,8 @@ module _ (shape : Shape) where
       omega (arith, one, two, rest, name, len)
 
   -- what was read by an index that fits
-  pub view_read : (index : Index) (v : View) → IsIndex index → Fits shape.kind shape.allowed index → AllZip (IsReadBy shape.place.copies) index.entries v.entries
+  pub view_read : (index : Index) (v : View) → IsIndex index → Fits shape.kind shape.allowed index
+      → AllZip (IsReadBy shape.place.copies) index.entries v.entries
       → 1 ≤ v.generation → AreNumbers shape.place.copies v.lacking → IsView shape v
   view_read index v rules fit read positive are =
       let same = fit_kind shape.kind shape.allowed index fit in
@@ -151,7 +172,8 @@ module _ (shape : Shape) where
       record {
         generation = positive;
         each = entries_of index.format index.entries v.entries each read;
-        names_ascend = subst (IsStrictlySortedBy name_cmp) (sym (names_are index.entries v.entries read)) rules.names_ascend;
+        names_ascend = subst (IsStrictlySortedBy name_cmp) (sym (names_are index.entries v.entries read))
+            rules.names_ascend;
         few = omega (arith, many, few);
         small = omega (arith, size, small);
         lacking = are.copies_are;
@@ -159,5 +181,7 @@ module _ (shape : Shape) where
       }
 
   -- which copies lack a storage
-  pub lacking_are : (lacks_text : ℕ → Bool) (entries : List Entry) → AreNumbers shape.place.copies (store_lacking shape.scope lacks_text entries shape.place.copies)
-  lacking_are lacks_text entries = numbers_passing (λ copy. lacks_number shape.scope (lacks_text copy) entries (copy + 1)) shape.place.copies
+  pub lacking_are : (lacks_text : ℕ → Bool) (entries : List Entry)
+      → AreNumbers shape.place.copies (store_lacking shape.scope lacks_text entries shape.place.copies)
+  lacking_are lacks_text entries = numbers_passing (λ copy.
+      lacks_number shape.scope (lacks_text copy) entries (copy + 1)) shape.place.copies

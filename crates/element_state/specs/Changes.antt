@@ -1,5 +1,6 @@
 -- The view that a commit makes, by its changes and by the maps of contents before and after.
-use Rattle.std.specs.Prelude.{ℕ, ◌+◌, List, [], ◌∷◌, map, Bool, true, false, cond, not, Option, Some, None, find, filter, ◌&&◌, nat_eq}
+use Rattle.std.specs.Prelude.{ℕ, ◌+◌, List, [], ◌∷◌, map, Bool, true, false, cond, not, Option, Some, None, find}
+use Rattle.std.specs.Prelude.{filter, ◌&&◌, nat_eq}
 use Rattle.std.specs.List.{fold}
 use Rattle.std.specs.Str.{bytes_eq}
 use Rattle.std.specs.Ordering.{is_lt}
@@ -39,11 +40,13 @@ abbrev pub entry_at : List ℕ → List Entry → Option Entry
 entry_at name entries = item_at entry_name name entries
 
 abbrev pub touched : (generation : ℕ) → List ℕ → FileInfo → Entry → Entry
-touched generation name info e = cond (bytes_eq e.name name) (record e { info = Some info; changed = generation; lacking = [] }) e
+touched generation name info e = cond (bytes_eq e.name name)
+    (record e { info = Some info; changed = generation; lacking = [] }) e
 
 -- the entries after one change, under the generation of the commit
 abbrev pub after_change : (generation : ℕ) → List Entry → Change → List Entry
-after_change generation entries (Put f) = insert_item entry_name (fresh_entry generation (fresh_element f)) (without_item entry_name f.name entries)
+after_change generation entries (Put f) = insert_item entry_name (fresh_entry generation (fresh_element f))
+    (without_item entry_name f.name entries)
 after_change generation entries (Remove name) = without_item entry_name name entries
 after_change generation entries (Touch name info) = map (touched generation name info) entries
 
@@ -59,7 +62,8 @@ committed_by shape v changes = whole_view shape (v.generation + 1) (after_change
 abbrev pub same_info : Option FileInfo → Option FileInfo → Bool
 same_info None None = true
 same_info (Some a) (Some b) = nat_eq a.created b.created && nat_eq a.modified b.modified && nat_eq a.accessed b.accessed
-    && nat_eq (cause_code a.creation) (cause_code b.creation) && nat_eq (cause_code a.modification) (cause_code b.modification)
+    && nat_eq (cause_code a.creation) (cause_code b.creation)
+    && nat_eq (cause_code a.modification) (cause_code b.modification)
 same_info None (Some b) = false
 same_info (Some a) None = false
 
@@ -91,4 +95,5 @@ committed_entry generation entries synced element =
 
 -- the view after a commit that makes one map of contents into another
 unfoldable pub committed : Shape → View → (synced new : Map) → View
-committed shape v synced new = whole_view shape (v.generation + 1) (map (committed_entry (v.generation + 1) v.entries synced) new)
+committed shape v synced new = whole_view shape (v.generation + 1)
+    (map (committed_entry (v.generation + 1) v.entries synced) new)

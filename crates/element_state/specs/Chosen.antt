@@ -1,5 +1,6 @@
 -- The text at which a storage opens, or else the first that fits, and what reading tells of it.
-use Rattle.std.specs.Prelude.{◌≡◌, ◌<◌, ◌+◌, ◌&&◌, ℕ, List, [], ◌∷◌, length, Bool, true, false, Option, Some, None, find}
+use Rattle.std.specs.Prelude.{◌≡◌, ◌<◌, ◌+◌, ◌&&◌, ℕ, List, [], ◌∷◌, length, Bool, true, false, Option, Some, None}
+use Rattle.std.specs.Prelude.{find}
 use Rattle.std.specs.List.{list_all}
 use Rattle.per_base.specs.declared.elements.Content.{Content}
 use Rattle.per_base.specs.declared.elements.Content.TheVariants.{Good, Bad}
@@ -78,8 +79,10 @@ HasBlocks e = length e.blocks ≡ block_count e.len
 
 -- the content of an entry counts in each copy that does not lack the element
 abbrev pub Vouches : Image → Place → IndexEntry → Entry → Type 0
-Vouches image place e f = (copy : ℕ) → copy < place.copies → named_in f.lacking (copy + 1) ≡ false → counts image place e copy ≡ true
+Vouches image place e f = (copy : ℕ) → copy < place.copies → named_in f.lacking (copy + 1) ≡ false
+    → counts image place e copy ≡ true
 
 -- a copy is one of a list, and every content counts in it
 abbrev pub is_whole_of : Image → Place → (holders : List ℕ) → List IndexEntry → (copy : ℕ) → Bool
-is_whole_of image place holders entries copy = named_in holders (copy + 1) && list_all (λ e. counts image place e copy) entries
+is_whole_of image place holders entries copy = named_in holders (copy + 1)
+    && list_all (λ e. counts image place e copy) entries

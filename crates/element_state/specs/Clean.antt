@@ -1,5 +1,5 @@
--- The pieces of a place, texts in slots and contents in blocks; a place on which nothing contradicts anything, and a case of a crash in which
--- nothing passes its hash by chance.
+-- The pieces of a place, texts in slots and contents in blocks; a place on which nothing contradicts anything, and a
+-- case of a crash in which nothing passes its hash by chance.
 use Rattle.std.specs.Prelude.{◌≡◌, ◌⊎◌, ℕ, ◌<◌, List, map, Option, Some, Contains}
 use Rattle.disk_model.specs.declared.place.Place.{Place}
 use Rattle.disk_model.specs.Image.{Image}
@@ -56,12 +56,15 @@ abbrev pub IsPiece : Place → Image → Piece → Type 0
 IsPiece place image (in_slot piece) = IsSlotPiece place.first place.copies image piece
 IsPiece place image (in_blocks piece) = IsBlockPiece place image piece
 
--- no two texts of one generation are held, each text that is held fits, and copies that count under one entry hold the same bytes
+-- no two texts of one generation are held, each text that is held fits, and copies that count under one entry hold the
+-- same bytes
 pub record IsClean (shape : Shape) (image : Image) : Type 0 where
   pub one_each : IsOneEach image shape.place.first shape.place.copies
-  pub fit : (copy generation : ℕ) (text : List ℕ) → copy < shape.place.copies → Holds image shape.place.first copy generation text
+  pub fit : (copy generation : ℕ) (text : List ℕ) → copy < shape.place.copies
+      → Holds image shape.place.first copy generation text
       → (index : Index) × (fit_index shape text ≡ Some index)
-  pub alike : (at : Where) (a b : ℕ) (s t : List ℕ) → IsNamed shape.place image at → a < shape.place.copies → b < shape.place.copies
+  pub alike : (at : Where) (a b : ℕ) (s t : List ℕ) → IsNamed shape.place image at → a < shape.place.copies
+      → b < shape.place.copies
       → counting_at image shape.place a at ≡ Some s → counting_at image shape.place b at ≡ Some t → s ≡ t
 
 -- ---- what is granted of chance
@@ -72,11 +75,14 @@ pub record IsCounted (place : Place) (c : Case) (at : Where) (bytes : List ℕ) 
   pub inside : copy < place.copies
   pub counts : (counting_at c.base place copy at ≡ Some bytes) ⊎ (counting_at c.full place copy at ≡ Some bytes)
 
--- No two contents lie under one hash: all that counts for a content which an index names that was held after the last sync is the same bytes.
+-- No two contents lie under one hash: all that counts for a content which an index names that was held after the last
+-- sync is the same bytes.
 abbrev pub HasNoTwins : Place → Case → Type 0
-HasNoTwins place c = (at : Where) (s t : List ℕ) → IsNamed place c.base at → IsCounted place c at s → IsCounted place c at t → s ≡ t
+HasNoTwins place c = (at : Where) (s t : List ℕ) → IsNamed place c.base at → IsCounted place c at s
+    → IsCounted place c at t → s ≡ t
 
--- A sound case, for a place: no torn piece passes its hash by chance, and no two contents lie under one hash. It is a matter of hashes alone.
+-- A sound case, for a place: no torn piece passes its hash by chance, and no two contents lie under one hash. It is a
+-- matter of hashes alone.
 pub record IsSound (place : Place) (c : Case) : Type 0 where
   pub pieces : IsSoundFor (IsPiece place) c
   pub no_twins : HasNoTwins place c

@@ -42,7 +42,8 @@ abbrev pub IsGoodEntry : Option Entry → Type 0
 IsGoodEntry None = ⊥
 IsGoodEntry (Some e) = (value : List ℕ) × (e.content ≡ Good value)
 
--- a change that a storage of this kind with these entries can take: a new info comes for a file that is there and readable
+-- a change that a storage of this kind with these entries can take: a new info comes for a file that is there and
+-- readable
 abbrev pub IsChange : StoreKind → List Entry → Change → Type 0
 IsChange kind entries (Put f) = IsFresh kind f
 IsChange kind entries (Remove name) = ⊤
@@ -63,8 +64,9 @@ abbrev pub IsMended : Content → List ℕ → Type 0
 IsMended (Good value) lacking = lacking ≡ []
 IsMended (Bad salvage) lacking = ⊤
 
--- A storage in use on this image, with this index and this view: every copy holds the text of the index and no other slot holds any;
--- the storage opens at this view, with no other text; and only elements that cannot be read lack copies.
+-- A storage in use on this image, with this index and this view: every copy holds the text of the index and no other
+-- slot holds any; the storage opens at this view, with no other text; and only elements that cannot be read lack
+-- copies.
 pub record IsInUse (shape : Shape) (image : Image) (index : Index) (v : View) : Type 0 where
   pub alone : IsAlone image shape.place.first shape.place.copies v.generation (index_text index)
   pub fit : fit_index shape (index_text index) ≡ Some index

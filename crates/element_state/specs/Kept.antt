@@ -55,14 +55,17 @@ IsSpared shape damaged lacking copy = IsUndamaged damaged shape.place.first copy
 abbrev pub HasEnough : Shape → (damaged lacking : List ℕ) → Type 0
 HasEnough shape damaged lacking = AtLeast (IsSpared shape damaged lacking) shape.place.copies shape.m
 
--- an element that was good, with enough copies left of it, is good with the same value; with storage scope the copies of the storage are enough
+-- an element that was good, with enough copies left of it, is good with the same value; with storage scope the copies
+-- of the storage are enough
 abbrev pub KeepsGood : Shape → (damaged : List ℕ) → (left there : View) → Type 0
 KeepsGood shape damaged left there = AllZip (λ e f. (value : List ℕ) → f.content ≡ Good value
-    → (shape.scope ≡ scope.Storage) ⊎ HasEnough shape damaged f.lacking → e.content ≡ Good value) left.entries there.entries
+    → (shape.scope ≡ scope.Storage) ⊎ HasEnough shape damaged f.lacking → e.content ≡ Good value) left.entries
+    there.entries
 
 -- an undamaged copy that did not lack a good element does not lack it
 abbrev pub CostsNoCopy : Shape → (damaged : List ℕ) → (left there : View) → Type 0
-CostsNoCopy shape damaged left there = AllZip (λ e f. (value : List ℕ) (copy : ℕ) → f.content ≡ Good value → copy < shape.place.copies
+CostsNoCopy shape damaged left there = AllZip (λ e f. (value : List ℕ) (copy : ℕ) → f.content ≡ Good value
+    → copy < shape.place.copies
     → IsSpared shape damaged f.lacking copy → ¬ (Contains e.lacking (copy + 1))) left.entries there.entries
 
 -- ---- what is left of a storage
@@ -82,16 +85,19 @@ StaysAs shape damaged left before after =
     ⊎ (¬ (SameHeadings left before) × (v : View) × (others : List View) × (after ≡ Opens v others)
     × SameHeadings left v × KeepsGood shape damaged left v × CostsNoCopy shape damaged left v)
 
--- it opens at the view of after, with each good element of which enough copies are left, and no copy was lost on the way
+-- it opens at the view of after, with each good element of which enough copies are left, and no copy was lost on the
+-- way
 abbrev pub BecomesAs : Shape → (damaged : List ℕ) → (left : View) → (after : State) → Type 0
-BecomesAs shape damaged left (Opens v others) = SameHeadings left v × KeepsGood shape damaged left v × CostsNoCopy shape damaged left v
+BecomesAs shape damaged left (Opens v others) = SameHeadings left v × KeepsGood shape damaged left v
+    × CostsNoCopy shape damaged left v
 BecomesAs shape damaged left (Corrupt salvage others) = ⊥
 
 -- with enough copies left of a storage that opens, it opens; one that was corrupt opens at most at the view of after
 abbrev pub Stays : Shape → (damaged : List ℕ) → (left before after : State) → Type 0
 Stays shape damaged left (Opens v others) after = HasEnough shape damaged v.lacking
     → (w : View) × (rest : List View) × (left ≡ Opens w rest) × StaysAs shape damaged w v after
-Stays shape damaged left (Corrupt salvage others) after = (w : View) (rest : List View) → left ≡ Opens w rest → BecomesAs shape damaged w after
+Stays shape damaged left (Corrupt salvage others) after =
+    (w : View) (rest : List View) → left ≡ Opens w rest → BecomesAs shape damaged w after
 
 -- where both open alike, the stop has cost no copy
 abbrev pub CopiesStay : Shape → (damaged : List ℕ) → (left before : State) → Type 0
@@ -101,11 +107,12 @@ CopiesStay shape damaged (Corrupt salvage others) before = ⊤
 
 -- with enough copies left of it, in either scope, an element that was good is good with the same value
 abbrev pub KeepsEach : Shape → (damaged : List ℕ) → (left there : View) → Type 0
-KeepsEach shape damaged left there = AllZip (λ e f. (value : List ℕ) → f.content ≡ Good value → HasEnough shape damaged f.lacking → e.content ≡ Good value)
+KeepsEach shape damaged left there = AllZip (λ e f. (value : List ℕ) → f.content ≡ Good value
+    → HasEnough shape damaged f.lacking → e.content ≡ Good value)
     left.entries there.entries
 
--- what is left of a view, also where too few copies of its text are left to open at: the same headings, each good element of which enough
--- copies are left, and no copy was lost on the way
+-- what is left of a view, also where too few copies of its text are left to open at: the same headings, each good
+-- element of which enough copies are left, and no copy was lost on the way
 pub record IsLeftAs (shape : Shape) (damaged : List ℕ) (left there : View) : Type 0 where
   pub same : SameHeadings left there
   pub good : KeepsEach shape damaged left there
@@ -120,8 +127,8 @@ IsLeftAfter shape damaged left (Corrupt salvage others) = ⊥
 abbrev pub HasOne : Shape → (damaged lacking : List ℕ) → Type 0
 HasOne shape damaged lacking = (copy : ℕ) × (copy < shape.place.copies) × IsSpared shape damaged lacking copy
 
--- with one copy left of the salvage of a corrupt storage, it has this salvage, or the view of after in its place; by who holds its text
--- this is said of images below
+-- with one copy left of the salvage of a corrupt storage, it has this salvage, or the view of after in its place; by
+-- who holds its text this is said of images below
 abbrev pub SalvageStays : Shape → (damaged : List ℕ) → (left before after : State) → Type 0
 SalvageStays shape damaged left (Opens v others) after = ⊤
 SalvageStays shape damaged left (Corrupt None others) after = ⊤
@@ -130,7 +137,8 @@ SalvageStays shape damaged left (Corrupt (Some v) others) after = HasOne shape d
 
 -- What a stop and damage leave of a storage that was in one state and on its way to another.
 pub record Kept (shape : Shape) (damaged : List ℕ) (left before after : State) : Type 0 where
-  -- every text that fits, and not only the one that it opens at, stands for something known: later damage may bring it up
+  -- every text that fits, and not only the one that it opens at, stands for something known: later damage may bring it
+  -- up
   pub known : AllByRecursion (λ w. IsFromOneOf w (all_views before ++ listed (salvage_of after))) (all_views left)
   pub stays : Stays shape damaged left before after
   pub copies : CopiesStay shape damaged left before
@@ -140,15 +148,20 @@ pub record Kept (shape : Shape) (damaged : List ℕ) (left before after : State)
 
 -- a copy held this text at the start, and the damage spares it, whatever contents it lacked
 abbrev pub HasHolder : Shape → (start : Image) → (damaged : List ℕ) → FitText → Type 0
-HasHolder shape start damaged text = (copy : ℕ) × (copy < shape.place.copies) × IsUndamaged damaged shape.place.first copy
+HasHolder shape start damaged text = (copy : ℕ) × (copy < shape.place.copies)
+    × IsUndamaged damaged shape.place.first copy
     × Holds start shape.place.first copy text.0.generation text.0.text
 
--- with one copy left that holds the text of the salvage of a corrupt storage, it has this salvage, or the view of after in its place
+-- with one copy left that holds the text of the salvage of a corrupt storage, it has this salvage, or the view of after
+-- in its place
 abbrev pub KeepsSalvage : Shape → (start : Image) → (damaged : List ℕ) → (left after : State) → Type 0
-KeepsSalvage shape start damaged left after = (text : FitText) → chosen start shape ≡ Some (false, text) → HasHolder shape start damaged text
-    → (w : View) × (salvage_of left ≡ Some w) × (IsLeftAs shape damaged w (view_of start shape text) ⊎ IsLeftAfter shape damaged w after)
+KeepsSalvage shape start damaged left after = (text : FitText) → chosen start shape ≡ Some (false, text)
+    → HasHolder shape start damaged text
+    → (w : View) × (salvage_of left ≡ Some w) × (IsLeftAs shape damaged w (view_of start shape text)
+    ⊎ IsLeftAfter shape damaged w after)
 
--- What a stop and damage leave on an image of a storage that was on its way to another state: it is kept, and the place stays clean.
+-- What a stop and damage leave on an image of a storage that was on its way to another state: it is kept, and the place
+-- stays clean.
 pub record IsKeptOn (shape : Shape) (damaged : List ℕ) (start image : Image) (after : State) : Type 0 where
   pub kept : Kept shape damaged (store_at image shape) (store_at start shape) after
   pub salvage : KeepsSalvage shape start damaged (store_at image shape) after

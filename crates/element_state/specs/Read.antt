@@ -12,7 +12,8 @@ use Rattle.element_state.specs.declared.shapes.View.{View}
 use Rattle.element_state.specs.Chosen.{HasLength}
 use Rattle.element_state.specs.Conditions.{size_of}
 
--- an element of a storage: an info exactly for files, a length within the kind, a value or salvage of this length, and copies of the place that lack it
+-- an element of a storage: an info exactly for files, a length within the kind, a value or salvage of this length, and
+-- copies of the place that lack it
 pub record IsEntryOf (shape : Shape) (e : Entry) : Type 0 where
   pub name : IsName e.name
   pub info : IsTrue (has_info shape.kind e.info)
@@ -21,7 +22,8 @@ pub record IsEntryOf (shape : Shape) (e : Entry) : Type 0 where
   pub lacking : AreCopies shape.place.copies e.lacking
   pub ascend : Ascend e.lacking
 
--- at most 1024 elements, their names ascending and together within what is allowed, under a generation, and copies of the place that lack the storage
+-- at most 1024 elements, their names ascending and together within what is allowed, under a generation, and copies of
+-- the place that lack the storage
 pub record IsView (shape : Shape) (v : View) : Type 0 where
   pub generation : 1 ≤ v.generation
   pub each : AllByRecursion (IsEntryOf shape) v.entries

@@ -10,7 +10,9 @@ use Rattle.per_base.specs.declared.elements.Content.TheVariants.{Good, Bad}
 use Rattle.per_base.specs.declared.elements.Entry.{Entry}
 use Rattle.per_base.specs.declared.reports.Report.{Report}
 use Rattle.per_base.specs.declared.reports.ReportKind.{ReportKind}
-use Rattle.per_base.specs.declared.reports.ReportKind.TheVariants.{KvsRecovered, KvsFailed, KeyRecovered, KeyFailed, FilesRecovered, FilesFailed, FileRecovered, FileFailed}
+use Rattle.per_base.specs.declared.reports.ReportKind.TheVariants.{KvsRecovered, KvsFailed, KeyRecovered, KeyFailed}
+use Rattle.per_base.specs.declared.reports.ReportKind.TheVariants.{FilesRecovered, FilesFailed, FileRecovered}
+use Rattle.per_base.specs.declared.reports.ReportKind.TheVariants.{FileFailed}
 use Rattle.element_state.specs.declared.shapes.Shape.{Shape}
 use Rattle.element_state.specs.declared.shapes.View.{View}
 
@@ -55,7 +57,8 @@ element_reports test shape e = cond (is_readable test e.content)
 
 -- the reports of an opening that found this view
 unfoldable pub reports : (test : List ℕ → Bool) → Shape → View → List Report
-reports test shape v = report_some (store_recovered shape.kind) shape None v.lacking ++ flat_map (element_reports test shape) v.entries
+reports test shape v = report_some (store_recovered shape.kind) shape None v.lacking
+    ++ flat_map (element_reports test shape) v.entries
 
 -- the report of an opening that found the storage corrupt: all its copies
 abbrev pub failed_report : Shape → Report

@@ -1,5 +1,6 @@
 -- The state of a storage on an image, and the states that an opening, a creation and a rebuild make.
-use Rattle.std.specs.Prelude.{ℕ, ◌+◌, ◌-◌, ◌^◌, List, [], ◌∷◌, length, map, Bool, true, cond, nat_le, Option, Some, None}
+use Rattle.std.specs.Prelude.{ℕ, ◌+◌, ◌-◌, ◌^◌, List, [], ◌∷◌, length, map, Bool, true, cond, nat_le, Option, Some}
+use Rattle.std.specs.Prelude.{None}
 use Rattle.per_base.specs.declared.elements.Scope.{Scope}
 use Rattle.per_base.specs.declared.elements.Scope.TheVariants as scope
 use Rattle.per_base.specs.declared.elements.Content.{Content}
@@ -15,8 +16,8 @@ use Rattle.element_state.specs.declared.shapes.View.{View}
 use Rattle.element_state.specs.Fit.{FitText, fit_texts}
 use Rattle.element_state.specs.Views.{qualifies, view_of, lacks_one, judged_view}
 
--- A storage opens at a view; or it is corrupt, and the view of the first text that fits is its salvage. The others are the views of the
--- other texts that fit.
+-- A storage opens at a view; or it is corrupt, and the view of the first text that fits is its salvage. The others are
+-- the views of the other texts that fit.
 pub data State : Type 0 where
   Opens : (view : View) (others : List View) → State
   Corrupt : (salvage : Option View) (others : List View) → State
@@ -42,7 +43,8 @@ state_of view texts (Some found) = Opens (view found.0) (map view found.1)
 
 -- the first text that fits and qualifies is what the storage opens at
 unfoldable pub store_at : Image → Shape → State
-store_at image shape = state_of (view_of image shape) (fit_texts shape image) (picked (qualifies image shape) (fit_texts shape image))
+store_at image shape = state_of (view_of image shape) (fit_texts shape image)
+    (picked (qualifies image shape) (fit_texts shape image))
 
 -- ---- what a state holds
 
@@ -94,7 +96,15 @@ mended_view shape v = whole_view shape v.generation (map mended_entry v.entries)
 
 -- an element that this generation wrote
 abbrev pub fresh_entry : (generation : ℕ) → List ℕ × Element → Entry
-fresh_entry generation e = record { name = e.0; info = e.1.info; changed = generation; len = e.1.len; content = e.1.content; lacking = [] }
+fresh_entry generation e = record {
+  name = e.0;
+  info = e.1.info;
+  changed = generation;
+  len = e.1.len;
+  content =
+      e.1.content;
+  lacking = [];
+}
 
 -- what is to be written, as a map
 abbrev pub fresh_element : Fresh → List ℕ × Element
@@ -105,7 +115,13 @@ fresh_map contents = map fresh_element contents
 
 -- a storage that this generation made of these contents
 abbrev pub fresh_view : (generation : ℕ) → Map → View
-fresh_view generation m = record { generation = generation; lacking = []; settled = true; entries = map (fresh_entry generation) m }
+fresh_view generation m = record {
+  generation = generation;
+  lacking = [];
+  settled = true;
+  entries =
+      map (fresh_entry generation) m;
+}
 
 unfoldable pub fresh_state : (generation : ℕ) → Map → State
 fresh_state generation m = Opens (fresh_view generation m) []

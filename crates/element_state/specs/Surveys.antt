@@ -1,5 +1,6 @@
 -- What a survey of a storage hands up.
-use Rattle.std.specs.Prelude.{◌≡◌, ◌<◌, ◌+◌, ℕ, List, length, slice_index_or, Bool, true, false, not, Option, Some, None, find}
+use Rattle.std.specs.Prelude.{◌≡◌, ◌<◌, ◌+◌, ℕ, List, length, slice_index_or, Bool, true, false, not, Option, Some}
+use Rattle.std.specs.Prelude.{None, find}
 use Rattle.std.specs.List.{AllZip}
 use Rattle.per_base.specs.declared.elements.Entry.{Entry}
 use Rattle.disk_model.specs.Image.{Image}
@@ -60,12 +61,14 @@ IsTried image shape text (Some entries) = (qualifies image shape text ≡ true) 
 -- the first text that qualifies, by its place in the list, with its elements
 abbrev pub IsFirst : Image → Shape → List FitText → Option (ℕ × List Entry) → Type 0
 IsFirst image shape texts None = find (qualifies image shape) texts ≡ None
-IsFirst image shape texts (Some at) = (d : FitText) → (find (qualifies image shape) texts ≡ Some (slice_index_or texts at.0 d))
+IsFirst image shape texts (Some at) = (d : FitText) → (find (qualifies image shape) texts
+    ≡ Some (slice_index_or texts at.0 d))
     × (at.1 ≡ entries_of image shape (slice_index_or texts at.0 d))
 
 -- it is one of the texts, and the elements were read by its entries
 abbrev pub IsAmong : (copies : ℕ) → List FitText → ℕ × List Entry → Type 0
-IsAmong copies texts at = (at.0 < length texts) × ((d : FitText) → AllZip (IsReadBy copies) (slice_index_or texts at.0 d).1.entries at.1)
+IsAmong copies texts at = (at.0 < length texts) × ((d : FitText)
+    → AllZip (IsReadBy copies) (slice_index_or texts at.0 d).1.entries at.1)
 
 -- the view of a text by the copies that hold it and by its elements
 abbrev pub view_by : Shape → Seen → (settled : Bool) → List Entry → View

@@ -1,5 +1,7 @@
--- What a text that fits stands for: which copies support it, its elements, and the copies that lack them. Copies are counted from 0, in lists from 1.
-use Rattle.std.specs.Prelude.{ℕ, ◌+◌, List, length, map, Bool, ◌&&◌, ◌||◌, not, cond, nat_le, Option, Some, None, is_some}
+-- What a text that fits stands for: which copies support it, its elements, and the copies that lack them. Copies are
+-- counted from 0, in lists from 1.
+use Rattle.std.specs.Prelude.{ℕ, ◌+◌, List, length, map, Bool, ◌&&◌, ◌||◌, not, cond, nat_le, Option, Some, None}
+use Rattle.std.specs.Prelude.{is_some}
 use Rattle.std.specs.List.{list_all, list_any}
 use Rattle.per_base.specs.declared.elements.Scope.{Scope}
 use Rattle.per_base.specs.declared.elements.Scope.TheVariants as scope
@@ -32,7 +34,8 @@ counts image place e copy = is_some (counting (image (area place.first copy)) e.
 
 -- the copy holds the text, and the contents of all its entries count there
 abbrev pub holds_all : Image → Place → FitText → ℕ → Bool
-holds_all image place text copy = holds_text image place text copy && list_all (λ e. counts image place e copy) text.1.entries
+holds_all image place text copy = holds_text image place text copy
+    && list_all (λ e. counts image place e copy) text.1.entries
 
 -- the copies that support a text: those that hold it, with storage scope those that hold all of it
 abbrev pub supporters : Scope → Image → Place → FitText → List ℕ
@@ -74,7 +77,8 @@ lacks_number scope.Element lacks_text entries number = lacks_text
 lacks_number scope.Storage lacks_text entries number = lacks_text || lacks_one entries number
 
 abbrev pub store_lacking : Scope → (lacks_text : ℕ → Bool) → List Entry → (copies : ℕ) → List ℕ
-store_lacking scope lacks_text entries copies = copies_that (λ copy. lacks_number scope (lacks_text copy) entries (copy + 1)) copies
+store_lacking scope lacks_text entries copies = copies_that
+    (λ copy. lacks_number scope (lacks_text copy) entries (copy + 1)) copies
 
 abbrev pub entries_of : Image → Shape → FitText → List Entry
 entries_of image shape text = map (entry_view image shape.place shape.m) text.1.entries
@@ -82,7 +86,8 @@ entries_of image shape text = map (entry_view image shape.place shape.m) text.1.
 unfoldable pub view_of : Image → Shape → FitText → View
 view_of image shape text = record {
   generation = text.0.generation;
-  lacking = store_lacking shape.scope (λ copy. not (holds_text image shape.place text copy)) (entries_of image shape text) shape.place.copies;
+  lacking = store_lacking shape.scope (λ copy. not (holds_text image shape.place text copy))
+      (entries_of image shape text) shape.place.copies;
   settled = is_settled (fit_texts shape image);
   entries = entries_of image shape text;
 }

@@ -46,7 +46,8 @@ bytes_of (Bad salvage) = []
 
 abbrev pub element_cost : StoreKind → Option Element → Element → ℕ
 element_cost kind None new = whole_cost (bytes_of new.content)
-element_cost kind (Some old) new = cond (same_content old.content new.content) 0 (cost_over kind old.content (bytes_of new.content))
+element_cost kind (Some old) new = cond (same_content old.content new.content) 0
+    (cost_over kind old.content (bytes_of new.content))
 
 -- the elements whose content is new or differs
 unfoldable pub map_cost : StoreKind → (synced new : Map) → ℕ

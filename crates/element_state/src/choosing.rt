@@ -1,6 +1,7 @@
 //! Which of the texts that fit a storage opens at, and its view.
 
-ghost use Rattle.std.specs.Prelude.{◌≡◌, ◌≤◌, ◌+◌, IsTrue, IfOk, IfSome, IsErrOf, length, not, slice_index_or, ◌<◌, OnOk};
+ghost use Rattle.std.specs.Prelude.{◌≡◌, ◌≤◌, ◌+◌, IsTrue, IfOk, IfSome, IsErrOf, length, not, slice_index_or, ◌<◌};
+ghost use Rattle.std.specs.Prelude.{OnOk};
 ghost use Rattle.std.specs.List.{AllByRecursion, AllZip};
 ghost use Rattle.std.specs.Option.{option_map};
 ghost use Rattle.per_base.specs.Causes.{Rose};
@@ -10,7 +11,8 @@ ghost use Rattle.element_state.specs.Conditions.{IsShape};
 ghost use Rattle.element_state.specs.Fit.{fit_texts};
 ghost use Rattle.element_state.specs.Views.{lacks_one, lacks_number, entries_of, qualifies, store_lacking};
 ghost use Rattle.element_state.specs.Chosen.{chosen, IsFit, IsReadBy};
-ghost use Rattle.element_state.specs.Surveys.{IsAmong, IsFirst, IsFound, IsHeldOn, IsTried, IsViewedOn, text_of, view_by};
+ghost use Rattle.element_state.specs.Surveys.{IsAmong, IsFirst, IsFound, IsHeldOn, IsTried, IsViewedOn, text_of};
+ghost use Rattle.element_state.specs.Surveys.{view_by};
 
 use crate::errors::StoreError;
 use crate::reading::read_entries;
@@ -34,8 +36,10 @@ pub(crate) fn choose<D: Disk>(
     requires fit { AllByRecursion (IsFit shape.now) texts.items }
     requires texts { IsTrue D.told → texts.items ≡ fit_texts shape.now (D.medium disk.old).image }
     requires held { IsTrue D.told → AllByRecursion (IsHeldOn (D.medium disk.old).image shape.now) texts.items }
-    ensures chosen { IsTrue D.told → IfOk result (λ found. option_map text_of found ≡ chosen (D.medium disk.old).image shape.now) }
-    ensures viewed { IsTrue D.told → IfOk result (λ found. IfSome found (IsViewedOn (D.medium disk.old).image shape.now)) }
+    ensures chosen { IsTrue D.told → IfOk result (λ found. option_map text_of found
+        ≡ chosen (D.medium disk.old).image shape.now) }
+    ensures viewed { IsTrue D.told → IfOk result (λ found.
+        IfSome found (IsViewedOn (D.medium disk.old).image shape.now)) }
     ensures found { IfOk result (λ found. IfSome found (IsFound shape.now)) }
     ensures reads { OnlyReads (D.medium disk.old) (D.medium disk.new) }
     ensures time { Elapses (D.medium disk.old) (D.medium disk.new) }
@@ -83,7 +87,8 @@ fn found_at(
 ) -> Result<Found, AllocError>
     requires { at < length texts.items }
     ensures opens { IfOk result (λ found. found.opens ≡ opens) }
-    ensures text { IfOk result (λ found. (found.seen, found.index) ≡ slice_index_or texts.items at (found.seen, found.index)) }
+    ensures text { IfOk result (λ found. (found.seen, found.index)
+        ≡ slice_index_or texts.items at (found.seen, found.index)) }
     ensures view { IfOk result (λ found. found.view ≡ view_by shape.now found.seen settled entries) }
 {
     let mut texts = texts;
@@ -136,7 +141,8 @@ fn try_text<D: Disk>(
     requires fit { IsFit shape.now text.now }
     requires held { IsTrue D.told → IsHeldOn (D.medium disk.old).image shape.now text.now }
     ensures tried { IsTrue D.told → IfOk result (λ tried. IsTried (D.medium disk.old).image shape.now text.now tried) }
-    ensures read { IfOk result (λ tried. IfSome tried (λ entries. AllZip (IsReadBy shape.now.place.copies) text.now.1.entries entries)) }
+    ensures read { IfOk result (λ tried. IfSome tried (λ entries.
+        AllZip (IsReadBy shape.now.place.copies) text.now.1.entries entries)) }
     ensures reads { OnlyReads (D.medium disk.old) (D.medium disk.new) }
     ensures time { Elapses (D.medium disk.old) (D.medium disk.new) }
     ensures never_corrupt { IsErrOf result StoreError.Corrupt → ⊥ }
@@ -166,9 +172,11 @@ fn is_supported<D: Disk>(
 ) -> Result<bool, StoreError>
     requires enough { shape.now.m ≤ length seen.now.copies }
     requires length { length entries.now ≡ length index.now.entries }
-    requires views { IsTrue D.told → entries.now ≡ entries_of (D.medium disk.old).image shape.now (seen.now, index.now) }
+    requires views { IsTrue D.told → entries.now ≡ entries_of (D.medium disk.old).image shape.now
+        (seen.now, index.now) }
     requires held { IsTrue D.told → IsHeldOn (D.medium disk.old).image shape.now (seen.now, index.now) }
-    ensures qualifies { IsTrue D.told → IfOk result (λ b. b ≡ qualifies (D.medium disk.old).image shape.now (seen.now, index.now)) }
+    ensures qualifies { IsTrue D.told → IfOk result (λ b. b
+        ≡ qualifies (D.medium disk.old).image shape.now (seen.now, index.now)) }
     ensures reads { OnlyReads (D.medium disk.old) (D.medium disk.new) }
     ensures time { Elapses (D.medium disk.old) (D.medium disk.new) }
     ensures never_corrupt { IsErrOf result StoreError.Corrupt → ⊥ }
@@ -225,7 +233,8 @@ fn list_lacking(
     holders: &Numbers,
     entries: &[Entry],
 ) -> Result<Numbers, AllocError>
-    ensures { IfOk result (λ numbers. numbers ≡ store_lacking scope (λ copy. not (named_in holders.now (copy + 1))) entries.now place.copies) }
+    ensures { IfOk result (λ numbers. numbers ≡ store_lacking scope (λ copy. not (named_in holders.now (copy + 1)))
+        entries.now place.copies) }
 {
     let mut numbers = Vec::new(alloc);
     for copy in 0..place.copies {

@@ -24,7 +24,8 @@ pub(crate) fn read_entries<D: Disk>(
 ) -> Result<Vec<Entry>, StoreError>
     requires m { 1 ≤ m }
     requires blocks { AllByRecursion HasBlocks entries.now }
-    ensures views { IsTrue D.told → IfOk result (λ views. views.items ≡ map (entry_view (D.medium disk.old).image place m) entries.now) }
+    ensures views { IsTrue D.told → IfOk result (λ views. views.items
+        ≡ map (entry_view (D.medium disk.old).image place m) entries.now) }
     ensures read { IfOk result (λ views. AllZip (IsReadBy place.copies) entries.now views.items) }
     ensures reads { OnlyReads (D.medium disk.old) (D.medium disk.new) }
     ensures time { Elapses (D.medium disk.old) (D.medium disk.new) }

@@ -1,4 +1,5 @@
-//! Which copies support a text where the whole storage must agree: those that hold the text, and in which every content counts.
+//! Which copies support a text where the whole storage must agree: those that hold the text, and in which every content
+//! counts.
 
 ghost use Rattle.std.specs.Prelude.{◌≡◌, ◌≤◌, ◌<◌, IsTrue, IfOk, IsErrOf, length, OnOk};
 ghost use Rattle.std.specs.List.{AllZip, list_all};
@@ -15,8 +16,9 @@ use index_text::IndexEntry;
 use per_base::{Entry, Numbers};
 use std::alloc::Global;
 
-// How many of the copies of a list have every content. The elements as they were read are at hand, so only contents that a copy lacks are
-// looked at again: bytes that have the hash count also where they are not the value, or not all within the file.
+// How many of the copies of a list have every content. The elements as they were read are at hand, so only contents
+// that a copy lacks are looked at again: bytes that have the hash count also where they are not the value, or not all
+// within the file.
 pub(crate) fn count_whole<D: Disk>(
     alloc: Global,
     disk: &mut D,
@@ -27,7 +29,8 @@ pub(crate) fn count_whole<D: Disk>(
 ) -> Result<usize, StoreError>
     requires vouched { IsTrue D.told → AllZip (Vouches (D.medium disk.old).image place) entries.now views.now }
     requires length { length views.now ≡ length entries.now }
-    ensures count { IsTrue D.told → IfOk result (λ n. n ≡ length (copies_that (is_whole_of (D.medium disk.old).image place holders.now entries.now) place.copies)) }
+    ensures count { IsTrue D.told → IfOk result (λ n. n ≡ length
+        (copies_that (is_whole_of (D.medium disk.old).image place holders.now entries.now) place.copies)) }
     ensures reads { OnlyReads (D.medium disk.old) (D.medium disk.new) }
     ensures time { Elapses (D.medium disk.old) (D.medium disk.new) }
     ensures never_corrupt { IsErrOf result StoreError.Corrupt → ⊥ }
@@ -57,7 +60,8 @@ fn is_whole<D: Disk>(
     requires copy { copy < place.copies }
     requires vouched { IsTrue D.told → AllZip (Vouches (D.medium disk.old).image place) entries.now views.now }
     requires length { length views.now ≡ length entries.now }
-    ensures whole { IsTrue D.told → IfOk result (λ b. b ≡ is_whole_of (D.medium disk.old).image place holders.now entries.now copy) }
+    ensures whole { IsTrue D.told → IfOk result (λ b. b ≡ is_whole_of (D.medium disk.old).image place holders.now
+        entries.now copy) }
     ensures reads { OnlyReads (D.medium disk.old) (D.medium disk.new) }
     ensures time { Elapses (D.medium disk.old) (D.medium disk.new) }
     ensures never_corrupt { IsErrOf result StoreError.Corrupt → ⊥ }
@@ -84,7 +88,8 @@ fn have_contents<D: Disk>(
     requires copy { copy < place.copies }
     requires vouched { IsTrue D.told → AllZip (Vouches (D.medium disk.old).image place) entries.now views.now }
     requires length { length views.now ≡ length entries.now }
-    ensures all { IsTrue D.told → IfOk result (λ b. b ≡ list_all (λ e. counts (D.medium disk.old).image place e copy) entries.now) }
+    ensures all { IsTrue D.told → IfOk result (λ b. b ≡ list_all (λ e. counts (D.medium disk.old).image place e copy)
+        entries.now) }
     ensures reads { OnlyReads (D.medium disk.old) (D.medium disk.new) }
     ensures time { Elapses (D.medium disk.old) (D.medium disk.new) }
     ensures never_corrupt { IsErrOf result StoreError.Corrupt → ⊥ }

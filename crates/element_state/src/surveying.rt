@@ -32,8 +32,8 @@ pub struct Found {
     pub view: View,
 }
 
-/// Finds the text at which the storage opens, or else the first that fits, and reads it: each content once. None where no text fits.
-/// It begins with a sync and writes nothing.
+/// Finds the text at which the storage opens, or else the first that fits, and reads it: each content once. None where
+/// no text fits. It begins with a sync and writes nothing.
 ///
 /// # Errors
 ///
@@ -46,10 +46,14 @@ pub fn survey<D: Disk>(
     requires { IsShape shape.now }
 
     // Which text it is.
-    ensures chosen { IsTrue D.told → IfOk result (λ found. option_map text_of found ≡ chosen (D.medium disk.old).image shape.now) }
-    ensures viewed { IsTrue D.told → IfOk result (λ found. IfSome found (IsViewedOn (D.medium disk.old).image shape.now)) }
-    ensures opened { IsTrue D.told → IfOk result (λ found. opened_of (store_at (D.medium disk.old).image shape.now) ≡ opened_view found) }
-    ensures salvaged { IsTrue D.told → IfOk result (λ found. salvage_of (store_at (D.medium disk.old).image shape.now) ≡ option_map (λ f. f.view) found) }
+    ensures chosen { IsTrue D.told → IfOk result (λ found. option_map text_of found
+        ≡ chosen (D.medium disk.old).image shape.now) }
+    ensures viewed { IsTrue D.told → IfOk result (λ found.
+        IfSome found (IsViewedOn (D.medium disk.old).image shape.now)) }
+    ensures opened { IsTrue D.told → IfOk result (λ found. opened_of (store_at (D.medium disk.old).image shape.now)
+        ≡ opened_view found) }
+    ensures salvaged { IsTrue D.told → IfOk result (λ found. salvage_of (store_at (D.medium disk.old).image shape.now)
+        ≡ option_map (λ f. f.view) found) }
 
     // Whether the disk tells its bytes or not.
     ensures found { IfOk result (λ found. IfSome found (IsFound shape.now)) }
@@ -77,8 +81,10 @@ pub fn survey<D: Disk>(
 /// `Corrupt` exactly where no text qualifies, `Device` where the disk fails, and `OutOfMemory`.
 pub fn inspect<D: Disk>(alloc: Global, disk: &mut D, shape: &Shape) -> Result<View, StoreError>
     requires { IsShape shape.now }
-    ensures view { IsTrue D.told → IfOk result (λ view. opened_of (store_at (D.medium disk.old).image shape.now) ≡ Some view) }
-    ensures corrupt { IsTrue D.told → IsErrOf result StoreError.Corrupt → opened_of (store_at (D.medium disk.old).image shape.now) ≡ None }
+    ensures view { IsTrue D.told → IfOk result (λ view. opened_of (store_at (D.medium disk.old).image shape.now)
+        ≡ Some view) }
+    ensures corrupt { IsTrue D.told → IsErrOf result StoreError.Corrupt
+        → opened_of (store_at (D.medium disk.old).image shape.now) ≡ None }
 
     // Whether the disk tells its bytes or not.
     ensures read { IfOk result (IsView shape.now) }
@@ -106,8 +112,8 @@ pub fn inspect<D: Disk>(alloc: Global, disk: &mut D, shape: &Shape) -> Result<Vi
     }
 }
 
-/// The view at which the storage opens, or else that of the first text that fits; none exactly where no text fits. It begins with a sync
-/// and writes nothing.
+/// The view at which the storage opens, or else that of the first text that fits; none exactly where no text fits. It
+/// begins with a sync and writes nothing.
 ///
 /// # Errors
 ///
@@ -118,7 +124,8 @@ pub fn salvage<D: Disk>(
     shape: &Shape,
 ) -> Result<Option<View>, StoreError>
     requires { IsShape shape.now }
-    ensures view { IsTrue D.told → IfOk result (λ view. view ≡ salvage_of (store_at (D.medium disk.old).image shape.now)) }
+    ensures view { IsTrue D.told → IfOk result (λ view. view
+        ≡ salvage_of (store_at (D.medium disk.old).image shape.now)) }
 
     // Whether the disk tells its bytes or not.
     ensures read { IfOk result (λ view. IfSome view (IsView shape.now)) }

@@ -1,5 +1,6 @@
 -- A storage of which every copy holds one text, and no other slot holds any.
-use Rattle.std.proofs.Common.{◌≡◌, ℕ, zero, suc, ◌+◌, ◌<◌, ◌≤◌, List, [], ◌∷◌, ◌++◌, length, get_or, Bool, true, false, cond, Some, refl, sym, ap, ◌∙◌, subst, arith, length-append}
+use Rattle.std.proofs.Common.{◌≡◌, ℕ, zero, suc, ◌+◌, ◌<◌, ◌≤◌, List, [], ◌∷◌, ◌++◌, length, get_or, Bool, true, false}
+use Rattle.std.proofs.Common.{cond, Some, refl, sym, ap, ◌∙◌, subst, arith, length-append}
 use Rattle.std.specs.Prelude.{map, not, ◌||◌}
 use Rattle.std.proofs.lemmas.Bool.{cond-true, cond-false, le-leb}
 use Rattle.per_base.specs.declared.elements.Scope.{Scope}
@@ -50,7 +51,8 @@ one_of [] d long = absurd (omega (arith, long))
 one_of (x ∷ []) d long = refl
 one_of (x ∷ y ∷ xs) d long = absurd (omega (arith, long))
 
-module _ (image : Image) (first copies g : ℕ) (text : List ℕ) (some : 1 ≤ copies) (alone : IsAlone image first copies g text) where
+module _ (image : Image) (first copies g : ℕ) (text : List ℕ) (some : 1 ≤ copies)
+    (alone : IsAlone image first copies g text) where
   -- it is the only one
   is_it : (k : ℕ) (d : Seen) → k < length (held image first copies)
       → ((get_or (held image first copies) k d).generation ≡ g) × ((get_or (held image first copies) k d).text ≡ text)
@@ -58,8 +60,10 @@ module _ (image : Image) (first copies g : ℕ) (text : List ℕ) (some : 1 ≤ 
       let seen : Seen = get_or (held image first copies) k d in
       let long : 1 ≤ length seen.copies = held_some image first copies k d lt in
       let are = held_copies image first copies k d lt in
-      let (c, within, passes) = some_passes (λ c. holds image first c (seen.generation, seen.text)) copies (subst (λ (cs : List ℕ). 1 ≤ length cs) are long) in
-      alone_only image first copies g text alone c within seen.generation seen.text (holds_is image first c (seen.generation, seen.text) passes)
+      let (c, within, passes) = some_passes (λ c. holds image first c (seen.generation, seen.text)) copies
+      (subst (λ (cs : List ℕ). 1 ≤ length cs) are long) in
+      alone_only image first copies g text alone c within seen.generation seen.text
+      (holds_is image first c (seen.generation, seen.text) passes)
 
   pub held_of : Seen
   held_of = record { generation = g; text = text; copies = copies_that (λ c. holds image first c (g, text)) copies }
@@ -79,22 +83,36 @@ module _ (image : Image) (first copies g : ℕ) (text : List ℕ) (some : 1 ≤ 
       few_of (suc zero) never = omega arith
       few_of (suc (suc n)) never = absurd (never (omega arith))
 
-  pub held_alone : held image first copies ≡ record { generation = g; text = text; copies = copies_that (λ c. holds image first c (g, text)) copies } ∷ []
+  pub held_alone : held image first copies ≡ record {
+    generation = g;
+    text = text;
+    copies =
+        copies_that (λ c. holds image first c (g, text)) copies;
+  } ∷ []
   held_alone =
       let d : Seen = record { generation = g; text = text; copies = [] } in
       let lt : 0 < length (held image first copies) = omega (arith, one_held) in
       let seen : Seen = get_or (held image first copies) 0 d in
       let it = is_it 0 d lt in
-      let are : seen.copies ≡ copies_that (λ c. holds image first c (seen.generation, seen.text)) copies = held_copies image first copies 0 d lt in
-      let shown : seen ≡ record { generation = g; text = text; copies = copies_that (λ c. holds image first c (g, text)) copies } =
+      let are : seen.copies ≡ copies_that (λ c. holds image first c (seen.generation, seen.text)) copies =
+      held_copies image first copies 0 d lt in
+      let shown : seen ≡ record {
+        generation = g;
+        text = text;
+        copies =
+            copies_that (λ c. holds image first c (g, text)) copies;
+      } =
       seen_is seen it.0 it.1 are in
       one_of (held image first copies) d one_held ∙ ap (λ (s : Seen). s ∷ []) shown
     where
-      seen_is : (s : Seen) → s.generation ≡ g → s.text ≡ text → s.copies ≡ copies_that (λ c. holds image first c (s.generation, s.text)) copies
+      seen_is : (s : Seen) → s.generation ≡ g → s.text ≡ text
+          → s.copies ≡ copies_that (λ c. holds image first c (s.generation, s.text)) copies
           → s ≡ record { generation = g; text = text; copies = copies_that (λ c. holds image first c (g, text)) copies }
       seen_is s a b e =
-          let both : copies_that (λ c. holds image first c (s.generation, s.text)) copies ≡ copies_that (λ c. holds image first c (g, text)) copies =
-          ap (λ h. copies_that (λ c. holds image first c (h, s.text)) copies) a ∙ ap (λ t. copies_that (λ c. holds image first c (g, t)) copies) b in
+          let both : copies_that (λ c. holds image first c (s.generation, s.text)) copies
+          ≡ copies_that (λ c. holds image first c (g, text)) copies =
+          ap (λ h. copies_that (λ c. holds image first c (h, s.text)) copies) a
+          ∙ ap (λ t. copies_that (λ c. holds image first c (g, t)) copies) b in
           ap (λ (h : ℕ). record { generation = h; text = s.text; copies = s.copies }) a
           ∙ ap (λ (t : List ℕ). record { generation = g; text = t; copies = s.copies }) b
           ∙ ap (λ (cs : List ℕ). record { generation = g; text = text; copies = cs }) (e ∙ both)
@@ -107,41 +125,74 @@ module _ (image : Image) (first copies g : ℕ) (text : List ℕ) (some : 1 ≤ 
 module _ (image : Image) (shape : Shape) (g : ℕ) (text : List ℕ) (index : Index) (some : 1 ≤ shape.place.copies)
     (alone : IsAlone image shape.place.first shape.place.copies g text) (fit : fit_index shape text ≡ Some index) where
   abbrev pub alone_text : FitText
-  alone_text = (record { generation = g; text = text; copies = copies_that (λ c. holds image shape.place.first c (g, text)) shape.place.copies }, index)
+  alone_text = (
+    record {
+      generation = g;
+      text = text;
+      copies =
+          copies_that (λ c. holds image shape.place.first c (g, text)) shape.place.copies;
+    },
+    index,
+  )
 
   pub texts_alone : fit_texts shape image ≡ alone_text ∷ []
   unfolding fit_texts
   texts_alone =
-      let seen : Seen = record { generation = g; text = text; copies = copies_that (λ c. holds image shape.place.first c (g, text)) shape.place.copies } in
+      let seen : Seen = record {
+        generation = g;
+        text = text;
+        copies =
+            copies_that (λ c. holds image shape.place.first c (g, text)) shape.place.copies;
+      } in
       rw (held_alone image shape.place.first shape.place.copies g text some alone, fit)
 
   abbrev viewed : View
   viewed = whole_view shape g (map (entry_view image shape.place shape.m) index.entries)
 
-  lacking_of : (s : Scope) (es : List Entry) → store_lacking s (λ c. not (holds_text image shape.place alone_text c)) es shape.place.copies ≡ lacking_by s es shape.place.copies
+  lacking_of : (s : Scope) (es : List Entry) → store_lacking s (λ c. not (holds_text image shape.place alone_text c)) es
+      shape.place.copies ≡ lacking_by s es shape.place.copies
   lacking_of scope.Element es = no_copies (λ c. not (holds_text image shape.place alone_text c)) shape.place.copies
       (λ c lt. ap not (all_hold image shape.place.first shape.place.copies g text some alone c lt))
-  lacking_of scope.Storage es = copies_same (λ c. not (holds_text image shape.place alone_text c) || lacks_one es (c + 1)) (λ copy. lacks_one es (copy + 1)) shape.place.copies
-      (λ c lt. ap (λ b. not b || lacks_one es (c + 1)) (all_hold image shape.place.first shape.place.copies g text some alone c lt))
+  lacking_of scope.Storage es = copies_same (λ c. not (holds_text image shape.place alone_text c)
+      || lacks_one es (c + 1)) (λ copy. lacks_one es (copy + 1)) shape.place.copies
+      (λ c lt. ap (λ b. not b || lacks_one es (c + 1)) (all_hold image shape.place.first shape.place.copies g text some
+      alone c lt))
 
   view_alone : view_of image shape alone_text ≡ viewed
   unfolding view_of
   view_alone =
       let a = lacking_of shape.scope (map (entry_view image shape.place shape.m) index.entries) in
       let b : is_settled (fit_texts shape image) ≡ true = ap is_settled texts_alone in
-      ap (λ (xs : List ℕ). record { generation = g; lacking = xs; settled = is_settled (fit_texts shape image); entries = map (entry_view image shape.place shape.m) index.entries }) a
-      ∙ ap (λ (s : Bool). record { generation = g; lacking = lacking_by shape.scope (map (entry_view image shape.place shape.m) index.entries) shape.place.copies; settled = s; entries = map (entry_view image shape.place shape.m) index.entries }) b
+      ap (λ (xs : List ℕ). record {
+        generation = g;
+        lacking = xs;
+        settled =
+            is_settled (fit_texts shape image);
+        entries = map (entry_view image shape.place shape.m) index.entries;
+      })
+      a
+      ∙ ap (λ (s : Bool). record {
+        generation = g;
+        lacking =
+            lacking_by shape.scope (map (entry_view image shape.place shape.m) index.entries) shape.place.copies;
+        settled = s;
+        entries = map (entry_view image shape.place shape.m) index.entries;
+      }) b
 
   -- the storage opens at the text, and at no other
   pub opens_alone : shape.m ≤ length (supporters shape.scope image shape.place alone_text)
       → store_at image shape ≡ Opens (whole_view shape g (map (entry_view image shape.place shape.m) index.entries)) []
   unfolding store_at
   opens_alone enough =
-      let passes : qualifies image shape alone_text ≡ true = le-leb shape.m (length (supporters shape.scope image shape.place alone_text)) enough in
+      let passes : qualifies image shape alone_text ≡ true =
+      le-leb shape.m (length (supporters shape.scope image shape.place alone_text)) enough in
       ap (λ (ts : List FitText). state_of (view_of image shape) ts (picked (qualifies image shape) ts)) texts_alone
-      ∙ ap (state_of (view_of image shape) (alone_text ∷ [])) (cond-true (qualifies image shape alone_text) (Some (alone_text, [])) (beside alone_text (picked (qualifies image shape) [])) passes)
+      ∙ ap (state_of (view_of image shape) (alone_text ∷ []))
+      (cond-true (qualifies image shape alone_text) (Some (alone_text, []))
+      (beside alone_text (picked (qualifies image shape) [])) passes)
       ∙ ap (λ (v : View). Opens v []) view_alone
 
   -- with element scope every copy supports it
   pub supports_element : length (supporters scope.Element image shape.place alone_text) ≡ shape.place.copies
-  supports_element = all_copies (λ c. holds image shape.place.first c (g, text)) shape.place.copies (all_hold image shape.place.first shape.place.copies g text some alone)
+  supports_element = all_copies (λ c. holds image shape.place.first c (g, text)) shape.place.copies
+      (all_hold image shape.place.first shape.place.copies g text some alone)

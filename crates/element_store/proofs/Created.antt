@@ -31,7 +31,8 @@ use Rattle.element_store.proofs.Fulls.{view_areas}
 use Rattle.element_store.proofs.Made.{shown_still, whole_fresh, made_in_use}
 use Rattle.element_store.proofs.Cleaned.{made_clean}
 
-read_of_made : (copies generation : ℕ) (contents : List Fresh) (entries : List IndexEntry) → AllZip (IsMade generation) contents entries
+read_of_made : (copies generation : ℕ) (contents : List Fresh) (entries : List IndexEntry)
+    → AllZip (IsMade generation) contents entries
     → AllZip (IsReadBy copies) entries (map (fresh_entry generation) (fresh_map contents))
 read_of_made copies g [] [] zip = tt
 read_of_made copies g [] (e ∷ es) zip = absurd zip
@@ -49,7 +50,8 @@ read_of_made copies g (f ∷ fs) (e ∷ es) zip = (
   read_of_made copies g fs es zip.1,
 )
 
-module _ (told : Bool) (mid image : Image) (shape : Shape) (generation : ℕ) (contents : List Fresh) (cell : Cell) (index : Index) (text : List ℕ)
+module _ (told : Bool) (mid image : Image) (shape : Shape) (generation : ℕ) (contents : List Fresh) (cell : Cell)
+    (index : Index) (text : List ℕ)
     (is : IsShape shape) (of : IsCellOf shape.place generation cell) (spelled : IsTextOf shape text index)
     (held : IsTrue told → CellAt image cell text)
     (same : IsTrue told → Spares (IsNoSlot shape.place.first shape.place.copies) mid image)
@@ -65,13 +67,16 @@ module _ (told : Bool) (mid image : Image) (shape : Shape) (generation : ℕ) (c
 
   shows : IsTrue told → ShowsFresh image shape.place shape.m generation contents index.entries
   shows tells = shown_still mid image shape.place shape.m generation
-      (λ e. view_areas mid image shape.place shape.m e (λ c lt. same tells (area shape.place.first c) (area_no_slot shape.place.first shape.place.copies c)))
+      (λ e. view_areas mid image shape.place shape.m e (λ c lt.
+      same tells (area shape.place.first c) (area_no_slot shape.place.first shape.place.copies c)))
       contents index.entries (shown tells)
 
   pub created_clean : IsTrue told → IsClean shape image
   created_clean tells = made_clean shape image generation contents index (alone tells) fit (shows tells)
 
-  module _ (alloc : Global) (entries : Vec Entry Global) (set : List Bool) (taken : AreTaken (area_blocks shape.allowed) index.entries set) (made : AllZip (IsMade generation) contents index.entries)
+  module _ (alloc : Global) (entries : Vec Entry Global) (set : List Bool)
+      (taken : AreTaken (area_blocks shape.allowed) index.entries set)
+      (made : AllZip (IsMade generation) contents index.entries)
       (filled : entries.items ≡ map (fresh_entry generation) (fresh_map contents)) (least : 1 ≤ generation) where
     pub created_view : whole_view shape cell.generation entries.items ≡ fresh_view generation (fresh_map contents)
     created_view =
@@ -89,14 +94,32 @@ module _ (told : Bool) (mid image : Image) (shape : Shape) (generation : ℕ) (c
         shape = is;
         positive = (let counts = of.counts in omega (arith, counts, least));
         index = record { spelled = refl; rules = spelled.rules; fits = spelled.fits; fit = fit };
-        entries = subst (λ (es : List Entry). AllZip (IsReadBy shape.place.copies) index.entries es) (sym filled) (read_of_made shape.place.copies generation contents index.entries made);
+        entries = subst (λ (es : List Entry). AllZip (IsReadBy shape.place.copies) index.entries es) (sym filled)
+            (read_of_made shape.place.copies generation contents index.entries made);
         taken = taken;
       };
-      disk = λ tells. subst (λ (v : View). IsInUse shape image index v) (sym created_view) (made_in_use shape image generation contents index is (alone tells) fit (shows tells));
+      disk = λ tells. subst (λ (v : View). IsInUse shape image index v) (sym created_view)
+          (made_in_use shape image generation contents index is (alone tells) fit (shows tells));
     }
 
-    pub created_used : (s : Store) → s ≡ record { alloc = alloc; shape = shape; cell = cell; index = index; entries = entries; used = set } → IsUsed told image s
+    pub created_used : (s : Store) → s ≡ record {
+      alloc = alloc;
+      shape = shape;
+      cell = cell;
+      index = index;
+      entries =
+          entries;
+      used = set;
+    } → IsUsed told image s
     created_used s e = subst (λ (x : Store). IsUsed told image x) (sym e) created_now
 
-    pub created_shows : (s : Store) → s ≡ record { alloc = alloc; shape = shape; cell = cell; index = index; entries = entries; used = set } → view_in s ≡ fresh_view generation (fresh_map contents)
+    pub created_shows : (s : Store) → s ≡ record {
+      alloc = alloc;
+      shape = shape;
+      cell = cell;
+      index = index;
+      entries =
+          entries;
+      used = set;
+    } → view_in s ≡ fresh_view generation (fresh_map contents)
     created_shows s e = ap (λ (x : Store). view_in x) e ∙ created_view

@@ -1,5 +1,6 @@
 -- The content beside which another one is written.
-use Rattle.std.proofs.Common.{◌≡◌, ℕ, zero, suc, ◌*◌, ◌<◌, ◌≤◌, List, [], length, get_or, Option, Some, None, Ok, Err, sym, ap, subst, ◌∙◌, inl, inr, arith}
+use Rattle.std.proofs.Common.{◌≡◌, ℕ, zero, suc, ◌*◌, ◌<◌, ◌≤◌, List, [], length, get_or, Option, Some, None, Ok, Err}
+use Rattle.std.proofs.Common.{sym, ap, subst, ◌∙◌, inl, inr, arith}
 use Rattle.std.specs.List.{AllZip}
 use Rattle.std.proofs.lemmas.Bool.{cases_Bool}
 use Rattle.per_base.specs.declared.elements.StoreKind.{StoreKind}
@@ -21,7 +22,11 @@ pub changed_at_most : (new old : List ℕ) (n : ℕ) → changed_to new old n �
 changed_at_most new old zero = omega arith
 changed_at_most new old (suc n) =
     let before = changed_at_most new old n in
-    elim (cases_Bool (is_changed new old n)) [ inl t ↦ rw t (omega (arith, before)) | inr f ↦ rw f (omega (arith, before)) ]
+    elim (cases_Bool (is_changed new old n)) [
+      | inl t ↦ rw t (omega (arith, before))
+      | inr f ↦
+          rw f (omega (arith, before))
+    ]
 
 -- written whole, a content costs at most its blocks
 pub cost_none : (kind : StoreKind) (new : List ℕ) → 256 * changed new [] ≤ cost_beside kind None new
@@ -31,52 +36,75 @@ cost_key : (content : Option Content) (new : List ℕ) → 256 * changed new [] 
 cost_key None new = cost_none Keys new
 cost_key (Some c) new = let most = changed_at_most new [] (blocks_for (length new)) in omega (arith, most)
 
-cost_bad : (salvage : Option (List ℕ)) (new : List ℕ) → 256 * changed new [] ≤ cost_beside Files (Some (Bad salvage)) new
+cost_bad : (salvage : Option (List ℕ)) (new : List ℕ) → 256 * changed new []
+    ≤ cost_beside Files (Some (Bad salvage)) new
 cost_bad salvage new = let most = changed_at_most new [] (blocks_for (length new)) in omega (arith, most)
 
 abbrev content_in : Option Entry → Option Content
 content_in e = elim e [ None ↦ None | Some f ↦ Some f.content ]
 
 module _ (standing : List IndexEntry) (views : List Entry) (name bytes blocks : List ℕ) where
-  pub earlier_key : (kind : StoreKind) → kind ≡ Keys → bytes ≡ [] → blocks ≡ [] → IsEarlier kind standing views name bytes blocks
+  pub earlier_key : (kind : StoreKind) → kind ≡ Keys → bytes ≡ [] → blocks ≡ []
+      → IsEarlier kind standing views name bytes blocks
   earlier_key kind is none nowhere = record {
     is = inl (none, nowhere);
-    cost = λ new. subst (λ (k : StoreKind). 256 * changed new bytes ≤ cost_beside k (content_at name views) new) (sym is)
-        (subst (λ (bs : List ℕ). 256 * changed new bs ≤ cost_beside Keys (content_at name views) new) (sym none) (cost_key (content_at name views) new));
+    cost = λ new. subst (λ (k : StoreKind). 256 * changed new bytes ≤ cost_beside k (content_at name views) new)
+        (sym is)
+        (subst (λ (bs : List ℕ). 256 * changed new bs ≤ cost_beside Keys (content_at name views) new) (sym none)
+        (cost_key (content_at name views) new));
   }
 
-  pub earlier_none : (kind : StoreKind) (i : ℕ) → IsPlaceOf entry_name name views (Err i) → bytes ≡ [] → blocks ≡ [] → IsEarlier kind standing views name bytes blocks
+  pub earlier_none : (kind : StoreKind) (i : ℕ) → IsPlaceOf entry_name name views (Err i) → bytes ≡ [] → blocks ≡ []
+      → IsEarlier kind standing views name bytes blocks
   earlier_none kind i place none nowhere = record {
     is = inl (none, nowhere);
     cost = λ new.
-        let e : content_at name views ≡ None = ap content_in (found_none entry_name name views (parted_apart entry_name name views i place.1)) in
+        let e : content_at name views ≡ None = ap content_in
+        (found_none entry_name name views (parted_apart entry_name name views i place.1)) in
         subst (λ (c : Option Content). 256 * changed new bytes ≤ cost_beside kind c new) (sym e)
         (subst (λ (bs : List ℕ). 256 * changed new bs ≤ cost_beside kind None new) (sym none) (cost_none kind new));
   }
 
-  module _ (kind : StoreKind) (files : kind ≡ Files) (ascend : NamesAscend entry_name views) (i : ℕ) (place : IsPlaceOf entry_name name views (Ok i))
+  module _ (kind : StoreKind) (files : kind ≡ Files) (ascend : NamesAscend entry_name views) (i : ℕ)
+      (place : IsPlaceOf entry_name name views (Ok i))
       (seen : Entry) (seen_is : seen ≡ get_or views i seen) where
     at_name : (content : Content) → seen.content ≡ content → content_at name views ≡ Some content
-    at_name content is = ap content_in (found_here entry_name name views i seen ascend place.0 place.1 seen_is) ∙ ap (λ (c : Content). Some c) is
+    at_name content is = ap content_in (found_here entry_name name views i seen ascend place.0 place.1 seen_is)
+        ∙ ap (λ (c : Content). Some c) is
 
-    pub earlier_bad : (salvage : Option (List ℕ)) → seen.content ≡ Bad salvage → bytes ≡ [] → blocks ≡ [] → IsEarlier kind standing views name bytes blocks
+    pub earlier_bad : (salvage : Option (List ℕ)) → seen.content ≡ Bad salvage → bytes ≡ [] → blocks ≡ []
+        → IsEarlier kind standing views name bytes blocks
     earlier_bad salvage is none nowhere = record {
       is = inl (none, nowhere);
-      cost = λ new. subst (λ (k : StoreKind). 256 * changed new bytes ≤ cost_beside k (content_at name views) new) (sym files)
-          (subst (λ (c : Option Content). 256 * changed new bytes ≤ cost_beside Files c new) (sym (at_name (Bad salvage) is))
-          (subst (λ (bs : List ℕ). 256 * changed new bs ≤ cost_beside Files (Some (Bad salvage)) new) (sym none) (cost_bad salvage new)));
+      cost = λ new. subst (λ (k : StoreKind). 256 * changed new bytes ≤ cost_beside k (content_at name views) new)
+          (sym files)
+          (subst (λ (c : Option Content). 256 * changed new bytes ≤ cost_beside Files c new)
+          (sym (at_name (Bad salvage) is))
+          (subst (λ (bs : List ℕ). 256 * changed new bs ≤ cost_beside Files (Some (Bad salvage)) new) (sym none)
+          (cost_bad salvage new)));
     }
 
-    pub earlier_good : (was : IndexEntry) → was ≡ get_or standing i was → AllZip IsSeenAs standing views → seen.content ≡ Good bytes → blocks ≡ was.blocks
+    pub earlier_good : (was : IndexEntry) → was ≡ get_or standing i was → AllZip IsSeenAs standing views
+        → seen.content ≡ Good bytes → blocks ≡ was.blocks
         → IsEarlier kind standing views name bytes blocks
     earlier_good was was_is read is there = record {
-      is = inr (was, seen, record { at = i; inside = inside; within = place.0; one = sym was_is; two = sym seen_is }, named, is, there);
-      cost = λ new. subst (λ (k : StoreKind). 256 * changed new bytes ≤ cost_beside k (content_at name views) new) (sym files)
-          (subst (λ (c : Option Content). 256 * changed new bytes ≤ cost_beside Files c new) (sym (at_name (Good bytes) is)) (omega arith));
+      is = inr (
+        was,
+        seen,
+        record { at = i; inside = inside; within = place.0; one = sym was_is; two = sym seen_is },
+        named,
+        is,
+        there,
+      );
+      cost = λ new. subst (λ (k : StoreKind). 256 * changed new bytes ≤ cost_beside k (content_at name views) new)
+          (sym files)
+          (subst (λ (c : Option Content). 256 * changed new bytes ≤ cost_beside Files c new)
+          (sym (at_name (Good bytes) is)) (omega arith));
     }
       where
         inside : i < length standing
         inside = let l = zip_length IsSeenAs standing views read in let lt = place.0 in omega (arith, l, lt)
 
         named : was.name ≡ name
-        named = ap named_by was_is ∙ seen_names _ _ (zip_at IsSeenAs standing views i was seen read inside) ∙ ap entry_name (sym seen_is) ∙ ap entry_name seen_is ∙ place.1 seen
+        named = ap named_by was_is ∙ seen_names _ _ (zip_at IsSeenAs standing views i was seen read inside)
+            ∙ ap entry_name (sym seen_is) ∙ ap entry_name seen_is ∙ place.1 seen

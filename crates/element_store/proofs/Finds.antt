@@ -23,7 +23,8 @@ abbrev flag_of : Option (Bool × FitText) → Bool
 flag_of None = true
 flag_of (Some x) = x.0
 
-from_or_first : (texts : List FitText) (o : Option FitText) (t : FitText) → flagged true t ≡ or_first texts o → o ≡ Some t
+from_or_first : (texts : List FitText) (o : Option FitText) (t : FitText) → flagged true t ≡ or_first texts o
+    → o ≡ Some t
 from_or_first texts (Some x) t e = ap (λ (y : FitText). Some y) (sym (ap (text_in t) e))
 from_or_first [] None t e = cc
 from_or_first (x ∷ texts) None t e = absurd (never e)
@@ -41,11 +42,13 @@ opens_is false v state e is = absurd (never e)
     never : false ≡ true → ⊥
     never e = cc
 
-module _ (image : Image) (shape : Shape) (found : Option Found) (f : Found) (is : found ≡ Some f) (opens : f.opens ≡ true)
+module _ (image : Image) (shape : Shape) (found : Option Found) (f : Found) (is : found ≡ Some f)
+    (opens : f.opens ≡ true)
     (chose : option_map text_of found ≡ chosen image shape) (viewed : IfSome found (IsViewedOn image shape)) where
   pub found_first : find (qualifies image shape) (fit_texts shape image) ≡ Some (f.seen, f.index)
   unfolding chosen
-  found_first = from_or_first (fit_texts shape image) (find (qualifies image shape) (fit_texts shape image)) (f.seen, f.index)
+  found_first = from_or_first (fit_texts shape image) (find (qualifies image shape) (fit_texts shape image))
+      (f.seen, f.index)
       (ap (λ (b : Bool). flagged b (f.seen, f.index)) (sym opens) ∙ sym (ap (option_map text_of) is) ∙ chose)
 
   its_view : IsViewedOn image shape f

@@ -1,5 +1,6 @@
 -- A place whose texts were given up, and contents that are then written there.
-use Rattle.std.proofs.Common.{◌≡◌, ℕ, ◌+◌, ◌*◌, ◌≤◌, List, [], Bool, Some, None, refl, sym, ap, ◌∙◌, subst, inl, inr, ⊎_elim, arith}
+use Rattle.std.proofs.Common.{◌≡◌, ℕ, ◌+◌, ◌*◌, ◌≤◌, List, [], Bool, Some, None, refl, sym, ap, ◌∙◌, subst, inl, inr}
+use Rattle.std.proofs.Common.{⊎_elim, arith}
 use Rattle.std.proofs.lemmas.Bool.{cases_eq}
 use Rattle.std.proofs.Math.Nat.{mul-le-mul_left, mul-add}
 use Rattle.hash_guard.specs.SealedText.{VerifiesAs}
@@ -30,13 +31,15 @@ unfolding index_of header_at
 no_index = refl
 
 -- where just the empty text is kept, nothing is named
-pub kept_names_nothing : (place : Place) (old new : Image) → IsKeptAlone place.first place.copies 1 [] old new → NamesNothing place new
+pub kept_names_nothing : (place : Place) (old new : Image) → IsKeptAlone place.first place.copies 1 [] old new
+    → NamesNothing place new
 kept_names_nothing place old new alone at named = ⊎_elim
     (λ same.
     let v : VerifiesAs (new (slot place.first named.copy (own 1))) named.generation named.text =
     subst (λ (p : ℕ). VerifiesAs (new (slot place.first named.copy p)) named.generation named.text) same named.held in
     let it = alone.own_slots named.copy named.inside named.generation named.text v in
-    let spelled : index_of [] ≡ Some named.index = subst (λ (t : List ℕ). index_of t ≡ Some named.index) it.1 named.spelled in
+    let spelled : index_of [] ≡ Some named.index = subst (λ (t : List ℕ). index_of t ≡ Some named.index) it.1
+    named.spelled in
     let differ : None ≡ Some named.index = sym no_index ∙ spelled in
     cc)
     (λ differs.
@@ -46,7 +49,8 @@ kept_names_nothing place old new alone at named = ⊎_elim
     (cases_eq (own named.generation) (own 1))
 
 -- what is named depends on the slots alone
-pub names_nothing_still : (place : Place) (old new : Image) → Spares (IsNoArea place.first place.copies) old new → NamesNothing place old → NamesNothing place new
+pub names_nothing_still : (place : Place) (old new : Image) → Spares (IsNoArea place.first place.copies) old new
+    → NamesNothing place old → NamesNothing place new
 names_nothing_still place old new same nothing at named = nothing at (record {
   copy = named.copy;
   generation = named.generation;
@@ -54,7 +58,8 @@ names_nothing_still place old new same nothing at named = nothing at (record {
   index = named.index;
   inside = named.inside;
   held = subst (λ (s : List ℕ). VerifiesAs s named.generation named.text)
-      (same (slot place.first named.copy (own named.generation)) (slot_no_area place.first place.copies named.copy (own named.generation) (omega arith))) named.held;
+      (same (slot place.first named.copy (own named.generation))
+      (slot_no_area place.first place.copies named.copy (own named.generation) (omega arith))) named.held;
   spelled = named.spelled;
   named = named.named;
 })
@@ -64,12 +69,19 @@ abbrev Counts : BlockText → List ℕ → Type 0
 Counts piece file = counting file piece.at.blocks piece.at.len piece.at.hash ≡ Some piece.bytes
 
 -- where nothing is torn under an index, contents come by chance only where texts do
-pub untorn_sound : (place : Place) (c : Case) → IsUntorn place c → IsSoundFor (IsSlotPiece place.first place.copies) c → IsSoundFor (IsPiece place) c
+pub untorn_sound : (place : Place) (c : Case) → IsUntorn place c → IsSoundFor (IsSlotPiece place.first place.copies) c
+    → IsSoundFor (IsPiece place) c
 untorn_sound place c untorn sound (in_slot piece) is = sound piece is
 untorn_sound place c untorn sound (in_blocks piece) is = ⊎_elim
     (λ stays.
     let named = is.named in
-    let held : SlotText = record { copy = named.copy; parity = own named.generation; generation = named.generation; text = named.text } in
+    let held : SlotText = record {
+      copy = named.copy;
+      parity = own named.generation;
+      generation =
+          named.generation;
+      text = named.text;
+    } in
     let at_base : c.left (area place.first piece.copy) ≡ c.base (area place.first piece.copy) =
     stays.1.left (area place.first piece.copy) (area_no_slot place.first place.copies piece.copy)
     ∙ sym (stays.1.base (area place.first piece.copy) (area_no_slot place.first place.copies piece.copy)) in
@@ -83,7 +95,8 @@ untorn_sound place c untorn sound (in_blocks piece) is = ⊎_elim
     (λ nothing. absurd (nothing.2 piece.at is.named))
     untorn
   where
-    again : (image : Image) (named : IsNamed place c.left piece.at) → Holds image place.first named.copy named.generation named.text
+    again : (image : Image) (named : IsNamed place c.left piece.at)
+        → Holds image place.first named.copy named.generation named.text
         → Counts piece (image (area place.first piece.copy)) → IsBlockPiece place image piece
     again image named held counts = record {
       inside = is.inside;
@@ -101,24 +114,31 @@ untorn_sound place c untorn sound (in_blocks piece) is = ⊎_elim
     }
 
 -- nothing was done
-pub still_untorn : (place : Place) (told : Bool) (m : Medium) → IsLawful told m → Quiet m → EachCase (IsUntorn place) m m
-still_untorn place told m law quiet c past = inl (m.image, settled_on (IsNoSlot place.first place.copies) (quiet c (law.only_now c past)))
+pub still_untorn : (place : Place) (told : Bool) (m : Medium) → IsLawful told m → Quiet m
+    → EachCase (IsUntorn place) m m
+still_untorn place told m law quiet c past = inl (
+  m.image,
+  settled_on (IsNoSlot place.first place.copies) (quiet c (law.only_now c past)),
+)
 
 module _ (place : Place) (set : List Bool) (old mid : Medium) (before : Elapses old mid)
     (gives_up : EachCase (KeepStops place.first place.copies 1 [] old.image) old mid) where
   -- texts are being given up
   pub given_up_outside : EachCase (IsSettledOn (IsOutside place.first place.copies) old.image) old mid
-  given_up_outside c past = settled_less (λ f out. outside_no_slot place.first place.copies f out) (gives_up c past).elsewhere
+  given_up_outside c past = settled_less (λ f out. outside_no_slot place.first place.copies f out)
+      (gives_up c past).elsewhere
 
   pub given_up_untorn : EachCase (IsUntorn place) old mid
   given_up_untorn c past = inl (old.image, (gives_up c past).elsewhere)
 
-  module _ (slots : Spares (IsNoSlot place.first place.copies) old.image mid.image) (quiet : Quiet mid) (new : Medium) (then : Elapses mid new)
+  module _ (slots : Spares (IsNoSlot place.first place.copies) old.image mid.image) (quiet : Quiet mid) (new : Medium)
+      (then : Elapses mid new)
       (areas : Spares (IsNoArea place.first place.copies) mid.image new.image) (done : Type 0)
       (puts : EachCase (IsContentsCase place.first place.copies set mid new done) mid new) where
     -- and then contents are written
     pub put_elsewhere : Spares (IsOutside place.first place.copies) old.image new.image
-    put_elsewhere f out = areas f (outside_no_area place.first place.copies f out) ∙ slots f (outside_no_slot place.first place.copies f out)
+    put_elsewhere f out = areas f (outside_no_area place.first place.copies f out)
+        ∙ slots f (outside_no_slot place.first place.copies f out)
 
     pub put_outside : EachCase (IsSettledOn (IsOutside place.first place.copies) old.image) old new
     put_outside = goes_on (IsSettledOn (IsOutside place.first place.copies) old.image) before then given_up_outside
@@ -144,40 +164,50 @@ module _ (place : Place) (set : List Bool) (old mid : Medium) (before : Elapses 
           (formats : EachCase (FormatStops place.first place.copies 1 text new.image) new end) where
         -- and then their index
         pub made_outside : EachCase (IsSettledOn (IsOutside place.first place.copies) old.image) old end
-        made_outside = goes_on (IsSettledOn (IsOutside place.first place.copies) old.image) (elapses_on before then) later put_outside
-            (λ c past. settled_before put_elsewhere (settled_less (λ f out. outside_no_slot place.first place.copies f out) (formats c past).elsewhere))
+        made_outside = goes_on (IsSettledOn (IsOutside place.first place.copies) old.image) (elapses_on before then)
+            later put_outside
+            (λ c past. settled_before put_elsewhere (settled_less
+            (λ f out. outside_no_slot place.first place.copies f out) (formats c past).elsewhere))
 
         pub made_untorn : EachCase (IsUntorn place) old end
-        made_untorn = goes_on (IsUntorn place) (elapses_on before then) later put_untorn (λ c past. inl (new.image, (formats c past).elsewhere))
+        made_untorn = goes_on (IsUntorn place) (elapses_on before then) later put_untorn
+            (λ c past. inl (new.image, (formats c past).elsewhere))
 
 -- ---- the count of bytes
 
 module _ (copies blocks was kept : ℕ) (first : kept ≤ was + copies * (44 + 44)) where
   pub most_kept : kept ≤ was + copies * (256 * blocks + 524244 + 5 * 44)
   most_kept =
-      let wider : copies * (44 + 44) ≤ copies * (256 * blocks + 524244 + 5 * 44) = mul-le-mul_left copies (omega arith) in
+      let wider : copies * (44 + 44) ≤ copies * (256 * blocks + 524244 + 5 * 44) =
+      mul-le-mul_left copies (omega arith) in
       omega (arith, first, wider)
 
   module _ (put : ℕ) (second : put ≤ kept + copies * (256 * blocks)) where
     pub most_put : put ≤ was + copies * (256 * blocks + 524244 + 5 * 44)
     most_put =
-        let whole : copies * (44 + 44 + 256 * blocks) ≡ copies * (44 + 44) + copies * (256 * blocks) = mul-add copies (44 + 44) (256 * blocks) in
-        let wider : copies * (44 + 44 + 256 * blocks) ≤ copies * (256 * blocks + 524244 + 5 * 44) = mul-le-mul_left copies (omega arith) in
+        let whole : copies * (44 + 44 + 256 * blocks) ≡ copies * (44 + 44) + copies * (256 * blocks) =
+        mul-add copies (44 + 44) (256 * blocks) in
+        let wider : copies * (44 + 44 + 256 * blocks) ≤ copies * (256 * blocks + 524244 + 5 * 44) =
+        mul-le-mul_left copies (omega arith) in
         omega (arith, first, second, whole, wider)
 
     module _ (len made : ℕ) (third : made ≤ put + copies * (44 + 44 + (44 + len))) where
       pub made_written : made ≤ was + copies * (256 * blocks + len + 5 * 44)
       made_written =
-          let one : copies * (256 * blocks + (44 + 44 + (44 + len))) ≡ copies * (256 * blocks) + copies * (44 + 44 + (44 + len)) =
+          let one : copies * (256 * blocks + (44 + 44 + (44 + len)))
+          ≡ copies * (256 * blocks) + copies * (44 + 44 + (44 + len)) =
           mul-add copies (256 * blocks) (44 + 44 + (44 + len)) in
-          let two : copies * ((44 + 44) + (256 * blocks + (44 + 44 + (44 + len)))) ≡ copies * (44 + 44) + copies * (256 * blocks + (44 + 44 + (44 + len))) =
+          let two : copies * ((44 + 44) + (256 * blocks + (44 + 44 + (44 + len))))
+          ≡ copies * (44 + 44) + copies * (256 * blocks + (44 + 44 + (44 + len))) =
           mul-add copies (44 + 44) (256 * blocks + (44 + 44 + (44 + len))) in
-          let same : copies * ((44 + 44) + (256 * blocks + (44 + 44 + (44 + len)))) ≡ copies * (256 * blocks + len + 5 * 44) =
+          let same : copies * ((44 + 44) + (256 * blocks + (44 + 44 + (44 + len))))
+          ≡ copies * (256 * blocks + len + 5 * 44) =
           ap (λ (n : ℕ). copies * n) (omega arith) in
           omega (arith, first, second, third, one, two, same)
 
       pub most_made : len ≤ 524244 → made ≤ was + copies * (256 * blocks + 524244 + 5 * 44)
       most_made short =
-          let wider : copies * (256 * blocks + len + 5 * 44) ≤ copies * (256 * blocks + 524244 + 5 * 44) = mul-le-mul_left copies (omega (arith, short)) in
+          let wider : copies * (256 * blocks + len + 5 * 44) ≤ copies * (256 * blocks + 524244 + 5 * 44) =
+          mul-le-mul_left copies (omega (arith, short)) in
           let written = made_written in
           omega (arith, written, wider)

@@ -23,11 +23,14 @@ use Rattle.element_store.specs.Mends.{AreShown, MendsCase}
 
 -- ---- the storage is kept
 
-module _ (shape : Shape) (old one : Medium) (is : IsShape shape) (clean : IsClean shape old.image) (idle : IsIdle old one) (untouched : UntouchedLaw) (after : State) where
+module _ (shape : Shape) (old one : Medium) (is : IsShape shape) (clean : IsClean shape old.image)
+    (idle : IsIdle old one) (untouched : UntouchedLaw) (after : State) where
   pub first_kept : (c : Case) → one.since old.moment c → IsKeptCase shape old.image after c
-  first_kept c past = untouched shape old.image after c is.some clean (settled_on (IsOfPlace shape.place) (idle.during c past))
+  first_kept c past = untouched shape old.image after c is.some clean
+      (settled_on (IsOfPlace shape.place) (idle.during c past))
 
-  module _ (two : Medium) (adopt : AdoptLaw) (g : ℕ) (text : List ℕ) (index : Index) (opens : OpensAt shape old.image g text index) (t1 : Elapses old one) (t2 : Elapses one two)
+  module _ (two : Medium) (adopt : AdoptLaw) (g : ℕ) (text : List ℕ) (index : Index)
+      (opens : OpensAt shape old.image g text index) (t1 : Elapses old one) (t2 : Elapses one two)
       (puts : EachCase (PutStops shape.place.first shape.place.copies g text one.image) one two) where
     pub second_kept : (c : Case) → two.since old.moment c → IsKeptCase shape old.image after c
     second_kept c past = ⊎_elim (first_kept c)
@@ -35,8 +38,10 @@ module _ (shape : Shape) (old one : Medium) (is : IsShape shape) (clean : IsClea
         (subst (λ (i : Image). PutStops shape.place.first shape.place.copies g text i c) idle.image (puts c later)))
         (cases_on t1 t2 c past)
 
-    module _ (three : Medium) (mend : MendLaw) (views : List Entry) (rules : IsIndex index) (shown : AreShown shape index views old.image)
-        (alone : IsAlone two.image shape.place.first shape.place.copies g text) (areas : Spares (IsNoSlot shape.place.first shape.place.copies) one.image two.image)
+    module _ (three : Medium) (mend : MendLaw) (views : List Entry) (rules : IsIndex index)
+        (shown : AreShown shape index views old.image)
+        (alone : IsAlone two.image shape.place.first shape.place.copies g text)
+        (areas : Spares (IsNoSlot shape.place.first shape.place.copies) one.image two.image)
         (t3 : Elapses two three) (during : EachCase (MendsCase shape index views two.image) two three) where
       pub third_kept : (c : Case) → three.since old.moment c → IsKeptCase shape old.image after c
       third_kept c past = ⊎_elim (second_kept c)
@@ -45,37 +50,45 @@ module _ (shape : Shape) (old one : Medium) (is : IsShape shape) (clean : IsClea
             clean = clean;
             opens = opens;
             alone = alone;
-            areas = subst (λ (i : Image). Spares (IsNoSlot shape.place.first shape.place.copies) i two.image) idle.image areas;
+            areas = subst (λ (i : Image). Spares (IsNoSlot shape.place.first shape.place.copies) i two.image) idle.image
+                areas;
           })
           rules (during c later old.image shown))
           (cases_on (elapses_on t1 t2) t3 c past)
 
 -- ---- no file outside changes
 
-module _ (first copies : ℕ) (old one two : Medium) (same : one.image ≡ old.image) (areas : Spares (IsNoSlot first copies) one.image two.image) where
+module _ (first copies : ℕ) (old one two : Medium) (same : one.image ≡ old.image)
+    (areas : Spares (IsNoSlot first copies) one.image two.image) where
   pub slots_outside : Spares (IsOutside first copies) old.image two.image
   slots_outside f out = subst (λ (i : Image). two.image f ≡ i f) same (areas f (outside_no_slot first copies f out))
 
-  pub both_outside : (three : Image) → Spares (IsNoArea first copies) two.image three → Spares (IsOutside first copies) old.image three
+  pub both_outside : (three : Image) → Spares (IsNoArea first copies) two.image three
+      → Spares (IsOutside first copies) old.image three
   both_outside three slots f out = slots f (outside_no_area first copies f out) ∙ slots_outside f out
 
-module _ (first copies g : ℕ) (text : List ℕ) (old one two : Medium) (idle : IsIdle old one) (t1 : Elapses old one) (t2 : Elapses one two)
+module _ (first copies g : ℕ) (text : List ℕ) (old one two : Medium) (idle : IsIdle old one) (t1 : Elapses old one)
+    (t2 : Elapses one two)
     (puts : EachCase (PutStops first copies g text one.image) one two) where
   pub second_outside : EachCase (IsSettledOn (IsOutside first copies) old.image) old two
   second_outside c past = ⊎_elim
       (λ early. settled_on (IsOutside first copies) (idle.during c early))
-      (λ later. settled_less (λ f out. outside_no_slot first copies f out) (subst (λ (i : Image). IsSettledOn (IsNoSlot first copies) i c) idle.image (puts c later).elsewhere))
+      (λ later. settled_less (λ f out. outside_no_slot first copies f out)
+      (subst (λ (i : Image). IsSettledOn (IsNoSlot first copies) i c) idle.image (puts c later).elsewhere))
       (cases_on t1 t2 c past)
 
-  module _ (shape : Shape) (at_first : shape.place.first ≡ first) (at_copies : shape.place.copies ≡ copies) (three : Medium) (index : Index) (views : List Entry)
+  module _ (shape : Shape) (at_first : shape.place.first ≡ first) (at_copies : shape.place.copies ≡ copies)
+      (three : Medium) (index : Index) (views : List Entry)
       (shown : AreShown shape index views old.image) (areas : Spares (IsNoSlot first copies) one.image two.image)
       (t3 : Elapses two three) (during : EachCase (MendsCase shape index views two.image) two three) where
     pub third_outside : EachCase (IsSettledOn (IsOutside first copies) old.image) old three
     third_outside c past = ⊎_elim (second_outside c)
         (λ later.
         let it = during c later old.image shown in
-        let settled : IsSettledOn (IsNoArea shape.place.first shape.place.copies) two.image c = record { base = it.base.slots; full = it.full.slots; left = it.left.slots } in
+        let settled : IsSettledOn (IsNoArea shape.place.first shape.place.copies) two.image c =
+        record { base = it.base.slots; full = it.full.slots; left = it.left.slots } in
         settled_before (slots_outside first copies old one two idle.image areas)
         (settled_less (λ f out. outside_no_area first copies f out)
-        (subst (λ (n : ℕ). IsSettledOn (IsNoArea first n) two.image c) at_copies (subst (λ (n : ℕ). IsSettledOn (IsNoArea n shape.place.copies) two.image c) at_first settled))))
+        (subst (λ (n : ℕ). IsSettledOn (IsNoArea first n) two.image c) at_copies
+        (subst (λ (n : ℕ). IsSettledOn (IsNoArea n shape.place.copies) two.image c) at_first settled))))
         (cases_on (elapses_on t1 t2) t3 c past)

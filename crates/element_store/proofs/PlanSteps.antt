@@ -1,5 +1,6 @@
 -- Plans, one content after another.
-use Rattle.std.proofs.Common.{◌≡◌, ◌≢◌, ◌⊎◌, ℕ, zero, suc, ◌+◌, ◌*◌, ◌<◌, ◌≤◌, List, [], ◌∷◌, ◌++◌, length, get_or, Bool, true, false, refl, sym, ap, ◌∙◌, subst, arith, ⊎_elim, inl, inr}
+use Rattle.std.proofs.Common.{◌≡◌, ◌≢◌, ◌⊎◌, ℕ, zero, suc, ◌+◌, ◌*◌, ◌<◌, ◌≤◌, List, [], ◌∷◌, ◌++◌, length, get_or}
+use Rattle.std.proofs.Common.{Bool, true, false, refl, sym, ap, ◌∙◌, subst, arith, ⊎_elim, inl, inr}
 use Rattle.std.specs.List.{All, AllZip, AllByRecursion}
 use Rattle.std.proofs.Math.Nat.{mul-le-mul_left}
 use Rattle.std.proofs.lemmas.Bool.{cases_Bool, cases_eq, cases_lt}
@@ -27,23 +28,28 @@ use Rattle.disk_model.proofs.Frames.{case_less}
 use Rattle.block_files.specs.Areas.{HoldsShared}
 use Rattle.block_files.proofs.Everywhere.{shared_none}
 use Rattle.element_store.specs.Spelled.{IsContentsCase}
-use Rattle.element_store.specs.Jobs.{IsRoomy, AreApart, IsDone, IsLeftBy, IsLeftByAll, HasShared, IsJobsCase, job_cost, jobs_cost}
-use Rattle.element_store.specs.Plans.{HasAll, KeepsBlocks, AreDisjoint, AreLaidApart, IsPlaced, ArePlaced, IsMade, IsPlanOf, blocks_of_all}
+use Rattle.element_store.specs.Jobs.{IsRoomy, AreApart, IsDone, IsLeftBy, IsLeftByAll, HasShared, IsJobsCase, job_cost}
+use Rattle.element_store.specs.Jobs.{jobs_cost}
+use Rattle.element_store.specs.Plans.{HasAll, KeepsBlocks, AreDisjoint, AreLaidApart, IsPlaced, ArePlaced, IsMade}
+use Rattle.element_store.specs.Plans.{IsPlanOf, blocks_of_all}
 use Rattle.element_store.proofs.Fulls.{view_full}
 
 -- ---- lists, one item more
 
-pub zip_push : {X Y : Type 0} (R : X → Y → Type 0) (xs : List X) (ys : List Y) (x : X) (y : Y) → AllZip R xs ys → R x y → AllZip R (xs ++ x ∷ []) (ys ++ y ∷ [])
+pub zip_push : {X Y : Type 0} (R : X → Y → Type 0) (xs : List X) (ys : List Y) (x : X) (y : Y) → AllZip R xs ys → R x y
+    → AllZip R (xs ++ x ∷ []) (ys ++ y ∷ [])
 zip_push R [] [] x y zip is = (is, tt)
 zip_push R [] (b ∷ ys) x y zip is = absurd zip
 zip_push R (a ∷ xs) [] x y zip is = absurd zip
 zip_push R (a ∷ xs) (b ∷ ys) x y zip is = (zip.0, zip_push R xs ys x y zip.1 is)
 
-pub each_push : {X : Type 0} (P : X → Type 0) (xs : List X) (x : X) → AllByRecursion P xs → P x → AllByRecursion P (xs ++ x ∷ [])
+pub each_push : {X : Type 0} (P : X → Type 0) (xs : List X) (x : X) → AllByRecursion P xs → P x
+    → AllByRecursion P (xs ++ x ∷ [])
 each_push P [] x all is = (is, tt)
 each_push P (a ∷ xs) x all is = (all.0, each_push P xs x all.1 is)
 
-pub each_map : {X : Type 0} (P Q : X → Type 0) (xs : List X) → ((x : X) → P x → Q x) → AllByRecursion P xs → AllByRecursion Q xs
+pub each_map : {X : Type 0} (P Q : X → Type 0) (xs : List X) → ((x : X) → P x → Q x) → AllByRecursion P xs
+    → AllByRecursion Q xs
 each_map P Q [] to all = tt
 each_map P Q (x ∷ xs) to all = (to x all.0, each_map P Q xs to all.1)
 
@@ -51,10 +57,12 @@ pub all_map : {X : Type 0} (P Q : X → Type 0) (xs : List X) → ((x : X) → P
 all_map P Q xs to all k d lt = to (get_or xs k d) (all k d lt)
 
 pub all_front : {X : Type 0} (P : X → Type 0) (xs : List X) (x : X) → All P (xs ++ x ∷ []) → All P xs
-all_front P xs x all k d lt = subst P (get_or_append_left xs (x ∷ []) d k lt) (all k d (omega (arith, lt, length_push xs x)))
+all_front P xs x all k d lt = subst P (get_or_append_left xs (x ∷ []) d k lt)
+    (all k d (omega (arith, lt, length_push xs x)))
 
 pub all_last : {X : Type 0} (P : X → Type 0) (xs : List X) (x : X) → All P (xs ++ x ∷ []) → P x
-all_last P xs x all = subst P (get_or_push xs x x (length xs) refl) (all (length xs) x (omega (arith, length_push xs x)))
+all_last P xs x all = subst P (get_or_push xs x x (length xs) refl)
+    (all (length xs) x (omega (arith, length_push xs x)))
 
 -- ---- sets of blocks
 
@@ -62,7 +70,8 @@ pub both_ways : (b : Bool) → b ≡ true → b ≡ false → ⊥
 both_ways b is isnt = cc
 
 -- a block is one of these, or apart from them
-pub apart_or_one : (blocks : List ℕ) (b : ℕ) → IsApart blocks b ⊎ ((i : ℕ) × (i < length blocks) × (b ≡ get_or blocks i 0))
+pub apart_or_one : (blocks : List ℕ) (b : ℕ) → IsApart blocks b
+    ⊎ ((i : ℕ) × (i < length blocks) × (b ≡ get_or blocks i 0))
 apart_or_one [] b = inl (λ i lt e. absurd (omega (arith, lt)))
 apart_or_one (x ∷ blocks) b = ⊎_elim
     (λ same. inr (0, omega arith, same))
@@ -86,41 +95,62 @@ pub keeps_all : (old new : List Bool) (blocks : List ℕ) → KeepsBlocks old ne
 keeps_all old new blocks keeps all i lt = keeps (get_or blocks i 0) (all i lt)
 
 -- what the set has, and what it lacks
-pub disjoint_by : (set : List Bool) (xs ys : List ℕ) → HasAll set xs → ((j : ℕ) → j < length ys → holds set (get_or ys j 0) ≡ false) → AreDisjoint xs ys
-disjoint_by set xs ys has lacks i j lt less e = both_ways (holds set (get_or ys j 0)) (sym (ap (holds set) e) ∙ has i lt) (lacks j less)
+pub disjoint_by : (set : List Bool) (xs ys : List ℕ) → HasAll set xs
+    → ((j : ℕ) → j < length ys → holds set (get_or ys j 0) ≡ false) → AreDisjoint xs ys
+disjoint_by set xs ys has lacks i j lt less e = both_ways (holds set (get_or ys j 0))
+    (sym (ap (holds set) e) ∙ has i lt) (lacks j less)
 
 -- ---- entries, one more
 
 pub laid_push : (entries : List IndexEntry) (e : IndexEntry) → AreLaidApart entries → AreDistinct e.blocks
     → AllByRecursion (λ (f : IndexEntry). AreDisjoint f.blocks e.blocks) entries → AreLaidApart (entries ++ e ∷ [])
 laid_push [] e laid distinct all = (distinct, tt, tt)
-laid_push (f ∷ entries) e laid distinct all =
-    (laid.0, each_push (λ (h : IndexEntry). AreDisjoint f.blocks h.blocks) entries e laid.1 all.0, laid_push entries e laid.2 distinct all.1)
+laid_push (f ∷ entries) e laid distinct all = (
+  laid.0,
+  each_push (λ (h : IndexEntry). AreDisjoint f.blocks h.blocks) entries e laid.1 all.0,
+  laid_push entries e laid.2 distinct all.1,
+)
 
 -- ---- jobs, one more
 
-module _ (start now new : List Bool) (jobs : List Job) (job : Job) (keeps : KeepsBlocks start now) (added : IsAdded job.blocks now new) (roomy : IsRoomy job)
-    (written : (i : ℕ) → i < length job.blocks → is_changed job.bytes.now job.was.now i ≡ true → holds now (get_or job.blocks i 0) ≡ false)
-    (shared : (i : ℕ) → i < length job.blocks → is_changed job.bytes.now job.was.now i ≡ false → holds start (get_or job.blocks i 0) ≡ true) where
+module _ (start now new : List Bool) (jobs : List Job) (job : Job) (keeps : KeepsBlocks start now)
+    (added : IsAdded job.blocks now new) (roomy : IsRoomy job)
+    (written : (i : ℕ) → i < length job.blocks → is_changed job.bytes.now job.was.now i ≡ true
+    → holds now (get_or job.blocks i 0) ≡ false)
+    (shared : (i : ℕ) → i < length job.blocks → is_changed job.bytes.now job.was.now i ≡ false
+    → holds start (get_or job.blocks i 0) ≡ true) where
   not_at_start : (b : ℕ) → holds now b ≡ false → holds start b ≡ false
-  not_at_start b out = ⊎_elim (λ was. absurd (both_ways (holds now b) (keeps b was) out)) (λ none. none) (cases_Bool (holds start b))
+  not_at_start b out = ⊎_elim (λ was. absurd (both_ways (holds now b) (keeps b was) out)) (λ none. none)
+      (cases_Bool (holds start b))
 
   job_placed : IsPlaced start new job
-  job_placed = record { taken = added.added; written = λ i lt is. not_at_start (get_or job.blocks i 0) (written i lt is); shared = shared }
+  job_placed = record {
+    taken = added.added;
+    written = λ i lt is.
+        not_at_start (get_or job.blocks i 0) (written i lt is);
+    shared = shared;
+  }
 
   others_placed : All (IsPlaced start now) jobs → All (IsPlaced start new) jobs
   others_placed all k d lt = let it = all k d lt in
-      record { taken = keeps_all now new (get_or jobs k d).blocks (added_keeps job.blocks now new added) it.taken; written = it.written; shared = it.shared }
+      record {
+        taken = keeps_all now new (get_or jobs k d).blocks (added_keeps job.blocks now new added) it.taken;
+        written = it.written;
+        shared = it.shared;
+      }
 
   -- the blocks of an earlier job are none that the new one writes
   earlier_left : (x : Job) → IsPlaced start now x → (m : ℕ) → m < length x.blocks → IsLeftBy job (get_or x.blocks m 0)
-  earlier_left x placed m lt i less is e = both_ways (holds now (get_or job.blocks i 0)) (sym (ap (holds now) e) ∙ placed.taken m lt) (written i less is)
+  earlier_left x placed m lt i less is e = both_ways (holds now (get_or job.blocks i 0))
+      (sym (ap (holds now) e) ∙ placed.taken m lt) (written i less is)
 
   -- the blocks of the new one are none that an earlier job writes
   new_left : (x : Job) → IsPlaced start now x → (m : ℕ) → m < length job.blocks → IsLeftBy x (get_or job.blocks m 0)
   new_left x placed m lt i less is e = ⊎_elim
-      (λ differs. both_ways (holds now (get_or job.blocks m 0)) (ap (holds now) e ∙ placed.taken i less) (written m lt differs))
-      (λ same. both_ways (holds start (get_or job.blocks m 0)) (shared m lt same) (ap (holds start) e ∙ placed.written i less is))
+      (λ differs. both_ways (holds now (get_or job.blocks m 0)) (ap (holds now) e ∙ placed.taken i less)
+      (written m lt differs))
+      (λ same. both_ways (holds start (get_or job.blocks m 0)) (shared m lt same)
+      (ap (holds start) e ∙ placed.written i less is))
       (cases_Bool (is_changed job.bytes.now job.was.now m))
 
   at_old : (i : ℕ) (d : Job) → i < length jobs → get_or (jobs ++ job ∷ []) i d ≡ get_or jobs i d
@@ -139,12 +169,15 @@ module _ (start now new : List Bool) (jobs : List Job) (job : Job) (keeps : Keep
       ⊎_elim
       (λ below. subst P (sym (at_old i d below)) (⊎_elim
       (λ lower. subst (Leaves (get_or jobs i d)) (sym (at_old j d lower)) (apart i j d differ below lower))
-      (λ last. subst (Leaves (get_or jobs i d)) (sym (at_new j d (let e : length jobs ≡ j = omega (arith, last, less, long) in e))) (earlier_left (get_or jobs i d) (placed i d below)))
+      (λ last. subst (Leaves (get_or jobs i d)) (sym (at_new j d
+      (let e : length jobs ≡ j = omega (arith, last, less, long) in e)))
+      (earlier_left (get_or jobs i d) (placed i d below)))
       (cases_lt j (length jobs))))
       (λ here.
       let i_is : length jobs ≡ i = omega (arith, here, lt, long) in
       let lower : j < length jobs = omega (arith, less, long, i_is, differ) in
-      subst P (sym (at_new i d i_is)) (subst (Leaves job) (sym (at_old j d lower)) (new_left (get_or jobs j d) (placed j d lower))))
+      subst P (sym (at_new i d i_is)) (subst (Leaves job) (sym (at_old j d lower))
+      (new_left (get_or jobs j d) (placed j d lower))))
       (cases_lt i (length jobs))
 
   pub placed_push : ArePlaced start now jobs → ArePlaced start new (jobs ++ job ∷ [])
@@ -155,11 +188,21 @@ module _ (start now new : List Bool) (jobs : List Job) (job : Job) (keeps : Keep
   }
 
 pub placed_none : (set : List Bool) → ArePlaced set set []
-placed_none set = record { roomy = λ k d lt. absurd (omega (arith, lt)); placed = λ k d lt. absurd (omega (arith, lt)); apart = λ i j d differ lt less. absurd (omega (arith, lt)) }
+placed_none set = record {
+  roomy = λ k d lt. absurd (omega (arith, lt));
+  placed =
+      λ k d lt. absurd (omega (arith, lt));
+  apart = λ i j d differ lt less. absurd (omega (arith, lt));
+}
 
 -- beside no earlier content every part is written
 pub none_same : (bytes : List ℕ) (i : ℕ) → i < blocks_for (length bytes) → is_changed bytes [] i ≡ false → ⊥
-none_same bytes i lt same = absurd (omega (arith, ap length (same_part bytes [] i same), length-part bytes i, length-part [] i))
+none_same bytes i lt same = absurd (omega (
+  arith,
+  ap length (same_part bytes [] i same),
+  length-part bytes i,
+  length-part [] i,
+))
 
 -- ---- contents that are written whole
 
@@ -177,23 +220,38 @@ plan_none generation set = record {
   views = λ image place m some enough done. tt;
 }
 
-pub plan_push : (generation : ℕ) (contents : List Fresh) (start now new : List Bool) (entries : List IndexEntry) (jobs : List Job) (f : Fresh) (e : IndexEntry) (job : Job)
-    → IsMade generation f e → AreFree now e.blocks → IsAdded e.blocks now new → job.blocks ≡ e.blocks → job.bytes.now ≡ f.bytes → job.was.now ≡ []
-    → IsPlanOf generation contents start now entries jobs → IsPlanOf generation (contents ++ f ∷ []) start new (entries ++ e ∷ []) (jobs ++ job ∷ [])
+pub plan_push : (generation : ℕ) (contents : List Fresh) (start now new : List Bool) (entries : List IndexEntry)
+    (jobs : List Job) (f : Fresh) (e : IndexEntry) (job : Job)
+    → IsMade generation f e → AreFree now e.blocks → IsAdded e.blocks now new → job.blocks ≡ e.blocks
+    → job.bytes.now ≡ f.bytes → job.was.now ≡ []
+    → IsPlanOf generation contents start now entries jobs
+    → IsPlanOf generation (contents ++ f ∷ []) start new (entries ++ e ∷ []) (jobs ++ job ∷ [])
 plan_push generation contents start now new entries jobs f e job made free added blocks bytes was plan = record {
   made = zip_push (IsMade generation) contents entries f e plan.made made;
   laid = laid_push entries e plan.laid (free_distinct now e.blocks free)
-      (each_map (λ (h : IndexEntry). HasAll now h.blocks) (λ (h : IndexEntry). AreDisjoint h.blocks e.blocks) entries (λ h has. disjoint_by now h.blocks e.blocks has free.free) plan.taken);
+      (each_map (λ (h : IndexEntry). HasAll now h.blocks) (λ (h : IndexEntry). AreDisjoint h.blocks e.blocks) entries
+      (λ h has. disjoint_by now h.blocks e.blocks has free.free) plan.taken);
   taken = each_push (λ (h : IndexEntry). HasAll new h.blocks) entries e
-      (each_map (λ (h : IndexEntry). HasAll now h.blocks) (λ (h : IndexEntry). HasAll new h.blocks) entries (λ h has. keeps_all now new h.blocks grows has) plan.taken) added.added;
-  placed = placed_push start now new jobs job plan.keeps (subst (λ (bs : List ℕ). IsAdded bs now new) (sym blocks) added) roomy
+      (each_map (λ (h : IndexEntry). HasAll now h.blocks) (λ (h : IndexEntry). HasAll new h.blocks) entries
+      (λ h has. keeps_all now new h.blocks grows has) plan.taken) added.added;
+  placed = placed_push start now new jobs job plan.keeps
+      (subst (λ (bs : List ℕ). IsAdded bs now new) (sym blocks) added) roomy
       (λ i lt is. ap (holds now) (ap (λ (bs : List ℕ). get_or bs i 0) blocks) ∙ free.free i (omega (arith, lt, long)))
-      (λ i lt same. absurd (none_same f.bytes i (omega (arith, lt, long, made.count)) (subst (λ (xs : List ℕ). is_changed f.bytes xs i ≡ false) was (subst (λ (xs : List ℕ). is_changed xs job.was.now i ≡ false) bytes same))))
+      (λ i lt same. absurd (none_same f.bytes i (omega (arith, lt, long, made.count))
+      (subst (λ (xs : List ℕ). is_changed f.bytes xs i ≡ false) was
+      (subst (λ (xs : List ℕ). is_changed xs job.was.now i ≡ false) bytes same))))
       plan.placed;
   whole = All-push (λ (j : Job). j.was.now ≡ []) jobs job plan.whole was;
   keeps = λ b is. grows b (plan.keeps b is);
   capacity = added.capacity ∙ plan.capacity;
-  free = omega (arith, plan.free, added.free, made.count, sum_by-append (λ (x : Fresh). blocks_for (length x.bytes)) contents (f ∷ []), sum_by-cons (λ (x : Fresh). blocks_for (length x.bytes)) f []);
+  free = omega (
+    arith,
+    plan.free,
+    added.free,
+    made.count,
+    sum_by-append (λ (x : Fresh). blocks_for (length x.bytes)) contents (f ∷ []),
+    sum_by-cons (λ (x : Fresh). blocks_for (length x.bytes)) f [],
+  );
   cost = omega (
     arith,
     plan.cost,
@@ -204,7 +262,8 @@ plan_push generation contents start now new entries jobs f e job made free added
     sum_by-cons (λ (x : Fresh). blocks_for (length x.bytes)) f [],
   );
   views = λ image place m some enough done.
-      zip_push (λ (g : Fresh) (h : IndexEntry). entry_view image place m h ≡ fresh_entry generation (fresh_element g)) contents entries f e
+      zip_push (λ (g : Fresh) (h : IndexEntry). entry_view image place m h ≡ fresh_entry generation (fresh_element g))
+      contents entries f e
       (plan.views image place m some enough (all_front (IsDone image place.first place.copies) jobs job done))
       (shown image place m some enough (all_last (IsDone image place.first place.copies) jobs job done));
 }
@@ -226,40 +285,85 @@ plan_push generation contents start now new entries jobs f e job made free added
       distinct = subst AreDistinct (sym blocks) (free_distinct now e.blocks free);
     }
 
-    shown : (image : Image) (place : Place) (m : ℕ) → 1 ≤ m → m ≤ place.copies → IsDone image place.first place.copies job
+    shown : (image : Image) (place : Place) (m : ℕ) → 1 ≤ m → m ≤ place.copies
+        → IsDone image place.first place.copies job
         → entry_view image place m e ≡ fresh_entry generation (fresh_element f)
     shown image place m some enough done =
-        let a : AllFull place.first place.copies e.blocks job.bytes.now image = subst (λ (bs : List ℕ). AllFull place.first place.copies bs job.bytes.now image) blocks done in
-        let b : AllFull place.first place.copies e.blocks f.bytes image = subst (λ (xs : List ℕ). AllFull place.first place.copies e.blocks xs image) bytes a in
+        let a : AllFull place.first place.copies e.blocks job.bytes.now image =
+        subst (λ (bs : List ℕ). AllFull place.first place.copies bs job.bytes.now image) blocks done in
+        let b : AllFull place.first place.copies e.blocks f.bytes image =
+        subst (λ (xs : List ℕ). AllFull place.first place.copies e.blocks xs image) bytes a in
         view_full image place m e f.bytes some enough b made.hash made.len
-        ∙ ap (λ (n : List ℕ). record { name = n; info = e.info; changed = e.changed; len = e.len; content = Good f.bytes; lacking = [] }) made.name
-        ∙ ap (λ i. record { name = f.name; info = i; changed = e.changed; len = e.len; content = Good f.bytes; lacking = [] }) made.info
-        ∙ ap (λ (c : ℕ). record { name = f.name; info = f.info; changed = c; len = e.len; content = Good f.bytes; lacking = [] }) made.changed
-        ∙ ap (λ (l : ℕ). record { name = f.name; info = f.info; changed = generation; len = l; content = Good f.bytes; lacking = [] }) made.len
+        ∙ ap (λ (n : List ℕ). record {
+          name = n;
+          info = e.info;
+          changed = e.changed;
+          len = e.len;
+          content =
+              Good f.bytes;
+          lacking = [];
+        }) made.name
+        ∙ ap (λ i. record {
+          name = f.name;
+          info = i;
+          changed = e.changed;
+          len = e.len;
+          content = Good f.bytes;
+          lacking =
+              [];
+        }) made.info
+        ∙ ap (λ (c : ℕ). record {
+          name = f.name;
+          info = f.info;
+          changed = c;
+          len = e.len;
+          content =
+              Good f.bytes;
+          lacking = [];
+        }) made.changed
+        ∙ ap (λ (l : ℕ). record {
+          name = f.name;
+          info = f.info;
+          changed = generation;
+          len = l;
+          content =
+              Good f.bytes;
+          lacking = [];
+        }) made.len
 
 -- ---- what the plan says of the disk
 
 -- beside nothing, nothing is shared
-pub shared_of_whole : (image : Image) (first copies : ℕ) (jobs : List Job) → All (λ (job : Job). job.was.now ≡ []) jobs → All (HasShared image first copies) jobs
+pub shared_of_whole : (image : Image) (first copies : ℕ) (jobs : List Job) → All (λ (job : Job). job.was.now ≡ []) jobs
+    → All (HasShared image first copies) jobs
 shared_of_whole image first copies jobs whole k d lt c few =
-    subst (λ (was : List ℕ). HoldsShared (image (area first c)) (get_or jobs k d).blocks (get_or jobs k d).bytes.now was) (sym (whole k d lt))
+    subst (λ (was : List ℕ). HoldsShared (image (area first c)) (get_or jobs k d).blocks (get_or jobs k d).bytes.now
+    was) (sym (whole k d lt))
     (shared_none (image (area first c)) (get_or jobs k d).blocks (get_or jobs k d).bytes.now)
 
 -- what was in the set at the start is written by no job
-pub left_of_placed : (start now : List Bool) (jobs : List Job) → ArePlaced start now jobs → (k : ℕ) → holds start k ≡ true → IsLeftByAll jobs k
+pub left_of_placed : (start now : List Bool) (jobs : List Job) → ArePlaced start now jobs → (k : ℕ)
+    → holds start k ≡ true → IsLeftByAll jobs k
 left_of_placed start now jobs placed k taken x d lt i less is e =
     both_ways (holds start k) taken (ap (holds start) e ∙ (placed.placed x d lt).written i less is)
 
 -- what is written whole is written in whole blocks
-pub written_of_plan : (copies blocks was now : ℕ) (jobs : List Job) → jobs_cost jobs ≤ 256 * blocks → now ≤ was + copies * jobs_cost jobs
+pub written_of_plan : (copies blocks was now : ℕ) (jobs : List Job) → jobs_cost jobs ≤ 256 * blocks
+    → now ≤ was + copies * jobs_cost jobs
     → now ≤ was + copies * (256 * blocks)
 written_of_plan copies blocks was now jobs few written =
     let wider : copies * jobs_cost jobs ≤ copies * (256 * blocks) = mul-le-mul_left copies few in
     omega (arith, written, wider)
 
-pub jobs_to_contents : (first copies : ℕ) (start now : List Bool) (jobs : List Job) (old new : Medium) (done more : Type 0) → ArePlaced start now jobs → (done → more)
+pub jobs_to_contents : (first copies : ℕ) (start now : List Bool) (jobs : List Job) (old new : Medium)
+    (done more : Type 0) → ArePlaced start now jobs → (done → more)
     → (c : Case) → IsJobsCase first copies jobs old new done c → IsContentsCase first copies start old new more c
 jobs_to_contents first copies start now jobs old new done more placed to c is = ⊎_elim
-    (λ some. let (d, was, step) = some in inl (d, was, case_less (λ f none. none) (λ k taken. left_of_placed start now jobs placed k taken) step))
+    (λ some. let (d, was, step) = some in inl (
+      d,
+      was,
+      case_less (λ f none. none)
+          (λ k taken. left_of_placed start now jobs placed k taken) step,
+    ))
     (λ all. inr (to all.0, all.1))
     is

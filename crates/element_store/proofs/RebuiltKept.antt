@@ -27,56 +27,76 @@ use Rattle.element_store.proofs.Rebuilt.{contents_kept, anew_kept, rebuilt_in_us
 
 -- ---- at every moment
 
-module _ (shape : Shape) (set : List Bool) (g : ℕ) (contents : List Fresh) (start ready_at : Medium) (before : Elapses start ready_at)
+module _ (shape : Shape) (set : List Bool) (g : ℕ) (contents : List Fresh) (start ready_at : Medium)
+    (before : Elapses start ready_at)
     (prepared : (state : State) → KeptThroughout shape state start ready_at)
-    (ready : IsClean shape start.image → IsGround shape start.image ready_at.image set g) (quiet_now : Quiet ready_at) (mid : Medium) (then : Elapses ready_at mid) where
+    (ready : IsClean shape start.image → IsGround shape start.image ready_at.image set g) (quiet_now : Quiet ready_at)
+    (mid : Medium) (then : Elapses ready_at mid) where
   -- until the contents are there
-  pub contents_anew : (state : State) (done : Type 0) → (done → Keeps (IsNoArea shape.place.first shape.place.copies) (λ k. holds set k ≡ true) ready_at.image mid.image)
-      → EachCase (IsContentsCase shape.place.first shape.place.copies set ready_at mid done) ready_at mid → KeptThroughout shape state start mid
-  contents_anew state done keeps each quiet clean = goes_on (IsKeptCase shape start.image state) before then (prepared state quiet clean)
+  pub contents_anew : (state : State) (done : Type 0) → (done
+      → Keeps (IsNoArea shape.place.first shape.place.copies) (λ k. holds set k ≡ true) ready_at.image mid.image)
+      → EachCase (IsContentsCase shape.place.first shape.place.copies set ready_at mid done) ready_at mid
+      → KeptThroughout shape state start mid
+  contents_anew state done keeps each quiet clean = goes_on (IsKeptCase shape start.image state) before then
+      (prepared state quiet clean)
       (contents_kept shape start.image set g contents ready_at mid (ready clean) quiet_now state done keeps each)
 
   -- until the index is there
-  pub index_anew : (new : Medium) (text : List ℕ) (index : Index) (done : Type 0) → Elapses mid new → g ≡ next_generation (salvage_of (store_at start.image shape)) → IsTextOf shape text index
+  pub index_anew : (new : Medium) (text : List ℕ) (index : Index) (done : Type 0) → Elapses mid new
+      → g ≡ next_generation (salvage_of (store_at start.image shape)) → IsTextOf shape text index
       → Keeps (IsNoArea shape.place.first shape.place.copies) (λ k. holds set k ≡ true) ready_at.image mid.image
       → ShowsFresh mid.image shape.place shape.m g contents index.entries
       → EachCase (IsContentsCase shape.place.first shape.place.copies set ready_at mid done) ready_at mid
       → EachCase (PutStops shape.place.first shape.place.copies g text mid.image) mid new
-      → KeptThroughout shape (fresh_state (next_generation (salvage_of (store_at start.image shape))) (fresh_map contents)) start new
+      → KeptThroughout shape (fresh_state (next_generation (salvage_of (store_at start.image shape)))
+      (fresh_map contents)) start new
   index_anew new text index done later generation_is spelled keeps shown each stops =
       subst (λ (n : ℕ). KeptThroughout shape (fresh_state n (fresh_map contents)) start new) generation_is
-      (λ quiet clean. goes_on (IsKeptCase shape start.image (fresh_state g (fresh_map contents))) (elapses_on before then) later
+      (λ quiet clean. goes_on (IsKeptCase shape start.image (fresh_state g (fresh_map contents)))
+      (elapses_on before then) later
       (contents_anew (fresh_state g (fresh_map contents)) done (λ d. keeps) each quiet clean)
-      (anew_kept shape start.image set g contents ready_at mid (ready clean) quiet_now new text index spelled keeps shown stops))
+      (anew_kept shape start.image set g contents ready_at mid (ready clean) quiet_now new text index spelled keeps
+      shown stops))
 
 -- ---- outside the place
 
-module _ (first copies : ℕ) (set : List Bool) (start ready_at mid : Medium) (before : Elapses start ready_at) (then : Elapses ready_at mid)
-    (slots : Spares (IsNoSlot first copies) start.image ready_at.image) (areas : Spares (IsNoArea first copies) ready_at.image mid.image) where
+module _ (first copies : ℕ) (set : List Bool) (start ready_at mid : Medium) (before : Elapses start ready_at)
+    (then : Elapses ready_at mid)
+    (slots : Spares (IsNoSlot first copies) start.image ready_at.image)
+    (areas : Spares (IsNoArea first copies) ready_at.image mid.image) where
   pub contents_elsewhere : Spares (IsOutside first copies) start.image mid.image
   contents_elsewhere f out = areas f (outside_no_area first copies f out) ∙ slots f (outside_no_slot first copies f out)
 
-  pub index_elsewhere : (new : Medium) → Spares (IsNoSlot first copies) mid.image new.image → Spares (IsOutside first copies) start.image new.image
+  pub index_elsewhere : (new : Medium) → Spares (IsNoSlot first copies) mid.image new.image
+      → Spares (IsOutside first copies) start.image new.image
   index_elsewhere new more f out = more f (outside_no_slot first copies f out) ∙ contents_elsewhere f out
 
-  module _ (prepared : EachCase (IsSettledOn (IsNoSlot first copies) start.image) start ready_at) (quiet_now : Quiet ready_at) (done : Type 0)
+  module _ (prepared : EachCase (IsSettledOn (IsNoSlot first copies) start.image) start ready_at)
+      (quiet_now : Quiet ready_at) (done : Type 0)
       (each : EachCase (IsContentsCase first copies set ready_at mid done) ready_at mid) where
     pub contents_outside : EachCase (IsSettledOn (IsOutside first copies) start.image) start mid
     contents_outside = goes_on (IsSettledOn (IsOutside first copies) start.image) before then
         (λ c past. settled_less (λ f out. outside_no_slot first copies f out) (prepared c past))
-        (λ c past. settled_before (λ f out. slots f (outside_no_slot first copies f out)) (contents_around first copies set ready_at mid done quiet_now areas each c past))
+        (λ c past. settled_before (λ f out. slots f (outside_no_slot first copies f out))
+        (contents_around first copies set ready_at mid done quiet_now areas each c past))
 
-    pub index_outside : (new : Medium) (g : ℕ) (text : List ℕ) → Elapses mid new → EachCase (PutStops first copies g text mid.image) mid new
+    pub index_outside : (new : Medium) (g : ℕ) (text : List ℕ) → Elapses mid new
+        → EachCase (PutStops first copies g text mid.image) mid new
         → EachCase (IsSettledOn (IsOutside first copies) start.image) start new
-    index_outside new g text later stops = goes_on (IsSettledOn (IsOutside first copies) start.image) (elapses_on before then) later contents_outside
-        (λ c past. settled_before contents_elsewhere (settled_less (λ f out. outside_no_slot first copies f out) (stops c past).elsewhere))
+    index_outside new g text later stops = goes_on (IsSettledOn (IsOutside first copies) start.image)
+        (elapses_on before then) later contents_outside
+        (λ c past. settled_before contents_elsewhere (settled_less (λ f out. outside_no_slot first copies f out)
+        (stops c past).elsewhere))
 
 -- ---- at its end
 
 -- the copies hold the index alone, so the storage opens at the contents
-pub anew_opens : (mid image : Image) (shape : Shape) (g : ℕ) (contents : List Fresh) (cell : Cell) (index : Index) (text : List ℕ) → IsShape shape → IsCellOf shape.place g cell
-    → IsTextOf shape text index → CellAt image cell text → Spares (IsNoSlot shape.place.first shape.place.copies) mid image
-    → ShowsFresh mid shape.place shape.m g contents index.entries → (n : ℕ) → g ≡ n → store_at image shape ≡ fresh_state n (fresh_map contents)
+pub anew_opens : (mid image : Image) (shape : Shape) (g : ℕ) (contents : List Fresh) (cell : Cell) (index : Index)
+    (text : List ℕ) → IsShape shape → IsCellOf shape.place g cell
+    → IsTextOf shape text index → CellAt image cell text
+    → Spares (IsNoSlot shape.place.first shape.place.copies) mid image
+    → ShowsFresh mid shape.place shape.m g contents index.entries → (n : ℕ) → g ≡ n
+    → store_at image shape ≡ fresh_state n (fresh_map contents)
 anew_opens mid image shape g contents cell index text is of spelled held same shown n e =
     rebuilt_opens mid image shape g contents index text is spelled
     (subst (λ (h : ℕ). IsAlone image shape.place.first shape.place.copies h text) of.counts
@@ -85,9 +105,12 @@ anew_opens mid image shape g contents cell index text is of spelled held same sh
     ∙ ap (λ (h : ℕ). fresh_state h (fresh_map contents)) e
 
 -- and is in use there
-pub anew_in_use : (mid image : Image) (shape : Shape) (g : ℕ) (contents : List Fresh) (cell : Cell) (index : Index) (text : List ℕ) → IsShape shape → IsCellOf shape.place g cell
-    → IsTextOf shape text index → index.format ≡ 2 → CellAt image cell text → Spares (IsNoSlot shape.place.first shape.place.copies) mid image
-    → ShowsFresh mid shape.place shape.m g contents index.entries → (n : ℕ) → g ≡ n → IsMadeAnew shape image (fresh_view n (fresh_map contents))
+pub anew_in_use : (mid image : Image) (shape : Shape) (g : ℕ) (contents : List Fresh) (cell : Cell) (index : Index)
+    (text : List ℕ) → IsShape shape → IsCellOf shape.place g cell
+    → IsTextOf shape text index → index.format ≡ 2 → CellAt image cell text
+    → Spares (IsNoSlot shape.place.first shape.place.copies) mid image
+    → ShowsFresh mid shape.place shape.m g contents index.entries → (n : ℕ) → g ≡ n
+    → IsMadeAnew shape image (fresh_view n (fresh_map contents))
 anew_in_use mid image shape g contents cell index text is of spelled two held same shown n e = record {
   index = index;
   format = two;

@@ -16,7 +16,8 @@ lacking_numbers scope.Element entries copies = no_numbers copies
 lacking_numbers scope.Storage entries copies = numbers_passing (λ copy. lacks_one entries (copy + 1)) copies
 
 pub store_view : (store : Store) → IsStore store → IsView store.shape (view_in store)
-store_view store is = view_read store.shape store.index (view_in store) is.index.rules is.index.fits is.entries is.positive
+store_view store is = view_read store.shape store.index (view_in store) is.index.rules is.index.fits is.entries
+    is.positive
     (lacking_numbers store.shape.scope (entries_of store) store.shape.place.copies)
 
 pub store_view_as : (store : Store) (shape : Shape) → store.shape ≡ shape → IsStore store → IsView shape (view_in store)

@@ -1,5 +1,7 @@
 -- The blocks that the entries of an index take, as a set.
-use Rattle.std.proofs.Common.{◌≡◌, ◌≢◌, ◌⊎◌, ℕ, zero, suc, ◌+◌, ◌-◌, ◌<◌, List, [], ◌∷◌, ◌++◌, length, get_or, take, Bool, true, false, cond, eqb, refl, sym, ap, ◌∙◌, subst, arith, inl, inr, ⊎_elim, length-append, eq-eqb, ne_eqb}
+use Rattle.std.proofs.Common.{◌≡◌, ◌≢◌, ◌⊎◌, ℕ, zero, suc, ◌+◌, ◌-◌, ◌<◌, List, [], ◌∷◌, ◌++◌, length, get_or, take}
+use Rattle.std.proofs.Common.{Bool, true, false, cond, eqb, refl, sym, ap, ◌∙◌, subst, arith, inl, inr, ⊎_elim}
+use Rattle.std.proofs.Common.{length-append, eq-eqb, ne_eqb}
 use Rattle.std.specs.Prelude.{replicate, not, ◌==◌, ◌||◌, ◌&&◌, nat_lt, nat_le}
 use Rattle.std.specs.List.{All, list_all}
 use Rattle.std.proofs.lemmas.Bool.{cases_lt, cases_eq, ltb-true}
@@ -51,16 +53,19 @@ none_held (suc n) (suc b) = none_held n b
 
 pub none_free : (n : ℕ) → free_of (replicate n false) ≡ n
 none_free zero = refl
-none_free (suc n) = let more = sum_by-cons (λ (b : Bool). cond {A = ℕ} (not b) 1 0) false (replicate n false) in let rest = none_free n in omega (arith, more, rest)
+none_free (suc n) = let more = sum_by-cons (λ (b : Bool). cond {A = ℕ} (not b) 1 0) false (replicate n false) in
+    let rest = none_free n in omega (arith, more, rest)
 
 -- blocks that are added after others
-pub added_both : (xs ys : List ℕ) (old now new : List Bool) → IsAdded xs old now → IsAdded ys now new → IsAdded (xs ++ ys) old new
+pub added_both : (xs ys : List ℕ) (old now new : List Bool) → IsAdded xs old now → IsAdded ys now new
+    → IsAdded (xs ++ ys) old new
 added_both xs ys old now new one two =
     let long = length-append xs ys in
     record {
       added = λ i lt. ⊎_elim
           (λ inside. ap (holds new) (get_or_append_left xs ys 0 i inside) ∙ stays (get_or xs i 0) (one.added i inside))
-          (λ out. ap (holds new) (get_or-append_right xs ys (length xs) i 0 refl out) ∙ two.added (i - length xs) (omega (arith, lt, long, out)))
+          (λ out. ap (holds new) (get_or-append_right xs ys (length xs) i 0 refl out)
+          ∙ two.added (i - length xs) (omega (arith, lt, long, out)))
           (cases_lt i (length xs));
       kept = λ b apart.
           two.kept b (λ i lt same. apart (length xs + i) (omega (arith, lt, long)) (same ∙ sym (right i)))
@@ -81,16 +86,21 @@ added_both xs ys old now new one two =
         (cases_apart ys b)
 
 -- one more entry
-pub entry_added : (es : List IndexEntry) (i : ℕ) (e : IndexEntry) (old now new : List Bool) → i < length es → e ≡ get_or es i e
+pub entry_added : (es : List IndexEntry) (i : ℕ) (e : IndexEntry) (old now new : List Bool) → i < length es
+    → e ≡ get_or es i e
     → IsAdded (blocks_of (take i es)) old now → IsAdded e.blocks now new → IsAdded (blocks_of (take (i + 1) es)) old new
 entry_added es i e old now new lt is were more =
-    let split : take (i + 1) es ≡ take i es ++ e ∷ [] = take_more es i e lt ∙ ap (λ (x : IndexEntry). take i es ++ x ∷ []) (sym is) in
+    let split : take (i + 1) es ≡ take i es ++ e ∷ [] = take_more es i e lt
+    ∙ ap (λ (x : IndexEntry). take i es ++ x ∷ []) (sym is) in
     let joined : blocks_of (take i es ++ e ∷ []) ≡ blocks_of (take i es) ++ e.blocks =
-    flat_map-append (λ (x : IndexEntry). x.blocks) (take i es) (e ∷ []) ∙ ap (λ (bs : List ℕ). blocks_of (take i es) ++ bs) (append-nil e.blocks) in
-    subst (λ (bs : List ℕ). IsAdded bs old new) (sym (ap blocks_of split ∙ joined)) (added_both (blocks_of (take i es)) e.blocks old now new were more)
+    flat_map-append (λ (x : IndexEntry). x.blocks) (take i es) (e ∷ [])
+    ∙ ap (λ (bs : List ℕ). blocks_of (take i es) ++ bs) (append-nil e.blocks) in
+    subst (λ (bs : List ℕ). IsAdded bs old new) (sym (ap blocks_of split ∙ joined))
+    (added_both (blocks_of (take i es)) e.blocks old now new were more)
 
 -- each block of an entry is as all of them are
-pub entry_below : (es : List IndexEntry) (i : ℕ) (e : IndexEntry) (n : ℕ) → All (λ b. b < n) (blocks_of es) → i < length es → e ≡ get_or es i e → All (λ b. b < n) e.blocks
+pub entry_below : (es : List IndexEntry) (i : ℕ) (e : IndexEntry) (n : ℕ) → All (λ b. b < n) (blocks_of es)
+    → i < length es → e ≡ get_or es i e → All (λ b. b < n) e.blocks
 entry_below es i e n all lt is k d less =
     let f = λ (x : IndexEntry). x.blocks in
     let inside : k < length (f (get_or es i e)) = subst (λ (x : IndexEntry). k < length x.blocks) is less in
@@ -99,11 +109,13 @@ entry_below es i e n all lt is k d less =
     subst (λ (b : ℕ). b < n) at (all (length (blocks_of (take i es)) + k) d (omega (arith, inside, room)))
 
 -- the set of all of them
-pub taken_by : (capacity : ℕ) (es : List IndexEntry) (set : List Bool) → IsAdded (blocks_of es) (replicate capacity false) set → AreTaken capacity es set
+pub taken_by : (capacity : ℕ) (es : List IndexEntry) (set : List Bool)
+    → IsAdded (blocks_of es) (replicate capacity false) set → AreTaken capacity es set
 taken_by capacity es set added = record {
   capacity = added.capacity ∙ length-replicate capacity false;
   exact = λ b. ⊎_elim
-      (λ found. let (i, lt, at) = found in subst (λ (k : ℕ). holds set k ≡ true) at (added.added i lt) ∙ sym (named_at (blocks_of es) b i lt at))
+      (λ found. let (i, lt, at) = found in subst (λ (k : ℕ). holds set k ≡ true) at (added.added i lt)
+      ∙ sym (named_at (blocks_of es) b i lt at))
       (λ apart. added.kept b apart ∙ none_held capacity b ∙ sym (unnamed (blocks_of es) b apart))
       (cases_apart (blocks_of es) b);
   free = (let a = added.free in let all = none_free capacity in omega (arith, a, all));
@@ -117,20 +129,27 @@ second false b is = absurd (not_both is)
     not_both : false ≡ true → ⊥
     not_both e = cc
 
-pub fits_below : (kind : StoreKind) (allowed : ℕ) (index : Index) → Fits kind allowed index → All (λ b. b < area_blocks allowed) (blocks_of index.entries)
+pub fits_below : (kind : StoreKind) (allowed : ℕ) (index : Index) → Fits kind allowed index
+    → All (λ b. b < area_blocks allowed) (blocks_of index.entries)
 fits_below kind allowed index fit k d lt =
     let three = list_all (λ b. nat_lt b (area_blocks allowed)) (blocks_of index.entries) in
-    let all : three ≡ true = second (eqb (kind_code index.kind) (kind_code kind) && nat_le (size_of index.entries) allowed) three fit in
-    ltb-true (get_or (blocks_of index.entries) k d) (area_blocks allowed) (AllPass-from_list_all (λ b. nat_lt b (area_blocks allowed)) (blocks_of index.entries) all k d lt)
+    let all : three ≡ true = second (eqb (kind_code index.kind) (kind_code kind)
+    && nat_le (size_of index.entries) allowed) three fit in
+    ltb-true (get_or (blocks_of index.entries) k d) (area_blocks allowed)
+    (AllPass-from_list_all (λ b. nat_lt b (area_blocks allowed)) (blocks_of index.entries) all k d lt)
 
 -- as the set of an index that was spelled asks, and as it is
-pub taken_below : (shape : Shape) (text : List ℕ) (index : Index) (es : List IndexEntry) (blocks : ℕ) → IsTextOf shape text index → es ≡ index.entries → blocks ≡ area_blocks shape.allowed
+pub taken_below : (shape : Shape) (text : List ℕ) (index : Index) (es : List IndexEntry) (blocks : ℕ)
+    → IsTextOf shape text index → es ≡ index.entries → blocks ≡ area_blocks shape.allowed
     → All (λ b. b < blocks) (blocks_of es)
 taken_below shape text index es blocks is same many =
     subst (λ (xs : List IndexEntry). All (λ b. b < blocks) (blocks_of xs)) (sym same)
-    (subst (λ (n : ℕ). All (λ b. b < n) (blocks_of index.entries)) (sym many) (fits_below shape.kind shape.allowed index is.fits))
+    (subst (λ (n : ℕ). All (λ b. b < n) (blocks_of index.entries)) (sym many)
+    (fits_below shape.kind shape.allowed index is.fits))
 
-pub taken_area : (shape : Shape) (index : Index) (es : List IndexEntry) (blocks : ℕ) (set : List Bool) → es ≡ index.entries → blocks ≡ area_blocks shape.allowed
+pub taken_area : (shape : Shape) (index : Index) (es : List IndexEntry) (blocks : ℕ) (set : List Bool)
+    → es ≡ index.entries → blocks ≡ area_blocks shape.allowed
     → AreTaken blocks es set → AreTaken (area_blocks shape.allowed) index.entries set
 taken_area shape index es blocks set same many taken =
-    subst (λ (xs : List IndexEntry). AreTaken (area_blocks shape.allowed) xs set) same (subst (λ (n : ℕ). AreTaken n es set) many taken)
+    subst (λ (xs : List IndexEntry). AreTaken (area_blocks shape.allowed) xs set) same
+    (subst (λ (n : ℕ). AreTaken n es set) many taken)

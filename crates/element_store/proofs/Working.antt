@@ -1,5 +1,6 @@
 -- Jobs done one after another.
-use Rattle.std.proofs.Common.{◌≡◌, ◌≢◌, ℕ, ◌+◌, ◌*◌, ◌<◌, ◌≤◌, List, length, get_or, take, Bool, IsTrue, sym, ap, ◌∙◌, subst, arith, ⊎_elim, le_trans, le_of_eq}
+use Rattle.std.proofs.Common.{◌≡◌, ◌≢◌, ℕ, ◌+◌, ◌*◌, ◌<◌, ◌≤◌, List, length, get_or, take, Bool, IsTrue, sym, ap, ◌∙◌}
+use Rattle.std.proofs.Common.{subst, arith, ⊎_elim, le_trans, le_of_eq}
 use Rattle.std.specs.List.{All}
 use Rattle.std.proofs.Math.Nat.{mul-le-mul_left}
 use Rattle.std.proofs.lemmas.Bool.{cases_eq}
@@ -18,15 +19,20 @@ use Rattle.element_store.specs.Jobs.{IsLeftBy, IsLeftByAll, AreApart, HasShared,
 
 -- ---- contents in blocks that whole writes leave alone
 
-pub full_kept : (spared apart : ℕ → Type 0) (old new : Image) (f : ℕ) (blocks bytes : List ℕ) → Keeps spared apart old new
-    → ((m : ℕ) → m < length blocks → apart (get_or blocks m 0)) → IsFull (old f) blocks bytes → IsFull (new f) blocks bytes
+pub full_kept : (spared apart : ℕ → Type 0) (old new : Image) (f : ℕ) (blocks bytes : List ℕ)
+    → Keeps spared apart old new
+    → ((m : ℕ) → m < length blocks → apart (get_or blocks m 0)) → IsFull (old f) blocks bytes
+    → IsFull (new f) blocks bytes
 full_kept spared apart old new f blocks bytes keeps is full = record {
-  bytes_are = joined_kept (old f) (new f) blocks (length bytes) (λ m j lt small. keeps.bytes f (get_or blocks m 0) j small (is m lt)) ∙ full.bytes_are;
+  bytes_are = joined_kept (old f) (new f) blocks (length bytes)
+      (λ m j lt small. keeps.bytes f (get_or blocks m 0) j small (is m lt)) ∙ full.bytes_are;
   inside = within_grown (old f) (new f) blocks (length bytes) (keeps.no_shorter f) full.inside;
 }
 
-pub shared_kept : (spared apart : ℕ → Type 0) (old new : Image) (f : ℕ) (blocks bytes was : List ℕ) → Keeps spared apart old new
-    → ((m : ℕ) → m < length blocks → apart (get_or blocks m 0)) → HoldsShared (old f) blocks bytes was → HoldsShared (new f) blocks bytes was
+pub shared_kept : (spared apart : ℕ → Type 0) (old new : Image) (f : ℕ) (blocks bytes was : List ℕ)
+    → Keeps spared apart old new
+    → ((m : ℕ) → m < length blocks → apart (get_or blocks m 0)) → HoldsShared (old f) blocks bytes was
+    → HoldsShared (new f) blocks bytes was
 shared_kept spared apart old new f blocks bytes was keeps is shared i lt same j small inside =
     let at = shared i lt same j small inside in
     (le_trans at.0 (keeps.no_shorter f), keeps.bytes f (get_or blocks i 0) j small (is i lt) ∙ at.1)
@@ -36,13 +42,17 @@ shared_kept spared apart old new f blocks bytes was keeps is shared i lt same j 
 pub record AreDone (told : Bool) (first copies : ℕ) (jobs : List Job) (i : ℕ) (old now : Medium) : Type 0 where
   pub wrote : Wrote told (IsNoArea first copies) (IsLeftByAll jobs) (copies * jobs_cost (take i jobs)) old now
   pub full : IsTrue told → (x : ℕ) (d : Job) → x < i → x < length jobs → IsDone now.image first copies (get_or jobs x d)
-  pub shared : IsTrue told → (x : ℕ) (d : Job) → i ≤ x → x < length jobs → HasShared now.image first copies (get_or jobs x d)
+  pub shared : IsTrue told → (x : ℕ) (d : Job) → i ≤ x → x < length jobs
+      → HasShared now.image first copies (get_or jobs x d)
 
 module _ (told : Bool) (first copies : ℕ) (jobs : List Job) where
-  pub done_none : (m : Medium) → IsLawful told m → (IsTrue told → All (HasShared m.image first copies) jobs) → AreDone told first copies jobs 0 m m
+  pub done_none : (m : Medium) → IsLawful told m → (IsTrue told → All (HasShared m.image first copies) jobs)
+      → AreDone told first copies jobs 0 m m
   done_none m law shared = record {
-    wrote = wrote_less told (IsNoArea first copies) (IsLeftByAll jobs) (IsNoArea first copies) (IsLeftByAll jobs) (λ f is. is) (λ k is. is)
-        0 (copies * jobs_cost (take 0 jobs)) (omega arith) m m (wrote_none told (IsNoArea first copies) (IsLeftByAll jobs) m law);
+    wrote = wrote_less told (IsNoArea first copies) (IsLeftByAll jobs) (IsNoArea first copies) (IsLeftByAll jobs)
+        (λ f is. is) (λ k is. is)
+        0 (copies * jobs_cost (take 0 jobs)) (omega arith) m m
+        (wrote_none told (IsNoArea first copies) (IsLeftByAll jobs) m law);
     full = λ tells x d less lt. absurd (omega arith);
     shared = λ tells x d le lt. shared tells x d lt;
   }
@@ -50,7 +60,8 @@ module _ (told : Bool) (first copies : ℕ) (jobs : List Job) where
   -- the next job, which leaves the blocks of the others alone
   module _ (i : ℕ) (job : Job) (old mid new : Medium) (lt : i < length jobs) (is : job ≡ get_or jobs i job)
       (wrote : Wrote told (IsNoArea first copies) (IsLeftBy job) (copies * job_cost job) mid new) where
-    left_by : (x : ℕ) (d : Job) → x ≢ i → x < length jobs → AreApart jobs → (m : ℕ) → m < length (get_or jobs x d).blocks → IsLeftBy job (get_or (get_or jobs x d).blocks m 0)
+    left_by : (x : ℕ) (d : Job) → x ≢ i → x < length jobs → AreApart jobs → (m : ℕ)
+        → m < length (get_or jobs x d).blocks → IsLeftBy job (get_or (get_or jobs x d).blocks m 0)
     left_by x d other inside apart m less =
         let P : Job → Type 0 = λ j. IsLeftBy j (get_or (get_or jobs x job).blocks m 0) in
         let same : get_or jobs x d ≡ get_or jobs x job = get_or_default jobs x d job inside in
@@ -62,10 +73,14 @@ module _ (told : Bool) (first copies : ℕ) (jobs : List Job) where
         → AreDone told first copies jobs i old mid → AreDone told first copies jobs (i + 1) old new
     done_more apart now was = record {
       wrote = (
-          let next = wrote_less told (IsNoArea first copies) (IsLeftBy job) (IsNoArea first copies) (IsLeftByAll jobs) (λ f none. none)
-          (λ k all. subst (λ (j : Job). IsLeftBy j k) (sym is) (all i job lt)) (copies * job_cost job) (copies * job_cost job) (omega arith) mid new wrote in
-          let both = wrote_on told (IsNoArea first copies) (IsLeftByAll jobs) (copies * jobs_cost (take i jobs)) (copies * job_cost job) old mid new was.wrote next in
-          let sum : jobs_cost (take (i + 1) jobs) ≡ jobs_cost (take i jobs) + job_cost job = sum_by_more job_cost jobs i job lt ∙ ap (λ (j : Job). jobs_cost (take i jobs) + job_cost j) (sym is) in
+          let next = wrote_less told (IsNoArea first copies) (IsLeftBy job) (IsNoArea first copies) (IsLeftByAll jobs)
+          (λ f none. none)
+          (λ k all. subst (λ (j : Job). IsLeftBy j k) (sym is) (all i job lt)) (copies * job_cost job)
+          (copies * job_cost job) (omega arith) mid new wrote in
+          let both = wrote_on told (IsNoArea first copies) (IsLeftByAll jobs) (copies * jobs_cost (take i jobs))
+          (copies * job_cost job) old mid new was.wrote next in
+          let sum : jobs_cost (take (i + 1) jobs) ≡ jobs_cost (take i jobs) + job_cost job =
+          sum_by_more job_cost jobs i job lt ∙ ap (λ (j : Job). jobs_cost (take i jobs) + job_cost j) (sym is) in
           let e = ap (λ (n : ℕ). copies * n) sum in
           let a = jobs_cost (take i jobs) in
           let b = job_cost job in
@@ -74,37 +89,49 @@ module _ (told : Bool) (first copies : ℕ) (jobs : List Job) where
           subst P (sym (e ∙ split)) both);
       full = λ tells x d less inside. ⊎_elim
           (λ here. (
-          let at : get_or jobs x d ≡ job = get_or_default jobs x d job inside ∙ ap (λ (n : ℕ). get_or jobs n job) here ∙ sym is in
+          let at : get_or jobs x d ≡ job = get_or_default jobs x d job inside ∙ ap (λ (n : ℕ). get_or jobs n job) here
+          ∙ sym is in
           let P : Job → Type 0 = λ j. IsDone new.image first copies j in
           subst P (sym at) (now tells)))
-          (λ other. λ c few. full_kept (IsNoArea first copies) (IsLeftBy job) mid.image new.image (area first c) (get_or jobs x d).blocks (get_or jobs x d).bytes.now
-          (wrote.keeps tells) (left_by x d other inside apart) (was.full tells x d (let ne : x ≢ i = other in omega arith) inside c few))
+          (λ other. λ c few. full_kept (IsNoArea first copies) (IsLeftBy job) mid.image new.image (area first c)
+          (get_or jobs x d).blocks (get_or jobs x d).bytes.now
+          (wrote.keeps tells) (left_by x d other inside apart)
+          (was.full tells x d (let ne : x ≢ i = other in omega arith) inside c few))
           (cases_eq x i);
       shared = λ tells x d le inside. λ c few. (
           let other : x ≢ i = omega arith in
-          shared_kept (IsNoArea first copies) (IsLeftBy job) mid.image new.image (area first c) (get_or jobs x d).blocks (get_or jobs x d).bytes.now (get_or jobs x d).was.now
+          shared_kept (IsNoArea first copies) (IsLeftBy job) mid.image new.image (area first c) (get_or jobs x d).blocks
+          (get_or jobs x d).bytes.now (get_or jobs x d).was.now
           (wrote.keeps tells) (left_by x d other inside apart) (was.shared tells x d (omega arith) inside c few));
     }
 
   pub done_failed : (i : ℕ) (job : Job) (old mid new : Medium) → i < length jobs → job ≡ get_or jobs i job
-      → Tore told (IsNoArea first copies) (IsLeftBy job) (copies * job_cost job) mid new → AreDone told first copies jobs i old mid
+      → Tore told (IsNoArea first copies) (IsLeftBy job) (copies * job_cost job) mid new
+      → AreDone told first copies jobs i old mid
       → Tore told (IsNoArea first copies) (IsLeftByAll jobs) (copies * jobs_cost jobs) old new
   done_failed i job old mid new lt is tore was =
-      let next = tore_less told (IsNoArea first copies) (IsLeftBy job) (IsNoArea first copies) (IsLeftByAll jobs) (λ f none. none)
-      (λ k all. subst (λ (j : Job). IsLeftBy j k) (sym is) (all i job lt)) (copies * job_cost job) (copies * job_cost job) (omega arith) mid new tore in
-      let both = wrote_tore told (IsNoArea first copies) (IsLeftByAll jobs) (copies * jobs_cost (take i jobs)) (copies * job_cost job) old mid new was.wrote next in
-      let sum : jobs_cost (take i jobs) + job_cost job ≤ jobs_cost jobs = le_trans (le_of_eq (ap (λ (j : Job). jobs_cost (take i jobs) + job_cost j) is)) (sum_by_more_le job_cost jobs i job lt) in
+      let next = tore_less told (IsNoArea first copies) (IsLeftBy job) (IsNoArea first copies) (IsLeftByAll jobs)
+      (λ f none. none)
+      (λ k all. subst (λ (j : Job). IsLeftBy j k) (sym is) (all i job lt)) (copies * job_cost job)
+      (copies * job_cost job) (omega arith) mid new tore in
+      let both = wrote_tore told (IsNoArea first copies) (IsLeftByAll jobs) (copies * jobs_cost (take i jobs))
+      (copies * job_cost job) old mid new was.wrote next in
+      let sum : jobs_cost (take i jobs) + job_cost job ≤ jobs_cost jobs =
+      le_trans (le_of_eq (ap (λ (j : Job). jobs_cost (take i jobs) + job_cost j) is))
+      (sum_by_more_le job_cost jobs i job lt) in
       let le = mul-le-mul_left copies sum in
       let a = jobs_cost (take i jobs) in
       let b = job_cost job in
       let split : copies * (a + b) ≡ copies * a + copies * b = omega arith in
-      tore_less told (IsNoArea first copies) (IsLeftByAll jobs) (IsNoArea first copies) (IsLeftByAll jobs) (λ f none. none) (λ k all. all)
+      tore_less told (IsNoArea first copies) (IsLeftByAll jobs) (IsNoArea first copies) (IsLeftByAll jobs)
+      (λ f none. none) (λ k all. all)
       (copies * a + copies * b) (copies * jobs_cost jobs) (omega (arith, le, split)) old new both
 
   pub done_all : (i : ℕ) (old now : Medium) → i ≡ length jobs → AreDone told first copies jobs i old now
       → Wrote told (IsNoArea first copies) (IsLeftByAll jobs) (copies * jobs_cost jobs) old now
   done_all i old now all was =
-      let P : List Job → Type 0 = λ js. Wrote told (IsNoArea first copies) (IsLeftByAll jobs) (copies * jobs_cost js) old now in
+      let P : List Job → Type 0 = λ js. Wrote told (IsNoArea first copies) (IsLeftByAll jobs) (copies * jobs_cost js)
+      old now in
       subst P (take_all i jobs (le_of_eq (sym all))) was.wrote
 
   pub done_full : (i : ℕ) (old now : Medium) → i ≡ length jobs → AreDone told first copies jobs i old now

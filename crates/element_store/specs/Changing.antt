@@ -40,17 +40,20 @@ pub record IsSeenAs (e : IndexEntry) (f : Entry) : Type 0 where
   pub value : HasLength e.len f.content
 
 -- Entries that keep the rules, each with its element, whose blocks a set has.
-pub record IsStanding (kind : StoreKind) (set : List Bool) (standing : List IndexEntry) (views : List Entry) : Type 0 where
-  pub rules : AllByRecursion (IsEntry 2 kind) standing
-  pub ascend : NamesAscend named_by standing
-  pub laid : AreLaidApart standing
-  pub taken : AllByRecursion (λ (e : IndexEntry). HasAll set e.blocks) standing
-  pub read : AllZip IsSeenAs standing views
+pub record IsStanding (kind : StoreKind) (set : List Bool) (standing : List IndexEntry) (views : List Entry) : Type 0
+  where
+    pub rules : AllByRecursion (IsEntry 2 kind) standing
+    pub ascend : NamesAscend named_by standing
+    pub laid : AreLaidApart standing
+    pub taken : AllByRecursion (λ (e : IndexEntry). HasAll set e.blocks) standing
+    pub read : AllZip IsSeenAs standing views
 
 -- the content of a name beside which a new one is written, with its blocks; or nothing
-pub record IsEarlier (kind : StoreKind) (standing : List IndexEntry) (views : List Entry) (name bytes blocks : List ℕ) : Type 0 where
+pub record IsEarlier (kind : StoreKind) (standing : List IndexEntry) (views : List Entry)
+    (name bytes blocks : List ℕ) : Type 0 where
   pub is : ((bytes ≡ []) × (blocks ≡ []))
-      ⊎ ((was : IndexEntry) × (seen : Entry) × AreBeside standing views was seen × (was.name ≡ name) × (seen.content ≡ Good bytes) × (blocks ≡ was.blocks))
+      ⊎ ((was : IndexEntry) × (seen : Entry) × AreBeside standing views was seen × (was.name ≡ name)
+      × (seen.content ≡ Good bytes) × (blocks ≡ was.blocks))
   pub cost : (new : List ℕ) → 256 * changed new bytes ≤ cost_beside kind (content_at name views) new
 
 -- no block is one of a standing entry of another name
@@ -64,7 +67,8 @@ pub record IsSound (kind : StoreKind) (standing : List IndexEntry) (now : List B
   pub own : IsOwn standing e
 
 -- The entries of the next index with their elements, and the jobs that write contents, after some changes.
-pub record IsPlanned (kind : StoreKind) (standing : List IndexEntry) (views : List Entry) (start now : List Bool) (next : List IndexEntry) (elements : List Entry) (jobs : List Job) : Type 0 where
+pub record IsPlanned (kind : StoreKind) (standing : List IndexEntry) (views : List Entry) (start now : List Bool)
+    (next : List IndexEntry) (elements : List Entry) (jobs : List Job) : Type 0 where
   pub entries : AllZip (λ e f. IsWrittenBy jobs e f ⊎ IsCarriedFrom standing views e f) next elements
   pub sound : AllByRecursion (IsSound kind standing now) next
   pub ascend : NamesAscend named_by next
@@ -85,20 +89,25 @@ AreOfOthers changes name = All (λ change. changed_name change ≢ name) changes
 
 -- an entry whose name no change has is as it was
 abbrev pub KeepsOthers : List Change → (old new : List IndexEntry) → Type 0
-KeepsOthers changes old new = (name : List ℕ) → AreOfOthers changes name → entry_of_name name new ≡ entry_of_name name old
+KeepsOthers changes old new = (name : List ℕ) → AreOfOthers changes name
+    → entry_of_name name new ≡ entry_of_name name old
 
 -- what the set has now and did not have then is blocks of these entries
 abbrev pub IsGrownBy : List IndexEntry → (then now : List Bool) → Type 0
-IsGrownBy entries then now = (b : ℕ) → holds now b ≡ true → (holds then b ≡ true) ⊎ (named_in (blocks_of entries) b ≡ true)
+IsGrownBy entries then now = (b : ℕ) → holds now b ≡ true
+    → (holds then b ≡ true) ⊎ (named_in (blocks_of entries) b ≡ true)
 
--- what comes of standing entries and of the set of their blocks by changes: what no change names stays, and the set has grown by the next entries
-pub record IsTraced (standing : List IndexEntry) (start now : List Bool) (changes : List Change) (next : List IndexEntry) : Type 0 where
+-- what comes of standing entries and of the set of their blocks by changes: what no change names stays, and the set has
+-- grown by the next entries
+pub record IsTraced (standing : List IndexEntry) (start now : List Bool) (changes : List Change)
+    (next : List IndexEntry) : Type 0 where
   pub others : KeepsOthers changes standing next
   pub grown : IsGrownBy next start now
 
 -- the entry with another info, if it has the name
 abbrev pub touched_entry : (generation : ℕ) → List ℕ → FileInfo → IndexEntry → IndexEntry
-touched_entry generation name info e = cond (bytes_eq e.name name) (record e { info = Some info; changed = generation }) e
+touched_entry generation name info e = cond (bytes_eq e.name name) (record e { info = Some info; changed = generation })
+    e
 
 -- the content of a change is no longer than that of a file
 abbrev pub IsSmallChange : Change → Type 0

@@ -1,5 +1,6 @@
 -- What a commit is to do, settled in memory before anything is written.
-use Rattle.std.specs.Prelude.{◌≡◌, ◌⊎◌, ℕ, ◌+◌, ◌<◌, ◌≤◌, List, [], length, slice_index, slice_index_or, Bool, Some, false}
+use Rattle.std.specs.Prelude.{◌≡◌, ◌⊎◌, ℕ, ◌+◌, ◌<◌, ◌≤◌, List, [], length, slice_index, slice_index_or, Bool, Some}
+use Rattle.std.specs.Prelude.{false}
 use Rattle.std.specs.List.{All, AllZip, Contains}
 use Rattle.sha2.specs.Sha256.{sha256}
 use Rattle.per_base.specs.declared.elements.Content.TheVariants.{Good}
@@ -78,10 +79,12 @@ SharesWith standing views job = (job.was.now ≡ []) ⊎ IsBesideOne standing vi
 abbrev pub SharesOld : Index → View → Job → Type 0
 SharesOld index v job = SharesWith index.entries v.entries job
 
--- The next index of a storage and the jobs that write its contents, from the standing index with its view and from changes. The first
--- set has the blocks of the standing index, and the second besides those that the jobs write.
-pub record IsCommitPlan (shape : Shape) (index : Index) (v : View) (changes : List Change) (set used : List Bool) (next : Index) (jobs : List Job) : Type 0 where
-  pub entries : AllZip (λ e f. IsWrittenBy jobs e f ⊎ IsCarriedOver index v e f) next.entries (after_changes (v.generation + 1) v.entries changes)
+-- The next index of a storage and the jobs that write its contents, from the standing index with its view and from
+-- changes. The first set has the blocks of the standing index, and the second besides those that the jobs write.
+pub record IsCommitPlan (shape : Shape) (index : Index) (v : View) (changes : List Change) (set used : List Bool)
+    (next : Index) (jobs : List Job) : Type 0 where
+  pub entries : AllZip (λ e f. IsWrittenBy jobs e f ⊎ IsCarriedOver index v e f) next.entries
+      (after_changes (v.generation + 1) v.entries changes)
   pub placed : ArePlaced set used jobs
   pub text : IsTextOf shape (index_text next) next
   pub shares : All (SharesOld index v) jobs

@@ -24,7 +24,8 @@ use Rattle.element_store.specs.Stores.{view_in}
 abbrev pub index_in : Store → Index
 index_in store = store.index
 
--- how long the text of an index of these elements is: its head, and for each element a name, numbers, a hash and its blocks
+-- how long the text of an index of these elements is: its head, and for each element a name, numbers, a hash and its
+-- blocks
 abbrev pub listed_length : StoreKind → Entry → ℕ
 listed_length kind f = 45 + info_length kind + length f.name + 4 * blocks_for f.len
 
@@ -41,8 +42,10 @@ abbrev pub IsDeviceFault : CommitFault → Type 0
 IsDeviceFault Device = Unit {0}
 IsDeviceFault (OutOfMemory store) = ⊥
 
--- The next index, the jobs that write its contents, and the set of its blocks and those of the standing index: all in memory.
-pub record IsPrepared (store : Store) (changes : List Change) (next : Index) (text : List ℕ) (used : List Bool) (jobs : List Job) : Type 0 where
+-- The next index, the jobs that write its contents, and the set of its blocks and those of the standing index: all in
+-- memory.
+pub record IsPrepared (store : Store) (changes : List Change) (next : Index) (text : List ℕ) (used : List Bool)
+    (jobs : List Job) : Type 0 where
   pub plan : IsCommitPlan store.shape store.index (view_in store) changes store.used used next jobs
   pub spelled : text ≡ index_text next
   pub format : next.format ≡ 2
@@ -50,11 +53,13 @@ pub record IsPrepared (store : Store) (changes : List Change) (next : Index) (te
   pub capacity : length used ≡ area_blocks store.shape.allowed
 
 -- The same, once the contents were made durable.
-pub record IsReady (told : Bool) (store : Store) (changes : List Change) (old mid : Medium) (next : Index) (text : List ℕ) (used : List Bool) : Type 0 where
+pub record IsReady (told : Bool) (store : Store) (changes : List Change) (old mid : Medium) (next : Index)
+    (text : List ℕ) (used : List Bool) : Type 0 where
   pub jobs : List Job
   pub prepared : IsPrepared store changes next text used jobs
   pub done : IsTrue told → All (IsDone mid.image store.shape.place.first store.shape.place.copies) jobs
-  pub keeps : IsTrue told → Keeps (IsNoArea store.shape.place.first store.shape.place.copies) (IsLeftByAll jobs) old.image mid.image
+  pub keeps : IsTrue told → Keeps (IsNoArea store.shape.place.first store.shape.place.copies) (IsLeftByAll jobs)
+      old.image mid.image
   pub each : EachCase (IsJobsCase store.shape.place.first store.shape.place.copies jobs old mid (Unit {0})) old mid
   pub elsewhere : IsTrue told → Spares (IsNoArea store.shape.place.first store.shape.place.copies) old.image mid.image
   pub cost : mid.written ≤ old.written + store.shape.place.copies * jobs_cost jobs

@@ -24,7 +24,8 @@ IsLeftBy job block = IsApartFromChanged job.blocks job.bytes.now job.was.now blo
 -- no job writes a block of another
 abbrev pub AreApart : List Job → Type 0
 AreApart jobs = (i j : ℕ) (d : Job) → i ≢ j → i < length jobs → j < length jobs
-    → (m : ℕ) → m < length (slice_index_or jobs i d).blocks → IsLeftBy (slice_index_or jobs j d) (slice_index (slice_index_or jobs i d).blocks m)
+    → (m : ℕ) → m < length (slice_index_or jobs i d).blocks
+    → IsLeftBy (slice_index_or jobs j d) (slice_index (slice_index_or jobs i d).blocks m)
 
 -- the block is none that any of them writes
 abbrev pub IsLeftByAll : List Job → ℕ → Type 0
@@ -32,7 +33,8 @@ IsLeftByAll jobs block = All (λ job. IsLeftBy job block) jobs
 
 -- every copy has the parts that a job does not write
 abbrev pub HasShared : Image → (first copies : ℕ) → Job → Type 0
-HasShared image first copies job = (c : ℕ) → c < copies → HoldsShared (image (area first c)) job.blocks job.bytes.now job.was.now
+HasShared image first copies job = (c : ℕ) → c < copies
+    → HoldsShared (image (area first c)) job.blocks job.bytes.now job.was.now
 
 -- every copy has the bytes of a job
 abbrev pub IsDone : Image → (first copies : ℕ) → Job → Type 0
@@ -48,4 +50,5 @@ jobs_cost jobs = sum_by job_cost jobs
 -- a case while the jobs are being written, or one after they were made durable
 abbrev pub IsJobsCase : (first copies : ℕ) → List Job → (old new : Medium) → (done : Type 0) → Case → Type 0
 IsJobsCase first copies jobs old new done c =
-    ((d : Case) × old.now d × KeepsCase (IsNoArea first copies) (IsLeftByAll jobs) d c) ⊎ (done × IsSettledAt new.image c)
+    ((d : Case) × old.now d × KeepsCase (IsNoArea first copies) (IsLeftByAll jobs) d c)
+    ⊎ (done × IsSettledAt new.image c)

@@ -30,11 +30,13 @@ AreShown shape index views start = views ≡ map (entry_view start shape.place s
 
 -- a case while these elements are mended, from wherever they were read
 abbrev pub MendsCase : Shape → Index → List Entry → (now : Image) → Case → Type 0
-MendsCase shape index views now c = (start : Image) → AreShown shape index views start → IsMending shape start now index c
+MendsCase shape index views now c = (start : Image) → AreShown shape index views start
+    → IsMending shape start now index c
 
 -- an image on which they were mended, and all else stands as it was
 abbrev pub SparesOthers : Shape → Index → List Entry → (now image : Image) → Type 0
-SparesOthers shape index views now image = (start : Image) → AreShown shape index views start → IsSparing KeepsBlocksWhole shape start now index image
+SparesOthers shape index views now image = (start : Image) → AreShown shape index views start
+    → IsSparing KeepsBlocksWhole shape start now index image
 
 -- the report of an element, where there is one
 abbrev pub reported : Shape → Entry → Option ReportKind → List Report

@@ -13,4 +13,5 @@ NamesAscend name_of xs = IsStrictlySortedBy name_cmp (map name_of xs)
 abbrev pub IsPlaceOf : {X : Type 0} → (X → List ℕ) → List ℕ → List X → Result ℕ ℕ → Type 0
 IsPlaceOf name_of name xs place = MatchResult place
     (λ i. (i < length xs) × HoldsAt (λ x. name_of x ≡ name) xs i)
-    (λ i. (i ≤ length xs) × IsPartitionPoint (λ x. name_cmp (name_of x) name ≡ Less) (λ x. name_cmp (name_of x) name ≡ Greater) xs i)
+    (λ i. (i ≤ length xs) × IsPartitionPoint (λ x. name_cmp (name_of x) name ≡ Less)
+    (λ x. name_cmp (name_of x) name ≡ Greater) xs i)

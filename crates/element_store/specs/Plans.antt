@@ -1,5 +1,6 @@
 -- Plans: entries and jobs for contents, whose blocks are chosen before anything is written.
-use Rattle.std.specs.Prelude.{◌≡◌, ◌≢◌, ℕ, ◌+◌, ◌*◌, ◌<◌, ◌≤◌, List, [], ◌∷◌, length, slice_index, Bool, true, false, sum_by, ⊤}
+use Rattle.std.specs.Prelude.{◌≡◌, ◌≢◌, ℕ, ◌+◌, ◌*◌, ◌<◌, ◌≤◌, List, [], ◌∷◌, length, slice_index, Bool, true, false}
+use Rattle.std.specs.Prelude.{sum_by, ⊤}
 use Rattle.std.specs.List.{All, AllZip, AllByRecursion}
 use Rattle.sha2.specs.Sha256.{sha256}
 use Rattle.per_base.specs.declared.elements.Fresh.{Fresh}
@@ -28,13 +29,17 @@ AreDisjoint xs ys = (i j : ℕ) → i < length xs → j < length ys → slice_in
 -- no block occurs twice in these entries
 abbrev pub AreLaidApart : List IndexEntry → Type 0
 AreLaidApart [] = ⊤
-AreLaidApart (e ∷ entries) = AreDistinct e.blocks × AllByRecursion (λ (f : IndexEntry). AreDisjoint e.blocks f.blocks) entries × AreLaidApart entries
+AreLaidApart (e ∷ entries) = AreDistinct e.blocks × AllByRecursion (λ (f : IndexEntry). AreDisjoint e.blocks f.blocks)
+    entries × AreLaidApart entries
 
--- the blocks of a job: all are in the set now, those that it writes were not in the set at the start, and the others were
+-- the blocks of a job: all are in the set now, those that it writes were not in the set at the start, and the others
+-- were
 pub record IsPlaced (start now : List Bool) (job : Job) : Type 0 where
   pub taken : HasAll now job.blocks
-  pub written : (i : ℕ) → i < length job.blocks → is_changed job.bytes.now job.was.now i ≡ true → holds start (slice_index job.blocks i) ≡ false
-  pub shared : (i : ℕ) → i < length job.blocks → is_changed job.bytes.now job.was.now i ≡ false → holds start (slice_index job.blocks i) ≡ true
+  pub written : (i : ℕ) → i < length job.blocks → is_changed job.bytes.now job.was.now i ≡ true
+      → holds start (slice_index job.blocks i) ≡ false
+  pub shared : (i : ℕ) → i < length job.blocks → is_changed job.bytes.now job.was.now i ≡ false
+      → holds start (slice_index job.blocks i) ≡ true
 
 pub record ArePlaced (start now : List Bool) (jobs : List Job) : Type 0 where
   pub roomy : All IsRoomy jobs
@@ -56,7 +61,8 @@ abbrev pub blocks_of_all : List Fresh → ℕ
 blocks_of_all contents = sum_by (λ (f : Fresh). blocks_for (length f.bytes)) contents
 
 -- the entries and the jobs of contents that are written whole, in blocks that the set did not have
-pub record IsPlanOf (generation : ℕ) (contents : List Fresh) (start now : List Bool) (entries : List IndexEntry) (jobs : List Job) : Type 0 where
+pub record IsPlanOf (generation : ℕ) (contents : List Fresh) (start now : List Bool) (entries : List IndexEntry)
+    (jobs : List Job) : Type 0 where
   pub made : AllZip (IsMade generation) contents entries
   pub laid : AreLaidApart entries
   pub taken : AllByRecursion (λ (e : IndexEntry). HasAll now e.blocks) entries
@@ -67,5 +73,6 @@ pub record IsPlanOf (generation : ℕ) (contents : List Fresh) (start now : List
   pub free : free_of start ≤ free_of now + blocks_of_all contents
   pub cost : jobs_cost jobs ≤ 256 * blocks_of_all contents
   -- once the jobs are done, the entries show the contents
-  pub views : (image : Image) (place : Place) (m : ℕ) → 1 ≤ m → m ≤ place.copies → All (IsDone image place.first place.copies) jobs
+  pub views : (image : Image) (place : Place) (m : ℕ) → 1 ≤ m → m ≤ place.copies
+      → All (IsDone image place.first place.copies) jobs
       → AllZip (λ f e. entry_view image place m e ≡ fresh_entry generation (fresh_element f)) contents entries

@@ -17,20 +17,24 @@ use Rattle.element_state.specs.States.{State, Opens, store_at, greatest_generati
 use Rattle.element_state.specs.Kept.{IsKeptCase}
 use Rattle.element_laws.specs.Phases.{IsWritten}
 
--- From here contents may be written outside the blocks of the set, and then an index under this generation: at every moment of it the storage
--- is kept from its state at the start.
+-- From here contents may be written outside the blocks of the set, and then an index under this generation: at every
+-- moment of it the storage is kept from its state at the start.
 pub record IsGround (shape : Shape) (start now : Image) (set : List Bool) (generation : ℕ) : Type 0 where
   -- while contents are written
   pub during : (after : State) (old c : Case) → IsSettledAt now old
-      → KeepsCase (IsNoArea shape.place.first shape.place.copies) (λ k. holds set k ≡ true) old c → IsKeptCase shape start after c
+      → KeepsCase (IsNoArea shape.place.first shape.place.copies) (λ k. holds set k ≡ true) old c
+      → IsKeptCase shape start after c
   -- after they were made durable
   pub done : (then : Image) (after : State) (c : Case)
-      → Keeps (IsNoArea shape.place.first shape.place.copies) (λ k. holds set k ≡ true) now then → IsSettledAt then c → IsKeptCase shape start after c
+      → Keeps (IsNoArea shape.place.first shape.place.copies) (λ k. holds set k ≡ true) now then → IsSettledAt then c
+      → IsKeptCase shape start after c
   -- while their index is written
   pub index : (then : Image) (next : List ℕ) (new_index : Index) (view : View) (others : List View) (c : Case)
       → Keeps (IsNoArea shape.place.first shape.place.copies) (λ k. holds set k ≡ true) now then
-      → fit_index shape next ≡ Some new_index → view.generation ≡ generation → AllZip (IsWritten shape then) new_index.entries view.entries
-      → PutStops shape.place.first shape.place.copies generation next then c → IsKeptCase shape start (Opens view others) c
+      → fit_index shape next ≡ Some new_index → view.generation ≡ generation
+      → AllZip (IsWritten shape then) new_index.entries view.entries
+      → PutStops shape.place.first shape.place.copies generation next then c
+      → IsKeptCase shape start (Opens view others) c
 
 -- every copy holds a text alone, or just the copies that held it hold it
 abbrev pub IsLeftWith : (opens : Bool) → (first copies generation : ℕ) → List ℕ → (old new : Image) → Type 0

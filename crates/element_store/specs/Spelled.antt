@@ -34,9 +34,11 @@ pub record IsTextOf (shape : Shape) (text : List ℕ) (index : Index) : Type 0 w
 -- the entries show these contents, written by this generation, with no copy that lacks one
 abbrev pub ShowsFresh : Image → Place → (m generation : ℕ) → List Fresh → List IndexEntry → Type 0
 ShowsFresh image place m generation contents entries =
-    AllZip (λ (f : Fresh) (e : IndexEntry). entry_view image place m e ≡ fresh_entry generation (fresh_element f)) contents entries
+    AllZip (λ (f : Fresh) (e : IndexEntry). entry_view image place m e ≡ fresh_entry generation (fresh_element f))
+    contents entries
 
 -- a case while contents are written outside the blocks of a set, or one after they were made durable
 abbrev pub IsContentsCase : (first copies : ℕ) → List Bool → (old new : Medium) → (done : Type 0) → Case → Type 0
 IsContentsCase first copies set old new done c =
-    ((d : Case) × old.now d × KeepsCase (IsNoArea first copies) (λ k. holds set k ≡ true) d c) ⊎ (done × IsSettledAt new.image c)
+    ((d : Case) × old.now d × KeepsCase (IsNoArea first copies) (λ k. holds set k ≡ true) d c)
+    ⊎ (done × IsSettledAt new.image c)

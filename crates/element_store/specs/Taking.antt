@@ -11,4 +11,5 @@ Loses blocks old new = (b : ℕ) → holds new b ≡ (holds old b && not (named_
 
 -- each block of the set is one of some of these entries or of some of those
 abbrev pub AreOfEither : List IndexEntry → List IndexEntry → List Bool → Type 0
-AreOfEither these those set = (b : ℕ) → holds set b ≡ true → (named_in (blocks_of these) b ≡ true) ⊎ (named_in (blocks_of those) b ≡ true)
+AreOfEither these those set = (b : ℕ) → holds set b ≡ true
+    → (named_in (blocks_of these) b ≡ true) ⊎ (named_in (blocks_of those) b ≡ true)

@@ -13,7 +13,8 @@ ghost use Rattle.element_state.specs.Written.{change_cost};
 ghost use Rattle.element_state.specs.declared.shapes.Change.TheVariants.{Put};
 ghost use Rattle.element_store.specs.Jobs.{jobs_cost};
 ghost use Rattle.element_store.specs.Named.{NamesAscend};
-ghost use Rattle.element_store.specs.Changing.{named_by, IsSeenAs, change_blocks, blocks_of_changes, IsStanding, IsEarlier, IsPlanned, KeepsOthers, IsGrownBy, IsTraced, touched_entry};
+ghost use Rattle.element_store.specs.Changing.{named_by, IsSeenAs, change_blocks, blocks_of_changes, IsStanding};
+ghost use Rattle.element_store.specs.Changing.{IsEarlier, IsPlanned, KeepsOthers, IsGrownBy, IsTraced, touched_entry};
 
 use crate::jobs::Job;
 use crate::named::{place_of, put_in, take_out};
@@ -51,9 +52,12 @@ pub(crate) fn plan_changes<'a>(
     requires changes { AllByRecursion (IsChange standing.kind standing.entries.now) changes.now }
     requires apart { IsDistinct bytes_eq (map changed_name changes.now) }
     requires free { blocks_of_changes changes.now ≤ free_of used.old }
-    ensures planned { IfOk result (λ plan. IsPlanned standing.entry.kind standing.entry.index.now standing.entry.entries.now used.old used.new
-        plan.entries.items (after_changes standing.entry.generation standing.entry.entries.now changes.now) plan.jobs.items) }
-    ensures traced { IfOk result (λ plan. IsTraced standing.entry.index.now used.old used.new changes.now plan.entries.items) }
+    ensures planned { IfOk result (λ plan. IsPlanned standing.entry.kind standing.entry.index.now
+        standing.entry.entries.now used.old used.new
+        plan.entries.items (after_changes standing.entry.generation standing.entry.entries.now changes.now)
+        plan.jobs.items) }
+    ensures traced { IfOk result (λ plan. IsTraced standing.entry.index.now used.old used.new changes.now
+        plan.entries.items) }
     ensures cost { IfOk result (λ plan.
         jobs_cost plan.jobs.items ≤ sum_by (change_cost standing.entry.kind standing.entry.entries.now) changes.now) }
 {
@@ -97,12 +101,15 @@ fn plan_change<'a>(
     requires room { vec_len plan.old.entries < vec_capacity plan.old.entries }
     requires free { change_blocks change.now ≤ free_of used.old }
     ensures planned { OnOk result ((start : List Bool) (elements : List Entry)
-        → IsPlanned standing.entry.kind standing.entry.index.now standing.entry.entries.now start used.old plan.old.entries.items elements plan.old.jobs.items
-        → IsPlanned standing.entry.kind standing.entry.index.now standing.entry.entries.now start used.new plan.new.entries.items
+        → IsPlanned standing.entry.kind standing.entry.index.now standing.entry.entries.now start used.old
+        plan.old.entries.items elements plan.old.jobs.items
+        → IsPlanned standing.entry.kind standing.entry.index.now standing.entry.entries.now start used.new
+        plan.new.entries.items
         (after_change standing.entry.generation elements change.now) plan.new.jobs.items) }
     ensures others { OnOk result (KeepsOthers (change.now ∷ []) plan.old.entries.items plan.new.entries.items) }
     ensures grown { OnOk result (IsGrownBy plan.new.entries.items used.old used.new) }
-    ensures standing { OnOk result (IsStanding standing.entry.kind used.new standing.entry.index.now standing.entry.entries.now) }
+    ensures standing { OnOk result (IsStanding standing.entry.kind used.new standing.entry.index.now
+        standing.entry.entries.now) }
     ensures free { OnOk result (free_of used.old ≤ free_of used.new + change_blocks change.now) }
     ensures cost { OnOk result (jobs_cost plan.new.jobs.items
         ≤ jobs_cost plan.old.jobs.items + change_cost standing.entry.kind standing.entry.entries.now change.now) }
@@ -133,12 +140,15 @@ fn plan_put<'a>(
     requires room { vec_len plan.old.entries < vec_capacity plan.old.entries }
     requires free { change_blocks (Put fresh.now) ≤ free_of used.old }
     ensures planned { OnOk result ((start : List Bool) (elements : List Entry)
-        → IsPlanned standing.entry.kind standing.entry.index.now standing.entry.entries.now start used.old plan.old.entries.items elements plan.old.jobs.items
-        → IsPlanned standing.entry.kind standing.entry.index.now standing.entry.entries.now start used.new plan.new.entries.items
+        → IsPlanned standing.entry.kind standing.entry.index.now standing.entry.entries.now start used.old
+        plan.old.entries.items elements plan.old.jobs.items
+        → IsPlanned standing.entry.kind standing.entry.index.now standing.entry.entries.now start used.new
+        plan.new.entries.items
         (after_change standing.entry.generation elements (Put fresh.now)) plan.new.jobs.items) }
     ensures others { OnOk result (KeepsOthers (Put fresh.now ∷ []) plan.old.entries.items plan.new.entries.items) }
     ensures grown { OnOk result (IsGrownBy plan.new.entries.items used.old used.new) }
-    ensures standing { OnOk result (IsStanding standing.entry.kind used.new standing.entry.index.now standing.entry.entries.now) }
+    ensures standing { OnOk result (IsStanding standing.entry.kind used.new standing.entry.index.now
+        standing.entry.entries.now) }
     ensures free { OnOk result (free_of used.old ≤ free_of used.new + change_blocks (Put fresh.now)) }
     ensures cost { OnOk result (jobs_cost plan.new.jobs.items
         ≤ jobs_cost plan.old.jobs.items + change_cost standing.entry.kind standing.entry.entries.now (Put fresh.now)) }
@@ -164,7 +174,8 @@ fn plan_put<'a>(
 fn earlier_content<'a>(standing: Standing<'a>, name: &Name) -> Earlier<'a>
     requires ascend { NamesAscend named_by standing.index.now }
     requires seen { AllZip IsSeenAs standing.index.now standing.entries.now }
-    ensures { IsEarlier standing.entry.kind standing.entry.index.now standing.entry.entries.now name.now result.bytes.now result.blocks.now }
+    ensures { IsEarlier standing.entry.kind standing.entry.index.now standing.entry.entries.now name.now
+        result.bytes.now result.blocks.now }
 {
     match standing.kind {
         StoreKind::Keys => nothing(),

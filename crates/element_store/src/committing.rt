@@ -68,8 +68,8 @@ impl Store {
     ghost use Rattle.element_store.specs.Stores.{entries_of};
     ghost use Rattle.element_store.specs.Committing.{HandsBack, IsDeviceFault, index_in, index_length};
 
-    /// Makes the changes all at once: a stop at any moment leaves the storage of before or that of after. Only what changed is
-    /// written, and of a file that could be read only the blocks that differ.
+    /// Makes the changes all at once: a stop at any moment leaves the storage of before or that of after. Only what
+    /// changed is written, and of a file that could be read only the blocks that differ.
     ///
     /// # Errors
     ///
@@ -81,34 +81,40 @@ impl Store {
 
         ensures used { IfOk result (IsUsed D.told (D.medium disk.new).image) }
         ensures shape { IfOk result (λ store. shape_of store ≡ shape_of self) }
-        ensures view { IfOk result (λ store. view_in store ≡ committed_by (shape_of self) (view_in self) changes.items) }
+        ensures view { IfOk result (λ store. view_in store
+            ≡ committed_by (shape_of self) (view_in self) changes.items) }
         ensures quiet { OnOk result (Quiet (D.medium disk.new)) }
         ensures clean { IsTrue D.told → IsClean (shape_of self) (D.medium disk.old).image
             → OnOk result (IsClean (shape_of self) (D.medium disk.new).image) }
 
         // What no change names keeps its entry: the same blocks, length, hash, info and number of its last change.
-        ensures carried { IfOk result (λ store. KeepsOthers changes.items (index_in self).entries (index_in store).entries) }
+        ensures carried { IfOk result (λ store. KeepsOthers changes.items (index_in self).entries
+            (index_in store).entries) }
         ensures format { IfOk result (λ store. (index_in store).format ≡ 2) }
 
         // A want of memory hands the storage back, and then nothing happened. Only a disk that failed closes it.
         ensures memory { IfErr result (λ fault. HandsBack self fault (disk.new ≡ disk.old)) }
-        ensures cause { IfErr result (λ fault. IsDeviceFault fault → Rose (D.medium disk.old).faults (D.medium disk.new).faults) }
+        ensures cause { IfErr result (λ fault. IsDeviceFault fault
+            → Rose (D.medium disk.old).faults (D.medium disk.new).faults) }
         ensures passes { OnOk result ((D.medium disk.new).faults ≡ (D.medium disk.old).faults) }
 
         // No file outside the place changes, and a stop at any moment leaves the storage of before or that of after.
         ensures elsewhere { IsTrue D.told → Spares (IsOutside (shape_of self).place.first (shape_of self).place.copies)
             (D.medium disk.old).image (D.medium disk.new).image }
         ensures outside { IsTrue D.told → Quiet (D.medium disk.old)
-            → EachCase (IsSettledOn (IsOutside (shape_of self).place.first (shape_of self).place.copies) (D.medium disk.old).image)
+            → EachCase (IsSettledOn (IsOutside (shape_of self).place.first (shape_of self).place.copies)
+            (D.medium disk.old).image)
             (D.medium disk.old) (D.medium disk.new) }
         ensures any_moment { IsTrue D.told → KeptThroughout (shape_of self)
-            (Opens (committed_by (shape_of self) (view_in self) changes.items) []) (D.medium disk.old) (D.medium disk.new) }
+            (Opens (committed_by (shape_of self) (view_in self) changes.items) []) (D.medium disk.old)
+            (D.medium disk.new) }
 
         // In each copy the contents that changed, and the index; at most as much where the disk failed.
         ensures written { IfOk result (λ store. IsWithin (shape_of self).place.copies
             (commit_cost (shape_of self).kind (entries_of self) changes.items) (length (index_text (index_in store)))
             (D.medium disk.old).written (D.medium disk.new).written) }
-        ensures text { IfOk result (λ store. length (index_text (index_in store)) ≡ index_length (shape_of self).kind (entries_of store)) }
+        ensures text { IfOk result (λ store. length (index_text (index_in store))
+            ≡ index_length (shape_of self).kind (entries_of store)) }
         ensures at_most { IsWithin (shape_of self).place.copies
             (commit_cost (shape_of self).kind (entries_of self) changes.items)
             (index_length (shape_of self).kind (committed_by (shape_of self) (view_in self) changes.items).entries)
@@ -156,7 +162,8 @@ impl Store {
         requires used { IsUsed D.told (D.medium disk.old).image self.now }
         requires changes { AreChanges (shape_of self.now) (view_in self.now) changes.now }
 
-        ensures ready { IfOk result (λ ready. IsReady D.told self.now changes.now (D.medium disk.old) (D.medium disk.new)
+        ensures ready { IfOk result (λ ready. IsReady D.told self.now changes.now (D.medium disk.old)
+            (D.medium disk.new)
             ready.index ready.text ready.used) }
         ensures room { IfOk result (λ ready. length ready.room.items ≡ header + length ready.text) }
         ensures empty { IfOk result (λ ready. ready.entries.items ≡ []) }
@@ -164,19 +171,23 @@ impl Store {
             length (entries_of self.now) + length changes.now ≤ vec_capacity ready.entries) }
 
         ensures cost { (D.medium disk.new).written ≤ (D.medium disk.old).written
-            + (shape_of self.now).place.copies * commit_cost (shape_of self.now).kind (entries_of self.now) changes.now }
+            + (shape_of self.now).place.copies * commit_cost (shape_of self.now).kind (entries_of self.now)
+            changes.now }
 
         ensures memory { IsErrOf result StoreError.OutOfMemory → disk.new ≡ disk.old }
         ensures never_corrupt { IsErrOf result StoreError.Corrupt → ⊥ }
         ensures cause { IsErrOf result StoreError.Device → Rose (D.medium disk.old).faults (D.medium disk.new).faults }
         ensures passes { OnOk result ((D.medium disk.new).faults ≡ (D.medium disk.old).faults) }
-        ensures elsewhere { IsTrue D.told → Spares (IsOutside (shape_of self.now).place.first (shape_of self.now).place.copies)
+        ensures elsewhere { IsTrue D.told → Spares (IsOutside (shape_of self.now).place.first
+            (shape_of self.now).place.copies)
             (D.medium disk.old).image (D.medium disk.new).image }
         ensures outside { IsTrue D.told → Quiet (D.medium disk.old)
-            → EachCase (IsSettledOn (IsOutside (shape_of self.now).place.first (shape_of self.now).place.copies) (D.medium disk.old).image)
+            → EachCase (IsSettledOn (IsOutside (shape_of self.now).place.first (shape_of self.now).place.copies)
+            (D.medium disk.old).image)
             (D.medium disk.old) (D.medium disk.new) }
         ensures any_moment { IsTrue D.told → KeptThroughout (shape_of self.now)
-            (Opens (committed_by (shape_of self.now) (view_in self.now) changes.now) []) (D.medium disk.old) (D.medium disk.new) }
+            (Opens (committed_by (shape_of self.now) (view_in self.now) changes.now) []) (D.medium disk.old)
+            (D.medium disk.new) }
         ensures time { Elapses (D.medium disk.old) (D.medium disk.new) }
     {
         untouched_is_kept();
@@ -195,7 +206,8 @@ impl Store {
     fn prepare<'a>(&'a self, changes: &'a [Change]) -> Result<Prepared<'a>, AllocError>
         requires store { IsStore self.now }
         requires changes { AreChanges (shape_of self.now) (view_in self.now) changes.now }
-        ensures plan { IfOk result (λ p. IsPrepared self.now changes.now p.ready.index p.ready.text p.ready.used p.jobs.items) }
+        ensures plan { IfOk result (λ p. IsPrepared self.now changes.now p.ready.index p.ready.text p.ready.used
+            p.jobs.items) }
         ensures room { IfOk result (λ p. length p.ready.room.items ≡ header + length p.ready.text) }
         ensures empty { IfOk result (λ p. p.ready.entries.items ≡ []) }
         ensures capacity { IfOk result (λ p.

@@ -29,8 +29,8 @@ use guarded_cell::{format_cell, keep_only};
 use per_base::{Content, Entry, Fresh, Numbers};
 use std::alloc::{AllocError, Global};
 
-/// Makes a storage anew with these contents, and gives up what its place held. The texts of the place are taken away first, and only
-/// then are contents written: an index of before would name blocks that are being written.
+/// Makes a storage anew with these contents, and gives up what its place held. The texts of the place are taken away
+/// first, and only then are contents written: an index of before would name blocks that are being written.
 ///
 /// # Errors
 ///
@@ -44,7 +44,8 @@ pub fn create<D: Disk>(
     requires shape { IsShape shape }
     requires contents { AreContents shape.kind shape.allowed contents.items }
 
-    ensures opens { IsTrue D.told → OnOk result (store_at (D.medium disk.new).image shape ≡ fresh_state 1 (fresh_map contents.items)) }
+    ensures opens { IsTrue D.told → OnOk result (store_at (D.medium disk.new).image shape
+        ≡ fresh_state 1 (fresh_map contents.items)) }
     ensures used { IfOk result (IsUsed D.told (D.medium disk.new).image) }
     ensures shape { IfOk result (λ store. shape_of store ≡ shape) }
     ensures view { IfOk result (λ store. view_in store ≡ fresh_view 1 (fresh_map contents.items)) }
@@ -58,9 +59,11 @@ pub fn create<D: Disk>(
     ensures fed { IsErrOf result StoreError.OutOfMemory → (D.medium disk.new).faults ≡ (D.medium disk.old).faults }
 
     // At no moment are blocks torn under an index that names them: where no text is made by chance, no content is.
-    ensures untorn { IsTrue D.told → Quiet (D.medium disk.old) → EachCase (IsUntorn shape.place) (D.medium disk.old) (D.medium disk.new) }
+    ensures untorn { IsTrue D.told → Quiet (D.medium disk.old)
+        → EachCase (IsUntorn shape.place) (D.medium disk.old) (D.medium disk.new) }
     ensures sound { IsTrue D.told → Quiet (D.medium disk.old)
-        → EachCase (λ c. IsSoundFor (IsSlotPiece shape.place.first shape.place.copies) c → IsSoundFor (IsPiece shape.place) c)
+        → EachCase (λ c. IsSoundFor (IsSlotPiece shape.place.first shape.place.copies) c
+        → IsSoundFor (IsPiece shape.place) c)
         (D.medium disk.old) (D.medium disk.new) }
 
     // No file outside the place changes, at the end and at any moment.
@@ -72,9 +75,11 @@ pub fn create<D: Disk>(
 
     // In each copy the contents in whole blocks, the index, and four blanks; at most as much where it failed.
     ensures written { IfOk result (λ store. (D.medium disk.new).written ≤ (D.medium disk.old).written
-        + shape.place.copies * (256 * blocks_of_all contents.items + length (index_text (index_in store)) + 5 * header)) }
+        + shape.place.copies * (256 * blocks_of_all contents.items + length (index_text (index_in store))
+        + 5 * header)) }
     ensures at_most { (D.medium disk.new).written
-        ≤ (D.medium disk.old).written + shape.place.copies * (256 * blocks_of_all contents.items + max_body + 5 * header) }
+        ≤ (D.medium disk.old).written + shape.place.copies
+        * (256 * blocks_of_all contents.items + max_body + 5 * header) }
     ensures time { Elapses (D.medium disk.old) (D.medium disk.new) }
 {
     let mut used = BlockSet::new(alloc, blocks_in_area(&shape))?;

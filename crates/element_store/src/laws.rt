@@ -12,13 +12,16 @@ ghost use Rattle.element_store.specs.Stores.{IsUsed, shape_of};
 
 use element_laws::places_stand_apart;
 
-/// A storage in use stays in use where the files of its place are as they were, as they are where only files of a place that lies apart
-/// from its own changed.
+/// A storage in use stays in use where the files of its place are as they were, as they are where only files of a place
+/// that lies apart from its own changed.
 pub fn use_stays()
-    ensures frame { (told : Bool) (store : Store) (old new : Image) → (IsTrue told → Spares (IsOfPlace (shape_of store).place) old new)
+    ensures frame { (told : Bool) (store : Store) (old new : Image)
+        → (IsTrue told → Spares (IsOfPlace (shape_of store).place) old new)
         → IsUsed told old store → IsUsed told new store }
-    ensures elsewhere { (told : Bool) (store : Store) (one : Place) (old new : Image) → LieApart one (shape_of store).place
-        → (IsTrue told → Spares (IsOutside one.first one.copies) old new) → IsUsed told old store → IsUsed told new store }
+    ensures elsewhere { (told : Bool) (store : Store) (one : Place) (old new : Image)
+        → LieApart one (shape_of store).place
+        → (IsTrue told → Spares (IsOutside one.first one.copies) old new) → IsUsed told old store
+        → IsUsed told new store }
 {
     places_stand_apart();
 }

@@ -31,17 +31,22 @@ pub(crate) fn mend_durably<D: Disk>(
     requires read { AllZip (IsReadBy shape.now.place.copies) index.now.entries views.now }
     requires quiet { Quiet (D.medium disk.old) }
 
-    ensures whole { IsTrue D.told → OnOk result (AllZip (IsWholeIn (D.medium disk.new).image shape.now.place.first) index.now.entries views.now) }
-    ensures spared { IsTrue D.told → OnOk result (SparesOthers shape.now index.now views.now (D.medium disk.old).image (D.medium disk.new).image) }
+    ensures whole { IsTrue D.told → OnOk result (AllZip (IsWholeIn (D.medium disk.new).image shape.now.place.first)
+        index.now.entries views.now) }
+    ensures spared { IsTrue D.told → OnOk result (SparesOthers shape.now index.now views.now (D.medium disk.old).image
+        (D.medium disk.new).image) }
     ensures quiet { OnOk result (Quiet (D.medium disk.new)) }
 
     // Where no good element lacks a copy, nothing is written.
-    ensures idle { IsTrue D.told → AllByRecursion (λ e. IsMended e.content e.lacking) views.now → IsAsBefore (D.medium disk.old) (D.medium disk.new) }
+    ensures idle { IsTrue D.told → AllByRecursion (λ e. IsMended e.content e.lacking) views.now
+        → IsAsBefore (D.medium disk.old) (D.medium disk.new) }
 
     // Only areas change, and at any moment only in the blocks of what is mended.
     ensures elsewhere { IsTrue D.told
-        → Spares (IsNoArea shape.now.place.first shape.now.place.copies) (D.medium disk.old).image (D.medium disk.new).image }
-    ensures during { IsTrue D.told → EachCase (MendsCase shape.now index.now views.now (D.medium disk.old).image) (D.medium disk.old) (D.medium disk.new) }
+        → Spares (IsNoArea shape.now.place.first shape.now.place.copies) (D.medium disk.old).image
+        (D.medium disk.new).image }
+    ensures during { IsTrue D.told → EachCase (MendsCase shape.now index.now views.now (D.medium disk.old).image)
+        (D.medium disk.old) (D.medium disk.new) }
     ensures device { IfErr result (λ error. error ≡ BlobError.Device) }
     ensures cause { IfErr result (λ error. Rose (D.medium disk.old).faults (D.medium disk.new).faults) }
     ensures passes { OnOk result ((D.medium disk.new).faults ≡ (D.medium disk.old).faults) }
@@ -64,12 +69,17 @@ fn mend_each<D: Disk>(
     requires read { AllZip (IsReadBy shape.now.place.copies) index.now.entries views.now }
     requires quiet { Quiet (D.medium disk.old) }
 
-    ensures whole { IsTrue D.told → OnOk result (AllZip (IsWholeIn (D.medium disk.new).image shape.now.place.first) index.now.entries views.now) }
-    ensures spared { IsTrue D.told → OnOk result (SparesOthers shape.now index.now views.now (D.medium disk.old).image (D.medium disk.new).image) }
-    ensures idle { IsTrue D.told → AllByRecursion (λ e. IsMended e.content e.lacking) views.now → IsAsBefore (D.medium disk.old) (D.medium disk.new) }
+    ensures whole { IsTrue D.told → OnOk result (AllZip (IsWholeIn (D.medium disk.new).image shape.now.place.first)
+        index.now.entries views.now) }
+    ensures spared { IsTrue D.told → OnOk result (SparesOthers shape.now index.now views.now (D.medium disk.old).image
+        (D.medium disk.new).image) }
+    ensures idle { IsTrue D.told → AllByRecursion (λ e. IsMended e.content e.lacking) views.now
+        → IsAsBefore (D.medium disk.old) (D.medium disk.new) }
     ensures elsewhere { IsTrue D.told
-        → Spares (IsNoArea shape.now.place.first shape.now.place.copies) (D.medium disk.old).image (D.medium disk.new).image }
-    ensures during { EachCase (MendsCase shape.now index.now views.now (D.medium disk.old).image) (D.medium disk.old) (D.medium disk.new) }
+        → Spares (IsNoArea shape.now.place.first shape.now.place.copies) (D.medium disk.old).image
+        (D.medium disk.new).image }
+    ensures during { EachCase (MendsCase shape.now index.now views.now (D.medium disk.old).image) (D.medium disk.old)
+        (D.medium disk.new) }
     ensures device { IfErr result (λ error. error ≡ BlobError.Device) }
     ensures cause { IfErr result (λ error. Rose (D.medium disk.old).faults (D.medium disk.new).faults) }
     ensures passes { OnOk result ((D.medium disk.new).faults ≡ (D.medium disk.old).faults) }

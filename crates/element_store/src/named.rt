@@ -44,7 +44,8 @@ pub(crate) fn place_of<N: Named>(items: &[N], name: &Name) -> Result<usize, usiz
 pub(crate) fn put_in<N: Named + Drop>(items: &mut Vec<N>, item: N)
     requires ascend { NamesAscend N.name_of items.old.items }
     requires room { vec_len items.old < vec_capacity items.old }
-    ensures items { items.new.items ≡ insert_item N.name_of item (without_item N.name_of (N.name_of item) items.old.items) }
+    ensures items { items.new.items ≡ insert_item N.name_of item
+        (without_item N.name_of (N.name_of item) items.old.items) }
     ensures ascend { NamesAscend N.name_of items.new.items }
     ensures capacity { vec_capacity items.old ≤ vec_capacity items.new }
     ensures one_more { vec_len items.new ≤ vec_len items.old + 1 }

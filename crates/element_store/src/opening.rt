@@ -44,12 +44,13 @@ pub struct OpenedStore {
     pub before: View,
 }
 
-/// Opens a storage: brings every copy to the text at which it opens, and writes each element again, on which enough copies agree, in
-/// the copies that lack it.
+/// Opens a storage: brings every copy to the text at which it opens, and writes each element again, on which enough
+/// copies agree, in the copies that lack it.
 ///
 /// # Errors
 ///
-/// `Corrupt` exactly where no text qualifies: then nothing is written. `Device` where the disk fails, and `OutOfMemory`.
+/// `Corrupt` exactly where no text qualifies: then nothing is written. `Device` where the disk fails, and
+/// `OutOfMemory`.
 pub fn open_store<D: Disk>(
     alloc: Global,
     disk: &mut D,
@@ -57,7 +58,8 @@ pub fn open_store<D: Disk>(
 ) -> Result<OpenedStore, StoreError>
     requires { IsShape shape }
 
-    ensures before { IsTrue D.told → IfOk result (λ o. opened_of (store_at (D.medium disk.old).image shape) ≡ Some o.before) }
+    ensures before { IsTrue D.told → IfOk result (λ o. opened_of (store_at (D.medium disk.old).image shape)
+        ≡ Some o.before) }
     ensures view { IfOk result (λ o. view_in o.store ≡ mended_view shape o.before) }
     ensures used { IfOk result (λ o. IsUsed D.told (D.medium disk.new).image o.store) }
     ensures shape { IfOk result (λ o. shape_of o.store ≡ shape) }
@@ -67,25 +69,29 @@ pub fn open_store<D: Disk>(
     // It adopts the very text at which the storage opens.
     ensures adopted { IsTrue D.told → IfOk result (λ o. OpensBy (D.medium disk.old).image shape (index_in o.store)) }
     ensures reports { IfOk result (λ o. o.reports.items ≡ reports (λ bytes. true) shape o.before) }
-    ensures clean { IsTrue D.told → IsClean shape (D.medium disk.old).image → OnOk result (IsClean shape (D.medium disk.new).image) }
+    ensures clean { IsTrue D.told → IsClean shape (D.medium disk.old).image
+        → OnOk result (IsClean shape (D.medium disk.new).image) }
     ensures quiet { OnOk result (Quiet (D.medium disk.new)) }
 
     // A corrupt storage is left as it is.
-    ensures corrupt { IsTrue D.told → IsErrOf result StoreError.Corrupt → opened_of (store_at (D.medium disk.old).image shape) ≡ None }
+    ensures corrupt { IsTrue D.told → IsErrOf result StoreError.Corrupt
+        → opened_of (store_at (D.medium disk.old).image shape) ≡ None }
     ensures untouched { IsErrOf result StoreError.Corrupt → (D.medium disk.new).image ≡ (D.medium disk.old).image }
     ensures unwritten { IsErrOf result StoreError.Corrupt → (D.medium disk.new).written ≡ (D.medium disk.old).written }
     ensures settled { IsErrOf result StoreError.Corrupt → Quiet (D.medium disk.new) }
 
     // A want of memory comes before anything is written.
     ensures memory { IsErrOf result StoreError.OutOfMemory
-        → ((D.medium disk.new).image ≡ (D.medium disk.old).image) × ((D.medium disk.new).written ≡ (D.medium disk.old).written) }
+        → ((D.medium disk.new).image ≡ (D.medium disk.old).image)
+        × ((D.medium disk.new).written ≡ (D.medium disk.old).written) }
     ensures cause { IsErrOf result StoreError.Device → Rose (D.medium disk.old).faults (D.medium disk.new).faults }
     ensures passes { OnOk result ((D.medium disk.new).faults ≡ (D.medium disk.old).faults) }
     ensures fed { IsErrOf result StoreError.OutOfMemory → (D.medium disk.new).faults ≡ (D.medium disk.old).faults }
     ensures unfailed { IsErrOf result StoreError.Corrupt → (D.medium disk.new).faults ≡ (D.medium disk.old).faults }
 
     // Where nothing lacks, nothing is written.
-    ensures idle { IsTrue D.told → LacksNothing shape (D.medium disk.old).image → IsAsBefore (D.medium disk.old) (D.medium disk.new) }
+    ensures idle { IsTrue D.told → LacksNothing shape (D.medium disk.old).image
+        → IsAsBefore (D.medium disk.old) (D.medium disk.new) }
 
     // No file outside the place changes, at the end and at any moment.
     ensures elsewhere { IsTrue D.told
@@ -95,7 +101,8 @@ pub fn open_store<D: Disk>(
         (D.medium disk.old) (D.medium disk.new) }
 
     // A stop at any moment keeps the storage, whatever its next state is to be.
-    ensures any_moment { IsTrue D.told → (after : State) → KeptThroughout shape after (D.medium disk.old) (D.medium disk.new) }
+    ensures any_moment { IsTrue D.told → (after : State)
+        → KeptThroughout shape after (D.medium disk.old) (D.medium disk.new) }
     ensures time { Elapses (D.medium disk.old) (D.medium disk.new) }
 {
     use_is_adopted();
@@ -144,7 +151,8 @@ fn prepare<D: Disk>(alloc: Global, disk: &mut D, shape: &Shape) -> Result<Openin
     requires { IsShape shape.now }
     ensures ready { IfOk result (IsOpeningPlan shape.now) }
     ensures found { IsTrue D.told → IfOk result (IsFoundOn (D.medium disk.old).image shape.now) }
-    ensures corrupt { IsTrue D.told → IsErrOf result StoreError.Corrupt → opened_of (store_at (D.medium disk.old).image shape.now) ≡ None }
+    ensures corrupt { IsTrue D.told → IsErrOf result StoreError.Corrupt
+        → opened_of (store_at (D.medium disk.old).image shape.now) ≡ None }
 
     ensures quiet { OnOk result (Quiet (D.medium disk.new)) }
     ensures settled { IsErrOf result StoreError.Corrupt → Quiet (D.medium disk.new) }

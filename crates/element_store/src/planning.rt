@@ -29,7 +29,8 @@ pub(crate) fn plan_contents<'a>(
 ) -> Result<Plan<'a>, AllocError>
     requires small { All (λ f. length f.bytes ≤ 1048576) contents.now }
     requires free { blocks_of_all contents.now ≤ free_of used.old }
-    ensures { IfOk result (λ plan. IsPlanOf generation contents.now used.old used.new plan.entries.items plan.jobs.items) }
+    ensures { IfOk result (λ plan. IsPlanOf generation contents.now used.old used.new plan.entries.items
+        plan.jobs.items) }
 {
     let mut entries = Vec::new(alloc);
     let mut jobs = Vec::new(alloc);

@@ -8,7 +8,8 @@ ghost use Rattle.disk_model.specs.Place.{IsNoSlot, IsOutside};
 ghost use Rattle.guarded_cell.specs.Seens.{IsSealable};
 ghost use Rattle.block_files.specs.BlockSets.{free_of};
 ghost use Rattle.index_text.specs.Sizes.{area_blocks};
-ghost use Rattle.element_state.specs.States.{State, store_at, salvage_of, next_generation, fresh_map, fresh_state, fresh_view};
+ghost use Rattle.element_state.specs.States.{State, store_at, salvage_of, next_generation, fresh_map, fresh_state};
+ghost use Rattle.element_state.specs.States.{fresh_view};
 ghost use Rattle.element_state.specs.Clean.{IsClean};
 ghost use Rattle.index_text.specs.Contents.{AreContents};
 ghost use Rattle.element_state.specs.Conditions.{IsShape};
@@ -24,8 +25,9 @@ use guarded_cell::{adopt, keep_only};
 use per_base::Fresh;
 use std::alloc::Global;
 
-/// Makes a storage anew with these contents, under the generation after that of the text at which it opens or, where it is corrupt, of
-/// its salvage; under generation 1 where it has none. Until the new index stands, a stop leaves the storage as it was.
+/// Makes a storage anew with these contents, under the generation after that of the text at which it opens or, where it
+/// is corrupt, of its salvage; under generation 1 where it has none. Until the new index stands, a stop leaves the
+/// storage as it was.
 ///
 /// # Errors
 ///
@@ -41,9 +43,11 @@ pub fn rebuild<D: Disk>(
     requires not_worn { IsTrue D.told → HasNext (salvage_of (store_at (D.medium disk.old).image shape.now)) }
 
     ensures opens { IsTrue D.told → OnOk result (store_at (D.medium disk.new).image shape.now
-        ≡ fresh_state (next_generation (salvage_of (store_at (D.medium disk.old).image shape.now))) (fresh_map contents.items)) }
+        ≡ fresh_state (next_generation (salvage_of (store_at (D.medium disk.old).image shape.now)))
+        (fresh_map contents.items)) }
     ensures in_use { IsTrue D.told → OnOk result (IsMadeAnew shape.now (D.medium disk.new).image
-        (fresh_view (next_generation (salvage_of (store_at (D.medium disk.old).image shape.now))) (fresh_map contents.items))) }
+        (fresh_view (next_generation (salvage_of (store_at (D.medium disk.old).image shape.now)))
+        (fresh_map contents.items))) }
     ensures clean { IsTrue D.told → OnOk result (IsClean shape.now (D.medium disk.new).image) }
     ensures quiet { OnOk result (Quiet (D.medium disk.new)) }
 
@@ -54,10 +58,12 @@ pub fn rebuild<D: Disk>(
 
     // At any moment the storage is as it was or has the new contents, and no file outside the place changes.
     ensures any_moment { IsTrue D.told → KeptThroughout shape.now
-        (fresh_state (next_generation (salvage_of (store_at (D.medium disk.old).image shape.now))) (fresh_map contents.items))
+        (fresh_state (next_generation (salvage_of (store_at (D.medium disk.old).image shape.now)))
+        (fresh_map contents.items))
         (D.medium disk.old) (D.medium disk.new) }
     ensures elsewhere { IsTrue D.told
-        → Spares (IsOutside shape.now.place.first shape.now.place.copies) (D.medium disk.old).image (D.medium disk.new).image }
+        → Spares (IsOutside shape.now.place.first shape.now.place.copies) (D.medium disk.old).image
+        (D.medium disk.new).image }
     ensures outside { IsTrue D.told → Quiet (D.medium disk.old)
         → EachCase (IsSettledOn (IsOutside shape.now.place.first shape.now.place.copies) (D.medium disk.old).image)
         (D.medium disk.old) (D.medium disk.new) }
@@ -104,9 +110,11 @@ fn prepare<D: Disk>(alloc: Global, disk: &mut D, shape: &Shape) -> Result<Ground
     ensures fed { IsErrOf result StoreError.OutOfMemory → (D.medium disk.new).faults ≡ (D.medium disk.old).faults }
 
     // Only slots change, and at any moment the storage stands.
-    ensures kept { IsTrue D.told → (state : State) → KeptThroughout shape.now state (D.medium disk.old) (D.medium disk.new) }
+    ensures kept { IsTrue D.told → (state : State) → KeptThroughout shape.now state (D.medium disk.old)
+        (D.medium disk.new) }
     ensures elsewhere { IsTrue D.told
-        → Spares (IsNoSlot shape.now.place.first shape.now.place.copies) (D.medium disk.old).image (D.medium disk.new).image }
+        → Spares (IsNoSlot shape.now.place.first shape.now.place.copies) (D.medium disk.old).image
+        (D.medium disk.new).image }
     ensures any_moment { IsTrue D.told → Quiet (D.medium disk.old)
         → EachCase (IsSettledOn (IsNoSlot shape.now.place.first shape.now.place.copies) (D.medium disk.old).image)
         (D.medium disk.old) (D.medium disk.new) }
@@ -138,16 +146,19 @@ fn settle<D: Disk>(
     found: &Found,
 ) -> Result<(), StoreError>
     requires { IsSealable found.now.seen }
-    ensures left { IsTrue D.told → OnOk result (IsLeftWith found.now.opens place.first place.copies found.now.seen.generation found.now.seen.text
+    ensures left { IsTrue D.told → OnOk result (IsLeftWith found.now.opens place.first place.copies
+        found.now.seen.generation found.now.seen.text
         (D.medium disk.old).image (D.medium disk.new).image) }
     ensures quiet { OnOk result (Quiet (D.medium disk.new)) }
     ensures never_corrupt { IsErrOf result StoreError.Corrupt → ⊥ }
     ensures cause { IsErrOf result StoreError.Device → Rose (D.medium disk.old).faults (D.medium disk.new).faults }
     ensures passes { OnOk result ((D.medium disk.new).faults ≡ (D.medium disk.old).faults) }
     ensures fed { IsErrOf result StoreError.OutOfMemory → (D.medium disk.new).faults ≡ (D.medium disk.old).faults }
-    ensures elsewhere { IsTrue D.told → Spares (IsNoSlot place.first place.copies) (D.medium disk.old).image (D.medium disk.new).image }
+    ensures elsewhere { IsTrue D.told → Spares (IsNoSlot place.first place.copies) (D.medium disk.old).image
+        (D.medium disk.new).image }
     ensures any_moment { IsTrue D.told → Quiet (D.medium disk.old)
-        → EachCase (SettleStops found.now.opens place.first place.copies found.now.seen.generation found.now.seen.text (D.medium disk.old).image)
+        → EachCase (SettleStops found.now.opens place.first place.copies found.now.seen.generation found.now.seen.text
+        (D.medium disk.old).image)
         (D.medium disk.old) (D.medium disk.new) }
     ensures time { Elapses (D.medium disk.old) (D.medium disk.new) }
 {

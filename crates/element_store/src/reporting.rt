@@ -1,15 +1,16 @@
 //! The reports of an opening.
 
 ghost use Rattle.std.specs.Prelude.{◌≡◌, ◌++◌, IfOk, OnOk, true};
-ghost use Rattle.element_state.specs.Reports.{reports, report_of, report_some, store_recovered, element_recovered, element_failed, element_reports};
+ghost use Rattle.element_state.specs.Reports.{reports, report_of, report_some, store_recovered, element_recovered};
+ghost use Rattle.element_state.specs.Reports.{element_failed, element_reports};
 ghost use Rattle.element_store.specs.Mends.{reported};
 
 use element_state::{Shape, View};
 use per_base::{Content, Entry, Name, Numbers, Report, ReportKind, Scope, StoreKind};
 use std::alloc::{AllocError, Global};
 
-/// What an opening reports of this view: first of the storage, then of its elements by their names. With storage scope a copy that lacks
-/// an element lacks the storage, and is reported with it alone.
+/// What an opening reports of this view: first of the storage, then of its elements by their names. With storage scope
+/// a copy that lacks an element lacks the storage, and is reported with it alone.
 ///
 /// # Errors
 ///

@@ -38,7 +38,15 @@ impl Store {
         entries: Vec<Entry>,
         used: BlockSet,
     ) -> Store
-        ensures { result ≡ record { alloc = alloc; shape = shape; cell = cell; index = index; entries = entries; used = used } }
+        ensures { result ≡ record {
+          alloc = alloc;
+          shape = shape;
+          cell = cell;
+          index = index;
+          entries = entries;
+          used =
+              used;
+        } }
     {
         Store {
             alloc,
@@ -50,7 +58,8 @@ impl Store {
         }
     }
 
-    /// What a storage in use shows is a view of it, so that names ascend. For the proofs of callers: it does nothing when it runs.
+    /// What a storage in use shows is a view of it, so that names ascend. For the proofs of callers: it does nothing
+    /// when it runs.
     pub fn holds(&self)
         requires { IsStore self.now }
         ensures { IsView (shape_of self.now) (view_in self.now) }

@@ -50,7 +50,8 @@ pub(crate) fn put_contents<D: Disk>(
     ensures made { IfOk result (λ s. AllZip (IsMade generation) contents.now s.index.entries) }
     ensures shown { IsTrue D.told → IfOk result (λ s.
         ShowsFresh (D.medium disk.new).image shape.now.place shape.now.m generation contents.now s.index.entries) }
-    ensures keeps { IsTrue D.told → OnOk result (Keeps (IsNoArea shape.now.place.first shape.now.place.copies) (λ k. holds used.old k ≡ true)
+    ensures keeps { IsTrue D.told → OnOk result (Keeps (IsNoArea shape.now.place.first shape.now.place.copies)
+        (λ k. holds used.old k ≡ true)
         (D.medium disk.old).image (D.medium disk.new).image) }
     ensures quiet { OnOk result (Quiet (D.medium disk.new)) }
     ensures never_corrupt { IsErrOf result StoreError.Corrupt → ⊥ }
@@ -60,11 +61,14 @@ pub(crate) fn put_contents<D: Disk>(
 
     // Only areas change, and at any moment a crash leaves the blocks of the set alone.
     ensures elsewhere { IsTrue D.told
-        → Spares (IsNoArea shape.now.place.first shape.now.place.copies) (D.medium disk.old).image (D.medium disk.new).image }
+        → Spares (IsNoArea shape.now.place.first shape.now.place.copies) (D.medium disk.old).image
+        (D.medium disk.new).image }
     ensures during { EachCase
-        (IsContentsCase shape.now.place.first shape.now.place.copies used.old (D.medium disk.old) (D.medium disk.new) (IsOk result))
+        (IsContentsCase shape.now.place.first shape.now.place.copies used.old (D.medium disk.old) (D.medium disk.new)
+        (IsOk result))
         (D.medium disk.old) (D.medium disk.new) }
-    ensures written { (D.medium disk.new).written ≤ (D.medium disk.old).written + shape.now.place.copies * (256 * blocks_of_all contents.now) }
+    ensures written { (D.medium disk.new).written ≤ (D.medium disk.old).written
+        + shape.now.place.copies * (256 * blocks_of_all contents.now) }
     ensures time { Elapses (D.medium disk.old) (D.medium disk.new) }
 {
     let Plan { entries, jobs } = plan_contents(alloc, generation, contents, used)?;

@@ -7,7 +7,9 @@ use Rattle.per_base.specs.declared.elements.StoreKind.{StoreKind}
 use Rattle.export_text.specs.Exports.{IsExportable}
 use Rattle.export_text.proofs.FieldReaders.{max_len_fits}
 
-pub short_at : (kind : StoreKind) (fs : List Fresh) (i : ℕ) (f : Fresh) → AllByRecursion (IsExportable kind) fs → i < length fs → f ≡ get_or fs i f → length f.bytes < 2 ^ 32
+pub short_at : (kind : StoreKind) (fs : List Fresh) (i : ℕ) (f : Fresh) → AllByRecursion (IsExportable kind) fs
+    → i < length fs → f ≡ get_or fs i f → length f.bytes < 2 ^ 32
 short_at kind fs i f each within is =
-    let at : IsExportable kind f = subst (IsExportable kind) (sym is) (All-from_recursion (IsExportable kind) fs each i f within) in
+    let at : IsExportable kind f = subst (IsExportable kind) (sym is)
+    (All-from_recursion (IsExportable kind) fs each i f within) in
     omega (arith, at.len, max_len_fits kind)

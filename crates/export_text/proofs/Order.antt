@@ -1,5 +1,6 @@
 -- Names that ascend.
-use Rattle.std.proofs.Common.{◌≡◌, ℕ, suc, ◌+◌, ◌<◌, ◌≤◌, true, List, [], ◌∷◌, length, get_or, drop, refl, sym, ap, ◌∙◌, arith}
+use Rattle.std.proofs.Common.{◌≡◌, ℕ, suc, ◌+◌, ◌<◌, ◌≤◌, true, List, [], ◌∷◌, length, get_or, drop, refl, sym, ap, ◌∙◌}
+use Rattle.std.proofs.Common.{arith}
 use Rattle.std.specs.Prelude.{◌&&◌}
 use Rattle.std.specs.List.{AllByRecursion}
 use Rattle.std.specs.List.Sorted.{IsStrictlySortedBy}
@@ -22,14 +23,18 @@ ascends_short (a ∷ []) h = refl
 ascends_short (a ∷ b ∷ es) h = absurd (omega arith)
 
 -- of what is left, the first two names are compared, and then the rest decides
-pub ascends_next : (es : List Fresh) (i j : ℕ) (a b : Fresh) → i ≡ j + 1 → i < length es → a ≡ get_or es j a → b ≡ get_or es i b
+pub ascends_next : (es : List Fresh) (i j : ℕ) (a b : Fresh) → i ≡ j + 1 → i < length es → a ≡ get_or es j a
+    → b ≡ get_or es i b
     → ascends (names_of (drop j es)) ≡ (is_lt (name_cmp a.name b.name) && ascends (names_of (drop i es)))
 ascends_next es i j a b next lt a_is b_is =
     let next_is : suc j ≡ i = omega arith in
     let less : j < length es = omega arith in
-    let first : drop j es ≡ a ∷ drop i es = drop-cons es j a less ∙ ap (λ (x : Fresh). x ∷ drop (suc j) es) (sym a_is) ∙ ap (λ (n : ℕ). a ∷ drop n es) next_is in
-    let second : drop i es ≡ b ∷ drop (suc i) es = drop-cons es i b lt ∙ ap (λ (x : Fresh). x ∷ drop (suc i) es) (sym b_is) in
-    ap (λ (xs : List Fresh). ascends (names_of xs)) (first ∙ ap (λ (xs : List Fresh). a ∷ xs) second) ∙ ap (λ (xs : List Fresh). is_lt (name_cmp a.name b.name) && ascends (names_of xs)) (sym second)
+    let first : drop j es ≡ a ∷ drop i es = drop-cons es j a less ∙ ap (λ (x : Fresh). x ∷ drop (suc j) es) (sym a_is)
+    ∙ ap (λ (n : ℕ). a ∷ drop n es) next_is in
+    let second : drop i es ≡ b ∷ drop (suc i) es = drop-cons es i b lt
+    ∙ ap (λ (x : Fresh). x ∷ drop (suc i) es) (sym b_is) in
+    ap (λ (xs : List Fresh). ascends (names_of xs)) (first ∙ ap (λ (xs : List Fresh). a ∷ xs) second)
+    ∙ ap (λ (xs : List Fresh). is_lt (name_cmp a.name b.name) && ascends (names_of xs)) (sym second)
 
 less_is : (o : Ordering) → is_lt o ≡ true → o ≡ Less
 less_is Less h = refl
@@ -37,7 +42,8 @@ less_is Equal h = absurd cc
 less_is Greater h = absurd cc
 
 -- a name below the first of names in order is below each
-below_all : (a b : List ℕ) (names : List (List ℕ)) → name_cmp a b ≡ Less → AllByRecursion (λ n. name_cmp b n ≡ Less) names → AllByRecursion (λ n. name_cmp a n ≡ Less) names
+below_all : (a b : List ℕ) (names : List (List ℕ)) → name_cmp a b ≡ Less
+    → AllByRecursion (λ n. name_cmp b n ≡ Less) names → AllByRecursion (λ n. name_cmp a n ≡ Less) names
 below_all a b [] less all = tt
 below_all a b (c ∷ names) less all = (nat_list_cmp_total.trans a b c less all.0, below_all a b names less all.1)
 

@@ -1,5 +1,6 @@
 -- An export: which ones there are, the one text of each, and the export that a text spells.
-use Rattle.std.specs.Prelude.{◌≤◌, ◌-◌, ◌==◌, ◌&&◌, ℕ, List, [], ◌∷◌, ◌++◌, length, map, Bool, true, Option, Some, is_some, nat_le, codes, IsTrue}
+use Rattle.std.specs.Prelude.{◌≤◌, ◌-◌, ◌==◌, ◌&&◌, ℕ, List, [], ◌∷◌, ◌++◌, length, map, Bool, true, Option, Some}
+use Rattle.std.specs.Prelude.{is_some, nat_le, codes, IsTrue}
 use Rattle.std.specs.Int.{w16, w32, to_le_bytes}
 use Rattle.std.specs.List.{AllByRecursion, flat_map}
 use Rattle.std.specs.List.Sorted.{IsStrictlySortedBy}
@@ -103,7 +104,8 @@ header_at bytes = do
 
 -- the export of these elements, where their names ascend and nothing follows them
 abbrev pub export_by : StoreKind → List Fresh → (rest : List ℕ) → Option Export
-export_by kind contents rest = only_if (length rest == 0 && ascends (names_of contents)) (record { kind = kind; contents = contents })
+export_by kind contents rest = only_if (length rest == 0 && ascends (names_of contents))
+    (record { kind = kind; contents = contents })
 
 unfoldable pub body_read : List ℕ → Option Export
 body_read body = do

@@ -5,7 +5,8 @@ use Rattle.per_base.specs.declared.elements.StoreKind.TheVariants.{Keys}
 use Rattle.per_base.specs.Fields.{many, bytes_at, number_at}
 use Rattle.index_text.specs.Reading.{name_at, info_at, len_at}
 use Rattle.value_code.specs.Reading.{kind_at, decoded}
-use Rattle.export_text.specs.Exports.{Export, export_text, fresh_text, content_at, fresh_at, marked_at, header_at, body_read, body_hashed, export_of}
+use Rattle.export_text.specs.Exports.{Export, export_text, fresh_text, content_at, fresh_at, marked_at, header_at}
+use Rattle.export_text.specs.Exports.{body_read, body_hashed, export_of}
 
 abbrev one_key : Export
 one_key = record { kind = Keys; contents = record { name = 97 ∷ []; info = None; bytes = 2 ∷ 7 ∷ [] } ∷ [] }
@@ -26,18 +27,22 @@ unfolding export_text fresh_text sha256 digest_bytes hash_after compress rounds 
 spelled = refl
 
 read : export_of (body ++ hash) ≡ Some one_key
-unfolding export_of body_hashed body_read header_at marked_at fresh_at content_at name_at info_at len_at many bytes_at number_at decoded kind_at sha256 digest_bytes hash_after compress rounds schedule first_words
+unfolding export_of body_hashed body_read header_at marked_at fresh_at content_at name_at info_at len_at many bytes_at
+    number_at decoded kind_at sha256 digest_bytes hash_after compress rounds schedule first_words
 read = refl
 
 one_byte_less : export_of (take 47 (body ++ hash)) ≡ None
-unfolding export_of body_hashed body_read header_at marked_at fresh_at content_at name_at info_at len_at many bytes_at number_at decoded kind_at sha256 digest_bytes hash_after compress rounds schedule first_words
+unfolding export_of body_hashed body_read header_at marked_at fresh_at content_at name_at info_at len_at many bytes_at
+    number_at decoded kind_at sha256 digest_bytes hash_after compress rounds schedule first_words
 one_byte_less = refl
 
 one_byte_more : export_of (body ++ hash ++ 0 ∷ []) ≡ None
-unfolding export_of body_hashed body_read header_at marked_at fresh_at content_at name_at info_at len_at many bytes_at number_at decoded kind_at sha256 digest_bytes hash_after compress rounds schedule first_words
+unfolding export_of body_hashed body_read header_at marked_at fresh_at content_at name_at info_at len_at many bytes_at
+    number_at decoded kind_at sha256 digest_bytes hash_after compress rounds schedule first_words
 one_byte_more = refl
 
 -- the hash alone is no export
 hash_alone : export_of hash ≡ None
-unfolding export_of body_hashed body_read header_at marked_at fresh_at content_at name_at info_at len_at many bytes_at number_at decoded kind_at sha256 digest_bytes hash_after compress rounds schedule first_words
+unfolding export_of body_hashed body_read header_at marked_at fresh_at content_at name_at info_at len_at many bytes_at
+    number_at decoded kind_at sha256 digest_bytes hash_after compress rounds schedule first_words
 hash_alone = refl

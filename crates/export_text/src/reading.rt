@@ -3,7 +3,8 @@
 ghost use Rattle.std.specs.Prelude.{◌≡◌, ◌≢◌, IfOk};
 ghost use Rattle.per_base.specs.Fields.{many};
 ghost use Rattle.export_text.specs.declared.exports.Export.{Export};
-ghost use Rattle.export_text.specs.Exports.{IsExport, body_hashed, body_read, export_by, export_of, export_text, fresh_at, header_at, marked_at};
+ghost use Rattle.export_text.specs.Exports.{IsExport, body_hashed, body_read, export_by, export_of, export_text};
+ghost use Rattle.export_text.specs.Exports.{fresh_at, header_at, marked_at};
 ghost use Rattle.export_text.specs.Views.{Gives};
 
 use crate::contents::names_ascend;
@@ -16,7 +17,9 @@ use std::alloc::Global;
 
 /// The export that the bytes spell.
 ///
-/// Errors: `NotAnExport` exactly where the bytes are the text of no export; `OutOfMemory`.
+/// # Errors
+///
+/// `NotAnExport` exactly where the bytes are the text of no export; `OutOfMemory`.
 pub fn read_export(alloc: Global, bytes: &[u8]) -> Result<Export, ExportError>
     // What is read keeps the rules, and is spelled so.
     ensures rules { IfOk result IsExport }

@@ -6,15 +6,16 @@ ghost use Rattle.per_base.specs.declared.elements.Fresh.{Fresh};
 ghost use Rattle.index_text.specs.Rules.{InfoInRange, InfoIsInRange};
 ghost use Rattle.index_text.specs.Spelling.{cause_code, file_info_text, info_text, kind_code, name_text};
 ghost use Rattle.export_text.specs.declared.exports.Export.{Export};
-ghost use Rattle.export_text.specs.Exports.{AreExportable, IsElement, IsExport, export_body, export_of, export_text, fresh_text, header_text};
+ghost use Rattle.export_text.specs.Exports.{AreExportable, IsElement, IsExport, export_body, export_of, export_text};
+ghost use Rattle.export_text.specs.Exports.{fresh_text, header_text};
 
 use crate::exports::MARK;
 use per_base::{Cause, FileInfo, Fresh, StoreKind};
 use sha2::{Digest, Sha256};
 use std::alloc::{AllocError, Global};
 
-/// The one text of the export of a storage of this kind with these elements: at most 1,024 of them with ascending names, an info
-/// exactly for files, for a key the encoding of a value, for a file at most 1,048,576 bytes.
+/// The one text of the export of a storage of this kind with these elements: at most 1,024 of them with ascending
+/// names, an info exactly for files, for a key the encoding of a value, for a file at most 1,048,576 bytes.
 pub fn write_export(
     alloc: Global,
     kind: StoreKind,
@@ -24,7 +25,8 @@ pub fn write_export(
     ensures text { IfOk result (λ text. text.items ≡ export_text (record { kind = kind; contents = contents.now })) }
 
     // It spells this export, and so no other; and this is one.
-    ensures spells { IfOk result (λ text. export_of text.items ≡ Some (record { kind = kind; contents = contents.now })) }
+    ensures spells { IfOk result (λ text. export_of text.items
+        ≡ Some (record { kind = kind; contents = contents.now })) }
     ensures is_export { OnOk result (IsExport (record { kind = kind; contents = contents.now })) }
 {
     let mut text = body_of(alloc, kind, contents)?;

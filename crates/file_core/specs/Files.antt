@@ -1,5 +1,6 @@
 -- A file: an element with an info, whose length is that of its content; and what writing and cutting make of it.
-use Rattle.std.specs.Prelude.{◌≡◌, ℕ, ◌+◌, ◌<◌, ◌≤◌, List, [], length, take, Bool, true, false, not, cond, ◌==◌, nat_lt, Option, Some, None, IsSome, option_map, Result, Ok}
+use Rattle.std.specs.Prelude.{◌≡◌, ℕ, ◌+◌, ◌<◌, ◌≤◌, List, [], length, take, Bool, true, false, not, cond, ◌==◌, nat_lt}
+use Rattle.std.specs.Prelude.{Option, Some, None, IsSome, option_map, Result, Ok}
 use Rattle.per_base.specs.declared.elements.Cause.{Cause}
 use Rattle.per_base.specs.declared.elements.Cause.TheVariants.{Application}
 use Rattle.per_base.specs.declared.elements.Content.{Content}
@@ -8,7 +9,8 @@ use Rattle.per_base.specs.declared.elements.Element.{Element}
 use Rattle.per_base.specs.declared.elements.FileInfo.{FileInfo}
 use Rattle.per_base.specs.declared.errors.Limit.TheVariants.{FileBytes}
 use Rattle.per_base.specs.declared.errors.PerError.{PerError}
-use Rattle.per_base.specs.declared.errors.PerError.TheVariants.{IllegalWriteAccess, InvalidSize, LimitReached, OutOfStorageSpace}
+use Rattle.per_base.specs.declared.errors.PerError.TheVariants.{IllegalWriteAccess, InvalidSize, LimitReached}
+use Rattle.per_base.specs.declared.errors.PerError.TheVariants.{OutOfStorageSpace}
 use Rattle.file_core.specs.declared.cursor.Cursor.{Cursor}
 use Rattle.file_core.specs.declared.room.Room.{Room}
 use Rattle.file_core.specs.Infos.{changed, opened}
@@ -71,7 +73,10 @@ written cursor file piece now room =
     let after = overwritten from piece bytes in
     refuse (not (writes cursor.kind)) IllegalWriteAccess
     (cond (length piece == 0) (Ok (cursor, file))
-    (refused_by (too_long room (length after)) (Ok (moved cursor (from + length piece), changed_to after now Application file))))
+    (refused_by (too_long room (length after)) (Ok (
+      moved cursor (from + length piece),
+      changed_to after now Application file,
+    ))))
 
 -- the content is cut to a size that it has
 abbrev pub cut : Cursor → Element → ℕ → ℕ → Result (Cursor × Element) PerError

@@ -1,5 +1,7 @@
 -- A place in a content: what reading gives there, where writing goes, and where moving leads.
-use Rattle.std.specs.Prelude.{ℕ, ◌+◌, min, List, length, take, drop, ◌++◌, Bool, true, false, cond, not, ◌&&◌, ◌||◌, ◌==◌, nat_lt, nat_le, position, Option, Some, None, Result, Ok, ℤ, pos, ◌+ℤ◌, int_le, unsigned_abs, slice_index}
+use Rattle.std.specs.Prelude.{ℕ, ◌+◌, min, List, length, take, drop, ◌++◌, Bool, true, false, cond, not, ◌&&◌, ◌||◌}
+use Rattle.std.specs.Prelude.{◌==◌, nat_lt, nat_le, position, Option, Some, None, Result, Ok, ℤ, pos, ◌+ℤ◌, int_le}
+use Rattle.std.specs.Prelude.{unsigned_abs, slice_index}
 use Rattle.per_base.specs.declared.errors.PerError.{PerError}
 use Rattle.per_base.specs.declared.errors.PerError.TheVariants.{IllegalReadAccess, IsEof, InvalidPosition}
 use Rattle.per_base.specs.declared.opening.OpenKind.{OpenKind}
@@ -73,7 +75,8 @@ abbrev pub next_delimiter : ℕ → List ℕ → Option ℕ
 next_delimiter delimiter rest = position (λ byte. byte == delimiter) rest
 
 abbrev pub read_line : Cursor → List ℕ → ℕ → Result (List ℕ × Cursor) PerError
-read_line cursor bytes delimiter = reading cursor bytes (λ rest. (before (next_delimiter delimiter rest) rest, advanced cursor (past (next_delimiter delimiter rest) rest)))
+read_line cursor bytes delimiter = reading cursor bytes
+    (λ rest. (before (next_delimiter delimiter rest) rest, advanced cursor (past (next_delimiter delimiter rest) rest)))
 
 -- where the next byte that is written goes
 abbrev pub write_place : Cursor → List ℕ → ℕ

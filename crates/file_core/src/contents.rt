@@ -1,6 +1,7 @@
 //! Changing a content in place.
 
-ghost use Rattle.std.specs.Prelude.{◌≡◌, ◌<◌, ◌≤◌, ◌+◌, length, take, List, ℕ, IfOk, IfSome, IfNone, IsTrue, OnOk, OnErr};
+ghost use Rattle.std.specs.Prelude.{◌≡◌, ◌<◌, ◌≤◌, ◌+◌, length, take, List, ℕ, IfOk, IfSome, IfNone, IsTrue, OnOk};
+ghost use Rattle.std.specs.Prelude.{OnErr};
 ghost use Rattle.file_core.specs.Files.{NoSalvage, bytes_of, is_good};
 ghost use Rattle.file_core.specs.Places.{overwritten};
 
@@ -46,7 +47,8 @@ pub fn truncate_content(content: &mut Content, size: usize)
 
 /// Makes the salvage of an unreadable content the content, and gives its length; none where there is no salvage.
 pub fn recover_content(content: &mut Content) -> Option<usize>
-    ensures recovered { IfSome result (λ len. (salvage : List ℕ) × (content.old ≡ Content.Bad (Some salvage)) × (content.new ≡ Content.Good salvage) × (len ≡ length salvage)) }
+    ensures recovered { IfSome result (λ len. (salvage : List ℕ) × (content.old ≡ Content.Bad (Some salvage))
+        × (content.new ≡ Content.Good salvage) × (len ≡ length salvage)) }
     ensures unchanged { IfNone result ((content.new ≡ content.old) × NoSalvage content.old) }
 {
     match mem::replace(content, Content::Bad(None)) {

@@ -30,7 +30,8 @@ pub fn is_bad_mode(kind: OpenKind, mode: OpenMode) -> bool
     both_ends || (!writes(kind) && changes)
 }
 
-/// A place in a content: the kind of the opening, whether each write goes to the end, and the position in bytes from the beginning.
+/// A place in a content: the kind of the opening, whether each write goes to the end, and the position in bytes from
+/// the beginning.
 #[derive(Clone, Copy, Debug)]
 pub struct Cursor {
     pub kind: OpenKind,
@@ -61,7 +62,9 @@ impl Cursor {
 
     /// What is left to read.
     ///
-    /// Errors: `IllegalReadAccess` for a kind that only writes; `IsEof` where nothing is left.
+    /// # Errors
+    ///
+    /// `IllegalReadAccess` for a kind that only writes; `IsEof` where nothing is left.
     fn rest<'a>(&self, bytes: &'a [u8]) -> Result<&'a [u8], PerError>
         ensures ok { IfOk result (λ rest. places.reading self.now bytes.now (λ left. left) ≡ Ok rest.now) }
         ensures some { IfOk result (λ rest. 1 ≤ length rest.now) }
@@ -78,7 +81,9 @@ impl Cursor {
 
     /// The next byte; the position stays. Takes no memory.
     ///
-    /// Errors: `IllegalReadAccess`, `IsEof`.
+    /// # Errors
+    ///
+    /// `IllegalReadAccess`, `IsEof`.
     pub fn peek_byte(&self, bytes: &[u8]) -> Result<u8, PerError>
         ensures ok { IfOk result (λ byte. places.peek_byte self.now bytes.now ≡ Ok byte) }
         ensures refused { IfErr result (λ error. places.peek_byte self.now bytes.now ≡ Err error) }
@@ -89,7 +94,9 @@ impl Cursor {
 
     /// The next byte, which the position passes. Takes no memory.
     ///
-    /// Errors: `IllegalReadAccess`, `IsEof`.
+    /// # Errors
+    ///
+    /// `IllegalReadAccess`, `IsEof`.
     pub fn get_byte(&mut self, bytes: &[u8]) -> Result<u8, PerError>
         ensures ok { IfOk result (λ byte. places.get_byte self.old bytes.now ≡ Ok (byte, self.new)) }
         ensures refused { IfErr result (λ error. places.get_byte self.old bytes.now ≡ Err error) }
@@ -105,11 +112,14 @@ impl Cursor {
 
     /// So many bytes, or the rest where fewer are left; the position passes them.
     ///
-    /// Errors: `IllegalReadAccess`, `IsEof`, also for a count of 0; `OutOfMemory`.
+    /// # Errors
+    ///
+    /// `IllegalReadAccess`, `IsEof`, also for a count of 0; `OutOfMemory`.
     pub fn read(&mut self, alloc: Global, bytes: &[u8], count: u64) -> Result<Vec<u8>, PerError>
         ensures ok { IfOk result (λ piece. places.read self.old bytes.now count ≡ Ok (piece.items, self.new)) }
         ensures refused { IfErr result (λ error. IsRefusal (places.read self.old bytes.now count) error) }
-        ensures memory { IfErr result (λ error. error ≡ PerError.OutOfMemory → IsDue (places.read self.old bytes.now count)) }
+        ensures memory { IfErr result (λ error. error ≡ PerError.OutOfMemory
+            → IsDue (places.read self.old bytes.now count)) }
         ensures unchanged { OnErr result (self.new ≡ self.old) }
         ensures inside { self.old.position ≤ length bytes.now → self.new.position ≤ length bytes.now }
         ensures kind { self.new.kind ≡ self.old.kind }
@@ -123,11 +133,14 @@ impl Cursor {
 
     /// The rest, which the position passes.
     ///
-    /// Errors: `IllegalReadAccess`, `IsEof`; `OutOfMemory`.
+    /// # Errors
+    ///
+    /// `IllegalReadAccess`, `IsEof`; `OutOfMemory`.
     pub fn read_all(&mut self, alloc: Global, bytes: &[u8]) -> Result<Vec<u8>, PerError>
         ensures ok { IfOk result (λ piece. places.read_all self.old bytes.now ≡ Ok (piece.items, self.new)) }
         ensures refused { IfErr result (λ error. IsRefusal (places.read_all self.old bytes.now) error) }
-        ensures memory { IfErr result (λ error. error ≡ PerError.OutOfMemory → IsDue (places.read_all self.old bytes.now)) }
+        ensures memory { IfErr result (λ error. error ≡ PerError.OutOfMemory
+            → IsDue (places.read_all self.old bytes.now)) }
         ensures unchanged { OnErr result (self.new ≡ self.old) }
         ensures inside { self.old.position ≤ length bytes.now → self.new.position ≤ length bytes.now }
         ensures kind { self.new.kind ≡ self.old.kind }
@@ -140,7 +153,9 @@ impl Cursor {
 
     /// The bytes before the next delimiter, which is passed and not returned, or the rest.
     ///
-    /// Errors: `IllegalReadAccess`, `IsEof`; `OutOfMemory`.
+    /// # Errors
+    ///
+    /// `IllegalReadAccess`, `IsEof`; `OutOfMemory`.
     pub fn read_line(
         &mut self,
         alloc: Global,
@@ -149,7 +164,8 @@ impl Cursor {
     ) -> Result<Vec<u8>, PerError>
         ensures ok { IfOk result (λ piece. places.read_line self.old bytes.now delimiter ≡ Ok (piece.items, self.new)) }
         ensures refused { IfErr result (λ error. IsRefusal (places.read_line self.old bytes.now delimiter) error) }
-        ensures memory { IfErr result (λ error. error ≡ PerError.OutOfMemory → IsDue (places.read_line self.old bytes.now delimiter)) }
+        ensures memory { IfErr result (λ error. error ≡ PerError.OutOfMemory
+            → IsDue (places.read_line self.old bytes.now delimiter)) }
         ensures unchanged { OnErr result (self.new ≡ self.old) }
         ensures inside { self.old.position ≤ length bytes.now → self.new.position ≤ length bytes.now }
         ensures kind { self.new.kind ≡ self.old.kind }
@@ -163,7 +179,9 @@ impl Cursor {
 
     /// Moves to this position in a content of this size. Takes no memory.
     ///
-    /// Errors: `InvalidPosition` where it is above the size.
+    /// # Errors
+    ///
+    /// `InvalidPosition` where it is above the size.
     pub fn set_position(&mut self, size: u64, position: u64) -> Result<(), PerError>
         ensures ok { OnOk result (places.set_position self.old size position ≡ Ok self.new) }
         ensures refused { IfErr result (λ error. places.set_position self.old size position ≡ Err error) }
@@ -180,7 +198,9 @@ impl Cursor {
 
     /// Moves by an offset from the origin in a content of this size, and gives the new position. Takes no memory.
     ///
-    /// Errors: `InvalidPosition` where it is not from 0 to the size.
+    /// # Errors
+    ///
+    /// `InvalidPosition` where it is not from 0 to the size.
     pub fn move_position(&mut self, size: u64, origin: Origin, offset: i64) -> Result<u64, PerError>
         ensures ok { IfOk result (λ at. places.move_position self.old size origin offset ≡ Ok (at, self.new)) }
         ensures refused { IfErr result (λ error. places.move_position self.old size origin offset ≡ Err error) }

@@ -2,7 +2,8 @@
 
 ghost use Rattle.std.specs.Prelude.{◌≡◌, ◌+◌, ◌<◌, ◌≤◌, ◌^◌, length, take, List, ℕ, IfOk, IfErr, IsTrue, OnOk, OnErr};
 ghost use Rattle.std.specs.Bool.{OnTrue, OnFalse};
-ghost use Rattle.file_core.specs.Files.{GrowsBy, IsFile, NoSalvage, bytes_of, changed_to, cut, file_of, is_good, opened_at, written};
+ghost use Rattle.file_core.specs.Files.{GrowsBy, IsFile, NoSalvage, bytes_of, changed_to, cut, file_of, is_good};
+ghost use Rattle.file_core.specs.Files.{opened_at, written};
 ghost use Rattle.file_core.specs.Places as places;
 ghost use Rattle.file_core.specs.Places.{overwritten};
 ghost use Rattle.file_core.specs.Refusals.{IsDue, IsRefusal};
@@ -119,7 +120,8 @@ impl File {
 
     /// Makes the salvage of an unreadable file its content, where there is a salvage. Takes no memory.
     pub fn recover(&mut self, now: u64) -> bool
-        ensures recovered { OnTrue result ((salvage : List ℕ) × (self.old.content ≡ Content.Bad (Some salvage)) × (self.new ≡ changed_to salvage now Cause.Recovery self.old)) }
+        ensures recovered { OnTrue result ((salvage : List ℕ) × (self.old.content ≡ Content.Bad (Some salvage))
+            × (self.new ≡ changed_to salvage now Cause.Recovery self.old)) }
         ensures unchanged { OnFalse result ((self.new ≡ self.old) × NoSalvage self.old.content) }
         ensures file { IsFile self.new }
     {
@@ -133,8 +135,10 @@ impl File {
 
     /// Writes the piece from the place of the cursor on, which then stands past it. An empty piece changes nothing.
     ///
-    /// Errors: `IllegalWriteAccess` for a kind that only reads; `LimitReached` with `FileBytes`; `OutOfStorageSpace`; `OutOfMemory`,
-    /// and this only where the piece reaches past the end.
+    /// # Errors
+    ///
+    /// `IllegalWriteAccess` for a kind that only reads; `LimitReached` with `FileBytes`; `OutOfStorageSpace`;
+    /// `OutOfMemory`, and this only where the piece reaches past the end.
     pub fn write(
         &mut self,
         cursor: &mut Cursor,
@@ -153,7 +157,8 @@ impl File {
         ensures within { room.others + self.old.len ≤ room.allowed → room.others + self.new.len ≤ room.allowed }
         ensures writer { OnOk result (IsTrue (places.writes cursor.old.kind)) }
         // Want of memory stands for no refusal, and comes only where the file grows.
-        ensures due { IfErr result (λ error. error ≡ PerError.OutOfMemory → IsDue (written cursor.old self.old piece.now now room)) }
+        ensures due { IfErr result (λ error. error ≡ PerError.OutOfMemory
+            → IsDue (written cursor.old self.old piece.now now room)) }
         ensures memory { IfErr result (λ error. error ≡ PerError.OutOfMemory → GrowsBy cursor.old self.old piece.now) }
     {
         if !writes(cursor.kind) {
@@ -177,7 +182,9 @@ impl File {
 
     /// Cuts the content to this size, and the position with it. Takes no memory.
     ///
-    /// Errors: `IllegalWriteAccess` for a kind that only reads; `InvalidSize` where it is above the size.
+    /// # Errors
+    ///
+    /// `IllegalWriteAccess` for a kind that only reads; `InvalidSize` where it is above the size.
     pub fn set_size(&mut self, cursor: &mut Cursor, size: u64, now: u64) -> Result<(), PerError>
         requires { IsTrue (is_good self.old.content) }
         ensures ok { OnOk result (cut cursor.old self.old size now ≡ Ok (cursor.new, self.new)) }
@@ -205,7 +212,8 @@ impl File {
         requires good { IsTrue (is_good self.old.content) }
         requires inside { from ≤ length (bytes_of self.old.content) }
         requires small { length (overwritten from piece.now (bytes_of self.old.content)) ≤ 1048576 }
-        ensures ok { OnOk result (self.new ≡ changed_to (overwritten from piece.now (bytes_of self.old.content)) now Cause.Application self.old) }
+        ensures ok { OnOk result (self.new ≡ changed_to (overwritten from piece.now (bytes_of self.old.content)) now
+            Cause.Application self.old) }
         ensures unchanged { OnErr result (self.new ≡ self.old) }
         ensures memory { OnErr result (length (bytes_of self.old.content) < from + length piece.now) }
     {

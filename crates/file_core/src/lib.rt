@@ -1,11 +1,12 @@
 //! One file and a place in it.
 //!
-//! A [`File`] is an element with an info whose length is that of its content, at most 1,048,576 bytes. A [`Cursor`] is a place in
-//! a content with what may be done there: reading bytes, lines and the rest, overwriting and extending, cutting, moving. Each call
-//! answers exactly by its definition, each error in its case and order, and a refused call changes nothing.
+//! A [`File`] is an element with an info whose length is that of its content, at most 1,048,576 bytes. A [`Cursor`] is
+//! a place in a content with what may be done there: reading bytes, lines and the rest, overwriting and extending,
+//! cutting, moving. Each call answers exactly by its definition, each error in its case and order, and a refused call
+//! changes nothing.
 //!
-//! The content is changed in place: reading, moving and writing a byte take no time that grows with the file, and a write inside
-//! a content copies no more than it writes. Cutting, moving, peeking and getting a byte take no memory.
+//! The content is changed in place: reading, moving and writing a byte take no time that grows with the file, and a
+//! write inside a content copies no more than it writes. Cutting, moving, peeking and getting a byte take no memory.
 #![tactic(auto)]
 
 mod contents;

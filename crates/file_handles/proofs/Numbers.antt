@@ -1,5 +1,6 @@
 -- The lowest free number: each number from 1 on below it has a handle, and it has none.
-use Rattle.std.proofs.Common.{◌≡◌, ◌==◌, ℕ, ◌<◌, ◌≤◌, ◌+◌, [], ◌∷◌, Bool, true, false, cond, refl, sym, ap, ◌∙◌, subst, arith, ⊎_elim}
+use Rattle.std.proofs.Common.{◌≡◌, ◌==◌, ℕ, ◌<◌, ◌≤◌, ◌+◌, [], ◌∷◌, Bool, true, false, cond, refl, sym, ap, ◌∙◌, subst}
+use Rattle.std.proofs.Common.{arith, ⊎_elim}
 use Rattle.std.specs.Prelude.{Some, None, IsSome, length, nat_lt, option_map, slice_get}
 use Rattle.std.specs.declared.cmp.Ordering.TheVariants.{Less, Equal, Greater}
 use Rattle.std.specs.Cmp.{nat_cmp_is}
@@ -20,7 +21,8 @@ misses false true p = absurd (cc)
 
 -- a number that is not the first one's is looked for among the others
 passed : (n : ℕ) (e : ℕ × Handle) (es : Handles) → (n ≡ e.0 → ⊥) → handle_at (e ∷ es) n ≡ handle_at es n
-passed n e es other = ap (λ b. cond b (Some e.1) (handle_at es n)) (misses (nat_lt n e.0) (n == e.0) (ne_eqb n e.0 other))
+passed n e es other = ap (λ b. cond b (Some e.1) (handle_at es n))
+    (misses (nat_lt n e.0) (n == e.0) (ne_eqb n e.0 other))
 
 found : (e : ℕ × Handle) (es : Handles) → handle_at (e ∷ es) e.0 ≡ Some e.1
 found e es = ap (λ b. cond b (Some e.1) (handle_at es e.0)) ((eq_by_cmp_equiv nat_cmp_total).refl e.0)
@@ -59,7 +61,8 @@ goes_on e es rest sorted free is = (
   omega (arith, is, rest.above),
   λ n from lt. ⊎_elim
       (λ same. subst (λ m. IsSome (handle_at (e ∷ es) m)) (sym same) (subst (λ o. IsSome o) (sym (found e es)) refl))
-      (λ differ. subst (λ o. IsSome o) (sym (passed n e es differ)) (rest.taken n (omega (arith, from, differ)) (omega (arith, lt, is))))
+      (λ differ. subst (λ o. IsSome o) (sym (passed n e es differ))
+      (rest.taken n (omega (arith, from, differ)) (omega (arith, lt, is))))
       (cases_eq n e.0),
   passed free e es (λ same. absurd (omega (arith, is, rest.above, same))) ∙ ap (handle_at es) is ∙ rest.free,
 )
@@ -71,7 +74,8 @@ behind e es sorted n handle at = ⊎_elim
     (λ ge. ge)
     (cases_lt n (e.0 + 1))
 
-hits : (from : ℕ) (e : ℕ × Handle) (es : Handles) → IsStrictlySortedBy nat_cmp (keys_of (e ∷ es)) → IsLowest (e.0 + 1) es → from ≡ e.0 → IsLowest from (e ∷ es)
+hits : (from : ℕ) (e : ℕ × Handle) (es : Handles) → IsStrictlySortedBy nat_cmp (keys_of (e ∷ es))
+    → IsLowest (e.0 + 1) es → from ≡ e.0 → IsLowest from (e ∷ es)
 hits from e es sorted rest same =
     let is : free_from from (e ∷ es) ≡ free_from (e.0 + 1) es =
     ap (λ b. cond b (free_from (from + 1) es) from) (eq-eqb from e.0 same) ∙ ap (λ m. free_from (m + 1) es) same in
@@ -82,9 +86,11 @@ hits from e es sorted rest same =
       free = on.2;
     }
 
-stops : (from : ℕ) (e : ℕ × Handle) (es : Handles) → IsStrictlySortedBy nat_cmp (keys_of (e ∷ es)) → from ≤ e.0 → (from ≡ e.0 → ⊥) → IsLowest from (e ∷ es)
+stops : (from : ℕ) (e : ℕ × Handle) (es : Handles) → IsStrictlySortedBy nat_cmp (keys_of (e ∷ es)) → from ≤ e.0
+    → (from ≡ e.0 → ⊥) → IsLowest from (e ∷ es)
 stops from e es sorted least differ =
-    let is : free_from from (e ∷ es) ≡ from = ap (λ b. cond b (free_from (from + 1) es) from) (ne_eqb from e.0 differ) in
+    let is : free_from from (e ∷ es) ≡ from = ap (λ b. cond b (free_from (from + 1) es) from) (ne_eqb from e.0 differ)
+    in
     record {
       above = omega (arith, is);
       taken = λ n le lt. absurd (omega (arith, is, le, lt));
@@ -92,13 +98,20 @@ stops from e es sorted least differ =
     }
 
 lowest_from : (from : ℕ) (es : Handles) → IsStrictlySortedBy nat_cmp (keys_of es) → From from es → IsLowest from es
-lowest_from from [] sorted all = record { above = omega arith; taken = λ n le lt. absurd (omega (arith, le, lt)); free = refl }
+lowest_from from [] sorted all = record {
+  above = omega arith;
+  taken = λ n le lt. absurd (omega (arith, le, lt));
+  free =
+      refl;
+}
 lowest_from from (e ∷ es) sorted all = ⊎_elim
-    (hits from e es sorted (lowest_from (e.0 + 1) es (sorted_tail nat_cmp e.0 (keys_of es) sorted) (behind e es sorted)))
+    (hits from e es sorted (lowest_from (e.0 + 1) es (sorted_tail nat_cmp e.0 (keys_of es) sorted)
+    (behind e es sorted)))
     (stops from e es sorted (all e.0 e.1 (found e es)))
     (cases_eq from e.0)
 
-pub one_or_more : (handles : Handles) → IsStrictlySortedBy nat_cmp (keys_of handles) → Numbered handles → 1 ≤ free_number handles
+pub one_or_more : (handles : Handles) → IsStrictlySortedBy nat_cmp (keys_of handles) → Numbered handles
+    → 1 ≤ free_number handles
 one_or_more handles sorted all = (lowest_from 1 handles sorted (λ n h at. (all n h at).0)).above
 
 pub lower_are_taken : (handles : Handles) → IsStrictlySortedBy nat_cmp (keys_of handles) → Numbered handles
@@ -114,7 +127,8 @@ pub free_from_few : (from : ℕ) (es : Handles) → free_from from es ≤ from +
 free_from_few from [] = omega arith
 free_from_few from (e ∷ es) = by (from == e.0) (free_from_few (from + 1) es)
   where
-    by : (b : Bool) → free_from (from + 1) es ≤ from + 1 + length es → cond b (free_from (from + 1) es) from ≤ from + length (e ∷ es)
+    by : (b : Bool) → free_from (from + 1) es ≤ from + 1 + length es
+        → cond b (free_from (from + 1) es) from ≤ from + length (e ∷ es)
     by true few = omega (arith, few)
     by false few = omega arith
 

@@ -31,7 +31,8 @@ info_or (Some info) = Ok info
 abbrev pub file_info : Map → List ℕ → Result FileInfo PerError
 file_info files name = found (element_at files name) (λ file. info_or file.info)
 
--- the refusals of each call that changes a file by its name, and what it makes of the file: any handle on it stands in the way
+-- the refusals of each call that changes a file by its name, and what it makes of the file: any handle on it stands in
+-- the way
 abbrev pub unless_held : {A : Type 0} → Storage → Session → List ℕ → (Element → Result A PerError) → Result A PerError
 unless_held storage s name call =
     refuse storage.read_only IllegalWriteAccess
@@ -43,7 +44,8 @@ delete_file storage s name = unless_held storage s name (λ file. Ok (record s {
 -- the session with this content under the name, where there is room for it
 abbrev pub with_content : Storage → Session → List ℕ → Element → Result Session PerError
 with_content storage s name file =
-    refused_by (too_long (room_for s.files name storage.maximum) file.len) (Ok (record s { files = with_element s.files name file }))
+    refused_by (too_long (room_for s.files name storage.maximum) file.len)
+    (Ok (record s { files = with_element s.files name file }))
 
 -- there is a salvage
 abbrev pub HasSalvage : Content → Type 0
@@ -71,12 +73,15 @@ TakesInitial (Some bytes) (Bad None) = Unit {0}
 -- a readable file stays; an unreadable one becomes its salvage, else its initial content, else it goes
 abbrev pub recovered : Storage → Session → List ℕ → ℕ → Option (List ℕ) → Element → Content → Result Session PerError
 recovered storage s name now initial file (Good bytes) = Ok s
-recovered storage s name now initial file (Bad (Some salvage)) = Ok (record s { files = with_element s.files name (changed_to salvage now Recovery file) })
-recovered storage s name now (Some bytes) file (Bad None) = with_content storage s name (changed_to bytes now Recovery file)
+recovered storage s name now initial file (Bad (Some salvage)) =
+    Ok (record s { files = with_element s.files name (changed_to salvage now Recovery file) })
+recovered storage s name now (Some bytes) file (Bad None) =
+    with_content storage s name (changed_to bytes now Recovery file)
 recovered storage s name now None file (Bad None) = Ok (record s { files = without s.files name })
 
 abbrev pub recover_file : Storage → Session → List ℕ → ℕ → Option (List ℕ) → Result Session PerError
-recover_file storage s name now initial = unless_held storage s name (λ file. recovered storage s name now initial file file.content)
+recover_file storage s name now initial = unless_held storage s name
+    (λ file. recovered storage s name now initial file file.content)
 
 -- the file with its initial content: made anew, or changed
 abbrev pub reset : ℕ → List ℕ → Option Element → Element

@@ -10,10 +10,12 @@ use Rattle.file_core.specs.Files as core
 use Rattle.file_core.specs.Places as places
 use Rattle.file_handles.specs.declared.handle.Handle.{Handle}
 use Rattle.file_handles.specs.declared.storage.Storage.{Storage}
-use Rattle.file_handles.specs.Sessions.{Session, open_at, with_cursor, with_handle, with_changed, without_handle, room_for}
+use Rattle.file_handles.specs.Sessions.{Session, open_at, with_cursor, with_handle, with_changed, without_handle}
+use Rattle.file_handles.specs.Sessions.{room_for}
 
 -- what is made of an open handle and its file; a number that no handle has is not open
-abbrev pub on_open : {A : Type 0} → Option (Handle × Element) → (Handle → Element → Result A PerError) → Result A PerError
+abbrev pub on_open : {A : Type 0} → Option (Handle × Element) → (Handle → Element → Result A PerError)
+    → Result A PerError
 on_open None call = Err NotOpen
 on_open (Some o) call = call o.0 o.1
 
@@ -29,19 +31,24 @@ abbrev pub peek_byte : Session → ℕ → Result ℕ PerError
 peek_byte s number = at_handle s number (λ handle file. places.peek_byte handle.cursor (core.bytes_of file.content))
 
 abbrev pub get_byte : Session → ℕ → Result (ℕ × Session) PerError
-get_byte s number = at_handle s number (λ handle file. moving s number handle (places.get_byte handle.cursor (core.bytes_of file.content)))
+get_byte s number = at_handle s number (λ handle file.
+    moving s number handle (places.get_byte handle.cursor (core.bytes_of file.content)))
 
 abbrev pub read : Session → ℕ → ℕ → Result (List ℕ × Session) PerError
-read s number count = at_handle s number (λ handle file. moving s number handle (places.read handle.cursor (core.bytes_of file.content) count))
+read s number count = at_handle s number (λ handle file.
+    moving s number handle (places.read handle.cursor (core.bytes_of file.content) count))
 
 abbrev pub read_all : Session → ℕ → Result (List ℕ × Session) PerError
-read_all s number = at_handle s number (λ handle file. moving s number handle (places.read_all handle.cursor (core.bytes_of file.content)))
+read_all s number = at_handle s number (λ handle file.
+    moving s number handle (places.read_all handle.cursor (core.bytes_of file.content)))
 
 abbrev pub read_line : Session → ℕ → ℕ → Result (List ℕ × Session) PerError
-read_line s number delimiter = at_handle s number (λ handle file. moving s number handle (places.read_line handle.cursor (core.bytes_of file.content) delimiter))
+read_line s number delimiter = at_handle s number (λ handle file.
+    moving s number handle (places.read_line handle.cursor (core.bytes_of file.content) delimiter))
 
 abbrev pub move_position : Session → ℕ → Origin → ℤ → Result (ℕ × Session) PerError
-move_position s number origin offset = at_handle s number (λ handle file. moving s number handle (places.move_position handle.cursor file.len origin offset))
+move_position s number origin offset = at_handle s number
+    (λ handle file. moving s number handle (places.move_position handle.cursor file.len origin offset))
 
 -- the session in which the handle has moved
 abbrev pub moved_to : Session → ℕ → Handle → Result Cursor PerError → Result Session PerError
@@ -49,7 +56,8 @@ moved_to s number handle (Ok cursor) = Ok (with_cursor s number handle cursor)
 moved_to s number handle (Err error) = Err error
 
 abbrev pub set_position : Session → ℕ → ℕ → Result Session PerError
-set_position s number position = at_handle s number (λ handle file. moved_to s number handle (places.set_position handle.cursor file.len position))
+set_position s number position = at_handle s number (λ handle file.
+    moved_to s number handle (places.set_position handle.cursor file.len position))
 
 abbrev pub size : Session → ℕ → Result ℕ PerError
 size s number = at_handle s number (λ handle file. Ok file.len)
@@ -62,12 +70,17 @@ is_eof s number = at_handle s number (λ handle file. Ok (places.is_eof handle.c
 
 -- the session in which the handle has moved and its file is another
 abbrev pub changing : Session → ℕ → Handle → Result (Cursor × Map) PerError → Result Session PerError
-changing s number handle (Ok new) = Ok (record { files = new.1; handles = with_handle s.handles number (record handle { cursor = new.0 }) })
+changing s number handle (Ok new) = Ok (record {
+  files = new.1;
+  handles =
+      with_handle s.handles number (record handle { cursor = new.0 });
+})
 changing s number handle (Err error) = Err error
 
 abbrev pub write : Storage → Session → ℕ → ℕ → List ℕ → Result Session PerError
 write storage s now number piece = at_handle s number (λ handle file.
-    changing s number handle (with_changed s.files handle.name (core.written handle.cursor file piece now (room_for s.files handle.name storage.maximum))))
+    changing s number handle (with_changed s.files handle.name
+    (core.written handle.cursor file piece now (room_for s.files handle.name storage.maximum))))
 
 -- the piece reaches past the end of the handle's file
 abbrev pub GrowsBy : Option (Handle × Element) → List ℕ → Type 0
@@ -75,7 +88,8 @@ GrowsBy None piece = ⊥
 GrowsBy (Some o) piece = core.GrowsBy o.0.cursor o.1 piece
 
 abbrev pub set_size : Session → ℕ → ℕ → ℕ → Result Session PerError
-set_size s now number size = at_handle s number (λ handle file. changing s number handle (with_changed s.files handle.name (core.cut handle.cursor file size now)))
+set_size s now number size = at_handle s number (λ handle file.
+    changing s number handle (with_changed s.files handle.name (core.cut handle.cursor file size now)))
 
 abbrev pub close : Session → ℕ → Result Session PerError
 close s number = at_handle s number (λ handle file. Ok (record s { handles = without_handle s.handles number }))

@@ -1,11 +1,14 @@
 -- The refusals of an opening in their order, and what an opening makes.
-use Rattle.std.specs.Prelude.{ℕ, ◌+◌, [], List, length, Bool, false, cond, not, ◌&&◌, nat_le, nat_lt, Option, Some, None, Result, Ok}
+use Rattle.std.specs.Prelude.{ℕ, ◌+◌, [], List, length, Bool, false, cond, not, ◌&&◌, nat_le, nat_lt, Option, Some}
+use Rattle.std.specs.Prelude.{None, Result, Ok}
 use Rattle.per_base.specs.declared.elements.Cause.TheVariants.{Application}
 use Rattle.per_base.specs.declared.elements.Element.{Element}
 use Rattle.per_base.specs.declared.errors.Holder.TheVariants as holder
 use Rattle.per_base.specs.declared.errors.Limit.TheVariants as limit
 use Rattle.per_base.specs.declared.errors.PerError.{PerError}
-use Rattle.per_base.specs.declared.errors.PerError.TheVariants.{InvalidOpenMode, IllegalWriteAccess, FileNotFound, IntegrityCorrupted, ResourceBusy, LimitReached, OutOfStorageSpace}
+use Rattle.per_base.specs.declared.errors.PerError.TheVariants.{InvalidOpenMode, IllegalWriteAccess, FileNotFound}
+use Rattle.per_base.specs.declared.errors.PerError.TheVariants.{IntegrityCorrupted, ResourceBusy, LimitReached}
+use Rattle.per_base.specs.declared.errors.PerError.TheVariants.{OutOfStorageSpace}
 use Rattle.per_base.specs.declared.errors.Unit.TheVariants.{Part}
 use Rattle.per_base.specs.declared.opening.OpenKind.{OpenKind}
 use Rattle.per_base.specs.declared.opening.OpenMode.{OpenMode}
@@ -51,7 +54,8 @@ can_open storage s name kind mode =
     (first (when (nat_le 64 (length s.handles)) (LimitReached limit.Handles))
     (too_many s.files name))))))
 
--- the file as an opening leaves it: made, emptied, or with the moment of the opening; a read-only storage keeps its files
+-- the file as an opening leaves it: made, emptied, or with the moment of the opening; a read-only storage keeps its
+-- files
 abbrev pub file_opened : Bool → OpenMode → ℕ → Option Element → Element
 file_opened read_only mode now None = file_of (Some (made now Application)) []
 file_opened read_only mode now (Some file) =
@@ -64,14 +68,16 @@ with_opened s name kind mode file = (
   free_number s.handles,
   record {
     files = with_element s.files name file;
-    handles = with_handle s.handles (free_number s.handles) (record { name = name; cursor = placed kind mode file.len });
+    handles = with_handle s.handles (free_number s.handles)
+        (record { name = name; cursor = placed kind mode file.len });
   },
 )
 
 -- an empty file of a name that is missing must find room
 abbrev pub no_room_to_create : Storage → Map → List ℕ → Option PerError
 no_room_to_create storage files name =
-    when (not (has files name) && nat_lt storage.maximum (size_of files + length name)) (OutOfStorageSpace (size_of files + length name) storage.maximum)
+    when (not (has files name) && nat_lt storage.maximum (size_of files + length name))
+    (OutOfStorageSpace (size_of files + length name) storage.maximum)
 
 abbrev pub open_file : Storage → Session → List ℕ → OpenKind → OpenMode → ℕ → Result (ℕ × Session) PerError
 open_file storage s name kind mode now =

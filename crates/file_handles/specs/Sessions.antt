@@ -1,5 +1,7 @@
--- A session of files: the working files by name, and the handles on them by number, each a finite map as a list of pairs in order.
-use Rattle.std.specs.Prelude.{◌≡◌, ℕ, ◌≤◌, ◌+◌, ◌-◌, List, [], ◌∷◌, length, Bool, false, cond, ◌&&◌, ◌||◌, ◌==◌, Option, Some, None, option_map, find, IsTrue, Result, Ok, Err}
+-- A session of files: the working files by name, and the handles on them by number, each a finite map as a list of
+-- pairs in order.
+use Rattle.std.specs.Prelude.{◌≡◌, ℕ, ◌≤◌, ◌+◌, ◌-◌, List, [], ◌∷◌, length, Bool, false, cond, ◌&&◌, ◌||◌, ◌==◌, Option}
+use Rattle.std.specs.Prelude.{Some, None, option_map, find, IsTrue, Result, Ok, Err}
 use Rattle.std.specs.BTreeMap.{insert_entry, is_at}
 use Rattle.std.specs.Map.{lookup, remove_entry}
 use Rattle.std.specs.Ordering.{nat_cmp}
@@ -75,7 +77,8 @@ IsFileAt (Some file) = IsFile file
 
 -- the files of all other names are as they were
 abbrev pub SameBeside : Map → Map → List ℕ → Type 0
-SameBeside files later name = (other : List ℕ) → is_at (name_cmp name) other ≡ false → element_at later other ≡ element_at files other
+SameBeside files later name = (other : List ℕ) → is_at (name_cmp name) other ≡ false
+    → element_at later other ≡ element_at files other
 
 -- the handle of this number with its file
 abbrev pub open_at : Session → ℕ → Option (Handle × Element)
@@ -83,7 +86,10 @@ open_at s number = with_file s.files (handle_at s.handles number)
 
 -- the session with the handle at another place
 abbrev pub with_cursor : Session → ℕ → Handle → Cursor → Session
-with_cursor s number handle cursor = record s { handles = with_handle s.handles number (record handle { cursor = cursor }) }
+with_cursor s number handle cursor = record s {
+  handles =
+      with_handle s.handles number (record handle { cursor = cursor });
+}
 
 -- what all else takes beside the content of this name
 abbrev pub others : Map → List ℕ → Option Element → ℕ

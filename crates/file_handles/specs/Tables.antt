@@ -17,21 +17,26 @@ pub record Table : Type 0 where
 
 -- each handle has its file, which is readable, and its position lies in it
 abbrev pub Held : Map → Handles → Type 0
-Held files handles = (number : ℕ) (handle : Handle) → handle_at handles number ≡ Some handle → IsHeldAt (element_at files handle.name) handle.cursor.position
+Held files handles = (number : ℕ) (handle : Handle) → handle_at handles number ≡ Some handle
+    → IsHeldAt (element_at files handle.name) handle.cursor.position
 
 -- a handle that writes is alone with its file
 abbrev pub Alone : Handles → Type 0
-Alone handles = (number other : ℕ) (writer rival : Handle) → handle_at handles number ≡ Some writer → handle_at handles other ≡ Some rival → IsTrue (writes writer.cursor.kind) → rival.name ≡ writer.name → other ≡ number
+Alone handles = (number other : ℕ) (writer rival : Handle) → handle_at handles number ≡ Some writer
+    → handle_at handles other ≡ Some rival → IsTrue (writes writer.cursor.kind) → rival.name ≡ writer.name
+    → other ≡ number
 
 -- numbers are counted from 1 to 64
 abbrev pub Numbered : Handles → Type 0
-Numbered handles = (number : ℕ) (handle : Handle) → handle_at handles number ≡ Some handle → (1 ≤ number) × (number ≤ 64)
+Numbered handles = (number : ℕ) (handle : Handle) → handle_at handles number ≡ Some handle
+    → (1 ≤ number) × (number ≤ 64)
 
 -- each element is a file
 abbrev pub AreFiles : Map → Type 0
 AreFiles files = (name : List ℕ) → IsFileAt (element_at files name)
 
--- both maps are in order and within their limits, the files never take more than they are allowed, and the handles are sound
+-- both maps are in order and within their limits, the files never take more than they are allowed, and the handles are
+-- sound
 pub record IsTable (storage : Storage) (files : Map) (handles : Handles) : Type 0 where
   pub allowed : storage.maximum ≤ 4194304
   pub names : IsStrictlySortedBy name_cmp (keys_of files)

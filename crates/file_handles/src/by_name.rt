@@ -13,7 +13,9 @@ use std::collections::BTreeMap;
 impl FileTable {
     /// The length of the file of this name in bytes, also of an unreadable one. Takes no memory.
     ///
-    /// Errors: `FileNotFound`.
+    /// # Errors
+    ///
+    /// `FileNotFound`.
     pub fn current_file_size(&self, name: &Name) -> Result<u64, PerError>
         ensures ok { IfOk result (λ size. calls.current_file_size self.now.session.files name.now ≡ Ok size) }
         ensures refused { IfErr result (λ error. calls.current_file_size self.now.session.files name.now ≡ Err error) }
@@ -26,7 +28,9 @@ impl FileTable {
 
     /// The info of the file of this name, also of an unreadable one. Takes no memory.
     ///
-    /// Errors: `FileNotFound`.
+    /// # Errors
+    ///
+    /// `FileNotFound`.
     pub fn file_info(&self, name: &Name) -> Result<FileInfo, PerError>
         ensures ok { IfOk result (λ info. calls.file_info self.now.session.files name.now ≡ Ok info) }
         ensures refused { IfErr result (λ error. calls.file_info self.now.session.files name.now ≡ Err error) }
@@ -39,7 +43,9 @@ impl FileTable {
 
     /// The names of all files, ascending.
     ///
-    /// Errors: `OutOfMemory`.
+    /// # Errors
+    ///
+    /// `OutOfMemory`.
     pub fn all_file_names(&self) -> Result<Vec<Name>, PerError>
         ensures names { IfOk result (λ names. names.items ≡ names_of self.now.session.files) }
         ensures memory { IfErr result (λ error. error ≡ PerError.OutOfMemory) }
@@ -49,10 +55,13 @@ impl FileTable {
 
     /// Takes the file of this name away.
     ///
-    /// Errors: `IllegalWriteAccess` where the storage is read-only; `FileNotFound`; `ResourceBusy` where it has a handle.
+    /// # Errors
+    ///
+    /// `IllegalWriteAccess` where the storage is read-only; `FileNotFound`; `ResourceBusy` where it has a handle.
     pub fn delete_file(&mut self, name: &Name) -> Result<(), PerError>
         ensures ok { OnOk result (calls.delete_file self.old.storage self.old.session name.now ≡ Ok self.new.session) }
-        ensures refused { IfErr result (λ error. calls.delete_file self.old.storage self.old.session name.now ≡ Err error) }
+        ensures refused { IfErr result (λ error. calls.delete_file self.old.storage self.old.session name.now
+            ≡ Err error) }
         ensures unchanged { OnErr result (self.new ≡ self.old) }
         ensures storage { self.new.storage ≡ self.old.storage }
         ensures moment { self.new.moment ≡ self.old.moment }

@@ -11,16 +11,22 @@ use file_core::Room;
 use per_base::PerError;
 
 impl FileTable {
-    /// Writes the piece: it overwrites and extends from the position, or with Append from the size, and the position is then past
-    /// it. An empty piece changes nothing.
+    /// Writes the piece: it overwrites and extends from the position, or with Append from the size, and the position is
+    /// then past it. An empty piece changes nothing.
     ///
-    /// Errors: `NotOpen`; `IllegalWriteAccess` for kind Read; `LimitReached` with `FileBytes`; `OutOfStorageSpace`; `OutOfMemory`,
-    /// and this only where the piece reaches past the end of the file.
+    /// # Errors
+    ///
+    /// `NotOpen`; `IllegalWriteAccess` for kind Read; `LimitReached` with `FileBytes`; `OutOfStorageSpace`;
+    /// `OutOfMemory`, and this only where the piece reaches past the end of the file.
     pub fn write(&mut self, number: u32, piece: &[u8]) -> Result<(), PerError>
-        ensures ok { OnOk result (calls.write self.old.storage self.old.session self.old.moment number piece.now ≡ Ok self.new.session) }
-        ensures refused { IfErr result (λ error. IsRefusal (calls.write self.old.storage self.old.session self.old.moment number piece.now) error) }
-        ensures due { IfErr result (λ error. error ≡ PerError.OutOfMemory → IsDue (calls.write self.old.storage self.old.session self.old.moment number piece.now)) }
-        ensures memory { IfErr result (λ error. error ≡ PerError.OutOfMemory → calls.GrowsBy (open_at self.old.session number) piece.now) }
+        ensures ok { OnOk result (calls.write self.old.storage self.old.session self.old.moment number piece.now
+            ≡ Ok self.new.session) }
+        ensures refused { IfErr result (λ error. IsRefusal
+            (calls.write self.old.storage self.old.session self.old.moment number piece.now) error) }
+        ensures due { IfErr result (λ error. error ≡ PerError.OutOfMemory
+            → IsDue (calls.write self.old.storage self.old.session self.old.moment number piece.now)) }
+        ensures memory { IfErr result (λ error. error ≡ PerError.OutOfMemory
+            → calls.GrowsBy (open_at self.old.session number) piece.now) }
         ensures unchanged { OnErr result (self.new ≡ self.old) }
         ensures storage { self.new.storage ≡ self.old.storage }
         ensures moment { self.new.moment ≡ self.old.moment }
@@ -53,10 +59,13 @@ impl FileTable {
 
     /// Cuts the file to this size; a position beyond becomes the size. Takes no memory.
     ///
-    /// Errors: `NotOpen`; `IllegalWriteAccess` for kind Read; `InvalidSize` where it is above the file's size.
+    /// # Errors
+    ///
+    /// `NotOpen`; `IllegalWriteAccess` for kind Read; `InvalidSize` where it is above the file's size.
     pub fn set_size(&mut self, number: u32, size: u64) -> Result<(), PerError>
         ensures ok { OnOk result (calls.set_size self.old.session self.old.moment number size ≡ Ok self.new.session) }
-        ensures refused { IfErr result (λ error. calls.set_size self.old.session self.old.moment number size ≡ Err error) }
+        ensures refused { IfErr result (λ error. calls.set_size self.old.session self.old.moment number size
+            ≡ Err error) }
         ensures unchanged { OnErr result (self.new ≡ self.old) }
         ensures storage { self.new.storage ≡ self.old.storage }
         ensures moment { self.new.moment ≡ self.old.moment }
@@ -84,7 +93,9 @@ impl FileTable {
 
     /// Releases the handle; the content of its file stays. Takes no memory.
     ///
-    /// Errors: `NotOpen`.
+    /// # Errors
+    ///
+    /// `NotOpen`.
     pub fn close(&mut self, number: u32) -> Result<(), PerError>
         ensures ok { OnOk result (calls.close self.old.session number ≡ Ok self.new.session) }
         ensures refused { IfErr result (λ error. calls.close self.old.session number ≡ Err error) }

@@ -15,11 +15,15 @@ use std::alloc::Global;
 impl FileTable {
     /// The whole content of a file.
     ///
-    /// Errors: those of an opening for reading with no flag; `OutOfMemory`.
+    /// # Errors
+    ///
+    /// Those of an opening for reading with no flag; `OutOfMemory`.
     pub fn whole_content(&mut self, name: &Name, now: u64) -> Result<Vec<u8>, PerError>
-        ensures ok { IfOk result (λ content. cat self.old.storage self.old.session name.now now ≡ Ok (content.items, self.new.session)) }
+        ensures ok { IfOk result (λ content. cat self.old.storage self.old.session name.now now
+            ≡ Ok (content.items, self.new.session)) }
         ensures refused { IfErr result (λ error. IsRefusal (cat self.old.storage self.old.session name.now now) error) }
-        ensures memory { IfErr result (λ error. error ≡ PerError.OutOfMemory → NeedsMemory (cat self.old.storage self.old.session name.now now)) }
+        ensures memory { IfErr result (λ error. error ≡ PerError.OutOfMemory
+            → NeedsMemory (cat self.old.storage self.old.session name.now now)) }
         ensures unchanged { OnErr result (self.new ≡ self.old) }
         ensures storage { self.new.storage ≡ self.old.storage }
         ensures moment { OnOk result (self.new.moment ≡ now) }
@@ -34,14 +38,18 @@ impl FileTable {
         Ok(content)
     }
 
-    /// Makes these bytes the content of a file, which is made where it is missing. Whether it may be opened and whether they fit is
-    /// asked first, and they are copied before anything changes.
+    /// Makes these bytes the content of a file, which is made where it is missing. Whether it may be opened and whether
+    /// they fit is asked first, and they are copied before anything changes.
     ///
-    /// Errors: those of an opening for writing with the flag that truncates; those of `would_fit`; `OutOfMemory`.
+    /// # Errors
+    ///
+    /// Those of an opening for writing with the flag that truncates; those of `would_fit`; `OutOfMemory`.
     pub fn replace(&mut self, name: &Name, bytes: &[u8], now: u64) -> Result<(), PerError>
         ensures ok { OnOk result (put self.old.storage self.old.session name.now bytes.now now ≡ Ok self.new.session) }
-        ensures refused { IfErr result (λ error. IsRefusal (put self.old.storage self.old.session name.now bytes.now now) error) }
-        ensures memory { IfErr result (λ error. error ≡ PerError.OutOfMemory → NeedsMemory (put self.old.storage self.old.session name.now bytes.now now)) }
+        ensures refused { IfErr result (λ error. IsRefusal
+            (put self.old.storage self.old.session name.now bytes.now now) error) }
+        ensures memory { IfErr result (λ error. error ≡ PerError.OutOfMemory
+            → NeedsMemory (put self.old.storage self.old.session name.now bytes.now now)) }
         ensures unchanged { OnErr result (self.new ≡ self.old) }
         ensures storage { self.new.storage ≡ self.old.storage }
         ensures moment { OnOk result (self.new.moment ≡ now) }

@@ -10,7 +10,9 @@ use per_base::{Origin, PerError};
 impl FileTable {
     /// The next byte of the handle's file; the position stays. Takes no memory.
     ///
-    /// Errors: `NotOpen`, `IllegalReadAccess`, `IsEof`.
+    /// # Errors
+    ///
+    /// `NotOpen`, `IllegalReadAccess`, `IsEof`.
     pub fn peek_byte(&self, number: u32) -> Result<u8, PerError>
         ensures ok { IfOk result (λ byte. calls.peek_byte self.now.session number ≡ Ok byte) }
         ensures refused { IfErr result (λ error. calls.peek_byte self.now.session number ≡ Err error) }
@@ -23,7 +25,9 @@ impl FileTable {
 
     /// The next byte, which the position passes. Takes no memory.
     ///
-    /// Errors: `NotOpen`, `IllegalReadAccess`, `IsEof`.
+    /// # Errors
+    ///
+    /// `NotOpen`, `IllegalReadAccess`, `IsEof`.
     pub fn get_byte(&mut self, number: u32) -> Result<u8, PerError>
         ensures ok { IfOk result (λ byte. calls.get_byte self.old.session number ≡ Ok (byte, self.new.session)) }
         ensures refused { IfErr result (λ error. calls.get_byte self.old.session number ≡ Err error) }
@@ -42,11 +46,15 @@ impl FileTable {
 
     /// So many bytes, or the rest where fewer are left; the position passes them.
     ///
-    /// Errors: `NotOpen`, `IllegalReadAccess`, `IsEof`, also for a count of 0; `OutOfMemory`.
+    /// # Errors
+    ///
+    /// `NotOpen`, `IllegalReadAccess`, `IsEof`, also for a count of 0; `OutOfMemory`.
     pub fn read(&mut self, number: u32, count: u64) -> Result<Vec<u8>, PerError>
-        ensures ok { IfOk result (λ piece. calls.read self.old.session number count ≡ Ok (piece.items, self.new.session)) }
+        ensures ok { IfOk result (λ piece. calls.read self.old.session number count
+            ≡ Ok (piece.items, self.new.session)) }
         ensures refused { IfErr result (λ error. IsRefusal (calls.read self.old.session number count) error) }
-        ensures memory { IfErr result (λ error. error ≡ PerError.OutOfMemory → IsDue (calls.read self.old.session number count)) }
+        ensures memory { IfErr result (λ error. error ≡ PerError.OutOfMemory
+            → IsDue (calls.read self.old.session number count)) }
         ensures unchanged { OnErr result (self.new ≡ self.old) }
         ensures storage { self.new.storage ≡ self.old.storage }
         ensures moment { self.new.moment ≡ self.old.moment }
@@ -63,11 +71,15 @@ impl FileTable {
 
     /// The rest, which the position passes.
     ///
-    /// Errors: `NotOpen`, `IllegalReadAccess`, `IsEof`; `OutOfMemory`.
+    /// # Errors
+    ///
+    /// `NotOpen`, `IllegalReadAccess`, `IsEof`; `OutOfMemory`.
     pub fn read_all(&mut self, number: u32) -> Result<Vec<u8>, PerError>
-        ensures ok { IfOk result (λ piece. calls.read_all self.old.session number ≡ Ok (piece.items, self.new.session)) }
+        ensures ok { IfOk result (λ piece. calls.read_all self.old.session number
+            ≡ Ok (piece.items, self.new.session)) }
         ensures refused { IfErr result (λ error. IsRefusal (calls.read_all self.old.session number) error) }
-        ensures memory { IfErr result (λ error. error ≡ PerError.OutOfMemory → IsDue (calls.read_all self.old.session number)) }
+        ensures memory { IfErr result (λ error. error ≡ PerError.OutOfMemory
+            → IsDue (calls.read_all self.old.session number)) }
         ensures unchanged { OnErr result (self.new ≡ self.old) }
         ensures storage { self.new.storage ≡ self.old.storage }
         ensures moment { self.new.moment ≡ self.old.moment }
@@ -84,11 +96,15 @@ impl FileTable {
 
     /// The bytes before the next delimiter, which is passed and not returned, or the rest.
     ///
-    /// Errors: `NotOpen`, `IllegalReadAccess`, `IsEof`; `OutOfMemory`.
+    /// # Errors
+    ///
+    /// `NotOpen`, `IllegalReadAccess`, `IsEof`; `OutOfMemory`.
     pub fn read_line(&mut self, number: u32, delimiter: u8) -> Result<Vec<u8>, PerError>
-        ensures ok { IfOk result (λ piece. calls.read_line self.old.session number delimiter ≡ Ok (piece.items, self.new.session)) }
+        ensures ok { IfOk result (λ piece. calls.read_line self.old.session number delimiter
+            ≡ Ok (piece.items, self.new.session)) }
         ensures refused { IfErr result (λ error. IsRefusal (calls.read_line self.old.session number delimiter) error) }
-        ensures memory { IfErr result (λ error. error ≡ PerError.OutOfMemory → IsDue (calls.read_line self.old.session number delimiter)) }
+        ensures memory { IfErr result (λ error. error ≡ PerError.OutOfMemory
+            → IsDue (calls.read_line self.old.session number delimiter)) }
         ensures unchanged { OnErr result (self.new ≡ self.old) }
         ensures storage { self.new.storage ≡ self.old.storage }
         ensures moment { self.new.moment ≡ self.old.moment }
@@ -105,7 +121,9 @@ impl FileTable {
 
     /// The size of the handle's file in bytes. Takes no memory.
     ///
-    /// Errors: `NotOpen`.
+    /// # Errors
+    ///
+    /// `NotOpen`.
     pub fn size(&self, number: u32) -> Result<u64, PerError>
         ensures ok { IfOk result (λ size. calls.size self.now.session number ≡ Ok size) }
         ensures refused { IfErr result (λ error. calls.size self.now.session number ≡ Err error) }
@@ -118,7 +136,9 @@ impl FileTable {
 
     /// The position of the handle. Takes no memory.
     ///
-    /// Errors: `NotOpen`.
+    /// # Errors
+    ///
+    /// `NotOpen`.
     pub fn position(&self, number: u32) -> Result<u64, PerError>
         ensures ok { IfOk result (λ position. calls.position self.now.session number ≡ Ok position) }
         ensures refused { IfErr result (λ error. calls.position self.now.session number ≡ Err error) }
@@ -131,7 +151,9 @@ impl FileTable {
 
     /// Whether the position is the size. Takes no memory.
     ///
-    /// Errors: `NotOpen`.
+    /// # Errors
+    ///
+    /// `NotOpen`.
     pub fn is_eof(&self, number: u32) -> Result<bool, PerError>
         ensures ok { IfOk result (λ is. calls.is_eof self.now.session number ≡ Ok is) }
         ensures refused { IfErr result (λ error. calls.is_eof self.now.session number ≡ Err error) }
@@ -144,7 +166,9 @@ impl FileTable {
 
     /// Moves the handle to this position. Takes no memory.
     ///
-    /// Errors: `NotOpen`; `InvalidPosition` where it is above the size.
+    /// # Errors
+    ///
+    /// `NotOpen`; `InvalidPosition` where it is above the size.
     pub fn set_position(&mut self, number: u32, position: u64) -> Result<(), PerError>
         ensures ok { OnOk result (calls.set_position self.old.session number position ≡ Ok self.new.session) }
         ensures refused { IfErr result (λ error. calls.set_position self.old.session number position ≡ Err error) }
@@ -163,15 +187,19 @@ impl FileTable {
 
     /// Moves the handle by an offset from the origin, and gives the new position. Takes no memory.
     ///
-    /// Errors: `NotOpen`; `InvalidPosition` where it is not from 0 to the size.
+    /// # Errors
+    ///
+    /// `NotOpen`; `InvalidPosition` where it is not from 0 to the size.
     pub fn move_position(
         &mut self,
         number: u32,
         origin: Origin,
         offset: i64,
     ) -> Result<u64, PerError>
-        ensures ok { IfOk result (λ at. calls.move_position self.old.session number origin offset ≡ Ok (at, self.new.session)) }
-        ensures refused { IfErr result (λ error. calls.move_position self.old.session number origin offset ≡ Err error) }
+        ensures ok { IfOk result (λ at. calls.move_position self.old.session number origin offset
+            ≡ Ok (at, self.new.session)) }
+        ensures refused { IfErr result (λ error. calls.move_position self.old.session number origin offset
+            ≡ Err error) }
         ensures unchanged { OnErr result (self.new ≡ self.old) }
         ensures storage { self.new.storage ≡ self.old.storage }
         ensures moment { self.new.moment ≡ self.old.moment }

@@ -1,11 +1,13 @@
 //! The working files of an open file storage, and the table of up to 64 handles on them.
 //!
-//! A [`FileTable`] holds the files as they are now, by name, and the open handles, by number. A new handle gets the lowest free
-//! number from 1. Each call answers exactly by its definition: every refusal in its order with what it carries, a busy file by the
-//! lowest handle that stands in the way, and a refused call changes nothing. A writer is alone with its file; readers share one.
+//! A [`FileTable`] holds the files as they are now, by name, and the open handles, by number. A new handle gets the
+//! lowest free number from 1. Each call answers exactly by its definition: every refusal in its order with what it
+//! carries, a busy file by the lowest handle that stands in the way, and a refused call changes nothing. A writer is
+//! alone with its file; readers share one.
 //!
-//! The files are the table's own, apart from those on the disk: cutting a file takes no memory, and neither do the other calls
-//! that only look, move or close. At most 1,024 files stand, and they never take more than the storage is allowed.
+//! The files are the table's own, apart from those on the disk: cutting a file takes no memory, and neither do the
+//! other calls that only look, move or close. At most 1,024 files stand, and they never take more than the storage is
+//! allowed.
 #![tactic(auto)]
 
 mod by_name;

@@ -1,6 +1,7 @@
 //! Changing one entry of a map in place.
 
-ghost use Rattle.std.specs.Prelude.{◌≡◌, [], ℕ, ◌+◌, ◌≤◌, ◌^◌, length, None, Some, IsSome, IsTrue, IfErr, IfOk, OnErr, OnOk, Ok, Err};
+ghost use Rattle.std.specs.Prelude.{◌≡◌, [], ℕ, ◌+◌, ◌≤◌, ◌^◌, length, None, Some, IsSome, IsTrue, IfErr, IfOk, OnErr};
+ghost use Rattle.std.specs.Prelude.{OnOk, Ok, Err};
 ghost use Rattle.std.specs.List.Sorted.{IsStrictlySortedBy};
 ghost use Rattle.std.specs.Map.{keys_of};
 ghost use Rattle.std.specs.Ordering.{nat_cmp};
@@ -26,7 +27,8 @@ use std::collections::BTreeMap;
 #[tactic(auto, using(crate::proofs::Entries::handle_set))]
 pub fn set_cursor(handles: &mut BTreeMap<u32, Handle>, number: u32, cursor: Cursor)
     requires { IsSome (handle_at handles.old.entries number) }
-    ensures moved { (handle : Handle) → handle_at handles.old.entries number ≡ Some handle → handles.new.entries ≡ with_handle handles.old.entries number (record handle { cursor = cursor }) }
+    ensures moved { (handle : Handle) → handle_at handles.old.entries number ≡ Some handle
+        → handles.new.entries ≡ with_handle handles.old.entries number (record handle { cursor = cursor }) }
     ensures keys { keys_of handles.new.entries ≡ keys_of handles.old.entries }
 {
     if let Some(handle) = handles.get_mut(&number) {
@@ -58,18 +60,25 @@ pub fn write_file(
 ) -> Result<u32, PerError>
     requires held { IsHeldAt (element_at files.old.entries name.now) cursor.old.position }
     requires bounded { room.others ≤ 2 ^ 32 }
-    ensures ok { OnOk result ((old : Element) → element_at files.old.entries name.now ≡ Some old → with_changed files.old.entries name.now (core.written cursor.old old piece.now now room) ≡ Ok (cursor.new, files.new.entries)) }
-    ensures refused { IfErr result (λ error. (old : Element) → element_at files.old.entries name.now ≡ Some old → IsRefusal (core.written cursor.old old piece.now now room) error) }
+    ensures ok { OnOk result ((old : Element) → element_at files.old.entries name.now ≡ Some old
+        → with_changed files.old.entries name.now (core.written cursor.old old piece.now now room)
+        ≡ Ok (cursor.new, files.new.entries)) }
+    ensures refused { IfErr result (λ error. (old : Element) → element_at files.old.entries name.now ≡ Some old
+        → IsRefusal (core.written cursor.old old piece.now now room) error) }
     ensures unchanged { OnErr result ((files.new.entries ≡ files.old.entries) × (cursor.new ≡ cursor.old)) }
     ensures keys { keys_of files.new.entries ≡ keys_of files.old.entries }
     ensures beside { SameBeside files.old.entries files.new.entries name.now }
-    ensures size { IfOk result (λ len. (old : Element) → element_at files.old.entries name.now ≡ Some old → size_of files.new.entries + old.len ≡ size_of files.old.entries + len) }
-    ensures within { IfOk result (λ len. (old : Element) → element_at files.old.entries name.now ≡ Some old → room.others + old.len ≤ room.allowed → room.others + len ≤ room.allowed) }
+    ensures size { IfOk result (λ len. (old : Element) → element_at files.old.entries name.now ≡ Some old
+        → size_of files.new.entries + old.len ≡ size_of files.old.entries + len) }
+    ensures within { IfOk result (λ len. (old : Element) → element_at files.old.entries name.now ≡ Some old
+        → room.others + old.len ≤ room.allowed → room.others + len ≤ room.allowed) }
     ensures held { OnOk result (IsHeldAt (element_at files.new.entries name.now) cursor.new.position) }
     ensures writer { OnOk result (IsTrue (writes cursor.old.kind) × (cursor.new.kind ≡ cursor.old.kind)) }
     ensures file { OnOk result (IsFileAt (element_at files.new.entries name.now)) }
-    ensures due { IfErr result (λ error. error ≡ PerError.OutOfMemory → (old : Element) → element_at files.old.entries name.now ≡ Some old → IsDue (core.written cursor.old old piece.now now room)) }
-    ensures memory { IfErr result (λ error. error ≡ PerError.OutOfMemory → (old : Element) → element_at files.old.entries name.now ≡ Some old → core.GrowsBy cursor.old old piece.now) }
+    ensures due { IfErr result (λ error. error ≡ PerError.OutOfMemory → (old : Element)
+        → element_at files.old.entries name.now ≡ Some old → IsDue (core.written cursor.old old piece.now now room)) }
+    ensures memory { IfErr result (λ error. error ≡ PerError.OutOfMemory → (old : Element)
+        → element_at files.old.entries name.now ≡ Some old → core.GrowsBy cursor.old old piece.now) }
 {
     match files.get_mut(name) {
         Some(file) => {
@@ -90,13 +99,18 @@ pub fn cut_file(
     now: u64,
 ) -> Result<u32, PerError>
     requires { IsHeldAt (element_at files.old.entries name.now) cursor.old.position }
-    ensures ok { OnOk result ((old : Element) → element_at files.old.entries name.now ≡ Some old → with_changed files.old.entries name.now (core.cut cursor.old old size now) ≡ Ok (cursor.new, files.new.entries)) }
-    ensures refused { IfErr result (λ error. (old : Element) → element_at files.old.entries name.now ≡ Some old → core.cut cursor.old old size now ≡ Err error) }
+    ensures ok { OnOk result ((old : Element) → element_at files.old.entries name.now ≡ Some old
+        → with_changed files.old.entries name.now (core.cut cursor.old old size now)
+        ≡ Ok (cursor.new, files.new.entries)) }
+    ensures refused { IfErr result (λ error. (old : Element) → element_at files.old.entries name.now ≡ Some old
+        → core.cut cursor.old old size now ≡ Err error) }
     ensures unchanged { OnErr result ((files.new.entries ≡ files.old.entries) × (cursor.new ≡ cursor.old)) }
     ensures keys { keys_of files.new.entries ≡ keys_of files.old.entries }
     ensures beside { SameBeside files.old.entries files.new.entries name.now }
-    ensures size { IfOk result (λ len. (old : Element) → element_at files.old.entries name.now ≡ Some old → size_of files.new.entries + old.len ≡ size_of files.old.entries + len) }
-    ensures smaller { IfOk result (λ len. (old : Element) → element_at files.old.entries name.now ≡ Some old → len ≤ old.len) }
+    ensures size { IfOk result (λ len. (old : Element) → element_at files.old.entries name.now ≡ Some old
+        → size_of files.new.entries + old.len ≡ size_of files.old.entries + len) }
+    ensures smaller { IfOk result (λ len. (old : Element) → element_at files.old.entries name.now ≡ Some old
+        → len ≤ old.len) }
     ensures held { OnOk result (IsHeldAt (element_at files.new.entries name.now) cursor.new.position) }
     ensures writer { OnOk result (IsTrue (writes cursor.old.kind) × (cursor.new.kind ≡ cursor.old.kind)) }
     ensures file { OnOk result (IsFileAt (element_at files.new.entries name.now)) }
@@ -134,7 +148,8 @@ pub fn reopen_file(
     now: u64,
 )
     requires { IsSome (element_at files.old.entries name.now) }
-    ensures opened { (old : Element) → element_at files.old.entries name.now ≡ Some old → files.new.entries ≡ with_element files.old.entries name.now (file_opened read_only mode now (Some old)) }
+    ensures opened { (old : Element) → element_at files.old.entries name.now ≡ Some old
+        → files.new.entries ≡ with_element files.old.entries name.now (file_opened read_only mode now (Some old)) }
     ensures keys { keys_of files.new.entries ≡ keys_of files.old.entries }
 {
     if let Some(file) = files.get_mut(name) {
@@ -149,7 +164,8 @@ pub fn add_handle(
     name: &Name,
     cursor: Cursor,
 ) -> Result<(), PerError>
-    ensures ok { OnOk result (handles.new.entries ≡ with_handle handles.old.entries number (record { name = name.now; cursor = cursor })) }
+    ensures ok { OnOk result (handles.new.entries ≡ with_handle handles.old.entries number
+        (record { name = name.now; cursor = cursor })) }
     ensures unchanged { OnErr result (handles.new.entries ≡ handles.old.entries) }
     ensures memory { IfErr result (λ error. error ≡ PerError.OutOfMemory) }
     ensures ordered { OnOk result (IsStrictlySortedBy nat_cmp (keys_of handles.new.entries)) }
@@ -183,7 +199,8 @@ pub fn add_file(files: &mut BTreeMap<Name, File>, name: &Name, file: File) -> Re
 
 /// The length that an opening leaves of a file of this length.
 pub fn opened_len(before: u64, read_only: bool, mode: OpenMode) -> u64
-    ensures len { (now : ℕ) (old : Element) → before ≡ old.len → result ≡ (file_opened read_only mode now (Some old)).len }
+    ensures len { (now : ℕ) (old : Element) → before ≡ old.len
+        → result ≡ (file_opened read_only mode now (Some old)).len }
     ensures smaller { result ≤ before }
 {
     if !read_only && mode.is_truncating() {
@@ -204,7 +221,8 @@ pub fn add_file_and_handle(
 ) -> Result<(), PerError>
     requires { element_at files.old.entries name.now ≡ None }
     ensures files { OnOk result (files.new.entries ≡ with_element files.old.entries name.now file) }
-    ensures handles { OnOk result (handles.new.entries ≡ with_handle handles.old.entries number (record { name = name.now; cursor = cursor })) }
+    ensures handles { OnOk result (handles.new.entries ≡ with_handle handles.old.entries number
+        (record { name = name.now; cursor = cursor })) }
     ensures files_unchanged { OnErr result (files.new.entries ≡ files.old.entries) }
     ensures handles_unchanged { OnErr result (handles.new.entries ≡ handles.old.entries) }
     ensures memory { IfErr result (λ error. error ≡ PerError.OutOfMemory) }
@@ -261,13 +279,17 @@ fn recover(file: &mut File, now: u64) -> bool
     file.recover(now)
 }
 
-/// Makes the salvage of the file of this name its content, where it is unreadable and there is a salvage; its length stays.
+/// Makes the salvage of the file of this name its content, where it is unreadable and there is a salvage; its length
+/// stays.
 #[tactic(auto, using(crate::proofs::Entries::file_set, crate::proofs::Entries::size_set, std::proofs::lemmas::Map::Steps::set_value_same))]
 pub fn recover_in(files: &mut BTreeMap<Name, File>, name: &Name, now: u64) -> bool
-    ensures recovered { OnTrue result ((old : Element) → element_at files.old.entries name.now ≡ Some old → files.new.entries ≡ with_element files.old.entries name.now (salvaged now old)) }
-    ensures some { OnTrue result ((old : Element) → element_at files.old.entries name.now ≡ Some old → HasSalvage old.content) }
+    ensures recovered { OnTrue result ((old : Element) → element_at files.old.entries name.now ≡ Some old
+        → files.new.entries ≡ with_element files.old.entries name.now (salvaged now old)) }
+    ensures some { OnTrue result ((old : Element) → element_at files.old.entries name.now ≡ Some old
+        → HasSalvage old.content) }
     ensures unchanged { OnFalse result (files.new.entries ≡ files.old.entries) }
-    ensures none { OnFalse result ((old : Element) → element_at files.old.entries name.now ≡ Some old → core.NoSalvage old.content) }
+    ensures none { OnFalse result ((old : Element) → element_at files.old.entries name.now ≡ Some old
+        → core.NoSalvage old.content) }
     ensures keys { keys_of files.new.entries ≡ keys_of files.old.entries }
     ensures size { size_of files.new.entries ≡ size_of files.old.entries }
     ensures beside { SameBeside files.old.entries files.new.entries name.now }
@@ -290,7 +312,8 @@ pub fn replace_in(
 )
     requires there { IsTrue (has files.old.entries name.now) }
     requires small { length bytes ≤ 1048576 }
-    ensures replaced { (old : Element) → element_at files.old.entries name.now ≡ Some old → files.new.entries ≡ with_element files.old.entries name.now (core.changed_to bytes now cause old) }
+    ensures replaced { (old : Element) → element_at files.old.entries name.now ≡ Some old
+        → files.new.entries ≡ with_element files.old.entries name.now (core.changed_to bytes now cause old) }
     ensures keys { keys_of files.new.entries ≡ keys_of files.old.entries }
 {
     if let Some(file) = files.get_mut(name) {

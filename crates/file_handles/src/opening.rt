@@ -17,14 +17,18 @@ use per_base::{Holder, Limit, Name, OpenKind, OpenMode, PerError, Unit};
 impl FileTable {
     /// Whether a file may be opened so: what refuses it, but want of space. Changes nothing.
     ///
-    /// Errors, in this order: `InvalidOpenMode` where the flags contradict one another or ask a reader to change the file;
-    /// `IllegalWriteAccess` where the kind writes and the storage is read-only; `FileNotFound` where the kind is Read and the file
-    /// is missing; `IntegrityCorrupted` where it is unreadable; `ResourceBusy` with the lowest handle that stands in the way;
-    /// `LimitReached` with `Handles`, then with `Elements`. `OutOfMemory` comes only in the place of `IntegrityCorrupted`.
+    /// Errors, in this order: `InvalidOpenMode` where the flags contradict one another or ask a reader to change the
+    /// file; `IllegalWriteAccess` where the kind writes and the storage is read-only; `FileNotFound` where the kind is
+    /// Read and the file is missing; `IntegrityCorrupted` where it is unreadable; `ResourceBusy` with the lowest handle
+    /// that stands in the way; `LimitReached` with `Handles`, then with `Elements`. `OutOfMemory` comes only in the
+    /// place of `IntegrityCorrupted`.
     pub fn can_open(&self, name: &Name, kind: OpenKind, mode: OpenMode) -> Result<(), PerError>
         ensures ok { OnOk result (opening.can_open self.now.storage self.now.session name.now kind mode ≡ None) }
-        ensures refused { IfErr result (λ error. error ≢ PerError.OutOfMemory → opening.can_open self.now.storage self.now.session name.now kind mode ≡ Some error) }
-        ensures memory { IfErr result (λ error. error ≡ PerError.OutOfMemory → opening.can_open self.now.storage self.now.session name.now kind mode ≡ Some (PerError.IntegrityCorrupted (Unit.Part self.now.storage.name name.now))) }
+        ensures refused { IfErr result (λ error. error ≢ PerError.OutOfMemory
+            → opening.can_open self.now.storage self.now.session name.now kind mode ≡ Some error) }
+        ensures memory { IfErr result (λ error. error ≡ PerError.OutOfMemory
+            → opening.can_open self.now.storage self.now.session name.now kind mode
+            ≡ Some (PerError.IntegrityCorrupted (Unit.Part self.now.storage.name name.now))) }
     {
         if is_bad_mode(kind, mode) {
             return Err(PerError::InvalidOpenMode);
@@ -54,10 +58,12 @@ impl FileTable {
         Ok(())
     }
 
-    /// Opens a file with this kind, and gives the number of the handle, the lowest free one. A missing file that is to be written is created
-    /// empty.
+    /// Opens a file with this kind, and gives the number of the handle, the lowest free one. A missing file that is to
+    /// be written is created empty.
     ///
-    /// Errors: those of `can_open`, then `OutOfStorageSpace` where an empty file of a missing name would exceed the maximum.
+    /// # Errors
+    ///
+    /// Those of `can_open`, then `OutOfStorageSpace` where an empty file of a missing name would exceed the maximum.
     #[tactic(auto, using(crate::proofs::Opens::refused_first, crate::proofs::Opens::refused_space))]
     pub fn open_file(
         &mut self,
@@ -66,9 +72,12 @@ impl FileTable {
         mode: OpenMode,
         now: u64,
     ) -> Result<u32, PerError>
-        ensures ok { IfOk result (λ number. opening.open_file self.old.storage self.old.session name.now kind mode now ≡ Ok (number, self.new.session)) }
-        ensures refused { IfErr result (λ error. IsRefusal (opening.open_file self.old.storage self.old.session name.now kind mode now) error) }
-        ensures memory { IfErr result (λ error. error ≡ PerError.OutOfMemory → NeedsMemory (opening.open_file self.old.storage self.old.session name.now kind mode now)) }
+        ensures ok { IfOk result (λ number. opening.open_file self.old.storage self.old.session name.now kind mode now
+            ≡ Ok (number, self.new.session)) }
+        ensures refused { IfErr result (λ error. IsRefusal
+            (opening.open_file self.old.storage self.old.session name.now kind mode now) error) }
+        ensures memory { IfErr result (λ error. error ≡ PerError.OutOfMemory
+            → NeedsMemory (opening.open_file self.old.storage self.old.session name.now kind mode now)) }
         ensures unchanged { OnErr result (self.new ≡ self.old) }
         ensures storage { self.new.storage ≡ self.old.storage }
         ensures moment { OnOk result (self.new.moment ≡ now) }
@@ -96,7 +105,8 @@ impl FileTable {
     ) -> Result<u32, PerError>
         requires free { opening.can_open self.old.storage self.old.session name.now kind mode ≡ None }
         requires there { IsTrue (has self.old.session.files name.now) }
-        ensures ok { IfOk result (λ number. opening.open_file self.old.storage self.old.session name.now kind mode now ≡ Ok (number, self.new.session)) }
+        ensures ok { IfOk result (λ number. opening.open_file self.old.storage self.old.session name.now kind mode now
+            ≡ Ok (number, self.new.session)) }
         ensures memory { IfErr result (λ error. error ≡ PerError.OutOfMemory) }
         ensures unchanged { OnErr result (self.new ≡ self.old) }
         ensures storage { self.new.storage ≡ self.old.storage }
@@ -131,7 +141,8 @@ impl FileTable {
         requires free { opening.can_open self.old.storage self.old.session name.now kind mode ≡ None }
         requires missing { element_at self.old.session.files name.now ≡ None }
         requires space { opening.no_room_to_create self.old.storage self.old.session.files name.now ≡ None }
-        ensures ok { IfOk result (λ number. opening.open_file self.old.storage self.old.session name.now kind mode now ≡ Ok (number, self.new.session)) }
+        ensures ok { IfOk result (λ number. opening.open_file self.old.storage self.old.session name.now kind mode now
+            ≡ Ok (number, self.new.session)) }
         ensures memory { IfErr result (λ error. error ≡ PerError.OutOfMemory) }
         ensures unchanged { OnErr result (self.new ≡ self.old) }
         ensures storage { self.new.storage ≡ self.old.storage }
@@ -174,11 +185,14 @@ impl FileTable {
 
     /// Whether the storage has a file of this length under this name.
     ///
-    /// Errors: `LimitReached` with `FileBytes` where the length is above 1,048,576; `OutOfStorageSpace` where the storage with this
-    /// file at that length would exceed its maximum. Changes nothing, and takes no memory.
+    /// # Errors
+    ///
+    /// `LimitReached` with `FileBytes` where the length is above 1,048,576; `OutOfStorageSpace` where the storage with
+    /// this file at that length would exceed its maximum. Changes nothing, and takes no memory.
     pub fn would_fit(&self, name: &Name, len: u64) -> Result<(), PerError>
         ensures ok { OnOk result (opening.would_fit self.now.storage self.now.session.files name.now len ≡ None) }
-        ensures refused { IfErr result (λ error. opening.would_fit self.now.storage self.now.session.files name.now len ≡ Some error) }
+        ensures refused { IfErr result (λ error. opening.would_fit self.now.storage self.now.session.files name.now len
+            ≡ Some error) }
     {
         match self.room_for(name).too_long(len) {
             Some(error) => Err(error),
@@ -220,7 +234,8 @@ impl FileTable {
 
     /// That the file of this name is damaged.
     fn damaged(&self, name: &Name) -> PerError
-        ensures { result ≢ PerError.OutOfMemory → result ≡ PerError.IntegrityCorrupted (Unit.Part self.now.storage.name name.now) }
+        ensures { result ≢ PerError.OutOfMemory → result ≡ PerError.IntegrityCorrupted
+            (Unit.Part self.now.storage.name name.now) }
     {
         let (Ok(storage), Ok(file)) = (self.storage.name.copy(), name.copy()) else {
             return PerError::OutOfMemory;

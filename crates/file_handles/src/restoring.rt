@@ -1,6 +1,7 @@
 //! Recovering and resetting files by name.
 
-ghost use Rattle.std.specs.Prelude.{◌≡◌, ◌≢◌, ◌≤◌, ◌<◌, ℕ, List, None, Some, MatchOption, length, option_copied, IfErr, IsTrue, OnErr, OnOk, ⊤};
+ghost use Rattle.std.specs.Prelude.{◌≡◌, ◌≢◌, ◌≤◌, ◌<◌, ℕ, List, None, Some, MatchOption, length, option_copied, IfErr};
+ghost use Rattle.std.specs.Prelude.{IsTrue, OnErr, OnOk, ⊤};
 ghost use Rattle.std.specs.Bool.{OnFalse, OnTrue};
 ghost use Rattle.per_base.specs.declared.elements.Element.{Element};
 ghost use Rattle.per_base.specs.Maps.{element_at, has, with_element, without};
@@ -20,7 +21,9 @@ use per_base::{Bytes, Cause, Holder, Name, OpenKind, PerError};
 impl FileTable {
     /// A readable file stays; an unreadable one becomes its salvage, else its initial content, else it goes.
     ///
-    /// Errors: `IllegalWriteAccess` where the storage is read-only; `FileNotFound`; `ResourceBusy` where the file has a handle;
+    /// # Errors
+    ///
+    /// `IllegalWriteAccess` where the storage is read-only; `FileNotFound`; `ResourceBusy` where the file has a handle;
     /// `OutOfStorageSpace` where the initial content does not fit; `OutOfMemory`.
     pub fn recover_file(
         &mut self,
@@ -29,11 +32,17 @@ impl FileTable {
         initial: Option<&[u8]>,
     ) -> Result<(), PerError>
         requires { MatchOption (option_copied initial) ⊤ (λ bytes. length bytes ≤ 1048576) }
-        ensures ok { OnOk result (calls.recover_file self.old.storage self.old.session name.now now (option_copied initial.entry) ≡ Ok self.new.session) }
-        ensures refused { IfErr result (λ error. IsRefusal (calls.recover_file self.old.storage self.old.session name.now now (option_copied initial.entry)) error) }
+        ensures ok { OnOk result (calls.recover_file self.old.storage self.old.session name.now now
+            (option_copied initial.entry) ≡ Ok self.new.session) }
+        ensures refused { IfErr result (λ error. IsRefusal
+            (calls.recover_file self.old.storage self.old.session name.now now (option_copied initial.entry)) error) }
         // Want of memory stands for no refusal, and comes only where the initial content is taken.
-        ensures memory { IfErr result (λ error. error ≡ PerError.OutOfMemory → IsDue (calls.recover_file self.old.storage self.old.session name.now now (option_copied initial.entry))) }
-        ensures copies { IfErr result (λ error. error ≡ PerError.OutOfMemory → (old : Element) → element_at self.old.session.files name.now ≡ Some old → calls.TakesInitial (option_copied initial.entry) old.content) }
+        ensures memory { IfErr result (λ error. error ≡ PerError.OutOfMemory
+            → IsDue (calls.recover_file self.old.storage self.old.session name.now now
+            (option_copied initial.entry))) }
+        ensures copies { IfErr result (λ error. error ≡ PerError.OutOfMemory → (old : Element)
+            → element_at self.old.session.files name.now ≡ Some old
+            → calls.TakesInitial (option_copied initial.entry) old.content) }
         ensures unchanged { OnErr result (self.new ≡ self.old) }
         ensures storage { self.new.storage ≡ self.old.storage }
         ensures moment { self.new.moment ≡ self.old.moment }
@@ -61,10 +70,19 @@ impl FileTable {
         requires small { MatchOption (option_copied initial) ⊤ (λ bytes. length bytes ≤ 1048576) }
         requires free { opening.busy (blocking OpenKind.Write name.now self.old.session.handles) ≡ None }
         requires there { IsTrue (has self.old.session.files name.now) }
-        ensures ok { OnOk result ((old : Element) → element_at self.old.session.files name.now ≡ Some old → calls.recovered self.old.storage self.old.session name.now now (option_copied initial.entry) old old.content ≡ Ok self.new.session) }
-        ensures refused { IfErr result (λ error. (old : Element) → element_at self.old.session.files name.now ≡ Some old → IsRefusal (calls.recovered self.old.storage self.old.session name.now now (option_copied initial.entry) old old.content) error) }
-        ensures memory { IfErr result (λ error. error ≡ PerError.OutOfMemory → (old : Element) → element_at self.old.session.files name.now ≡ Some old → IsDue (calls.recovered self.old.storage self.old.session name.now now (option_copied initial.entry) old old.content)) }
-        ensures copies { IfErr result (λ error. error ≡ PerError.OutOfMemory → (old : Element) → element_at self.old.session.files name.now ≡ Some old → calls.TakesInitial (option_copied initial.entry) old.content) }
+        ensures ok { OnOk result ((old : Element) → element_at self.old.session.files name.now ≡ Some old
+            → calls.recovered self.old.storage self.old.session name.now now (option_copied initial.entry) old
+            old.content ≡ Ok self.new.session) }
+        ensures refused { IfErr result (λ error. (old : Element) → element_at self.old.session.files name.now ≡ Some old
+            → IsRefusal (calls.recovered self.old.storage self.old.session name.now now (option_copied initial.entry)
+            old old.content) error) }
+        ensures memory { IfErr result (λ error. error ≡ PerError.OutOfMemory → (old : Element)
+            → element_at self.old.session.files name.now ≡ Some old
+            → IsDue (calls.recovered self.old.storage self.old.session name.now now (option_copied initial.entry) old
+            old.content)) }
+        ensures copies { IfErr result (λ error. error ≡ PerError.OutOfMemory → (old : Element)
+            → element_at self.old.session.files name.now ≡ Some old
+            → calls.TakesInitial (option_copied initial.entry) old.content) }
         ensures unchanged { OnErr result (self.new ≡ self.old) }
         ensures storage { self.new.storage ≡ self.old.storage }
         ensures moment { self.new.moment ≡ self.old.moment }
@@ -91,7 +109,9 @@ impl FileTable {
 
     /// The file of this name gets its initial content, and is made where it is missing.
     ///
-    /// Errors: `IllegalWriteAccess` where the storage is read-only; `InitValueNotAvailable` where there is no initial content;
+    /// # Errors
+    ///
+    /// `IllegalWriteAccess` where the storage is read-only; `InitValueNotAvailable` where there is no initial content;
     /// `ResourceBusy` where the file has a handle; `LimitReached` with `Elements`; `OutOfStorageSpace`; `OutOfMemory`.
     pub fn reset_file(
         &mut self,
@@ -100,9 +120,12 @@ impl FileTable {
         initial: Option<&[u8]>,
     ) -> Result<(), PerError>
         requires { MatchOption (option_copied initial) ⊤ (λ bytes. length bytes ≤ 1048576) }
-        ensures ok { OnOk result (calls.reset_file self.old.storage self.old.session name.now now (option_copied initial.entry) ≡ Ok self.new.session) }
-        ensures refused { IfErr result (λ error. IsRefusal (calls.reset_file self.old.storage self.old.session name.now now (option_copied initial.entry)) error) }
-        ensures memory { IfErr result (λ error. error ≡ PerError.OutOfMemory → IsDue (calls.reset_file self.old.storage self.old.session name.now now (option_copied initial.entry))) }
+        ensures ok { OnOk result (calls.reset_file self.old.storage self.old.session name.now now
+            (option_copied initial.entry) ≡ Ok self.new.session) }
+        ensures refused { IfErr result (λ error. IsRefusal
+            (calls.reset_file self.old.storage self.old.session name.now now (option_copied initial.entry)) error) }
+        ensures memory { IfErr result (λ error. error ≡ PerError.OutOfMemory
+            → IsDue (calls.reset_file self.old.storage self.old.session name.now now (option_copied initial.entry))) }
         ensures unchanged { OnErr result (self.new ≡ self.old) }
         ensures storage { self.new.storage ≡ self.old.storage }
         ensures moment { self.new.moment ≡ self.old.moment }
@@ -149,19 +172,26 @@ impl FileTable {
     fn salvage(&mut self, name: &Name, now: u64) -> bool
         requires free { opening.busy (blocking OpenKind.Write name.now self.old.session.handles) ≡ None }
         requires there { IsTrue (has self.old.session.files name.now) }
-        ensures some { OnTrue result ((old : Element) → element_at self.old.session.files name.now ≡ Some old → calls.HasSalvage old.content) }
-        ensures recovered { OnTrue result ((old : Element) → element_at self.old.session.files name.now ≡ Some old → self.new.session ≡ record self.old.session { files = with_element self.old.session.files name.now (calls.salvaged now old) }) }
+        ensures some { OnTrue result ((old : Element) → element_at self.old.session.files name.now ≡ Some old
+            → calls.HasSalvage old.content) }
+        ensures recovered { OnTrue result ((old : Element) → element_at self.old.session.files name.now ≡ Some old
+            → self.new.session ≡ record self.old.session {
+              files =
+                  with_element self.old.session.files name.now (calls.salvaged now old);
+            }) }
         ensures storage { self.new.storage ≡ self.old.storage }
         ensures moment { self.new.moment ≡ self.old.moment }
         ensures unchanged { OnFalse result (self.new ≡ self.old) }
-        ensures none { OnFalse result ((old : Element) → element_at self.old.session.files name.now ≡ Some old → core.NoSalvage old.content) }
+        ensures none { OnFalse result ((old : Element) → element_at self.old.session.files name.now ≡ Some old
+            → core.NoSalvage old.content) }
     {
         recover_in(&mut self.files, name, now)
     }
 
     /// What refuses these bytes as the content of this name: they are too long, or there is no room.
     fn refuses_content(&self, name: &Name, bytes: &[u8]) -> Option<PerError>
-        ensures { result ≡ core.too_long (room_for self.now.session.files name.now self.now.storage.maximum) (length bytes.now) }
+        ensures { result ≡ core.too_long (room_for self.now.session.files name.now self.now.storage.maximum)
+            (length bytes.now) }
     {
         self.room_for(name).too_long(bytes.len() as u64)
     }
@@ -171,8 +201,13 @@ impl FileTable {
         requires free { opening.busy (blocking OpenKind.Write name.now self.old.session.handles) ≡ None }
         requires there { IsTrue (has self.old.session.files name.now) }
         requires small { length bytes ≤ 1048576 }
-        requires fits { core.too_long (room_for self.old.session.files name.now self.old.storage.maximum) (length bytes) ≡ None }
-        ensures given { (old : Element) → element_at self.old.session.files name.now ≡ Some old → self.new.session ≡ record self.old.session { files = with_element self.old.session.files name.now (core.changed_to bytes now cause old) } }
+        requires fits { core.too_long (room_for self.old.session.files name.now self.old.storage.maximum) (length bytes)
+            ≡ None }
+        ensures given { (old : Element) → element_at self.old.session.files name.now ≡ Some old
+            → self.new.session ≡ record self.old.session {
+              files =
+                  with_element self.old.session.files name.now (core.changed_to bytes now cause old);
+            } }
         ensures storage { self.new.storage ≡ self.old.storage }
         ensures moment { self.new.moment ≡ self.old.moment }
     {
@@ -187,8 +222,12 @@ impl FileTable {
         requires missing { element_at self.old.session.files name.now ≡ None }
         requires few { opening.too_many self.old.session.files name.now ≡ None }
         requires small { length bytes ≤ 1048576 }
-        requires fits { core.too_long (room_for self.old.session.files name.now self.old.storage.maximum) (length bytes) ≡ None }
-        ensures ok { OnOk result (self.new.session ≡ record self.old.session { files = with_element self.old.session.files name.now (core.file_of (Some (infos.made now Cause.Reset)) bytes) }) }
+        requires fits { core.too_long (room_for self.old.session.files name.now self.old.storage.maximum) (length bytes)
+            ≡ None }
+        ensures ok { OnOk result (self.new.session ≡ record self.old.session {
+          files =
+              with_element self.old.session.files name.now (core.file_of (Some (infos.made now Cause.Reset)) bytes);
+        }) }
         ensures memory { IfErr result (λ error. error ≡ PerError.OutOfMemory) }
         ensures unchanged { OnErr result (self.new ≡ self.old) }
         ensures storage { self.new.storage ≡ self.old.storage }
@@ -210,7 +249,12 @@ impl FileTable {
     pub(crate) fn vanish(&mut self, name: &Name)
         requires free { opening.busy (blocking OpenKind.Write name.now self.old.session.handles) ≡ None }
         requires there { IsTrue (has self.old.session.files name.now) }
-        ensures { self.new ≡ record self.old { session = record self.old.session { files = without self.old.session.files name.now } } }
+        ensures { self.new ≡ record self.old {
+          session = record self.old.session {
+            files =
+                without self.old.session.files name.now;
+          };
+        } }
     {
         let Some(file) = self.files.get(name) else {
             return;

@@ -42,7 +42,12 @@ impl Model for FileTable {
 
     ghost Value = { Table };
 
-    ghost view = { λ t. record { storage = t.storage; session = record { files = t.files.entries; handles = t.handles.entries }; moment = t.moment } };
+    ghost view = { λ t. record {
+      storage = t.storage;
+      session =
+          record { files = t.files.entries; handles = t.handles.entries };
+      moment = t.moment;
+    } };
 
     ghost invariant = { λ t. IsTable t.storage t.files.entries t.handles.entries × (t.size ≡ size_of t.files.entries) };
 }
@@ -55,7 +60,12 @@ impl FileTable {
         requires room { size_of files.entries ≤ storage.maximum }
         requires measured { size ≡ size_of files.entries }
         requires whole { AreFiles files.entries }
-        ensures { result ≡ record { storage = storage; session = record { files = files.entries; handles = [] }; moment = 0 } }
+        ensures { result ≡ record {
+          storage = storage;
+          session =
+              record { files = files.entries; handles = [] };
+          moment = 0;
+        } }
     {
         let _count = files.len();
         FileTable {
@@ -68,15 +78,16 @@ impl FileTable {
         }
     }
 
-    /// What always holds of a table: among it, that a new handle gets the lowest number from 1 that no handle has, and that a number is
-    /// not open just where no handle has it.
+    /// What always holds of a table: among it, that a new handle gets the lowest number from 1 that no handle has, and
+    /// that a number is not open just where no handle has it.
     #[tactic(auto, using(crate::proofs::Numbers::lower_are_taken, crate::proofs::Numbers::lowest_is_free, crate::proofs::Sound::closed_without_handle))]
     pub fn holds(&self)
         ensures table { IsTable self.now.storage self.now.session.files self.now.session.handles }
         ensures taken { (number : ℕ) → 1 ≤ number → number < free_number self.now.session.handles
             → IsSome (handle_at self.now.session.handles number) }
         ensures free { handle_at self.now.session.handles (free_number self.now.session.handles) ≡ None }
-        ensures closed { (number : ℕ) → open_at self.now.session number ≡ None → handle_at self.now.session.handles number ≡ None }
+        ensures closed { (number : ℕ) → open_at self.now.session number ≡ None
+            → handle_at self.now.session.handles number ≡ None }
     {
         let _size = self.size;
     }
@@ -115,7 +126,8 @@ impl FileTable {
 
     /// The handle of this number, and its file.
     pub fn at(&self, number: u32) -> Option<(&Handle, &File)>
-        ensures open { MatchOption result (open_at self.now.session number ≡ None) (λ o. open_at self.now.session number ≡ Some (o.0.now, o.1.now)) }
+        ensures open { MatchOption result (open_at self.now.session number ≡ None)
+            (λ o. open_at self.now.session number ≡ Some (o.0.now, o.1.now)) }
         ensures handle { IfSome result (λ o. handle_at self.now.session.handles number ≡ Some o.0.now) }
         ensures file { IfSome result (λ o. element_at self.now.session.files o.0.now.name ≡ Some o.1.now) }
         ensures good { IfSome result (λ o. IsTrue (is_good o.1.now.content)) }
@@ -132,8 +144,11 @@ impl FileTable {
     /// Puts an open handle at another place.
     pub(crate) fn put_cursor(&mut self, number: u32, cursor: Cursor)
         requires there { IsSome (handle_at self.old.session.handles number) }
-        requires stands { (handle : Handle) → handle_at self.old.session.handles number ≡ Some handle → (cursor.kind ≡ handle.cursor.kind) × IsHeldAt (element_at self.old.session.files handle.name) cursor.position }
-        ensures moved { (handle : Handle) → handle_at self.old.session.handles number ≡ Some handle → self.new.session ≡ with_cursor self.old.session number handle cursor }
+        requires stands { (handle : Handle) → handle_at self.old.session.handles number ≡ Some handle
+            → (cursor.kind ≡ handle.cursor.kind) × IsHeldAt (element_at self.old.session.files handle.name)
+            cursor.position }
+        ensures moved { (handle : Handle) → handle_at self.old.session.handles number ≡ Some handle
+            → self.new.session ≡ with_cursor self.old.session number handle cursor }
         ensures storage { self.new.storage ≡ self.old.storage }
         ensures moment { self.new.moment ≡ self.old.moment }
     {

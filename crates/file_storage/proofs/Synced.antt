@@ -1,5 +1,6 @@
 -- What a sync owes to a commit, and what a commit makes of a session.
-use Rattle.std.proofs.Common.{◌≡◌, ℕ, ◌+◌, ◌<◌, ◌≤◌, List, [], ◌∷◌, length, Bool, true, false, refl, sym, ◌∙◌, ap, subst, arith}
+use Rattle.std.proofs.Common.{◌≡◌, ℕ, ◌+◌, ◌<◌, ◌≤◌, List, [], ◌∷◌, length, Bool, true, false, refl, sym, ◌∙◌, ap}
+use Rattle.std.proofs.Common.{subst, arith}
 use Rattle.std.specs.Prelude.{Option, Some, None, IsTrue, not, ◌&&◌, nat_le}
 use Rattle.std.specs.List.Sorted.{IsStrictlySortedBy}
 use Rattle.std.proofs.Math.Nat.{mul-le-mul_left}
@@ -60,10 +61,12 @@ use Rattle.file_storage.proofs.Stored.{keys_are}
 pub same_view : (s : FileSession) → is_synced s ≡ true → synced_view s ≡ view_in s.store
 same_view s is = rw is refl
 
-pub differ_view : (s : FileSession) → is_synced s ≡ false → synced_view s ≡ committed (shape_of s.store) (view_in s.store) (stored_in s.store) s.session.files
+pub differ_view : (s : FileSession) → is_synced s ≡ false
+    → synced_view s ≡ committed (shape_of s.store) (view_in s.store) (stored_in s.store) s.session.files
 differ_view s is = rw is refl
 
-pub none_storing : UntouchedLaw → (told : Bool) (shape : Shape) (after : State) (m : Medium) → IsShape shape → IsLawful told m → IsStoring told shape after m m
+pub none_storing : UntouchedLaw → (told : Bool) (shape : Shape) (after : State) (m : Medium) → IsShape shape
+    → IsLawful told m → IsStoring told shape after m m
 none_storing untouched told shape after m is law = record {
   elsewhere = λ tells file spared. refl;
   outside = λ tells quiet. none_around told shape.place.first shape.place.copies m law quiet;
@@ -74,8 +77,10 @@ none_storing untouched told shape after m is law = record {
 -- an opening, whatever the next state is to be
 pub opened_storing : (told : Bool) (shape : Shape) (old new : Medium)
     → (IsTrue told → Spares (IsOutside shape.place.first shape.place.copies) old.image new.image)
-    → (IsTrue told → Quiet old → EachCase (IsSettledOn (IsOutside shape.place.first shape.place.copies) old.image) old new)
-    → (IsTrue told → (after : State) → KeptThroughout shape after old new) → Elapses old new → (after : State) → IsStoring told shape after old new
+    → (IsTrue told → Quiet old → EachCase (IsSettledOn (IsOutside shape.place.first shape.place.copies) old.image) old
+    new)
+    → (IsTrue told → (after : State) → KeptThroughout shape after old new) → Elapses old new → (after : State)
+    → IsStoring told shape after old new
 opened_storing told shape old new elsewhere outside any_moment time after = record {
   elsewhere = elsewhere;
   outside = outside;
@@ -87,10 +92,12 @@ within_none : (copies contents index written : ℕ) → IsWithin copies contents
 within_none copies contents index written = omega arith
 
 pub none_written : (s : FileSession) (m : Medium) → WritesAtMost s m m
-none_written s m = within_none (shape_of s.store).place.copies (map_cost (shape_of s.store).kind (stored_in s.store) s.session.files)
+none_written s m = within_none (shape_of s.store).place.copies
+    (map_cost (shape_of s.store).kind (stored_in s.store) s.session.files)
     (index_length (shape_of s.store).kind (synced_view s).entries) m.written
 
-pub none_synced : DecidesLaw → (told : Bool) (s : FileSession) (m : Medium) → IsUsed told m.image s.store → is_synced s ≡ true → IsSynced told s s m m
+pub none_synced : DecidesLaw → (told : Bool) (s : FileSession) (m : Medium) → IsUsed told m.image s.store
+    → is_synced s ≡ true → IsSynced told s s m m
 none_synced decides told s m used is = record {
   stored = (decides (stored_in s.store) s.session.files).0 is;
   view = sym (same_view s is);
@@ -101,7 +108,9 @@ none_synced decides told s m used is = record {
     durable = λ differ. absurd (cc);
     quiet = λ quiet. quiet;
     clean = λ tells clean. clean;
-    written = within_none (shape_of s.store).place.copies (map_cost (shape_of s.store).kind (stored_in s.store) s.session.files) (length (index_text (index_in s.store))) m.written;
+    written = within_none (shape_of s.store).place.copies
+        (map_cost (shape_of s.store).kind (stored_in s.store) s.session.files) (length (index_text (index_in s.store)))
+        m.written;
     passes = refl;
   };
   carried = λ name same. refl;
@@ -111,7 +120,9 @@ none_synced decides told s m used is = record {
 
 -- ---- what a commit needs
 
-held : (kind : StoreKind) (stored : Option Element) (file : Element) (content : Content) → kind ≡ kinds.Files → file.content ≡ content → IsFile file → (is_good content ≡ false → stored ≡ Some file) → IsHeld kind stored file content
+held : (kind : StoreKind) (stored : Option Element) (file : Element) (content : Content) → kind ≡ kinds.Files
+    → file.content ≡ content → IsFile file → (is_good content ≡ false → stored ≡ Some file)
+    → IsHeld kind stored file content
 held kind stored file (Good bytes) of_files is whole unreadable = record {
   info = subst (λ k. IsTrue (has_info k file.info)) (sym of_files) whole.informed;
   length = subst (λ c. core.HasLength c file.len) is whole.measured;
@@ -119,8 +130,11 @@ held kind stored file (Good bytes) of_files is whole unreadable = record {
 }
 held kind stored file (Bad salvage) of_files is whole unreadable = unreadable refl
 
-pub is_sync : UntestedLaw → (config : StorageData) (store : Store) (files : Map) (handles : Handles) (changes : List Change) → IsTable (storage_of config) files handles → IsConfigured kinds.Files config (shape_of store) → AreAsStored (stored_in store) files
-    → IsView (shape_of store) (view_in store) → changes ≡ walked files (stored_in store) → IsSync (shape_of store) (λ bytes. true) (view_in store) (stored_in store) files changes
+pub is_sync : UntestedLaw → (config : StorageData) (store : Store) (files : Map) (handles : Handles)
+    (changes : List Change) → IsTable (storage_of config) files handles
+    → IsConfigured kinds.Files config (shape_of store) → AreAsStored (stored_in store) files
+    → IsView (shape_of store) (view_in store) → changes ≡ walked files (stored_in store)
+    → IsSync (shape_of store) (λ bytes. true) (view_in store) (stored_in store) files changes
 is_sync untested config store files handles changes table configured unreadable view made = record {
   read = view;
   held = sym (untested (view_in store));
@@ -128,11 +142,13 @@ is_sync untested config store files handles changes table configured unreadable 
     names_ascend = table.names;
     few = table.few_files;
     small = subst (λ n. maps.size_of files ≤ n) (sym configured.allowed) table.room;
-    each = λ name file at. held (shape_of store).kind (element_at (stored_in store) name) file file.content configured.kind refl
+    each = λ name file at. held (shape_of store).kind (element_at (stored_in store) name) file file.content
+        configured.kind refl
         (subst (λ found. IsFileAt found) at (table.whole name)) (unreadable name file at);
   };
   made = subst (λ cs. MakeInto cs (stored_in store) files) (sym made)
-      (walk_makes files (stored_in store) table.names (subst (λ names. IsStrictlySortedBy name_cmp names) (sym (keys_are (entries_of store))) view.names_ascend));
+      (walk_makes files (stored_in store) table.names (subst (λ names. IsStrictlySortedBy name_cmp names)
+      (sym (keys_are (entries_of store))) view.names_ascend));
 }
 
 not_worn_is : (test : Bool) (error : PerError) → opening.when test error ≡ None → test ≡ false
@@ -146,20 +162,24 @@ left_over true last e is = absurd (cc)
 below : (g : ℕ) → nat_le greatest_generation g ≡ false → g < greatest_generation
 below g e = grind (arith, nat_tests, e)
 
-pub generation_left : (s : FileSession) → worn s ≡ None → is_synced s ≡ false → (view_in s.store).generation < greatest_generation
-generation_left s none differ = below (view_in s.store).generation (left_over (is_synced s) (is_worn (view_in s.store)) (not_worn_is _ _ none) differ)
+pub generation_left : (s : FileSession) → worn s ≡ None → is_synced s ≡ false
+    → (view_in s.store).generation < greatest_generation
+generation_left s none differ = below (view_in s.store).generation
+    (left_over (is_synced s) (is_worn (view_in s.store)) (not_worn_is _ _ none) differ)
 
 -- ---- what a commit makes
 
 passes : (files : Map) → Passes (λ bytes. true) files
 passes files name file bytes at is = refl
 
-pub within_more : (copies contents more index before after : ℕ) → contents ≤ more → IsWithin copies contents index before after → IsWithin copies more index before after
+pub within_more : (copies contents more index before after : ℕ) → contents ≤ more
+    → IsWithin copies contents index before after → IsWithin copies more index before after
 within_more copies contents more index before after le is =
     let each : contents + index + 88 ≤ more + index + 88 = omega (arith, le) in
     omega (arith, is, mul-le-mul_left copies each)
 
-pub stored_then : CommittedLaw → HeldLaw → UntestedLaw → (store later : Store) (files : Map) (changes : List Change) → IsSync (shape_of store) (λ bytes. true) (view_in store) (stored_in store) files changes
+pub stored_then : CommittedLaw → HeldLaw → UntestedLaw → (store later : Store) (files : Map) (changes : List Change)
+    → IsSync (shape_of store) (λ bytes. true) (view_in store) (stored_in store) files changes
     → view_in later ≡ committed_by (shape_of store) (view_in store) changes → stored_in later ≡ files
 stored_then made held untested store later files changes sync view =
     ap map_of (view ∙ made (shape_of store) (λ bytes. true) (view_in store) (stored_in store) files changes sync)
@@ -167,7 +187,9 @@ stored_then made held untested store later files changes sync view =
     ∙ held (shape_of store) (λ bytes. true) (view_in store) (stored_in store) files changes sync (passes files)
 
 -- the session over the storage after a commit
-pub open_later : (config : StorageData) (store later : Store) (storage : Storage) (files : Map) → IsOpen config store storage files → shape_of later ≡ shape_of store → stored_in later ≡ files → IsOpen config later storage files
+pub open_later : (config : StorageData) (store later : Store) (storage : Storage) (files : Map)
+    → IsOpen config store storage files → shape_of later ≡ shape_of store → stored_in later ≡ files
+    → IsOpen config later storage files
 open_later config store later storage files is shape stored = record {
   valid = is.valid;
   configured = subst (λ (sh : Shape). IsConfigured kinds.Files config sh) (sym shape) is.configured;
@@ -175,12 +197,16 @@ open_later config store later storage files is shape stored = record {
   unreadable = λ name file at bad. subst (λ (m : Map). element_at m name ≡ Some file) (sym stored) at;
 }
 
-view_then : CommittedLaw → (s : FileSession) (changes : List Change) → IsSync (shape_of s.store) (λ bytes. true) (view_in s.store) (stored_in s.store) s.session.files changes → is_synced s ≡ false
+view_then : CommittedLaw → (s : FileSession) (changes : List Change)
+    → IsSync (shape_of s.store) (λ bytes. true) (view_in s.store) (stored_in s.store) s.session.files changes
+    → is_synced s ≡ false
     → committed_by (shape_of s.store) (view_in s.store) changes ≡ synced_view s
 view_then made s changes sync differ =
-    made (shape_of s.store) (λ bytes. true) (view_in s.store) (stored_in s.store) s.session.files changes sync ∙ sym (differ_view s differ)
+    made (shape_of s.store) (λ bytes. true) (view_in s.store) (stored_in s.store) s.session.files changes sync
+    ∙ sym (differ_view s differ)
 
-module _ (s : FileSession) (changes : List Change) (sync : IsSync (shape_of s.store) (λ bytes. true) (view_in s.store) (stored_in s.store) s.session.files changes)
+module _ (s : FileSession) (changes : List Change) (sync : IsSync (shape_of s.store) (λ bytes. true) (view_in s.store)
+    (stored_in s.store) s.session.files changes)
     (differ : is_synced s ≡ false) (made : CommittedLaw) where
   abbrev pub cost_then : ℕ
   cost_then = commit_cost (shape_of s.store).kind (entries_of s.store) changes
@@ -189,49 +215,64 @@ module _ (s : FileSession) (changes : List Change) (sync : IsSync (shape_of s.st
   cost_between = map_cost (shape_of s.store).kind (stored_in s.store) s.session.files
 
   costs : CostLaw → cost_then ≤ cost_between
-  costs cost = cost (shape_of s.store) (λ bytes. true) (view_in s.store) (stored_in s.store) s.session.files changes sync
+  costs cost = cost (shape_of s.store) (λ bytes. true) (view_in s.store) (stored_in s.store) s.session.files changes
+      sync
 
   pub commit_at_most : CostLaw → (old new : Medium)
-      → IsWithin (shape_of s.store).place.copies cost_then (index_length (shape_of s.store).kind (committed_by (shape_of s.store) (view_in s.store) changes).entries) old.written new.written
+      → IsWithin (shape_of s.store).place.copies cost_then
+      (index_length (shape_of s.store).kind (committed_by (shape_of s.store) (view_in s.store) changes).entries)
+      old.written new.written
       → WritesAtMost s old new
-  commit_at_most cost old new within = subst (λ (v : View). IsWithin (shape_of s.store).place.copies cost_between (index_length (shape_of s.store).kind v.entries) old.written new.written)
+  commit_at_most cost old new within = subst (λ (v : View).
+      IsWithin (shape_of s.store).place.copies cost_between (index_length (shape_of s.store).kind v.entries)
+      old.written new.written)
       (view_then made s changes sync differ)
-      (within_more (shape_of s.store).place.copies cost_then cost_between (index_length (shape_of s.store).kind (committed_by (shape_of s.store) (view_in s.store) changes).entries)
+      (within_more (shape_of s.store).place.copies cost_then cost_between
+      (index_length (shape_of s.store).kind (committed_by (shape_of s.store) (view_in s.store) changes).entries)
       old.written new.written (costs cost) within)
 
   pub commit_synced : HeldLaw → UntestedLaw → CostLaw → OthersLaw → (told : Bool) (later : Store) (old new : Medium)
-      → view_in later ≡ committed_by (shape_of s.store) (view_in s.store) changes → shape_of later ≡ shape_of s.store → IsUsed told new.image later
+      → view_in later ≡ committed_by (shape_of s.store) (view_in s.store) changes → shape_of later ≡ shape_of s.store
+      → IsUsed told new.image later
       → (IsTrue told → IsClean (shape_of s.store) old.image → IsClean (shape_of s.store) new.image) → Quiet new
-      → IsWithin (shape_of s.store).place.copies cost_then (length (index_text (index_in later))) old.written new.written
+      → IsWithin (shape_of s.store).place.copies cost_then (length (index_text (index_in later))) old.written
+      new.written
       → KeepsOthers changes (index_in s.store).entries (index_in later).entries → (index_in later).format ≡ 2
-      → length (index_text (index_in later)) ≡ index_length (shape_of s.store).kind (entries_of later) → new.faults ≡ old.faults
+      → length (index_text (index_in later)) ≡ index_length (shape_of s.store).kind (entries_of later)
+      → new.faults ≡ old.faults
       → IsSynced told s (record s { store = later }) old new
-  commit_synced held untested cost others told later old new view shape used clean quiet written carried format text passes = record {
-    stored = stored_then made held untested s.store later s.session.files changes sync view;
-    view = view ∙ view_then made s changes sync differ;
-    beside = refl;
-    shape = shape;
-    used = used;
-    durable = record {
-      durable = λ differs. quiet;
-      quiet = λ before. quiet;
-      clean = clean;
-      written = within_more (shape_of s.store).place.copies cost_then cost_between (length (index_text (index_in later))) old.written new.written (costs cost) written;
-      passes = passes;
-    };
-    carried = λ name same. carried name (others (stored_in s.store) s.session.files changes sync.made name same);
-    format = λ differs. format;
-    text = λ differs. text;
-  }
+  commit_synced held untested cost others told later old new view shape used clean quiet written carried format text
+      passes = record {
+        stored = stored_then made held untested s.store later s.session.files changes sync view;
+        view = view ∙ view_then made s changes sync differ;
+        beside = refl;
+        shape = shape;
+        used = used;
+        durable = record {
+          durable = λ differs. quiet;
+          quiet = λ before. quiet;
+          clean = clean;
+          written = within_more (shape_of s.store).place.copies cost_then cost_between
+              (length (index_text (index_in later))) old.written new.written (costs cost) written;
+          passes = passes;
+        };
+        carried = λ name same. carried name (others (stored_in s.store) s.session.files changes sync.made name same);
+        format = λ differs. format;
+        text = λ differs. text;
+      }
 
   pub commit_storing : (told : Bool) (old new : Medium)
-      → (IsTrue told → Spares (IsOutside (shape_of s.store).place.first (shape_of s.store).place.copies) old.image new.image)
-      → (IsTrue told → Quiet old → EachCase (IsSettledOn (IsOutside (shape_of s.store).place.first (shape_of s.store).place.copies) old.image) old new)
-      → (IsTrue told → KeptThroughout (shape_of s.store) (Opens (committed_by (shape_of s.store) (view_in s.store) changes) []) old new)
+      → (IsTrue told → Spares (IsOutside (shape_of s.store).place.first (shape_of s.store).place.copies) old.image
+      new.image)
+      → (IsTrue told → Quiet old → EachCase (IsSettledOn (IsOutside (shape_of s.store).place.first
+      (shape_of s.store).place.copies) old.image) old new)
+      → (IsTrue told → KeptThroughout (shape_of s.store) (Opens
+      (committed_by (shape_of s.store) (view_in s.store) changes) []) old new)
       → Elapses old new → IsStoring told (shape_of s.store) (Opens (synced_view s) []) old new
   commit_storing told old new elsewhere outside any_moment time = record {
     elsewhere = elsewhere;
     outside = outside;
-    any_moment = λ tells. subst (λ (v : View). KeptThroughout (shape_of s.store) (Opens v []) old new) (view_then made s changes sync differ) (any_moment tells);
+    any_moment = λ tells. subst (λ (v : View). KeptThroughout (shape_of s.store) (Opens v []) old new)
+        (view_then made s changes sync differ) (any_moment tells);
     time = time;
   }

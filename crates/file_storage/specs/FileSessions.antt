@@ -13,7 +13,8 @@ use Rattle.element_maps.specs.Storages.{IsConfigured}
 use Rattle.element_store.specs.declared.store.Store.{Store}
 use Rattle.element_store.specs.Stores.{shape_of, view_in}
 
--- how it is configured, the storage in use below it, the working files with the handles on them, and the moment last given
+-- how it is configured, the storage in use below it, the working files with the handles on them, and the moment last
+-- given
 pub record FileSession : Type 0 where
   pub config : StorageData
   pub store : Store
@@ -30,7 +31,8 @@ stored_in store = map_of (view_in store)
 
 -- a working file that cannot be read is the very one that is synchronised
 abbrev pub AreAsStored : (stored files : Map) → Type 0
-AreAsStored stored files = (name : List ℕ) (file : Element) → element_at files name ≡ Some file → is_good file.content ≡ false → element_at stored name ≡ Some file
+AreAsStored stored files = (name : List ℕ) (file : Element) → element_at files name ≡ Some file
+    → is_good file.content ≡ false → element_at stored name ≡ Some file
 
 pub record IsOpen (config : StorageData) (store : Store) (storage : Storage) (files : Map) : Type 0 where
   pub valid : IsStorage config

@@ -5,4 +5,10 @@ use Rattle.file_storage.specs.declared.opening.OpenedFiles.{OpenedFiles}
 use Rattle.file_storage.specs.FileSessions.{stored_in}
 
 abbrev pub given : OpenedFiles → Opened
-given o = record { shape = shape_of o.files.store; view = view_in o.files.store; synced = stored_in o.files.store; reports = o.reports.items }
+given o = record {
+  shape = shape_of o.files.store;
+  view = view_in o.files.store;
+  synced =
+      stored_in o.files.store;
+  reports = o.reports.items;
+}

@@ -46,7 +46,8 @@ synced_view s = maps.synced_view (shape_of s.store) (view_in s.store) (stored_in
 
 -- in each copy at most the contents that differ, and the next index
 abbrev pub WritesAtMost : FileSession → (old new : Medium) → Type 0
-WritesAtMost s old new = IsWithin (shape_of s.store).place.copies (map_cost (shape_of s.store).kind (stored_in s.store) s.session.files)
+WritesAtMost s old new = IsWithin (shape_of s.store).place.copies
+    (map_cost (shape_of s.store).kind (stored_in s.store) s.session.files)
     (index_length (shape_of s.store).kind (synced_view s).entries) old.written new.written
 
 -- the working files of a session are durable in a later one, and all else of it stays
@@ -56,8 +57,10 @@ pub record IsSynced (told : Bool) (s later : FileSession) (old new : Medium) : T
   pub beside : later ≡ record s { store = later.store }
   pub shape : shape_of later.store ≡ shape_of s.store
   pub used : IsUsed told new.image later.store
-  pub durable : IsDurable told (shape_of s.store) (stored_in s.store) s.session.files (length (index_text (index_in later.store))) old new
+  pub durable : IsDurable told (shape_of s.store) (stored_in s.store) s.session.files
+      (length (index_text (index_in later.store))) old new
   -- the index: each file that does not differ as it was listed
   pub carried : KeepsEqual (stored_in s.store) s.session.files (index_in s.store).entries (index_in later.store).entries
   pub format : is_synced s ≡ false → (index_in later.store).format ≡ 2
-  pub text : is_synced s ≡ false → length (index_text (index_in later.store)) ≡ index_length (shape_of s.store).kind (view_in later.store).entries
+  pub text : is_synced s ≡ false → length (index_text (index_in later.store))
+      ≡ index_length (shape_of s.store).kind (view_in later.store).entries

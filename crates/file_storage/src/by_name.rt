@@ -1,6 +1,7 @@
 //! The calls by name.
 
-ghost use Rattle.std.specs.Prelude.{◌≡◌, ◌≤◌, length, ⊤, MatchOption, option_copied, IfErr, IfOk, OnErr, OnOk, Ok, Err, Some};
+ghost use Rattle.std.specs.Prelude.{◌≡◌, ◌≤◌, length, ⊤, MatchOption, option_copied, IfErr, IfOk, OnErr, OnOk, Ok, Err};
+ghost use Rattle.std.specs.Prelude.{Some};
 ghost use Rattle.per_base.specs.declared.elements.StoreKind.TheVariants as kinds;
 ghost use Rattle.deployment_model.specs.Conditions.{IsStorage};
 ghost use Rattle.deployment_model.specs.Data.{storage_data};
@@ -25,7 +26,9 @@ impl Files {
 
     /// The names of all files, ascending.
     ///
-    /// Errors: `OutOfMemory`.
+    /// # Errors
+    ///
+    /// `OutOfMemory`.
     pub fn all_file_names(&self) -> Result<Vec<Name>, PerError>
         ensures names { IfOk result (λ names. names.items ≡ names_of self.now.session.files) }
         ensures memory { IfErr result (λ error. error ≡ PerError.OutOfMemory) }
@@ -35,7 +38,9 @@ impl Files {
 
     /// The length of the file of this name in bytes, also of an unreadable one. Takes no memory.
     ///
-    /// Errors: `FileNotFound`.
+    /// # Errors
+    ///
+    /// `FileNotFound`.
     pub fn current_file_size(&self, name: &Name) -> Result<u64, PerError>
         ensures ok { IfOk result (λ size. calls.current_file_size self.now.session.files name.now ≡ Ok size) }
         ensures refused { IfErr result (λ error. calls.current_file_size self.now.session.files name.now ≡ Err error) }
@@ -45,7 +50,9 @@ impl Files {
 
     /// The info of the file of this name, also of an unreadable one. Takes no memory.
     ///
-    /// Errors: `FileNotFound`.
+    /// # Errors
+    ///
+    /// `FileNotFound`.
     pub fn file_info(&self, name: &Name) -> Result<FileInfo, PerError>
         ensures ok { IfOk result (λ info. calls.file_info self.now.session.files name.now ≡ Ok info) }
         ensures refused { IfErr result (λ error. calls.file_info self.now.session.files name.now ≡ Err error) }
@@ -69,10 +76,14 @@ impl Files {
 
     /// Takes the file of this name away.
     ///
-    /// Errors: `IllegalWriteAccess` where the storage is read-only; `FileNotFound`; `ResourceBusy` where it has a handle.
+    /// # Errors
+    ///
+    /// `IllegalWriteAccess` where the storage is read-only; `FileNotFound`; `ResourceBusy` where it has a handle.
     pub fn delete_file(&mut self, name: &Name) -> Result<(), PerError>
-        ensures ok { OnOk result (calls.delete_file (storage_of self.old.config) self.old.session name.now ≡ Ok self.new.session) }
-        ensures refused { IfErr result (λ error. calls.delete_file (storage_of self.old.config) self.old.session name.now ≡ Err error) }
+        ensures ok { OnOk result (calls.delete_file (storage_of self.old.config) self.old.session name.now
+            ≡ Ok self.new.session) }
+        ensures refused { IfErr result (λ error. calls.delete_file (storage_of self.old.config) self.old.session
+            name.now ≡ Err error) }
         ensures beside { self.new ≡ record self.old { session = self.new.session } }
         ensures unchanged { OnErr result (self.new ≡ self.old) }
     {
@@ -82,14 +93,23 @@ impl Files {
 
     /// A readable file stays; an unreadable one becomes its salvage, else its initial content, else it goes.
     ///
-    /// Errors: `IllegalWriteAccess` where the storage is read-only; `FileNotFound`; `ResourceBusy` where the file has a handle;
+    /// # Errors
+    ///
+    /// `IllegalWriteAccess` where the storage is read-only; `FileNotFound`; `ResourceBusy` where the file has a handle;
     /// `OutOfStorageSpace` where the initial content does not fit; `OutOfMemory`.
     pub fn recover_file(&mut self, name: &Name, now: u64) -> Result<(), PerError>
-        ensures ok { OnOk result (calls.recover_file (storage_of self.old.config) self.old.session name.now now (initial_of self.old.config name.now) ≡ Ok self.new.session) }
-        ensures refused { IfErr result (λ error. IsRefusal (calls.recover_file (storage_of self.old.config) self.old.session name.now now (initial_of self.old.config name.now)) error) }
+        ensures ok { OnOk result (calls.recover_file (storage_of self.old.config) self.old.session name.now now
+            (initial_of self.old.config name.now) ≡ Ok self.new.session) }
+        ensures refused { IfErr result (λ error. IsRefusal
+            (calls.recover_file (storage_of self.old.config) self.old.session name.now now
+            (initial_of self.old.config name.now)) error) }
         // Want of memory stands for no refusal, and comes only where the initial content is taken.
-        ensures memory { IfErr result (λ error. error ≡ PerError.OutOfMemory → IsDue (calls.recover_file (storage_of self.old.config) self.old.session name.now now (initial_of self.old.config name.now))) }
-        ensures copies { IfErr result (λ error. error ≡ PerError.OutOfMemory → (file : Element) → element_at self.old.session.files name.now ≡ Some file → calls.TakesInitial (initial_of self.old.config name.now) file.content) }
+        ensures memory { IfErr result (λ error. error ≡ PerError.OutOfMemory
+            → IsDue (calls.recover_file (storage_of self.old.config) self.old.session name.now now
+            (initial_of self.old.config name.now))) }
+        ensures copies { IfErr result (λ error. error ≡ PerError.OutOfMemory → (file : Element)
+            → element_at self.old.session.files name.now ≡ Some file
+            → calls.TakesInitial (initial_of self.old.config name.now) file.content) }
         ensures beside { self.new ≡ record self.old { session = self.new.session } }
         ensures unchanged { OnErr result (self.new ≡ self.old) }
     {
@@ -100,12 +120,19 @@ impl Files {
 
     /// The file of this name gets its initial content, and is made where it is missing.
     ///
-    /// Errors: `IllegalWriteAccess` where the storage is read-only; `InitValueNotAvailable` where there is no initial content;
+    /// # Errors
+    ///
+    /// `IllegalWriteAccess` where the storage is read-only; `InitValueNotAvailable` where there is no initial content;
     /// `ResourceBusy` where the file has a handle; `LimitReached` with `Elements`; `OutOfStorageSpace`; `OutOfMemory`.
     pub fn reset_file(&mut self, name: &Name, now: u64) -> Result<(), PerError>
-        ensures ok { OnOk result (calls.reset_file (storage_of self.old.config) self.old.session name.now now (initial_of self.old.config name.now) ≡ Ok self.new.session) }
-        ensures refused { IfErr result (λ error. IsRefusal (calls.reset_file (storage_of self.old.config) self.old.session name.now now (initial_of self.old.config name.now)) error) }
-        ensures memory { IfErr result (λ error. error ≡ PerError.OutOfMemory → IsDue (calls.reset_file (storage_of self.old.config) self.old.session name.now now (initial_of self.old.config name.now))) }
+        ensures ok { OnOk result (calls.reset_file (storage_of self.old.config) self.old.session name.now now
+            (initial_of self.old.config name.now) ≡ Ok self.new.session) }
+        ensures refused { IfErr result (λ error. IsRefusal
+            (calls.reset_file (storage_of self.old.config) self.old.session name.now now
+            (initial_of self.old.config name.now)) error) }
+        ensures memory { IfErr result (λ error. error ≡ PerError.OutOfMemory
+            → IsDue (calls.reset_file (storage_of self.old.config) self.old.session name.now now
+            (initial_of self.old.config name.now))) }
         ensures beside { self.new ≡ record self.old { session = self.new.session } }
         ensures unchanged { OnErr result (self.new ≡ self.old) }
     {

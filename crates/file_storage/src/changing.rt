@@ -10,17 +10,23 @@ use crate::files::Files;
 use per_base::PerError;
 
 impl Files {
-    /// Writes the piece: it overwrites and extends from the position, or with Append from the size, and the position is then past
-    /// it. An empty piece changes nothing.
+    /// Writes the piece: it overwrites and extends from the position, or with Append from the size, and the position is
+    /// then past it. An empty piece changes nothing.
     ///
-    /// Errors: `NotOpen`; `IllegalWriteAccess` for kind Read; `LimitReached` with `FileBytes`; `OutOfStorageSpace`; `OutOfMemory`,
-    /// and this only where the piece reaches past the end of the file.
+    /// # Errors
+    ///
+    /// `NotOpen`; `IllegalWriteAccess` for kind Read; `LimitReached` with `FileBytes`; `OutOfStorageSpace`;
+    /// `OutOfMemory`, and this only where the piece reaches past the end of the file.
     pub fn write(&mut self, handle: u32, bytes: &[u8]) -> Result<(), PerError>
-        ensures ok { OnOk result (calls.write (storage_of self.old.config) self.old.session self.old.moment handle bytes.now ≡ Ok self.new.session) }
-        ensures refused { IfErr result (λ error. IsRefusal (calls.write (storage_of self.old.config) self.old.session self.old.moment handle bytes.now) error) }
+        ensures ok { OnOk result (calls.write (storage_of self.old.config) self.old.session self.old.moment handle
+            bytes.now ≡ Ok self.new.session) }
+        ensures refused { IfErr result (λ error. IsRefusal
+            (calls.write (storage_of self.old.config) self.old.session self.old.moment handle bytes.now) error) }
         // Want of memory stands for no refusal, and comes only where the file grows.
-        ensures due { IfErr result (λ error. error ≡ PerError.OutOfMemory → IsDue (calls.write (storage_of self.old.config) self.old.session self.old.moment handle bytes.now)) }
-        ensures memory { IfErr result (λ error. error ≡ PerError.OutOfMemory → calls.GrowsBy (open_at self.old.session handle) bytes.now) }
+        ensures due { IfErr result (λ error. error ≡ PerError.OutOfMemory
+            → IsDue (calls.write (storage_of self.old.config) self.old.session self.old.moment handle bytes.now)) }
+        ensures memory { IfErr result (λ error. error ≡ PerError.OutOfMemory
+            → calls.GrowsBy (open_at self.old.session handle) bytes.now) }
         ensures beside { self.new ≡ record self.old { session = self.new.session } }
         ensures unchanged { OnErr result (self.new ≡ self.old) }
     {
@@ -29,10 +35,13 @@ impl Files {
 
     /// Cuts the file to this size; a position beyond becomes the new size. Takes no memory.
     ///
-    /// Errors: `NotOpen`; `IllegalWriteAccess` for kind Read; `InvalidSize` where it is above the file's size.
+    /// # Errors
+    ///
+    /// `NotOpen`; `IllegalWriteAccess` for kind Read; `InvalidSize` where it is above the file's size.
     pub fn set_size(&mut self, handle: u32, size: u64) -> Result<(), PerError>
         ensures ok { OnOk result (calls.set_size self.old.session self.old.moment handle size ≡ Ok self.new.session) }
-        ensures refused { IfErr result (λ error. calls.set_size self.old.session self.old.moment handle size ≡ Err error) }
+        ensures refused { IfErr result (λ error. calls.set_size self.old.session self.old.moment handle size
+            ≡ Err error) }
         ensures beside { self.new ≡ record self.old { session = self.new.session } }
         ensures unchanged { OnErr result (self.new ≡ self.old) }
     {
@@ -41,7 +50,9 @@ impl Files {
 
     /// Releases the handle; the working file stays. Takes no memory.
     ///
-    /// Errors: `NotOpen`.
+    /// # Errors
+    ///
+    /// `NotOpen`.
     pub fn close(&mut self, handle: u32) -> Result<(), PerError>
         ensures ok { OnOk result (calls.close self.old.session handle ≡ Ok self.new.session) }
         ensures refused { IfErr result (λ error. calls.close self.old.session handle ≡ Err error) }

@@ -71,7 +71,8 @@ fn pass<'a>(
     name: &Name,
     file: &File,
 ) -> Result<&'a [Entry], AllocError>
-    ensures { IfOk result (λ rest. (files : Map) → list.new.items ++ walked files (map element_of rest.now) ≡ list.old.items ++ walked ((name.now, file.now) ∷ files) (map element_of entries.now)) }
+    ensures { IfOk result (λ rest. (files : Map) → list.new.items ++ walked files (map element_of rest.now)
+        ≡ list.old.items ++ walked ((name.now, file.now) ∷ files) (map element_of entries.now)) }
 {
     let mut rest = entries;
     while let Some((entry, more)) = rest.split_first() {
@@ -91,7 +92,8 @@ fn pass<'a>(
 
 /// The change at a name where a file is stored and a working file stands, where they differ.
 fn meet(alloc: Global, list: &mut Vec<Change>, entry: &Entry, file: &File) -> Result<(), AllocError>
-    ensures { OnOk result (list.new.items ≡ list.old.items ++ option_to_list (differences.arrival entry.now.name (Some (element_of entry.now).1) file.now)) }
+    ensures { OnOk result (list.new.items ≡ list.old.items
+        ++ option_to_list (differences.arrival entry.now.name (Some (element_of entry.now).1) file.now)) }
 {
     if is_same(entry, file) {
         return Ok(());
@@ -102,7 +104,8 @@ fn meet(alloc: Global, list: &mut Vec<Change>, entry: &Entry, file: &File) -> Re
 
 /// The change of a file that stands and differs: its info alone where its bytes are the same.
 fn replacement(alloc: Global, entry: &Entry, file: &File) -> Result<Change, AllocError>
-    ensures { IfOk result (λ change. change ≡ differences.replacement entry.now.name (element_of entry.now).1 file.now) }
+    ensures { IfOk result (λ change. change ≡ differences.replacement entry.now.name (element_of entry.now).1
+        file.now) }
 {
     if has_same_bytes(entry, file) {
         return Ok(Change::Touch(entry.name.copy()?, file.info()));

@@ -36,7 +36,13 @@ impl Model for Files {
     ghost use Rattle.deployment_model.specs.Data.{storage_data};
     ghost use Rattle.file_storage.specs.FileSessions.{IsOpen};
 
-    ghost view = { λ f. record { config = storage_data f.config; store = f.store; session = f.table.session; moment = f.table.moment } };
+    ghost view = { λ f. record {
+      config = storage_data f.config;
+      store = f.store;
+      session = f.table.session;
+      moment =
+          f.table.moment;
+    } };
 
     ghost invariant = { λ f. IsOpen (storage_data f.config) f.store f.table.storage f.table.session.files };
 }

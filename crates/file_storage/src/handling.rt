@@ -11,7 +11,9 @@ use per_base::{Origin, PerError};
 impl Files {
     /// The next byte of the handle's file; the position stays. Takes no memory.
     ///
-    /// Errors: `NotOpen`, `IllegalReadAccess`, `IsEof`.
+    /// # Errors
+    ///
+    /// `NotOpen`, `IllegalReadAccess`, `IsEof`.
     pub fn peek_byte(&self, handle: u32) -> Result<u8, PerError>
         ensures ok { IfOk result (λ byte. calls.peek_byte self.now.session handle ≡ Ok byte) }
         ensures refused { IfErr result (λ error. calls.peek_byte self.now.session handle ≡ Err error) }
@@ -21,7 +23,9 @@ impl Files {
 
     /// The next byte, which the position passes. Takes no memory.
     ///
-    /// Errors: `NotOpen`, `IllegalReadAccess`, `IsEof`.
+    /// # Errors
+    ///
+    /// `NotOpen`, `IllegalReadAccess`, `IsEof`.
     pub fn get_byte(&mut self, handle: u32) -> Result<u8, PerError>
         ensures ok { IfOk result (λ byte. calls.get_byte self.old.session handle ≡ Ok (byte, self.new.session)) }
         ensures refused { IfErr result (λ error. calls.get_byte self.old.session handle ≡ Err error) }
@@ -33,11 +37,15 @@ impl Files {
 
     /// So many bytes, or the rest where fewer are left; the position passes them.
     ///
-    /// Errors: `NotOpen`, `IllegalReadAccess`, `IsEof`, also for a count of 0; `OutOfMemory`.
+    /// # Errors
+    ///
+    /// `NotOpen`, `IllegalReadAccess`, `IsEof`, also for a count of 0; `OutOfMemory`.
     pub fn read(&mut self, handle: u32, count: u64) -> Result<Vec<u8>, PerError>
-        ensures ok { IfOk result (λ piece. calls.read self.old.session handle count ≡ Ok (piece.items, self.new.session)) }
+        ensures ok { IfOk result (λ piece. calls.read self.old.session handle count
+            ≡ Ok (piece.items, self.new.session)) }
         ensures refused { IfErr result (λ error. IsRefusal (calls.read self.old.session handle count) error) }
-        ensures memory { IfErr result (λ error. error ≡ PerError.OutOfMemory → IsDue (calls.read self.old.session handle count)) }
+        ensures memory { IfErr result (λ error. error ≡ PerError.OutOfMemory
+            → IsDue (calls.read self.old.session handle count)) }
         ensures beside { self.new ≡ record self.old { session = self.new.session } }
         ensures unchanged { OnErr result (self.new ≡ self.old) }
     {
@@ -46,11 +54,15 @@ impl Files {
 
     /// The rest, which the position passes.
     ///
-    /// Errors: `NotOpen`, `IllegalReadAccess`, `IsEof`; `OutOfMemory`.
+    /// # Errors
+    ///
+    /// `NotOpen`, `IllegalReadAccess`, `IsEof`; `OutOfMemory`.
     pub fn read_all(&mut self, handle: u32) -> Result<Vec<u8>, PerError>
-        ensures ok { IfOk result (λ piece. calls.read_all self.old.session handle ≡ Ok (piece.items, self.new.session)) }
+        ensures ok { IfOk result (λ piece. calls.read_all self.old.session handle
+            ≡ Ok (piece.items, self.new.session)) }
         ensures refused { IfErr result (λ error. IsRefusal (calls.read_all self.old.session handle) error) }
-        ensures memory { IfErr result (λ error. error ≡ PerError.OutOfMemory → IsDue (calls.read_all self.old.session handle)) }
+        ensures memory { IfErr result (λ error. error ≡ PerError.OutOfMemory
+            → IsDue (calls.read_all self.old.session handle)) }
         ensures beside { self.new ≡ record self.old { session = self.new.session } }
         ensures unchanged { OnErr result (self.new ≡ self.old) }
     {
@@ -59,11 +71,15 @@ impl Files {
 
     /// The bytes before the next delimiter, which is passed and not returned, or the rest.
     ///
-    /// Errors: `NotOpen`, `IllegalReadAccess`, `IsEof`; `OutOfMemory`.
+    /// # Errors
+    ///
+    /// `NotOpen`, `IllegalReadAccess`, `IsEof`; `OutOfMemory`.
     pub fn read_line(&mut self, handle: u32, delimiter: u8) -> Result<Vec<u8>, PerError>
-        ensures ok { IfOk result (λ piece. calls.read_line self.old.session handle delimiter ≡ Ok (piece.items, self.new.session)) }
+        ensures ok { IfOk result (λ piece. calls.read_line self.old.session handle delimiter
+            ≡ Ok (piece.items, self.new.session)) }
         ensures refused { IfErr result (λ error. IsRefusal (calls.read_line self.old.session handle delimiter) error) }
-        ensures memory { IfErr result (λ error. error ≡ PerError.OutOfMemory → IsDue (calls.read_line self.old.session handle delimiter)) }
+        ensures memory { IfErr result (λ error. error ≡ PerError.OutOfMemory
+            → IsDue (calls.read_line self.old.session handle delimiter)) }
         ensures beside { self.new ≡ record self.old { session = self.new.session } }
         ensures unchanged { OnErr result (self.new ≡ self.old) }
     {
@@ -72,7 +88,9 @@ impl Files {
 
     /// The size of the handle's file in bytes. Takes no memory.
     ///
-    /// Errors: `NotOpen`.
+    /// # Errors
+    ///
+    /// `NotOpen`.
     pub fn size(&self, handle: u32) -> Result<u64, PerError>
         ensures ok { IfOk result (λ size. calls.size self.now.session handle ≡ Ok size) }
         ensures refused { IfErr result (λ error. calls.size self.now.session handle ≡ Err error) }
@@ -82,7 +100,9 @@ impl Files {
 
     /// The position of the handle. Takes no memory.
     ///
-    /// Errors: `NotOpen`.
+    /// # Errors
+    ///
+    /// `NotOpen`.
     pub fn position(&self, handle: u32) -> Result<u64, PerError>
         ensures ok { IfOk result (λ position. calls.position self.now.session handle ≡ Ok position) }
         ensures refused { IfErr result (λ error. calls.position self.now.session handle ≡ Err error) }
@@ -92,7 +112,9 @@ impl Files {
 
     /// Whether the position is the size. Takes no memory.
     ///
-    /// Errors: `NotOpen`.
+    /// # Errors
+    ///
+    /// `NotOpen`.
     pub fn is_eof(&self, handle: u32) -> Result<bool, PerError>
         ensures ok { IfOk result (λ is. calls.is_eof self.now.session handle ≡ Ok is) }
         ensures refused { IfErr result (λ error. calls.is_eof self.now.session handle ≡ Err error) }
@@ -102,7 +124,9 @@ impl Files {
 
     /// Moves the handle to this position. Takes no memory.
     ///
-    /// Errors: `NotOpen`; `InvalidPosition` where it is above the size.
+    /// # Errors
+    ///
+    /// `NotOpen`; `InvalidPosition` where it is above the size.
     pub fn set_position(&mut self, handle: u32, position: u64) -> Result<(), PerError>
         ensures ok { OnOk result (calls.set_position self.old.session handle position ≡ Ok self.new.session) }
         ensures refused { IfErr result (λ error. calls.set_position self.old.session handle position ≡ Err error) }
@@ -114,15 +138,19 @@ impl Files {
 
     /// Moves the handle by an offset from the origin, and gives the new position. Takes no memory.
     ///
-    /// Errors: `NotOpen`; `InvalidPosition` where it is not from 0 to the size.
+    /// # Errors
+    ///
+    /// `NotOpen`; `InvalidPosition` where it is not from 0 to the size.
     pub fn move_position(
         &mut self,
         handle: u32,
         origin: Origin,
         offset: i64,
     ) -> Result<u64, PerError>
-        ensures ok { IfOk result (λ at. calls.move_position self.old.session handle origin offset ≡ Ok (at, self.new.session)) }
-        ensures refused { IfErr result (λ error. calls.move_position self.old.session handle origin offset ≡ Err error) }
+        ensures ok { IfOk result (λ at. calls.move_position self.old.session handle origin offset
+            ≡ Ok (at, self.new.session)) }
+        ensures refused { IfErr result (λ error. calls.move_position self.old.session handle origin offset
+            ≡ Err error) }
         ensures beside { self.new ≡ record self.old { session = self.new.session } }
         ensures unchanged { OnErr result (self.new ≡ self.old) }
     {

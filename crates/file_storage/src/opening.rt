@@ -44,12 +44,13 @@ pub struct OpenedFiles {
     pub reports: Vec<Report>,
 }
 
-/// Opens a storage of files at what its copies hold; each readable file that some copy lacks is written again there. The working
-/// files are the synchronised ones, there is no handle, and the moment is 0.
+/// Opens a storage of files at what its copies hold; each readable file that some copy lacks is written again there.
+/// The working files are the synchronised ones, there is no handle, and the moment is 0.
 ///
 /// # Errors
 ///
-/// `Corrupt` exactly where no text qualifies: then nothing is written. `Device` where the disk fails, and `OutOfMemory`.
+/// `Corrupt` exactly where no text qualifies: then nothing is written. `Device` where the disk fails, and
+/// `OutOfMemory`.
 pub fn open_files<D: Disk>(
     alloc: Global,
     disk: &mut D,
@@ -61,16 +62,19 @@ pub fn open_files<D: Disk>(
 
     // The storage in use, by the index that was found; the working files are those that it shows.
     ensures opened { IfOk result (λ o. IsOpened D.told (D.medium disk.old).image shape (λ bytes. true) (given o)) }
-    ensures adopted { IsTrue D.told → IfOk result (λ o. OpensBy (D.medium disk.old).image shape (index_in o.files.store)) }
+    ensures adopted { IsTrue D.told → IfOk result (λ o. OpensBy (D.medium disk.old).image shape
+        (index_in o.files.store)) }
     ensures session { IfOk result (λ o. o.files.session ≡ record { files = stored_in o.files.store; handles = [] }) }
     ensures moment { IfOk result (λ o. o.files.moment ≡ 0) }
     ensures config { IfOk result (λ o. o.files.config ≡ storage_data config.now) }
     ensures used { IfOk result (λ o. IsUsed D.told (D.medium disk.new).image o.files.store) }
-    ensures clean { IsTrue D.told → IsClean shape (D.medium disk.old).image → OnOk result (IsClean shape (D.medium disk.new).image) }
+    ensures clean { IsTrue D.told → IsClean shape (D.medium disk.old).image
+        → OnOk result (IsClean shape (D.medium disk.new).image) }
     ensures quiet { OnOk result (Quiet (D.medium disk.new)) }
 
     // A corrupt storage is left as it is.
-    ensures corrupt { IsTrue D.told → IsErrOf result StoreError.Corrupt → opened_of (store_at (D.medium disk.old).image shape) ≡ None }
+    ensures corrupt { IsTrue D.told → IsErrOf result StoreError.Corrupt
+        → opened_of (store_at (D.medium disk.old).image shape) ≡ None }
     ensures untouched { IsErrOf result StoreError.Corrupt → (D.medium disk.new).image ≡ (D.medium disk.old).image }
     ensures unwritten { IsErrOf result StoreError.Corrupt → (D.medium disk.new).written ≡ (D.medium disk.old).written }
     ensures settled { IsErrOf result StoreError.Corrupt → Quiet (D.medium disk.new) }
@@ -82,7 +86,8 @@ pub fn open_files<D: Disk>(
     ensures unfailed { IsErrOf result StoreError.Corrupt → (D.medium disk.new).faults ≡ (D.medium disk.old).faults }
 
     // Where nothing lacks, nothing is written.
-    ensures idle { IsTrue D.told → LacksNothing shape (D.medium disk.old).image → IsAsBefore (D.medium disk.old) (D.medium disk.new) }
+    ensures idle { IsTrue D.told → LacksNothing shape (D.medium disk.old).image
+        → IsAsBefore (D.medium disk.old) (D.medium disk.new) }
 
     // No file outside the place changes, and a stop at any moment keeps the storage, whatever its next state is to be.
     ensures storing { (after : State) → IsStoring D.told shape after (D.medium disk.old) (D.medium disk.new) }

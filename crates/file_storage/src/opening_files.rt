@@ -12,11 +12,17 @@ use per_base::{Name, OpenKind, OpenMode, PerError};
 impl Files {
     /// Opens a file for reading, and gives the number of the handle, the lowest free one.
     ///
-    /// Errors: those of `can_open`, then `OutOfStorageSpace` where an empty file of a missing name would exceed the maximum.
+    /// # Errors
+    ///
+    /// Those of `can_open`, then `OutOfStorageSpace` where an empty file of a missing name would exceed the maximum.
     pub fn open_read_only(&mut self, name: &Name, mode: OpenMode, now: u64) -> Result<u32, PerError>
-        ensures ok { IfOk result (λ handle. opening.open_file (storage_of self.old.config) self.old.session name.now OpenKind.Read mode now ≡ Ok (handle, self.new.session)) }
-        ensures refused { IfErr result (λ error. IsRefusal (opening.open_file (storage_of self.old.config) self.old.session name.now OpenKind.Read mode now) error) }
-        ensures memory { IfErr result (λ error. error ≡ PerError.OutOfMemory → NeedsMemory (opening.open_file (storage_of self.old.config) self.old.session name.now OpenKind.Read mode now)) }
+        ensures ok { IfOk result (λ handle. opening.open_file (storage_of self.old.config) self.old.session name.now
+            OpenKind.Read mode now ≡ Ok (handle, self.new.session)) }
+        ensures refused { IfErr result (λ error. IsRefusal
+            (opening.open_file (storage_of self.old.config) self.old.session name.now OpenKind.Read mode now) error) }
+        ensures memory { IfErr result (λ error. error ≡ PerError.OutOfMemory
+            → NeedsMemory (opening.open_file (storage_of self.old.config) self.old.session name.now OpenKind.Read mode
+            now)) }
         ensures moment { OnOk result (self.new.moment ≡ now) }
         ensures beside { self.new ≡ record self.old { session = self.new.session; moment = self.new.moment } }
         ensures unchanged { OnErr result (self.new ≡ self.old) }
@@ -24,18 +30,26 @@ impl Files {
         self.open_file(name, OpenKind::Read, mode, now)
     }
 
-    /// Opens a file for writing, and gives the number of the handle, the lowest free one. A missing file is created empty.
+    /// Opens a file for writing, and gives the number of the handle, the lowest free one. A missing file is created
+    /// empty.
     ///
-    /// Errors: those of `can_open`, then `OutOfStorageSpace` where an empty file of a missing name would exceed the maximum.
+    /// # Errors
+    ///
+    /// Those of `can_open`, then `OutOfStorageSpace` where an empty file of a missing name would exceed the maximum.
     pub fn open_write_only(
         &mut self,
         name: &Name,
         mode: OpenMode,
         now: u64,
     ) -> Result<u32, PerError>
-        ensures ok { IfOk result (λ handle. opening.open_file (storage_of self.old.config) self.old.session name.now OpenKind.Write mode now ≡ Ok (handle, self.new.session)) }
-        ensures refused { IfErr result (λ error. IsRefusal (opening.open_file (storage_of self.old.config) self.old.session name.now OpenKind.Write mode now) error) }
-        ensures memory { IfErr result (λ error. error ≡ PerError.OutOfMemory → NeedsMemory (opening.open_file (storage_of self.old.config) self.old.session name.now OpenKind.Write mode now)) }
+        ensures ok { IfOk result (λ handle. opening.open_file (storage_of self.old.config) self.old.session name.now
+            OpenKind.Write mode now ≡ Ok (handle, self.new.session)) }
+        ensures refused { IfErr result (λ error. IsRefusal
+            (opening.open_file (storage_of self.old.config) self.old.session name.now OpenKind.Write mode now)
+            error) }
+        ensures memory { IfErr result (λ error. error ≡ PerError.OutOfMemory
+            → NeedsMemory (opening.open_file (storage_of self.old.config) self.old.session name.now OpenKind.Write
+            mode now)) }
         ensures moment { OnOk result (self.new.moment ≡ now) }
         ensures beside { self.new ≡ record self.old { session = self.new.session; moment = self.new.moment } }
         ensures unchanged { OnErr result (self.new ≡ self.old) }
@@ -43,18 +57,26 @@ impl Files {
         self.open_file(name, OpenKind::Write, mode, now)
     }
 
-    /// Opens a file for reading and writing, and gives the number of the handle, the lowest free one. A missing file is created empty.
+    /// Opens a file for reading and writing, and gives the number of the handle, the lowest free one. A missing file is
+    /// created empty.
     ///
-    /// Errors: those of `can_open`, then `OutOfStorageSpace` where an empty file of a missing name would exceed the maximum.
+    /// # Errors
+    ///
+    /// Those of `can_open`, then `OutOfStorageSpace` where an empty file of a missing name would exceed the maximum.
     pub fn open_read_write(
         &mut self,
         name: &Name,
         mode: OpenMode,
         now: u64,
     ) -> Result<u32, PerError>
-        ensures ok { IfOk result (λ handle. opening.open_file (storage_of self.old.config) self.old.session name.now OpenKind.ReadWrite mode now ≡ Ok (handle, self.new.session)) }
-        ensures refused { IfErr result (λ error. IsRefusal (opening.open_file (storage_of self.old.config) self.old.session name.now OpenKind.ReadWrite mode now) error) }
-        ensures memory { IfErr result (λ error. error ≡ PerError.OutOfMemory → NeedsMemory (opening.open_file (storage_of self.old.config) self.old.session name.now OpenKind.ReadWrite mode now)) }
+        ensures ok { IfOk result (λ handle. opening.open_file (storage_of self.old.config) self.old.session name.now
+            OpenKind.ReadWrite mode now ≡ Ok (handle, self.new.session)) }
+        ensures refused { IfErr result (λ error. IsRefusal
+            (opening.open_file (storage_of self.old.config) self.old.session name.now OpenKind.ReadWrite mode now)
+            error) }
+        ensures memory { IfErr result (λ error. error ≡ PerError.OutOfMemory
+            → NeedsMemory (opening.open_file (storage_of self.old.config) self.old.session name.now OpenKind.ReadWrite
+            mode now)) }
         ensures moment { OnOk result (self.new.moment ≡ now) }
         ensures beside { self.new ≡ record self.old { session = self.new.session; moment = self.new.moment } }
         ensures unchanged { OnErr result (self.new ≡ self.old) }
@@ -64,7 +86,9 @@ impl Files {
 
     /// Opens a file with this kind.
     ///
-    /// Errors: those of `can_open`, then `OutOfStorageSpace` where an empty file of a missing name would exceed the maximum.
+    /// # Errors
+    ///
+    /// Those of `can_open`, then `OutOfStorageSpace` where an empty file of a missing name would exceed the maximum.
     pub(crate) fn open_file(
         &mut self,
         name: &Name,
@@ -72,9 +96,12 @@ impl Files {
         mode: OpenMode,
         now: u64,
     ) -> Result<u32, PerError>
-        ensures ok { IfOk result (λ handle. opening.open_file (storage_of self.old.config) self.old.session name.now kind mode now ≡ Ok (handle, self.new.session)) }
-        ensures refused { IfErr result (λ error. IsRefusal (opening.open_file (storage_of self.old.config) self.old.session name.now kind mode now) error) }
-        ensures memory { IfErr result (λ error. error ≡ PerError.OutOfMemory → NeedsMemory (opening.open_file (storage_of self.old.config) self.old.session name.now kind mode now)) }
+        ensures ok { IfOk result (λ handle. opening.open_file (storage_of self.old.config) self.old.session name.now
+            kind mode now ≡ Ok (handle, self.new.session)) }
+        ensures refused { IfErr result (λ error. IsRefusal
+            (opening.open_file (storage_of self.old.config) self.old.session name.now kind mode now) error) }
+        ensures memory { IfErr result (λ error. error ≡ PerError.OutOfMemory
+            → NeedsMemory (opening.open_file (storage_of self.old.config) self.old.session name.now kind mode now)) }
         ensures moment { OnOk result (self.new.moment ≡ now) }
         ensures beside { self.new ≡ record self.old { session = self.new.session; moment = self.new.moment } }
         ensures unchanged { OnErr result (self.new ≡ self.old) }
@@ -84,25 +111,34 @@ impl Files {
 
     /// Whether a file may be opened so: what refuses it, but want of space. Changes nothing.
     ///
-    /// Errors, in this order: `InvalidOpenMode` where the flags contradict one another or ask a reader to change the file;
-    /// `IllegalWriteAccess` where the kind writes and the storage is read-only; `FileNotFound` where the kind is Read and the file
-    /// is missing; `IntegrityCorrupted` where it is unreadable; `ResourceBusy` with the lowest handle that stands in the way;
-    /// `LimitReached` with `Handles`, then with `Elements`. `OutOfMemory` comes only in the place of `IntegrityCorrupted`.
+    /// Errors, in this order: `InvalidOpenMode` where the flags contradict one another or ask a reader to change the
+    /// file; `IllegalWriteAccess` where the kind writes and the storage is read-only; `FileNotFound` where the kind is
+    /// Read and the file is missing; `IntegrityCorrupted` where it is unreadable; `ResourceBusy` with the lowest handle
+    /// that stands in the way; `LimitReached` with `Handles`, then with `Elements`. `OutOfMemory` comes only in the
+    /// place of `IntegrityCorrupted`.
     pub fn can_open(&self, name: &Name, kind: OpenKind, mode: OpenMode) -> Result<(), PerError>
-        ensures ok { OnOk result (opening.can_open (storage_of self.now.config) self.now.session name.now kind mode ≡ None) }
-        ensures refused { IfErr result (λ error. error ≢ PerError.OutOfMemory → opening.can_open (storage_of self.now.config) self.now.session name.now kind mode ≡ Some error) }
-        ensures memory { IfErr result (λ error. error ≡ PerError.OutOfMemory → opening.can_open (storage_of self.now.config) self.now.session name.now kind mode ≡ Some (PerError.IntegrityCorrupted (Part self.now.config.name name.now))) }
+        ensures ok { OnOk result (opening.can_open (storage_of self.now.config) self.now.session name.now kind mode
+            ≡ None) }
+        ensures refused { IfErr result (λ error. error ≢ PerError.OutOfMemory
+            → opening.can_open (storage_of self.now.config) self.now.session name.now kind mode ≡ Some error) }
+        ensures memory { IfErr result (λ error. error ≡ PerError.OutOfMemory
+            → opening.can_open (storage_of self.now.config) self.now.session name.now kind mode
+            ≡ Some (PerError.IntegrityCorrupted (Part self.now.config.name name.now))) }
     {
         self.table.can_open(name, kind, mode)
     }
 
     /// Whether the storage has a file of this length under this name. Changes nothing, and takes no memory.
     ///
-    /// Errors: `LimitReached` with `FileBytes` where the length is above 1,048,576; `OutOfStorageSpace` where the storage with this
-    /// file at that length would exceed its maximum.
+    /// # Errors
+    ///
+    /// `LimitReached` with `FileBytes` where the length is above 1,048,576; `OutOfStorageSpace` where the storage with
+    /// this file at that length would exceed its maximum.
     pub fn would_fit(&self, name: &Name, len: u64) -> Result<(), PerError>
-        ensures ok { OnOk result (opening.would_fit (storage_of self.now.config) self.now.session.files name.now len ≡ None) }
-        ensures refused { IfErr result (λ error. opening.would_fit (storage_of self.now.config) self.now.session.files name.now len ≡ Some error) }
+        ensures ok { OnOk result (opening.would_fit (storage_of self.now.config) self.now.session.files name.now len
+            ≡ None) }
+        ensures refused { IfErr result (λ error. opening.would_fit (storage_of self.now.config) self.now.session.files
+            name.now len ≡ Some error) }
     {
         self.table.would_fit(name, len)
     }

@@ -20,10 +20,12 @@ pub struct Scoped<'a> {
 }
 
 impl Files {
-    /// Opens a file with a handle that is closed when it is dropped: then the handles are those of before, and the working files and
-    /// the moment stay as it left them.
+    /// Opens a file with a handle that is closed when it is dropped: then the handles are those of before, and the
+    /// working files and the moment stay as it left them.
     ///
-    /// Errors: those of opening.
+    /// # Errors
+    ///
+    /// Those of opening.
     pub fn scoped(
         &mut self,
         name: &Name,
@@ -31,14 +33,20 @@ impl Files {
         mode: OpenMode,
         now: u64,
     ) -> Result<Scoped<'_>, PerError>
-        ensures* untouched { sem 𝓛 (RestsIfErr the_row self.entry (λ scoped. scoped.files.ghost_name) result (λ last. last ≡ self.old)) }
+        ensures* untouched { sem 𝓛 (RestsIfErr the_row self.entry (λ scoped. scoped.files.ghost_name) result
+            (λ last. last ≡ self.old)) }
         ensures same_reference { IfOk result (λ scoped. scoped.files.ghost_name ≡ self.entry.ghost_name) }
-        ensures ok { IfOk result (λ scoped. opening.open_file (storage_of self.old.config) self.old.session name.now kind mode now ≡ Ok (scoped.handle, scoped.files.now.session)) }
+        ensures ok { IfOk result (λ scoped. opening.open_file (storage_of self.old.config) self.old.session name.now
+            kind mode now ≡ Ok (scoped.handle, scoped.files.now.session)) }
         ensures moment { IfOk result (λ scoped. scoped.files.now.moment ≡ now) }
-        ensures beside { IfOk result (λ scoped. scoped.files.now ≡ record self.old { session = scoped.files.now.session; moment = now }) }
-        ensures others { IfOk result (λ scoped. without_handle scoped.files.now.session.handles scoped.handle ≡ self.old.session.handles) }
-        ensures refused { IfErr result (λ error. IsRefusal (opening.open_file (storage_of self.old.config) self.old.session name.now kind mode now) error) }
-        ensures memory { IfErr result (λ error. error ≡ PerError.OutOfMemory → NeedsMemory (opening.open_file (storage_of self.old.config) self.old.session name.now kind mode now)) }
+        ensures beside { IfOk result (λ scoped. scoped.files.now
+            ≡ record self.old { session = scoped.files.now.session; moment = now }) }
+        ensures others { IfOk result (λ scoped. without_handle scoped.files.now.session.handles scoped.handle
+            ≡ self.old.session.handles) }
+        ensures refused { IfErr result (λ error. IsRefusal
+            (opening.open_file (storage_of self.old.config) self.old.session name.now kind mode now) error) }
+        ensures memory { IfErr result (λ error. error ≡ PerError.OutOfMemory
+            → NeedsMemory (opening.open_file (storage_of self.old.config) self.old.session name.now kind mode now)) }
     {
         self.table.holds();
         let handle = self.open_file(name, kind, mode, now)?;
@@ -62,15 +70,21 @@ impl Files {
 impl<'a> Scoped<'a> {
     /// The rest, which the position passes.
     ///
-    /// Errors: `IllegalReadAccess`, `IsEof`; `OutOfMemory`.
+    /// # Errors
+    ///
+    /// `IllegalReadAccess`, `IsEof`; `OutOfMemory`.
     pub fn read_all(&mut self) -> Result<Vec<u8>, PerError>
         ensures same_reference { self.new.files.ghost_name ≡ self.old.files.ghost_name }
         ensures handle { self.new.handle ≡ self.old.handle }
-        ensures ok { IfOk result (λ piece. calls.read_all self.old.files.now.session self.old.handle ≡ Ok (piece.items, self.new.files.now.session)) }
-        ensures refused { IfErr result (λ error. IsRefusal (calls.read_all self.old.files.now.session self.old.handle) error) }
-        ensures memory { IfErr result (λ error. error ≡ PerError.OutOfMemory → IsDue (calls.read_all self.old.files.now.session self.old.handle)) }
+        ensures ok { IfOk result (λ piece. calls.read_all self.old.files.now.session self.old.handle
+            ≡ Ok (piece.items, self.new.files.now.session)) }
+        ensures refused { IfErr result (λ error. IsRefusal (calls.read_all self.old.files.now.session self.old.handle)
+            error) }
+        ensures memory { IfErr result (λ error. error ≡ PerError.OutOfMemory
+            → IsDue (calls.read_all self.old.files.now.session self.old.handle)) }
         ensures beside { self.new.files.now ≡ record self.old.files.now { session = self.new.files.now.session } }
-        ensures others { without_handle self.new.files.now.session.handles self.new.handle ≡ without_handle self.old.files.now.session.handles self.old.handle }
+        ensures others { without_handle self.new.files.now.session.handles self.new.handle
+            ≡ without_handle self.old.files.now.session.handles self.old.handle }
         ensures unchanged { OnErr result (self.new.files.now ≡ self.old.files.now) }
     {
         self.files.holds();
@@ -79,17 +93,26 @@ impl<'a> Scoped<'a> {
 
     /// Writes the piece, as through any handle.
     ///
-    /// Errors: `IllegalWriteAccess`; `LimitReached` with `FileBytes`; `OutOfStorageSpace`; `OutOfMemory`, and this only where the
-    /// piece reaches past the end of the file.
+    /// # Errors
+    ///
+    /// `IllegalWriteAccess`; `LimitReached` with `FileBytes`; `OutOfStorageSpace`; `OutOfMemory`, and this only where
+    /// the piece reaches past the end of the file.
     pub fn write(&mut self, bytes: &[u8]) -> Result<(), PerError>
         ensures same_reference { self.new.files.ghost_name ≡ self.old.files.ghost_name }
         ensures handle { self.new.handle ≡ self.old.handle }
-        ensures ok { OnOk result (calls.write (storage_of self.old.files.now.config) self.old.files.now.session self.old.files.now.moment self.old.handle bytes.now ≡ Ok self.new.files.now.session) }
-        ensures refused { IfErr result (λ error. IsRefusal (calls.write (storage_of self.old.files.now.config) self.old.files.now.session self.old.files.now.moment self.old.handle bytes.now) error) }
-        ensures due { IfErr result (λ error. error ≡ PerError.OutOfMemory → IsDue (calls.write (storage_of self.old.files.now.config) self.old.files.now.session self.old.files.now.moment self.old.handle bytes.now)) }
-        ensures memory { IfErr result (λ error. error ≡ PerError.OutOfMemory → calls.GrowsBy (open_at self.old.files.now.session self.old.handle) bytes.now) }
+        ensures ok { OnOk result (calls.write (storage_of self.old.files.now.config) self.old.files.now.session
+            self.old.files.now.moment self.old.handle bytes.now ≡ Ok self.new.files.now.session) }
+        ensures refused { IfErr result (λ error. IsRefusal
+            (calls.write (storage_of self.old.files.now.config) self.old.files.now.session self.old.files.now.moment
+            self.old.handle bytes.now) error) }
+        ensures due { IfErr result (λ error. error ≡ PerError.OutOfMemory
+            → IsDue (calls.write (storage_of self.old.files.now.config) self.old.files.now.session
+            self.old.files.now.moment self.old.handle bytes.now)) }
+        ensures memory { IfErr result (λ error. error ≡ PerError.OutOfMemory
+            → calls.GrowsBy (open_at self.old.files.now.session self.old.handle) bytes.now) }
         ensures beside { self.new.files.now ≡ record self.old.files.now { session = self.new.files.now.session } }
-        ensures others { without_handle self.new.files.now.session.handles self.new.handle ≡ without_handle self.old.files.now.session.handles self.old.handle }
+        ensures others { without_handle self.new.files.now.session.handles self.new.handle
+            ≡ without_handle self.old.files.now.session.handles self.old.handle }
         ensures unchanged { OnErr result (self.new.files.now ≡ self.old.files.now) }
     {
         self.files.holds();

@@ -1,6 +1,7 @@
 //! Making the working files durable.
 
-ghost use Rattle.std.specs.Prelude.{◌≡◌, [], IsTrue, IfOk, IfErr, Some, None, IsSome, true, false, length, List, ℕ, ◌<◌};
+ghost use Rattle.std.specs.Prelude.{◌≡◌, [], IsTrue, IfOk, IfErr, Some, None, IsSome, true, false, length, List, ℕ};
+ghost use Rattle.std.specs.Prelude.{◌<◌};
 ghost use Rattle.per_base.specs.Causes.{Rose};
 ghost use Rattle.guarded_cell.specs.Register.{IsAlone};
 ghost use Rattle.index_text.specs.Spelling.{index_text};
@@ -12,7 +13,8 @@ ghost use Rattle.element_store.specs.Committing.{index_in, index_length};
 ghost use Rattle.element_store.specs.Stores.{IsStore, IsUsed, shape_of, view_in};
 ghost use Rattle.file_storage.specs.Closes.{HandsBack, IsDeviceFault, MatchClosed, OnDone};
 ghost use Rattle.file_storage.specs.FileSessions.{stored_in};
-ghost use Rattle.file_storage.specs.Syncs.{IsSynced, WritesAtMost, close_refused, is_synced, sync_refused, synced_view, worn};
+ghost use Rattle.file_storage.specs.Syncs.{IsSynced, WritesAtMost, close_refused, is_synced, sync_refused, synced_view};
+ghost use Rattle.file_storage.specs.Syncs.{worn};
 
 use crate::differences::{are_same, differences};
 use crate::files::Files;
@@ -52,12 +54,13 @@ pub enum Closed {
 }
 
 impl Files {
-    /// Makes the working files of the whole storage durable, all at once, through a handle that writes: a stop at any moment leaves
-    /// the files of before or those of after. Only what differs is written: of a file that could be read only the blocks that do, and
-    /// of one whose info alone changed no content. Where nothing differs, the disk is not called. Handles and positions stay.
+    /// Makes the working files of the whole storage durable, all at once, through a handle that writes: a stop at any
+    /// moment leaves the files of before or those of after. Only what differs is written: of a file that could be read
+    /// only the blocks that do, and of one whose info alone changed no content. Where nothing differs, the disk is not
+    /// called. Handles and positions stay.
     ///
-    /// It is refused, and nothing changes, with `NotOpen`; `IllegalWriteAccess` for kind Read; `LimitReached` with `Generations` where
-    /// files differ and no generation is left.
+    /// It is refused, and nothing changes, with `NotOpen`; `IllegalWriteAccess` for kind Read; `LimitReached` with
+    /// `Generations` where files differ and no generation is left.
     ///
     /// # Errors
     ///
@@ -84,23 +87,28 @@ impl Files {
         ensures used { IfOk result (λ o. IsUsed D.told (D.medium disk.new).image o.files.store) }
 
         // What differed is durable: in each copy the contents that do, and the index.
-        ensures durable { IfOk result (λ o. o.refused ≡ None → IsDurable D.told (shape_of self.store) (stored_in self.store) self.session.files
+        ensures durable { IfOk result (λ o. o.refused ≡ None
+            → IsDurable D.told (shape_of self.store) (stored_in self.store) self.session.files
             (length (index_text (index_in o.files.store))) (D.medium disk.old) (D.medium disk.new)) }
         ensures at_most { WritesAtMost self (D.medium disk.old) (D.medium disk.new) }
 
         // The next index lists what the view shows, in format 2, and each file that does not differ as it was listed.
         ensures carried { IfOk result (λ o. KeepsEqual (stored_in self.store) self.session.files
             (index_in self.store).entries (index_in o.files.store).entries) }
-        ensures format { is_synced self ≡ false → IfOk result (λ o. o.refused ≡ None → (index_in o.files.store).format ≡ 2) }
-        ensures text { is_synced self ≡ false → IfOk result (λ o. o.refused ≡ None → length (index_text (index_in o.files.store))
+        ensures format { is_synced self ≡ false → IfOk result
+            (λ o. o.refused ≡ None → (index_in o.files.store).format ≡ 2) }
+        ensures text { is_synced self ≡ false → IfOk result
+            (λ o. o.refused ≡ None → length (index_text (index_in o.files.store))
             ≡ index_length (shape_of self.store).kind (view_in o.files.store).entries) }
 
         // A want of memory hands the storage back, and then nothing happened. Only a disk that failed closes it.
         ensures memory { IfErr result (λ fault. HandsBack self fault (disk.new ≡ disk.old)) }
-        ensures cause { IfErr result (λ fault. IsDeviceFault fault → Rose (D.medium disk.old).faults (D.medium disk.new).faults) }
+        ensures cause { IfErr result (λ fault. IsDeviceFault fault
+            → Rose (D.medium disk.old).faults (D.medium disk.new).faults) }
 
         // No file outside the place changes, and a stop at any moment leaves the storage of before or that of after.
-        ensures storing { IsStoring D.told (shape_of self.store) (Opens (synced_view self) []) (D.medium disk.old) (D.medium disk.new) }
+        ensures storing { IsStoring D.told (shape_of self.store) (Opens (synced_view self) []) (D.medium disk.old)
+            (D.medium disk.new) }
     {
         untouched_is_kept();
         if let Some(error) = self.refuses_sync(handle) {
@@ -122,8 +130,8 @@ impl Files {
 impl Files {
     /// Makes the working files durable and closes the storage.
     ///
-    /// It is refused, and nothing changes, with `ResourceBusy` of the lowest handle where one is open; then with `LimitReached` of
-    /// `Generations` where files differ and no generation is left.
+    /// It is refused, and nothing changes, with `ResourceBusy` of the lowest handle where one is open; then with
+    /// `LimitReached` of `Generations` where files differ and no generation is left.
     ///
     /// # Errors
     ///
@@ -132,9 +140,12 @@ impl Files {
         requires { IsUsed D.told (D.medium disk.old).image self.store }
 
         // What is due is given: a refusal hands all back, and where nothing differs the disk is not called.
-        ensures refused { IfOk result (λ closed. MatchClosed closed (close_refused self ≡ None) (λ files error. close_refused self ≡ Some error)) }
-        ensures due { (error : PerError) → close_refused self ≡ Some error → (result ≡ Ok (Closed.Refused self error)) × (disk.new ≡ disk.old) }
-        ensures unchanged { is_synced self ≡ true → close_refused self ≡ None → (result ≡ Ok Closed.Done) × (disk.new ≡ disk.old) }
+        ensures refused { IfOk result (λ closed. MatchClosed closed (close_refused self ≡ None)
+            (λ files error. close_refused self ≡ Some error)) }
+        ensures due { (error : PerError) → close_refused self ≡ Some error
+            → (result ≡ Ok (Closed.Refused self error)) × (disk.new ≡ disk.old) }
+        ensures unchanged { is_synced self ≡ true → close_refused self ≡ None
+            → (result ≡ Ok Closed.Done) × (disk.new ≡ disk.old) }
 
         // The storage then opens at the working files.
         ensures opens { IsTrue D.told → IfOk result (λ closed. OnDone closed
@@ -142,16 +153,20 @@ impl Files {
         ensures stored { IfOk result (λ closed. OnDone closed (map_of (synced_view self) ≡ self.session.files)) }
         // What differed is durable: in each copy the contents that do, and the index that stands.
         ensures durable { IfOk result (λ closed. OnDone closed ((text : List ℕ)
-            × (IsTrue D.told → IsAlone (D.medium disk.new).image (shape_of self.store).place.first (shape_of self.store).place.copies (synced_view self).generation text)
-            × IsDurable D.told (shape_of self.store) (stored_in self.store) self.session.files (length text) (D.medium disk.old) (D.medium disk.new))) }
+            × (IsTrue D.told → IsAlone (D.medium disk.new).image (shape_of self.store).place.first
+            (shape_of self.store).place.copies (synced_view self).generation text)
+            × IsDurable D.told (shape_of self.store) (stored_in self.store) self.session.files (length text)
+            (D.medium disk.old) (D.medium disk.new))) }
         ensures at_most { WritesAtMost self (D.medium disk.old) (D.medium disk.new) }
 
         // A want of memory hands the storage back, and then nothing happened. Only a disk that failed closes it.
         ensures memory { IfErr result (λ fault. HandsBack self fault (disk.new ≡ disk.old)) }
-        ensures cause { IfErr result (λ fault. IsDeviceFault fault → Rose (D.medium disk.old).faults (D.medium disk.new).faults) }
+        ensures cause { IfErr result (λ fault. IsDeviceFault fault
+            → Rose (D.medium disk.old).faults (D.medium disk.new).faults) }
 
         // No file outside the place changes, and a stop at any moment leaves the storage of before or that of after.
-        ensures storing { IsStoring D.told (shape_of self.store) (Opens (synced_view self) []) (D.medium disk.old) (D.medium disk.new) }
+        ensures storing { IsStoring D.told (shape_of self.store) (Opens (synced_view self) []) (D.medium disk.old)
+            (D.medium disk.new) }
     {
         untouched_is_kept();
         if let Some(error) = self.refuses_close() {
@@ -171,8 +186,10 @@ impl Files {
         ensures at_most { WritesAtMost self (D.medium disk.old) (D.medium disk.new) }
         ensures unchanged { is_synced self ≡ true → (result ≡ Ok self) × (disk.new ≡ disk.old) }
         ensures memory { IfErr result (λ fault. HandsBack self fault (disk.new ≡ disk.old)) }
-        ensures cause { IfErr result (λ fault. IsDeviceFault fault → Rose (D.medium disk.old).faults (D.medium disk.new).faults) }
-        ensures storing { IsStoring D.told (shape_of self.store) (Opens (synced_view self) []) (D.medium disk.old) (D.medium disk.new) }
+        ensures cause { IfErr result (λ fault. IsDeviceFault fault
+            → Rose (D.medium disk.old).faults (D.medium disk.new).faults) }
+        ensures storing { IsStoring D.told (shape_of self.store) (Opens (synced_view self) []) (D.medium disk.old)
+            (D.medium disk.new) }
     {
         untouched_is_kept();
         syncs_are_decided();
@@ -188,14 +205,17 @@ impl Files {
     /// Commits these changes, which make the stored files into the working ones.
     fn commit<D: Disk>(self, disk: &mut D, changes: Vec<Change>) -> Result<Files, FilesFault>
         requires used { IsUsed D.told (D.medium disk.old).image self.store }
-        requires changes { IsSync (shape_of self.store) (λ bytes. true) (view_in self.store) (stored_in self.store) self.session.files changes.items }
+        requires changes { IsSync (shape_of self.store) (λ bytes. true) (view_in self.store) (stored_in self.store)
+            self.session.files changes.items }
         requires differ { is_synced self ≡ false }
         requires not_worn { (view_in self.store).generation < greatest_generation }
         ensures synced { IfOk result (λ files. IsSynced D.told self files (D.medium disk.old) (D.medium disk.new)) }
         ensures at_most { WritesAtMost self (D.medium disk.old) (D.medium disk.new) }
         ensures memory { IfErr result (λ fault. HandsBack self fault (disk.new ≡ disk.old)) }
-        ensures cause { IfErr result (λ fault. IsDeviceFault fault → Rose (D.medium disk.old).faults (D.medium disk.new).faults) }
-        ensures storing { IsStoring D.told (shape_of self.store) (Opens (synced_view self) []) (D.medium disk.old) (D.medium disk.new) }
+        ensures cause { IfErr result (λ fault. IsDeviceFault fault
+            → Rose (D.medium disk.old).faults (D.medium disk.new).faults) }
+        ensures storing { IsStoring D.told (shape_of self.store) (Opens (synced_view self) []) (D.medium disk.old)
+            (D.medium disk.new) }
     {
         changes_make_maps();
         views_are_maps();
@@ -226,7 +246,8 @@ impl Files {
     /// The changes that make the stored files into the working ones.
     fn changes(&self) -> Result<Vec<Change>, AllocError>
         requires { IsStore self.now.store }
-        ensures { IfOk result (λ changes. IsSync (shape_of self.now.store) (λ bytes. true) (view_in self.now.store) (stored_in self.now.store) self.now.session.files changes.items) }
+        ensures { IfOk result (λ changes. IsSync (shape_of self.now.store) (λ bytes. true) (view_in self.now.store)
+            (stored_in self.now.store) self.now.session.files changes.items) }
     {
         views_are_maps();
         self.holds();

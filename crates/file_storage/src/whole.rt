@@ -11,11 +11,16 @@ use per_base::{Name, PerError};
 impl Files {
     /// The whole content of a file, as a reader gets it that opens the file with no flag and closes it again.
     ///
-    /// Errors: those of an opening for reading with no flag; `OutOfMemory`.
+    /// # Errors
+    ///
+    /// Those of an opening for reading with no flag; `OutOfMemory`.
     pub fn whole_content(&mut self, name: &Name, now: u64) -> Result<Vec<u8>, PerError>
-        ensures ok { IfOk result (λ content. cat (storage_of self.old.config) self.old.session name.now now ≡ Ok (content.items, self.new.session)) }
-        ensures refused { IfErr result (λ error. IsRefusal (cat (storage_of self.old.config) self.old.session name.now now) error) }
-        ensures memory { IfErr result (λ error. error ≡ PerError.OutOfMemory → NeedsMemory (cat (storage_of self.old.config) self.old.session name.now now)) }
+        ensures ok { IfOk result (λ content. cat (storage_of self.old.config) self.old.session name.now now
+            ≡ Ok (content.items, self.new.session)) }
+        ensures refused { IfErr result (λ error. IsRefusal
+            (cat (storage_of self.old.config) self.old.session name.now now) error) }
+        ensures memory { IfErr result (λ error. error ≡ PerError.OutOfMemory
+            → NeedsMemory (cat (storage_of self.old.config) self.old.session name.now now)) }
         ensures moment { OnOk result (self.new.moment ≡ now) }
         ensures beside { self.new ≡ record self.old { session = self.new.session; moment = self.new.moment } }
         ensures unchanged { OnErr result (self.new ≡ self.old) }
@@ -23,14 +28,20 @@ impl Files {
         self.table.whole_content(name, now)
     }
 
-    /// Makes these bytes the content of a file, which is made where it is missing: as a writer does that opens the file with the flag
-    /// that truncates, writes them and closes it again. Whether the file may be opened and whether the bytes fit is asked first.
+    /// Makes these bytes the content of a file, which is made where it is missing: as a writer does that opens the file
+    /// with the flag that truncates, writes them and closes it again. Whether the file may be opened and whether the
+    /// bytes fit is asked first.
     ///
-    /// Errors: those of an opening for writing with the flag that truncates; those of `would_fit`; `OutOfMemory`.
+    /// # Errors
+    ///
+    /// Those of an opening for writing with the flag that truncates; those of `would_fit`; `OutOfMemory`.
     pub fn replace(&mut self, name: &Name, bytes: &[u8], now: u64) -> Result<(), PerError>
-        ensures ok { OnOk result (put (storage_of self.old.config) self.old.session name.now bytes.now now ≡ Ok self.new.session) }
-        ensures refused { IfErr result (λ error. IsRefusal (put (storage_of self.old.config) self.old.session name.now bytes.now now) error) }
-        ensures memory { IfErr result (λ error. error ≡ PerError.OutOfMemory → NeedsMemory (put (storage_of self.old.config) self.old.session name.now bytes.now now)) }
+        ensures ok { OnOk result (put (storage_of self.old.config) self.old.session name.now bytes.now now
+            ≡ Ok self.new.session) }
+        ensures refused { IfErr result (λ error. IsRefusal
+            (put (storage_of self.old.config) self.old.session name.now bytes.now now) error) }
+        ensures memory { IfErr result (λ error. error ≡ PerError.OutOfMemory
+            → NeedsMemory (put (storage_of self.old.config) self.old.session name.now bytes.now now)) }
         ensures moment { OnOk result (self.new.moment ≡ now) }
         ensures beside { self.new ≡ record self.old { session = self.new.session; moment = self.new.moment } }
         ensures unchanged { OnErr result (self.new ≡ self.old) }

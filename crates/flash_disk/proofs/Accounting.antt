@@ -75,4 +75,5 @@ module _ {F : Type 0} (medium : F → FlashMedium) where
 
   pub counted_on : {T E : Type 0} {x : T} {a b c : Layer F} (m n k : ℕ) → m + n ≤ k
       → Counted medium m a b → Accounts {E = E} medium n b c (Ok x) → Counted medium k a c
-  counted_on {T} {E} {x} {a} {b} {c} m n k few first second = accounts_on {r = Ok 0} m n k few first (accounts_ok x 0 n n b c (le_refl n) second)
+  counted_on {T} {E} {x} {a} {b} {c} m n k few first second =
+      accounts_on {r = Ok 0} m n k few first (accounts_ok x 0 n n b c (le_refl n) second)

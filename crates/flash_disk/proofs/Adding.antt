@@ -1,5 +1,6 @@
 -- A record is added to the block that is being filled, or what the call that failed may have left pends.
-use Rattle.std.proofs.Common.{◌≡◌, ◌≢◌, ◌⊎◌, ℕ, ◌+◌, ◌*◌, ◌/◌, ◌%◌, ◌<◌, Bool, List, cond, get_or, length, Result, OnOk, OnErr, refl, sym, ap, subst, ◌∙◌, inl, inr, ⊎_elim, arith}
+use Rattle.std.proofs.Common.{◌≡◌, ◌≢◌, ◌⊎◌, ℕ, ◌+◌, ◌*◌, ◌/◌, ◌%◌, ◌<◌, Bool, List, cond, get_or, length, Result, OnOk}
+use Rattle.std.proofs.Common.{OnErr, refl, sym, ap, subst, ◌∙◌, inl, inr, ⊎_elim, arith}
 use Rattle.std.specs.Prelude.{Option, Some, None, IsFalse, nat_eq, ◌&&◌}
 use Rattle.flash_model.specs.Pages.{Pages, TornPage, program_page, blank_page}
 use Rattle.flash_model.specs.State.{FlashState, IsStill, ProgramCase, FailsToProgram, programmed}
@@ -15,31 +16,43 @@ use Rattle.flash_disk.specs.FlashFiles.{flash_files}
 use Rattle.flash_disk.specs.Does.{Does}
 use Rattle.flash_disk.specs.PutPart.{PutPart, PutOrNot}
 use Rattle.flash_disk.specs.Standing.{StandsFor}
-use Rattle.flash_disk.specs.Sound.{files_of, Sound, IsSound, IsFresh, FitsIn, Enters, Pends, Holds, LeavesPut, ShowsSame, ShowsPage}
+use Rattle.flash_disk.specs.Sound.{files_of, Sound, IsSound, IsFresh, FitsIn, Enters, Pends, Holds, LeavesPut}
+use Rattle.flash_disk.specs.Sound.{ShowsSame, ShowsPage}
 use Rattle.flash_disk.proofs.Standing.{HasSameRecords, records_agreed}
 use Rattle.flash_disk.proofs.Growing.{adds_byte, adds_put, adds_agreed, grown_put}
-use Rattle.flash_disk.proofs.Tearing.{IsTorn, nothing_there, torn_program, torn_is, torn_adds_there, torn_add, whole_add, whole_torn}
+use Rattle.flash_disk.proofs.Tearing.{IsTorn, nothing_there, torn_program, torn_is, torn_adds_there, torn_add}
+use Rattle.flash_disk.proofs.Tearing.{whole_add, whole_torn}
 use Rattle.flash_disk.proofs.Stretches.{does_nothing, does_then, does_weaken, program_does}
 use Rattle.flash_disk.proofs.Entering.{sound_usable, records_usable, adds_usable}
 
 -- nothing was put yet
-pub nothing_put : (m : FlashMedium) (s : LayerState) → IsSound m s → (file at len : ℕ) (bytes : List ℕ) → LeavesPut file at bytes len m m.state.pages
-nothing_put m s sound file at len bytes = record { put = inl refl; usable = sound_usable m.state.pages m.blocks s sound; agreed = λ all. all }
+pub nothing_put : (m : FlashMedium) (s : LayerState) → IsSound m s → (file at len : ℕ) (bytes : List ℕ)
+    → LeavesPut file at bytes len m m.state.pages
+nothing_put m s sound file at len bytes = record {
+  put = inl refl;
+  usable =
+      sound_usable m.state.pages m.blocks s sound;
+  agreed = λ all. all;
+}
 
 -- no call was made
-pub puts_nothing : (told : Bool) (m : FlashMedium) → IsLawfulFlash told m → (s : LayerState) → IsSound m s → (file at len : ℕ) (bytes : List ℕ)
+pub puts_nothing : (told : Bool) (m : FlashMedium) → IsLawfulFlash told m → (s : LayerState) → IsSound m s
+    → (file at len : ℕ) (bytes : List ℕ)
     → Does (LeavesPut file at bytes len m) m m
 puts_nothing told m lawful s sound file at len bytes = does_nothing m m (LeavesPut file at bytes len m) refl
     (λ x past. lawful.only_now x past) (nothing_put m s sound file at len bytes)
 
 -- a record was added after a call that changed no byte
-pub shown_after : (a b d : FlashMedium) (file page : ℕ) (bytes : List ℕ) → ShowsSame a b → ShowsPage b d file page bytes → ShowsPage a d file page bytes
+pub shown_after : (a b d : FlashMedium) (file page : ℕ) (bytes : List ℕ) → ShowsSame a b → ShowsPage b d file page bytes
+    → ShowsPage a d file page bytes
 shown_after a b d file page bytes same shown = λ f i. shown f i
     ∙ ap (λ z. cond (nat_eq f file && nat_eq (i / 256) page) (get_or bytes (i % 256) 0) z) (same f i)
 
 module _ (m now : FlashMedium) (s u : LayerState) (place : Place) (r : PageRecord) (whole : List ℕ)
-    (sound : IsSound m s) (room : s.fill < 64) (fits : FitsIn m s r.file r.page r.len r.bytes) (full : length r.bytes ≡ 256)
-    (at : place ≡ (let p : Place = record { block = s.current; page = s.fill } in p)) (sequence : r.sequence ≡ s.sequence + 1)
+    (sound : IsSound m s) (room : s.fill < 64) (fits : FitsIn m s r.file r.page r.len r.bytes)
+    (full : length r.bytes ≡ 256)
+    (at : place ≡ (let p : Place = record { block = s.current; page = s.fill } in p))
+    (sequence : r.sequence ≡ s.sequence + 1)
     (on : u ≡ record s { sequence = r.sequence; fill = s.fill + 1 }) (is : record_in whole ≡ Some r) where
   abbrev pages : Pages
   pages = m.state.pages
@@ -124,19 +137,24 @@ module _ (m now : FlashMedium) (s u : LayerState) (place : Place) (r : PageRecor
   }
 
   -- the record was added
-  pub added_sound : now.state ≡ programmed m.state place.block place.page whole → now.blocks ≡ m.blocks → (after : LayerState)
-      → ((old new : Pages) (b : ℕ) → Sound old b u → IsFalse u.disputed → Enters old new b u place r → Sound new b after) → IsSound now after
+  pub added_sound : now.state ≡ programmed m.state place.block place.page whole → now.blocks ≡ m.blocks
+      → (after : LayerState)
+      → ((old new : Pages) (b : ℕ) → Sound old b u → IsFalse u.disputed → Enters old new b u place r
+      → Sound new b after) → IsSound now after
   added_sound done blocks after enters =
       let state : adding s.unsure ≡ u = sym on in
-      subst (λ b. Sound now.state.pages b after) (sym blocks) (subst (λ (z : FlashState). Sound z.pages m.blocks after) (sym done)
+      subst (λ b. Sound now.state.pages b after) (sym blocks)
+      (subst (λ (z : FlashState). Sound z.pages m.blocks after) (sym done)
       (enters pages written m.blocks
       (subst (Sound pages m.blocks) state (still_sound s.unsure))
       (subst (λ (q : LayerState). IsFalse q.disputed) state fresh.agreed)
-      (subst (λ q. Enters pages written m.blocks q place r) state (entering s.unsure written (whole_torn pages place.block place.page whole) adds))))
+      (subst (λ q. Enters pages written m.blocks q place r) state
+      (entering s.unsure written (whole_torn pages place.block place.page whole) adds))))
 
   -- its page has an entry from then on
   pub added_entries : (after : LayerState)
-      → ((old new : Pages) (b : ℕ) → Sound old b u → IsFalse u.disputed → Enters old new b u place r → Occupies u.table after.table (page_of r))
+      → ((old new : Pages) (b : ℕ) → Sound old b u → IsFalse u.disputed → Enters old new b u place r
+      → Occupies u.table after.table (page_of r))
       → Occupies s.table after.table (page_of r)
   added_entries after enters =
       let state : adding s.unsure ≡ u = sym on in
@@ -144,25 +162,33 @@ module _ (m now : FlashMedium) (s u : LayerState) (place : Place) (r : PageRecor
       (enters pages written m.blocks
       (subst (Sound pages m.blocks) state (still_sound s.unsure))
       (subst (λ (q : LayerState). IsFalse q.disputed) state fresh.agreed)
-      (subst (λ q. Enters pages written m.blocks q place r) state (entering s.unsure written (whole_torn pages place.block place.page whole) adds)))
+      (subst (λ q. Enters pages written m.blocks q place r) state
+      (entering s.unsure written (whole_torn pages place.block place.page whole) adds)))
 
   pub added_put : now.state ≡ programmed m.state place.block place.page whole → now.blocks ≡ m.blocks
       → PutPart r.file (256 * r.page) r.bytes r.len (files_of m) (files_of now)
-  added_put done blocks = subst (λ b. PutPart r.file (256 * r.page) r.bytes r.len (files_of m) (flash_files now.state.pages b)) (sym blocks)
-      (subst (λ (z : FlashState). PutPart r.file (256 * r.page) r.bytes r.len (files_of m) (flash_files z.pages m.blocks)) (sym done)
+  added_put done blocks = subst (λ b. PutPart r.file (256 * r.page) r.bytes r.len (files_of m)
+      (flash_files now.state.pages b)) (sym blocks)
+      (subst (λ (z : FlashState). PutPart r.file (256 * r.page) r.bytes r.len (files_of m)
+      (flash_files z.pages m.blocks)) (sym done)
       (adds_put pages written m.blocks place r adds fits.no_shorter fits.grows full))
 
-  pub added_shown : now.state ≡ programmed m.state place.block place.page whole → now.blocks ≡ m.blocks → ShowsPage m now r.file r.page r.bytes
+  pub added_shown : now.state ≡ programmed m.state place.block place.page whole → now.blocks ≡ m.blocks
+      → ShowsPage m now r.file r.page r.bytes
   added_shown done blocks = subst (λ b. ShowsPage m (record now { blocks = b }) r.file r.page r.bytes) (sym blocks)
-      (subst (λ (z : FlashState). ShowsPage m (record now { state = z; blocks = m.blocks }) r.file r.page r.bytes) (sym done)
+      (subst (λ (z : FlashState). ShowsPage m (record now { state = z; blocks = m.blocks }) r.file r.page r.bytes)
+      (sym done)
       (adds_byte pages written n place r adds))
 
   -- what a call that failed left pends
-  pub failed_holds : FailsToProgram place.block place.page whole m.state now.state → now.blocks ≡ m.blocks → Holds now (record u { unsure = Some place })
+  pub failed_holds : FailsToProgram place.block place.page whole m.state now.state → now.blocks ≡ m.blocks
+      → Holds now (record u { unsure = Some place })
   failed_holds failed blocks =
       let left = now.state.pages in
-      let torn = subst (IsTorn pages left (number place)) is (torn_program pages place.block place.page small blank left whole failed.torn failed.plain) in
-      let state : adding (Some place) ≡ record u { unsure = Some place } = ap (λ (q : LayerState). let t : LayerState = record q { unsure = Some place } in t) (sym on) in
+      let torn = subst (IsTorn pages left (number place)) is
+      (torn_program pages place.block place.page small blank left whole failed.torn failed.plain) in
+      let state : adding (Some place) ≡ record u { unsure = Some place } =
+      ap (λ (q : LayerState). let t : LayerState = record q { unsure = Some place } in t) (sym on) in
       subst (Holds now) state (record {
         sure = pages;
         sound = subst (λ b. Sound pages b (adding (Some place))) (sym blocks) (still_sound (Some place));
@@ -175,8 +201,10 @@ module _ (m now : FlashMedium) (s u : LayerState) (place : Place) (r : PageRecor
           nothing = nothing;
           elsewhere = failed.torn;
           may_enter = λ q there. (let same : q ≡ r = torn_is pages left (number place) r q torn there in
-              subst (Enters pages left m.blocks (adding (Some place)) place) (sym same) (entering (Some place) left failed.torn
-              (subst (Adds pages left n place) same (torn_adds_there pages left n place r small within nothing newer torn q there))));
+              subst (Enters pages left m.blocks (adding (Some place)) place) (sym same)
+              (entering (Some place) left failed.torn
+              (subst (Adds pages left n place) same (torn_adds_there pages left n place r small within nothing newer
+              torn q there))));
         });
       })
 
@@ -200,20 +228,23 @@ module _ (m now : FlashMedium) (s u : LayerState) (place : Place) (r : PageRecor
   pub add_does : {T E : Type 0} → (result : Result T E)
       → OnOk result (now.state ≡ programmed m.state place.block place.page whole)
       → OnErr result (FailsToProgram place.block place.page whole m.state now.state)
-      → EachFlashCase (λ c. IsStill m.state c ⊎ (IsStill now.state c ⊎ ProgramCase place.block place.page whole m.state c)) m now → Does Puts m now
+      → EachFlashCase (λ c. IsStill m.state c ⊎ (IsStill now.state c
+      ⊎ ProgramCase place.block place.page whole m.state c)) m now → Does Puts m now
   add_does result done failed cases = program_does m now Puts place.block place.page whole result done failed cases
       (nothing_put m s sound r.file (256 * r.page) r.len r.bytes)
       (leaves written (inr adds))
       (λ left torn plain. leaves left (torn_add pages n place whole r small within blank is newer left torn plain))
 
-module _ (a b c : FlashMedium) (first : FlashElapses a b) (early : Does (StandsFor a) a b) (file at len : ℕ) (bytes : List ℕ) where
+module _ (a b c : FlashMedium) (first : FlashElapses a b) (early : Does (StandsFor a) a b) (file at len : ℕ)
+    (bytes : List ℕ) where
   same_files : files_of b ≡ files_of a
   same_files = ap (λ k. flash_files b.state.pages k) first.blocks ∙ early.now.files_are
 
   -- what is left of the part that is put after it
   puts_since : (left : Pages) → LeavesPut file at bytes len b left → LeavesPut file at bytes len a left
   puts_since left put_there =
-      let over = subst (λ k. LeavesPut file at bytes len (record b { blocks = k }) left) first.blocks put_there in record {
+      let over = subst (λ k. LeavesPut file at bytes len (record b { blocks = k }) left) first.blocks put_there in
+      record {
         put = subst (λ f. PutOrNot file at bytes len f (flash_files left a.blocks)) early.now.files_are over.put;
         usable = over.usable;
         agreed = λ all. over.agreed (early.now.agreed all);

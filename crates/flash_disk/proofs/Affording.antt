@@ -1,5 +1,6 @@
 -- Room for the pages of a write, while its pages are written.
-use Rattle.std.proofs.Common.{◌≡◌, ℕ, zero, suc, ◌+◌, ◌<◌, ◌≤◌, ◌⊎◌, Bool, true, false, cond, refl, sym, ap, subst, ◌∙◌, inl, inr, ⊎_elim, arith, true≢false}
+use Rattle.std.proofs.Common.{◌≡◌, ℕ, zero, suc, ◌+◌, ◌<◌, ◌≤◌, ◌⊎◌, Bool, true, false, cond, refl, sym, ap, subst, ◌∙◌}
+use Rattle.std.proofs.Common.{inl, inr, ⊎_elim, arith, true≢false}
 use Rattle.std.specs.Prelude.{Option, Some, None, is_none, is_some}
 use Rattle.std.proofs.lemmas.Bool.{cases_lt}
 use Rattle.flash_disk.specs.declared.table.FilePage.{FilePage}
@@ -45,7 +46,8 @@ module _ (file from : ℕ) where
   at i = record { file = file; page = from + i }
 
   -- pages that have entries in both tables, or in neither
-  pub same_missing : (old new : Table) (n : ℕ) → ((i : ℕ) → i < n → is_some (known new (at i)) ≡ is_some (known old (at i)))
+  pub same_missing : (old new : Table) (n : ℕ) → ((i : ℕ) → i < n
+      → is_some (known new (at i)) ≡ is_some (known old (at i)))
       → missing new file from n ≡ missing old file from n
   same_missing old new zero same = refl
   same_missing old new (suc n) same =
@@ -64,25 +66,30 @@ module _ (file from : ℕ) where
   -- each page in the range has a place
   pub affords_place : (table : Table) (n k page : ℕ) → Affords table file from n → k < n → from + k ≡ page
       → HasPlace table (record { file = file; page = page })
-  affords_place table n k page affords within is = subst (λ p. HasPlace table (record { file = file; page = p })) is (⊎_elim
+  affords_place table n k page affords within is = subst (λ p. HasPlace table (record { file = file; page = p })) is
+      (⊎_elim
       (λ some. inl some)
-      (λ none. (let one = one_lacks table n k within (none_of (known table (at k)) none) in inr (omega (arith, one, affords))))
+      (λ none. (let one = one_lacks table n k within (none_of (known table (at k)) none) in
+      inr (omega (arith, one, affords))))
       (some_or_none (known table (at k))))
 
   module _ (old new : Table) (k : ℕ) (more : Occupies old new (at k)) where
     -- the others have entries where they had
     apart : (i : ℕ) → (i ≡ k → ⊥) → is_some (known new (at i)) ≡ is_some (known old (at i))
     apart i other = ⊎_elim
-        (λ same. absurd (other (let page = ap (λ (q : FilePage). q.page) (same_page_is (at k) (at i) same) in omega (arith, page))))
+        (λ same. absurd (other (let page = ap (λ (q : FilePage). q.page) (same_page_is (at k) (at i) same) in
+        omega (arith, page))))
         (λ differ. more.has (at i) ∙ ap (λ b. cond b true (is_some (known old (at i)))) differ)
         (bool_cases (same_page (at k) (at i)))
 
-    one_fewer : is_some (known old (at k)) ≡ false → (n : ℕ) → k < n → missing new file from n + 1 ≡ missing old file from n
+    one_fewer : is_some (known old (at k)) ≡ false → (n : ℕ) → k < n
+        → missing new file from n + 1 ≡ missing old file from n
     one_fewer none zero within = absurd (omega (arith, within))
     one_fewer none (suc n) within = ⊎_elim
         (λ before.
         (let rest = one_fewer none n before in
-        let here = ap one_if (none_by (known new (at n)) (known old (at n)) (apart n (λ same. omega (arith, same, before)))) in
+        let here = ap one_if (none_by (known new (at n)) (known old (at n))
+        (apart n (λ same. omega (arith, same, before)))) in
         omega (arith, rest, here)))
         (λ last.
         (let rest = same_missing old new n (λ i below. apart i (λ same. omega (arith, same, below, last))) in
@@ -106,13 +113,15 @@ module _ (file from : ℕ) where
         (some_or_none (known old (at k)))
 
   -- when one of them is written, an entry more is a page less that has none
-  pub as_many : (old new : Table) (n k page : ℕ) → k < n → from + k ≡ page → Occupies old new (record { file = file; page = page })
+  pub as_many : (old new : Table) (n k page : ℕ) → k < n → from + k ≡ page
+      → Occupies old new (record { file = file; page = page })
       → missing new file from n + page_len new ≡ missing old file from n + page_len old
   as_many old new n k page within is more = occupies_here old new k
       (subst (λ p. Occupies old new (record { file = file; page = p })) (sym is) more) n within
 
   -- and there is still room for all
-  pub affords_more : (old new : Table) (n k page : ℕ) → k < n → from + k ≡ page → Occupies old new (record { file = file; page = page })
+  pub affords_more : (old new : Table) (n k page : ℕ) → k < n → from + k ≡ page
+      → Occupies old new (record { file = file; page = page })
       → Affords old file from n → Affords new file from n
   affords_more old new n k page within is more affords =
       let many = as_many old new n k page within is more in

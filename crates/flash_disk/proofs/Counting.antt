@@ -1,5 +1,6 @@
 -- How many entries lead into each block when entries are put into a table.
-use Rattle.std.proofs.Common.{◌≡◌, ℕ, ◌+◌, ◌-◌, ◌<◌, ◌≤◌, Bool, true, false, cond, List, length, slice_index_or, Result, Ok, Err, refl, sym, ap, subst, ◌∙◌, arith}
+use Rattle.std.proofs.Common.{◌≡◌, ℕ, ◌+◌, ◌-◌, ◌<◌, ◌≤◌, Bool, true, false, cond, List, length, slice_index_or, Result}
+use Rattle.std.proofs.Common.{Ok, Err, refl, sym, ap, subst, ◌∙◌, arith}
 use Rattle.std.specs.Prelude.{Option, Some, None, nat_eq, IfOk, All, is_ok}
 use Rattle.std.specs.List.{sum_by}
 use Rattle.std.specs.Map.{values_of, set_value}
@@ -16,17 +17,23 @@ use Rattle.flash_disk.specs.Counted.{leads_into, had_in, entries_in, IsInside, I
 
 module _ {S : Type 0} (block : ℕ) (m n : HashMap FilePage Newest S) (key : FilePage) (w : Newest) where
   abbrev Counts : Type 0
-  Counts = sum_by (leads_into block) (values n) + had_in block (get same_page m key) ≡ sum_by (leads_into block) (values m) + leads_into block w
+  Counts = sum_by (leads_into block) (values n) + had_in block (get same_page m key)
+      ≡ sum_by (leads_into block) (values m) + leads_into block w
 
-  pub replaced : (v : Newest) → get same_page m key ≡ Some v → n.entries ≡ set_value (same_page key) m.entries w → Counts
+  pub replaced : (v : Newest) → get same_page m key ≡ Some v → n.entries ≡ set_value (same_page key) m.entries w
+      → Counts
   replaced v is written =
       let sum = sum_by-set_value (leads_into block) (same_page key) m.entries v w is in
-      subst (λ es. sum_by (leads_into block) (values_of es) + had_in block (get same_page m key) ≡ sum_by (leads_into block) (values m) + leads_into block w) (sym written)
-      (subst (λ o. sum_by (leads_into block) (values_of (set_value (same_page key) m.entries w)) + had_in block o ≡ sum_by (leads_into block) (values m) + leads_into block w) (sym is) sum)
+      subst (λ es. sum_by (leads_into block) (values_of es) + had_in block (get same_page m key)
+      ≡ sum_by (leads_into block) (values m) + leads_into block w) (sym written)
+      (subst (λ o. sum_by (leads_into block) (values_of (set_value (same_page key) m.entries w)) + had_in block o
+      ≡ sum_by (leads_into block) (values m) + leads_into block w) (sym is) sum)
 
-  pub inserted : {E : Type 0} (result : Result (Option Newest) E) → is_ok result ≡ true → IfOk result (λ old. old ≡ get same_page m key)
+  pub inserted : {E : Type 0} (result : Result (Option Newest) E) → is_ok result ≡ true
+      → IfOk result (λ old. old ≡ get same_page m key)
       → IfOk result (PutsEntry same_page m n key w) → Counts
-  inserted (Ok old) ok was puts = subst (λ o. sum_by (leads_into block) (values n) + had_in block o ≡ sum_by (leads_into block) (values m) + leads_into block w) was
+  inserted (Ok old) ok was puts = subst (λ o. sum_by (leads_into block) (values n) + had_in block o
+      ≡ sum_by (leads_into block) (values m) + leads_into block w) was
       (sum_by_puts_entry (leads_into block) same_page m n key w old was puts)
   inserted (Err e) ok was puts = absurd (true≢false (sym ok))
 
@@ -51,8 +58,10 @@ entries_le table block =
     omega (arith, sum, length-values_of table.newest.entries)
 
 -- nothing of the counts changed
-pub same_counted : (blocks : ℕ) (old new : Table) → IsCounted blocks old → SameRecords old new → limit_of new ≡ limit_of old
-    → ((block : ℕ) → entries_in new block ≡ entries_in old block) → new.load ≡ old.load → new.blocks ≡ old.blocks → IsCounted blocks new
+pub same_counted : (blocks : ℕ) (old new : Table) → IsCounted blocks old → SameRecords old new
+    → limit_of new ≡ limit_of old
+    → ((block : ℕ) → entries_in new block ≡ entries_in old block) → new.load ≡ old.load → new.blocks ≡ old.blocks
+    → IsCounted blocks new
 same_counted blocks old new counted same limit entries load blocks_are = record {
   some = counted.some;
   few = counted.few;
@@ -61,7 +70,8 @@ same_counted blocks old new counted same limit entries load blocks_are = record 
   limit = limit ∙ counted.limit;
   fits = same.fits counted.fits;
   inside = λ key e is. counted.inside key e (sym (same.known_is key) ∙ is);
-  counts = λ block below. ap (λ v. slice_index_or v.items block 0) load ∙ (counted.counts block below ∙ sym (entries block));
+  counts = λ block below. ap (λ v. slice_index_or v.items block 0) load
+      ∙ (counted.counts block below ∙ sym (entries block));
 }
 
 -- two tables that differ in their counts alone
@@ -74,27 +84,33 @@ pub record Recounts (old new : Table) : Type 0 where
 pub recounts_refl : (table : Table) → Recounts table table
 recounts_refl table = record { newest = refl; blocks = refl; loads = refl; limit = refl }
 
-module _ (blocks : ℕ) (old mid less new : Table) (key : FilePage) (e : Newest) (counted : IsCounted blocks old) (inside : IsInside blocks e)
+module _ (blocks : ℕ) (old mid less new : Table) (key : FilePage) (e : Newest) (counted : IsCounted blocks old)
+    (inside : IsInside blocks e)
     (puts : Puts old mid key e) (limit : limit_of mid ≡ limit_of old)
-    (sums : (block : ℕ) → entries_in mid block + had_in block (known old key) ≡ entries_in old block + leads_into block e)
+    (sums : (block : ℕ) → entries_in mid block + had_in block (known old key)
+    ≡ entries_in old block + leads_into block e)
     (load : mid.load ≡ old.load) (blocks_are : mid.blocks ≡ old.blocks) where
   inside_by : (k : FilePage) (f : Newest) (b : Bool) → cond b (Some e) (known old k) ≡ Some f → IsInside blocks f
   inside_by k f true is = subst (IsInside blocks) (same_Some e f is) inside
   inside_by k f false is = counted.inside k f is
 
-  pub put_counted : Recounts mid less → ((block : ℕ) → load_known less block ≡ load_known mid block - had_in block (known old key))
+  pub put_counted : Recounts mid less → ((block : ℕ) → load_known less block
+      ≡ load_known mid block - had_in block (known old key))
       → Recounts less new
-      → (load_known less e.place.block < 4294967295 → e.place.block < length less.load.items → (block : ℕ) → load_known new block ≡ load_known less block + leads_into block e)
+      → (load_known less e.place.block < 4294967295 → e.place.block < length less.load.items → (block : ℕ)
+      → load_known new block ≡ load_known less block + leads_into block e)
       → IsCounted blocks new
   put_counted first fewer second more =
       let newest : new.newest ≡ mid.newest = second.newest ∙ first.newest in
       let loads_mid : length mid.load.items ≡ blocks = ap (λ v. length v.items) load ∙ counted.loads in
       let loads_less : length less.load.items ≡ blocks = first.loads ∙ loads_mid in
-      let was : (block : ℕ) → load_known mid block ≡ load_known old block = λ block. ap (λ v. slice_index_or v.items block 0) load in
+      let was : (block : ℕ) → load_known mid block ≡ load_known old block =
+      λ block. ap (λ v. slice_index_or v.items block 0) load in
       let same_limit : limit_of new ≡ limit_of old = second.limit ∙ (first.limit ∙ limit) in
       let here = e.place.block in
       let at_most : load_known less here < 4294967295 =
-      (let a = fewer here in let b = was here in let c = counted.counts here inside.place in let d = entries_le old here in let f = counted.fits in
+      (let a = fewer here in let b = was here in let c = counted.counts here inside.place in let d =
+      entries_le old here in let f = counted.fits in
       let l = counted.limit in let few = counted.few in omega (arith, a, b, c, d, f, l, few)) in
       let within : here < length less.load.items = (let i = inside.place in omega (arith, i, loads_less)) in
       let more_now = more at_most within in
@@ -104,24 +120,32 @@ module _ (blocks : ℕ) (old mid less new : Table) (key : FilePage) (e : Newest)
         blocks_are = second.blocks ∙ (first.blocks ∙ (blocks_are ∙ counted.blocks_are));
         loads = second.loads ∙ loads_less;
         limit = same_limit ∙ counted.limit;
-        fits = (let fits = puts.fits counted.fits in let len : page_len new ≡ page_len mid = ap (λ m. hash_map_len m) newest in omega (arith, fits, len, same_limit, limit));
-        inside = λ k f is. inside_by k f (same_page key k) (sym (puts.known_is k) ∙ (ap (λ m. get same_page m k) (sym newest) ∙ is));
+        fits = (let fits = puts.fits counted.fits in let len : page_len new ≡ page_len mid =
+            ap (λ m. hash_map_len m) newest in omega (arith, fits, len, same_limit, limit));
+        inside = λ k f is. inside_by k f (same_page key k)
+            (sym (puts.known_is k) ∙ (ap (λ m. get same_page m k) (sym newest) ∙ is));
         counts = λ block below.
-            (let now : entries_in new block ≡ entries_in mid block = ap (λ m. sum_by (leads_into block) (values m)) newest in
-            let a = more_now block in let b = fewer block in let c = was block in let d = counted.counts block below in let h = had_le block old key in let s = sums block in
+            (let now : entries_in new block ≡ entries_in mid block =
+            ap (λ m. sum_by (leads_into block) (values m)) newest in
+            let a = more_now block in let b = fewer block in let c = was block in let d =
+            counted.counts block below in let h = had_le block old key in let s = sums block in
             omega (arith, now, a, b, c, d, h, s));
       }
 
 -- the counts after the old entry was left out of them
 pub fewer_by : (blocks : ℕ) (old mid less : Table) (key : FilePage) (v : Newest) → known old key ≡ Some v
-    → (v.place.block < length mid.load.items → (block : ℕ) → load_known less block ≡ load_known mid block - leads_into block v)
-    → IsCounted blocks old → mid.load ≡ old.load → (block : ℕ) → load_known less block ≡ load_known mid block - had_in block (known old key)
+    → (v.place.block < length mid.load.items → (block : ℕ)
+    → load_known less block ≡ load_known mid block - leads_into block v)
+    → IsCounted blocks old → mid.load ≡ old.load → (block : ℕ)
+    → load_known less block ≡ load_known mid block - had_in block (known old key)
 fewer_by blocks old mid less key v is fewer counted load block =
     let loads : length mid.load.items ≡ blocks = ap (λ q. length q.items) load ∙ counted.loads in
-    let within : v.place.block < length mid.load.items = (let i = (counted.inside key v is).place in omega (arith, i, loads)) in
+    let within : v.place.block < length mid.load.items =
+    (let i = (counted.inside key v is).place in omega (arith, i, loads)) in
     subst (λ o. load_known less block ≡ load_known mid block - had_in block o) (sym is) (fewer within block)
 
 pub none_fewer : (old mid less : Table) (key : FilePage) → known old key ≡ None → less ≡ mid
     → (block : ℕ) → load_known less block ≡ load_known mid block - had_in block (known old key)
-none_fewer old mid less key none same block = subst (λ o. load_known less block ≡ load_known mid block - had_in block o) (sym none)
+none_fewer old mid less key none same block = subst (λ o. load_known less block ≡ load_known mid block - had_in block o)
+    (sym none)
     (let e : load_known less block ≡ load_known mid block = ap (λ t. load_known t block) same in omega (arith, e))

@@ -1,5 +1,6 @@
 -- What a disk over a flash says of crashes, from what the flash says of them.
-use Rattle.std.proofs.Common.{◌≡◌, ℕ, ◌+◌, ◌≤◌, Bool, true, false, cond, List, [], ◌∷◌, ◌++◌, length, sym, refl, ap, ◌∙◌, subst, inl, inr, ⊎_elim, le_refl}
+use Rattle.std.proofs.Common.{◌≡◌, ℕ, ◌+◌, ◌≤◌, Bool, true, false, cond, List, [], ◌∷◌, ◌++◌, length, sym, refl, ap}
+use Rattle.std.proofs.Common.{◌∙◌, subst, inl, inr, ⊎_elim, le_refl}
 use Rattle.std.specs.Prelude.{IsTrue}
 use Rattle.std.proofs.Math.Path.{fun_ext}
 use Rattle.std.proofs.lemmas.Bool.{cases_eq}
@@ -10,7 +11,8 @@ use Rattle.disk_model.specs.Written.{put_none, put_image_here, put_image_elsewhe
 use Rattle.flash_model.specs.State.{Announced, FlashCase, IsStill}
 use Rattle.flash_model.specs.FlashMedium.{FlashMedium, IsLawfulFlash, FlashElapses, EachFlashCase}
 use Rattle.flash_disk.specs.FlashFiles.{flash_files}
-use Rattle.flash_disk.specs.FlashDiskMedium.{put_announced, disk_case, still_case, IsCaseOf, files_told, flash_disk_medium}
+use Rattle.flash_disk.specs.FlashDiskMedium.{put_announced, disk_case, still_case, IsCaseOf, files_told}
+use Rattle.flash_disk.specs.FlashDiskMedium.{flash_disk_medium}
 use Rattle.flash_disk.specs.FlashDiskLaws.{told_moment, same_case}
 pub use Rattle.flash_disk.specs.FlashDiskLaws.{told_files, disk_is_lawful}
 use Rattle.flash_disk.specs.Throughout.{KeepsUsable, KeepsAgreed}
@@ -18,7 +20,8 @@ use Rattle.flash_disk.proofs.Parts.{torn_refl}
 use Rattle.flash_disk.proofs.Throughout.{usable_since, agreed_since}
 
 -- the same pages, the same files
-same_files : (told : Bool) (m m' : FlashMedium) → (IsTrue told → m'.state.pages ≡ m.state.pages) → (IsTrue told → m'.blocks ≡ m.blocks) → files_told told m' ≡ files_told told m
+same_files : (told : Bool) (m m' : FlashMedium) → (IsTrue told → m'.state.pages ≡ m.state.pages)
+    → (IsTrue told → m'.blocks ≡ m.blocks) → files_told told m' ≡ files_told told m
 same_files true m m' pages blocks = λ i. flash_files (pages refl i) (blocks refl i)
 same_files false m m' pages blocks = refl
 
@@ -45,17 +48,44 @@ module _ (told : Bool) (m m' : FlashMedium) (own own' written written' : ℕ) wh
     nothing_else = λ t c le past.
         let on = time past.0 in
         ⊎_elim
-        (λ before. inl (past.0, (past.1.0, before, subst (λ n. c ≡ disk_case n (still_case past.1.0)) on.blocks past.1.2)))
-        (λ since. inr (past.0, (past.1.0, subst (λ k. m'.since k (still_case past.1.0)) (sym (told_moment told m.moment past.0)) since, past.1.2)))
+        (λ before. inl (
+          past.0,
+          (
+            past.1.0,
+            before,
+            subst (λ n. c ≡ disk_case n (still_case past.1.0)) on.blocks
+                past.1.2,
+          ),
+        ))
+        (λ since. inr (
+          past.0,
+          (
+            past.1.0,
+            subst (λ k. m'.since k (still_case past.1.0))
+                (sym (told_moment told m.moment past.0)) since,
+            past.1.2,
+          ),
+        ))
         (on.nothing_else t (still_case past.1.0) (le_of t past.0 le) past.1.1);
     keeps = λ t c le past.
         let on = time past.0 in (
           past.0,
-          (past.1.0, on.keeps t (still_case past.1.0) (le_of t past.0 le) past.1.1, subst (λ n. c ≡ disk_case n (still_case past.1.0)) (sym on.blocks) past.1.2),
+          (
+            past.1.0,
+            on.keeps t (still_case past.1.0) (le_of t past.0 le) past.1.1,
+            subst (λ n. c ≡ disk_case n (still_case past.1.0)) (sym on.blocks) past.1.2,
+          ),
         );
     adds = λ t c le past.
-        let on = time past.0 in
-        (past.0, (past.1.0, on.adds t (still_case past.1.0) (le_of t past.0 le) (subst (λ k. m'.since k (still_case past.1.0)) (told_moment told m.moment past.0) past.1.1), past.1.2));
+        let on = time past.0 in (
+          past.0,
+          (
+            past.1.0,
+            on.adds t (still_case past.1.0) (le_of t past.0 le)
+                (subst (λ k. m'.since k (still_case past.1.0)) (told_moment told m.moment past.0) past.1.1),
+            past.1.2,
+          ),
+        );
   }
 
   -- time goes on as it does for the flash
@@ -66,12 +96,36 @@ module _ (told : Bool) (m m' : FlashMedium) (own own' written written' : ℕ) wh
     nothing_else = λ t c le past.
         let on = time past.0 in
         ⊎_elim
-        (λ before. inl (past.0, (past.1.0, before, (past.1.2.0, subst (λ n. c ≡ disk_case n past.1.0) on.blocks past.1.2.1))))
-        (λ since. inr (past.0, (past.1.0, subst (λ k. m'.since k past.1.0) (sym (told_moment told m.moment past.0)) since, past.1.2)))
+        (λ before. inl (
+          past.0,
+          (
+            past.1.0,
+            before,
+            (
+              past.1.2.0,
+              subst (λ n. c ≡ disk_case n past.1.0) on.blocks past.1.2.1,
+            ),
+          ),
+        ))
+        (λ since. inr (
+          past.0,
+          (
+            past.1.0,
+            subst (λ k. m'.since k past.1.0) (sym (told_moment told m.moment past.0))
+                since,
+            past.1.2,
+          ),
+        ))
         (on.nothing_else t past.1.0 (le_of t past.0 le) past.1.1);
     keeps = λ t c le past.
-        let on = time past.0 in
-        (past.0, (past.1.0, on.keeps t past.1.0 (le_of t past.0 le) past.1.1, (past.1.2.0, subst (λ n. c ≡ disk_case n past.1.0) (sym on.blocks) past.1.2.1)));
+        let on = time past.0 in (
+          past.0,
+          (
+            past.1.0,
+            on.keeps t past.1.0 (le_of t past.0 le) past.1.1,
+            (past.1.2.0, subst (λ n. c ≡ disk_case n past.1.0) (sym on.blocks) past.1.2.1),
+          ),
+        );
     adds = λ t c le past.
         let on = time past.0 in
         let f = case_since c past in
@@ -88,7 +142,8 @@ module _ (told : Bool) (m m' : FlashMedium) (own own' written written' : ℕ) wh
       later false on = le_refl 0
 
   -- calls that only look
-  pub disk_reads : (IsTrue told → m'.state ≡ m.state) → (IsTrue told → m'.blocks ≡ m.blocks) → Since (IsStill m.state) → written' ≡ written → OnlyReads start end
+  pub disk_reads : (IsTrue told → m'.state ≡ m.state) → (IsTrue told → m'.blocks ≡ m.blocks) → Since (IsStill m.state)
+      → written' ≡ written → OnlyReads start end
   disk_reads state blocks still wrote = record {
     image = same_files told m m' (λ t. ap (λ s. s.pages) (state t)) blocks;
     now = λ c now. (now.0, now.1 ∙ λ i. disk_case (blocks now.0 i) (still_case (state now.0 i)));
@@ -108,16 +163,19 @@ disk_rests told m own own' written lawful =
 
 -- a write that failed before it was announced, or as it was
 pub disk_write_refused : (old new : Medium) (file at : ℕ) (bytes : List ℕ) → OnlyReads old new
-    → TornImage file at (length bytes) old.image new.image × Follows (WriteOrNot file at bytes) old.now (new.since old.moment)
+    → TornImage file at (length bytes) old.image new.image
+    × Follows (WriteOrNot file at bytes) old.now (new.since old.moment)
 disk_write_refused old new file at bytes reads = (
   subst (TornImage file at (length bytes) old.image) (sym reads.image) (torn_refl file at (length bytes) old.image),
   λ c past. (c, reads.during c past, inr refl),
 )
 
 -- a write of no bytes leaves the files
-pub put_nothing : (image : Image) (file at : ℕ) (bytes : List ℕ) → length bytes ≡ 0 → put_image image file at bytes ≡ image
+pub put_nothing : (image : Image) (file at : ℕ) (bytes : List ℕ) → length bytes ≡ 0
+    → put_image image file at bytes ≡ image
 put_nothing image file at bytes none = fun_ext λ f. ⊎_elim
-    (λ e. subst (λ q. put_image image file at bytes q ≡ image q) (sym e) (put_image_here image file at bytes ∙ put_none (image file) at bytes none))
+    (λ e. subst (λ q. put_image image file at bytes q ≡ image q) (sym e)
+    (put_image_here image file at bytes ∙ put_none (image file) at bytes none))
     (λ other. put_image_elsewhere image file at bytes f other)
     (cases_eq f file)
 
@@ -127,10 +185,20 @@ pub disk_write_nothing : (old new : Medium) (file at : ℕ) (bytes : List ℕ) �
     × Follows (WriteOrNot file at bytes) old.now (new.since old.moment)
 disk_write_nothing old new file at bytes none reads = (
   reads.image ∙ sym (put_nothing old.image file at bytes none),
-  (λ c now. (c, reads.now c now, record { base = refl; full = sym (put_nothing c.full file at bytes none); left = torn_refl file at (length bytes) c.left })),
+  (λ c now. (
+    c,
+    reads.now c now,
+    record {
+      base = refl;
+      full = sym (put_nothing c.full file at bytes none);
+      left =
+          torn_refl file at (length bytes) c.left;
+    },
+  )),
   (disk_write_refused old new file at bytes reads).1,
 )
 
-pub put_after : (image : Image) (ws : List Announced) (w : Announced) → put_announced image (ws ++ w ∷ []) ≡ put_image (put_announced image ws) w.file w.at w.bytes
+pub put_after : (image : Image) (ws : List Announced) (w : Announced)
+    → put_announced image (ws ++ w ∷ []) ≡ put_image (put_announced image ws) w.file w.at w.bytes
 put_after image [] w = refl
 put_after image (v ∷ ws) w = put_after (put_image image v.file v.at v.bytes) ws w

@@ -1,5 +1,6 @@
 -- What is kept stays fit when a record comes to lie in the block that is being filled.
-use Rattle.std.proofs.Common.{◌≡◌, ◌≢◌, ◌⊎◌, ℕ, ◌+◌, ◌/◌, ◌<◌, ◌≤◌, List, Bool, true, false, cond, refl, sym, ap, subst, ◌∙◌, inl, inr, ⊎_elim, arith, true≢false, eq-eqb}
+use Rattle.std.proofs.Common.{◌≡◌, ◌≢◌, ◌⊎◌, ℕ, ◌+◌, ◌/◌, ◌<◌, ◌≤◌, List, Bool, true, false, cond, refl, sym, ap, subst}
+use Rattle.std.proofs.Common.{◌∙◌, inl, inr, ⊎_elim, arith, true≢false, eq-eqb}
 use Rattle.std.specs.Prelude.{Option, Some, None, IsTrue, IsFalse, IsSome, max, is_some, is_none, vec_capacity}
 use Rattle.std.specs.HashMap.{get, hash_map_len, spare}
 use Rattle.std.proofs.lemmas.Bool.{cases_eq, ne_eqb}
@@ -13,13 +14,15 @@ use Rattle.flash_disk.specs.declared.table.Newest.{Newest}
 use Rattle.flash_disk.specs.declared.table.Table.{Table}
 use Rattle.flash_disk.specs.declared.layer.LayerState.{LayerState}
 use Rattle.flash_disk.specs.Newest.{Placed, record_at, newest, places, page_count, IsUsable}
-use Rattle.flash_disk.specs.Known.{same_page, page_of, known, page_len, limit_of, len_in, len_known, HasLenIn, HasLen, Puts, Lengthens}
+use Rattle.flash_disk.specs.Known.{same_page, page_of, known, page_len, limit_of, len_in, len_known, HasLenIn, HasLen}
+use Rattle.flash_disk.specs.Known.{Puts, Lengthens}
 use Rattle.flash_disk.specs.Counted.{IsCounted}
 use Rattle.flash_disk.specs.Learnt.{number, Led, LedOf, IsLed, Adds, HasPlace, Tops}
 use Rattle.flash_disk.specs.FlashFiles.{file_len, IsFileLen}
 use Rattle.flash_disk.specs.FlashFilesLaws.{file_len_is, one_len}
 use Rattle.flash_disk.specs.Sound.{Sound, IsSound, Enters, Pends, PendsAt, Holds}
-use Rattle.flash_disk.proofs.Standing.{HasSameRecords, records_known, records_tops, records_alike, records_spare, records_count, records_agreed, same_said_strayless}
+use Rattle.flash_disk.proofs.Standing.{HasSameRecords, records_known, records_tops, records_alike, records_spare}
+use Rattle.flash_disk.proofs.Standing.{records_count, records_agreed, same_said_strayless}
 use Rattle.flash_disk.proofs.Tearing.{torn_same, torn_page}
 use Rattle.flash_disk.proofs.Sparing.{LiesElsewhere, number_block}
 use Rattle.flash_disk.proofs.Growing.{adds_agreed, adds_len, adds_other_len, adds_strayless, adds_spare, adds_is_spare}
@@ -28,21 +31,25 @@ use Rattle.flash_disk.proofs.Learning.{same_page_is, record_at_place}
 use Rattle.flash_disk.proofs.PageCount.{count_adds}
 
 -- an entry that leads to the newest record of a page
-by_entry : (pages : Pages) (n : ℕ) (o : Option Newest) (best : Option Placed) (x : Placed) → best ≡ Some x → LedOf pages n o best
+by_entry : (pages : Pages) (n : ℕ) (o : Option Newest) (best : Option Placed) (x : Placed) → best ≡ Some x
+    → LedOf pages n o best
     → (e : Newest) × (o ≡ Some e) × Led pages n e x
 by_entry pages n None None x is led = absurd (none-some x is)
 by_entry pages n None (Some y) x is led = absurd led
 by_entry pages n (Some e) None x is led = absurd led
 by_entry pages n (Some e) (Some y) x is led = (e, refl, subst (Led pages n e) (same_Some y x is) led)
 
-pub entry_of : (pages : Pages) (n : ℕ) (table : Table) → IsLed pages n table → (key : FilePage) (x : Placed) → newest pages key.file key.page n ≡ Some x
+pub entry_of : (pages : Pages) (n : ℕ) (table : Table) → IsLed pages n table → (key : FilePage) (x : Placed)
+    → newest pages key.file key.page n ≡ Some x
     → (e : Newest) × (known table key ≡ Some e) × Led pages n e x
-entry_of pages n table led key x is = by_entry pages n (known table key) (newest pages key.file key.page n) x is (led.says key)
+entry_of pages n table led key x is = by_entry pages n (known table key) (newest pages key.file key.page n) x is
+    (led.says key)
 
 -- what is kept fits pages that can be opened
 pub sound_usable : (pages : Pages) (blocks : ℕ) (s : LayerState) → Sound pages blocks s → IsUsable pages blocks
 sound_usable pages blocks s sound = record {
-  fits = (let count = sound.count in let fits = sound.counted.fits in let limit = sound.limit in omega (arith, count, fits, limit));
+  fits = (let count = sound.count in let fits = sound.counted.fits in let limit =
+      sound.limit in omega (arith, count, fits, limit));
   block = s.spare;
   within = sound.within;
   spare = sound.is_spare;
@@ -51,25 +58,30 @@ sound_usable pages blocks s sound = record {
 -- the pages can still be opened where no record changed
 pub records_usable : (old new : Pages) (blocks : ℕ) → HasSameRecords old new → IsUsable old blocks → IsUsable new blocks
 records_usable old new blocks same usable = record {
-  fits = (let count = records_count old new same (places blocks) in let fits = usable.fits in omega (arith, count, fits));
+  fits = (let count = records_count old new same (places blocks) in let fits =
+      usable.fits in omega (arith, count, fits));
   block = usable.block;
   within = usable.within;
   spare = records_spare old new same (places blocks) usable.block usable.spare;
 }
 
 -- a page comes with its first record, as its entry does
-one_comes : (pages : Pages) (n : ℕ) (o : Option Newest) (best : Option Placed) → LedOf pages n o best → ◌≡◌ {A = ℕ} (cond (is_none best) 1 0) (cond (is_some o) 0 1)
+one_comes : (pages : Pages) (n : ℕ) (o : Option Newest) (best : Option Placed) → LedOf pages n o best
+    → ◌≡◌ {A = ℕ} (cond (is_none best) 1 0) (cond (is_some o) 0 1)
 one_comes pages n None None led = refl
 one_comes pages n None (Some x) led = absurd led
 one_comes pages n (Some e) None led = absurd led
 one_comes pages n (Some e) (Some x) led = refl
 
-one_more_fits : (len limit : ℕ) (o : Option Newest) → len ≤ limit → IsSome o ⊎ (len < limit) → len + cond (is_some o) 0 1 ≤ limit
-one_more_fits len limit None fits place = ⊎_elim (λ some. absurd (true≢false (sym some))) (λ room. (let e : len + 1 ≤ limit = omega (arith, room) in e)) place
+one_more_fits : (len limit : ℕ) (o : Option Newest) → len ≤ limit → IsSome o ⊎ (len < limit)
+    → len + cond (is_some o) 0 1 ≤ limit
+one_more_fits len limit None fits place = ⊎_elim (λ some. absurd (true≢false (sym some)))
+    (λ room. (let e : len + 1 ≤ limit = omega (arith, room) in e)) place
 one_more_fits len limit (Some e) fits place = let e : len + 0 ≤ limit = omega (arith, fits) in e
 
 -- and where a record came for which there was a place
-pub adds_usable : (old new : Pages) (blocks : ℕ) (s : LayerState) (place : Place) (r : PageRecord) → Sound old blocks s → Adds old new (places blocks) place r
+pub adds_usable : (old new : Pages) (blocks : ℕ) (s : LayerState) (place : Place) (r : PageRecord) → Sound old blocks s
+    → Adds old new (places blocks) place r
     → HasPlace s.table (page_of r) → place.block ≢ s.spare → IsUsable new blocks
 adds_usable old new blocks s place r sound adds has apart =
     let n = places blocks in
@@ -81,11 +93,13 @@ adds_usable old new blocks s place r sound adds has apart =
           omega (arith, count, limit, grown, comes, fits));
       block = s.spare;
       within = sound.within;
-      spare = adds_is_spare old new n place r adds s.spare sound.is_spare (λ same. apart (sym (number_block place adds.small) ∙ same));
+      spare = adds_is_spare old new n place r adds s.spare sound.is_spare
+          (λ same. apart (sym (number_block place adds.small) ∙ same));
     }
 
 -- each newest record lies outside the spare block, or an equal one does
-pub lies_elsewhere : (pages : Pages) (blocks : ℕ) (s : LayerState) → Sound pages blocks s → IsFalse s.disputed → LiesElsewhere pages (places blocks) s.spare
+pub lies_elsewhere : (pages : Pages) (blocks : ℕ) (s : LayerState) → Sound pages blocks s → IsFalse s.disputed
+    → LiesElsewhere pages (places blocks) s.spare
 lies_elsewhere pages blocks s sound agreed = λ file page x is.
     let key : FilePage = record { file = file; page = page } in
     let led = entry_of pages (places blocks) s.table sound.knows.led key x is in
@@ -98,7 +112,8 @@ lies_elsewhere pages blocks s sound agreed = λ file page x is.
     )
 
 -- what is kept does not speak of the page in doubt, nor of what was moved
-pub as_said : (pages : Pages) (blocks : ℕ) (s t : LayerState) → Sound pages blocks s → vec_capacity s.moved ≤ vec_capacity t.moved
+pub as_said : (pages : Pages) (blocks : ℕ) (s t : LayerState) → Sound pages blocks s
+    → vec_capacity s.moved ≤ vec_capacity t.moved
     → Sound pages blocks (record s { unsure = t.unsure; moved = t.moved })
 as_said pages blocks s t sound more = record {
   knows = sound.knows;
@@ -115,16 +130,24 @@ as_said pages blocks s t sound more = record {
   agreed = sound.agreed;
   rivals = sound.rivals;
   apart = sound.apart;
-  fresh = λ room. let fresh = sound.fresh room in record { agreed = fresh.agreed; within = fresh.within; apart = fresh.apart; blank = fresh.blank };
+  fresh = λ room. let fresh = sound.fresh room in record {
+    agreed = fresh.agreed;
+    within = fresh.within;
+    apart =
+        fresh.apart;
+    blank = fresh.blank;
+  };
 }
 
 -- pages with the same records, and blank where blank ones are to be filled
-pub same_sound : (old new : Pages) (blocks : ℕ) (s : LayerState) → Sound old blocks s → IsFalse s.disputed → HasSameRecords old new
+pub same_sound : (old new : Pages) (blocks : ℕ) (s : LayerState) → Sound old blocks s → IsFalse s.disputed
+    → HasSameRecords old new
     → ((p : ℕ) → s.fill ≤ p → p < 64 → new s.current p ≡ old s.current p) → Sound new blocks s
 same_sound old new blocks s sound calm same blank = record {
   knows = records_known old new same (places blocks) s.table sound.knows;
   tops = records_tops old new same (places blocks) s.sequence sound.tops;
-  strays = same_said_strayless old new (places blocks) (records_alike old new same (places blocks)) s.stray_end sound.strays;
+  strays = same_said_strayless old new (places blocks) (records_alike old new same (places blocks)) s.stray_end
+      sound.strays;
   limit = sound.limit;
   files = sound.files;
   measured = sound.measured;
@@ -145,7 +168,8 @@ same_sound old new blocks s sound calm same blank = record {
 }
 
 -- a torn page in front of the blank ones leaves them so
-pub still_blank : (old new : Pages) (block page current fill : ℕ) → TornPage block page old new → (block ≡ current → page < fill)
+pub still_blank : (old new : Pages) (block page current fill : ℕ) → TornPage block page old new
+    → (block ≡ current → page < fill)
     → (p : ℕ) → fill ≤ p → p < 64 → new current p ≡ old current p
 still_blank old new block page current fill torn behind p past small = torn current p (⊎_elim
     (λ here. inr (λ same. let before = behind (sym here) in omega (arith, before, same, past)))
@@ -181,14 +205,17 @@ module _ (m now : FlashMedium) (s t : LayerState) (place : Place) (holds : Holds
       (as_said holds.sure m.blocks s (record s { unsure = None }) holds.sound (omega arith))
 
   at_place : record_at m.state.pages (number place) ≡ record_in page
-  at_place = record_at_place m.state.pages place.block place.page pends.small ∙ ap record_in (sym (read pends.within pends.small))
+  at_place = record_at_place m.state.pages place.block place.page pends.small
+      ∙ ap record_in (sym (read pends.within pends.small))
 
   over_now : (P : Pages → ℕ → Type 0) → P m.state.pages m.blocks → P now.state.pages now.blocks
-  over_now P holds_there = subst (λ b. P now.state.pages b) (sym blocks) (subst (λ p. P p m.blocks) (sym pages) holds_there)
+  over_now P holds_there = subst (λ b. P now.state.pages b) (sym blocks)
+      (subst (λ p. P p m.blocks) (sym pages) holds_there)
 
   -- no record lies in it
   pub nothing_there : record_in page ≡ None → Sound now.state.pages now.blocks sure_state
-  nothing_there none = over_now (λ p b. Sound p b sure_state) (same_sound holds.sure m.state.pages m.blocks sure_state was_sound
+  nothing_there none = over_now (λ p b. Sound p b sure_state)
+      (same_sound holds.sure m.state.pages m.blocks sure_state was_sound
       (subst (λ (q : LayerState). IsFalse q.disputed) (sym state) pends.agreed)
       (torn_same holds.sure m.state.pages (number place) (record_at m.state.pages (number place)) pends.nothing
       (torn_page holds.sure place.block place.page m.state.pages pends.elsewhere) (at_place ∙ none))
@@ -197,14 +224,22 @@ module _ (m now : FlashMedium) (s t : LayerState) (place : Place) (holds : Holds
 
   -- a record came to lie in it
   pub one_there : (r : PageRecord) → record_in page ≡ Some r → (after : LayerState)
-      → ((old new : Pages) (b : ℕ) → Sound old b sure_state → IsFalse t.disputed → Enters old new b sure_state place r → Sound new b after)
+      → ((old new : Pages) (b : ℕ) → Sound old b sure_state → IsFalse t.disputed → Enters old new b sure_state place r
+      → Sound new b after)
       → Sound now.state.pages now.blocks after
   one_there r some after enters = over_now (λ p b. Sound p b after) (enters holds.sure m.state.pages m.blocks was_sound
       (subst (λ (q : LayerState). IsFalse q.disputed) (sym state) pends.agreed)
-      (subst (λ (q : LayerState). Enters holds.sure m.state.pages m.blocks (record q { unsure = None }) place r) (sym state)
+      (subst (λ (q : LayerState). Enters holds.sure m.state.pages m.blocks (record q { unsure = None }) place r)
+      (sym state)
       (let entering = pends.may_enter r (at_place ∙ some) in record {
         adds = entering.adds;
-        fits = record { place = entering.fits.place; no_shorter = entering.fits.no_shorter; zeros = entering.fits.zeros; grows = entering.fits.grows };
+        fits = record {
+          place = entering.fits.place;
+          no_shorter = entering.fits.no_shorter;
+          zeros =
+              entering.fits.zeros;
+          grows = entering.fits.grows;
+        };
         full = entering.full;
         numbered = entering.numbered;
         elsewhere = entering.elsewhere;
@@ -215,7 +250,8 @@ module _ (m now : FlashMedium) (s t : LayerState) (place : Place) (holds : Holds
 module _ (old new : Pages) (blocks : ℕ) (s : LayerState) (place : Place) (r : PageRecord)
     (sound : Sound old blocks s) (agreed : IsFalse s.disputed) (enters : Enters old new blocks s place r)
     (e : Newest) (is : IsItsEntry old new (places blocks) place r enters.adds e)
-    (mid after : Table) (puts : Puts s.table mid (page_of r) e) (mid_lens : mid.lens ≡ s.table.lens) (mid_limit : limit_of mid ≡ limit_of s.table)
+    (mid after : Table) (puts : Puts s.table mid (page_of r) e) (mid_lens : mid.lens ≡ s.table.lens)
+    (mid_limit : limit_of mid ≡ limit_of s.table)
     (done : Bool) (lengthened : IsTrue done → Lengthens mid after r.file r.len)
     (has : IsTrue done → (f : ℕ) → HasLen mid f ⊎ (f ≡ r.file) → HasLen after f)
     (succeeds : (0 < spare mid.lens) ⊎ HasLen mid r.file → IsTrue done)
@@ -230,7 +266,8 @@ module _ (old new : Pages) (blocks : ℕ) (s : LayerState) (place : Place) (r : 
 
   -- the page was known, and so was its file; or there was room for one page more
   was_known : (o : Option Newest) → known s.table key ≡ o
-      → (HasLen mid r.file × (page_len mid ≡ page_len s.table)) ⊎ ((page_len s.table < limit_of s.table) × (page_len mid ≡ page_len s.table + 1))
+      → (HasLen mid r.file × (page_len mid ≡ page_len s.table))
+      ⊎ ((page_len s.table < limit_of s.table) × (page_len mid ≡ page_len s.table + 1))
   was_known None none = inr (
     ⊎_elim (λ some. absurd (true≢false (sym (subst IsSome none some)))) (λ room. room) enters.fits.place,
     puts.len ∙ ap (λ o. page_len s.table + cond (is_some o) 0 1) none,
@@ -260,7 +297,8 @@ module _ (old new : Pages) (blocks : ℕ) (s : LayerState) (place : Place) (r : 
 
   files_kept : limit_of after ≤ page_len after + spare after.lens
   files_kept = let files = sound.files in ⊎_elim
-      (λ was. let len = was.1 in let place = in_place was.0 in omega (arith, len, place, files, lens_spare, same_len, same_limit))
+      (λ was. let len = was.1 in let place = in_place was.0 in
+      omega (arith, len, place, files, lens_spare, same_len, same_limit))
       (λ new. let len = new.1 in omega (arith, len, takes, files, lens_spare, same_len, same_limit))
       (was_known (known s.table key) refl)
 
@@ -286,7 +324,8 @@ module _ (old new : Pages) (blocks : ℕ) (s : LayerState) (place : Place) (r : 
   len_by file = lengthened did file ∙ ⊎_elim
       (λ own. ap (λ b. cond b (max (len_known mid file) r.len) (len_known mid file)) (eq-eqb file r.file own)
       ∙ subst (λ f. max (len_known mid f) r.len ≡ file_len new n f) (sym own)
-      (let long = adds_len old new n place r enters.adds enters.fits.no_shorter in let was = mid_len r.file in let less = enters.fits.no_shorter in
+      (let long = adds_len old new n place r enters.adds enters.fits.no_shorter in let was =
+      mid_len r.file in let less = enters.fits.no_shorter in
       omega (arith, long, was, less)))
       (λ other. ap (λ b. cond b (max (len_known mid file) r.len) (len_known mid file)) (ne_eqb file r.file other)
       ∙ (mid_len file ∙ sym (adds_other_len old new n place r enters.adds file other)))
@@ -305,18 +344,21 @@ module _ (old new : Pages) (blocks : ℕ) (s : LayerState) (place : Place) (r : 
 
   tops_now : Tops new n s.sequence
   tops_now = λ j q inside there. ⊎_elim
-      (λ own. (let numbered = enters.numbered in let same : q.sequence ≡ r.sequence = ap (λ z. z.sequence) own.1 in omega (arith, numbered, same)))
+      (λ own. (let numbered = enters.numbered in let same : q.sequence ≡ r.sequence =
+      ap (λ z. z.sequence) own.1 in omega (arith, numbered, same)))
       (λ was. sound.tops j q inside was)
       (either old new n place r enters.adds j q there)
 
   pub entered : Sound new blocks (record s { table = after })
   entered = record {
     knows = record {
-      led = same_led old new n place r enters.adds mid after records limit (added old new n place r enters.adds s.table mid e is sound.knows.led puts);
+      led = same_led old new n place r enters.adds mid after records limit
+          (added old new n place r enters.adds s.table mid e is sound.knows.led puts);
       lens = λ file. subst (IsFileLen new n file) (sym (len_by file)) (file_len_is new n file);
     };
     tops = tops_now;
-    strays = adds_strayless old new n place r enters.adds enters.fits.no_shorter s.stray_end sound.strays enters.fits.zeros;
+    strays = adds_strayless old new n place r enters.adds enters.fits.no_shorter s.stray_end sound.strays
+        enters.fits.zeros;
     limit = same_limit ∙ sound.limit;
     files = files_kept;
     measured = λ k f found. ⊎_elim
@@ -324,21 +366,25 @@ module _ (old new : Pages) (blocks : ℕ) (s : LayerState) (place : Place) (r : 
         (λ was. has did k.file (inl (subst (λ l. HasLenIn l k.file) (sym mid_lens) (sound.measured k f was))))
         (entry_now k f found);
     counted = counted sound.counted
-        (let within = enters.adds.within in let small = enters.adds.small in let same : e.place.block ≡ place.block = ap (λ p. p.block) is.0 in omega (arith, within, small, same));
+        (let within = enters.adds.within in let small = enters.adds.small in let same : e.place.block ≡ place.block =
+        ap (λ p. p.block) is.0 in omega (arith, within, small, same));
     count = count_now;
     memory = sound.memory;
     within = sound.within;
-    is_spare = adds_spare old new n place r enters.adds s.spare (lies_elsewhere old blocks s sound agreed) (λ same. enters.apart (sym block_is ∙ same));
+    is_spare = adds_spare old new n place r enters.adds s.spare (lies_elsewhere old blocks s sound agreed)
+        (λ same. enters.apart (sym block_is ∙ same));
     agreed = λ _. adds_agreed old new n place r enters.adds (sound.agreed agreed);
     rivals = λ disputed. absurd (true≢false (sym disputed ∙ agreed));
     apart = λ _ k f found. ⊎_elim
-        (λ own. (λ same. enters.apart (ap (λ p. p.block) (sym is.0) ∙ (ap (λ (q : Newest). q.place.block) own.1 ∙ same))))
+        (λ own. (λ same. enters.apart (ap (λ p. p.block) (sym is.0)
+        ∙ (ap (λ (q : Newest). q.place.block) own.1 ∙ same))))
         (λ was. sound.apart agreed k f was)
         (entry_now k f found);
     fresh = λ room. let fresh = sound.fresh room in record {
       agreed = fresh.agreed;
       within = fresh.within;
       apart = fresh.apart;
-      blank = λ p past small. still_blank old new place.block place.page s.current s.fill enters.elsewhere enters.behind p past small ∙ fresh.blank p past small;
+      blank = λ p past small. still_blank old new place.block place.page s.current s.fill enters.elsewhere enters.behind
+          p past small ∙ fresh.blank p past small;
     };
   }

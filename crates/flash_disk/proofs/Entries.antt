@@ -21,7 +21,8 @@ same_entries_then a b c first second = record {
 pub occupies_after : (a b c : Table) (key : FilePage) → SameEntries a b → Occupies b c key → Occupies a c key
 occupies_after a b c key same more = record {
   has = λ k. more.has k ∙ ap (λ had. cond (same_page key k) true had) (same.has k);
-  len = more.len ∙ ap (λ n. n + cond (is_some (known b key)) 0 1) same.len ∙ ap (λ had. page_len a + cond had 0 1) (same.has key);
+  len = more.len ∙ ap (λ n. n + cond (is_some (known b key)) 0 1) same.len
+      ∙ ap (λ had. page_len a + cond had 0 1) (same.has key);
   limit = more.limit ∙ same.limit;
 }
 

@@ -18,7 +18,8 @@ module _ (pages : Pages) (blocks : ℕ) (blank : IsBlankFlash pages blocks) wher
   no_newest : (file page n : ℕ) → n ≤ places blocks → newest pages file page n ≡ None
   no_newest file page zero le = refl
   no_newest file page (suc n) le =
-      ap (λ o. with_record file page n o (newest pages file page n)) (none_there n (omega arith)) ∙ no_newest file page n (omega arith)
+      ap (λ o. with_record file page n o (newest pages file page n)) (none_there n (omega arith))
+      ∙ no_newest file page n (omega arith)
 
   no_pages : (n : ℕ) → n ≤ places blocks → page_count pages n ≡ 0
   no_pages zero le = refl
@@ -32,11 +33,13 @@ module _ (pages : Pages) (blocks : ℕ) (blank : IsBlankFlash pages blocks) wher
     fits = (let none = no_pages (places blocks) (omega arith) in omega (arith, none));
     block = 0;
     within = some;
-    spare = λ x needed _. none-some x (sym (no_newest x.says.file x.says.page (places blocks) (omega arith)) ∙ needed.newest_is);
+    spare = λ x needed _. none-some x (sym (no_newest x.says.file x.says.page (places blocks) (omega arith))
+        ∙ needed.newest_is);
   }
 
   pub blank_is_agreed : IsAgreed pages (places blocks)
-  blank_is_agreed file page x found = absurd (none-some x (sym (no_newest file page (places blocks) (omega arith)) ∙ found))
+  blank_is_agreed file page x found = absurd (none-some x
+      (sym (no_newest file page (places blocks) (omega arith)) ∙ found))
 
 module _ (pages : Pages) (n : ℕ) where
   is_of_both : (a b : Bool) → (a && b) ≡ true → (a ≡ true) × (b ≡ true)
@@ -56,5 +59,6 @@ module _ (pages : Pages) (n : ℕ) where
       let same_file = eqb-true x.says.file file parts.0 in
       let same_page = eqb-true x.says.page page parts.1 in
       let of_page : is_of file page rival.says ≡ true =
-      ap (λ f. is_of f page rival.says) (sym same_file) ∙ (ap (λ p. is_of x.says.file p rival.says) (sym same_page) ∙ rival.of_page) in
+      ap (λ f. is_of f page rival.says) (sym same_file) ∙ (ap (λ p. is_of x.says.file p rival.says) (sym same_page)
+      ∙ rival.of_page) in
       rival.differs (agreed file page x found rival.place rival.says rival.within rival.there of_page rival.number)

@@ -1,9 +1,11 @@
 -- What a record that was added makes of the files: its page has its bytes, and its file the length that it says.
-use Rattle.std.proofs.Common.{◌≡◌, ◌≢◌, ◌⊎◌, ℕ, ◌+◌, ◌-◌, ◌*◌, ◌/◌, ◌%◌, ◌<◌, ◌≤◌, map, length, get_or, true, false, cond, refl, sym, ap, subst, ◌∙◌, inl, inr, ⊎_elim, arith, true≢false, eq-eqb}
+use Rattle.std.proofs.Common.{◌≡◌, ◌≢◌, ◌⊎◌, ℕ, ◌+◌, ◌-◌, ◌*◌, ◌/◌, ◌%◌, ◌<◌, ◌≤◌, map, length, get_or, true, false}
+use Rattle.std.proofs.Common.{cond, refl, sym, ap, subst, ◌∙◌, inl, inr, ⊎_elim, arith, true≢false, eq-eqb}
 use Rattle.std.specs.Prelude.{Some, nat_eq, nat_le, nat_lt, ◌&&◌}
 use Rattle.std.specs.List.{range_with_len}
 use Rattle.std.proofs.Math.Path.{fun_ext}
-use Rattle.std.proofs.lemmas.Bool.{cases_lt, cases_eq, cases_Bool, eqb-true, ne_eqb, and_parts, and_from, and_left, and_right, le-leb, lt-leb, lt-ltb, le-ltb}
+use Rattle.std.proofs.lemmas.Bool.{cases_lt, cases_eq, cases_Bool, eqb-true, ne_eqb, and_parts, and_from, and_left}
+use Rattle.std.proofs.lemmas.Bool.{and_right, le-leb, lt-leb, lt-ltb, le-ltb}
 use Rattle.std.proofs.lemmas.Option.{same_Some}
 use Rattle.std.proofs.lemmas.List.{get_or_past}
 use Rattle.flash_model.specs.Pages.{Pages}
@@ -33,14 +35,16 @@ other_page file page r other = ⊎_elim
 
 module _ (old new : Pages) (n : ℕ) (place : Place) (r : PageRecord) (adds : Adds old new n place r) where
   -- the newest record of a page is the one that was added, or the one that it was
-  by_page : (file page : ℕ) → ((file ≡ r.file) × (page ≡ r.page) × (newest new file page n ≡ Some (placed old new n place r adds)))
+  by_page : (file page : ℕ) → ((file ≡ r.file) × (page ≡ r.page)
+      × (newest new file page n ≡ Some (placed old new n place r adds)))
       ⊎ ((is_of file page r ≡ false) × (newest new file page n ≡ newest old file page n))
   by_page file page = ⊎_elim
       (λ is. let parts = is_of_parts file page r is in inl (
         sym parts.0,
         sym parts.1,
         subst (λ f. newest new f page n ≡ Some (placed old new n place r adds)) parts.0
-            (subst (λ p. newest new r.file p n ≡ Some (placed old new n place r adds)) parts.1 (newest_here old new n place r adds)),
+            (subst (λ p. newest new r.file p n ≡ Some (placed old new n place r adds)) parts.1
+            (newest_here old new n place r adds)),
       ))
       (λ other. inr (other, newest_elsewhere old new n place r adds file page other))
       (cases_Bool (is_of file page r))
@@ -48,10 +52,12 @@ module _ (old new : Pages) (n : ℕ) (place : Place) (r : PageRecord) (adds : Ad
   -- the records are still agreed
   pub adds_agreed : IsAgreed old n → IsAgreed new n
   adds_agreed agreed = λ file page x found j q inside there of_page same. ⊎_elim
-      (λ own. (let is : placed old new n place r adds ≡ x = same_Some (placed old new n place r adds) x (sym own.2 ∙ found) in
+      (λ own. (let is : placed old new n place r adds ≡ x =
+      same_Some (placed old new n place r adds) x (sym own.2 ∙ found) in
       let says : r ≡ x.says = ap (λ z. z.says) is in ⊎_elim
       (λ here. here.1 ∙ says)
-      (λ was. (let less = adds.newer j q inside was in let e : r.sequence ≡ x.says.sequence = ap (λ z. z.sequence) says in absurd (omega (arith, less, same, e))))
+      (λ was. (let less = adds.newer j q inside was in let e : r.sequence ≡ x.says.sequence =
+      ap (λ z. z.sequence) says in absurd (omega (arith, less, same, e))))
       (either old new n place r adds j q there)))
       (λ elsewhere. ⊎_elim
       (λ here. absurd (true≢false (sym of_page ∙ (ap (is_of file page) here.1 ∙ elsewhere.0))))
@@ -63,7 +69,8 @@ module _ (old new : Pages) (n : ℕ) (place : Place) (r : PageRecord) (adds : Ad
   pub adds_len : file_len old n r.file ≤ r.len → file_len new n r.file ≡ r.len
   adds_len no_shorter = sym (one_len new n r.file r.len (record {
     most = λ page x found. ⊎_elim
-        (λ own. (let is : placed old new n place r adds ≡ x = same_Some (placed old new n place r adds) x (sym own.2 ∙ found) in
+        (λ own. (let is : placed old new n place r adds ≡ x =
+        same_Some (placed old new n place r adds) x (sym own.2 ∙ found) in
         let e : r.len ≡ x.says.len = ap (λ z. z.says.len) is in omega (arith, e)))
         (λ elsewhere. (let is_len = file_len_is old n r.file in
         let le = is_len.most page x (sym elsewhere.1 ∙ found) in omega (arith, le, no_shorter)))
@@ -73,17 +80,19 @@ module _ (old new : Pages) (n : ℕ) (place : Place) (r : PageRecord) (adds : Ad
 
   -- another file keeps its newest records
   other_newest : (file : ℕ) → file ≢ r.file → (page : ℕ) → newest new file page n ≡ newest old file page n
-  other_newest file other page = newest_elsewhere old new n place r adds file page (other_page file page r (λ same here. other same))
+  other_newest file other page = newest_elsewhere old new n place r adds file page
+      (other_page file page r (λ same here. other same))
 
   -- another file is as long as it was
   pub adds_other_len : (file : ℕ) → file ≢ r.file → file_len new n file ≡ file_len old n file
-  adds_other_len file other = sym (one_len new n file (file_len old n file) (let is_len = file_len_is old n file in record {
-    most = λ page x found. is_len.most page x (sym (other_newest file other page) ∙ found);
-    one = ⊎_elim
-        (λ none. inl none)
-        (λ some. inr (some.0, some.1, other_newest file other some.0 ∙ some.2, some.3))
-        is_len.one;
-  }))
+  adds_other_len file other = sym (one_len new n file (file_len old n file)
+      (let is_len = file_len_is old n file in record {
+        most = λ page x found. is_len.most page x (sym (other_newest file other page) ∙ found);
+        one = ⊎_elim
+            (λ none. inl none)
+            (λ some. inr (some.0, some.1, other_newest file other some.0 ∙ some.2, some.3))
+            is_len.one;
+      }))
 
   -- another file has the bytes that it had
   pub adds_other_byte : (file : ℕ) → file ≢ r.file → (i : ℕ) → file_byte new n file i ≡ file_byte old n file i
@@ -96,15 +105,19 @@ module _ (old new : Pages) (n : ℕ) (place : Place) (r : PageRecord) (adds : Ad
 
   -- its page has its bytes
   pub adds_own_byte : (i : ℕ) → i / 256 ≡ r.page → file_byte new n r.file i ≡ get_or r.bytes (i % 256) 0
-  adds_own_byte i here = ap (λ b. byte_in b (i % 256)) (subst (λ p. newest new r.file p n ≡ Some (placed old new n place r adds)) (sym here) (newest_here old new n place r adds))
+  adds_own_byte i here = ap (λ b. byte_in b (i % 256)) (subst
+      (λ p. newest new r.file p n ≡ Some (placed old new n place r adds)) (sym here)
+      (newest_here old new n place r adds))
 
   -- each byte of each file
-  pub adds_byte : (file i : ℕ) → file_byte new n file i ≡ cond (nat_eq file r.file && nat_eq (i / 256) r.page) (get_or r.bytes (i % 256) 0) (file_byte old n file i)
+  pub adds_byte : (file i : ℕ) → file_byte new n file i
+      ≡ cond (nat_eq file r.file && nat_eq (i / 256) r.page) (get_or r.bytes (i % 256) 0) (file_byte old n file i)
   adds_byte file i = ⊎_elim
       (λ of_file. ⊎_elim
       (λ here. subst (λ f. file_byte new n f i ≡ get_or r.bytes (i % 256) 0) (sym of_file) (adds_own_byte i here)
       ∙ ap (λ b. cond b (get_or r.bytes (i % 256) 0) (file_byte old n file i))
-      (sym (and_from (nat_eq file r.file) (nat_eq (i / 256) r.page) (eq-eqb file r.file of_file) (eq-eqb (i / 256) r.page here))))
+      (sym (and_from (nat_eq file r.file) (nat_eq (i / 256) r.page) (eq-eqb file r.file of_file)
+      (eq-eqb (i / 256) r.page here))))
       (λ apart. adds_apart_byte file i apart
       ∙ ap (λ b. cond b (get_or r.bytes (i % 256) 0) (file_byte old n file i))
       (sym (and_right (nat_eq file r.file) (nat_eq (i / 256) r.page) (ne_eqb (i / 256) r.page apart))))
@@ -122,15 +135,18 @@ module _ (old new : Pages) (n : ℕ) (place : Place) (r : PageRecord) (adds : Ad
       let own_past : file_len new n r.file ≤ i = subst (λ f. file_len new n f ≤ i) of_file past in
       subst (λ f. file_byte new n f i ≡ 0) (sym of_file) (⊎_elim
       (λ here. adds_own_byte i here ∙ zeros (i % 256) (omega arith) (omega (arith, own_past, long, here)))
-      (λ apart. adds_apart_byte r.file i apart ∙ strayless r.file i (omega (arith, own_past, long, no_shorter)) from_there)
+      (λ apart. adds_apart_byte r.file i apart ∙ strayless r.file i (omega (arith, own_past, long, no_shorter))
+      from_there)
       (cases_eq (i / 256) r.page))))
-      (λ other. adds_other_byte file other i ∙ strayless file i (let same = adds_other_len file other in omega (arith, past, same)) from_there)
+      (λ other. adds_other_byte file other i ∙ strayless file i
+      (let same = adds_other_len file other in omega (arith, past, same)) from_there)
       (cases_eq file r.file)
 
   -- where each newest record lies outside a block, and so does this one
   pub adds_elsewhere : (block : ℕ) → LiesElsewhere old n block → number place / 64 ≢ block → LiesElsewhere new n block
   adds_elsewhere block elsewhere apart = λ file page x found. ⊎_elim
-      (λ own. (let is : placed old new n place r adds ≡ x = same_Some (placed old new n place r adds) x (sym own.2 ∙ found) in
+      (λ own. (let is : placed old new n place r adds ≡ x =
+      same_Some (placed old new n place r adds) x (sym own.2 ∙ found) in
       (number place, adds.within, apart, adds.here ∙ ap (λ z. Some z.says) is)))
       (λ other. (let was = elsewhere file page x (sym other.1 ∙ found) in
       (was.0, was.1, was.2, still old new n place r adds was.0 x.says was.3)))
@@ -143,11 +159,17 @@ module _ (old new : Pages) (n : ℕ) (place : Place) (r : PageRecord) (adds : Ad
   -- a spare block in which it does not lie is still spare
   pub adds_is_spare : (block : ℕ) → IsSpare old n block → number place / 64 ≢ block → IsSpare new n block
   adds_is_spare block spare apart = λ x needed at. ⊎_elim
-      (λ own. (let is : placed old new n place r adds ≡ x = same_Some (placed old new n place r adds) x (sym own.2 ∙ needed.newest_is) in
+      (λ own. (let is : placed old new n place r adds ≡ x =
+      same_Some (placed old new n place r adds) x (sym own.2 ∙ needed.newest_is) in
       apart (ap (λ z. z.place / 64) is ∙ at)))
       (λ other. spare x (record {
         newest_is = sym other.1 ∙ needed.newest_is;
-        alone = λ j copy. needed.alone j (record { within = copy.within; apart = copy.apart; same = still old new n place r adds j x.says copy.same });
+        alone = λ j copy. needed.alone j (record {
+          within = copy.within;
+          apart = copy.apart;
+          same =
+              still old new n place r adds j x.says copy.same;
+        });
       }) at)
       (by_page x.says.file x.says.page)
 
@@ -175,7 +197,8 @@ module _ (old new : Pages) (blocks : ℕ) (place : Place) (r : PageRecord) (adds
   other_file file other =
       ap (λ b. map b (range_with_len 0 (file_len new (places blocks) file)))
       (fun_ext (λ i. adds_other_byte old new (places blocks) place r adds file other i))
-      ∙ ap (λ l. map (file_byte old (places blocks) file) (range_with_len 0 l)) (adds_other_len old new (places blocks) place r adds file other)
+      ∙ ap (λ l. map (file_byte old (places blocks) file) (range_with_len 0 l))
+      (adds_other_len old new (places blocks) place r adds file other)
 
   -- past the old end no byte shows outside the page
   was_byte : MayGrow old (places blocks) r.file r.page r.len → (i : ℕ) → i < r.len → i / 256 ≢ r.page
@@ -183,19 +206,23 @@ module _ (old new : Pages) (blocks : ℕ) (place : Place) (r : PageRecord) (adds
   was_byte may i inside apart = ⊎_elim
       (λ within. sym (byte-flash_files old blocks r.file i within))
       (λ past. may i past inside apart
-      ∙ sym (get_or_past (flash_files old blocks r.file) i 0 (let long = length-flash_files old blocks r.file in omega (arith, long, past))))
+      ∙ sym (get_or_past (flash_files old blocks r.file) i 0
+      (let long = length-flash_files old blocks r.file in omega (arith, long, past))))
       (cases_lt i (file_len old (places blocks) r.file))
 
   byte_is : MayGrow old (places blocks) r.file r.page r.len → (i : ℕ) → i < r.len
       → file_byte new (places blocks) r.file i
-      ≡ cond (in_range (256 * r.page) 256 i) (get_or r.bytes (i - 256 * r.page) 0) (get_or (flash_files old blocks r.file) i 0)
+      ≡ cond (in_range (256 * r.page) 256 i) (get_or r.bytes (i - 256 * r.page) 0)
+      (get_or (flash_files old blocks r.file) i 0)
   byte_is may i inside = ⊎_elim
       (λ here. adds_own_byte old new (places blocks) place r adds i here
       ∙ (ap (λ k. get_or r.bytes k 0) (let e : i % 256 ≡ i - 256 * r.page = omega (arith, here) in e)
-      ∙ ap (λ b. cond b (get_or r.bytes (i - 256 * r.page) 0) (get_or (flash_files old blocks r.file) i 0)) (sym (in_page r.page i here))))
+      ∙ ap (λ b. cond b (get_or r.bytes (i - 256 * r.page) 0) (get_or (flash_files old blocks r.file) i 0))
+      (sym (in_page r.page i here))))
       (λ apart. adds_apart_byte old new (places blocks) place r adds r.file i apart
       ∙ (was_byte may i inside apart
-      ∙ ap (λ b. cond b (get_or r.bytes (i - 256 * r.page) 0) (get_or (flash_files old blocks r.file) i 0)) (sym (out_of_page r.page i apart))))
+      ∙ ap (λ b. cond b (get_or r.bytes (i - 256 * r.page) 0) (get_or (flash_files old blocks r.file) i 0))
+      (sym (out_of_page r.page i apart))))
       (cases_eq (i / 256) r.page)
 
   -- the bytes of the record were put into its file
@@ -207,13 +234,16 @@ module _ (old new : Pages) (blocks : ℕ) (place : Place) (r : PageRecord) (adds
     no_shorter = (let long = length-flash_files old blocks r.file in omega (arith, long, no_shorter));
     bytes_are = λ i inside. byte-flash_files new blocks r.file i
         (let long = adds_len old new (places blocks) place r adds no_shorter in omega (arith, long, inside))
-        ∙ subst (λ m. file_byte new (places blocks) r.file i ≡ cond (in_range (256 * r.page) m i) (get_or r.bytes (i - 256 * r.page) 0)
+        ∙ subst (λ m. file_byte new (places blocks) r.file i
+        ≡ cond (in_range (256 * r.page) m i) (get_or r.bytes (i - 256 * r.page) 0)
         (get_or (flash_files old blocks r.file) i 0)) (sym full) (byte_is may i inside);
   }
 
 -- the record was added, or no record changed: its bytes were put into its file, or no file changed
-pub grown_put : (old left : Pages) (blocks : ℕ) (place : Place) (r : PageRecord) → HasSameRecords old left ⊎ Adds old left (places blocks) place r
-    → file_len old (places blocks) r.file ≤ r.len → MayGrow old (places blocks) r.file r.page r.len → length r.bytes ≡ 256
+pub grown_put : (old left : Pages) (blocks : ℕ) (place : Place) (r : PageRecord)
+    → HasSameRecords old left ⊎ Adds old left (places blocks) place r
+    → file_len old (places blocks) r.file ≤ r.len → MayGrow old (places blocks) r.file r.page r.len
+    → length r.bytes ≡ 256
     → PutOrNot r.file (256 * r.page) r.bytes r.len (flash_files old blocks) (flash_files left blocks)
 grown_put old left blocks place r grows no_shorter may full = ⊎_elim
     (λ same. inl (records_files old left same blocks))

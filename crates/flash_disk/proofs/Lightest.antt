@@ -4,7 +4,8 @@ use Rattle.std.proofs.lemmas.Bool.{cases_lt}
 
 module _ (load : ℕ → ℕ) (but blocks : ℕ) where
   abbrev pub IsBest : ℕ → ℕ → Type 0
-  IsBest block best = (best ≢ but → best < blocks) × ((b : ℕ) → b < block → b ≢ but → (best ≢ but) × (load best ≤ load b))
+  IsBest block best = (best ≢ but → best < blocks) × ((b : ℕ) → b < block → b ≢ but
+      → (best ≢ but) × (load best ≤ load b))
 
   abbrev pub Beats : ℕ → ℕ → Type 0
   Beats block best = (block ≢ but) × ((best ≡ but) ⊎ (load block < load best))
@@ -20,7 +21,8 @@ module _ (load : ℕ → ℕ) (but blocks : ℕ) where
               (λ less. let le = old.1 in omega (arith, less, le))
               beats.1),
         ))
-        (λ past. let e : block ≡ b = omega arith in subst (λ q. (block ≢ but) × (load block ≤ load q)) e (beats.0, omega arith))
+        (λ past. let e : block ≡ b = omega arith in subst (λ q. (block ≢ but) × (load block ≤ load q)) e
+        (beats.0, omega arith))
         (cases_lt b block)),
   )
 
@@ -30,7 +32,10 @@ module _ (load : ℕ → ℕ) (but blocks : ℕ) where
     (λ b below other. ⊎_elim
         (λ before. is.1 b before other)
         (λ past. let e : block ≡ b = omega arith in let apart : block ≢ but = subst (λ q. q ≢ but) (sym e) other in
-        subst (λ q. (best ≢ but) × (load best ≤ load q)) e
-        ((λ same. worse (apart, inl same)), ⊎_elim (λ less. absurd (worse (apart, inr less))) (λ le. le) (cases_lt (load block) (load best))))
+        subst (λ q. (best ≢ but) × (load best ≤ load q)) e (
+          (λ same. worse (apart, inl same)),
+          ⊎_elim (λ less. absurd (worse (apart, inr less))) (λ le. le)
+              (cases_lt (load block) (load best)),
+        ))
         (cases_lt b block)),
   )

@@ -26,7 +26,8 @@ pub looks_open : (told : Bool) (a b : FlashMedium) → Looks told a b → Opens 
 looks_open told a b looks = record { time = looks.time; during = λ t c past. inl (looks.during t c past) }
 
 -- a flash that was looked at and is settled, or fails to
-pub settle_opens : (told : Bool) (a b c : FlashMedium) → Looks told a b → FlashElapses b c → EachFlashCase (λ x. IsStill b.state x ⊎ IsStill c.state x) b c
+pub settle_opens : (told : Bool) (a b c : FlashMedium) → Looks told a b → FlashElapses b c
+    → EachFlashCase (λ x. IsStill b.state x ⊎ IsStill c.state x) b c
     → (IsTrue told → (c.state ≡ settle_pages b.state) ⊎ (c.state ≡ b.state)) → Opens told a c
 settle_opens told a b c looks time cases state = record {
   time = λ t. elapses_then a b c (looks.time t) time;

@@ -25,10 +25,13 @@ module _ (table : Table) (file from page n m : ℕ) (next : m ≡ suc n) (here :
   key = record { file = file; page = page }
 
   more : missing table file from m ≡ missing table file from n + cond (is_none (known table key)) 1 0
-  more = subst (λ q. missing table file from q ≡ missing table file from n + cond (is_none (known table key)) 1 0) (sym next)
-      (ap (λ p. let k : FilePage = record { file = file; page = p } in missing table file from n + cond (is_none (known table k)) 1 0) here)
+  more = subst (λ q. missing table file from q ≡ missing table file from n + cond (is_none (known table key)) 1 0)
+      (sym next)
+      (ap (λ p. let k : FilePage = record { file = file; page = p } in
+      missing table file from n + cond (is_none (known table k)) 1 0) here)
 
   -- the page has no entry, or has one
   pub one_missing : (none : Bool) (found : Option Newest) → is_some found ≡ not none → found ≡ known table key
       → missing table file from m ≡ missing table file from n + cond none 1 0
-  one_missing none found is same = more ∙ ap (λ b. missing table file from n + cond b 1 0) (sym (none_is none found is ∙ ap is_none same))
+  one_missing none found is same = more ∙ ap (λ b. missing table file from n + cond b 1 0)
+      (sym (none_is none found is ∙ ap is_none same))

@@ -1,5 +1,6 @@
 -- The table leads to the copies, and the block that they came from is the spare one.
-use Rattle.std.proofs.Common.{◌≡◌, ◌≢◌, ℕ, suc, ◌<◌, min, true, cond, List, [], ◌∷◌, length, refl, sym, ap, subst, ◌∙◌, inl, inr, ⊎_elim, arith, true≢false}
+use Rattle.std.proofs.Common.{◌≡◌, ◌≢◌, ℕ, suc, ◌<◌, min, true, cond, List, [], ◌∷◌, length, refl, sym, ap, subst, ◌∙◌}
+use Rattle.std.proofs.Common.{inl, inr, ⊎_elim, arith, true≢false}
 use Rattle.std.specs.Prelude.{Option, Some, None, is_some, IsSome, IfSome, All}
 use Rattle.std.specs.HashMap.{spare}
 use Rattle.std.specs.Map.{update, update_all}
@@ -28,11 +29,13 @@ abbrev Entry : Type 0
 Entry = FilePage × Newest
 
 -- a page that one of the entries is of has one of them at the end
-hit : (P : Newest → Type 0) (k : FilePage) (f : FilePage → Option Newest) (es : List Entry) → All (λ p. same_page p.0 k ≡ true → P p.1) es → HasKey k es
+hit : (P : Newest → Type 0) (k : FilePage) (f : FilePage → Option Newest) (es : List Entry)
+    → All (λ p. same_page p.0 k ≡ true → P p.1) es → HasKey k es
     → IfSome (update_all same_page f es k) P
 hit P k f [] all has = absurd has
 hit P k f (e ∷ es) all has =
-    let rest : All (λ (p : Entry). same_page p.0 k ≡ true → P p.1) es = (λ j d inside. all (suc j) d (omega (arith, inside))) in ⊎_elim
+    let rest : All (λ (p : Entry). same_page p.0 k ≡ true → P p.1) es =
+    (λ j d inside. all (suc j) d (omega (arith, inside))) in ⊎_elim
     (λ here. IfSome-update_all same_page P k (update same_page f e.0 (Some e.1)) es
     (subst (λ b. IfSome (cond b (Some e.1) (f k)) P) (sym here) (all 0 e (omega arith) here)) rest)
     (λ later. hit P k (update same_page f e.0 (Some e.1)) es rest later)
@@ -52,7 +55,8 @@ module _ (m : FlashMedium) (s : LayerState) (from to : ℕ) (moving : IsMoving m
   pub all_known : All (λ new. IsSome (known s.table new.0)) s.moved.items
   all_known = λ k d inside. subst IsSome (sym (moving.moved k d inside).known_is) refl
 
-  module _ (table : Table) (puts : PutsAll s.table table s.moved.items) (len : page_len table ≡ page_len s.table) (room : HasRoom table)
+  module _ (table : Table) (puts : PutsAll s.table table s.moved.items) (len : page_len table ≡ page_len s.table)
+      (room : HasRoom table)
       (limit : limit_of table ≡ limit_of s.table) (lens : table.lens ≡ s.table.lens)
       (stays : (key : FilePage) → IsSome (known s.table key) → IsSome (known table key)) where
     abbrev pages : Pages
@@ -61,7 +65,8 @@ module _ (m : FlashMedium) (s : LayerState) (from to : ℕ) (moving : IsMoving m
     abbrev n : ℕ
     n = places m.blocks
 
-    by_moved : (P : Newest → Type 0) (k : FilePage) → ((e : Entry) → IsMoved pages s.table from to (length s.moved.items) e → e.0 ≡ k → P e.1)
+    by_moved : (P : Newest → Type 0) (k : FilePage) → ((e : Entry)
+        → IsMoved pages s.table from to (length s.moved.items) e → e.0 ≡ k → P e.1)
         → All (λ (p : Entry). same_page p.0 k ≡ true → P p.1) s.moved.items
     by_moved P k holds = λ j d inside same. holds _ (moving.moved j d inside) (same_page_is _ k same)
 
@@ -71,10 +76,12 @@ module _ (m : FlashMedium) (s : LayerState) (from to : ℕ) (moving : IsMoving m
     after_by P k v now was holds = subst (λ o. IfSome o P) (sym (puts k) ∙ now)
         (IfSome-update_all same_page P k (known s.table) s.moved.items was (by_moved P k holds))
 
-    old_of : (e : Entry) → (moved : IsMoved pages s.table from to (length s.moved.items) e) → (k : FilePage) → e.0 ≡ k → (old : Newest) → known s.table k ≡ Some old → moved.old ≡ old
+    old_of : (e : Entry) → (moved : IsMoved pages s.table from to (length s.moved.items) e) → (k : FilePage) → e.0 ≡ k
+        → (old : Newest) → known s.table k ≡ Some old → moved.old ≡ old
     old_of e moved k same old is = same_Some moved.old old (sym moved.known_is ∙ (ap (λ q. known s.table q) same ∙ is))
 
-    moved_follows : (e : Entry) → (moved : IsMoved pages s.table from to (length s.moved.items) e) → Follows pages n moved.old e.1
+    moved_follows : (e : Entry) → (moved : IsMoved pages s.table from to (length s.moved.items) e)
+        → Follows pages n moved.old e.1
     moved_follows e moved =
         let front = moved.front in
         let count = moving.count in
@@ -90,7 +97,8 @@ module _ (m : FlashMedium) (s : LayerState) (from to : ℕ) (moving : IsMoving m
           there = moved.copy;
         }
 
-    follows : (k : FilePage) (old v : Newest) → known s.table k ≡ Some old → known table k ≡ Some v → Follows pages n old v
+    follows : (k : FilePage) (old v : Newest) → known s.table k ≡ Some old → known table k ≡ Some v
+        → Follows pages n old v
     follows k old v is now =
         let found = record_of pages n s.table moving.sound.knows.led k old is in
         after_by (Follows pages n old) k v now
@@ -105,7 +113,8 @@ module _ (m : FlashMedium) (s : LayerState) (from to : ℕ) (moving : IsMoving m
         (λ e moved same. subst (λ o. Follows pages n o e.1) (old_of e moved k same old is) (moved_follows e moved))
 
     -- what the table knew of a page of which it knows now
-    was_known : (k : FilePage) (v : Newest) → known table k ≡ Some v → (o : Option Newest) → known s.table k ≡ o → (old : Newest) × (known s.table k ≡ Some old)
+    was_known : (k : FilePage) (v : Newest) → known table k ≡ Some v → (o : Option Newest) → known s.table k ≡ o
+        → (old : Newest) × (known s.table k ≡ Some old)
     was_known k v now (Some old) is = (old, is)
     was_known k v now None is = absurd (after_by (λ _. ⊥) k v now (subst (λ o. IfSome o (λ _. ⊥)) (sym is) tt)
         (λ e moved same. none-some moved.old (sym is ∙ (ap (λ q. known s.table q) (sym same) ∙ moved.known_is))))
@@ -113,7 +122,8 @@ module _ (m : FlashMedium) (s : LayerState) (from to : ℕ) (moving : IsMoving m
     moved_apart : (e : Entry) → IsMoved pages s.table from to (length s.moved.items) e → e.1.place.block ≢ from
     moved_apart e moved = λ there. moving.apart (sym there ∙ moved.block)
 
-    apart_by : (k : FilePage) (v old : Newest) → known table k ≡ Some v → known s.table k ≡ Some old → v.place.block ≢ from
+    apart_by : (k : FilePage) (v old : Newest) → known table k ≡ Some v → known s.table k ≡ Some old
+        → v.place.block ≢ from
     apart_by k v old now is = ⊎_elim
         (λ came. (let small = (record_of pages n s.table moving.sound.knows.led k old is).1.leads.small in
         subst (λ o. IfSome o (λ (q : Newest). q.place.block ≢ from)) (sym (puts k) ∙ now)
@@ -129,7 +139,8 @@ module _ (m : FlashMedium) (s : LayerState) (from to : ℕ) (moving : IsMoving m
     leaves : LeavesOut table from
     leaves = λ k v now. let was = was_known k v now (known s.table k) refl in apart_by k v was.0 now was.1
 
-    led_by : (old v : Newest) → Follows pages n old v → (best : Option Placed) → LedOf pages n (Some old) best → LedOf pages n (Some v) best
+    led_by : (old v : Newest) → Follows pages n old v → (best : Option Placed) → LedOf pages n (Some old) best
+        → LedOf pages n (Some v) best
     led_by old v f None led = led
     led_by old v f (Some x) led = record {
       within = f.within;
@@ -142,8 +153,10 @@ module _ (m : FlashMedium) (s : LayerState) (from to : ℕ) (moving : IsMoving m
       };
     }
 
-    none_by : (k : FilePage) → known table k ≡ None → (o : Option Newest) → known s.table k ≡ o → LedOf pages n None (newest pages k.file k.page n)
-    none_by k now None is = subst (λ o. LedOf pages n o (newest pages k.file k.page n)) is (moving.sound.knows.led.says k)
+    none_by : (k : FilePage) → known table k ≡ None → (o : Option Newest) → known s.table k ≡ o
+        → LedOf pages n None (newest pages k.file k.page n)
+    none_by k now None is = subst (λ o. LedOf pages n o (newest pages k.file k.page n)) is
+        (moving.sound.knows.led.says k)
     none_by k now (Some old) is = absurd (true≢false (sym (subst IsSome now (stays k (subst IsSome (sym is) refl)))))
 
     says : (k : FilePage) (o : Option Newest) → known table k ≡ o → LedOf pages n o (newest pages k.file k.page n)
@@ -164,12 +177,15 @@ module _ (m : FlashMedium) (s : LayerState) (from to : ℕ) (moving : IsMoving m
     inside counted = λ k d within.
         let moved = moving.moved k d within in
         let was = counted.inside _ moved.old moved.known_is in record {
-          place = (let spare = moving.sound.within in let same = moving.spare in let block = moved.block in omega (arith, spare, same, block));
-          twin = subst (λ t. IfSome t (λ q. q.block < m.blocks)) (sym (ap (λ (q : Newest). q.twin) moved.entry)) was.twin;
+          place = (let spare = moving.sound.within in let same = moving.spare in let block =
+              moved.block in omega (arith, spare, same, block));
+          twin = subst (λ t. IfSome t (λ q. q.block < m.blocks)) (sym (ap (λ (q : Newest). q.twin) moved.entry))
+              was.twin;
         }
 
     pub finished : (fill : ℕ) → fill ≡ min (length s.moved.items) 64
-        → (IsCounted m.blocks s.table → All (λ (new : Entry). IsInside m.blocks new.1) s.moved.items → IsCounted m.blocks table)
+        → (IsCounted m.blocks s.table → All (λ (new : Entry). IsInside m.blocks new.1) s.moved.items
+        → IsCounted m.blocks table)
         → Sound pages m.blocks (record s { table = table; fill = fill; current = to; spare = from })
     finished fill fill_is counted = record {
       knows = record {
@@ -179,8 +195,10 @@ module _ (m : FlashMedium) (s : LayerState) (from to : ℕ) (moving : IsMoving m
       tops = moving.sound.tops;
       strays = moving.sound.strays;
       limit = limit ∙ moving.sound.limit;
-      files = (let files = moving.sound.files in let same = ap (λ l. spare l) lens in omega (arith, files, same, len, limit));
-      measured = λ k v now. let was = was_known k v now (known s.table k) refl in subst (λ l. HasLenIn l k.file) (sym lens) (moving.sound.measured k was.0 was.1);
+      files = (let files = moving.sound.files in let same =
+          ap (λ l. spare l) lens in omega (arith, files, same, len, limit));
+      measured = λ k v now. let was = was_known k v now (known s.table k) refl in
+          subst (λ l. HasLenIn l k.file) (sym lens) (moving.sound.measured k was.0 was.1);
       counted = counted moving.sound.counted (inside moving.sound.counted);
       count = len ∙ moving.sound.count;
       memory = moving.sound.memory;
@@ -201,10 +219,13 @@ module _ (m : FlashMedium) (s : LayerState) (from to : ℕ) (moving : IsMoving m
     pub places_stay : (k : FilePage) → HasPlace s.table k → HasPlace table k
     places_stay k has = ⊎_elim (λ some. inl (stays k some)) (λ more. inr (omega (arith, more, len, limit))) has
 
-    some_by : (k : FilePage) (o : Option Newest) → known s.table k ≡ o → (v : Option Newest) → known table k ≡ v → is_some v ≡ is_some o
+    some_by : (k : FilePage) (o : Option Newest) → known s.table k ≡ o → (v : Option Newest) → known table k ≡ v
+        → is_some v ≡ is_some o
     some_by k None was None now = refl
-    some_by k None was (Some v) now = let had = was_known k v now (known s.table k) refl in absurd (none-some had.0 (sym was ∙ had.1))
-    some_by k (Some old) was None now = absurd (true≢false (sym (subst IsSome now (stays k (subst IsSome (sym was) refl)))))
+    some_by k None was (Some v) now = let had = was_known k v now (known s.table k) refl in
+        absurd (none-some had.0 (sym was ∙ had.1))
+    some_by k (Some old) was None now = absurd (true≢false
+        (sym (subst IsSome now (stays k (subst IsSome (sym was) refl)))))
     some_by k (Some old) was (Some v) now = refl
 
     -- the same pages have entries

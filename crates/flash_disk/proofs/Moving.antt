@@ -1,11 +1,14 @@
 -- Records are copied to the front of the spare block one by one, and nothing that counts changes.
-use Rattle.std.proofs.Common.{◌≡◌, ◌≢◌, ◌⊎◌, ℕ, ◌+◌, ◌*◌, ◌<◌, ◌≤◌, Bool, true, false, cond, slice_index_or, List, [], ◌∷◌, ◌++◌, length, Result, Ok, Err, OnOk, OnErr, refl, sym, ap, subst, ◌∙◌, inl, inr, ⊎_elim, arith, eq-eqb, length-append}
+use Rattle.std.proofs.Common.{◌≡◌, ◌≢◌, ◌⊎◌, ℕ, ◌+◌, ◌*◌, ◌<◌, ◌≤◌, Bool, true, false, cond, slice_index_or, List, []}
+use Rattle.std.proofs.Common.{◌∷◌, ◌++◌, length, Result, Ok, Err, OnOk, OnErr, refl, sym, ap, subst, ◌∙◌, inl, inr}
+use Rattle.std.proofs.Common.{⊎_elim, arith, eq-eqb, length-append}
 use Rattle.std.specs.Prelude.{Option, Some, None, IsFalse, All, nat_eq, ◌&&◌, not, vec_capacity}
 use Rattle.std.proofs.lemmas.Bool.{cases_lt, cases_Bool, eqb-true, and_parts, and_from, true≢false}
 use Rattle.std.proofs.lemmas.Option.{same_Some}
 use Rattle.std.proofs.lemmas.List.Elements.{All-push}
 use Rattle.flash_model.specs.Pages.{Pages, TornPage, IsPlain, program_page, erase_block, blank_page}
-use Rattle.flash_model.specs.State.{FlashState, IsStill, ProgramCase, EraseCase, FailsToProgram, FailsToErase, programmed, erased}
+use Rattle.flash_model.specs.State.{FlashState, IsStill, ProgramCase, EraseCase, FailsToProgram, FailsToErase}
+use Rattle.flash_model.specs.State.{programmed, erased}
 use Rattle.flash_model.specs.FlashMedium.{FlashMedium, FlashElapses, EachFlashCase}
 use Rattle.flash_record.specs.PageRecord.{PageRecord, record_in}
 use Rattle.flash_disk.specs.declared.table.FilePage.{FilePage}
@@ -22,35 +25,43 @@ use Rattle.flash_disk.specs.Standing.{Keeps, StandsFor}
 use Rattle.flash_disk.specs.Sound.{Sound, IsSound, FitsIn, Fits, ShowsSame}
 use Rattle.flash_disk.specs.Moving.{IsMoved, HasKey, IsMoving}
 use Rattle.flash_disk.proofs.Learning.{record_at_place, same_page_refl}
-use Rattle.flash_disk.proofs.Standing.{is_newest_of, keeps_agreed, keeps_strayless, keeps_tops, keeps_known, keeps_files, keeps_refl, keeps_then, keeps_byte, keeps_len, keeps_may_grow}
+use Rattle.flash_disk.proofs.Standing.{is_newest_of, keeps_agreed, keeps_strayless, keeps_tops, keeps_known}
+use Rattle.flash_disk.proofs.Standing.{keeps_files, keeps_refl, keeps_then, keeps_byte, keeps_len, keeps_may_grow}
 use Rattle.flash_disk.proofs.Sparing.{led_elsewhere, spare_of}
-use Rattle.flash_disk.proofs.Tearing.{torn_elsewhere, torn_copy, whole_copy, whole_torn, whole_here, LosesIn, torn_erase, whole_erase, erase_keeps}
+use Rattle.flash_disk.proofs.Tearing.{torn_elsewhere, torn_copy, whole_copy, whole_torn, whole_here, LosesIn}
+use Rattle.flash_disk.proofs.Tearing.{torn_erase, whole_erase, erase_keeps}
 use Rattle.flash_disk.proofs.Stretches.{does_then, does_weaken, does_nothing, program_does, erase_does}
 use Rattle.flash_disk.proofs.Entering.{as_said, sound_usable, lies_elsewhere}
 use Rattle.flash_disk.proofs.PageCount.{count_keeps}
 
 -- the newest record of a page to which an entry leads
-by_best : (pages : Pages) (n : ℕ) (key : FilePage) (e : Newest) (best : Option Placed) → newest pages key.file key.page n ≡ best → LedOf pages n (Some e) best
+by_best : (pages : Pages) (n : ℕ) (key : FilePage) (e : Newest) (best : Option Placed)
+    → newest pages key.file key.page n ≡ best → LedOf pages n (Some e) best
     → (x : Placed) × (newest pages key.file key.page n ≡ Some x) × Led pages n e x
 by_best pages n key e None is led = absurd led
 by_best pages n key e (Some x) is led = (x, is, led)
 
-pub record_of : (pages : Pages) (n : ℕ) (table : Table) → IsLed pages n table → (key : FilePage) (e : Newest) → known table key ≡ Some e
+pub record_of : (pages : Pages) (n : ℕ) (table : Table) → IsLed pages n table → (key : FilePage) (e : Newest)
+    → known table key ≡ Some e
     → (x : Placed) × Led pages n e x × (page_of x.says ≡ key)
 record_of pages n table led key e is =
-    let found = by_best pages n key e (newest pages key.file key.page n) refl (subst (λ o. LedOf pages n o (newest pages key.file key.page n)) is (led.says key)) in
+    let found = by_best pages n key e (newest pages key.file key.page n) refl
+    (subst (λ o. LedOf pages n o (newest pages key.file key.page n)) is (led.says key)) in
     let newest_is = is_newest_of pages key.file key.page n found.0 found.1 in
     let parts = and_parts (nat_eq found.0.says.file key.file) (nat_eq found.0.says.page key.page) newest_is.of_page in
     let file : found.0.says.file ≡ key.file = eqb-true found.0.says.file key.file parts.0 in
     let page : found.0.says.page ≡ key.page = eqb-true found.0.says.page key.page parts.1 in (
       found.0,
       found.2,
-      ap (λ f. let k : FilePage = record { file = f; page = found.0.says.page } in k) file ∙ ap (λ p. let k : FilePage = record { file = key.file; page = p } in k) page,
+      ap (λ f. let k : FilePage = record { file = f; page = found.0.says.page } in k) file
+          ∙ ap (λ p. let k : FilePage = record { file = key.file; page = p } in k) page,
     )
 
 -- what counts is kept, and what the table leads to stands where it stood
-pub kept_sound : (old new : Pages) (blocks : ℕ) (s : LayerState) → Sound old blocks s → IsFalse s.disputed → 64 ≤ s.fill → Keeps old new (places blocks)
-    → ((key : FilePage) (e : Newest) → known s.table key ≡ Some e → record_at new (number e.place) ≡ record_at old (number e.place)) → Sound new blocks s
+pub kept_sound : (old new : Pages) (blocks : ℕ) (s : LayerState) → Sound old blocks s → IsFalse s.disputed → 64 ≤ s.fill
+    → Keeps old new (places blocks)
+    → ((key : FilePage) (e : Newest) → known s.table key ≡ Some e
+    → record_at new (number e.place) ≡ record_at old (number e.place)) → Sound new blocks s
 kept_sound old new blocks s sound agreed full keeps there =
     let n = places blocks in
     let all_agree = sound.agreed agreed in
@@ -73,7 +84,8 @@ kept_sound old new blocks s sound agreed full keeps there =
     }
 
 -- the pages stand for the files that they stood for
-pub kept_stands : (m : FlashMedium) (new : Pages) (s : LayerState) → IsSound m s → IsFalse s.disputed → Keeps m.state.pages new (places m.blocks) → Sound new m.blocks s
+pub kept_stands : (m : FlashMedium) (new : Pages) (s : LayerState) → IsSound m s → IsFalse s.disputed
+    → Keeps m.state.pages new (places m.blocks) → Sound new m.blocks s
     → StandsFor m new
 kept_stands m new s sound agreed keeps now = record {
   files_are = keeps_files m.state.pages new m.blocks (sound.agreed agreed) keeps;
@@ -82,10 +94,16 @@ kept_stands m new s sound agreed keeps now = record {
 }
 
 pub stands_now : (m : FlashMedium) (s : LayerState) → IsSound m s → StandsFor m m.state.pages
-stands_now m s sound = record { files_are = refl; usable = sound_usable m.state.pages m.blocks s sound; agreed = λ all. all }
+stands_now m s sound = record {
+  files_are = refl;
+  usable = sound_usable m.state.pages m.blocks s sound;
+  agreed =
+      λ all. all;
+}
 
 -- what the pages stand for since a flash they stand for since the one before it
-stands_since : (a b : FlashMedium) → b.blocks ≡ a.blocks → StandsFor a b.state.pages → (pages : Pages) → StandsFor b pages → StandsFor a pages
+stands_since : (a b : FlashMedium) → b.blocks ≡ a.blocks → StandsFor a b.state.pages → (pages : Pages)
+    → StandsFor b pages → StandsFor a pages
 stands_since a b blocks mid pages stands =
     let over = subst (λ k. StandsFor (record b { blocks = k }) pages) blocks stands in record {
       files_are = over.files_are ∙ mid.files_are;
@@ -97,66 +115,75 @@ stands_since a b blocks mid pages stands =
 pub stands_then : (a b c : FlashMedium) → FlashElapses a b → FlashElapses b c → Does (StandsFor a) a b
     → Does (StandsFor b) b c → Does (StandsFor a) a c
 stands_then a b c first second early late =
-    does_then a b c (StandsFor a) first second early (does_weaken b c (StandsFor b) (StandsFor a) (stands_since a b first.blocks early.now) late)
+    does_then a b c (StandsFor a) first second early (does_weaken b c (StandsFor b) (StandsFor a)
+    (stands_since a b first.blocks early.now) late)
 
 -- ---- the spare block is erased
 
-module _ (m now : FlashMedium) (s : LayerState) (sound : IsSound m s) (agreed : IsFalse s.disputed) (full : 64 ≤ s.fill) where
-  abbrev pages : Pages
-  pages = m.state.pages
+module _ (m now : FlashMedium) (s : LayerState) (sound : IsSound m s) (agreed : IsFalse s.disputed) (full : 64 ≤ s.fill)
+  where
+    abbrev pages : Pages
+    pages = m.state.pages
 
-  abbrev n : ℕ
-  n = places m.blocks
+    abbrev n : ℕ
+    n = places m.blocks
 
-  loses_keeps : (left : Pages) → LosesIn s.spare pages left → Keeps pages left n
-  loses_keeps left loses = erase_keeps pages left n s.spare (lies_elsewhere pages m.blocks s sound agreed) loses
+    loses_keeps : (left : Pages) → LosesIn s.spare pages left → Keeps pages left n
+    loses_keeps left loses = erase_keeps pages left n s.spare (lies_elsewhere pages m.blocks s sound agreed) loses
 
-  loses_sound : (left : Pages) → LosesIn s.spare pages left → Sound left m.blocks s
-  loses_sound left loses = kept_sound pages left m.blocks s sound agreed full (loses_keeps left loses) (λ key e is.
-      (let found = record_of pages n s.table sound.knows.led key e is in
-      let small = found.1.leads.small in
-      loses.apart (number e.place) (λ same. sound.apart agreed key e is (let b : e.place.block ≡ s.spare = omega (arith, same, small) in b))))
+    loses_sound : (left : Pages) → LosesIn s.spare pages left → Sound left m.blocks s
+    loses_sound left loses = kept_sound pages left m.blocks s sound agreed full (loses_keeps left loses) (λ key e is.
+        (let found = record_of pages n s.table sound.knows.led key e is in
+        let small = found.1.leads.small in
+        loses.apart (number e.place) (λ same. sound.apart agreed key e is
+        (let b : e.place.block ≡ s.spare = omega (arith, same, small) in b))))
 
-  loses_stands : (left : Pages) → LosesIn s.spare pages left → StandsFor m left
-  loses_stands left loses = kept_stands m left s sound agreed (loses_keeps left loses) (loses_sound left loses)
+    loses_stands : (left : Pages) → LosesIn s.spare pages left → StandsFor m left
+    loses_stands left loses = kept_stands m left s sound agreed (loses_keeps left loses) (loses_sound left loses)
 
-  pub erase_stands : {T E : Type 0} → (result : Result T E)
-      → OnOk result (now.state ≡ erased m.state s.spare)
-      → OnErr result (FailsToErase s.spare m.state now.state)
-      → EachFlashCase (λ c. IsStill m.state c ⊎ (IsStill now.state c ⊎ EraseCase s.spare m.state c)) m now → Does (StandsFor m) m now
-  erase_stands result done failed cases = erase_does m now (StandsFor m) s.spare result done failed cases
-      (stands_now m s sound)
-      (loses_stands (erase_block pages s.spare) (whole_erase pages s.spare))
-      (λ left torn plain. loses_stands left (torn_erase pages s.spare left torn plain))
+    pub erase_stands : {T E : Type 0} → (result : Result T E)
+        → OnOk result (now.state ≡ erased m.state s.spare)
+        → OnErr result (FailsToErase s.spare m.state now.state)
+        → EachFlashCase (λ c. IsStill m.state c ⊎ (IsStill now.state c ⊎ EraseCase s.spare m.state c)) m now
+        → Does (StandsFor m) m now
+    erase_stands result done failed cases = erase_does m now (StandsFor m) s.spare result done failed cases
+        (stands_now m s sound)
+        (loses_stands (erase_block pages s.spare) (whole_erase pages s.spare))
+        (λ left torn plain. loses_stands left (torn_erase pages s.spare left torn plain))
 
-  pub erase_failed : FailsToErase s.spare m.state now.state → now.blocks ≡ m.blocks → IsSound now s
-  erase_failed failed blocks = subst (λ b. Sound now.state.pages b s) (sym blocks)
-      (loses_sound now.state.pages (torn_erase pages s.spare now.state.pages failed.torn failed.plain))
+    pub erase_failed : FailsToErase s.spare m.state now.state → now.blocks ≡ m.blocks → IsSound now s
+    erase_failed failed blocks = subst (λ b. Sound now.state.pages b s) (sym blocks)
+        (loses_sound now.state.pages (torn_erase pages s.spare now.state.pages failed.torn failed.plain))
 
-  pub erase_failed_keeps : FailsToErase s.spare m.state now.state → Keeps pages now.state.pages n
-  erase_failed_keeps failed = loses_keeps now.state.pages (torn_erase pages s.spare now.state.pages failed.torn failed.plain)
+    pub erase_failed_keeps : FailsToErase s.spare m.state now.state → Keeps pages now.state.pages n
+    erase_failed_keeps failed = loses_keeps now.state.pages
+        (torn_erase pages s.spare now.state.pages failed.torn failed.plain)
 
-  pub erase_keeps_all : now.state ≡ erased m.state s.spare → Keeps pages now.state.pages n
-  erase_keeps_all done = subst (λ (z : FlashState). Keeps pages z.pages n) (sym done) (loses_keeps (erase_block pages s.spare) (whole_erase pages s.spare))
+    pub erase_keeps_all : now.state ≡ erased m.state s.spare → Keeps pages now.state.pages n
+    erase_keeps_all done = subst (λ (z : FlashState). Keeps pages z.pages n) (sym done)
+        (loses_keeps (erase_block pages s.spare) (whole_erase pages s.spare))
 
-  -- nothing is copied yet
-  pub moving_none : now.state ≡ erased m.state s.spare → now.blocks ≡ m.blocks → (t : LayerState) → t ≡ record s { moved = t.moved } → vec_capacity s.moved ≤ vec_capacity t.moved → t.moved.items ≡ []
-      → (from to : ℕ) → to ≡ s.spare → from < m.blocks → from ≢ to → IsMoving now.state.pages now.blocks t from to 0
-  moving_none done blocks t state memory none from to spare within apart =
-      let empty : length t.moved.items ≡ 0 = ap (λ l. length l) none in
-      subst (λ b. IsMoving now.state.pages b t from to 0) (sym blocks) (subst (λ (z : FlashState). IsMoving z.pages m.blocks t from to 0) (sym done) (record {
-        sound = subst (Sound (erase_block pages s.spare) m.blocks) (sym state)
-            (as_said (erase_block pages s.spare) m.blocks s (record s { moved = t.moved }) (loses_sound (erase_block pages s.spare) (whole_erase pages s.spare)) memory);
-        agreed = subst (λ (q : LayerState). IsFalse q.disputed) (sym state) agreed;
-        full = subst (λ (q : LayerState). 64 ≤ q.fill) (sym state) full;
-        spare = subst (λ (q : LayerState). q.spare ≡ to) (sym state) (sym spare);
-        within = within;
-        apart = apart;
-        count = omega (arith, empty);
-        blank = λ p past small. ap (λ b. cond b blank_page (pages to p)) (eq-eqb to s.spare spare);
-        moved = λ k d inside. absurd (omega (arith, inside, empty));
-        all = λ key e is at below. absurd (omega (arith, below));
-      }))
+    -- nothing is copied yet
+    pub moving_none : now.state ≡ erased m.state s.spare → now.blocks ≡ m.blocks → (t : LayerState)
+        → t ≡ record s { moved = t.moved } → vec_capacity s.moved ≤ vec_capacity t.moved → t.moved.items ≡ []
+        → (from to : ℕ) → to ≡ s.spare → from < m.blocks → from ≢ to → IsMoving now.state.pages now.blocks t from to 0
+    moving_none done blocks t state memory none from to spare within apart =
+        let empty : length t.moved.items ≡ 0 = ap (λ l. length l) none in
+        subst (λ b. IsMoving now.state.pages b t from to 0) (sym blocks)
+        (subst (λ (z : FlashState). IsMoving z.pages m.blocks t from to 0) (sym done) (record {
+          sound = subst (Sound (erase_block pages s.spare) m.blocks) (sym state)
+              (as_said (erase_block pages s.spare) m.blocks s (record s { moved = t.moved })
+              (loses_sound (erase_block pages s.spare) (whole_erase pages s.spare)) memory);
+          agreed = subst (λ (q : LayerState). IsFalse q.disputed) (sym state) agreed;
+          full = subst (λ (q : LayerState). 64 ≤ q.fill) (sym state) full;
+          spare = subst (λ (q : LayerState). q.spare ≡ to) (sym state) (sym spare);
+          within = within;
+          apart = apart;
+          count = omega (arith, empty);
+          blank = λ p past small. ap (λ b. cond b blank_page (pages to p)) (eq-eqb to s.spare spare);
+          moved = λ k d inside. absurd (omega (arith, inside, empty));
+          all = λ key e is at below. absurd (omega (arith, below));
+        }))
 
 -- ---- a record is copied
 
@@ -164,8 +191,10 @@ both_same : (a b x y : ℕ) → a ≡ b → x ≡ y → (nat_eq a b && nat_eq x 
 both_same a b x y left right = and_from (nat_eq a b) (nat_eq x y) (eq-eqb a b left) (eq-eqb x y right)
 
 -- what was found twice is the same
-pub found_same : (result : Option (FilePage × Newest)) (key k : FilePage) (old e : Newest) → result ≡ Some (key, old) → result ≡ Some (k, e) → (key ≡ k) × (old ≡ e)
-found_same result key k old e one other = let same : (key, old) ≡ (k, e) = same_Some (key, old) (k, e) (sym one ∙ other) in
+pub found_same : (result : Option (FilePage × Newest)) (key k : FilePage) (old e : Newest) → result ≡ Some (key, old)
+    → result ≡ Some (k, e) → (key ≡ k) × (old ≡ e)
+found_same result key k old e one other = let same : (key, old) ≡ (k, e) =
+    same_Some (key, old) (k, e) (sym one ∙ other) in
     (ap (λ (q : FilePage × Newest). q.0) same, ap (λ (q : FilePage × Newest). q.1) same)
 
 -- what holds anyway holds of an error
@@ -183,30 +212,37 @@ same_places a b x y ne is same = ⊎_elim
     (λ other. absurd (true≢false (sym (is ∙ ap not other) ∙ same)))
     (cases_Bool (nat_eq a b && nat_eq x y))
 
-module _ (m : FlashMedium) (s : LayerState) (from to done : ℕ) (moving : IsMoving m.state.pages m.blocks s from to done) (inside : done < 64)
+module _ (m : FlashMedium) (s : LayerState) (from to done : ℕ) (moving : IsMoving m.state.pages m.blocks s from to done)
+    (inside : done < 64)
     (bytes : List ℕ) (read : bytes ≡ m.state.pages from done) where
   -- what the page says, where an entry leads to it
   page_says : (key : FilePage) (e : Newest) → known s.table key ≡ Some e → e.place.block ≡ from → e.place.page ≡ done
-      → (x : Placed) × Led m.state.pages (places m.blocks) e x × (page_of x.says ≡ key) × (record_in bytes ≡ Some x.says)
+      → (x : Placed) × Led m.state.pages (places m.blocks) e x × (page_of x.says ≡ key)
+      × (record_in bytes ≡ Some x.says)
   page_says key e is block page =
       let found = record_of m.state.pages (places m.blocks) s.table moving.sound.knows.led key e is in
       let at : 64 * from + done ≡ number e.place = omega (arith, block, page) in (
         found.0,
         found.1,
         found.2,
-        ap record_in read ∙ (sym (record_at_place m.state.pages from done inside) ∙ (ap (record_at m.state.pages) at ∙ found.1.leads.there)),
+        ap record_in read ∙ (sym (record_at_place m.state.pages from done inside)
+            ∙ (ap (record_at m.state.pages) at ∙ found.1.leads.there)),
       )
 
   -- the newest record that is looked up for it
   pub looked_up : (result : Option (FilePage × Newest))
-      → ((r : PageRecord) (e : Newest) → record_in bytes ≡ Some r → known s.table (page_of r) ≡ Some e → result ≡ Some (page_of r, e))
-      → (key : FilePage) (e : Newest) → known s.table key ≡ Some e → e.place.block ≡ from → e.place.page ≡ done → result ≡ Some (key, e)
+      → ((r : PageRecord) (e : Newest) → record_in bytes ≡ Some r → known s.table (page_of r) ≡ Some e
+      → result ≡ Some (page_of r, e))
+      → (key : FilePage) (e : Newest) → known s.table key ≡ Some e → e.place.block ≡ from → e.place.page ≡ done
+      → result ≡ Some (key, e)
   looked_up result found key e is block page =
       let says = page_says key e is block page in
-      subst (λ k. result ≡ Some (k, e)) says.2 (found says.0.says e says.3 (subst (λ k. known s.table k ≡ Some e) (sym says.2) is))
+      subst (λ k. result ≡ Some (k, e)) says.2 (found says.0.says e says.3
+      (subst (λ k. known s.table k ≡ Some e) (sym says.2) is))
 
   -- no entry leads to the page
-  pub passed_over : ((key : FilePage) (e : Newest) → known s.table key ≡ Some e → e.place.block ≡ from → e.place.page ≡ done → ⊥)
+  pub passed_over : ((key : FilePage) (e : Newest) → known s.table key ≡ Some e → e.place.block ≡ from
+      → e.place.page ≡ done → ⊥)
       → IsMoving m.state.pages m.blocks s from to (done + 1)
   passed_over none = record {
     sound = moving.sound;
@@ -224,7 +260,8 @@ module _ (m : FlashMedium) (s : LayerState) (from to done : ℕ) (moving : IsMov
         (cases_lt e.place.page done);
   }
 
-  module _ (key : FilePage) (old : Newest) (is : known s.table key ≡ Some old) (block : old.place.block ≡ from) (page : old.place.page ≡ done)
+  module _ (key : FilePage) (old : Newest) (is : known s.table key ≡ Some old) (block : old.place.block ≡ from)
+      (page : old.place.page ≡ done)
       (count : ℕ) (count_is : count ≡ length s.moved.items) where
     abbrev place : Place
     place = record { block = to; page = count }
@@ -243,15 +280,20 @@ module _ (m : FlashMedium) (s : LayerState) (from to done : ℕ) (moving : IsMov
 
     apart_of : (k : FilePage) (e : Newest) → known s.table k ≡ Some e → number e.place ≢ 64 * to + count
     apart_of k e found = λ same.
-        let small_e = (record_of m.state.pages (places m.blocks) s.table moving.sound.knows.led k e found).1.leads.small in
+        let small_e = (record_of m.state.pages (places m.blocks) s.table moving.sound.knows.led k e found).1.leads.small
+        in
         let spare = moving.spare in
-        moving.sound.apart moving.agreed k e found (let b : e.place.block ≡ s.spare = omega (arith, same, small_e, small, spare) in b)
+        moving.sound.apart moving.agreed k e found (let b : e.place.block ≡ s.spare =
+        omega (arith, same, small_e, small, spare) in b)
 
-    left_keeps : (left : Pages) → TornPage to count m.state.pages left → IsPlain m.state.pages (program_page m.state.pages to count bytes) left
+    left_keeps : (left : Pages) → TornPage to count m.state.pages left
+        → IsPlain m.state.pages (program_page m.state.pages to count bytes) left
         → Keeps m.state.pages left (places m.blocks)
-    left_keeps = torn_copy m.state.pages (places m.blocks) (number old.place) place bytes r small blank (page_says key old is block page).3 led.within led.leads.there
+    left_keeps = torn_copy m.state.pages (places m.blocks) (number old.place) place bytes r small blank
+        (page_says key old is block page).3 led.within led.leads.there
 
-    left_sound : (left : Pages) → TornPage to count m.state.pages left → Keeps m.state.pages left (places m.blocks) → Sound left m.blocks s
+    left_sound : (left : Pages) → TornPage to count m.state.pages left → Keeps m.state.pages left (places m.blocks)
+        → Sound left m.blocks s
     left_sound left torn keeps = kept_sound m.state.pages left m.blocks s moving.sound moving.agreed moving.full keeps
         (λ k e found. torn_elsewhere m.state.pages to count left torn (number e.place) (apart_of k e found))
 
@@ -262,36 +304,47 @@ module _ (m : FlashMedium) (s : LayerState) (from to done : ℕ) (moving : IsMov
     written_torn = whole_torn m.state.pages to count bytes
 
     written_keeps : Keeps m.state.pages written (places m.blocks)
-    written_keeps = whole_copy m.state.pages (places m.blocks) (number old.place) place bytes r small blank (page_says key old is block page).3 led.within led.leads.there
+    written_keeps = whole_copy m.state.pages (places m.blocks) (number old.place) place bytes r small blank
+        (page_says key old is block page).3 led.within led.leads.there
 
     -- a call that failed lost nothing
-    pub copy_failed_keeps : (now : FlashMedium) → FailsToProgram to count bytes m.state now.state → Keeps m.state.pages now.state.pages (places m.blocks)
+    pub copy_failed_keeps : (now : FlashMedium) → FailsToProgram to count bytes m.state now.state
+        → Keeps m.state.pages now.state.pages (places m.blocks)
     copy_failed_keeps now failed = left_keeps now.state.pages failed.torn failed.plain
 
-    pub copy_failed_sound : (now : FlashMedium) → FailsToProgram to count bytes m.state now.state → now.blocks ≡ m.blocks → IsSound now s
+    pub copy_failed_sound : (now : FlashMedium) → FailsToProgram to count bytes m.state now.state
+        → now.blocks ≡ m.blocks → IsSound now s
     copy_failed_sound now failed blocks = subst (λ b. Sound now.state.pages b s) (sym blocks)
         (left_sound now.state.pages failed.torn (copy_failed_keeps now failed))
 
-    pub copy_keeps_all : (now : FlashMedium) → now.state ≡ programmed m.state to count bytes → Keeps m.state.pages now.state.pages (places m.blocks)
-    copy_keeps_all now done_now = subst (λ (z : FlashState). Keeps m.state.pages z.pages (places m.blocks)) (sym done_now) written_keeps
+    pub copy_keeps_all : (now : FlashMedium) → now.state ≡ programmed m.state to count bytes
+        → Keeps m.state.pages now.state.pages (places m.blocks)
+    copy_keeps_all now done_now = subst (λ (z : FlashState). Keeps m.state.pages z.pages (places m.blocks))
+        (sym done_now) written_keeps
 
-    pub copy_sound : (now : FlashMedium) → now.state ≡ programmed m.state to count bytes → now.blocks ≡ m.blocks → IsSound now s
+    pub copy_sound : (now : FlashMedium) → now.state ≡ programmed m.state to count bytes → now.blocks ≡ m.blocks
+        → IsSound now s
     copy_sound now done_now blocks = subst (λ b. Sound now.state.pages b s) (sym blocks)
-        (subst (λ (z : FlashState). Sound z.pages m.blocks s) (sym done_now) (left_sound written written_torn written_keeps))
+        (subst (λ (z : FlashState). Sound z.pages m.blocks s) (sym done_now)
+        (left_sound written written_torn written_keeps))
 
     pub copy_does : {T E : Type 0} → (now : FlashMedium) (result : Result T E)
         → OnOk result (now.state ≡ programmed m.state to count bytes)
         → OnErr result (FailsToProgram to count bytes m.state now.state)
-        → EachFlashCase (λ c. IsStill m.state c ⊎ (IsStill now.state c ⊎ ProgramCase to count bytes m.state c)) m now → Does (StandsFor m) m now
+        → EachFlashCase (λ c. IsStill m.state c ⊎ (IsStill now.state c ⊎ ProgramCase to count bytes m.state c)) m now
+        → Does (StandsFor m) m now
     copy_does now result ok failed cases = program_does m now (StandsFor m) to count bytes result ok failed cases
         (stands_now m s moving.sound)
-        (kept_stands m written s moving.sound moving.agreed written_keeps (left_sound written written_torn written_keeps))
-        (λ left torn plain. kept_stands m left s moving.sound moving.agreed (left_keeps left torn plain) (left_sound left torn (left_keeps left torn plain)))
+        (kept_stands m written s moving.sound moving.agreed written_keeps
+        (left_sound written written_torn written_keeps))
+        (λ left torn plain. kept_stands m left s moving.sound moving.agreed (left_keeps left torn plain)
+        (left_sound left torn (left_keeps left torn plain)))
 
     abbrev pub moved_entry : FilePage × Newest
     moved_entry = (key, record old { place = place })
 
-    still_moved : (e : FilePage × Newest) → IsMoved m.state.pages s.table from to count e → IsMoved written s.table from to (count + 1) e
+    still_moved : (e : FilePage × Newest) → IsMoved m.state.pages s.table from to count e
+        → IsMoved written s.table from to (count + 1) e
     still_moved e was = record {
       old = was.old;
       known_is = was.known_is;
@@ -301,7 +354,8 @@ module _ (m : FlashMedium) (s : LayerState) (from to done : ℕ) (moving : IsMov
       front = (let lt = was.front in omega (arith, lt));
       copy = torn_elsewhere m.state.pages to count written written_torn (number e.1.place)
           (λ same. let lt = was.front in let b = was.block in absurd (omega (arith, same, lt, b)))
-          ∙ (was.copy ∙ sym (torn_elsewhere m.state.pages to count written written_torn (number was.old.place) (apart_of e.0 was.old was.known_is)));
+          ∙ (was.copy ∙ sym (torn_elsewhere m.state.pages to count written written_torn (number was.old.place)
+          (apart_of e.0 was.old was.known_is)));
     }
 
     one_moved : IsMoved written s.table from to (count + 1) moved_entry
@@ -313,10 +367,12 @@ module _ (m : FlashMedium) (s : LayerState) (from to done : ℕ) (moving : IsMov
       block = refl;
       front = omega arith;
       copy = whole_here m.state.pages to count small bytes ∙ ((page_says key old is block page).3
-          ∙ (sym led.leads.there ∙ sym (torn_elsewhere m.state.pages to count written written_torn (number old.place) (apart_of key old is))));
+          ∙ (sym led.leads.there ∙ sym (torn_elsewhere m.state.pages to count written written_torn (number old.place)
+          (apart_of key old is))));
     }
 
-    keys_push : (k : FilePage) (es : List (FilePage × Newest)) (e : FilePage × Newest) → HasKey k es ⊎ (same_page e.0 k ≡ true) → HasKey k (es ++ e ∷ [])
+    keys_push : (k : FilePage) (es : List (FilePage × Newest)) (e : FilePage × Newest)
+        → HasKey k es ⊎ (same_page e.0 k ≡ true) → HasKey k (es ++ e ∷ [])
     keys_push k [] e has = ⊎_elim (λ none. absurd none) (λ here. inl here) has
     keys_push k (f ∷ fs) e has = ⊎_elim
         (λ before. ⊎_elim (λ here. inl here) (λ later. inr (keys_push k fs e (inl later))) before)
@@ -325,32 +381,43 @@ module _ (m : FlashMedium) (s : LayerState) (from to done : ℕ) (moving : IsMov
 
     -- one record more is copied
     pub copied : (now : FlashMedium) → now.state ≡ programmed m.state to count bytes → now.blocks ≡ m.blocks
-        → ((k : FilePage) (e : Newest) → known s.table k ≡ Some e → e.place.block ≡ from → e.place.page ≡ done → key ≡ k)
-        → (t : LayerState) → t ≡ record s { moved = t.moved } → vec_capacity s.moved ≤ vec_capacity t.moved → t.moved.items ≡ s.moved.items ++ moved_entry ∷ []
+        → ((k : FilePage) (e : Newest) → known s.table k ≡ Some e → e.place.block ≡ from → e.place.page ≡ done
+        → key ≡ k)
+        → (t : LayerState) → t ≡ record s { moved = t.moved } → vec_capacity s.moved ≤ vec_capacity t.moved
+        → t.moved.items ≡ s.moved.items ++ moved_entry ∷ []
         → IsMoving now.state.pages now.blocks t from to (done + 1)
     copied now done_now blocks one t state memory items =
         let added = length-append s.moved.items (moved_entry ∷ []) in let all_items = ap (λ l. length l) items in
         let long : length t.moved.items ≡ count + 1 = omega (arith, added, all_items, count_is) in
-        subst (λ b. IsMoving now.state.pages b t from to (done + 1)) (sym blocks) (subst (λ (z : FlashState). IsMoving z.pages m.blocks t from to (done + 1)) (sym done_now) (record {
-          sound = subst (Sound written m.blocks) (sym state) (as_said written m.blocks s (record s { moved = t.moved }) (left_sound written written_torn written_keeps) memory);
+        subst (λ b. IsMoving now.state.pages b t from to (done + 1)) (sym blocks)
+        (subst (λ (z : FlashState). IsMoving z.pages m.blocks t from to (done + 1)) (sym done_now) (record {
+          sound = subst (Sound written m.blocks) (sym state)
+              (as_said written m.blocks s (record s { moved = t.moved }) (left_sound written written_torn written_keeps)
+              memory);
           agreed = subst (λ (q : LayerState). IsFalse q.disputed) (sym state) moving.agreed;
           full = subst (λ (q : LayerState). 64 ≤ q.fill) (sym state) moving.full;
           spare = subst (λ (q : LayerState). q.spare ≡ to) (sym state) moving.spare;
           within = moving.within;
           apart = moving.apart;
           count = (let le = moving.count in omega (arith, long, le, count_is));
-          blank = λ p past below. written_torn to p (inr (λ same. omega (arith, past, long, same))) ∙ moving.blank p (omega (arith, past, long, count_is)) below;
-          moved = subst (λ (table : Table). All (IsMoved written table from to (length t.moved.items)) t.moved.items) (ap (λ (q : LayerState). q.table) (sym state))
+          blank = λ p past below. written_torn to p (inr (λ same. omega (arith, past, long, same)))
+              ∙ moving.blank p (omega (arith, past, long, count_is)) below;
+          moved = subst (λ (table : Table). All (IsMoved written table from to (length t.moved.items)) t.moved.items)
+              (ap (λ (q : LayerState). q.table) (sym state))
               (subst (λ l. All (IsMoved written s.table from to l) t.moved.items) (sym long)
               (subst (All (IsMoved written s.table from to (count + 1))) (sym items)
               (All-push (IsMoved written s.table from to (count + 1)) s.moved.items moved_entry
               (λ k d within. still_moved (slice_index_or s.moved.items k d)
-              (subst (λ l. IsMoved m.state.pages s.table from to l (slice_index_or s.moved.items k d)) (sym count_is) (moving.moved k d within))) one_moved)));
+              (subst (λ l. IsMoved m.state.pages s.table from to l (slice_index_or s.moved.items k d)) (sym count_is)
+              (moving.moved k d within))) one_moved)));
           all = λ k e found at below.
-              (let found_was : known s.table k ≡ Some e = subst (λ (q : LayerState). known q.table k ≡ Some e) state found in
+              (let found_was : known s.table k ≡ Some e = subst (λ (q : LayerState). known q.table k ≡ Some e) state
+              found in
               subst (HasKey k) (sym items) (keys_push k s.moved.items moved_entry (⊎_elim
               (λ before. inl (moving.all k e found_was at before))
-              (λ past. inr (subst (λ q. same_page key q ≡ true) (one k e found_was at (let same : e.place.page ≡ done = omega (arith, past, below) in same)) (same_page_refl key)))
+              (λ past. inr (subst (λ q. same_page key q ≡ true)
+              (one k e found_was at (let same : e.place.page ≡ done = omega (arith, past, below) in same))
+              (same_page_refl key)))
               (cases_lt e.place.page done))));
         }))
 
@@ -358,36 +425,47 @@ module _ (m : FlashMedium) (s : LayerState) (from to done : ℕ) (moving : IsMov
 
 module _ (m look : FlashMedium) (same : look.state ≡ m.state) (blocks : look.blocks ≡ m.blocks) where
   -- what was being moved still is
-  pub looked : (s t : LayerState) → t ≡ s → (from to done : ℕ) → IsMoving m.state.pages m.blocks s from to done → IsMoving look.state.pages look.blocks t from to done
-  looked s t state from to done moving = subst (λ (q : LayerState). IsMoving look.state.pages look.blocks q from to done) (sym state)
-      (subst (λ b. IsMoving look.state.pages b s from to done) (sym blocks) (subst (λ (z : FlashState). IsMoving z.pages m.blocks s from to done) (sym same) moving))
+  pub looked : (s t : LayerState) → t ≡ s → (from to done : ℕ) → IsMoving m.state.pages m.blocks s from to done
+      → IsMoving look.state.pages look.blocks t from to done
+  looked s t state from to done moving = subst (λ (q : LayerState).
+      IsMoving look.state.pages look.blocks q from to done) (sym state)
+      (subst (λ b. IsMoving look.state.pages b s from to done) (sym blocks)
+      (subst (λ (z : FlashState). IsMoving z.pages m.blocks s from to done) (sym same) moving))
 
   pub look_keeps : Keeps m.state.pages look.state.pages (places m.blocks)
-  look_keeps = subst (λ (z : FlashState). Keeps m.state.pages z.pages (places m.blocks)) (sym same) (keeps_refl m.state.pages (places m.blocks))
+  look_keeps = subst (λ (z : FlashState). Keeps m.state.pages z.pages (places m.blocks)) (sym same)
+      (keeps_refl m.state.pages (places m.blocks))
 
   -- what was kept since is kept
-  pub keeps_since : (after : Pages) → Keeps look.state.pages after (places look.blocks) → Keeps m.state.pages after (places m.blocks)
-  keeps_since after keeps = subst (λ (z : FlashState). Keeps z.pages after (places m.blocks)) same (subst (λ b. Keeps look.state.pages after (places b)) blocks keeps)
+  pub keeps_since : (after : Pages) → Keeps look.state.pages after (places look.blocks)
+      → Keeps m.state.pages after (places m.blocks)
+  keeps_since after keeps = subst (λ (z : FlashState). Keeps z.pages after (places m.blocks)) same
+      (subst (λ b. Keeps look.state.pages after (places b)) blocks keeps)
 
   pub look_stands : EachFlashCase (IsStill m.state) m look → (s : LayerState) → IsSound m s → Does (StandsFor m) m look
   look_stands still s sound = does_nothing m look (StandsFor m) same still (stands_now m s sound)
 
 -- what was kept in one stretch after the other
-pub keeps_on : (m mid : FlashMedium) (s : LayerState) → IsSound m s → IsFalse s.disputed → mid.blocks ≡ m.blocks → Keeps m.state.pages mid.state.pages (places m.blocks)
+pub keeps_on : (m mid : FlashMedium) (s : LayerState) → IsSound m s → IsFalse s.disputed → mid.blocks ≡ m.blocks
+    → Keeps m.state.pages mid.state.pages (places m.blocks)
     → (after : Pages) → Keeps mid.state.pages after (places mid.blocks) → Keeps m.state.pages after (places m.blocks)
-keeps_on m mid s sound agreed blocks keeps after then = keeps_then m.state.pages mid.state.pages (places m.blocks) (sound.agreed agreed) keeps after
+keeps_on m mid s sound agreed blocks keeps after then =
+    keeps_then m.state.pages mid.state.pages (places m.blocks) (sound.agreed agreed) keeps after
     (subst (λ b. Keeps mid.state.pages after (places b)) blocks then)
 
 -- no byte changed
-pub shows_same : (m now : FlashMedium) (s : LayerState) → IsSound m s → IsFalse s.disputed → Keeps m.state.pages now.state.pages (places m.blocks) → now.blocks ≡ m.blocks
+pub shows_same : (m now : FlashMedium) (s : LayerState) → IsSound m s → IsFalse s.disputed
+    → Keeps m.state.pages now.state.pages (places m.blocks) → now.blocks ≡ m.blocks
     → ShowsSame m now
 shows_same m now s sound agreed keeps blocks f i =
     subst (λ b. file_byte now.state.pages (places b) f i ≡ file_byte m.state.pages (places m.blocks) f i) (sym blocks)
     (keeps_byte m.state.pages now.state.pages (places m.blocks) (sound.agreed agreed) keeps f i)
 
 -- a record that might be added still may
-pub fits_kept : (m now : FlashMedium) (s t : LayerState) → IsSound m s → IsFalse s.disputed → Keeps m.state.pages now.state.pages (places m.blocks) → now.blocks ≡ m.blocks
-    → ((key : FilePage) → HasPlace s.table key → HasPlace t.table key) → (file page len : ℕ) (bytes : List ℕ) → FitsIn m s file page len bytes → FitsIn now t file page len bytes
+pub fits_kept : (m now : FlashMedium) (s t : LayerState) → IsSound m s → IsFalse s.disputed
+    → Keeps m.state.pages now.state.pages (places m.blocks) → now.blocks ≡ m.blocks
+    → ((key : FilePage) → HasPlace s.table key → HasPlace t.table key) → (file page len : ℕ) (bytes : List ℕ)
+    → FitsIn m s file page len bytes → FitsIn now t file page len bytes
 fits_kept m now s t sound agreed keeps blocks has file page len bytes fits =
     let all_agree = sound.agreed agreed in
     let same = keeps_len m.state.pages now.state.pages (places m.blocks) all_agree keeps file in

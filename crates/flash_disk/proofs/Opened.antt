@@ -30,16 +30,20 @@ use Rattle.flash_disk.proofs.Leaving.{leads_at_last, left_out, agreed_at_last, r
 pub record Measures (left : Table) (s : LayerState) : Type 0 where
   pub records : s.table.newest ≡ left.newest
   pub limit : limit_of s.table ≡ limit_of left
-  pub lens : page_len left ≤ spare left.lens → ((file : ℕ) → len_known left file ≡ 0) → (file : ℕ) → IsLongest left.newest file (len_known s.table file)
-  pub measured : page_len left ≤ spare left.lens → (key : FilePage) (e : Newest) → known left key ≡ Some e → HasLen s.table key.file
+  pub lens : page_len left ≤ spare left.lens → ((file : ℕ) → len_known left file ≡ 0) → (file : ℕ)
+      → IsLongest left.newest file (len_known s.table file)
+  pub measured : page_len left ≤ spare left.lens → (key : FilePage) (e : Newest) → known left key ≡ Some e
+      → HasLen s.table key.file
   pub spare : spare left.lens ≤ spare s.table.lens + page_len left
   pub ends : (key : FilePage) (e : Newest) → known s.table key ≡ Some e → EndsBy s.table.lens key e s.stray_end
   pub calm : IsFalse s.disputed → (key : FilePage) (e : Newest) → known s.table key ≡ Some e → IsFalse e.rivalled
   pub rivals : IsTrue s.disputed → (key : FilePage) × (e : Newest) × (known s.table key ≡ Some e) × IsTrue e.rivalled
   pub full : s.fill ≡ 64
 
-module _ (pages : Pages) (blocks : ℕ) (s : LayerState) (left : Table) (leaving : IsLeaving pages (places blocks) s.spare 64 left) (measures : Measures left s)
-    (limit : limit_of left ≡ page_limit blocks) (room : limit_of left ≤ spare left.lens) (empty : (file : ℕ) → len_known left file ≡ 0) where
+module _ (pages : Pages) (blocks : ℕ) (s : LayerState) (left : Table)
+    (leaving : IsLeaving pages (places blocks) s.spare 64 left) (measures : Measures left s)
+    (limit : limit_of left ≡ page_limit blocks) (room : limit_of left ≤ spare left.lens)
+    (empty : (file : ℕ) → len_known left file ≡ 0) where
   led : IsLed pages (places blocks) left
   led = leads_at_last pages (places blocks) s.spare left leaving
 
@@ -55,13 +59,15 @@ module _ (pages : Pages) (blocks : ℕ) (s : LayerState) (left : Table) (leaving
   before : (key : FilePage) (e : Newest) → known s.table key ≡ Some e → known left key ≡ Some e
   before key e is = ap (λ m. get same_page m key) (sym measures.records) ∙ is
 
-  pub opened : s.spare < blocks → IsSpare pages (places blocks) s.spare → Tops pages (places blocks) s.sequence → IsCounted blocks s.table → 64 ≤ vec_capacity s.moved
+  pub opened : s.spare < blocks → IsSpare pages (places blocks) s.spare → Tops pages (places blocks) s.sequence
+      → IsCounted blocks s.table → 64 ≤ vec_capacity s.moved
       → page_len left ≡ page_count pages (places blocks) → Sound pages blocks s
   opened within is_spare tops counted memory count = record {
     knows = knows;
     tops = tops;
     strays = strayless_at_last pages (places blocks) s.spare left leaving (len_known s.table)
-        (λ file. one_len pages (places blocks) file (len_known s.table file) (knows.lens file)) s.stray_end (λ key e is. measures.ends key e (there key e is));
+        (λ file. one_len pages (places blocks) file (len_known s.table file) (knows.lens file)) s.stray_end
+        (λ key e is. measures.ends key e (there key e is));
     limit = measures.limit ∙ limit;
     files =
         (let same : page_len s.table ≡ page_len left = ap (λ m. hash_map_len m) measures.records in
@@ -72,14 +78,17 @@ module _ (pages : Pages) (blocks : ℕ) (s : LayerState) (left : Table) (leaving
     memory = memory;
     within = within;
     is_spare = is_spare;
-    agreed = λ calm. agreed_at_last pages (places blocks) s.spare left leaving (λ key e is. measures.calm calm key e (there key e is));
-    rivals = λ so. let some = measures.rivals so in rivals_at_last pages (places blocks) s.spare left leaving some.0 some.1 (before some.0 some.1 some.2) some.3;
+    agreed = λ calm. agreed_at_last pages (places blocks) s.spare left leaving
+        (λ key e is. measures.calm calm key e (there key e is));
+    rivals = λ so. let some = measures.rivals so in rivals_at_last pages (places blocks) s.spare left leaving some.0
+        some.1 (before some.0 some.1 some.2) some.3;
     apart = λ calm key e is. left_out pages (places blocks) s.spare left leaving key e (before key e is);
     fresh = λ less. (let full = measures.full in absurd (omega (arith, less, full)));
   }
 
 -- what is kept fits all pages
-pub holds_all : (m : FlashMedium) (s : LayerState) (pages : Pages) → Sound pages m.blocks s → m.state.pages ≡ pages → s.unsure ≡ None → Holds m s
+pub holds_all : (m : FlashMedium) (s : LayerState) (pages : Pages) → Sound pages m.blocks s → m.state.pages ≡ pages
+    → s.unsure ≡ None → Holds m s
 holds_all m s pages sound same sure = record {
   sure = pages;
   sound = sound;
@@ -87,7 +96,8 @@ holds_all m s pages sound same sure = record {
 }
 
 -- the opening changes no page, and leaves what there was at every moment of it
-module _ (told : Bool) (old new : FlashMedium) (t : IsTrue told) (pages : new.state.pages ≡ old.state.pages) (opens : Opens told old new) where
+module _ (told : Bool) (old new : FlashMedium) (t : IsTrue told) (pages : new.state.pages ≡ old.state.pages)
+    (opens : Opens told old new) where
   left_same : (c : FlashCase) → new.since old.moment c → c.left ≡ old.state.pages
   left_same c past = ⊎_elim (λ still. still.left) (λ settled. settled.left) (opens.during t c past)
 
@@ -107,19 +117,24 @@ module _ (told : Bool) (old new : FlashMedium) (t : IsTrue told) (pages : new.st
   }
 
 -- and the disk begins with it
-module _ (told : Bool) (old new : FlashMedium) (lawful : IsLawfulFlash told new) (pages : IsTrue told → new.state.pages ≡ old.state.pages)
+module _ (told : Bool) (old new : FlashMedium) (lawful : IsLawfulFlash told new)
+    (pages : IsTrue told → new.state.pages ≡ old.state.pages)
     (blocks : new.blocks ≡ old.blocks) where
-  still_so : (P : Pages → ℕ → Type 0) → (IsTrue told → P old.state.pages old.blocks) → IsTrue told → P new.state.pages new.blocks
-  still_so P holds t = subst (λ b. P new.state.pages b) (sym blocks) (subst (λ p. P p old.blocks) (sym (pages t)) (holds t))
+  still_so : (P : Pages → ℕ → Type 0) → (IsTrue told → P old.state.pages old.blocks) → IsTrue told
+      → P new.state.pages new.blocks
+  still_so P holds t = subst (λ b. P new.state.pages b) (sym blocks)
+      (subst (λ p. P p old.blocks) (sym (pages t)) (holds t))
 
-  pub begins : (own : ℕ) → (IsTrue told → IsUsable old.state.pages old.blocks) → Begins told old (flash_disk_medium told new own 0)
+  pub begins : (own : ℕ) → (IsTrue told → IsUsable old.state.pages old.blocks)
+      → Begins told old (flash_disk_medium told new own 0)
   begins own usable = record {
     opens = opens_now told new own 0 lawful (still_so IsUsable usable);
     agrees = λ agreed. agrees_now told new own 0 lawful (still_so (λ p b. IsAgreed p (places b)) agreed);
   }
 
 -- a flash that was settled makes a disk on which nothing is pending
-pub settled_is_quiet : (told : Bool) (m : FlashMedium) (own written : ℕ) (s : FlashState) → (IsTrue told → m.state ≡ settle_pages s)
+pub settled_is_quiet : (told : Bool) (m : FlashMedium) (own written : ℕ) (s : FlashState)
+    → (IsTrue told → m.state ≡ settle_pages s)
     → Quiet (flash_disk_medium told m own written)
 settled_is_quiet told m own written s state c now =
     let t = now.0 in
@@ -128,6 +143,7 @@ settled_is_quiet told m own written s state c now =
     ap (λ q. flash_files q m.blocks) (ap (λ q. q.settled) (state t) ∙ sym (ap (λ q. q.pages) (state t))) ∙ sym image in
     record {
       base = ap (λ d. d.base) now.1 ∙ base;
-      full = ap (λ d. d.full) now.1 ∙ (ap (put_announced (flash_files m.state.settled m.blocks)) (ap (λ q. q.announced) (state t)) ∙ base);
+      full = ap (λ d. d.full) now.1 ∙ (ap (put_announced (flash_files m.state.settled m.blocks))
+          (ap (λ q. q.announced) (state t)) ∙ base);
       left = ap (λ d. d.left) now.1 ∙ sym image;
     }

@@ -1,5 +1,6 @@
 -- What a newer record makes of the newest records, once it is programmed where no record was.
-use Rattle.std.proofs.Common.{◌≡◌, ◌⊎◌, ℕ, ◌<◌, ◌≤◌, Bool, true, false, cond, refl, sym, ap, subst, ◌∙◌, inl, inr, ⊎_elim, arith, true≢false, eq-eqb}
+use Rattle.std.proofs.Common.{◌≡◌, ◌⊎◌, ℕ, ◌<◌, ◌≤◌, Bool, true, false, cond, refl, sym, ap, subst, ◌∙◌, inl, inr}
+use Rattle.std.proofs.Common.{⊎_elim, arith, true≢false, eq-eqb}
 use Rattle.std.specs.Prelude.{Option, Some, None, slice_index}
 use Rattle.std.proofs.lemmas.Bool.{cases_lt, cases_eq}
 use Rattle.std.proofs.lemmas.Option.{same_Some, none-some}
@@ -26,10 +27,13 @@ module _ (pages : Pages) (file page n : ℕ) where
   same_placed x y is_x is_y =
       let place : x.place ≡ y.place = ⊎_elim
       (λ before. absurd (same_place x y is_x is_y before))
-      (λ late. ⊎_elim (λ after. absurd (same_place y x is_y is_x after)) (λ early. let e : x.place ≡ y.place = omega arith in e) (cases_lt y.place x.place))
+      (λ late. ⊎_elim (λ after. absurd (same_place y x is_y is_x after))
+      (λ early. let e : x.place ≡ y.place = omega arith in e) (cases_lt y.place x.place))
       (cases_lt x.place y.place) in
-      let says : x.says ≡ y.says = same_Some x.says y.says (sym is_x.there ∙ (ap (record_at pages) place ∙ is_y.there)) in
-      ap (λ p. let z : Placed = record { place = p; says = x.says } in z) place ∙ ap (λ q. let z : Placed = record { place = y.place; says = q } in z) says
+      let says : x.says ≡ y.says = same_Some x.says y.says (sym is_x.there ∙ (ap (record_at pages) place ∙ is_y.there))
+      in
+      ap (λ p. let z : Placed = record { place = p; says = x.says } in z) place
+      ∙ ap (λ q. let z : Placed = record { place = y.place; says = q } in z) says
 
   -- a page has one newest record
   pub one_newest : (a b : Option Placed) → IsNewestOf pages file page n a → IsNewestOf pages file page n b → a ≡ b
@@ -44,10 +48,12 @@ module _ (old new : Pages) (n : ℕ) (place : Place) (r : PageRecord) (adds : Ad
 
   -- where a record was it is still
   pub still : (j : ℕ) (q : PageRecord) → record_at old j ≡ Some q → record_at new j ≡ Some q
-  still j q there = adds.elsewhere j (λ same. none-some q (sym adds.nothing ∙ subst (λ k. record_at old k ≡ Some q) same there)) ∙ there
+  still j q there = adds.elsewhere j (λ same. none-some q
+      (sym adds.nothing ∙ subst (λ k. record_at old k ≡ Some q) same there)) ∙ there
 
   -- a record is the one that was added, or was there
-  pub either : (j : ℕ) (q : PageRecord) → record_at new j ≡ Some q → ((j ≡ number place) × (q ≡ r)) ⊎ (record_at old j ≡ Some q)
+  pub either : (j : ℕ) (q : PageRecord) → record_at new j ≡ Some q
+      → ((j ≡ number place) × (q ≡ r)) ⊎ (record_at old j ≡ Some q)
   either j q there = ⊎_elim
       (λ same. inl (same, same_Some q r (sym (subst (λ k. record_at new k ≡ Some q) same there) ∙ adds.here)))
       (λ apart. inr (sym (adds.elsewhere j apart) ∙ there))
@@ -58,21 +64,23 @@ module _ (old new : Pages) (n : ℕ) (place : Place) (r : PageRecord) (adds : Ad
 
   -- it is the newest of its page
   pub newest_here : newest new r.file r.page n ≡ Some placed
-  newest_here = one_newest new r.file r.page n (newest new r.file r.page n) (Some placed) (newest_is new r.file r.page n) (record {
-    of_page = own_page;
-    within = adds.within;
-    there = adds.here;
-    most = λ j q inside there of_page. ⊎_elim
-        (λ own. (let e : q.sequence ≡ r.sequence = ap (λ z. z.sequence) own.1 in omega (arith, e)))
-        (λ was. (let less = adds.newer j q inside was in omega (arith, less)))
-        (either j q there);
-    first = λ j q before there of_page. ⊎_elim
-        (λ own. (let e = own.0 in absurd (omega (arith, e, before))))
-        (λ was. (let within = adds.within in adds.newer j q (omega (arith, before, within)) was))
-        (either j q there);
-  })
+  newest_here = one_newest new r.file r.page n (newest new r.file r.page n) (Some placed)
+      (newest_is new r.file r.page n) (record {
+        of_page = own_page;
+        within = adds.within;
+        there = adds.here;
+        most = λ j q inside there of_page. ⊎_elim
+            (λ own. (let e : q.sequence ≡ r.sequence = ap (λ z. z.sequence) own.1 in omega (arith, e)))
+            (λ was. (let less = adds.newer j q inside was in omega (arith, less)))
+            (either j q there);
+        first = λ j q before there of_page. ⊎_elim
+            (λ own. (let e = own.0 in absurd (omega (arith, e, before))))
+            (λ was. (let within = adds.within in adds.newer j q (omega (arith, before, within)) was))
+            (either j q there);
+      })
 
-  kept : (file page : ℕ) → is_of file page r ≡ false → (best : Option Placed) → IsNewestOf old file page n best → IsNewestOf new file page n best
+  kept : (file page : ℕ) → is_of file page r ≡ false → (best : Option Placed) → IsNewestOf old file page n best
+      → IsNewestOf new file page n best
   kept file page other None none = λ j q inside there of_page. ⊎_elim
       (λ own. true≢false (sym of_page ∙ (ap (is_of file page) own.1 ∙ other)))
       (λ was. none j q inside was of_page)
@@ -93,10 +101,12 @@ module _ (old new : Pages) (n : ℕ) (place : Place) (r : PageRecord) (adds : Ad
 
   -- every other page keeps its newest record
   pub newest_elsewhere : (file page : ℕ) → is_of file page r ≡ false → newest new file page n ≡ newest old file page n
-  newest_elsewhere file page other = one_newest new file page n (newest new file page n) (newest old file page n) (newest_is new file page n)
+  newest_elsewhere file page other = one_newest new file page n (newest new file page n) (newest old file page n)
+      (newest_is new file page n)
       (kept file page other (newest old file page n) (newest_is old file page n))
 
-  led_kept : (file page : ℕ) (e : Option Newest) (best : Option Placed) → IsNewestOf old file page n best → LedOf old n e best → LedOf new n e best
+  led_kept : (file page : ℕ) (e : Option Newest) (best : Option Placed) → IsNewestOf old file page n best
+      → LedOf old n e best → LedOf new n e best
   led_kept file page None None is led = led
   led_kept file page None (Some x) is led = led
   led_kept file page (Some e) None is led = led
@@ -113,7 +123,8 @@ module _ (old new : Pages) (n : ℕ) (place : Place) (r : PageRecord) (adds : Ad
 
   -- the entry of the record itself
   abbrev pub IsItsEntry : Newest → Type 0
-  IsItsEntry e = (e.place ≡ place) × (e.sequence ≡ r.sequence) × (e.len ≡ r.len) × ((j : ℕ) → e.filled ≤ j → slice_index r.bytes j ≡ 0)
+  IsItsEntry e = (e.place ≡ place) × (e.sequence ≡ r.sequence) × (e.len ≡ r.len)
+      × ((j : ℕ) → e.filled ≤ j → slice_index r.bytes j ≡ 0)
 
   led_here : (e : Newest) → IsItsEntry e → Led new n e placed
   led_here e (at, sequence, len, filled) = record {
@@ -127,21 +138,28 @@ module _ (old new : Pages) (n : ℕ) (place : Place) (r : PageRecord) (adds : Ad
     };
   }
 
-  by_key : (table : Table) (e : Newest) → IsItsEntry e → IsLed old n table → (key : FilePage) (b : Bool) → same_page (page_of r) key ≡ b
+  by_key : (table : Table) (e : Newest) → IsItsEntry e → IsLed old n table → (key : FilePage) (b : Bool)
+      → same_page (page_of r) key ≡ b
       → LedOf new n (cond b (Some e) (known table key)) (newest new key.file key.page n)
-  by_key table e is led key true same = subst (λ k. LedOf new n (Some e) (newest new k.file k.page n)) (same_page_is (page_of r) key same)
+  by_key table e is led key true same = subst (λ k. LedOf new n (Some e) (newest new k.file k.page n))
+      (same_page_is (page_of r) key same)
       (subst (LedOf new n (Some e)) (sym newest_here) (led_here e is))
-  by_key table e is led key false other = subst (LedOf new n (known table key)) (sym (newest_elsewhere key.file key.page other))
-      (led_kept key.file key.page (known table key) (newest old key.file key.page n) (newest_is old key.file key.page n) (led.says key))
+  by_key table e is led key false other = subst (LedOf new n (known table key))
+      (sym (newest_elsewhere key.file key.page other))
+      (led_kept key.file key.page (known table key) (newest old key.file key.page n) (newest_is old key.file key.page n)
+      (led.says key))
 
   -- the table leads to it once its entry is put in
-  pub added : (table after : Table) (e : Newest) → IsItsEntry e → IsLed old n table → Puts table after (page_of r) e → IsLed new n after
+  pub added : (table after : Table) (e : Newest) → IsItsEntry e → IsLed old n table → Puts table after (page_of r) e
+      → IsLed new n after
   added table after e is led puts = record {
-    says = λ key. subst (λ k. LedOf new n k (newest new key.file key.page n)) (sym (puts.known_is key)) (by_key table e is led key (same_page (page_of r) key) refl);
+    says = λ key. subst (λ k. LedOf new n k (newest new key.file key.page n)) (sym (puts.known_is key))
+        (by_key table e is led key (same_page (page_of r) key) refl);
     room = puts.room led.room;
     fits = puts.fits led.fits;
   }
 
   -- the lengths of files matter to no entry
-  pub same_led : (table after : Table) → after.newest ≡ table.newest → limit_of after ≡ limit_of table → IsLed new n table → IsLed new n after
+  pub same_led : (table after : Table) → after.newest ≡ table.newest → limit_of after ≡ limit_of table
+      → IsLed new n table → IsLed new n after
   same_led table after same limit led = same_newest new n table after led same limit

@@ -27,7 +27,8 @@ spare_of pages n block elsewhere x needed at =
 
 -- each newest record still lies outside the block, if what lies outside it stays
 pub elsewhere_kept : (old new : Pages) (n block : ℕ) → IsAgreed old n → Keeps old new n → LiesElsewhere old n block
-    → ((j : ℕ) (q : PageRecord) → j / 64 ≢ block → record_at old j ≡ Some q → record_at new j ≡ Some q) → LiesElsewhere new n block
+    → ((j : ℕ) (q : PageRecord) → j / 64 ≢ block → record_at old j ≡ Some q → record_at new j ≡ Some q)
+    → LiesElsewhere new n block
 elsewhere_kept old new n block agreed keeps elsewhere stays file page x found =
     let before = said_before old new n (keeps_said old new n agreed keeps) file page x found in
     let copy = elsewhere file page before.0 before.1 in
@@ -38,8 +39,10 @@ pub number_block : (place : Place) → place.page < 64 → number place / 64 ≡
 number_block place small = let e : (64 * place.block + place.page) / 64 ≡ place.block = omega (arith, small) in e
 
 module _ (pages : Pages) (n : ℕ) (table : Table) (led : IsLed pages n table) where
-  led_by : (file page : ℕ) (x : Placed) (k : Option Newest) → known table (record { file = file; page = page }) ≡ k → LedOf pages n k (Some x)
-      → (e : Newest) × (known table (record { file = file; page = page }) ≡ Some e) × (e.place.page < 64) × (number e.place < n) × (record_at pages (number e.place) ≡ Some x.says)
+  led_by : (file page : ℕ) (x : Placed) (k : Option Newest) → known table (record { file = file; page = page }) ≡ k
+      → LedOf pages n k (Some x)
+      → (e : Newest) × (known table (record { file = file; page = page }) ≡ Some e) × (e.place.page < 64)
+      × (number e.place < n) × (record_at pages (number e.place) ≡ Some x.says)
   led_by file page x None is says = absurd says
   led_by file page x (Some e) is says = (e, is, says.leads.small, says.within, says.leads.there)
 
@@ -47,5 +50,11 @@ module _ (pages : Pages) (n : ℕ) (table : Table) (led : IsLed pages n table) w
   pub led_elsewhere : (block : ℕ) → LeavesOut table block → LiesElsewhere pages n block
   led_elsewhere block leaves file page x found =
       let key : FilePage = record { file = file; page = page } in
-      let entry = led_by file page x (known table key) refl (subst (LedOf pages n (known table key)) found (led.says key)) in
-      (number entry.0.place, entry.3, (λ here. leaves key entry.0 entry.1 (sym (number_block entry.0.place entry.2) ∙ here)), entry.4)
+      let entry = led_by file page x (known table key) refl
+      (subst (LedOf pages n (known table key)) found (led.says key)) in (
+        number entry.0.place,
+        entry.3,
+        (λ here. leaves key entry.0 entry.1
+            (sym (number_block entry.0.place entry.2) ∙ here)),
+        entry.4,
+      )

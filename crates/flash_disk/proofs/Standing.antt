@@ -1,12 +1,15 @@
--- What stays where no record came and of each newest one an equal one is left: what the newest records say, and so the files.
-use Rattle.std.proofs.Common.{◌≡◌, ℕ, ◌/◌, ◌%◌, ◌<◌, ◌≤◌, zero, suc, map, get_or, true, refl, sym, ap, subst, ◌∙◌, inl, inr, ⊎_elim, arith}
+-- What stays where no record came and of each newest one an equal one is left: what the newest records say, and so the
+-- files.
+use Rattle.std.proofs.Common.{◌≡◌, ℕ, ◌/◌, ◌%◌, ◌<◌, ◌≤◌, zero, suc, map, get_or, true, refl, sym, ap, subst, ◌∙◌, inl}
+use Rattle.std.proofs.Common.{inr, ⊎_elim, arith}
 use Rattle.std.specs.Prelude.{Option, Some, None, is_none, cond}
 use Rattle.std.specs.List.{range_with_len}
 use Rattle.std.proofs.Math.Path.{fun_ext}
 use Rattle.std.proofs.lemmas.Option.{same_Some, none-some}
 use Rattle.flash_model.specs.Pages.{Pages}
 use Rattle.flash_record.specs.PageRecord.{PageRecord}
-use Rattle.flash_disk.specs.Newest.{Placed, record_at, is_of, with_record, newest, opens_page, page_count, places, IsNewest, IsNewestOf, IsSpare}
+use Rattle.flash_disk.specs.Newest.{Placed, record_at, is_of, with_record, newest, opens_page, page_count, places}
+use Rattle.flash_disk.specs.Newest.{IsNewest, IsNewestOf, IsSpare}
 use Rattle.flash_disk.specs.NewestLaws.{newest_is}
 use Rattle.flash_disk.specs.FlashFiles.{record_byte, byte_in, file_byte, file_len, flash_files, IsFileLen}
 use Rattle.flash_disk.specs.FlashFilesLaws.{file_len_is, one_len}
@@ -18,7 +21,8 @@ use Rattle.flash_disk.specs.Learnt.{number, LedOf, IsLed, Knows, Tops}
 use Rattle.flash_disk.specs.Standing.{said, IsAgreed, Keeps, IsStrayless, MayGrow}
 
 -- a page of which something is said has a newest record, which says it
-pub said_some : (best : Option Placed) (r : PageRecord) → said best ≡ Some r → (x : Placed) × (best ≡ Some x) × (x.says ≡ r)
+pub said_some : (best : Option Placed) (r : PageRecord) → said best ≡ Some r
+    → (x : Placed) × (best ≡ Some x) × (x.says ≡ r)
 said_some None r is = absurd (none-some r is)
 said_some (Some x) r is = (x, refl, same_Some x.says r is)
 
@@ -27,17 +31,21 @@ pub said_byte : (best : Option Placed) (i : ℕ) → byte_in best i ≡ record_b
 said_byte None i = refl
 said_byte (Some x) i = refl
 
--- what makes a record that of which the newest one of a page says the same: none has a greater number, and one with its number is equal
+-- what makes a record that of which the newest one of a page says the same: none has a greater number, and one with its
+-- number is equal
 pub record IsSaid (pages : Pages) (file page n : ℕ) (r : PageRecord) : Type 0 where
   pub of_page : is_of file page r ≡ true
   pub place : ℕ
   pub within : place < n
   pub there : record_at pages place ≡ Some r
-  pub most : (j : ℕ) (q : PageRecord) → j < n → record_at pages j ≡ Some q → is_of file page q ≡ true → q.sequence ≤ r.sequence
-  pub one : (j : ℕ) (q : PageRecord) → j < n → record_at pages j ≡ Some q → is_of file page q ≡ true → q.sequence ≡ r.sequence → q ≡ r
+  pub most : (j : ℕ) (q : PageRecord) → j < n → record_at pages j ≡ Some q → is_of file page q ≡ true
+      → q.sequence ≤ r.sequence
+  pub one : (j : ℕ) (q : PageRecord) → j < n → record_at pages j ≡ Some q → is_of file page q ≡ true
+      → q.sequence ≡ r.sequence → q ≡ r
 
 module _ (pages : Pages) (file page n : ℕ) where
-  said_by : (r : PageRecord) → IsSaid pages file page n r → (best : Option Placed) → IsNewestOf pages file page n best → said best ≡ Some r
+  said_by : (r : PageRecord) → IsSaid pages file page n r → (best : Option Placed) → IsNewestOf pages file page n best
+      → said best ≡ Some r
   said_by r is None none = absurd (none is.place r is.within is.there is.of_page)
   said_by r is (Some x) is_newest =
       let less = is_newest.most is.place r is.within is.there is.of_page in
@@ -61,14 +69,17 @@ module _ (old new : Pages) (n : ℕ) (alike : SaysAlike old new n) where
   -- each byte is the same
   pub same_said_byte : (file i : ℕ) → file_byte new n file i ≡ file_byte old n file i
   same_said_byte file i = said_byte (newest new file (i / 256) n) (i % 256)
-      ∙ (ap (λ o. record_byte o (i % 256)) (alike file (i / 256)) ∙ sym (said_byte (newest old file (i / 256) n) (i % 256)))
+      ∙ (ap (λ o. record_byte o (i % 256)) (alike file (i / 256))
+      ∙ sym (said_byte (newest old file (i / 256) n) (i % 256)))
 
   -- a newest record says what one did before
-  pub said_before : (file page : ℕ) (x : Placed) → newest new file page n ≡ Some x → (y : Placed) × (newest old file page n ≡ Some y) × (y.says ≡ x.says)
+  pub said_before : (file page : ℕ) (x : Placed) → newest new file page n ≡ Some x
+      → (y : Placed) × (newest old file page n ≡ Some y) × (y.says ≡ x.says)
   said_before file page x is = said_some (newest old file page n) x.says (sym (alike file page) ∙ ap said is)
 
   -- what a newest record said one says now
-  pub said_after : (file page : ℕ) (x : Placed) → newest old file page n ≡ Some x → (y : Placed) × (newest new file page n ≡ Some y) × (y.says ≡ x.says)
+  pub said_after : (file page : ℕ) (x : Placed) → newest old file page n ≡ Some x
+      → (y : Placed) × (newest new file page n ≡ Some y) × (y.says ≡ x.says)
   said_after file page x is = said_some (newest new file page n) x.says (alike file page ∙ ap said is)
 
   -- a file of some length still has it
@@ -78,13 +89,15 @@ module _ (old new : Pages) (n : ℕ) (alike : SaysAlike old new n) where
         subst (λ (q : PageRecord). q.len ≤ len) before.2 (is.most page before.0 before.1);
     one = ⊎_elim
         (λ none. inl none)
-        (λ some. let after = said_after file some.0 some.1 some.2 in inr (some.0, after.0, after.1, some.3 ∙ ap (λ q. q.len) (sym after.2)))
+        (λ some. let after = said_after file some.0 some.1 some.2 in
+        inr (some.0, after.0, after.1, some.3 ∙ ap (λ q. q.len) (sym after.2)))
         is.one;
   }
 
   -- each file is as long
   pub same_said_len : (file : ℕ) → file_len new n file ≡ file_len old n file
-  same_said_len file = sym (one_len new n file (file_len old n file) (same_file_len file (file_len old n file) (file_len_is old n file)))
+  same_said_len file = sym (one_len new n file (file_len old n file)
+      (same_file_len file (file_len old n file) (file_len_is old n file)))
 
   -- no byte past the end of a file came to show
   pub same_said_strayless : (from : ℕ) → IsStrayless old n from → IsStrayless new n from
@@ -97,30 +110,37 @@ module _ (old new : Pages) (n : ℕ) (alike : SaysAlike old new n) where
       same_said_byte file i ∙ may i (omega (arith, past, same)) inside apart
 
 -- the files are the same
-pub same_said_files : (old new : Pages) (blocks : ℕ) → SaysAlike old new (places blocks) → flash_files new blocks ≡ flash_files old blocks
+pub same_said_files : (old new : Pages) (blocks : ℕ) → SaysAlike old new (places blocks)
+    → flash_files new blocks ≡ flash_files old blocks
 unfolding flash_files
 same_said_files old new blocks alike = fun_ext (λ file.
-    ap (λ b. map b (range_with_len 0 (file_len new (places blocks) file))) (fun_ext (λ i. same_said_byte old new (places blocks) alike file i))
-    ∙ ap (λ l. map (file_byte old (places blocks) file) (range_with_len 0 l)) (same_said_len old new (places blocks) alike file))
+    ap (λ b. map b (range_with_len 0 (file_len new (places blocks) file)))
+    (fun_ext (λ i. same_said_byte old new (places blocks) alike file i))
+    ∙ ap (λ l. map (file_byte old (places blocks) file) (range_with_len 0 l))
+    (same_said_len old new (places blocks) alike file))
 
 module _ (old new : Pages) (n : ℕ) where
   module _ (agreed : IsAgreed old n) (keeps : Keeps old new n) where
-    nothing_came : (file page : ℕ) → IsNewestOf old file page n None → (best : Option Placed) → IsNewestOf new file page n best → said best ≡ None
+    nothing_came : (file page : ℕ) → IsNewestOf old file page n None → (best : Option Placed)
+        → IsNewestOf new file page n best → said best ≡ None
     nothing_came file page none None is = refl
     nothing_came file page none (Some x) is =
         let was = keeps.only x.place x.says is.within is.there in absurd (none was.0 x.says was.1 was.2 is.of_page)
 
-    still_said : (file page : ℕ) (x : Placed) → newest old file page n ≡ Some x → IsNewest old file page n x → IsSaid new file page n x.says
+    still_said : (file page : ℕ) (x : Placed) → newest old file page n ≡ Some x → IsNewest old file page n x
+        → IsSaid new file page n x.says
     still_said file page x found is = let left = keeps.stays file page x found in record {
       of_page = is.of_page;
       place = left.0;
       within = left.1;
       there = left.2;
       most = λ j q inside there of_page. (let was = keeps.only j q inside there in is.most was.0 q was.1 was.2 of_page);
-      one = λ j q inside there of_page same. (let was = keeps.only j q inside there in agreed file page x found was.0 q was.1 was.2 of_page same);
+      one = λ j q inside there of_page same. (let was = keeps.only j q inside there in
+          agreed file page x found was.0 q was.1 was.2 of_page same);
     }
 
-    kept_by : (file page : ℕ) (best : Option Placed) → newest old file page n ≡ best → IsNewestOf old file page n best → said (newest new file page n) ≡ said best
+    kept_by : (file page : ℕ) (best : Option Placed) → newest old file page n ≡ best → IsNewestOf old file page n best
+        → said (newest new file page n) ≡ said best
     kept_by file page None found is = nothing_came file page is (newest new file page n) (newest_is new file page n)
     kept_by file page (Some x) found is = newest_said new file page n x.says (still_said file page x found is)
 
@@ -133,7 +153,8 @@ module _ (old new : Pages) (n : ℕ) where
     keeps_agreed = λ file page x found j q inside there of_page same.
         let before = said_before old new n keeps_said file page x found in
         let was = keeps.only j q inside there in
-        agreed file page before.0 before.1 was.0 q was.1 was.2 of_page (same ∙ ap (λ z. z.sequence) (sym before.2)) ∙ before.2
+        agreed file page before.0 before.1 was.0 q was.1 was.2 of_page (same ∙ ap (λ z. z.sequence) (sym before.2))
+        ∙ before.2
 
     -- each byte is the same
     pub keeps_byte : (file i : ℕ) → file_byte new n file i ≡ file_byte old n file i
@@ -156,35 +177,44 @@ module _ (old new : Pages) (n : ℕ) where
     keeps_file_len = same_file_len old new n keeps_said
 
     module _ (table : Table)
-        (there : (key : FilePage) (entry : Newest) → known table key ≡ Some entry → record_at new (number entry.place) ≡ record_at old (number entry.place)) where
-      led_over : (key : FilePage) (e : Option Newest) → known table key ≡ e → (before after : Option Placed) → said after ≡ said before → LedOf old n e before → LedOf new n e after
+        (there : (key : FilePage) (entry : Newest) → known table key ≡ Some entry
+        → record_at new (number entry.place) ≡ record_at old (number entry.place)) where
+      led_over : (key : FilePage) (e : Option Newest) → known table key ≡ e → (before after : Option Placed)
+          → said after ≡ said before → LedOf old n e before → LedOf new n e after
       led_over key None is None None alike led = led
       led_over key None is None (Some y) alike led = absurd (none-some y.says (sym alike))
       led_over key None is (Some x) after alike led = absurd led
       led_over key (Some e) is None after alike led = absurd led
       led_over key (Some e) is (Some x) None alike led = absurd (none-some x.says alike)
-      led_over key (Some e) is (Some x) (Some y) alike led = let says : x.says ≡ y.says = same_Some x.says y.says (sym alike) in record {
-        within = led.within;
-        leads = record {
-          small = led.leads.small;
-          there = there key e is ∙ (led.leads.there ∙ ap Some says);
-          sequence = led.leads.sequence ∙ ap (λ q. q.sequence) says;
-          len = led.leads.len ∙ ap (λ q. q.len) says;
-          filled = subst (λ (q : PageRecord). (j : ℕ) → e.filled ≤ j → get_or q.bytes j 0 ≡ 0) says led.leads.filled;
-        };
-      }
+      led_over key (Some e) is (Some x) (Some y) alike led = let says : x.says ≡ y.says =
+          same_Some x.says y.says (sym alike) in record {
+            within = led.within;
+            leads = record {
+              small = led.leads.small;
+              there = there key e is ∙ (led.leads.there ∙ ap Some says);
+              sequence = led.leads.sequence ∙ ap (λ q. q.sequence) says;
+              len = led.leads.len ∙ ap (λ q. q.len) says;
+              filled = subst (λ (q : PageRecord). (j : ℕ) → e.filled ≤ j → get_or q.bytes j 0 ≡ 0) says
+                  led.leads.filled;
+            };
+          }
 
       -- a table whose records stand where they stood still leads to the newest records
       pub keeps_led : IsLed old n table → IsLed new n table
       keeps_led led = record {
-        says = λ key. led_over key (known table key) refl (newest old key.file key.page n) (newest new key.file key.page n) (keeps_said key.file key.page) (led.says key);
+        says = λ key. led_over key (known table key) refl (newest old key.file key.page n)
+            (newest new key.file key.page n) (keeps_said key.file key.page) (led.says key);
         room = led.room;
         fits = led.fits;
       }
 
       -- and knows how long each file is
       pub keeps_known : Knows old n table → Knows new n table
-      keeps_known knows = record { led = keeps_led knows.led; lens = λ file. keeps_file_len file (len_known table file) (knows.lens file) }
+      keeps_known knows = record {
+        led = keeps_led knows.led;
+        lens =
+            λ file. keeps_file_len file (len_known table file) (knows.lens file);
+      }
 
     -- what is kept after this is kept
     pub keeps_then : (after : Pages) → Keeps new after n → Keeps old after n
@@ -203,7 +233,8 @@ module _ (old new : Pages) (n : ℕ) where
   pub same_records_keep : ((j : ℕ) → j < n → record_at new j ≡ record_at old j) → Keeps old new n
   same_records_keep same = record {
     only = λ j q inside there. (j, inside, sym (same j inside) ∙ there);
-    stays = λ file page x found. (let is = is_newest_of old file page n x found in (x.place, is.within, same x.place is.within ∙ is.there));
+    stays = λ file page x found. (let is = is_newest_of old file page n x found in
+        (x.place, is.within, same x.place is.within ∙ is.there));
   }
 
 -- nothing changed
@@ -211,8 +242,10 @@ pub keeps_refl : (pages : Pages) (n : ℕ) → Keeps pages pages n
 keeps_refl pages n = same_records_keep pages pages n (λ j inside. refl)
 
 -- the files are the same
-pub keeps_files : (old new : Pages) (blocks : ℕ) → IsAgreed old (places blocks) → Keeps old new (places blocks) → flash_files new blocks ≡ flash_files old blocks
-keeps_files old new blocks agreed keeps = same_said_files old new blocks (keeps_said old new (places blocks) agreed keeps)
+pub keeps_files : (old new : Pages) (blocks : ℕ) → IsAgreed old (places blocks) → Keeps old new (places blocks)
+    → flash_files new blocks ≡ flash_files old blocks
+keeps_files old new blocks agreed keeps = same_said_files old new blocks
+    (keeps_said old new (places blocks) agreed keeps)
 
 -- ---- no record changed
 
@@ -240,7 +273,8 @@ module _ (old new : Pages) (same : HasSameRecords old new) where
   records_count zero = refl
   records_count (suc n) =
       let before = records_count n in
-      let opens : opens_page new n (record_at new n) ≡ opens_page old n (record_at old n) = ap (opens_page new n) (same n) ∙ opens_alike n (record_at old n) in
+      let opens : opens_page new n (record_at new n) ≡ opens_page old n (record_at old n) =
+      ap (opens_page new n) (same n) ∙ opens_alike n (record_at old n) in
       omega (arith, before, opens)
 
   -- the files are the same
@@ -254,7 +288,8 @@ module _ (old new : Pages) (same : HasSameRecords old new) where
 
     -- the records are still agreed
     pub records_agreed : IsAgreed old n → IsAgreed new n
-    records_agreed agreed = λ file page x found j q inside there of_page. agreed file page x (sym (records_newest file page n) ∙ found) j q inside (sym (same j) ∙ there) of_page
+    records_agreed agreed = λ file page x found j q inside there of_page.
+        agreed file page x (sym (records_newest file page n) ∙ found) j q inside (sym (same j) ∙ there) of_page
 
     -- no record has a greater number
     pub records_tops : (top : ℕ) → Tops old n top → Tops new n top
@@ -285,7 +320,8 @@ module _ (old new : Pages) (same : HasSameRecords old new) where
     -- the table still leads to the newest records
     pub records_led : (table : Table) → IsLed old n table → IsLed new n table
     records_led table led = record {
-      says = λ key. subst (LedOf new n (known table key)) (sym (records_newest key.file key.page n)) (led_alike (known table key) (newest old key.file key.page n) (led.says key));
+      says = λ key. subst (LedOf new n (known table key)) (sym (records_newest key.file key.page n))
+          (led_alike (known table key) (newest old key.file key.page n) (led.says key));
       room = led.room;
       fits = led.fits;
     }

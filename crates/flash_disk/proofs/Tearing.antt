@@ -1,5 +1,7 @@
--- What programming a page or erasing a block leaves of the records, whole or cut short, where no page passes its hash by chance.
-use Rattle.std.proofs.Common.{◌≡◌, ◌≢◌, ◌⊎◌, ℕ, ◌+◌, ◌*◌, ◌/◌, ◌%◌, ◌<◌, List, cond, refl, sym, ap, subst, ◌∙◌, inl, inr, ⊎_elim, arith, eq-eqb}
+-- What programming a page or erasing a block leaves of the records, whole or cut short, where no page passes its hash
+-- by chance.
+use Rattle.std.proofs.Common.{◌≡◌, ◌≢◌, ◌⊎◌, ℕ, ◌+◌, ◌*◌, ◌/◌, ◌%◌, ◌<◌, List, cond, refl, sym, ap, subst, ◌∙◌, inl}
+use Rattle.std.proofs.Common.{inr, ⊎_elim, arith, eq-eqb}
 use Rattle.std.specs.Prelude.{Option, Some, None, nat_eq}
 use Rattle.std.proofs.lemmas.Bool.{cases_eq, ne_eqb, and_from, and_left, and_right}
 use Rattle.std.proofs.lemmas.Option.{same_Some, none-some}
@@ -17,7 +19,8 @@ use Rattle.flash_disk.proofs.Sparing.{LiesElsewhere}
 
 -- a page is no record, or the one that it was, or the one that the call done whole leaves there
 pub plain_page : (before whole left : Pages) → IsPlain before whole left → (b p : ℕ)
-    → (record_in (left b p) ≡ None) ⊎ ((record_in (left b p) ≡ record_in (before b p)) ⊎ (record_in (left b p) ≡ record_in (whole b p)))
+    → (record_in (left b p) ≡ None) ⊎ ((record_in (left b p) ≡ record_in (before b p))
+    ⊎ (record_in (left b p) ≡ record_in (whole b p)))
 plain_page before whole left plain b p = record_in-plain (left b p) (before b p) (whole b p) (plain b p)
 
 -- ---- a page was programmed
@@ -29,14 +32,16 @@ pub record IsTorn (old left : Pages) (i : ℕ) (r : Option PageRecord) : Type 0 
 
 module _ (old : Pages) (block page : ℕ) where
   -- every other place has the record that it had
-  pub torn_elsewhere : (left : Pages) → TornPage block page old left → (j : ℕ) → j ≢ 64 * block + page → record_at left j ≡ record_at old j
+  pub torn_elsewhere : (left : Pages) → TornPage block page old left → (j : ℕ) → j ≢ 64 * block + page
+      → record_at left j ≡ record_at old j
   torn_elsewhere left torn j apart = ap record_in (torn (j / 64) (j % 64) (⊎_elim
       (λ here. inr (λ there. apart (let e : j ≡ 64 * block + page = omega (arith, here, there) in e)))
       (λ other. inl other)
       (cases_eq (j / 64) block)))
 
   -- a page in which anything was left
-  pub torn_page : (left : Pages) → TornPage block page old left → IsTorn old left (64 * block + page) (record_at left (64 * block + page))
+  pub torn_page : (left : Pages) → TornPage block page old left
+      → IsTorn old left (64 * block + page) (record_at left (64 * block + page))
   torn_page left torn = record { elsewhere = torn_elsewhere left torn; here = inr refl }
 
   module _ (bytes : List ℕ) where
@@ -67,9 +72,14 @@ module _ (old : Pages) (block page : ℕ) where
         (plain_page old (program_page old block page bytes) left plain block page)
 
     -- a blank page was programmed, which was cut short
-    pub torn_program : (left : Pages) (bytes : List ℕ) → TornPage block page old left → IsPlain old (program_page old block page bytes) left
+    pub torn_program : (left : Pages) (bytes : List ℕ) → TornPage block page old left
+        → IsPlain old (program_page old block page bytes) left
         → IsTorn old left (64 * block + page) (record_in bytes)
-    torn_program left bytes torn plain = record { elsewhere = torn_elsewhere left torn; here = torn_here left bytes plain }
+    torn_program left bytes torn plain = record {
+      elsewhere = torn_elsewhere left torn;
+      here =
+          torn_here left bytes plain;
+    }
 
   module _ (small : page < 64) (bytes : List ℕ) where
     -- the page has the record that was programmed
@@ -78,16 +88,22 @@ module _ (old : Pages) (block page : ℕ) where
 
     -- and all others have what they had
     pub whole_program : IsTorn old (program_page old block page bytes) (64 * block + page) (record_in bytes)
-    whole_program = record { elsewhere = torn_elsewhere (program_page old block page bytes) (whole_torn bytes); here = inr whole_here }
+    whole_program = record {
+      elsewhere = torn_elsewhere (program_page old block page bytes) (whole_torn bytes);
+      here =
+          inr whole_here;
+    }
 
 -- a record that is there is the one that was programmed
-pub torn_is : (old left : Pages) (i : ℕ) (r q : PageRecord) → IsTorn old left i (Some r) → record_at left i ≡ Some q → q ≡ r
+pub torn_is : (old left : Pages) (i : ℕ) (r q : PageRecord) → IsTorn old left i (Some r) → record_at left i ≡ Some q
+    → q ≡ r
 torn_is old left i r q torn there = ⊎_elim
     (λ none. absurd (none-some q (sym none ∙ there)))
     (λ here. same_Some q r (sym there ∙ here))
     torn.here
 
-module _ (old left : Pages) (i : ℕ) (r : Option PageRecord) (nothing : record_at old i ≡ None) (torn : IsTorn old left i r) where
+module _ (old left : Pages) (i : ℕ) (r : Option PageRecord) (nothing : record_at old i ≡ None)
+    (torn : IsTorn old left i r) where
   -- where no record came to lie none changed
   pub torn_same : record_at left i ≡ None → HasSameRecords old left
   torn_same none j = ⊎_elim
@@ -95,35 +111,50 @@ module _ (old left : Pages) (i : ℕ) (r : Option PageRecord) (nothing : record_
       (λ apart. torn.elsewhere j apart)
       (cases_eq j i)
 
-module _ (old left : Pages) (n : ℕ) (place : Place) (r : PageRecord) (small : place.page < 64) (within : number place < n)
+module _ (old left : Pages) (n : ℕ) (place : Place) (r : PageRecord) (small : place.page < 64)
+    (within : number place < n)
     (nothing : record_at old (number place) ≡ None)
     (newer : (j : ℕ) (q : PageRecord) → j < n → record_at old j ≡ Some q → q.sequence < r.sequence) where
   -- a newer record was added, or no record changed
   pub torn_adds : IsTorn old left (number place) (Some r) → HasSameRecords old left ⊎ Adds old left n place r
   torn_adds torn = ⊎_elim
       (λ none. inl (torn_same old left (number place) (Some r) nothing torn none))
-      (λ here. inr (record { small = small; within = within; nothing = nothing; here = here; elsewhere = torn.elsewhere; newer = newer }))
+      (λ here. inr (record {
+        small = small;
+        within = within;
+        nothing = nothing;
+        here = here;
+        elsewhere =
+            torn.elsewhere;
+        newer = newer;
+      }))
       torn.here
 
   -- a record that is there was added
-  pub torn_adds_there : IsTorn old left (number place) (Some r) → (q : PageRecord) → record_at left (number place) ≡ Some q → Adds old left n place q
+  pub torn_adds_there : IsTorn old left (number place) (Some r) → (q : PageRecord)
+      → record_at left (number place) ≡ Some q → Adds old left n place q
   torn_adds_there torn q there = record {
     small = small;
     within = within;
     nothing = nothing;
     here = there;
     elsewhere = torn.elsewhere;
-    newer = λ j p inside was. subst (λ (z : PageRecord). p.sequence < z.sequence) (sym (torn_is old left (number place) r q torn there)) (newer j p inside was);
+    newer = λ j p inside was. subst (λ (z : PageRecord). p.sequence < z.sequence)
+        (sym (torn_is old left (number place) r q torn there)) (newer j p inside was);
   }
 
-module _ (old : Pages) (n : ℕ) (place : Place) (bytes : List ℕ) (r : PageRecord) (small : place.page < 64) (within : number place < n)
+module _ (old : Pages) (n : ℕ) (place : Place) (bytes : List ℕ) (r : PageRecord) (small : place.page < 64)
+    (within : number place < n)
     (blank : old place.block place.page ≡ blank_page) (is : record_in bytes ≡ Some r)
     (newer : (j : ℕ) (q : PageRecord) → j < n → record_at old j ≡ Some q → q.sequence < r.sequence) where
   -- a newer record was to be added, which was cut short: it was, or no record changed
-  pub torn_add : (left : Pages) → TornPage place.block place.page old left → IsPlain old (program_page old place.block place.page bytes) left
+  pub torn_add : (left : Pages) → TornPage place.block place.page old left
+      → IsPlain old (program_page old place.block place.page bytes) left
       → HasSameRecords old left ⊎ Adds old left n place r
-  torn_add left torn plain = torn_adds old left n place r small within (nothing_there old place.block place.page small blank) newer
-      (subst (IsTorn old left (number place)) is (torn_program old place.block place.page small blank left bytes torn plain))
+  torn_add left torn plain = torn_adds old left n place r small within
+      (nothing_there old place.block place.page small blank) newer
+      (subst (IsTorn old left (number place)) is (torn_program old place.block place.page small blank left bytes torn
+      plain))
 
   -- a newer record was added
   pub whole_add : Adds old (program_page old place.block place.page bytes) n place r
@@ -136,7 +167,8 @@ module _ (old : Pages) (n : ℕ) (place : Place) (bytes : List ℕ) (r : PageRec
     newer = newer;
   }
 
-module _ (old left : Pages) (n i k : ℕ) (r : PageRecord) (nothing : record_at old i ≡ None) (inside : k < n) (copied : record_at old k ≡ Some r) where
+module _ (old left : Pages) (n i k : ℕ) (r : PageRecord) (nothing : record_at old i ≡ None) (inside : k < n)
+    (copied : record_at old k ≡ Some r) where
   -- a place without a record has none, or has a copy of one that was there
   pub copy_keeps : IsTorn old left i (Some r) → Keeps old left n
   copy_keeps torn = record {
@@ -147,21 +179,31 @@ module _ (old left : Pages) (n i k : ℕ) (r : PageRecord) (nothing : record_at 
         torn.here))
         (λ apart. (j, within, sym (torn.elsewhere j apart) ∙ there))
         (cases_eq j i);
-    stays = λ file page x found. (let is = is_newest_of old file page n x found in
-        (x.place, is.within, torn.elsewhere x.place (λ here. none-some x.says (sym nothing ∙ subst (λ m. record_at old m ≡ Some x.says) here is.there)) ∙ is.there));
+    stays = λ file page x found. (let is = is_newest_of old file page n x found in (
+      x.place,
+      is.within,
+      torn.elsewhere x.place (λ here.
+          none-some x.says (sym nothing ∙ subst (λ m. record_at old m ≡ Some x.says) here is.there)) ∙ is.there,
+    ));
   }
 
 module _ (old : Pages) (n k : ℕ) (place : Place) (bytes : List ℕ) (r : PageRecord) (small : place.page < 64)
-    (blank : old place.block place.page ≡ blank_page) (is : record_in bytes ≡ Some r) (inside : k < n) (copied : record_at old k ≡ Some r) where
+    (blank : old place.block place.page ≡ blank_page) (is : record_in bytes ≡ Some r) (inside : k < n)
+    (copied : record_at old k ≡ Some r) where
   -- a record was to be copied, which was cut short
-  pub torn_copy : (left : Pages) → TornPage place.block place.page old left → IsPlain old (program_page old place.block place.page bytes) left → Keeps old left n
-  torn_copy left torn plain = copy_keeps old left n (number place) k r (nothing_there old place.block place.page small blank) inside copied
-      (subst (IsTorn old left (number place)) is (torn_program old place.block place.page small blank left bytes torn plain))
+  pub torn_copy : (left : Pages) → TornPage place.block place.page old left
+      → IsPlain old (program_page old place.block place.page bytes) left → Keeps old left n
+  torn_copy left torn plain = copy_keeps old left n (number place) k r
+      (nothing_there old place.block place.page small blank) inside copied
+      (subst (IsTorn old left (number place)) is (torn_program old place.block place.page small blank left bytes torn
+      plain))
 
   -- a record was copied
   pub whole_copy : Keeps old (program_page old place.block place.page bytes) n
-  whole_copy = copy_keeps old (program_page old place.block place.page bytes) n (number place) k r (nothing_there old place.block place.page small blank) inside copied
-      (subst (IsTorn old (program_page old place.block place.page bytes) (number place)) is (whole_program old place.block place.page small bytes))
+  whole_copy = copy_keeps old (program_page old place.block place.page bytes) n (number place) k r
+      (nothing_there old place.block place.page small blank) inside copied
+      (subst (IsTorn old (program_page old place.block place.page bytes) (number place)) is
+      (whole_program old place.block place.page small bytes))
 
 -- ---- a block was erased
 
@@ -196,7 +238,8 @@ module _ (old : Pages) (block : ℕ) where
       (cases_eq (j / 64) block)
 
   -- the block was erased, which was cut short
-  pub torn_erase : (left : Pages) → TornBlock block old left → IsPlain old (erase_block old block) left → LosesIn block old left
+  pub torn_erase : (left : Pages) → TornBlock block old left → IsPlain old (erase_block old block) left
+      → LosesIn block old left
   torn_erase left torn plain = record {
     only = torn_only left torn plain;
     apart = λ j other. ap record_in (torn (j / 64) (j % 64) other);
@@ -217,5 +260,6 @@ module _ (old left : Pages) (n block : ℕ) (elsewhere : LiesElsewhere old n blo
   pub erase_keeps : Keeps old left n
   erase_keeps = record {
     only = λ j q within there. (j, within, loses.only j q there);
-    stays = λ file page x found. (let copy = elsewhere file page x found in (copy.0, copy.1, loses.apart copy.0 copy.2 ∙ copy.3));
+    stays = λ file page x found. (let copy = elsewhere file page x found in
+        (copy.0, copy.1, loses.apart copy.0 copy.2 ∙ copy.3));
   }

@@ -1,5 +1,7 @@
--- That a flash can be opened at every moment, and that no rivals come: what is kept says so of a flash, and calls that look or write leave it so.
-use Rattle.std.proofs.Common.{◌≡◌, ◌⊎◌, ℕ, ◌+◌, ◌<◌, ◌≤◌, Bool, List, Result, Ok, Err, OnOk, OnErr, cond, sym, refl, ap, subst, ◌∙◌, ⊎_elim, arith, true≢false}
+-- That a flash can be opened at every moment, and that no rivals come: what is kept says so of a flash, and calls that
+-- look or write leave it so.
+use Rattle.std.proofs.Common.{◌≡◌, ◌⊎◌, ℕ, ◌+◌, ◌<◌, ◌≤◌, Bool, List, Result, Ok, Err, OnOk, OnErr, cond, sym, refl, ap}
+use Rattle.std.proofs.Common.{subst, ◌∙◌, ⊎_elim, arith, true≢false}
 use Rattle.std.specs.Prelude.{Option, Some, None, IsSome, is_none}
 use Rattle.flash_model.specs.Pages.{Pages}
 use Rattle.flash_model.specs.State.{IsStill, settle_pages}
@@ -24,15 +26,18 @@ use Rattle.flash_disk.proofs.Tearing.{torn_same, torn_page}
 -- ---- what is kept
 
 -- a page that has an entry, or room for one, is one of the pages for which there is room
-one_more : (entry : Option Newest) (len limit : ℕ) → len ≤ limit → IsSome entry ⊎ (len < limit) → len + cond (is_none entry) 1 0 ≤ limit
+one_more : (entry : Option Newest) (len limit : ℕ) → len ≤ limit → IsSome entry ⊎ (len < limit)
+    → len + cond (is_none entry) 1 0 ≤ limit
 one_more None len limit fits place = ⊎_elim (λ some. absurd (true≢false (sym some))) (λ room. omega (arith, room)) place
 one_more (Some e) len limit fits place = omega (arith, fits)
 
 module _ (sure pages : Pages) (blocks : ℕ) (s : LayerState) (sound : Sound sure blocks s) where
   sure_fits : page_count sure (places blocks) ≤ page_limit blocks
-  sure_fits = let count = sound.count in let fits = sound.counted.fits in let limit = sound.limit in omega (arith, count, fits, limit)
+  sure_fits = let count = sound.count in let fits = sound.counted.fits in let limit =
+      sound.limit in omega (arith, count, fits, limit)
 
-  with_spare : (p : Pages) → page_count p (places blocks) ≤ page_limit blocks → IsSpare p (places blocks) s.spare → IsUsable p blocks
+  with_spare : (p : Pages) → page_count p (places blocks) ≤ page_limit blocks → IsSpare p (places blocks) s.spare
+      → IsUsable p blocks
   with_spare p fits spare = record { fits = fits; block = s.spare; within = sound.within; spare = spare }
 
   same_usable : HasSameRecords sure pages → IsUsable pages blocks
@@ -41,13 +46,16 @@ module _ (sure pages : Pages) (blocks : ℕ) (s : LayerState) (sound : Sound sur
       (records_spare sure pages same (places blocks) s.spare sound.is_spare)
 
   -- a record that came to lie in a page has an entry, or room for one
-  added_fits : (place : Place) (r : PageRecord) → Enters sure pages blocks s place r → page_count pages (places blocks) ≤ page_limit blocks
+  added_fits : (place : Place) (r : PageRecord) → Enters sure pages blocks s place r
+      → page_count pages (places blocks) ≤ page_limit blocks
   added_fits place r enters =
       let count = count_adds sure pages (places blocks) place r enters.adds in
       let entry = known s.table (page_of r) in
-      let more : page_len s.table + cond (is_none entry) 1 0 ≤ limit_of s.table = one_more entry (page_len s.table) (limit_of s.table) sound.counted.fits enters.fits.place in
+      let more : page_len s.table + cond (is_none entry) 1 0 ≤ limit_of s.table =
+      one_more entry (page_len s.table) (limit_of s.table) sound.counted.fits enters.fits.place in
       let none : is_none entry ≡ is_none (newest sure r.file r.page (places blocks)) =
-      led_none sure (places blocks) entry (newest sure r.file r.page (places blocks)) (sound.knows.led.says (page_of r)) in
+      led_none sure (places blocks) entry (newest sure r.file r.page (places blocks)) (sound.knows.led.says (page_of r))
+      in
       let known_count = sound.count in
       let limit = sound.limit in
       let most : page_len s.table + cond (is_none (newest sure r.file r.page (places blocks))) 1 0 ≤ limit_of s.table =
@@ -55,9 +63,11 @@ module _ (sure pages : Pages) (blocks : ℕ) (s : LayerState) (sound : Sound sur
       omega (arith, count, most, known_count, limit)
 
   -- whatever a page in doubt holds
-  pending_usable : (place : Place) → Pends sure pages blocks s place → (o : Option PageRecord) → record_at pages (number place) ≡ o → IsUsable pages blocks
+  pending_usable : (place : Place) → Pends sure pages blocks s place → (o : Option PageRecord)
+      → record_at pages (number place) ≡ o → IsUsable pages blocks
   pending_usable place pends None none = same_usable
-      (torn_same sure pages (number place) (record_at pages (number place)) pends.nothing (torn_page sure place.block place.page pages pends.elsewhere) none)
+      (torn_same sure pages (number place) (record_at pages (number place)) pends.nothing
+      (torn_page sure place.block place.page pages pends.elsewhere) none)
   pending_usable place pends (Some r) some = with_spare pages (added_fits place r (pends.may_enter r some))
       (adds_is_spare sure pages (places blocks) place r (pends.may_enter r some).adds s.spare sound.is_spare
       (λ same. pends.apart (sym (number_block place pends.small) ∙ same)))
@@ -72,7 +82,8 @@ holds_usable m s holds = kept_usable holds.sure m.state.pages m.blocks s holds.s
 -- ---- calls
 
 -- a settle changes no page
-pub settle_stays : {T E : Type 0} (a b : FlashMedium) (result : Result T E) → OnOk result (b.state ≡ settle_pages a.state) → OnErr result (b.state ≡ a.state)
+pub settle_stays : {T E : Type 0} (a b : FlashMedium) (result : Result T E)
+    → OnOk result (b.state ≡ settle_pages a.state) → OnErr result (b.state ≡ a.state)
     → b.state.pages ≡ a.state.pages
 settle_stays a b (Ok x) settled failed = ap (λ s. s.pages) settled
 settle_stays a b (Err e) settled failed = ap (λ s. s.pages) failed
@@ -82,11 +93,13 @@ module _ (a b : FlashMedium) (elapses : FlashElapses a b) (usable : IsUsable a.s
   still_usable pages same = subst (λ p. IsUsable p a.blocks) (sym same) usable
 
   -- calls that change no page
-  pub settle_usable : b.state.pages ≡ a.state.pages → EachFlashCase (λ c. IsStill a.state c ⊎ IsStill b.state c) a b → KeepsUsable a b
+  pub settle_usable : b.state.pages ≡ a.state.pages → EachFlashCase (λ c. IsStill a.state c ⊎ IsStill b.state c) a b
+      → KeepsUsable a b
   settle_usable pages cases = record {
     blocks = elapses.blocks;
     now = still_usable b.state.pages pages;
-    during = λ c past plain. still_usable c.left (⊎_elim (λ still. still.left) (λ still. still.left ∙ pages) (cases c past));
+    during = λ c past plain. still_usable c.left (⊎_elim (λ still. still.left) (λ still. still.left ∙ pages)
+        (cases c past));
   }
 
   -- calls that only look
@@ -112,7 +125,8 @@ module _ (a b : FlashMedium) (elapses : FlashElapses a b) (usable : IsUsable a.s
   }
 
 -- no call at all
-pub rest_usable : (told : Bool) (m : FlashMedium) → IsLawfulFlash told m → IsUsable m.state.pages m.blocks → KeepsUsable m m
+pub rest_usable : (told : Bool) (m : FlashMedium) → IsLawfulFlash told m → IsUsable m.state.pages m.blocks
+    → KeepsUsable m m
 rest_usable told m lawful usable = record {
   blocks = refl;
   now = usable;
@@ -120,7 +134,8 @@ rest_usable told m lawful usable = record {
 }
 
 -- one stretch after the other
-pub usable_then : (a b c : FlashMedium) → FlashElapses a b → FlashElapses b c → KeepsUsable a b → KeepsUsable b c → KeepsUsable a c
+pub usable_then : (a b c : FlashMedium) → FlashElapses a b → FlashElapses b c → KeepsUsable a b → KeepsUsable b c
+    → KeepsUsable a c
 usable_then a b c first second early late = record {
   blocks = late.blocks ∙ early.blocks;
   now = subst (IsUsable c.state.pages) early.blocks late.now;
@@ -131,11 +146,13 @@ usable_then a b c first second early late = record {
 }
 
 -- what could be opened since a moment can be so after calls that leave what can be opened
-pub usable_since : (a b : FlashMedium) → FlashElapses a b → KeepsUsable a b → (t : ℕ) → t ≤ a.moment → UsableSince a t → UsableSince b t
+pub usable_since : (a b : FlashMedium) → FlashElapses a b → KeepsUsable a b → (t : ℕ) → t ≤ a.moment → UsableSince a t
+    → UsableSince b t
 usable_since a b time kept t le was = record {
   now = subst (IsUsable b.state.pages) (sym time.blocks) kept.now;
   during = λ c past plain. subst (IsUsable c.left) (sym time.blocks)
-      (⊎_elim (λ before. was.during c before plain) (λ since. kept.during c since plain) (time.nothing_else t c le past));
+      (⊎_elim (λ before. was.during c before plain) (λ since. kept.during c since plain)
+      (time.nothing_else t c le past));
 }
 
 -- ---- rivals
@@ -152,10 +169,12 @@ module _ (a b : FlashMedium) where
   }
 
   -- calls that change no page
-  pub settle_agreed : b.state.pages ≡ a.state.pages → EachFlashCase (λ c. IsStill a.state c ⊎ IsStill b.state c) a b → KeepsAgreed a b
+  pub settle_agreed : b.state.pages ≡ a.state.pages → EachFlashCase (λ c. IsStill a.state c ⊎ IsStill b.state c) a b
+      → KeepsAgreed a b
   settle_agreed pages cases = record {
     now = stays_agreed a b.state.pages pages;
-    during = λ c past plain. stays_agreed a c.left (⊎_elim (λ still. still.left) (λ still. still.left ∙ pages) (cases c past));
+    during = λ c past plain. stays_agreed a c.left (⊎_elim (λ still. still.left) (λ still. still.left ∙ pages)
+        (cases c past));
   }
 
   -- a write
@@ -172,7 +191,8 @@ module _ (a b : FlashMedium) where
   }
 
 -- one stretch after the other
-module _ (a b c : FlashMedium) (first : FlashElapses a b) (second : FlashElapses b c) (early : KeepsAgreed a b) (late : KeepsAgreed b c) where
+module _ (a b c : FlashMedium) (first : FlashElapses a b) (second : FlashElapses b c) (early : KeepsAgreed a b)
+    (late : KeepsAgreed b c) where
   agreed_by : (pages : Pages) → StaysAgreed b pages → StaysAgreed a pages
   agreed_by pages stays agreed = subst (λ k. IsAgreed pages (places k)) first.blocks
       (stays (subst (λ k. IsAgreed b.state.pages (places k)) (sym first.blocks) (early.now agreed)))
@@ -187,10 +207,12 @@ module _ (a b c : FlashMedium) (first : FlashElapses a b) (second : FlashElapses
   }
 
 -- what had no rivals since a moment has none after calls that bring none
-pub agreed_since : (a b : FlashMedium) → FlashElapses a b → KeepsAgreed a b → (t : ℕ) → t ≤ a.moment → AgreedSince a t → AgreedSince b t
+pub agreed_since : (a b : FlashMedium) → FlashElapses a b → KeepsAgreed a b → (t : ℕ) → t ≤ a.moment → AgreedSince a t
+    → AgreedSince b t
 agreed_since a b time kept t le was = record {
   now = here b.state.pages (kept.now was.now);
-  during = λ c past plain. here c.left (⊎_elim (λ before. was.during c before plain) (λ since. kept.during c since plain was.now) (time.nothing_else t c le past));
+  during = λ c past plain. here c.left (⊎_elim (λ before. was.during c before plain)
+      (λ since. kept.during c since plain was.now) (time.nothing_else t c le past));
 }
   where
     here : (pages : Pages) → IsAgreed pages (places a.blocks) → IsAgreed pages (places b.blocks)

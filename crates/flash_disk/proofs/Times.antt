@@ -9,9 +9,11 @@ use Rattle.flash_disk.specs.FlashDiskMedium.{flash_disk_medium}
 use Rattle.flash_disk.specs.Sound.{Holds}
 use Rattle.flash_disk.specs.Writes.{WritesInto}
 use Rattle.flash_disk.proofs.DiskCases.{disk_elapses}
-use Rattle.flash_disk.proofs.Throughout.{holds_usable, look_usable, settle_usable, write_usable, look_agreed, settle_agreed, write_agreed}
+use Rattle.flash_disk.proofs.Throughout.{holds_usable, look_usable, settle_usable, write_usable, look_agreed}
+use Rattle.flash_disk.proofs.Throughout.{settle_agreed, write_agreed}
 
-module _ (told : Bool) (a b : FlashMedium) (own own' written : ℕ) (s : LayerState) (holds : IsTrue told → Holds a s) (time : IsTrue told → FlashElapses a b)
+module _ (told : Bool) (a b : FlashMedium) (own own' written : ℕ) (s : LayerState) (holds : IsTrue told → Holds a s)
+    (time : IsTrue told → FlashElapses a b)
     (faults : a.faults + own ≤ b.faults + own') where
   -- calls that only look
   pub look_time : (IsTrue told → b.state ≡ a.state) → (IsTrue told → EachFlashCase (IsStill a.state) a b)
@@ -21,14 +23,16 @@ module _ (told : Bool) (a b : FlashMedium) (own own' written : ℕ) (s : LayerSt
       (λ t. look_agreed a b (same t) (looks t))
 
   -- calls that change no page
-  pub settle_time : (IsTrue told → b.state.pages ≡ a.state.pages) → EachFlashCase (λ c. IsStill a.state c ⊎ IsStill b.state c) a b
+  pub settle_time : (IsTrue told → b.state.pages ≡ a.state.pages)
+      → EachFlashCase (λ c. IsStill a.state c ⊎ IsStill b.state c) a b
       → Elapses (flash_disk_medium told a own written) (flash_disk_medium told b own' written)
   settle_time pages cases = disk_elapses told a b own own' written written time faults (le_refl _)
       (λ t. settle_usable a b (time t) (holds_usable a s (holds t)) (pages t) cases)
       (λ t. settle_agreed a b (pages t) cases)
 
   -- a write
-  pub write_time : (written' file at : ℕ) (bytes : List ℕ) → written ≤ written' → (IsTrue told → WritesInto file at bytes a b)
+  pub write_time : (written' file at : ℕ) (bytes : List ℕ) → written ≤ written'
+      → (IsTrue told → WritesInto file at bytes a b)
       → Elapses (flash_disk_medium told a own written) (flash_disk_medium told b own' written')
   write_time written' file at bytes more writes = disk_elapses told a b own own' written written' time faults more
       (λ t. write_usable a b (time t) (holds_usable a s (holds t)) file at bytes (writes t))

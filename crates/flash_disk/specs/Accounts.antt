@@ -8,9 +8,10 @@ use Rattle.flash_disk.specs.declared.layer.Layer.{Layer}
 abbrev pub faults_of : {F : Type 0} → (F → FlashMedium) → Layer F → ℕ
 faults_of medium layer = (medium layer.flash).faults + layer.own
 
--- A call counts one fault of its own at most, and only where it fails; it uses at most so many numbers; and whether there are rivals it
--- leaves as it is.
-pub record Accounts {F T E : Type 0} (medium : F → FlashMedium) (numbers : ℕ) (old new : Layer F) (result : Result T E) : Type 0 where
+-- A call counts one fault of its own at most, and only where it fails; it uses at most so many numbers; and whether
+-- there are rivals it leaves as it is.
+pub record Accounts {F T E : Type 0} (medium : F → FlashMedium) (numbers : ℕ) (old new : Layer F)
+    (result : Result T E) : Type 0 where
   pub cause : CountsFaults (faults_of medium old) (faults_of medium new) result
   pub kept : OnOk result (new.own ≡ old.own)
   pub one : new.own ≤ old.own + 1

@@ -1,5 +1,6 @@
 -- That a table counts for each block how many of its entries lead there.
-use Rattle.std.specs.Prelude.{◌≡◌, ℕ, zero, suc, ◌+◌, ◌-◌, ◌*◌, ◌<◌, ◌≤◌, ◌==◌, ◌&&◌, nat_lt, Option, Some, is_none, IfSome, length, unwrap_or, option_map, if◌then◌else◌}
+use Rattle.std.specs.Prelude.{◌≡◌, ℕ, zero, suc, ◌+◌, ◌-◌, ◌*◌, ◌<◌, ◌≤◌, ◌==◌, ◌&&◌, nat_lt, Option, Some, is_none}
+use Rattle.std.specs.Prelude.{IfSome, length, unwrap_or, option_map, if◌then◌else◌}
 use Rattle.std.specs.List.{sum_by}
 use Rattle.std.specs.HashMap.{values}
 use Rattle.flash_disk.specs.declared.table.FilePage.{FilePage}
@@ -27,7 +28,8 @@ copied_below table block done = sum_by (lies_below block done) (values table.new
 -- how many pages of a file have no entry among n from one on
 abbrev pub missing : Table → (file from n : ℕ) → ℕ
 missing table file from zero = 0
-missing table file from (suc n) = missing table file from n + (if is_none (known table (record { file = file; page = from + n })) then 1 else 0)
+missing table file from (suc n) = missing table file from n
+    + (if is_none (known table (record { file = file; page = from + n })) then 1 else 0)
 
 -- an entry leads into one of these blocks, and its twin lies in one
 pub record IsInside (blocks : ℕ) (entry : Newest) : Type 0 where

@@ -28,7 +28,8 @@ pub still_is : (s : FlashState) → IsStill s (still_case s)
 still_is s = record { before = refl; whole = refl; left = refl; settled = refl; announced = refl }
 
 -- and all such cases are one case of the disk
-pub same_case : (s : FlashState) (blocks blocks' : ℕ) (f : FlashCase) → blocks' ≡ blocks → IsStill s f → disk_case blocks' f ≡ disk_case blocks (still_case s)
+pub same_case : (s : FlashState) (blocks blocks' : ℕ) (f : FlashCase) → blocks' ≡ blocks → IsStill s f
+    → disk_case blocks' f ≡ disk_case blocks (still_case s)
 same_case s blocks blocks' f same is = λ i. record {
   base = flash_files (is.settled i) (same i);
   full = put_announced (flash_files (is.settled i) (same i)) (is.announced i);
@@ -41,7 +42,8 @@ module _ (told : Bool) (m : FlashMedium) (own written : ℕ) where
 
   -- a crash since now leaves what there is
   left_now : IsLawfulFlash told m → IsTrue told → (c : FlashCase) → m.since disk.moment c → c.left ≡ m.state.pages
-  left_now lawful tells c past = (lawful.only_now c (subst (λ k. m.since k c) (told_moment told m.moment tells) past)).left
+  left_now lawful tells c past = (lawful.only_now c (subst (λ k. m.since k c) (told_moment told m.moment tells)
+      past)).left
 
   -- the disk meets the laws where its flash does
   pub disk_is_lawful : IsLawfulFlash told m → IsLawful told disk
@@ -50,7 +52,8 @@ module _ (told : Bool) (m : FlashMedium) (own written : ℕ) where
       now.0,
       (
         still_case m.state,
-        lawful.counts_now now.0 t (still_case m.state) (subst (λ k. t ≤ k) (told_moment told m.moment now.0) le) (still_is m.state),
+        lawful.counts_now now.0 t (still_case m.state) (subst (λ k. t ≤ k) (told_moment told m.moment now.0) le)
+            (still_is m.state),
         (λ b p generation body verifies. inl verifies, now.1),
       ),
     );
@@ -60,18 +63,36 @@ module _ (told : Bool) (m : FlashMedium) (own written : ℕ) where
         (past.0, past.1.2.1 ∙ same_case m.state m.blocks m.blocks f refl (lawful.only_now f since));
     reads_one = λ t. (disk_case m.blocks (still_case m.state), (t, refl), sym (told_files told m t));
     gives = λ t c now left. (t, (m.state, counts m.state t disk.moment (le_refl _) (still_is m.state), now.1));
-    gave_counts = λ t c le past. (past.0, (past.1.0, counts past.1.0 past.0 t le (still past.1.0 past.0 past.1.1), past.1.2));
+    gave_counts = λ t c le past. (
+      past.0,
+      (
+        past.1.0,
+        counts past.1.0 past.0 t le (still past.1.0 past.0 past.1.1),
+        past.1.2,
+      ),
+    );
     gives_only = λ c past.
-        let is = past.1.2 ∙ same_case m.state m.blocks m.blocks (still_case past.1.0) refl (still past.1.0 past.0 past.1.1) in
+        let is = past.1.2 ∙ same_case m.state m.blocks m.blocks (still_case past.1.0) refl
+        (still past.1.0 past.0 past.1.1) in
         ((past.0, is), ap (λ (d : Case). d.left) is ∙ sym (told_files told m past.0));
-    gave_left = λ t c past. (past.0, (still_case past.1.0, past.1.1, ((λ b p generation body verifies. inl verifies), past.1.2)));
+    gave_left = λ t c past. (
+      past.0,
+      (
+        still_case past.1.0,
+        past.1.1,
+        ((λ b p generation body verifies. inl verifies), past.1.2),
+      ),
+    );
   }
     where
-      counts : (s : FlashState) → IsTrue told → (t : ℕ) → t ≤ disk.moment → IsStill m.state (still_case s) → m.since t (still_case s)
-      counts s tells t le is = lawful.counts_now tells t (still_case s) (subst (λ k. t ≤ k) (told_moment told m.moment tells) le) is
+      counts : (s : FlashState) → IsTrue told → (t : ℕ) → t ≤ disk.moment → IsStill m.state (still_case s)
+          → m.since t (still_case s)
+      counts s tells t le is = lawful.counts_now tells t (still_case s)
+          (subst (λ k. t ≤ k) (told_moment told m.moment tells) le) is
 
       still : (s : FlashState) → IsTrue told → m.since disk.moment (still_case s) → IsStill m.state (still_case s)
-      still s tells past = lawful.only_now (still_case s) (subst (λ k. m.since k (still_case s)) (told_moment told m.moment tells) past)
+      still s tells past = lawful.only_now (still_case s)
+          (subst (λ k. m.since k (still_case s)) (told_moment told m.moment tells) past)
 
   -- what can be opened, or has no rivals, is so since now: with what calls keep, at each moment from now on
   pub opens_now : IsLawfulFlash told m → (IsTrue told → IsUsable m.state.pages m.blocks) → disk.opens disk.moment
@@ -80,8 +101,10 @@ module _ (told : Bool) (m : FlashMedium) (own written : ℕ) where
     during = λ c past plain. subst (λ p. IsUsable p m.blocks) (sym (left_now lawful tells c past)) (usable tells);
   }
 
-  pub agrees_now : IsLawfulFlash told m → (IsTrue told → IsAgreed m.state.pages (places m.blocks)) → disk.agrees disk.moment
+  pub agrees_now : IsLawfulFlash told m → (IsTrue told → IsAgreed m.state.pages (places m.blocks))
+      → disk.agrees disk.moment
   agrees_now lawful agreed tells = record {
     now = agreed tells;
-    during = λ c past plain. subst (λ p. IsAgreed p (places m.blocks)) (sym (left_now lawful tells c past)) (agreed tells);
+    during = λ c past plain. subst (λ p. IsAgreed p (places m.blocks)) (sym (left_now lawful tells c past))
+        (agreed tells);
   }

@@ -1,5 +1,5 @@
--- What is said of a disk over a flash: its files are those that the newest records stand for, and what a crash of the flash leaves is
--- what a crash of the disk leaves, where no page passes its hash by chance.
+-- What is said of a disk over a flash: its files are those that the newest records stand for, and what a crash of the
+-- flash leaves is what a crash of the disk leaves, where no page passes its hash by chance.
 use Rattle.std.specs.Prelude.{◌≡◌, ℕ, ◌+◌, Bool, IsTrue, List, [], ◌∷◌, if◌then◌else◌}
 use Rattle.disk_model.specs.Image.{Image, put_image}
 use Rattle.disk_model.specs.Case.{Case}
@@ -28,7 +28,14 @@ disk_case blocks c = record {
 
 -- the case of a crash between two calls
 abbrev pub still_case : FlashState → FlashCase
-still_case s = record { before = s.pages; whole = s.pages; left = s.pages; settled = s.settled; announced = s.announced }
+still_case s = record {
+  before = s.pages;
+  whole = s.pages;
+  left = s.pages;
+  settled = s.settled;
+  announced =
+      s.announced;
+}
 
 -- a case of the flash in which no page passes its hash by chance
 abbrev pub IsCaseOf : ℕ → FlashCase → Case → Type 0
@@ -42,8 +49,8 @@ GaveFiles m t c = (s : FlashState) × m.since t (still_case s) × (c ≡ disk_ca
 abbrev pub files_told : (told : Bool) → FlashMedium → Image
 files_told told m = if told then flash_files m.state.pages m.blocks else (λ f. [])
 
--- A disk over this flash, with this count of its own faults and of the bytes that were written. An untold one has no clock: that a moment
--- counts among those since an earlier one is known of a told flash alone.
+-- A disk over this flash, with this count of its own faults and of the bytes that were written. An untold one has no
+-- clock: that a moment counts among those since an earlier one is known of a told flash alone.
 abbrev pub flash_disk_medium : (told : Bool) → FlashMedium → (own written : ℕ) → Medium
 flash_disk_medium told m own written = record {
   image = files_told told m;
@@ -61,8 +68,8 @@ flash_disk_medium told m own written = record {
 abbrev pub disk_seen : {F : Type 0} → (told : Bool) → (F → FlashMedium) → FlashView F → Medium
 disk_seen told medium v = flash_disk_medium told (medium v.flash) v.own v.written
 
--- A disk that was just opened over this flash: from now on what a stop leaves at any moment can be opened again, and if the flash had no
--- rivals it goes on taking writes.
+-- A disk that was just opened over this flash: from now on what a stop leaves at any moment can be opened again, and if
+-- the flash had no rivals it goes on taking writes.
 pub record Begins (told : Bool) (m : FlashMedium) (disk : Medium) : Type 0 where
   pub opens : disk.opens disk.moment
   pub agrees : (IsTrue told → IsAgreed m.state.pages (places m.blocks)) → disk.agrees disk.moment

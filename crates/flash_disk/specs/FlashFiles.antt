@@ -1,5 +1,7 @@
--- What a flash stands for as files: each has the bytes of its newest records, cut to the greatest length that one of these says.
-use Rattle.std.specs.Prelude.{◌≡◌, ◌⊎◌, ℕ, zero, suc, ◌/◌, ◌%◌, ◌≤◌, ◌==◌, ◌&&◌, Bool, false, max, map, Option, Some, None, slice_index, if◌then◌else◌}
+-- What a flash stands for as files: each has the bytes of its newest records, cut to the greatest length that one of
+-- these says.
+use Rattle.std.specs.Prelude.{◌≡◌, ◌⊎◌, ℕ, zero, suc, ◌/◌, ◌%◌, ◌≤◌, ◌==◌, ◌&&◌, Bool, false, max, map, Option, Some}
+use Rattle.std.specs.Prelude.{None, slice_index, if◌then◌else◌}
 use Rattle.std.specs.List.{range_with_len}
 use Rattle.disk_model.specs.Image.{Image}
 use Rattle.flash_model.specs.Pages.{Pages}
@@ -40,9 +42,11 @@ file_len pages n file = longest_below pages n file n
 
 -- the files of a flash of so many blocks
 unfoldable pub flash_files : Pages → ℕ → Image
-flash_files pages blocks file = map (file_byte pages (places blocks) file) (range_with_len 0 (file_len pages (places blocks) file))
+flash_files pages blocks file = map (file_byte pages (places blocks) file)
+    (range_with_len 0 (file_len pages (places blocks) file))
 
--- what makes a number the length of a file: no newest record of a page of it says more, and one says as much, unless it is empty
+-- what makes a number the length of a file: no newest record of a page of it says more, and one says as much, unless it
+-- is empty
 pub record IsFileLen (pages : Pages) (n file len : ℕ) : Type 0 where
   pub most : (page : ℕ) (x : Placed) → newest pages file page n ≡ Some x → x.says.len ≤ len
   pub one : (len ≡ 0) ⊎ ((page : ℕ) × (x : Placed) × (newest pages file page n ≡ Some x) × (len ≡ x.says.len))

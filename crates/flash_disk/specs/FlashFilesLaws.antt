@@ -1,5 +1,6 @@
 -- How long a file of a flash is, and its bytes one by one.
-use Rattle.std.specs.Prelude.{◌≡◌, ◌⊎◌, ℕ, zero, suc, ◌+◌, ◌<◌, ◌≤◌, ◌&&◌, Bool, true, false, max, cond, length, Option, Some, None, nat_eq}
+use Rattle.std.specs.Prelude.{◌≡◌, ◌⊎◌, ℕ, zero, suc, ◌+◌, ◌<◌, ◌≤◌, ◌&&◌, Bool, true, false, max, cond, length, Option}
+use Rattle.std.specs.Prelude.{Some, None, nat_eq}
 use Rattle.std.proofs.Common.{refl, sym, ap, subst, ◌∙◌, inl, inr, ⊎_elim, arith, true≢false, get_or, eq-eqb}
 use Rattle.std.proofs.lemmas.Bool.{cases_lt, eqb-true}
 use Rattle.std.proofs.lemmas.Option.{same_Some}
@@ -17,13 +18,17 @@ both_parts false b e = absurd (true≢false (sym e))
 
 module _ (pages : Pages) (n file : ℕ) where
   -- the newest record of a page of the file counts in its place
-  counts : (page : ℕ) (x : Placed) → newest pages file page n ≡ Some x → (x.place < n) × (len_at pages n file x.place (record_at pages x.place) ≡ x.says.len)
+  counts : (page : ℕ) (x : Placed) → newest pages file page n ≡ Some x
+      → (x.place < n) × (len_at pages n file x.place (record_at pages x.place) ≡ x.says.len)
   counts page x is =
-      let is_newest : IsNewest pages file page n x = subst (IsNewestOf pages file page n) is (newest_is pages file page n) in
+      let is_newest : IsNewest pages file page n x = subst (IsNewestOf pages file page n) is
+      (newest_is pages file page n) in
       let parts = both_parts (nat_eq x.says.file file) (nat_eq x.says.page page) is_newest.of_page in
       let f : x.says.file ≡ file = eqb-true x.says.file file parts.0 in
       let p : x.says.page ≡ page = eqb-true x.says.page page parts.1 in
-      let own : newest pages x.says.file x.says.page n ≡ Some x = subst (λ q. newest pages q x.says.page n ≡ Some x) (sym f) (subst (λ q. newest pages file q n ≡ Some x) (sym p) is) in (
+      let own : newest pages x.says.file x.says.page n ≡ Some x =
+      subst (λ q. newest pages q x.says.page n ≡ Some x) (sym f)
+      (subst (λ q. newest pages file q n ≡ Some x) (sym p) is) in (
         is_newest.within,
         rw is_newest.there (rw (own, eq-eqb x.says.file file f, eq-eqb x.place x.place refl) refl),
       )
@@ -32,14 +37,16 @@ module _ (pages : Pages) (n file : ℕ) where
   reaches zero j within = absurd (omega arith)
   reaches (suc k) j within = ⊎_elim
       (λ below. let le = reaches k j below in omega arith)
-      (λ past. let e : k ≡ j = omega arith in subst (λ q. len_at pages n file q (record_at pages q) ≤ max (longest_below pages n file k) (len_at pages n file k (record_at pages k))) e (omega arith))
+      (λ past. let e : k ≡ j = omega arith in subst (λ q. len_at pages n file q (record_at pages q)
+      ≤ max (longest_below pages n file k) (len_at pages n file k (record_at pages k))) e (omega arith))
       (cases_lt j k)
 
   -- a newest record of a page of the file says so
   abbrev Says : ℕ → Type 0
   Says len = (len ≡ 0) ⊎ ((page : ℕ) × (x : Placed) × (newest pages file page n ≡ Some x) × (len ≡ x.says.len))
 
-  by_lies : (i : ℕ) (r : PageRecord) → record_at pages i ≡ Some r → r.file ≡ file → (best : Option Placed) → newest pages r.file r.page n ≡ best
+  by_lies : (i : ℕ) (r : PageRecord) → record_at pages i ≡ Some r → r.file ≡ file → (best : Option Placed)
+      → newest pages r.file r.page n ≡ best
       → IsNewestOf pages r.file r.page n best → lies_at i best ≡ true → Says r.len
   by_lies i r here f None is is_newest lies = absurd (true≢false (sym lies))
   by_lies i r here f (Some x) is is_newest lies = inr (
@@ -47,14 +54,17 @@ module _ (pages : Pages) (n file : ℕ) where
     x,
     subst (λ q. newest pages q r.page n ≡ Some x) f is,
     (let e : x.place ≡ i = eqb-true x.place i lies in
-        let same : r ≡ x.says = same_Some r x.says (sym here ∙ (ap (record_at pages) (sym e) ∙ is_newest.there)) in ap (λ q. q.len) same),
+        let same : r ≡ x.says = same_Some r x.says (sym here ∙ (ap (record_at pages) (sym e) ∙ is_newest.there)) in
+        ap (λ q. q.len) same),
   )
 
-  by_test : (i : ℕ) (r : PageRecord) → record_at pages i ≡ Some r → (b : Bool) → (nat_eq r.file file && lies_at i (newest pages r.file r.page n)) ≡ b → Says (cond b r.len 0)
+  by_test : (i : ℕ) (r : PageRecord) → record_at pages i ≡ Some r → (b : Bool)
+      → (nat_eq r.file file && lies_at i (newest pages r.file r.page n)) ≡ b → Says (cond b r.len 0)
   by_test i r here false is = inl refl
   by_test i r here true is =
       let parts = both_parts (nat_eq r.file file) (lies_at i (newest pages r.file r.page n)) is in
-      by_lies i r here (eqb-true r.file file parts.0) (newest pages r.file r.page n) refl (newest_is pages r.file r.page n) parts.1
+      by_lies i r here (eqb-true r.file file parts.0) (newest pages r.file r.page n) refl
+      (newest_is pages r.file r.page n) parts.1
 
   at_place : (i : ℕ) (o : Option PageRecord) → record_at pages i ≡ o → Says (len_at pages n file i o)
   at_place i None here = inl refl
@@ -68,7 +78,8 @@ module _ (pages : Pages) (n file : ℕ) where
 
   says_one : (k : ℕ) → Says (longest_below pages n file k)
   says_one zero = inl refl
-  says_one (suc k) = greater (longest_below pages n file k) (len_at pages n file k (record_at pages k)) (says_one k) (at_place k (record_at pages k) refl)
+  says_one (suc k) = greater (longest_below pages n file k) (len_at pages n file k (record_at pages k)) (says_one k)
+      (at_place k (record_at pages k) refl)
 
   pub file_len_is : IsFileLen pages n file (file_len pages n file)
   unfolding file_len
@@ -89,11 +100,14 @@ module _ (pages : Pages) (n file : ℕ) where
       let le = at_most len (file_len pages n file) is file_len_is in
       let ge = at_most (file_len pages n file) len file_len_is is in omega (arith, le, ge)
 
-pub length-flash_files : (pages : Pages) (blocks file : ℕ) → length (flash_files pages blocks file) ≡ file_len pages (places blocks) file
+pub length-flash_files : (pages : Pages) (blocks file : ℕ)
+    → length (flash_files pages blocks file) ≡ file_len pages (places blocks) file
 unfolding flash_files
-length-flash_files pages blocks file = length-map-range_with_len (file_byte pages (places blocks) file) 0 (file_len pages (places blocks) file)
+length-flash_files pages blocks file = length-map-range_with_len (file_byte pages (places blocks) file) 0
+    (file_len pages (places blocks) file)
 
 pub byte-flash_files : (pages : Pages) (blocks file i : ℕ) → i < file_len pages (places blocks) file
     → get_or (flash_files pages blocks file) i 0 ≡ file_byte pages (places blocks) file i
 unfolding flash_files
-byte-flash_files pages blocks file i within = get_or-map-range_with_len (file_byte pages (places blocks) file) 0 (file_len pages (places blocks) file) i i 0 within (let e : 0 + i ≡ i = omega arith in e)
+byte-flash_files pages blocks file i within = get_or-map-range_with_len (file_byte pages (places blocks) file) 0
+    (file_len pages (places blocks) file) i i 0 within (let e : 0 + i ≡ i = omega arith in e)

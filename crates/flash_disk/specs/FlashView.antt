@@ -17,7 +17,8 @@ pub record FlashView (F : Type 0) : Type 0 where
 
 abbrev pub view_code : {F : Type 0} → Coded F → Coded (FlashView F)
 view_code {F} code =
-    code_by (F × (ℕ × (ℕ × ℕ))) (coded× code (coded× coded_ℕ (coded× coded_ℕ coded_ℕ))) (λ v. (v.flash, (v.sequence, (v.own, v.written))))
+    code_by (F × (ℕ × (ℕ × ℕ))) (coded× code (coded× coded_ℕ (coded× coded_ℕ coded_ℕ)))
+    (λ v. (v.flash, (v.sequence, (v.own, v.written))))
     (λ p. record { flash = p.0; sequence = p.1.0; own = p.1.1.0; written = p.1.1.1 }) (λ _. refl)
 
 -- what is known of the flash fits it, and no more bytes were written than records with these numbers hold

@@ -1,5 +1,6 @@
 -- What a table says of the newest records.
-use Rattle.std.specs.Prelude.{◌≡◌, ◌⊎◌, ℕ, ◌+◌, ◌*◌, ◌<◌, ◌≤◌, ◌&&◌, ◌==◌, Bool, List, Option, Some, None, max, nat_eq, is_some, unwrap_or, slice_index, IsSome, if◌then◌else◌}
+use Rattle.std.specs.Prelude.{◌≡◌, ◌⊎◌, ℕ, ◌+◌, ◌*◌, ◌<◌, ◌≤◌, ◌&&◌, ◌==◌, Bool, List, Option, Some, None, max, nat_eq}
+use Rattle.std.specs.Prelude.{is_some, unwrap_or, slice_index, IsSome, if◌then◌else◌}
 use Rattle.std.specs.HashMap.{HashMap, get, hash_map_len, spare}
 use Rattle.std.specs.Map.{update_all}
 use Rattle.flash_record.specs.PageRecord.{PageRecord}
@@ -68,15 +69,18 @@ PutsAll old new news = (k : FilePage) → known new k ≡ update_all same_page (
 
 -- a file is now at least so long, and all others are as long as they were
 abbrev pub Lengthens : Table → Table → ℕ → ℕ → Type 0
-Lengthens old new file len = (f : ℕ) → len_known new f ≡ (if f == file then max (len_known old f) len else len_known old f)
+Lengthens old new file len = (f : ℕ) → len_known new f
+    ≡ (if f == file then max (len_known old f) len else len_known old f)
 
 abbrev pub SameLens : Table → Table → Type 0
 SameLens old new = (f : ℕ) → len_known new f ≡ len_known old f
 
 -- the greatest length that an entry for a page of the file says; 0 where there is no entry
 pub record IsLongest {S : Type 0} (entries : HashMap FilePage Newest S) (file len : ℕ) : Type 0 where
-  pub most : (key : FilePage) (entry : Newest) → get same_page entries key ≡ Some entry → key.file ≡ file → entry.len ≤ len
-  pub one : (len ≡ 0) ⊎ ((key : FilePage) × (entry : Newest) × (get same_page entries key ≡ Some entry) × (key.file ≡ file) × (len ≡ entry.len))
+  pub most : (key : FilePage) (entry : Newest) → get same_page entries key ≡ Some entry → key.file ≡ file
+      → entry.len ≤ len
+  pub one : (len ≡ 0) ⊎ ((key : FilePage) × (entry : Newest) × (get same_page entries key ≡ Some entry)
+      × (key.file ≡ file) × (len ≡ entry.len))
 
 -- it has nothing of any page, and memory for the lengths of as many files as pages
 pub record IsEmptyTable (table : Table) : Type 0 where

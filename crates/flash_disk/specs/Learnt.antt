@@ -1,5 +1,6 @@
 -- How a table is tied to the records on a flash.
-use Rattle.std.specs.Prelude.{◌≡◌, ◌≢◌, ◌⊎◌, ℕ, ◌+◌, ◌*◌, ◌<◌, ◌≤◌, Bool, true, false, List, Option, Some, None, IsTrue, IsFalse, IsSome, nat_lt, slice_index, if◌then◌else◌}
+use Rattle.std.specs.Prelude.{◌≡◌, ◌≢◌, ◌⊎◌, ℕ, ◌+◌, ◌*◌, ◌<◌, ◌≤◌, Bool, true, false, List, Option, Some, None, IsTrue}
+use Rattle.std.specs.Prelude.{IsFalse, IsSome, nat_lt, slice_index, if◌then◌else◌}
 use Rattle.flash_model.specs.Pages.{Pages}
 use Rattle.flash_disk.specs.declared.table.FilePage.{FilePage}
 use Rattle.flash_disk.specs.declared.table.Place.{Place}
@@ -29,7 +30,8 @@ TwinSays pages n x (Some place) = (place.page < 64) × IsCopyOf pages n x (numbe
 
 -- an entry that is not rivalled: all records of the page that have its greatest number are equal
 abbrev pub Unrivalled : Pages → ℕ → Placed → Type 0
-Unrivalled pages n x = (j : ℕ) (q : PageRecord) → j < n → record_at pages j ≡ Some q → is_of x.says.file x.says.page q ≡ true
+Unrivalled pages n x = (j : ℕ) (q : PageRecord) → j < n → record_at pages j ≡ Some q
+    → is_of x.says.file x.says.page q ≡ true
     → q.sequence ≡ x.says.sequence → q ≡ x.says
 
 -- while the flash is learnt an entry is that of the newest record itself
@@ -63,8 +65,10 @@ LearnsNext pages n old new false = limit_of old < page_count pages n
 abbrev pub SaysTheSame : PageRecord → PageRecord → Type 0
 SaysTheSame a b = (a.len ≡ b.len) × (a.bytes ≡ b.bytes)
 
--- where the twin lies after a record with the newest one's number was found in this place: there, if it is equal and in another block
-pub record TwinAt (first : Option PageRecord) (r : PageRecord) (old : Newest) (place : Place) (twin : Option Place) : Type 0 where
+-- where the twin lies after a record with the newest one's number was found in this place: there, if it is equal and in
+-- another block
+pub record TwinAt (first : Option PageRecord) (r : PageRecord) (old : Newest) (place : Place)
+    (twin : Option Place) : Type 0 where
   pub same_block : place.block ≡ old.place.block → twin ≡ old.twin
   pub equal : (q : PageRecord) → first ≡ Some q → place.block ≢ old.place.block → SaysTheSame q r → twin ≡ Some place
   pub other : (q : PageRecord) → first ≡ Some q → (SaysTheSame q r → ⊥) → twin ≡ old.twin
@@ -90,7 +94,8 @@ LedOf pages n None (Some x) = ⊥
 LedOf pages n (Some entry) None = ⊥
 LedOf pages n (Some entry) (Some x) = Led pages n entry x
 
--- an entry while its block is left: it is still that of the newest record itself, or leads to an equal one outside of the block
+-- an entry while its block is left: it is still that of the newest record itself, or leads to an equal one outside of
+-- the block
 pub record Leaves (pages : Pages) (n block : ℕ) (entry : Newest) (x : Placed) : Type 0 where
   pub led : Led pages n entry x
   pub twin : TwinSays pages n x entry.twin
@@ -105,16 +110,19 @@ LeavesOf pages n block None (Some x) = ⊥
 LeavesOf pages n block (Some entry) None = ⊥
 LeavesOf pages n block (Some entry) (Some x) = Leaves pages n block entry x
 
--- a table that leads to the newest records while a block is left, to the first few pages of which no entry leads any more
+-- a table that leads to the newest records while a block is left, to the first few pages of which no entry leads any
+-- more
 pub record IsLeaving (pages : Pages) (n block done : ℕ) (table : Table) : Type 0 where
   pub says : (key : FilePage) → LeavesOf pages n block (known table key) (newest pages key.file key.page n)
-  pub out : (key : FilePage) (entry : Newest) → known table key ≡ Some entry → entry.place.block ≡ block → done ≤ entry.place.page
+  pub out : (key : FilePage) (entry : Newest) → known table key ≡ Some entry → entry.place.block ≡ block
+      → done ≤ entry.place.page
   pub room : HasRoom table
   pub fits : page_len table ≤ limit_of table
 
 -- pages more of a spare block are left
 abbrev pub LeavesBlock : Pages → (n block done next : ℕ) → Table → Table → Type 0
-LeavesBlock pages n block done next old new = IsSpare pages n block → IsLeaving pages n block done old → IsLeaving pages n block next new
+LeavesBlock pages n block done next old new = IsSpare pages n block → IsLeaving pages n block done old
+    → IsLeaving pages n block next new
 
 -- the table leads from each page of a file to its newest record, or an equal one
 pub record IsLed (pages : Pages) (n : ℕ) (table : Table) : Type 0 where
@@ -130,7 +138,8 @@ pub record Knows (pages : Pages) (n : ℕ) (table : Table) : Type 0 where
 -- the bytes of a page of a file, with zeros past the end of the file
 abbrev pub IsContent : Pages → ℕ → FilePage → List ℕ → Type 0
 IsContent pages n key bytes = (j : ℕ) → j < 256
-    → slice_index bytes j ≡ (if nat_lt (256 * key.page + j) (file_len pages n key.file) then file_byte pages n key.file (256 * key.page + j) else 0)
+    → slice_index bytes j ≡ (if nat_lt (256 * key.page + j) (file_len pages n key.file) then file_byte pages n key.file
+    (256 * key.page + j) else 0)
 
 -- a record came to lie where none was, newer than all others
 pub record Adds (old new : Pages) (n : ℕ) (place : Place) (r : PageRecord) : Type 0 where

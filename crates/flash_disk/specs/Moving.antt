@@ -36,4 +36,5 @@ pub record IsMoving (pages : Pages) (blocks : ℕ) (s : LayerState) (from to don
   pub count : length s.moved.items ≤ done
   pub blank : (p : ℕ) → length s.moved.items ≤ p → p < 64 → pages to p ≡ blank_page
   pub moved : All (IsMoved pages s.table from to (length s.moved.items)) s.moved.items
-  pub all : (key : FilePage) (entry : Newest) → known s.table key ≡ Some entry → entry.place.block ≡ from → entry.place.page < done → HasKey key s.moved.items
+  pub all : (key : FilePage) (entry : Newest) → known s.table key ≡ Some entry → entry.place.block ≡ from
+      → entry.place.page < done → HasKey key s.moved.items

@@ -1,5 +1,6 @@
 -- Which records of a flash count: the newest of each page of a file. Places are numbered through, 64 for each block.
-use Rattle.std.specs.Prelude.{◌≡◌, ◌≢◌, ◌⊎◌, ℕ, zero, suc, ◌+◌, ◌-◌, ◌*◌, ◌/◌, ◌%◌, ◌<◌, ◌≤◌, ◌==◌, ◌&&◌, Bool, true, false, Option, Some, None, is_none, nat_lt, if◌then◌else◌}
+use Rattle.std.specs.Prelude.{◌≡◌, ◌≢◌, ◌⊎◌, ℕ, zero, suc, ◌+◌, ◌-◌, ◌*◌, ◌/◌, ◌%◌, ◌<◌, ◌≤◌, ◌==◌, ◌&&◌, Bool, true}
+use Rattle.std.specs.Prelude.{false, Option, Some, None, is_none, nat_lt, if◌then◌else◌}
 use Rattle.flash_model.specs.Pages.{Pages}
 use Rattle.flash_record.specs.PageRecord.{PageRecord, record_in}
 
@@ -74,13 +75,16 @@ pub record IsUsable (pages : Pages) (blocks : ℕ) : Type 0 where
   pub within : block < blocks
   pub spare : IsSpare pages (places blocks) block
 
--- what makes a record the newest of its page in the first n places: no record of the page has a greater number, and those before it a lesser one
+-- what makes a record the newest of its page in the first n places: no record of the page has a greater number, and
+-- those before it a lesser one
 pub record IsNewest (pages : Pages) (file page n : ℕ) (x : Placed) : Type 0 where
   pub of_page : is_of file page x.says ≡ true
   pub within : x.place < n
   pub there : record_at pages x.place ≡ Some x.says
-  pub most : (j : ℕ) (r : PageRecord) → j < n → record_at pages j ≡ Some r → is_of file page r ≡ true → r.sequence ≤ x.says.sequence
-  pub first : (j : ℕ) (r : PageRecord) → j < x.place → record_at pages j ≡ Some r → is_of file page r ≡ true → r.sequence < x.says.sequence
+  pub most : (j : ℕ) (r : PageRecord) → j < n → record_at pages j ≡ Some r → is_of file page r ≡ true
+      → r.sequence ≤ x.says.sequence
+  pub first : (j : ℕ) (r : PageRecord) → j < x.place → record_at pages j ≡ Some r → is_of file page r ≡ true
+      → r.sequence < x.says.sequence
 
 -- no record of a page is in the first n places
 abbrev pub HasNone : Pages → (file page n : ℕ) → Type 0

@@ -35,7 +35,8 @@ module _ (pages : Pages) (file page n : ℕ) where
   }
 
   taken : (r : PageRecord) → record_at pages n ≡ Some r → is_of file page r ≡ true
-      → ((j : ℕ) (q : PageRecord) → j < n → record_at pages j ≡ Some q → is_of file page q ≡ true → q.sequence < r.sequence)
+      → ((j : ℕ) (q : PageRecord) → j < n → record_at pages j ≡ Some q → is_of file page q ≡ true
+      → q.sequence < r.sequence)
       → IsNewest pages file page (suc n) (placed r)
   taken r here of_page less = record {
     of_page = of_page;
@@ -49,7 +50,8 @@ module _ (pages : Pages) (file page n : ℕ) where
     first = less;
   }
 
-  stays : (r : PageRecord) → record_at pages n ≡ Some r → (x : Placed) → IsNewest pages file page n x → r.sequence ≤ x.says.sequence
+  stays : (r : PageRecord) → record_at pages n ≡ Some r → (x : Placed) → IsNewest pages file page n x
+      → r.sequence ≤ x.says.sequence
       → IsNewest pages file page (suc n) x
   stays r here x is_newest less = record {
     of_page = is_newest.of_page;
@@ -63,18 +65,23 @@ module _ (pages : Pages) (file page n : ℕ) where
     first = is_newest.first;
   }
 
-  by_number : (r : PageRecord) → record_at pages n ≡ Some r → is_of file page r ≡ true → (x : Placed) → IsNewest pages file page n x
-      → (b : Bool) → nat_lt x.says.sequence r.sequence ≡ b → IsNewestOf pages file page (suc n) (cond b (Some (placed r)) (Some x))
+  by_number : (r : PageRecord) → record_at pages n ≡ Some r → is_of file page r ≡ true → (x : Placed)
+      → IsNewest pages file page n x
+      → (b : Bool) → nat_lt x.says.sequence r.sequence ≡ b
+      → IsNewestOf pages file page (suc n) (cond b (Some (placed r)) (Some x))
   by_number r here of_page x is_newest true less = taken r here of_page
-      (λ j q within is of_q. (let most = is_newest.most j q within is of_q in let lt = ltb-true x.says.sequence r.sequence less in omega arith))
+      (λ j q within is of_q. (let most = is_newest.most j q within is of_q in let lt =
+      ltb-true x.says.sequence r.sequence less in omega arith))
   by_number r here of_page x is_newest false more = stays r here x is_newest (ltb-false x.says.sequence r.sequence more)
 
   by_page : (r : PageRecord) → record_at pages n ≡ Some r → (best : Option Placed) → IsNewestOf pages file page n best
       → (b : Bool) → is_of file page r ≡ b → IsNewestOf pages file page (suc n) (cond b (newer best (placed r)) best)
   by_page r here best is_newest false other = kept
-      (λ q is of_q. true≢false (sym of_q ∙ (ap (is_of file page) (same_Some q r (sym is ∙ here)) ∙ other))) best is_newest
+      (λ q is of_q. true≢false (sym of_q ∙ (ap (is_of file page) (same_Some q r (sym is ∙ here)) ∙ other))) best
+      is_newest
   by_page r here None none true of_page = taken r here of_page (λ j q within is of_q. absurd (none j q within is of_q))
-  by_page r here (Some x) is_newest true of_page = by_number r here of_page x is_newest (nat_lt x.says.sequence r.sequence) refl
+  by_page r here (Some x) is_newest true of_page = by_number r here of_page x is_newest
+      (nat_lt x.says.sequence r.sequence) refl
 
   step : (o : Option PageRecord) → record_at pages n ≡ o → (best : Option Placed) → IsNewestOf pages file page n best
       → IsNewestOf pages file page (suc n) (with_record file page n o best)
@@ -83,4 +90,5 @@ module _ (pages : Pages) (file page n : ℕ) where
 
 pub newest_is : (pages : Pages) (file page n : ℕ) → IsNewestOf pages file page n (newest pages file page n)
 newest_is pages file page zero = λ j r within is of_page. omega arith
-newest_is pages file page (suc n) = step pages file page n (record_at pages n) refl (newest pages file page n) (newest_is pages file page n)
+newest_is pages file page (suc n) = step pages file page n (record_at pages n) refl (newest pages file page n)
+    (newest_is pages file page n)

@@ -10,7 +10,8 @@ use Rattle.flash_disk.specs.Standing.{IsAgreed, HasRivals}
 -- how many of k pages of a file from one on have no record in the first n places
 abbrev pub lacking : Pages → (n file from k : ℕ) → ℕ
 lacking pages n file from zero = 0
-lacking pages n file from (suc k) = lacking pages n file from k + (if is_none (newest pages file (from + k) n) then 1 else 0)
+lacking pages n file from (suc k) = lacking pages n file from k
+    + (if is_none (newest pages file (from + k) n) then 1 else 0)
 
 -- a write of n bytes would end past the end of the greatest file
 abbrev pub EndsTooLate : (at n : ℕ) → Type 0
@@ -30,7 +31,8 @@ pub record IsAllowed (m : FlashMedium) (file at n : ℕ) : Type 0 where
 
 -- it adds no more pages than it lacks
 abbrev pub TakesPages : FlashMedium → FlashMedium → (file at n : ℕ) → Type 0
-TakesPages old new file at n = page_count new.state.pages (places new.blocks) ≤ page_count old.state.pages (places old.blocks)
+TakesPages old new file at n = page_count new.state.pages (places new.blocks)
+    ≤ page_count old.state.pages (places old.blocks)
     + lacking old.state.pages (places old.blocks) file (at / 256) (div_ceil (at + n) 256 - at / 256)
 
 -- no record can be added: the greatest number was used, or two records of a page that have its greatest number differ

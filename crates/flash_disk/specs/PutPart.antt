@@ -1,5 +1,7 @@
--- What a write makes of the files of a disk part by part: a range has these bytes, the file is so long, and what lies between is zeros.
-use Rattle.std.specs.Prelude.{◌≡◌, ◌≢◌, ◌⊎◌, ℕ, ◌+◌, ◌-◌, ◌<◌, ◌≤◌, ◌&&◌, Bool, List, length, slice_index, nat_le, nat_lt, if◌then◌else◌}
+-- What a write makes of the files of a disk part by part: a range has these bytes, the file is so long, and what lies
+-- between is zeros.
+use Rattle.std.specs.Prelude.{◌≡◌, ◌≢◌, ◌⊎◌, ℕ, ◌+◌, ◌-◌, ◌<◌, ◌≤◌, ◌&&◌, Bool, List, length, slice_index, nat_le}
+use Rattle.std.specs.Prelude.{nat_lt, if◌then◌else◌}
 use Rattle.disk_model.specs.Image.{Image}
 
 -- whether byte i lies in a range of n bytes
@@ -10,7 +12,8 @@ pub record PutPart (file at : ℕ) (bytes : List ℕ) (len : ℕ) (old new : Ima
   pub others : (f : ℕ) → f ≢ file → new f ≡ old f
   pub long : length (new file) ≡ len
   pub no_shorter : length (old file) ≤ len
-  pub bytes_are : (i : ℕ) → i < len → slice_index (new file) i ≡ (if in_range at (length bytes) i then slice_index bytes (i - at) else slice_index (old file) i)
+  pub bytes_are : (i : ℕ) → i < len → slice_index (new file) i
+      ≡ (if in_range at (length bytes) i then slice_index bytes (i - at) else slice_index (old file) i)
 
 -- the write of a part was done, or nothing was
 abbrev pub PutOrNot : (file at : ℕ) → List ℕ → (len : ℕ) → Image → Image → Type 0

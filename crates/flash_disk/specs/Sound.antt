@@ -1,5 +1,6 @@
 -- What a disk over flash keeps in memory, and how it fits what the pages hold.
-use Rattle.std.specs.Prelude.{◌≡◌, ◌≢◌, ◌⊎◌, ℕ, ◌/◌, ◌%◌, ◌+◌, ◌*◌, ◌<◌, ◌≤◌, ◌==◌, ◌&&◌, List, Option, Some, None, IsTrue, IsFalse, length, vec_capacity, slice_index, if◌then◌else◌}
+use Rattle.std.specs.Prelude.{◌≡◌, ◌≢◌, ◌⊎◌, ℕ, ◌/◌, ◌%◌, ◌+◌, ◌*◌, ◌<◌, ◌≤◌, ◌==◌, ◌&&◌, List, Option, Some, None}
+use Rattle.std.specs.Prelude.{IsTrue, IsFalse, length, vec_capacity, slice_index, if◌then◌else◌}
 use Rattle.std.specs.HashMap.{spare}
 use Rattle.disk_model.specs.Image.{Image}
 use Rattle.flash_model.specs.Pages.{Pages, blank_page, TornPage}
@@ -109,19 +110,24 @@ pub record LeavesPut (file at : ℕ) (bytes : List ℕ) (len : ℕ) (old : Flash
 
 -- no byte of a file shows between its end and this byte
 abbrev pub ShowsZeros : FlashMedium → (file until : ℕ) → Type 0
-ShowsZeros m file until = (i : ℕ) → file_len m.state.pages (places m.blocks) file ≤ i → i < until → file_byte m.state.pages (places m.blocks) file i ≡ 0
+ShowsZeros m file until = (i : ℕ) → file_len m.state.pages (places m.blocks) file ≤ i → i < until
+    → file_byte m.state.pages (places m.blocks) file i ≡ 0
 
 -- no byte of any file changed, nor any past the end of it
 abbrev pub ShowsSame : FlashMedium → FlashMedium → Type 0
-ShowsSame old new = (f i : ℕ) → file_byte new.state.pages (places new.blocks) f i ≡ file_byte old.state.pages (places old.blocks) f i
+ShowsSame old new = (f i : ℕ) → file_byte new.state.pages (places new.blocks) f i
+    ≡ file_byte old.state.pages (places old.blocks) f i
 
 -- a page of a file has these bytes, those past the end of the file too, and all other bytes are what they were
 abbrev pub ShowsPage : FlashMedium → FlashMedium → (file page : ℕ) → List ℕ → Type 0
 ShowsPage old new file page bytes = (f i : ℕ) → file_byte new.state.pages (places new.blocks) f i
-    ≡ (if (f == file && i / 256 == page) then slice_index bytes (i % 256) else file_byte old.state.pages (places old.blocks) f i)
+    ≡ (if (f == file && i / 256 == page) then slice_index bytes (i % 256) else file_byte old.state.pages
+    (places old.blocks) f i)
 
 -- past the end of a file the bytes of one of its pages are zeros, and all other bytes are what they were
 pub record WipesPage (old new : FlashMedium) (file page : ℕ) : Type 0 where
   pub len : (f : ℕ) → file_len new.state.pages (places new.blocks) f ≡ file_len old.state.pages (places old.blocks) f
-  pub wiped : (i : ℕ) → i / 256 ≡ page → file_len old.state.pages (places old.blocks) file ≤ i → file_byte new.state.pages (places new.blocks) file i ≡ 0
-  pub kept : (f i : ℕ) → (f ≢ file) ⊎ (i / 256 ≢ page) → file_byte new.state.pages (places new.blocks) f i ≡ file_byte old.state.pages (places old.blocks) f i
+  pub wiped : (i : ℕ) → i / 256 ≡ page → file_len old.state.pages (places old.blocks) file ≤ i
+      → file_byte new.state.pages (places new.blocks) file i ≡ 0
+  pub kept : (f i : ℕ) → (f ≢ file) ⊎ (i / 256 ≢ page) → file_byte new.state.pages (places new.blocks) f i
+      ≡ file_byte old.state.pages (places old.blocks) f i

@@ -14,7 +14,8 @@ said (Some x) = Some x.says
 -- all records of a page that have its greatest number are equal, so that it does not matter which of them counts
 abbrev pub IsAgreed : Pages → ℕ → Type 0
 IsAgreed pages n = (file page : ℕ) (x : Placed) → newest pages file page n ≡ Some x
-    → (j : ℕ) (q : PageRecord) → j < n → record_at pages j ≡ Some q → is_of file page q ≡ true → q.sequence ≡ x.says.sequence → q ≡ x.says
+    → (j : ℕ) (q : PageRecord) → j < n → record_at pages j ≡ Some q → is_of file page q ≡ true
+    → q.sequence ≡ x.says.sequence → q ≡ x.says
 
 -- another record of the page has the number of this one and says something else
 pub record IsRivalled (pages : Pages) (n : ℕ) (x : Placed) : Type 0 where
@@ -32,8 +33,10 @@ HasRivals pages n = (file page : ℕ) × (x : Placed) × (newest pages file page
 
 -- no record came that was not there, and of each newest record one is left
 pub record Keeps (old new : Pages) (n : ℕ) : Type 0 where
-  pub only : (j : ℕ) (q : PageRecord) → j < n → record_at new j ≡ Some q → (k : ℕ) × (k < n) × (record_at old k ≡ Some q)
-  pub stays : (file page : ℕ) (x : Placed) → newest old file page n ≡ Some x → (k : ℕ) × (k < n) × (record_at new k ≡ Some x.says)
+  pub only : (j : ℕ) (q : PageRecord) → j < n → record_at new j ≡ Some q
+      → (k : ℕ) × (k < n) × (record_at old k ≡ Some q)
+  pub stays : (file page : ℕ) (x : Placed) → newest old file page n ≡ Some x
+      → (k : ℕ) × (k < n) × (record_at new k ≡ Some x.says)
 
 -- no rivals came: the records agree if those of the flash did
 abbrev pub StaysAgreed : FlashMedium → Pages → Type 0
@@ -51,4 +54,5 @@ IsStrayless pages n from = (file i : ℕ) → file_len pages n file ≤ i → fr
 
 -- a file may grow to this length by a record of this page of it: no other byte past its end shows
 abbrev pub MayGrow : Pages → (n file page len : ℕ) → Type 0
-MayGrow pages n file page len = (i : ℕ) → file_len pages n file ≤ i → i < len → i / 256 ≢ page → file_byte pages n file i ≡ 0
+MayGrow pages n file page len = (i : ℕ) → file_len pages n file ≤ i → i < len → i / 256 ≢ page
+    → file_byte pages n file i ≡ 0

@@ -25,6 +25,7 @@ pub record LeavesWrite (file at : ℕ) (bytes : List ℕ) (old : FlashMedium) (c
 
 -- the write was announced, and is done in part or whole; or nothing changed
 pub record WritesInto (file at : ℕ) (bytes : List ℕ) (old new : FlashMedium) : Type 0 where
-  pub now : (new.state ≡ old.state) ⊎ ((new.state.settled ≡ old.state.settled) × (new.state.announced ≡ with_write old.state file at bytes)
+  pub now : (new.state ≡ old.state) ⊎ ((new.state.settled ≡ old.state.settled)
+      × (new.state.announced ≡ with_write old.state file at bytes)
       × LeavesTorn file at (length bytes) old new.state.pages)
   pub during : (c : FlashCase) → new.since old.moment c → IsStill old.state c ⊎ LeavesWrite file at bytes old c

@@ -1,6 +1,7 @@
 //! The calls of a disk.
 
-ghost use Rattle.std.specs.Prelude.{◌≡◌, ◌⊎◌, ◌+◌, ◌-◌, ◌*◌, ◌<◌, ◌≤◌, IsTrue, IfOk, OnOk, OnErr, length, take, drop, min};
+ghost use Rattle.std.specs.Prelude.{◌≡◌, ◌⊎◌, ◌+◌, ◌-◌, ◌*◌, ◌<◌, ◌≤◌, IsTrue, IfOk, OnOk, OnErr, length, take, drop};
+ghost use Rattle.std.specs.Prelude.{min};
 ghost use Rattle.per_base.specs.Causes.{Rose};
 ghost use Rattle.std.specs.Int.{div_ceil};
 ghost use Rattle.disk_model.specs.Image.{put_image, TornImage};
@@ -30,10 +31,13 @@ impl<F: Flash> Disk for FlashDisk<F> {
             × (take n out.new ≡ take n (drop at ((disk_seen F.told F.medium self.old).image file)))) }
         ensures reads { OnlyReads (disk_seen F.told F.medium self.old) (disk_seen F.told F.medium self.new) }
         ensures time { Elapses (disk_seen F.told F.medium self.old) (disk_seen F.told F.medium self.new) }
-        ensures cause { OnErr result (Rose (disk_seen F.told F.medium self.old).faults (disk_seen F.told F.medium self.new).faults) }
-        ensures passes { OnOk result ((disk_seen F.told F.medium self.new).faults ≡ (disk_seen F.told F.medium self.old).faults) }
+        ensures cause { OnErr result (Rose (disk_seen F.told F.medium self.old).faults
+            (disk_seen F.told F.medium self.new).faults) }
+        ensures passes { OnOk result ((disk_seen F.told F.medium self.new).faults
+            ≡ (disk_seen F.told F.medium self.old).faults) }
 
-        // No fault is its own, no number is used, no page changes, no rivals come, and a crash meanwhile leaves what can be opened.
+        // No fault is its own, no number is used, no page changes, no rivals come, and a crash meanwhile leaves what
+        // can be opened.
         ensures own { self.new.own ≡ self.old.own }
         ensures numbers { self.new.sequence ≡ self.old.sequence }
         ensures still { IsTrue F.told → (F.medium self.new.flash).state ≡ (F.medium self.old.flash).state }
@@ -46,39 +50,52 @@ impl<F: Flash> Disk for FlashDisk<F> {
 
     fn write_at(&mut self, file: u32, at: u64, bytes: &[u8]) -> Result<(), DiskFailed>
         ensures image { IsTrue F.told → OnOk result
-            ((disk_seen F.told F.medium self.new).image ≡ put_image (disk_seen F.told F.medium self.old).image file at bytes.now) }
+            ((disk_seen F.told F.medium self.new).image ≡ put_image (disk_seen F.told F.medium self.old).image file at
+            bytes.now) }
         ensures torn { IsTrue F.told → OnErr result
-            (TornImage file at (length bytes.now) (disk_seen F.told F.medium self.old).image (disk_seen F.told F.medium self.new).image) }
-        ensures now { OnOk result (Follows (WriteCase file at bytes.now) (disk_seen F.told F.medium self.old).now (disk_seen F.told F.medium self.new).now) }
+            (TornImage file at (length bytes.now) (disk_seen F.told F.medium self.old).image
+            (disk_seen F.told F.medium self.new).image) }
+        ensures now { OnOk result (Follows (WriteCase file at bytes.now) (disk_seen F.told F.medium self.old).now
+            (disk_seen F.told F.medium self.new).now) }
         ensures during { Follows (WriteOrNot file at bytes.now) (disk_seen F.told F.medium self.old).now
             ((disk_seen F.told F.medium self.new).since (disk_seen F.told F.medium self.old).moment) }
         ensures written { IsTrue F.told → OnOk result
-            ((disk_seen F.told F.medium self.new).written ≡ (disk_seen F.told F.medium self.old).written + length bytes.now) }
-        ensures at_most { (disk_seen F.told F.medium self.new).written ≤ (disk_seen F.told F.medium self.old).written + length bytes.now }
+            ((disk_seen F.told F.medium self.new).written ≡ (disk_seen F.told F.medium self.old).written
+            + length bytes.now) }
+        ensures at_most { (disk_seen F.told F.medium self.new).written
+            ≤ (disk_seen F.told F.medium self.old).written + length bytes.now }
         ensures time { Elapses (disk_seen F.told F.medium self.old) (disk_seen F.told F.medium self.new) }
-        ensures cause { OnErr result (Rose (disk_seen F.told F.medium self.old).faults (disk_seen F.told F.medium self.new).faults) }
-        ensures passes { OnOk result ((disk_seen F.told F.medium self.new).faults ≡ (disk_seen F.told F.medium self.old).faults) }
+        ensures cause { OnErr result (Rose (disk_seen F.told F.medium self.old).faults
+            (disk_seen F.told F.medium self.new).faults) }
+        ensures passes { OnOk result ((disk_seen F.told F.medium self.new).faults
+            ≡ (disk_seen F.told F.medium self.old).faults) }
 
         // When a fault is its own: one at most, and only of a call that fails.
         ensures own { IsTrue F.told → (self.new.own ≡ self.old.own)
-            ⊎ ((0 < length bytes.now) × FailsAlone (F.medium self.old.flash) self.new.sequence file at (length bytes.now)) }
+            ⊎ ((0 < length bytes.now) × FailsAlone (F.medium self.old.flash) self.new.sequence file at
+            (length bytes.now)) }
         ensures kept { OnOk result (self.new.own ≡ self.old.own) }
         ensures one { self.new.own ≤ self.old.own + 1 }
         ensures no_less { self.old.own ≤ self.new.own }
 
         // It succeeds only within the limits and where there are no rivals, and then adds no more pages than it lacks.
-        ensures allowed { IsTrue F.told → OnOk result (0 < length bytes.now → IsAllowed (F.medium self.old.flash) file at (length bytes.now)) }
-        ensures takes { IsTrue F.told → OnOk result (TakesPages (F.medium self.old.flash) (F.medium self.new.flash) file at (length bytes.now)) }
+        ensures allowed { IsTrue F.told → OnOk result (0 < length bytes.now
+            → IsAllowed (F.medium self.old.flash) file at (length bytes.now)) }
+        ensures takes { IsTrue F.told → OnOk result (TakesPages (F.medium self.old.flash) (F.medium self.new.flash) file
+            at (length bytes.now)) }
 
         // One that is too long or too much changes no page, and one of no bytes changes nothing.
-        ensures refused { IsTrue F.told → EndsTooLate at (length bytes.now) ⊎ WantsTooMany (F.medium self.old.flash) file at (length bytes.now)
+        ensures refused { IsTrue F.told → EndsTooLate at (length bytes.now)
+            ⊎ WantsTooMany (F.medium self.old.flash) file at (length bytes.now)
             → (F.medium self.new.flash).state ≡ (F.medium self.old.flash).state }
         ensures nothing { length bytes.now ≡ 0 → self.new ≡ self.old }
 
-        // How many numbers it uses: one for each 256 bytes at least, if it succeeds; at most one for each byte and each page below its end.
+        // How many numbers it uses: one for each 256 bytes at least, if it succeeds; at most one for each byte and each
+        // page below its end.
         ensures rises { OnOk result (length bytes.now + 256 * self.old.sequence ≤ 256 * self.new.sequence) }
         ensures later { self.old.sequence ≤ self.new.sequence }
-        ensures steps { self.new.sequence ≤ self.old.sequence + length bytes.now + div_ceil (at + length bytes.now) 256 }
+        ensures steps { self.new.sequence ≤ self.old.sequence + length bytes.now
+            + div_ceil (at + length bytes.now) 256 }
 
         // At every moment a crash leaves what can be opened, and no rivals come.
         ensures usable { IsTrue F.told → KeepsUsable (F.medium self.old.flash) (F.medium self.new.flash) }
@@ -99,10 +116,13 @@ impl<F: Flash> Disk for FlashDisk<F> {
         ensures size { IsTrue F.told → IfOk result (λ n. n ≡ length ((disk_seen F.told F.medium self.old).image file)) }
         ensures reads { OnlyReads (disk_seen F.told F.medium self.old) (disk_seen F.told F.medium self.new) }
         ensures time { Elapses (disk_seen F.told F.medium self.old) (disk_seen F.told F.medium self.new) }
-        ensures cause { OnErr result (Rose (disk_seen F.told F.medium self.old).faults (disk_seen F.told F.medium self.new).faults) }
-        ensures passes { OnOk result ((disk_seen F.told F.medium self.new).faults ≡ (disk_seen F.told F.medium self.old).faults) }
+        ensures cause { OnErr result (Rose (disk_seen F.told F.medium self.old).faults
+            (disk_seen F.told F.medium self.new).faults) }
+        ensures passes { OnOk result ((disk_seen F.told F.medium self.new).faults
+            ≡ (disk_seen F.told F.medium self.old).faults) }
 
-        // No fault is its own, no number is used, no page changes, no rivals come, and a crash meanwhile leaves what can be opened.
+        // No fault is its own, no number is used, no page changes, no rivals come, and a crash meanwhile leaves what
+        // can be opened.
         ensures own { self.new.own ≡ self.old.own }
         ensures numbers { self.new.sequence ≡ self.old.sequence }
         ensures still { IsTrue F.told → (F.medium self.new.flash).state ≡ (F.medium self.old.flash).state }
@@ -115,13 +135,18 @@ impl<F: Flash> Disk for FlashDisk<F> {
 
     fn sync(&mut self) -> Result<(), DiskFailed>
         ensures quiet { OnOk result (Quiet (disk_seen F.told F.medium self.new)) }
-        ensures failed { OnErr result (OnlyReads (disk_seen F.told F.medium self.old) (disk_seen F.told F.medium self.new)) }
-        ensures writes_nothing { WritesNothing (disk_seen F.told F.medium self.old) (disk_seen F.told F.medium self.new) }
+        ensures failed { OnErr result (OnlyReads (disk_seen F.told F.medium self.old)
+            (disk_seen F.told F.medium self.new)) }
+        ensures writes_nothing { WritesNothing (disk_seen F.told F.medium self.old)
+            (disk_seen F.told F.medium self.new) }
         ensures time { Elapses (disk_seen F.told F.medium self.old) (disk_seen F.told F.medium self.new) }
-        ensures cause { OnErr result (Rose (disk_seen F.told F.medium self.old).faults (disk_seen F.told F.medium self.new).faults) }
-        ensures passes { OnOk result ((disk_seen F.told F.medium self.new).faults ≡ (disk_seen F.told F.medium self.old).faults) }
+        ensures cause { OnErr result (Rose (disk_seen F.told F.medium self.old).faults
+            (disk_seen F.told F.medium self.new).faults) }
+        ensures passes { OnOk result ((disk_seen F.told F.medium self.new).faults
+            ≡ (disk_seen F.told F.medium self.old).faults) }
 
-        // No fault is its own, no number is used, no page changes, no rivals come, and a crash meanwhile leaves what can be opened.
+        // No fault is its own, no number is used, no page changes, no rivals come, and a crash meanwhile leaves what
+        // can be opened.
         ensures own { self.new.own ≡ self.old.own }
         ensures numbers { self.new.sequence ≡ self.old.sequence }
         ensures pages { IsTrue F.told → (F.medium self.new.flash).state.pages ≡ (F.medium self.old.flash).state.pages }

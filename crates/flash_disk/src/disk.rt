@@ -60,7 +60,8 @@ impl<F: Flash> FlashDisk<F> {
         self.layer.flash
     }
 
-    /// How many writes since the opening failed though the flash did not, up to the greatest u64: `FailsAlone` says where. It takes no memory.
+    /// How many writes since the opening failed though the flash did not, up to the greatest u64: `FailsAlone` says
+    /// where. It takes no memory.
     pub fn own_faults(&self) -> u64
         ensures { result ≡ self.now.own }
     {

@@ -1,6 +1,7 @@
 //! Records that are added to the block that is being filled, and blocks that are made free for it.
 
-ghost use Rattle.std.specs.Prelude.{◌≡◌, ◌⊎◌, ◌+◌, ◌*◌, ◌≤◌, ◌<◌, ℕ, IsTrue, IsFalse, IfOk, IfSome, OnOk, OnErr, Some, None, length, vec_len};
+ghost use Rattle.std.specs.Prelude.{◌≡◌, ◌⊎◌, ◌+◌, ◌*◌, ◌≤◌, ◌<◌, ℕ, IsTrue, IsFalse, IfOk, IfSome, OnOk, OnErr, Some};
+ghost use Rattle.std.specs.Prelude.{None, length, vec_len};
 ghost use Rattle.flash_model.specs.State.{IsStill};
 ghost use Rattle.flash_model.specs.FlashMedium.{FlashElapses, EachFlashCase};
 ghost use Rattle.flash_model.specs.Pages.{Pages};
@@ -23,7 +24,8 @@ use flash_model::{BLANK_PAGE, BLOCK_PAGES, Flash, PAGE_BYTES};
 use flash_record::{RECORD_BYTES, Record, read_record, record_page};
 
 impl<F: Flash> Layer<F> {
-    ghost use Rattle.flash_disk.specs.Sound.{files_of, Sound, IsSound, Holds, FitsIn, Enters, LeavesPut, ShowsPage, ShowsSame};
+    ghost use Rattle.flash_disk.specs.Sound.{files_of, Sound, IsSound, Holds, FitsIn, Enters, LeavesPut, ShowsPage};
+    ghost use Rattle.flash_disk.specs.Sound.{ShowsSame};
     ghost use Rattle.flash_disk.specs.Moving.{IsMoving};
     ghost use Rattle.flash_disk.specs.OwnFaults.{StopsAdding};
 
@@ -35,7 +37,8 @@ impl<F: Flash> Layer<F> {
         ensures sure { OnOk result (self.new.state.unsure ≡ None) }
         ensures sequence { self.new.state.sequence ≡ self.old.state.sequence }
         ensures unchanged { IsTrue F.told → (F.medium self.new.flash).state ≡ (F.medium self.old.flash).state }
-        ensures during { EachFlashCase (IsStill (F.medium self.old.flash).state) (F.medium self.old.flash) (F.medium self.new.flash) }
+        ensures during { EachFlashCase (IsStill (F.medium self.old.flash).state) (F.medium self.old.flash)
+            (F.medium self.new.flash) }
         ensures time { IsTrue F.told → FlashElapses (F.medium self.old.flash) (F.medium self.new.flash) }
         ensures own { self.new.own ≡ self.old.own }
         ensures accounts { Accounts F.medium 0 self.old self.new result }
@@ -84,7 +87,8 @@ impl<F: Flash> Layer<F> {
         ensures sure { OnOk result (self.new.state.unsure ≡ None) }
         ensures put { IsTrue F.told → OnOk result (PutPart file (256 * page) bytes.now len
             (files_of (F.medium self.old.flash)) (files_of (F.medium self.new.flash))) }
-        ensures shown { IsTrue F.told → OnOk result (ShowsPage (F.medium self.old.flash) (F.medium self.new.flash) file page bytes.now) }
+        ensures shown { IsTrue F.told → OnOk result (ShowsPage (F.medium self.old.flash) (F.medium self.new.flash) file
+            page bytes.now) }
         ensures failed { IsTrue F.told → OnErr result (Holds (F.medium self.new.flash) self.new.state) }
         ensures does { IsTrue F.told → Does (LeavesPut file (256 * page) bytes.now len (F.medium self.old.flash))
             (F.medium self.old.flash) (F.medium self.new.flash) }
@@ -92,7 +96,8 @@ impl<F: Flash> Layer<F> {
         ensures time { IsTrue F.told → FlashElapses (F.medium self.old.flash) (F.medium self.new.flash) }
         ensures accounts { Accounts F.medium 1 self.old self.new result }
         ensures own { IsTrue F.told → (self.new.own ≡ self.old.own) ⊎ StopsAdding self.new.state }
-        ensures entries { IsTrue F.told → OnOk result (Occupies self.old.state.table self.new.state.table (record { file = file; page = page })) }
+        ensures entries { IsTrue F.told → OnOk result (Occupies self.old.state.table self.new.state.table
+            (record { file = file; page = page })) }
         ensures calm { IsTrue F.told → OnOk result (IsFalse self.old.state.disputed) }
     {
         self.make_room()?;
@@ -110,7 +115,8 @@ impl<F: Flash> Layer<F> {
         ensures sure { OnOk result (self.new.state.unsure ≡ None) }
         ensures put { IsTrue F.told → OnOk result (PutPart file (256 * page) bytes.now len
             (files_of (F.medium self.old.flash)) (files_of (F.medium self.new.flash))) }
-        ensures shown { IsTrue F.told → OnOk result (ShowsPage (F.medium self.old.flash) (F.medium self.new.flash) file page bytes.now) }
+        ensures shown { IsTrue F.told → OnOk result (ShowsPage (F.medium self.old.flash) (F.medium self.new.flash) file
+            page bytes.now) }
         ensures failed { IsTrue F.told → OnErr result (Holds (F.medium self.new.flash) self.new.state) }
         ensures does { IsTrue F.told → Does (LeavesPut file (256 * page) bytes.now len (F.medium self.old.flash))
             (F.medium self.old.flash) (F.medium self.new.flash) }
@@ -118,7 +124,8 @@ impl<F: Flash> Layer<F> {
         ensures time { IsTrue F.told → FlashElapses (F.medium self.old.flash) (F.medium self.new.flash) }
         ensures accounts { Accounts F.medium 1 self.old self.new result }
         ensures own { IsTrue F.told → (self.new.own ≡ self.old.own) ⊎ (self.new.state.sequence ≡ 18446744073709551615) }
-        ensures entries { IsTrue F.told → OnOk result (Occupies self.old.state.table self.new.state.table (record { file = file; page = page })) }
+        ensures entries { IsTrue F.told → OnOk result (Occupies self.old.state.table self.new.state.table
+            (record { file = file; page = page })) }
         ensures calm { IsTrue F.told → OnOk result (IsFalse self.old.state.disputed) }
     {
         let sequence = self.next_sequence()?;
@@ -152,10 +159,12 @@ impl<F: Flash> Layer<F> {
         ensures own { self.new.own ≡ self.old.own }
         ensures unsure { self.new.state.unsure ≡ self.old.state.unsure }
         ensures sequence { self.new.state.sequence ≡ self.old.state.sequence }
-        ensures sound { (old new : Pages) (blocks : ℕ) → Sound old blocks self.old.state → IsFalse self.old.state.disputed
+        ensures sound { (old new : Pages) (blocks : ℕ) → Sound old blocks self.old.state
+            → IsFalse self.old.state.disputed
             → Enters old new blocks self.old.state place (stated found.entry) → Sound new blocks self.new.state }
         ensures disputed { self.new.state.disputed ≡ self.old.state.disputed }
-        ensures entries { (old new : Pages) (blocks : ℕ) → Sound old blocks self.old.state → IsFalse self.old.state.disputed
+        ensures entries { (old new : Pages) (blocks : ℕ) → Sound old blocks self.old.state
+            → IsFalse self.old.state.disputed
             → Enters old new blocks self.old.state place (stated found.entry)
             → Occupies self.old.state.table self.new.state.table (page_of (stated found.entry)) }
     {
@@ -175,7 +184,8 @@ impl<F: Flash> Layer<F> {
         ensures sound { IsTrue F.told → IsSound (F.medium self.new.flash) self.new.state }
         ensures sure { self.new.state.unsure ≡ None }
         ensures room { OnOk result (self.new.state.fill < 64) }
-        ensures fits { IsTrue F.told → (file page len : ℕ) (bytes : _) → FitsIn (F.medium self.old.flash) self.old.state file page len bytes
+        ensures fits { IsTrue F.told → (file page len : ℕ) (bytes : _)
+            → FitsIn (F.medium self.old.flash) self.old.state file page len bytes
             → FitsIn (F.medium self.new.flash) self.new.state file page len bytes }
         ensures does { IsTrue F.told → Does (StandsFor (F.medium self.old.flash))
             (F.medium self.old.flash) (F.medium self.new.flash) }
@@ -196,14 +206,16 @@ impl<F: Flash> Layer<F> {
         Err(self.fault())
     }
 
-    // Moves the newest records of the block where they are fewest into the spare block, which is the current one from then on.
+    // Moves the newest records of the block where they are fewest into the spare block, which is the current one from
+    // then on.
     fn collect(&mut self) -> Result<(), DiskFailed>
         requires sure { self.old.state.unsure ≡ None }
         requires sound { IsTrue F.told → IsSound (F.medium self.old.flash) self.old.state }
         requires full { 64 ≤ self.old.state.fill }
         ensures sound { IsTrue F.told → IsSound (F.medium self.new.flash) self.new.state }
         ensures sure { self.new.state.unsure ≡ None }
-        ensures fits { IsTrue F.told → (file page len : ℕ) (bytes : _) → FitsIn (F.medium self.old.flash) self.old.state file page len bytes
+        ensures fits { IsTrue F.told → (file page len : ℕ) (bytes : _)
+            → FitsIn (F.medium self.old.flash) self.old.state file page len bytes
             → FitsIn (F.medium self.new.flash) self.new.state file page len bytes }
         ensures does { IsTrue F.told → Does (StandsFor (F.medium self.old.flash))
             (F.medium self.old.flash) (F.medium self.new.flash) }
@@ -233,12 +245,15 @@ impl<F: Flash> Layer<F> {
     // Copies the newest records of a block to the front of another; the table still leads to where they were.
     fn copy_needed(&mut self, from: u32, to: u32) -> Result<(), DiskFailed>
         requires none { vec_len self.old.state.moved ≡ 0 }
-        requires moving { IsTrue F.told → IsMoving (F.medium self.old.flash).state.pages (F.medium self.old.flash).blocks self.old.state from to 0 }
+        requires moving { IsTrue F.told → IsMoving (F.medium self.old.flash).state.pages
+            (F.medium self.old.flash).blocks self.old.state from to 0 }
         ensures moving { IsTrue F.told → OnOk result
-            (IsMoving (F.medium self.new.flash).state.pages (F.medium self.new.flash).blocks self.new.state from to 64) }
+            (IsMoving (F.medium self.new.flash).state.pages (F.medium self.new.flash).blocks self.new.state from to
+            64) }
         ensures failed { IsTrue F.told → OnErr result (IsSound (F.medium self.new.flash) self.new.state) }
         ensures state { self.new.state ≡ record self.old.state { moved = self.new.state.moved } }
-        ensures keeps { IsTrue F.told → Keeps (F.medium self.old.flash).state.pages (F.medium self.new.flash).state.pages (places (F.medium self.old.flash).blocks) }
+        ensures keeps { IsTrue F.told → Keeps (F.medium self.old.flash).state.pages
+            (F.medium self.new.flash).state.pages (places (F.medium self.old.flash).blocks) }
         ensures does { IsTrue F.told → Does (StandsFor (F.medium self.old.flash))
             (F.medium self.old.flash) (F.medium self.new.flash) }
         ensures time { IsTrue F.told → FlashElapses (F.medium self.old.flash) (F.medium self.new.flash) }
@@ -257,13 +272,16 @@ impl<F: Flash> Layer<F> {
         requires page { from.page < 64 }
         requires count { vec_len self.old.state.moved ≤ from.page }
         requires moving { IsTrue F.told
-            → IsMoving (F.medium self.old.flash).state.pages (F.medium self.old.flash).blocks self.old.state from.block to from.page }
+            → IsMoving (F.medium self.old.flash).state.pages (F.medium self.old.flash).blocks self.old.state from.block
+            to from.page }
         ensures moving { IsTrue F.told → OnOk result
-            (IsMoving (F.medium self.new.flash).state.pages (F.medium self.new.flash).blocks self.new.state from.block to (from.page + 1)) }
+            (IsMoving (F.medium self.new.flash).state.pages (F.medium self.new.flash).blocks self.new.state from.block
+            to (from.page + 1)) }
         ensures count { vec_len self.new.state.moved ≤ vec_len self.old.state.moved + 1 }
         ensures failed { IsTrue F.told → OnErr result (IsSound (F.medium self.new.flash) self.new.state) }
         ensures state { self.new.state ≡ record self.old.state { moved = self.new.state.moved } }
-        ensures keeps { IsTrue F.told → Keeps (F.medium self.old.flash).state.pages (F.medium self.new.flash).state.pages (places (F.medium self.old.flash).blocks) }
+        ensures keeps { IsTrue F.told → Keeps (F.medium self.old.flash).state.pages
+            (F.medium self.new.flash).state.pages (places (F.medium self.old.flash).blocks) }
         ensures does { IsTrue F.told → Does (StandsFor (F.medium self.old.flash))
             (F.medium self.old.flash) (F.medium self.new.flash) }
         ensures time { IsTrue F.told → FlashElapses (F.medium self.old.flash) (F.medium self.new.flash) }
@@ -299,7 +317,8 @@ impl<F: Flash> Layer<F> {
     // The page of a file that a page of the flash is a record of, and the newest record of it.
     pub(crate) fn newest_in(&self, page: &[u8]) -> Option<(FilePage, Newest)>
         ensures known { IfSome result (λ found. known self.now.state.table found.0 ≡ Some found.1) }
-        ensures found { (r : PageRecord) (newest : Newest) → record_in page.now ≡ Some r → known self.now.state.table (page_of r) ≡ Some newest
+        ensures found { (r : PageRecord) (newest : Newest) → record_in page.now ≡ Some r
+            → known self.now.state.table (page_of r) ≡ Some newest
             → result ≡ Some (page_of r, newest) }
     {
         let record = read_record(page)?;

@@ -6,10 +6,11 @@ ghost use Rattle.flash_disk.specs.Newest.{places, IsUsable};
 ghost use Rattle.flash_disk.specs.Standing.{IsAgreed, HasRivals};
 ghost use Rattle.flash_disk.specs.Fresh.{IsBlankFlash};
 
-/// A fresh flash can be opened and has no rivals. No call makes rivals where the records agree, and where they agree there are none: so on
-/// a flash that only such disks wrote, no write fails for rivals.
+/// A fresh flash can be opened and has no rivals. No call makes rivals where the records agree, and where they agree
+/// there are none: so on a flash that only such disks wrote, no write fails for rivals.
 pub fn fresh_flashes_open()
     ensures usable { (pages : Pages) (blocks : ℕ) → 0 < blocks → IsBlankFlash pages blocks → IsUsable pages blocks }
     ensures agreed { (pages : Pages) (blocks : ℕ) → IsBlankFlash pages blocks → IsAgreed pages (places blocks) }
-    ensures no_rivals { (pages : Pages) (blocks : ℕ) → IsAgreed pages (places blocks) → HasRivals pages (places blocks) → ⊥ }
+    ensures no_rivals { (pages : Pages) (blocks : ℕ) → IsAgreed pages (places blocks) → HasRivals pages (places blocks)
+        → ⊥ }
 {}

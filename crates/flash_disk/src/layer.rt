@@ -3,7 +3,8 @@
 ghost use Rattle.std.specs.Prelude.{◌≡◌, ◌⊎◌, ◌↔◌, ◌≤◌, ◌<◌, ◌+◌, IsTrue, IsFalse, OnOk, OnErr};
 ghost use Rattle.per_base.specs.Causes.{CountsFaults, Rose};
 ghost use Rattle.flash_model.specs.Pages.{blank_page};
-ghost use Rattle.flash_model.specs.State.{IsStill, ProgramCase, EraseCase, FailsToProgram, FailsToErase, programmed, erased};
+ghost use Rattle.flash_model.specs.State.{IsStill, ProgramCase, EraseCase, FailsToProgram, FailsToErase, programmed};
+ghost use Rattle.flash_model.specs.State.{erased};
 ghost use Rattle.flash_model.specs.FlashMedium.{FlashElapses, EachFlashCase};
 ghost use Rattle.flash_disk.specs.Accounts.{Accounts};
 ghost use Rattle.flash_disk.specs.Looks.{Looks};
@@ -37,7 +38,8 @@ pub struct LayerState {
     pub moved: Vec<(FilePage, Newest)>,
     /// Whether two records of a page have its greatest number and differ, so that no block may be erased.
     pub disputed: bool,
-    /// Where the last byte other than zero ended that a newest record had past the end of its file at the opening; 0 where there was none.
+    /// Where the last byte other than zero ended that a newest record had past the end of its file at the opening; 0
+    /// where there was none.
     pub stray_end: u64,
 }
 
@@ -46,8 +48,10 @@ impl<F: Flash> Layer<F> {
     pub(crate) fn fault(&mut self) -> DiskFailed
         ensures flash { self.new.flash ≡ self.old.flash }
         ensures state { self.new.state ≡ self.old.state }
-        ensures later { (F.medium self.old.flash).faults + self.old.own ≤ (F.medium self.new.flash).faults + self.new.own }
-        ensures rose { Rose ((F.medium self.old.flash).faults + self.old.own) ((F.medium self.new.flash).faults + self.new.own) }
+        ensures later { (F.medium self.old.flash).faults + self.old.own
+            ≤ (F.medium self.new.flash).faults + self.new.own }
+        ensures rose { Rose ((F.medium self.old.flash).faults + self.old.own)
+            ((F.medium self.new.flash).faults + self.new.own) }
         ensures one { self.new.own ≤ self.old.own + 1 }
         ensures no_less { self.old.own ≤ self.new.own }
     {
@@ -64,7 +68,8 @@ impl<F: Flash> Layer<F> {
         ensures bytes { IsTrue F.told → OnOk result (place.block < (F.medium self.old.flash).blocks → place.page < 64
             → out.new ≡ (F.medium self.old.flash).state.pages place.block place.page) }
         ensures looks { Looks F.told (F.medium self.old.flash) (F.medium self.new.flash) }
-        ensures during { EachFlashCase (IsStill (F.medium self.old.flash).state) (F.medium self.old.flash) (F.medium self.new.flash) }
+        ensures during { EachFlashCase (IsStill (F.medium self.old.flash).state) (F.medium self.old.flash)
+            (F.medium self.new.flash) }
         ensures flash { CountsFaults (F.medium self.old.flash).faults (F.medium self.new.flash).faults result }
         ensures pages { IsTrue F.told → (F.medium self.new.flash).state.pages ≡ (F.medium self.old.flash).state.pages }
         ensures blocks { (F.medium self.new.flash).blocks ≡ (F.medium self.old.flash).blocks }
@@ -91,11 +96,15 @@ impl<F: Flash> Layer<F> {
         requires within { IsTrue F.told → (place.block < (F.medium self.old.flash).blocks) × (place.page < 64) }
         requires blank { IsTrue F.told → (F.medium self.old.flash).state.pages place.block place.page ≡ blank_page }
         ensures done { IsTrue F.told → OnOk result
-            ((F.medium self.new.flash).state ≡ programmed (F.medium self.old.flash).state place.block place.page bytes.now) }
+            ((F.medium self.new.flash).state ≡ programmed (F.medium self.old.flash).state place.block place.page
+            bytes.now) }
         ensures failed { IsTrue F.told → OnErr result
-            (FailsToProgram place.block place.page bytes.now (F.medium self.old.flash).state (F.medium self.new.flash).state) }
-        ensures during { IsTrue F.told → EachFlashCase (λ c. IsStill (F.medium self.old.flash).state c ⊎ (IsStill (F.medium self.new.flash).state c
-            ⊎ ProgramCase place.block place.page bytes.now (F.medium self.old.flash).state c)) (F.medium self.old.flash) (F.medium self.new.flash) }
+            (FailsToProgram place.block place.page bytes.now (F.medium self.old.flash).state
+            (F.medium self.new.flash).state) }
+        ensures during { IsTrue F.told → EachFlashCase (λ c. IsStill (F.medium self.old.flash).state c
+            ⊎ (IsStill (F.medium self.new.flash).state c
+            ⊎ ProgramCase place.block place.page bytes.now (F.medium self.old.flash).state c)) (F.medium self.old.flash)
+            (F.medium self.new.flash) }
         ensures time { IsTrue F.told → FlashElapses (F.medium self.old.flash) (F.medium self.new.flash) }
         ensures state { self.new.state ≡ self.old.state }
         ensures own { IsTrue F.told → self.new.own ≡ self.old.own }
@@ -113,10 +122,12 @@ impl<F: Flash> Layer<F> {
     // Makes a block blank.
     pub(crate) fn erase_block(&mut self, block: u32) -> Result<(), DiskFailed>
         requires { IsTrue F.told → block < (F.medium self.old.flash).blocks }
-        ensures done { IsTrue F.told → OnOk result ((F.medium self.new.flash).state ≡ erased (F.medium self.old.flash).state block) }
+        ensures done { IsTrue F.told → OnOk result ((F.medium self.new.flash).state
+            ≡ erased (F.medium self.old.flash).state block) }
         ensures failed { IsTrue F.told → OnErr result
             (FailsToErase block (F.medium self.old.flash).state (F.medium self.new.flash).state) }
-        ensures during { IsTrue F.told → EachFlashCase (λ c. IsStill (F.medium self.old.flash).state c ⊎ (IsStill (F.medium self.new.flash).state c
+        ensures during { IsTrue F.told → EachFlashCase (λ c. IsStill (F.medium self.old.flash).state c
+            ⊎ (IsStill (F.medium self.new.flash).state c
             ⊎ EraseCase block (F.medium self.old.flash).state c)) (F.medium self.old.flash) (F.medium self.new.flash) }
         ensures time { IsTrue F.told → FlashElapses (F.medium self.old.flash) (F.medium self.new.flash) }
         ensures state { self.new.state ≡ self.old.state }

@@ -1,27 +1,33 @@
 //! A disk over the erase blocks of raw flash.
 //!
-//! [`FlashDisk`] gives the trait `Disk` over any `Flash`. Each page of 256 bytes of a file lies in a record on the flash; a newer record of
-//! it takes the place of the older one, whose block may be erased once nothing in it is needed. A table in memory leads from a page of a file
-//! to its record, so a read or a write of one page costs a look-up and no walk over the flash. All the memory that it ever needs is taken
-//! at its opening, which reads every page once, and again the blocks up to the first that is spare, and that one once more; of two records
-//! of one page with one number it reads the earlier again.
+//! [`FlashDisk`] gives the trait `Disk` over any `Flash`. Each page of 256 bytes of a file lies in a record on the
+//! flash; a newer record of it takes the place of the older one, whose block may be erased once nothing in it is
+//! needed. A table in memory leads from a page of a file to its record, so a read or a write of one page costs a
+//! look-up and no walk over the flash. All the memory that it ever needs is taken at its opening, which reads every
+//! page once, and again the blocks up to the first that is spare, and that one once more; of two records of one page
+//! with one number it reads the earlier again.
 //!
-//! Some block is spare at all times. When the block that is being filled is full, the spare block is erased, the records that are needed
-//! in the block where they are fewest are copied into it, and that block becomes the spare one. A page that failed as
-//! a record was programmed is read again before the next use; a block that failed as it was erased or filled is erased again.
+//! Some block is spare at all times. When the block that is being filled is full, the spare block is erased, the
+//! records that are needed in the block where they are fewest are copied into it, and that block becomes the spare one.
+//! A page that failed as a record was programmed is read again before the next use; a block that failed as it was
+//! erased or filled is erased again.
 //!
-//! A flash that another program wrote may hold what this one never writes. Of two records of one page with one number the first
-//! place counts; while two that differ both have the greatest number of their page nothing is erased, and a write of some bytes fails. Bytes that a record has past the end of its file are rewritten as zeros before the file grows over them.
+//! A flash that another program wrote may hold what this one never writes. Of two records of one page with one number
+//! the first place counts; while two that differ both have the greatest number of their page nothing is erased, and a
+//! write of some bytes fails. Bytes that a record has past the end of its file are rewritten as zeros before the file
+//! grows over them.
 //!
-//! Where the flash tells its pages, the disk tells its bytes: they are the files that the newest records stand for, and every clause of the
-//! trait is proved, what a crash or a failed call leaves at any moment included, if no page passes its hash by chance.
-//! Limits: files of at most 1,099,511,627,776 bytes, as many pages as all blocks but two hold, and numbers up to 2^64 - 1; wear is not
-//! even. A write that would break one of them fails, and so does one that finds rivals; where the flash did not fail it counts as the disk's
-//! own fault, and no other call does. No call makes rivals where there were none, and at every moment a crash leaves a flash that can be opened again.
-//! A fresh flash can be opened and has no rivals ([`fresh_flashes_open`]).
+//! Where the flash tells its pages, the disk tells its bytes: they are the files that the newest records stand for, and
+//! every clause of the trait is proved, what a crash or a failed call leaves at any moment included, if no page passes
+//! its hash by chance. Limits: files of at most 1,099,511,627,776 bytes, as many pages as all blocks but two hold, and
+//! numbers up to 2^64 - 1; wear is not even. A write that would break one of them fails, and so does one that finds
+//! rivals; where the flash did not fail it counts as the disk's own fault, and no other call does. No call makes rivals
+//! where there were none, and at every moment a crash leaves a flash that can be opened again. A fresh flash can be
+//! opened and has no rivals ([`fresh_flashes_open`]).
 //!
-//! A flash has to be as the trait says: reads are stable, a page that cannot be corrected is answered with some bytes, and no block goes bad.
-//! The memory grows with the blocks, by some 200 bytes for each page that may have a record: 52 MB at 4,096 blocks, the most that open.
+//! A flash has to be as the trait says: reads are stable, a page that cannot be corrected is answered with some bytes,
+//! and no block goes bad. The memory grows with the blocks, by some 200 bytes for each page that may have a record: 52
+//! MB at 4,096 blocks, the most that open.
 #![tactic(auto)]
 
 mod calls;

@@ -1,12 +1,15 @@
 //! Opening a flash as a disk.
 
-ghost use Rattle.std.specs.Prelude.{◌≡◌, ◌⊎◌, ◌↔◌, ◌≤◌, ◌<◌, ◌+◌, ◌*◌, ℕ, IsTrue, IsFalse, IfOk, IfErr, IfSome, MatchResult, OnOk, OnErr, Some, None, length, slice_index, vec_capacity};
+ghost use Rattle.std.specs.Prelude.{◌≡◌, ◌⊎◌, ◌↔◌, ◌≤◌, ◌<◌, ◌+◌, ◌*◌, ℕ, IsTrue, IsFalse, IfOk, IfErr, IfSome};
+ghost use Rattle.std.specs.Prelude.{MatchResult, OnOk, OnErr, Some, None, length, slice_index, vec_capacity};
 ghost use Rattle.flash_record.specs.PageRecord.{record_in};
 ghost use Rattle.flash_record.specs.Stated.{stated};
-ghost use Rattle.flash_disk.specs.Newest.{record_at, places, page_limit, IsSpare, NeedsPlace, FindsSpare, IsUsable, IsUnusable, SaysUsable};
+ghost use Rattle.flash_disk.specs.Newest.{record_at, places, page_limit, IsSpare, NeedsPlace, FindsSpare, IsUsable};
+ghost use Rattle.flash_disk.specs.Newest.{IsUnusable, SaysUsable};
 ghost use Rattle.flash_disk.specs.Known.{known, limit_of, page_len, page_of, IsEmptyTable};
 ghost use Rattle.flash_disk.specs.Counted.{IsCounted};
-ghost use Rattle.flash_disk.specs.Learnt.{number, HasLearnt, LearnsNext, LearnsAll, SaysTheSame, TwinAt, RivalledAt, IsTop, LeavesBlock};
+ghost use Rattle.flash_disk.specs.Learnt.{number, HasLearnt, LearnsNext, LearnsAll, SaysTheSame, TwinAt, RivalledAt};
+ghost use Rattle.flash_disk.specs.Learnt.{IsTop, LeavesBlock};
 ghost use Rattle.flash_model.specs.State.{settle_pages};
 ghost use Rattle.per_base.specs.Causes.{CountsFaults, Rose};
 
@@ -43,19 +46,25 @@ impl<F: Flash> FlashDisk<F> {
         ensures unusable { IsTrue F.told → IfErr result (λ refused. refused.error ≡ FlashOpenError.Unusable
             → IsUnusable (F.medium flash).state.pages (F.medium flash).blocks) }
 
-        // No page changes, nothing counts as a fault of the disk yet, and a crash leaves what the flash held, meanwhile and afterwards.
-        ensures pages { IsTrue F.told → IfOk result (λ disk. (F.medium disk.flash).state.pages ≡ (F.medium flash).state.pages) }
+        // No page changes, nothing counts as a fault of the disk yet, and a crash leaves what the flash held, meanwhile
+        // and afterwards.
+        ensures pages { IsTrue F.told → IfOk result (λ disk. (F.medium disk.flash).state.pages
+            ≡ (F.medium flash).state.pages) }
         ensures blocks { IfOk result (λ disk. (F.medium disk.flash).blocks ≡ (F.medium flash).blocks) }
         ensures own { IfOk result (λ disk. (disk.own ≡ 0) × (disk.written ≡ 0)) }
-        ensures sequence { IsTrue F.told → IfOk result (λ disk. IsTop (F.medium flash).state.pages (places (F.medium flash).blocks) disk.sequence) }
-        ensures settled { IsTrue F.told → IfOk result (λ disk. (F.medium disk.flash).state ≡ settle_pages (F.medium flash).state) }
+        ensures sequence { IsTrue F.told → IfOk result (λ disk.
+            IsTop (F.medium flash).state.pages (places (F.medium flash).blocks) disk.sequence) }
+        ensures settled { IsTrue F.told → IfOk result (λ disk. (F.medium disk.flash).state
+            ≡ settle_pages (F.medium flash).state) }
         ensures quiet { IfOk result (λ disk. Quiet (disk_seen F.told F.medium disk)) }
         ensures begins { IfOk result (λ disk. Begins F.told (F.medium flash) (disk_seen F.told F.medium disk)) }
         ensures opens { MatchResult result (λ disk. Opens F.told (F.medium flash) (F.medium disk.flash))
             (λ refused. Looks F.told (F.medium flash) (F.medium refused.flash)) }
-        ensures returned { IsTrue F.told → IfErr result (λ refused. (F.medium refused.flash).state ≡ (F.medium flash).state) }
+        ensures returned { IsTrue F.told → IfErr result (λ refused. (F.medium refused.flash).state
+            ≡ (F.medium flash).state) }
         ensures returned_blocks { IfErr result (λ refused. (F.medium refused.flash).blocks ≡ (F.medium flash).blocks) }
-        ensures untouched { IfErr result (λ refused. (refused.error ≡ FlashOpenError.WrongSize) ⊎ (refused.error ≡ FlashOpenError.OutOfMemory)
+        ensures untouched { IfErr result (λ refused. (refused.error ≡ FlashOpenError.WrongSize)
+            ⊎ (refused.error ≡ FlashOpenError.OutOfMemory)
             → refused.flash ≡ flash) }
     {
         let blocks = flash.blocks();
@@ -138,7 +147,8 @@ impl<F: Flash> Layer<F> {
         ensures sure { IfOk result (λ usable. IsTrue usable → self.new.state.unsure ≡ None) }
         ensures settled { IsTrue F.told → IfOk result (λ usable. IsTrue usable
             → (F.medium self.new.flash).state ≡ settle_pages (F.medium self.old.flash).state) }
-        ensures unusable { IfOk result (λ usable. IsFalse usable → Looks F.told (F.medium self.old.flash) (F.medium self.new.flash)) }
+        ensures unusable { IfOk result (λ usable. IsFalse usable
+            → Looks F.told (F.medium self.old.flash) (F.medium self.new.flash)) }
         ensures failed { OnErr result (Looks F.told (F.medium self.old.flash) (F.medium self.new.flash)) }
         ensures own { self.new.own ≡ self.old.own }
     {
@@ -171,9 +181,11 @@ impl<F: Flash> Layer<F> {
         ensures limit { limit_of self.new.state.table ≡ limit_of self.old.state.table }
         ensures lens { self.new.state.table.lens ≡ self.old.state.table.lens }
         ensures learns { IsTrue F.told
-            → IfOk result (LearnsAll (F.medium self.old.flash).state.pages (places blocks) (limit_of self.old.state.table) self.new.state.table) }
+            → IfOk result (LearnsAll (F.medium self.old.flash).state.pages (places blocks)
+            (limit_of self.old.state.table) self.new.state.table) }
         ensures tops { IsTrue F.told → IsTop (F.medium self.old.flash).state.pages 0 self.old.state.sequence
-            → IfOk result (λ fits. IsTrue fits → IsTop (F.medium self.old.flash).state.pages (places blocks) self.new.state.sequence) }
+            → IfOk result (λ fits. IsTrue fits → IsTop (F.medium self.old.flash).state.pages (places blocks)
+            self.new.state.sequence) }
         ensures counted { IsCounted (F.medium self.old.flash).blocks self.old.state.table
             → IsCounted (F.medium self.old.flash).blocks self.new.state.table }
     {
@@ -196,10 +208,13 @@ impl<F: Flash> Layer<F> {
         ensures fill { SameFill self.old.state self.new.state }
         ensures limit { limit_of self.new.state.table ≡ limit_of self.old.state.table }
         ensures lens { self.new.state.table.lens ≡ self.old.state.table.lens }
-        ensures learns { IsTrue F.told → HasLearnt (F.medium self.old.flash).state.pages (64 * block) self.old.state.table
-            → IfOk result (LearnsAll (F.medium self.old.flash).state.pages (64 * block + 64) (limit_of self.old.state.table) self.new.state.table) }
+        ensures learns { IsTrue F.told → HasLearnt (F.medium self.old.flash).state.pages (64 * block)
+            self.old.state.table
+            → IfOk result (LearnsAll (F.medium self.old.flash).state.pages (64 * block + 64)
+            (limit_of self.old.state.table) self.new.state.table) }
         ensures tops { IsTrue F.told → IsTop (F.medium self.old.flash).state.pages (64 * block) self.old.state.sequence
-            → IfOk result (λ fits. IsTrue fits → IsTop (F.medium self.old.flash).state.pages (64 * block + 64) self.new.state.sequence) }
+            → IfOk result (λ fits. IsTrue fits → IsTop (F.medium self.old.flash).state.pages (64 * block + 64)
+            self.new.state.sequence) }
         ensures counted { IsCounted (F.medium self.old.flash).blocks self.old.state.table
             → IsCounted (F.medium self.old.flash).blocks self.new.state.table }
     {
@@ -222,7 +237,8 @@ impl<F: Flash> Layer<F> {
         ensures fill { SameFill self.old.state self.new.state }
         ensures sequence { self.new.state.sequence ≡ self.old.state.sequence }
         ensures table { self.new.state.table ≡ self.old.state.table }
-        ensures spare { IsTrue F.told → HasLearnt (F.medium self.old.flash).state.pages (places blocks) self.old.state.table
+        ensures spare { IsTrue F.told → HasLearnt (F.medium self.old.flash).state.pages (places blocks)
+            self.old.state.table
             → IfOk result (FindsSpare (F.medium self.old.flash).state.pages blocks self.new.state.spare) }
     {
         for block in 0..blocks {
@@ -248,7 +264,8 @@ impl<F: Flash> Layer<F> {
         ensures lens { self.new.state.table.lens ≡ self.old.state.table.lens }
         ensures len { page_len self.new.state.table ≡ page_len self.old.state.table }
         ensures left { IsTrue F.told → self.old.state.spare < (F.medium self.old.flash).blocks
-            → OnOk result (LeavesBlock (F.medium self.old.flash).state.pages (places (F.medium self.old.flash).blocks) self.old.state.spare
+            → OnOk result (LeavesBlock (F.medium self.old.flash).state.pages (places (F.medium self.old.flash).blocks)
+            self.old.state.spare
             0 64 self.old.state.table self.new.state.table) }
         ensures counted { IsCounted (F.medium self.old.flash).blocks self.old.state.table
             → IsCounted (F.medium self.old.flash).blocks self.new.state.table }
@@ -274,7 +291,8 @@ impl<F: Flash> Layer<F> {
         ensures lens { self.new.state.table.lens ≡ self.old.state.table.lens }
         ensures len { page_len self.new.state.table ≡ page_len self.old.state.table }
         ensures left { IsTrue F.told → place.block < (F.medium self.old.flash).blocks → place.page < 64
-            → OnOk result (LeavesBlock (F.medium self.old.flash).state.pages (places (F.medium self.old.flash).blocks) place.block
+            → OnOk result (LeavesBlock (F.medium self.old.flash).state.pages (places (F.medium self.old.flash).blocks)
+            place.block
             place.page (place.page + 1) self.old.state.table self.new.state.table) }
         ensures counted { IsCounted (F.medium self.old.flash).blocks self.old.state.table
             → IsCounted (F.medium self.old.flash).blocks self.new.state.table }
@@ -305,7 +323,8 @@ impl<F: Flash> Layer<F> {
         ensures own { self.new.own ≡ self.old.own }
         ensures state { self.new.state ≡ self.old.state }
         ensures spare { IsTrue F.told
-            → HasLearnt (F.medium self.old.flash).state.pages (places (F.medium self.old.flash).blocks) self.old.state.table
+            → HasLearnt (F.medium self.old.flash).state.pages (places (F.medium self.old.flash).blocks)
+            self.old.state.table
             → IfOk result (λ spare. IsTrue spare
             ↔ IsSpare (F.medium self.old.flash).state.pages (places (F.medium self.old.flash).blocks) block) }
     {
@@ -328,9 +347,11 @@ impl<F: Flash> Layer<F> {
         ensures own { self.new.own ≡ self.old.own }
         ensures state { self.new.state ≡ self.old.state }
         ensures needed { IsTrue F.told
-            → HasLearnt (F.medium self.old.flash).state.pages (places (F.medium self.old.flash).blocks) self.old.state.table
+            → HasLearnt (F.medium self.old.flash).state.pages (places (F.medium self.old.flash).blocks)
+            self.old.state.table
             → IfOk result (λ needed. IsTrue needed
-            ↔ NeedsPlace (F.medium self.old.flash).state.pages (places (F.medium self.old.flash).blocks) (number place)) }
+            ↔ NeedsPlace (F.medium self.old.flash).state.pages (places (F.medium self.old.flash).blocks)
+            (number place)) }
     {
         let mut page = BLANK_PAGE;
         self.read_page(place, &mut page)?;
@@ -362,9 +383,12 @@ impl<F: Flash> Layer<F> {
         ensures fill { SameFill self.old.state self.new.state }
         ensures limit { limit_of self.new.state.table ≡ limit_of self.old.state.table }
         ensures lens { self.new.state.table.lens ≡ self.old.state.table.lens }
-        ensures learns { IsTrue F.told → HasLearnt (F.medium self.old.flash).state.pages (number place) self.old.state.table
-            → IfOk result (LearnsNext (F.medium self.old.flash).state.pages (number place + 1) self.old.state.table self.new.state.table) }
-        ensures tops { IsTrue F.told → IsTop (F.medium self.old.flash).state.pages (number place) self.old.state.sequence
+        ensures learns { IsTrue F.told → HasLearnt (F.medium self.old.flash).state.pages (number place)
+            self.old.state.table
+            → IfOk result (LearnsNext (F.medium self.old.flash).state.pages (number place + 1) self.old.state.table
+            self.new.state.table) }
+        ensures tops { IsTrue F.told → IsTop (F.medium self.old.flash).state.pages (number place)
+            self.old.state.sequence
             → OnOk result (IsTop (F.medium self.old.flash).state.pages (number place + 1) self.new.state.sequence) }
         ensures counted { IsCounted (F.medium self.old.flash).blocks self.old.state.table
             → IsCounted (F.medium self.old.flash).blocks self.new.state.table }
@@ -392,9 +416,11 @@ impl<F: Flash> Layer<F> {
         ensures sequence { self.new.state.sequence ≡ self.old.state.sequence }
         ensures limit { limit_of self.new.state.table ≡ limit_of self.old.state.table }
         ensures lens { self.new.state.table.lens ≡ self.old.state.table.lens }
-        ensures learns { IsTrue F.told → HasLearnt (F.medium self.old.flash).state.pages (number place) self.old.state.table
+        ensures learns { IsTrue F.told → HasLearnt (F.medium self.old.flash).state.pages (number place)
+            self.old.state.table
             → record_at (F.medium self.old.flash).state.pages (number place) ≡ Some (stated found.entry)
-            → IfOk result (LearnsNext (F.medium self.old.flash).state.pages (number place + 1) self.old.state.table self.new.state.table) }
+            → IfOk result (LearnsNext (F.medium self.old.flash).state.pages (number place + 1) self.old.state.table
+            self.new.state.table) }
         ensures counted { IsCounted (F.medium self.old.flash).blocks self.old.state.table
             → IsCounted (F.medium self.old.flash).blocks self.new.state.table }
     {
@@ -436,9 +462,11 @@ impl<F: Flash> Layer<F> {
         ensures sequence { self.new.state.sequence ≡ self.old.state.sequence }
         ensures limit { limit_of self.new.state.table ≡ limit_of self.old.state.table }
         ensures lens { self.new.state.table.lens ≡ self.old.state.table.lens }
-        ensures learns { IsTrue F.told → HasLearnt (F.medium self.old.flash).state.pages (number place) self.old.state.table
+        ensures learns { IsTrue F.told → HasLearnt (F.medium self.old.flash).state.pages (number place)
+            self.old.state.table
             → record_at (F.medium self.old.flash).state.pages (number place) ≡ Some (stated found.entry)
-            → IfOk result (LearnsNext (F.medium self.old.flash).state.pages (number place + 1) self.old.state.table self.new.state.table) }
+            → IfOk result (LearnsNext (F.medium self.old.flash).state.pages (number place + 1) self.old.state.table
+            self.new.state.table) }
         ensures counted { IsCounted (F.medium self.old.flash).blocks self.old.state.table
             → IsCounted (F.medium self.old.flash).blocks self.new.state.table }
     {
@@ -461,7 +489,8 @@ pub(crate) fn newest_at(place: Place, found: Record<'_>) -> Newest
     ensures twin { result.twin ≡ None }
     ensures calm { IsFalse result.rivalled }
     ensures page { found.entry.page < 4294967296 }
-    ensures filled { length found.entry.bytes.now ≡ 256 → (j : ℕ) → result.filled ≤ j → slice_index found.entry.bytes.now j ≡ 0 }
+    ensures filled { length found.entry.bytes.now ≡ 256 → (j : ℕ) → result.filled ≤ j
+        → slice_index found.entry.bytes.now j ≡ 0 }
 {
     Newest {
         place,
@@ -507,7 +536,8 @@ fn is_rivalled(page: &[u8], found: Record<'_>, old: Newest) -> bool
 // Whether a page is a record with the length and the bytes of another.
 fn says_the_same(page: &[u8], found: Record<'_>) -> bool
     ensures record { IsTrue result → IfSome (record_in page.now) (λ first. SaysTheSame first (stated found.entry)) }
-    ensures another { IsFalse result → IfSome (record_in page.now) (λ first. SaysTheSame first (stated found.entry) → ⊥) }
+    ensures another { IsFalse result → IfSome (record_in page.now)
+        (λ first. SaysTheSame first (stated found.entry) → ⊥) }
     ensures none { record_in page.now ≡ None → IsFalse result }
 {
     let Some(first) = read_record(page) else {

@@ -1,6 +1,7 @@
 //! Reads and writes of the bytes of files, page by page.
 
-ghost use Rattle.std.specs.Prelude.{◌≡◌, ◌⊎◌, ◌↔◌, ◌+◌, ◌-◌, ◌*◌, ◌/◌, ◌≤◌, ◌<◌, ◌^◌, ℕ, IsTrue, IsFalse, IfOk, OnOk, OnErr, None, length, min, max, take, drop, nat_lt, slice_index, if◌then◌else◌};
+ghost use Rattle.std.specs.Prelude.{◌≡◌, ◌⊎◌, ◌↔◌, ◌+◌, ◌-◌, ◌*◌, ◌/◌, ◌≤◌, ◌<◌, ◌^◌, ℕ, IsTrue, IsFalse, IfOk, OnOk};
+ghost use Rattle.std.specs.Prelude.{OnErr, None, length, min, max, take, drop, nat_lt, slice_index, if◌then◌else◌};
 ghost use Rattle.flash_disk.specs.Accounts.{Accounts};
 ghost use Rattle.flash_disk.specs.Looks.{Looks};
 ghost use Rattle.disk_model.specs.Image.{put_image};
@@ -37,8 +38,10 @@ impl<F: Flash> Layer<F> {
 
     // The bytes of a page of a file, with zeros past the end of the file.
     fn content(&mut self, key: FilePage) -> Result<[u8; RECORD_BYTES], DiskFailed>
-        ensures bytes { IsTrue F.told → Knows (F.medium self.old.flash).state.pages (places (F.medium self.old.flash).blocks) self.old.state.table
-            → IfOk result (IsContent (F.medium self.old.flash).state.pages (places (F.medium self.old.flash).blocks) key) }
+        ensures bytes { IsTrue F.told → Knows (F.medium self.old.flash).state.pages
+            (places (F.medium self.old.flash).blocks) self.old.state.table
+            → IfOk result (IsContent (F.medium self.old.flash).state.pages (places (F.medium self.old.flash).blocks)
+            key) }
         ensures looks { Looks F.told (F.medium self.old.flash) (F.medium self.new.flash) }
         ensures blocks { (F.medium self.new.flash).blocks ≡ (F.medium self.old.flash).blocks }
         ensures state { self.new.state ≡ self.old.state }
@@ -82,7 +85,8 @@ impl<F: Flash> Layer<F> {
         ensures time { IsTrue F.told → FlashElapses (F.medium self.old.flash) (F.medium self.new.flash) }
         ensures accounts { Accounts F.medium 1 self.old self.new result }
         ensures own { IsTrue F.told → (self.new.own ≡ self.old.own) ⊎ StopsAdding self.new.state }
-        ensures entries { IsTrue F.told → OnOk result (Occupies self.old.state.table self.new.state.table (record { file = file; page = page })) }
+        ensures entries { IsTrue F.told → OnOk result (Occupies self.old.state.table self.new.state.table
+            (record { file = file; page = page })) }
         ensures calm { IsTrue F.told → OnOk result (IsFalse self.old.state.disputed) }
     {
         let key = FilePage {
@@ -94,8 +98,8 @@ impl<F: Flash> Layer<F> {
         self.append(file, page, len, &content)
     }
 
-    // Rewrites the records of a file that have bytes past its end and before this byte, without those bytes, so that they do not show
-    // once the file is longer.
+    // Rewrites the records of a file that have bytes past its end and before this byte, without those bytes, so that
+    // they do not show once the file is longer.
     fn wipe_strays(&mut self, file: u32, until: u64) -> Result<(), DiskFailed>
         requires end { until ≤ 1099511627776 }
         requires sure { self.old.state.unsure ≡ None }
@@ -129,7 +133,8 @@ impl<F: Flash> Layer<F> {
         requires sound { IsTrue F.told → IsSound (F.medium self.old.flash) self.old.state }
         ensures sound { IsTrue F.told → OnOk result (IsSound (F.medium self.new.flash) self.new.state) }
         ensures sure { OnOk result (self.new.state.unsure ≡ None) }
-        ensures wiped { IsTrue F.told → OnOk result (WipesPage (F.medium self.old.flash) (F.medium self.new.flash) file page) }
+        ensures wiped { IsTrue F.told → OnOk result (WipesPage (F.medium self.old.flash) (F.medium self.new.flash) file
+            page) }
         ensures failed { IsTrue F.told → OnErr result (Holds (F.medium self.new.flash) self.new.state) }
         ensures does { IsTrue F.told → Does (StandsFor (F.medium self.old.flash))
             (F.medium self.old.flash) (F.medium self.new.flash) }
@@ -176,8 +181,10 @@ impl<F: Flash> Layer<F> {
         requires sure { self.old.state.unsure ≡ None }
         requires sound { IsTrue F.told → IsSound (F.medium self.old.flash) self.old.state }
         requires grows { IsTrue F.told → ShowsZeros (F.medium self.old.flash) file len }
-        requires len { IsTrue F.told → len ≡ max (length (files_of (F.medium self.old.flash) file)) (at + length bytes.now) }
-        requires affords { IsTrue F.told → Affords self.old.state.table file (at / 256) (div_ceil (at + length bytes.now) 256 - at / 256) }
+        requires len { IsTrue F.told → len ≡ max (length (files_of (F.medium self.old.flash) file))
+            (at + length bytes.now) }
+        requires affords { IsTrue F.told → Affords self.old.state.table file (at / 256)
+            (div_ceil (at + length bytes.now) 256 - at / 256) }
         ensures sound { IsTrue F.told → OnOk result (IsSound (F.medium self.new.flash) self.new.state) }
         ensures put { IsTrue F.told → OnOk result (0 < length bytes.now
             → files_of (F.medium self.new.flash) ≡ put_image (files_of (F.medium self.old.flash)) file at bytes.now) }
@@ -191,7 +198,8 @@ impl<F: Flash> Layer<F> {
         ensures own { IsTrue F.told → (self.new.own ≡ self.old.own) ⊎ StopsAdding self.new.state }
         ensures calm { IsTrue F.told → OnOk result (0 < length bytes.now → IsFalse self.old.state.disputed) }
         ensures takes { IsTrue F.told → OnOk result (page_len self.new.state.table
-            ≤ page_len self.old.state.table + missing self.old.state.table file (at / 256) (div_ceil (at + length bytes.now) 256 - at / 256)) }
+            ≤ page_len self.old.state.table + missing self.old.state.table file (at / 256)
+            (div_ceil (at + length bytes.now) 256 - at / 256)) }
     {
         let mut done = 0;
         while done < bytes.len() {
@@ -216,17 +224,23 @@ impl<F: Flash> Layer<F> {
         requires sure { self.old.state.unsure ≡ None }
         requires sound { IsTrue F.told → IsSound (F.medium self.old.flash) self.old.state }
         ensures holds { IsTrue F.told → Holds (F.medium self.new.flash) self.new.state }
-        ensures put { IsTrue F.told → OnOk result (files_of (F.medium self.new.flash) ≡ put_image (files_of (F.medium self.old.flash)) file at bytes.now) }
+        ensures put { IsTrue F.told → OnOk result (files_of (F.medium self.new.flash)
+            ≡ put_image (files_of (F.medium self.old.flash)) file at bytes.now) }
         ensures rises { OnOk result (length bytes.now + 256 * self.old.state.sequence ≤ 256 * self.new.state.sequence) }
-        ensures writes { IsTrue F.told → WritesInto file at bytes.now (F.medium self.old.flash) (F.medium self.new.flash) }
-        ensures announced { IsTrue F.told → OnOk result ((F.medium self.new.flash).state.announced ≡ with_write (F.medium self.old.flash).state file at bytes.now) }
+        ensures writes { IsTrue F.told → WritesInto file at bytes.now (F.medium self.old.flash)
+            (F.medium self.new.flash) }
+        ensures announced { IsTrue F.told → OnOk result ((F.medium self.new.flash).state.announced
+            ≡ with_write (F.medium self.old.flash).state file at bytes.now) }
         ensures time { IsTrue F.told → FlashElapses (F.medium self.old.flash) (F.medium self.new.flash) }
-        ensures accounts { Accounts F.medium (length bytes.now + div_ceil (at + length bytes.now) 256) self.old self.new result }
+        ensures accounts { Accounts F.medium (length bytes.now + div_ceil (at + length bytes.now) 256) self.old self.new
+            result }
         ensures own { IsTrue F.told → (self.new.own ≡ self.old.own) ⊎ (EndsTooLate at (length bytes.now)
             ⊎ (WantsTooMany (F.medium self.old.flash) file at (length bytes.now) ⊎ StopsAdding self.new.state)) }
         ensures allowed { IsTrue F.told → OnOk result (IsAllowed (F.medium self.old.flash) file at (length bytes.now)) }
-        ensures takes { IsTrue F.told → OnOk result (TakesPages (F.medium self.old.flash) (F.medium self.new.flash) file at (length bytes.now)) }
-        ensures refused { IsTrue F.told → EndsTooLate at (length bytes.now) ⊎ WantsTooMany (F.medium self.old.flash) file at (length bytes.now)
+        ensures takes { IsTrue F.told → OnOk result (TakesPages (F.medium self.old.flash) (F.medium self.new.flash) file
+            at (length bytes.now)) }
+        ensures refused { IsTrue F.told → EndsTooLate at (length bytes.now)
+            ⊎ WantsTooMany (F.medium self.old.flash) file at (length bytes.now)
             → (F.medium self.new.flash).state ≡ (F.medium self.old.flash).state }
     {
         let end = match at.checked_add(bytes.len() as u64) {
@@ -249,15 +263,20 @@ impl<F: Flash> Layer<F> {
         requires room { missing self.old.state.table file (at / 256) (div_ceil end 256 - at / 256)
             ≤ limit_of self.old.state.table - page_len self.old.state.table }
         ensures holds { IsTrue F.told → Holds (F.medium self.new.flash) self.new.state }
-        ensures put { IsTrue F.told → OnOk result (files_of (F.medium self.new.flash) ≡ put_image (files_of (F.medium self.old.flash)) file at bytes.now) }
+        ensures put { IsTrue F.told → OnOk result (files_of (F.medium self.new.flash)
+            ≡ put_image (files_of (F.medium self.old.flash)) file at bytes.now) }
         ensures rises { OnOk result (length bytes.now + 256 * self.old.state.sequence ≤ 256 * self.new.state.sequence) }
-        ensures writes { IsTrue F.told → WritesInto file at bytes.now (F.medium self.old.flash) (F.medium self.new.flash) }
-        ensures announced { IsTrue F.told → OnOk result ((F.medium self.new.flash).state.announced ≡ with_write (F.medium self.old.flash).state file at bytes.now) }
+        ensures writes { IsTrue F.told → WritesInto file at bytes.now (F.medium self.old.flash)
+            (F.medium self.new.flash) }
+        ensures announced { IsTrue F.told → OnOk result ((F.medium self.new.flash).state.announced
+            ≡ with_write (F.medium self.old.flash).state file at bytes.now) }
         ensures time { IsTrue F.told → FlashElapses (F.medium self.old.flash) (F.medium self.new.flash) }
-        ensures accounts { Accounts F.medium (length bytes.now + div_ceil (at + length bytes.now) 256) self.old self.new result }
+        ensures accounts { Accounts F.medium (length bytes.now + div_ceil (at + length bytes.now) 256) self.old self.new
+            result }
         ensures own { IsTrue F.told → (self.new.own ≡ self.old.own) ⊎ StopsAdding self.new.state }
         ensures allowed { IsTrue F.told → OnOk result (IsAllowed (F.medium self.old.flash) file at (length bytes.now)) }
-        ensures takes { IsTrue F.told → OnOk result (TakesPages (F.medium self.old.flash) (F.medium self.new.flash) file at (length bytes.now)) }
+        ensures takes { IsTrue F.told → OnOk result (TakesPages (F.medium self.old.flash) (F.medium self.new.flash) file
+            at (length bytes.now)) }
     {
         if self.flash.announce(file, at, bytes).is_err() {
             return Err(DiskFailed);
@@ -275,9 +294,12 @@ impl<F: Flash> Layer<F> {
         out: &mut [u8],
     ) -> Result<usize, DiskFailed>
         ensures count { IfOk result (λ n. n ≤ length out.old) }
-        ensures bytes { IsTrue F.told → Knows (F.medium self.old.flash).state.pages (places (F.medium self.old.flash).blocks) self.old.state.table
-            → IfOk result (λ n. (n ≡ min (length out.old) (length (flash_files (F.medium self.old.flash).state.pages (F.medium self.old.flash).blocks file) - at))
-            × (take n out.new ≡ take n (drop at (flash_files (F.medium self.old.flash).state.pages (F.medium self.old.flash).blocks file)))) }
+        ensures bytes { IsTrue F.told → Knows (F.medium self.old.flash).state.pages
+            (places (F.medium self.old.flash).blocks) self.old.state.table
+            → IfOk result (λ n. (n ≡ min (length out.old) (length
+            (flash_files (F.medium self.old.flash).state.pages (F.medium self.old.flash).blocks file) - at))
+            × (take n out.new ≡ take n (drop at (flash_files (F.medium self.old.flash).state.pages
+            (F.medium self.old.flash).blocks file)))) }
         ensures looks { Looks F.told (F.medium self.old.flash) (F.medium self.new.flash) }
         ensures blocks { (F.medium self.new.flash).blocks ≡ (F.medium self.old.flash).blocks }
         ensures state { self.new.state ≡ self.old.state }
@@ -293,8 +315,10 @@ impl<F: Flash> Layer<F> {
     fn bytes_from(&self, file: u32, at: u64, most: usize) -> usize
         ensures few { result ≤ most }
         ensures end { at + result < 2 ^ 64 }
-        ensures is { IsTrue F.told → Knows (F.medium self.now.flash).state.pages (places (F.medium self.now.flash).blocks) self.now.state.table
-            → result ≡ min most (length (flash_files (F.medium self.now.flash).state.pages (F.medium self.now.flash).blocks file) - at) }
+        ensures is { IsTrue F.told → Knows (F.medium self.now.flash).state.pages
+            (places (F.medium self.now.flash).blocks) self.now.state.table
+            → result ≡ min most (length (flash_files (F.medium self.now.flash).state.pages
+            (F.medium self.now.flash).blocks file) - at) }
     {
         let there = self.file_size(file).saturating_sub(at);
         there.min(most as u64) as usize
@@ -302,8 +326,10 @@ impl<F: Flash> Layer<F> {
 
     // How many bytes a file has.
     pub(crate) fn file_size(&self, file: u32) -> u64
-        ensures { IsTrue F.told → Knows (F.medium self.now.flash).state.pages (places (F.medium self.now.flash).blocks) self.now.state.table
-            → result ≡ length (flash_files (F.medium self.now.flash).state.pages (F.medium self.now.flash).blocks file) }
+        ensures { IsTrue F.told → Knows (F.medium self.now.flash).state.pages (places (F.medium self.now.flash).blocks)
+            self.now.state.table
+            → result ≡ length (flash_files (F.medium self.now.flash).state.pages (F.medium self.now.flash).blocks
+            file) }
     {
         self.state.table.len_of(file)
     }
@@ -311,10 +337,13 @@ impl<F: Flash> Layer<F> {
     // Reads bytes page by page.
     fn read_pages(&mut self, file: u32, at: u64, out: &mut [u8]) -> Result<(), DiskFailed>
         requires { at + length out.old < 2 ^ 64 }
-        ensures bytes { IsTrue F.told → Knows (F.medium self.old.flash).state.pages (places (F.medium self.old.flash).blocks) self.old.state.table
-            → OnOk result (at + length out.old ≤ file_len (F.medium self.old.flash).state.pages (places (F.medium self.old.flash).blocks) file
+        ensures bytes { IsTrue F.told → Knows (F.medium self.old.flash).state.pages
+            (places (F.medium self.old.flash).blocks) self.old.state.table
+            → OnOk result (at + length out.old ≤ file_len (F.medium self.old.flash).state.pages
+            (places (F.medium self.old.flash).blocks) file
             → (k : ℕ) → k < length out.old
-            → slice_index out.new k ≡ file_byte (F.medium self.old.flash).state.pages (places (F.medium self.old.flash).blocks) file (at + k)) }
+            → slice_index out.new k ≡ file_byte (F.medium self.old.flash).state.pages
+            (places (F.medium self.old.flash).blocks) file (at + k)) }
         ensures looks { Looks F.told (F.medium self.old.flash) (F.medium self.new.flash) }
         ensures blocks { (F.medium self.new.flash).blocks ≡ (F.medium self.old.flash).blocks }
         ensures state { self.new.state ≡ self.old.state }
@@ -359,7 +388,8 @@ fn zeros() -> [u8; RECORD_BYTES]
 
 // The bytes of the record that a page is up to a place in it, and zeros from there on.
 fn cut(page: &[u8], within: u64) -> [u8; RECORD_BYTES]
-    ensures { (j : ℕ) → j < 256 → slice_index result j ≡ (if nat_lt j within then record_byte (record_in page.now) j else 0) }
+    ensures { (j : ℕ) → j < 256 → slice_index result j ≡ (if nat_lt j within then record_byte (record_in page.now) j
+        else 0) }
 {
     match read_record(page) {
         Some(record) => cut_bytes(record.bytes, within),

@@ -1,6 +1,7 @@
 //! Where the newest record of each page of a file lies, and how long each file is.
 
-ghost use Rattle.std.specs.Prelude.{◌≡◌, ◌≢◌, ◌⊎◌, ◌↔◌, ◌≤◌, ◌<◌, ◌+◌, ◌-◌, ◌*◌, ◌==◌, ℕ, IfOk, IsSome, IsTrue, IsFalse, Some, None, All, length, max, if◌then◌else◌};
+ghost use Rattle.std.specs.Prelude.{◌≡◌, ◌≢◌, ◌⊎◌, ◌↔◌, ◌≤◌, ◌<◌, ◌+◌, ◌-◌, ◌*◌, ◌==◌, ℕ, IfOk, IsSome, IsTrue};
+ghost use Rattle.std.specs.Prelude.{IsFalse, Some, None, All, length, max, if◌then◌else◌};
 ghost use Rattle.std.specs.HashMap.{get, hash_map_len, spare};
 ghost use Rattle.flash_disk.specs.Known.{same_page, len_in, HasLenIn, IsLongest, EndsBy};
 ghost use Rattle.flash_disk.specs.Counted.{leads_into, had_in, entries_in, IsInside, IsCounted};
@@ -50,7 +51,8 @@ pub struct Table {
 }
 
 impl Table {
-    ghost use Rattle.flash_disk.specs.Known.{known, page_len, limit_of, len_known, HasLen, load_known, Puts, PutsAll, SameRecords, Lengthens, SameLens, IsEmptyTable, HasRoom};
+    ghost use Rattle.flash_disk.specs.Known.{known, page_len, limit_of, len_known, HasLen, load_known, Puts, PutsAll};
+    ghost use Rattle.flash_disk.specs.Known.{SameRecords, Lengthens, SameLens, IsEmptyTable, HasRoom};
 
     /// An empty table for a flash of so many blocks.
     pub fn new(alloc: Global, blocks: u32) -> Result<Table, AllocError>
@@ -98,7 +100,8 @@ impl Table {
 
     /// Sets the newest record of a page; `false`, and no change, where there is no room for it.
     pub fn put(&mut self, key: FilePage, new: Newest) -> bool
-        ensures full { HasRoom self.old → (IsFalse result ↔ ((known self.old key ≡ None) × (limit_of self.old ≤ page_len self.old))) }
+        ensures full { HasRoom self.old → (IsFalse result ↔
+            ((known self.old key ≡ None) × (limit_of self.old ≤ page_len self.old))) }
         ensures put { IsTrue result → Puts self.old self.new key new }
         ensures same { IsFalse result → SameRecords self.old self.new }
         ensures limit { limit_of self.new ≡ limit_of self.old }
@@ -118,13 +121,15 @@ impl Table {
 
     // Sets the newest record of a page, and counts nothing.
     fn store(&mut self, key: FilePage, new: Newest) -> bool
-        ensures full { HasRoom self.old → (IsFalse result ↔ ((known self.old key ≡ None) × (limit_of self.old ≤ page_len self.old))) }
+        ensures full { HasRoom self.old → (IsFalse result ↔
+            ((known self.old key ≡ None) × (limit_of self.old ≤ page_len self.old))) }
         ensures put { IsTrue result → Puts self.old self.new key new }
         ensures same { IsFalse result → SameRecords self.old self.new }
         ensures limit { limit_of self.new ≡ limit_of self.old }
         ensures lens { self.new.lens ≡ self.old.lens }
         ensures counts { IsTrue result → (block : ℕ)
-            → entries_in self.new block + had_in block (known self.old key) ≡ entries_in self.old block + leads_into block new }
+            → entries_in self.new block + had_in block (known self.old key)
+            ≡ entries_in self.old block + leads_into block new }
         ensures entries { IsFalse result → (block : ℕ) → entries_in self.new block ≡ entries_in self.old block }
         ensures load { self.new.load ≡ self.old.load }
         ensures blocks { self.new.blocks ≡ self.old.blocks }
@@ -143,7 +148,8 @@ impl Table {
         ensures limit { limit_of self.new ≡ limit_of self.old }
         ensures lens { self.new.lens ≡ self.old.lens }
         ensures counts { (block : ℕ)
-            → entries_in self.new block + had_in block (known self.old key) ≡ entries_in self.old block + leads_into block new }
+            → entries_in self.new block + had_in block (known self.old key)
+            ≡ entries_in self.old block + leads_into block new }
         ensures load { self.new.load ≡ self.old.load }
         ensures blocks { self.new.blocks ≡ self.old.blocks }
     {
@@ -154,21 +160,25 @@ impl Table {
 
     /// Sets the newest records of pages that have one.
     pub fn put_all(&mut self, news: &[(FilePage, Newest)])
-        ensures put { All (λ new. IsSome (known self.old new.0)) news.now → HasRoom self.old → PutsAll self.old self.new news.now }
-        ensures len { All (λ new. IsSome (known self.old new.0)) news.now → HasRoom self.old → page_len self.new ≡ page_len self.old }
+        ensures put { All (λ new. IsSome (known self.old new.0)) news.now → HasRoom self.old
+            → PutsAll self.old self.new news.now }
+        ensures len { All (λ new. IsSome (known self.old new.0)) news.now → HasRoom self.old
+            → page_len self.new ≡ page_len self.old }
         ensures room { All (λ new. IsSome (known self.old new.0)) news.now → HasRoom self.old → HasRoom self.new }
         ensures stays { All (λ new. IsSome (known self.old new.0)) news.now → HasRoom self.old
             → (key : FilePage) → IsSome (known self.old key) → IsSome (known self.new key) }
         ensures limit { limit_of self.new ≡ limit_of self.old }
         ensures lens { self.new.lens ≡ self.old.lens }
-        ensures counted { (blocks : ℕ) → All (λ new. IsInside blocks new.1) news.now → IsCounted blocks self.old → IsCounted blocks self.new }
+        ensures counted { (blocks : ℕ) → All (λ new. IsInside blocks new.1) news.now → IsCounted blocks self.old
+            → IsCounted blocks self.new }
     {
         for new in news {
             self.put(new.0, new.1);
         }
     }
 
-    /// Makes a file at least so long; `false`, and no change, where there is no room for it. Only a file that has no length yet takes room.
+    /// Makes a file at least so long; `false`, and no change, where there is no room for it. Only a file that has no
+    /// length yet takes room.
     pub fn lengthen(&mut self, file: u32, len: u64) -> bool
         ensures lengthened { IsTrue result → Lengthens self.old self.new file len }
         ensures has { IsTrue result → (f : ℕ) → HasLen self.old f ⊎ (f ≡ file) → HasLen self.new f }
@@ -183,7 +193,8 @@ impl Table {
         raise(&mut self.lens, file, len)
     }
 
-    /// The block other than this one whose newest records take the fewest pages to move; this one where there is no other.
+    /// The block other than this one whose newest records take the fewest pages to move; this one where there is no
+    /// other.
     pub fn lightest_but(&self, but: u32) -> u32
         ensures within { result ≢ but → result < self.now.blocks }
         ensures lightest { (block : ℕ) → block < self.now.blocks → block ≢ but
@@ -200,7 +211,8 @@ impl Table {
 
     // Whether a block is better than the best other than `but` so far, or the first.
     fn is_lighter(&self, block: u32, best: u32, but: u32) -> bool
-        ensures { IsTrue result ↔ ((block ≢ but) × ((best ≡ but) ⊎ (load_known self.now block < load_known self.now best))) }
+        ensures { IsTrue result ↔ ((block ≢ but) × ((best ≡ but)
+            ⊎ (load_known self.now block < load_known self.now best))) }
     {
         block != but && (best == but || self.load_of(block) < self.load_of(best))
     }
@@ -221,15 +233,18 @@ impl Table {
 
     /// Whether two records of a page have its greatest number and differ.
     pub fn is_disputed(&self) -> bool
-        ensures calm { IsFalse result → (key : FilePage) (entry : Newest) → known self.now key ≡ Some entry → IsFalse entry.rivalled }
-        ensures rivals { IsTrue result → (key : FilePage) × (entry : Newest) × (known self.now key ≡ Some entry) × IsTrue entry.rivalled }
+        ensures calm { IsFalse result → (key : FilePage) (entry : Newest) → known self.now key ≡ Some entry
+            → IsFalse entry.rivalled }
+        ensures rivals { IsTrue result → (key : FilePage) × (entry : Newest) × (known self.now key ≡ Some entry)
+            × IsTrue entry.rivalled }
     {
         self.newest.values().any(|newest| newest.rivalled)
     }
 
     /// Where the last byte other than zero ends that lies past the end of its file; 0 where there is none.
     pub fn stray_end(&self) -> u64
-        ensures { (key : FilePage) (entry : Newest) → known self.now key ≡ Some entry → EndsBy self.now.lens key entry result }
+        ensures { (key : FilePage) (entry : Newest) → known self.now key ≡ Some entry
+            → EndsBy self.now.lens key entry result }
     {
         let mut stray = 0;
         for (key, newest) in self.newest.iter() {
@@ -248,7 +263,8 @@ impl Table {
         ensures newest { self.new.newest ≡ self.old.newest }
         ensures blocks { self.new.blocks ≡ self.old.blocks }
         ensures loads { length self.new.load.items ≡ length self.old.load.items }
-        ensures counts { load_known self.old newest.place.block < 4294967295 → newest.place.block < length self.old.load.items
+        ensures counts { load_known self.old newest.place.block < 4294967295
+            → newest.place.block < length self.old.load.items
             → (block : ℕ) → load_known self.new block ≡ load_known self.old block + leads_into block newest }
     {
         if let Some(load) = self.load.get_mut(newest.place.block as usize) {
@@ -287,7 +303,8 @@ fn raise_all(lens: &mut HashMap<u32, u64>, newest: &HashMap<FilePage, Newest>)
 
 // Makes a file at least so long; `false`, and no change, where there is no room for it.
 fn raise(lens: &mut HashMap<u32, u64>, file: u32, len: u64) -> bool
-    ensures raised { IsTrue result → (f : ℕ) → len_in lens.new f ≡ (if f == file then max (len_in lens.old f) len else len_in lens.old f) }
+    ensures raised { IsTrue result → (f : ℕ) → len_in lens.new f
+        ≡ (if f == file then max (len_in lens.old f) len else len_in lens.old f) }
     ensures same { IsFalse result → (f : ℕ) → len_in lens.new f ≡ len_in lens.old f }
     ensures has { IsTrue result → (f : ℕ) → HasLenIn lens.old f ⊎ (f ≡ file) → HasLenIn lens.new f }
     ensures succeeds { 0 < spare lens.old → IsTrue result }
@@ -305,7 +322,8 @@ fn raise(lens: &mut HashMap<u32, u64>, file: u32, len: u64) -> bool
 // Makes a file that has a length at least so long.
 fn raise_known(lens: &mut HashMap<u32, u64>, file: u32, len: u64)
     requires { HasLenIn lens.old file }
-    ensures raised { (f : ℕ) → len_in lens.new f ≡ (if f == file then max (len_in lens.old f) len else len_in lens.old f) }
+    ensures raised { (f : ℕ) → len_in lens.new f ≡ (if f == file then max (len_in lens.old f) len else len_in lens.old
+        f) }
     ensures has { (f : ℕ) → HasLenIn lens.old f → HasLenIn lens.new f }
     ensures spare { spare lens.new ≡ spare lens.old }
 {

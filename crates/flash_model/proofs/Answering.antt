@@ -1,5 +1,6 @@
 -- How the parts of a call of a flash in memory make a call.
-use Rattle.std.proofs.Common.{◌≡◌, ◌⊎◌, ℕ, ◌≤◌, Bool, true, false, List, [], ◌∷◌, ◌++◌, length, refl, sym, ap, ◌∙◌, subst, inl, le_refl, le_trans, le_of_eq, true≢false, if◌then◌else◌}
+use Rattle.std.proofs.Common.{◌≡◌, ◌⊎◌, ℕ, ◌≤◌, Bool, true, false, List, [], ◌∷◌, ◌++◌, length, refl, sym, ap, ◌∙◌}
+use Rattle.std.proofs.Common.{subst, inl, le_refl, le_trans, le_of_eq, true≢false, if◌then◌else◌}
 use Rattle.std.specs.Prelude.{Result, Ok, Err, OnErr}
 use Rattle.flash_model.specs.declared.memory.MemFlash.{MemFlash}
 use Rattle.flash_model.specs.declared.record.FlashCall.{FlashCall}
@@ -8,10 +9,12 @@ use Rattle.per_base.specs.Causes.{raised}
 use Rattle.flash_model.specs.Pages.{Pages}
 use Rattle.flash_model.specs.State.{FlashState, FlashCase, IsStill, IsLeftBy}
 use Rattle.flash_model.specs.FlashMedium.{FlashMedium, FlashElapses, EachFlashCase}
-use Rattle.flash_model.specs.History.{blank_state, state_after, state_after_call, call_case, past_case, recorded, IsNoChange}
+use Rattle.flash_model.specs.History.{blank_state, state_after, state_after_call, call_case, past_case, recorded}
+use Rattle.flash_model.specs.History.{IsNoChange}
 use Rattle.flash_model.specs.declared.record.FlashCall.TheVariants.{Announce, Settle, Read, Program, Erase}
 use Rattle.flash_model.specs.HistoryLaws.{counts_now, only_now}
-use Rattle.flash_model.specs.Memory.{mem_flash, starved_count, IsUnchanged, Answers, Fails, Shows, SameRecord, Begins, Succeeds, Wants}
+use Rattle.flash_model.specs.Memory.{mem_flash, starved_count, IsUnchanged, Answers, Fails, Shows, SameRecord, Begins}
+use Rattle.flash_model.specs.Memory.{Succeeds, Wants}
 use Rattle.flash_model.proofs.Pushed.{state_after-append, during, within, pushed}
 
 -- what a flash shows is all that it is as a flash
@@ -47,7 +50,8 @@ failed old new same later rose answers =
       answers = answers;
     }
   where
-    earlier : (calls : List FlashCall) (s : FlashState) (t : ℕ) (c : FlashCase) → t ≤ length calls → past_case calls s (length calls) c → past_case calls s t c
+    earlier : (calls : List FlashCall) (s : FlashState) (t : ℕ) (c : FlashCase) → t ≤ length calls
+        → past_case calls s (length calls) c → past_case calls s t c
     earlier calls s t c le past = counts_now calls s t c le (only_now calls s c past)
 
 -- the plan or the stop makes a call fail
@@ -63,9 +67,11 @@ begin_failed old new begins same = failed old new same begins.later (begins.fail
     })
 
 -- want of memory makes a call fail
-pub want_failed : (old mid new : MemFlash) → Begins old mid false → SameRecord old mid → Wants mid new → SameRecord mid new → Fails old new
+pub want_failed : (old mid new : MemFlash) → Begins old mid false → SameRecord old mid → Wants mid new
+    → SameRecord mid new → Fails old new
 want_failed old mid new begins first wants next =
-    let faults : (mem_flash new).faults ≡ raised (mem_flash old).faults = wants.faults ∙ ap raised (begins.passes refl) in
+    let faults : (mem_flash new).faults ≡ raised (mem_flash old).faults =
+    wants.faults ∙ ap raised (begins.passes refl) in
     let starved : starved_count new ≡ raised (starved_count old) = wants.starved ∙ ap raised begins.starved in
     failed old new
     (record { blocks_are = next.blocks_are ∙ first.blocks_are; calls_are = next.calls_are ∙ first.calls_are })
@@ -83,7 +89,8 @@ want_failed old mid new begins first wants next =
 pub record Done (call : FlashCall) (old new : MemFlash) : Type 0 where
   pub state : (mem_flash new).state ≡ state_after_call call (mem_flash old).state
   pub during : EachFlashCase (λ c. IsStill (mem_flash old).state c
-      ⊎ (call_case call (mem_flash old).state c ⊎ IsStill (state_after_call call (mem_flash old).state) c)) (mem_flash old) (mem_flash new)
+      ⊎ (call_case call (mem_flash old).state c ⊎ IsStill (state_after_call call (mem_flash old).state) c))
+      (mem_flash old) (mem_flash new)
   pub within : (c : FlashCase) → call_case call (mem_flash old).state c → (mem_flash new).since (mem_flash old).moment c
   pub time : FlashElapses (mem_flash old) (mem_flash new)
 
@@ -91,12 +98,15 @@ pub call_done : (old new : MemFlash) (call : FlashCall) → (mem_flash old).faul
     → Shows new old.blocks (old.calls.items ++ call ∷ []) → Done call old new
 call_done old new call more shows =
     let calls = old.calls.items in
-    let at_new : (P : FlashMedium → Type 0) → P (recorded old.blocks (calls ++ call ∷ []) new.faults) → P (mem_flash new) =
+    let at_new : (P : FlashMedium → Type 0) → P (recorded old.blocks (calls ++ call ∷ []) new.faults)
+    → P (mem_flash new) =
     shown new old.blocks (calls ++ call ∷ []) shows in
     record {
-      state = at_new (λ m. m.state ≡ state_after_call call (mem_flash old).state) (state_after-append calls call blank_state);
+      state = at_new (λ m. m.state ≡ state_after_call call (mem_flash old).state)
+          (state_after-append calls call blank_state);
       during = at_new (λ m. EachFlashCase (λ c. IsStill (mem_flash old).state c
-          ⊎ (call_case call (mem_flash old).state c ⊎ IsStill (state_after_call call (mem_flash old).state) c)) (mem_flash old) m)
+          ⊎ (call_case call (mem_flash old).state c ⊎ IsStill (state_after_call call (mem_flash old).state) c))
+          (mem_flash old) m)
           (λ c past. during calls call blank_state c past);
       within = at_new (λ m. (c : FlashCase) → call_case call (mem_flash old).state c → m.since (mem_flash old).moment c)
           (λ c case. within calls call blank_state c case);
@@ -104,7 +114,8 @@ call_done old new call more shows =
     }
 
 -- a record after some steps is what it was at first with one call more
-pub shows_on : (old mid new : MemFlash) (call : FlashCall) → SameRecord old mid → Shows new mid.blocks (mid.calls.items ++ call ∷ [])
+pub shows_on : (old mid new : MemFlash) (call : FlashCall) → SameRecord old mid
+    → Shows new mid.blocks (mid.calls.items ++ call ∷ [])
     → Shows new old.blocks (old.calls.items ++ call ∷ [])
 shows_on old mid new call first next = record {
   blocks_are = next.blocks_are ∙ first.blocks_are;
@@ -112,12 +123,14 @@ shows_on old mid new call first next = record {
 }
 
 -- a failed call that changed nothing left what a crash in it may leave
-pub left_alone : (done : Pages) (Tears : Pages → Pages → Type 0) (old new : FlashState) → Tears old.pages old.pages → new ≡ old → IsLeftBy done Tears old new
+pub left_alone : (done : Pages) (Tears : Pages → Pages → Type 0) (old new : FlashState) → Tears old.pages old.pages
+    → new ≡ old → IsLeftBy done Tears old new
 left_alone done Tears old new torn same = subst (λ s. IsLeftBy done Tears old s) (sym same)
     (record { torn = torn; plain = λ b p g body v. inl v; settled = refl; announced = refl })
 
 -- want of memory in the rest of a call makes it fail
-pub want_after : (old mid next new : MemFlash) → Begins old mid false → SameRecord old mid → SameRecord mid next → Succeeds mid next
+pub want_after : (old mid next new : MemFlash) → Begins old mid false → SameRecord old mid → SameRecord mid next
+    → Succeeds mid next
     → SameRecord next new → Wants next new → Fails old new
 want_after old mid next new begins first second succeeds third wants = want_failed old mid new begins first
     (record {
@@ -129,17 +142,22 @@ want_after old mid next new begins first second succeeds third wants = want_fail
     (record { blocks_are = third.blocks_are ∙ second.blocks_are; calls_are = third.calls_are ∙ second.calls_are })
 
 -- the rest of a call succeeds
-pub done_after : (old mid new : MemFlash) (call : FlashCall) → Begins old mid false → SameRecord old mid → Succeeds mid new
+pub done_after : (old mid new : MemFlash) (call : FlashCall) → Begins old mid false → SameRecord old mid
+    → Succeeds mid new
     → Shows new mid.blocks (mid.calls.items ++ call ∷ []) → Done call old new
 done_after old mid new call begins first succeeds shows =
-    call_done old new call (le_trans begins.later (le_of_eq (sym succeeds.counts.faults))) (shows_on old mid new call first shows)
+    call_done old new call (le_trans begins.later (le_of_eq (sym succeeds.counts.faults)))
+    (shows_on old mid new call first shows)
 
 -- a call that changes no page leaves them as they are
 pub note_tied : (calls calls' : List FlashCall) (call : FlashCall) (ok : Bool) (pages : Pages) → IsNoChange call
-    → calls' ≡ (if ok then calls ++ call ∷ [] else calls) → pages ≡ (state_after calls blank_state).pages → pages ≡ (state_after calls' blank_state).pages
+    → calls' ≡ (if ok then calls ++ call ∷ [] else calls) → pages ≡ (state_after calls blank_state).pages
+    → pages ≡ (state_after calls' blank_state).pages
 note_tied calls calls' call false pages free is tied = tied ∙ sym (ap (λ cs. (state_after cs blank_state).pages) is)
 note_tied calls calls' call true pages free is tied =
-    tied ∙ sym (ap (λ cs. (state_after cs blank_state).pages) is ∙ ap (λ s. s.pages) (state_after-append calls call blank_state) ∙ same call (state_after calls blank_state) free)
+    tied ∙ sym (ap (λ cs. (state_after cs blank_state).pages) is
+    ∙ ap (λ s. s.pages) (state_after-append calls call blank_state)
+    ∙ same call (state_after calls blank_state) free)
   where
     same : (call : FlashCall) (s : FlashState) → IsNoChange call → (state_after_call call s).pages ≡ s.pages
     same (Announce file at bytes) s free = refl
@@ -149,7 +167,10 @@ note_tied calls calls' call true pages free is tied =
     same (Erase block) s free = absurd free
 
 -- a call that changes pages changes them so
-pub change_tied : (calls calls' : List FlashCall) (call : FlashCall) (pages pages' : Pages) → calls' ≡ calls ++ call ∷ []
-    → (state_after_call call (state_after calls blank_state)).pages ≡ pages' → pages' ≡ (state_after calls' blank_state).pages
+pub change_tied : (calls calls' : List FlashCall) (call : FlashCall) (pages pages' : Pages)
+    → calls' ≡ calls ++ call ∷ []
+    → (state_after_call call (state_after calls blank_state)).pages ≡ pages'
+    → pages' ≡ (state_after calls' blank_state).pages
 change_tied calls calls' call pages pages' is changed =
-    sym (ap (λ cs. (state_after cs blank_state).pages) is ∙ ap (λ s. s.pages) (state_after-append calls call blank_state) ∙ changed)
+    sym (ap (λ cs. (state_after cs blank_state).pages) is
+    ∙ ap (λ s. s.pages) (state_after-append calls call blank_state) ∙ changed)

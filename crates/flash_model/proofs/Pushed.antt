@@ -12,7 +12,8 @@ state_after-append [] call s = refl
 state_after-append (x ∷ calls) call s = state_after-append calls call (state_after_call x s)
 
 -- a case since t is one of before, or one since the call began
-pub nothing_else : (calls : List FlashCall) (call : FlashCall) (s : FlashState) (t : ℕ) (c : FlashCase) → t ≤ length calls
+pub nothing_else : (calls : List FlashCall) (call : FlashCall) (s : FlashState) (t : ℕ) (c : FlashCase)
+    → t ≤ length calls
     → past_case (calls ++ call ∷ []) s t c → past_case calls s t c ⊎ past_case (calls ++ call ∷ []) s (length calls) c
 nothing_else [] call s zero c le past = inr past
 nothing_else [] call s (suc t) c le past = absurd (omega arith)
@@ -22,7 +23,8 @@ nothing_else (x ∷ calls) call s zero c le (inr (inr past)) = ⊎_elim
     (λ was. inl (inr (inr was)))
     (λ new. inr new)
     (nothing_else calls call (state_after_call x s) zero c (omega arith) past)
-nothing_else (x ∷ calls) call s (suc t) c le past = nothing_else calls call (state_after_call x s) t c (omega arith) past
+nothing_else (x ∷ calls) call s (suc t) c le past = nothing_else calls call (state_after_call x s) t c (omega arith)
+    past
 
 -- a case of an earlier moment stays one
 pub keeps : (calls : List FlashCall) (call : FlashCall) (s : FlashState) (t : ℕ) (c : FlashCase) → t ≤ length calls
@@ -31,7 +33,8 @@ keeps [] call s zero c le past = inl past
 keeps [] call s (suc t) c le past = absurd past
 keeps (x ∷ calls) call s zero c le (inl still) = inl still
 keeps (x ∷ calls) call s zero c le (inr (inl within)) = inr (inl within)
-keeps (x ∷ calls) call s zero c le (inr (inr past)) = inr (inr (keeps calls call (state_after_call x s) zero c (omega arith) past))
+keeps (x ∷ calls) call s zero c le (inr (inr past)) = inr
+    (inr (keeps calls call (state_after_call x s) zero c (omega arith) past))
 keeps (x ∷ calls) call s (suc t) c le past = keeps calls call (state_after_call x s) t c (omega arith) past
 
 -- a case since the call began is one since t
@@ -45,7 +48,8 @@ adds (x ∷ calls) call s (suc t) c le past = adds calls call (state_after_call 
 -- a case since the call began is one of before, of after, or of the middle of the call
 pub during : (calls : List FlashCall) (call : FlashCall) (s : FlashState) (c : FlashCase)
     → past_case (calls ++ call ∷ []) s (length calls) c
-    → IsStill (state_after calls s) c ⊎ (call_case call (state_after calls s) c ⊎ IsStill (state_after_call call (state_after calls s)) c)
+    → IsStill (state_after calls s) c ⊎ (call_case call (state_after calls s) c
+    ⊎ IsStill (state_after_call call (state_after calls s)) c)
 during [] call s c past = past
 during (x ∷ calls) call s c past = during calls call (state_after_call x s) c past
 

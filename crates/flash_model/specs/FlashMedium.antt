@@ -22,7 +22,8 @@ pub record IsLawfulFlash (told : Bool) (m : FlashMedium) : Type 0 where
   -- since this moment there is no other
   pub only_now : (c : FlashCase) → m.since m.moment c → IsStill m.state c
 
--- Time goes on: the cases since t are those from before and those since the start of the call. No count falls, and no block comes or goes.
+-- Time goes on: the cases since t are those from before and those since the start of the call. No count falls, and no
+-- block comes or goes.
 pub record FlashElapses (old new : FlashMedium) : Type 0 where
   pub later : old.moment ≤ new.moment
   pub nothing_else : (t : ℕ) (c : FlashCase) → t ≤ old.moment → new.since t c → old.since t c ⊎ new.since old.moment c

@@ -3,7 +3,8 @@ use Rattle.std.specs.Prelude.{◌⊎◌, ℕ, zero, suc, ◌+◌, ◌*◌, List,
 use Rattle.flash_model.specs.declared.record.FlashCall.{FlashCall}
 use Rattle.flash_model.specs.declared.record.FlashCall.TheVariants.{Announce, Settle, Read, Program, Erase}
 use Rattle.flash_model.specs.Pages.{Pages, blank_page}
-use Rattle.flash_model.specs.State.{FlashState, FlashCase, IsStill, ProgramCase, EraseCase, announce_write, settle_pages, programmed, erased}
+use Rattle.flash_model.specs.State.{FlashState, FlashCase, IsStill, ProgramCase, EraseCase, announce_write}
+use Rattle.flash_model.specs.State.{settle_pages, programmed, erased}
 use Rattle.flash_model.specs.FlashMedium.{FlashMedium}
 
 -- the pages that lie one after the other in a list, 64 for each block
@@ -37,7 +38,8 @@ call_case (Erase block) s c = EraseCase block s c
 abbrev pub past_case : List FlashCall → FlashState → ℕ → FlashCase → Type 0
 past_case [] s zero c = IsStill s c
 past_case [] s (suc t) c = ⊥
-past_case (call ∷ calls) s zero c = IsStill s c ⊎ (call_case call s c ⊎ past_case calls (state_after_call call s) zero c)
+past_case (call ∷ calls) s zero c = IsStill s c ⊎ (call_case call s c
+    ⊎ past_case calls (state_after_call call s) zero c)
 past_case (call ∷ calls) s (suc t) c = past_case calls (state_after_call call s) t c
 
 -- a flash with this record

@@ -52,8 +52,8 @@ pub record KeepsCounts (old new : MemFlash) : Type 0 where
   pub faults : (mem_flash new).faults ≡ (mem_flash old).faults
   pub starved : starved_count new ≡ starved_count old
 
--- How a call answers: it fails where the plan names it and where it comes after the stop, and else for want of memory alone,
--- which is counted beside the fault.
+-- How a call answers: it fails where the plan names it and where it comes after the stop, and else for want of memory
+-- alone, which is counted beside the fault.
 pub record Answers (old new : MemFlash) (failed : Bool) : Type 0 where
   pub due : IsTrue (is_due old) → IsTrue failed × (starved_count new ≡ starved_count old)
   pub starves : IsFalse (is_due old) → IsTrue failed → starved_count new ≡ raised (starved_count old)

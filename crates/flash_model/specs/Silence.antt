@@ -14,4 +14,8 @@ silent_flash blocks faults = record {
 }
 
 pub silent_is_lawful : (blocks faults : ℕ) → IsLawfulFlash false (silent_flash blocks faults)
-silent_is_lawful blocks faults = record { counts_now = λ told t c le still. absurd (true≢false (sym told)); only_now = λ c past. absurd past }
+silent_is_lawful blocks faults = record {
+  counts_now = λ told t c le still. absurd (true≢false (sym told));
+  only_now =
+      λ c past. absurd past;
+}

@@ -8,14 +8,15 @@ pub record Announced : Type 0 where
   pub at : ℕ
   pub bytes : List ℕ
 
--- A flash between two calls: its pages, the pages as it was last settled, and the writes that were announced since then.
+-- A flash between two calls: its pages, the pages as it was last settled, and the writes that were announced since
+-- then.
 pub record FlashState : Type 0 where
   pub pages : Pages
   pub settled : Pages
   pub announced : List Announced
 
--- One case of a crash: the pages before the call in progress, as that call done whole would leave them, and as the crash leaves them.
--- Between two calls all three are the same.
+-- One case of a crash: the pages before the call in progress, as that call done whole would leave them, and as the
+-- crash leaves them. Between two calls all three are the same.
 pub record FlashCase : Type 0 where
   pub before : Pages
   pub whole : Pages
@@ -26,7 +27,10 @@ pub record FlashCase : Type 0 where
 -- ---- what calls make of it
 
 abbrev pub announce_write : FlashState → ℕ → ℕ → List ℕ → FlashState
-announce_write s file at bytes = record s { announced = s.announced ++ (record { file = file; at = at; bytes = bytes }) ∷ [] }
+announce_write s file at bytes = record s {
+  announced =
+      s.announced ++ (record { file = file; at = at; bytes = bytes }) ∷ [];
+}
 
 abbrev pub settle_pages : FlashState → FlashState
 settle_pages s = record { pages = s.pages; settled = s.pages; announced = [] }
@@ -70,7 +74,8 @@ pub record IsLeftBy (done : Pages) (Tears : Pages → Pages → Type 0) (old new
   pub announced : new.announced ≡ old.announced
 
 abbrev pub FailsToProgram : ℕ → ℕ → List ℕ → FlashState → FlashState → Type 0
-FailsToProgram block page bytes old new = IsLeftBy (program_page old.pages block page bytes) (TornPage block page) old new
+FailsToProgram block page bytes old new = IsLeftBy (program_page old.pages block page bytes) (TornPage block page) old
+    new
 
 abbrev pub FailsToErase : ℕ → FlashState → FlashState → Type 0
 FailsToErase block old new = IsLeftBy (erase_block old.pages block) (TornBlock block) old new

@@ -3,7 +3,8 @@
 ghost use Rattle.std.specs.Prelude.{◌≡◌, ◌⊎◌, ◌<◌, Bool, IsTrue, OnOk, OnErr};
 ghost use Rattle.per_base.specs.Causes.{Rose};
 ghost use Rattle.flash_model.specs.Pages.{blank_page};
-ghost use Rattle.flash_model.specs.State.{IsStill, ProgramCase, EraseCase, FailsToProgram, FailsToErase, announce_write, settle_pages, programmed, erased};
+ghost use Rattle.flash_model.specs.State.{IsStill, ProgramCase, EraseCase, FailsToProgram, FailsToErase};
+ghost use Rattle.flash_model.specs.State.{announce_write, settle_pages, programmed, erased};
 ghost use Rattle.flash_model.specs.FlashMedium.{FlashMedium, IsLawfulFlash, FlashElapses, EachFlashCase};
 
 /// How many bytes a page has.
@@ -21,20 +22,22 @@ pub struct FlashFailed;
 
 /// A flash: blocks of 64 pages of 512 bytes, each programmed while it is blank and erased with its block.
 ///
-/// What is said of pages holds where the flash tells them, and so does what is said of crashes: a flash that tells nothing names no
-/// case. Whether a flash tells is a constant of its type, so it never changes from call to call.
+/// What is said of pages holds where the flash tells them, and so does what is said of crashes: a flash that tells
+/// nothing names no case. Whether a flash tells is a constant of its type, so it never changes from call to call.
 ///
 /// Limits, which a device has to keep beneath this trait:
 ///
-/// - Reads are stable. Until a page is programmed or its block erased, each read of it gives the same bytes, also where a crash or a failed
-///   call left the page torn.
-/// - A page that the device cannot correct is answered with some bytes, and not as a failure: whoever opens a flash reads every page.
+/// - Reads are stable. Until a page is programmed or its block erased, each read of it gives the same bytes, also where
+///   a crash or a failed call left the page torn.
+/// - A page that the device cannot correct is answered with some bytes, and not as a failure: whoever opens a flash
+///   reads every page.
 /// - No block goes bad. A device that retires blocks does so under numbers that stay.
 pub trait Flash {
     /// Whether a flash of this type tells its pages.
     ghost told: { Bool };
 
-    /// How many blocks it has, what its pages hold, what it was told of, what a crash may have left, the clock, and the count of faults.
+    /// How many blocks it has, what its pages hold, what it was told of, what a crash may have left, the clock, and the
+    /// count of faults.
     ghost medium: { Self → FlashMedium };
 
     /// How many blocks it has, which no call changes.
@@ -52,8 +55,8 @@ pub trait Flash {
         ensures cause { OnErr result (Rose (medium self.old).faults (medium self.new).faults) }
         ensures passes { OnOk result ((medium self.new).faults ≡ (medium self.old).faults) };
 
-    /// Programs a page that is blank. Where the call fails, the page may hold anything, as after a crash; but what its front then
-    /// verifies as, these bytes verify as. A blank page never verifies.
+    /// Programs a page that is blank. Where the call fails, the page may hold anything, as after a crash; but what its
+    /// front then verifies as, these bytes verify as. A blank page never verifies.
     fn program(&mut self, block: u32, page: u32, bytes: &[u8; 512]) -> Result<(), FlashFailed>
         requires block { block < (medium self.old).blocks }
         requires page { page < 64 }
@@ -70,8 +73,8 @@ pub trait Flash {
         ensures cause { OnErr result (Rose (medium self.old).faults (medium self.new).faults) }
         ensures passes { OnOk result ((medium self.new).faults ≡ (medium self.old).faults) };
 
-    /// Makes all pages of a block blank. Where the call fails, they may hold anything, as after a crash; but what the front of a page
-    /// then verifies as, it verified as before.
+    /// Makes all pages of a block blank. Where the call fails, they may hold anything, as after a crash; but what the
+    /// front of a page then verifies as, it verified as before.
     fn erase(&mut self, block: u32) -> Result<(), FlashFailed>
         requires { block < (medium self.old).blocks }
         ensures state { IsTrue told → OnOk result ((medium self.new).state ≡ erased (medium self.old).state block) }
@@ -85,7 +88,8 @@ pub trait Flash {
         ensures cause { OnErr result (Rose (medium self.old).faults (medium self.new).faults) }
         ensures passes { OnOk result ((medium self.new).faults ≡ (medium self.old).faults) };
 
-    /// Notes that the calls to come serve this write into a file, at the byte `at`. It changes no page; a device has nothing to do.
+    /// Notes that the calls to come serve this write into a file, at the byte `at`. It changes no page; a device has
+    /// nothing to do.
     fn announce(&mut self, file: u32, at: u64, bytes: &[u8]) -> Result<(), FlashFailed>
         ensures state { IsTrue told → OnOk result
             ((medium self.new).state ≡ announce_write (medium self.old).state file at bytes.now) }
@@ -96,8 +100,8 @@ pub trait Flash {
         ensures cause { OnErr result (Rose (medium self.old).faults (medium self.new).faults) }
         ensures passes { OnOk result ((medium self.new).faults ≡ (medium self.old).faults) };
 
-    /// Notes that the writes announced so far are over, and that what the pages hold is what they left. It changes no page; a device has
-    /// nothing to do.
+    /// Notes that the writes announced so far are over, and that what the pages hold is what they left. It changes no
+    /// page; a device has nothing to do.
     fn settle(&mut self) -> Result<(), FlashFailed>
         ensures state { IsTrue told → OnOk result ((medium self.new).state ≡ settle_pages (medium self.old).state) }
         ensures failed { IsTrue told → OnErr result ((medium self.new).state ≡ (medium self.old).state) }
@@ -107,6 +111,7 @@ pub trait Flash {
         ensures cause { OnErr result (Rose (medium self.old).faults (medium self.new).faults) }
         ensures passes { OnOk result ((medium self.new).faults ≡ (medium self.old).faults) };
 
-    /// This moment counts among those since an earlier one, and since now there is no other: a call that is over is durable.
+    /// This moment counts among those since an earlier one, and since now there is no other: a call that is over is
+    /// durable.
     ghost lawful: { (flash : Self) → IsLawfulFlash told (medium flash) };
 }

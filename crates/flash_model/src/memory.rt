@@ -1,10 +1,12 @@
 //! A flash in memory, which fails and stops as it is told.
 
-ghost use Rattle.std.specs.Prelude.{◌≡◌, ◌⊎◌, ◌↔◌, ◌<◌, ◌*◌, ◌++◌, ◌∷◌, [], ℕ, Vec, true, false, IfOk, OnOk, OnErr, is_err, nat_le, vec_len};
+ghost use Rattle.std.specs.Prelude.{◌≡◌, ◌⊎◌, ◌↔◌, ◌<◌, ◌*◌, ◌++◌, ◌∷◌, [], ℕ, Vec, true, false, IfOk, OnOk, OnErr};
+ghost use Rattle.std.specs.Prelude.{is_err, nat_le, vec_len};
 ghost use Rattle.per_base.specs.Causes.{Rose};
 ghost use Rattle.disk_model.specs.Orders.{named_in};
 ghost use Rattle.flash_model.specs.Pages.{blank_page};
-ghost use Rattle.flash_model.specs.State.{FlashCase, IsStill, ProgramCase, EraseCase, FailsToProgram, FailsToErase, announce_write, settle_pages, programmed, erased};
+ghost use Rattle.flash_model.specs.State.{FlashCase, IsStill, ProgramCase, EraseCase, FailsToProgram, FailsToErase};
+ghost use Rattle.flash_model.specs.State.{announce_write, settle_pages, programmed, erased};
 ghost use Rattle.flash_model.specs.FlashMedium.{FlashElapses, EachFlashCase};
 ghost use Rattle.flash_model.specs.History.{pages_of, blank_state, state_after, state_after_call, IsNoChange};
 
@@ -29,7 +31,9 @@ pub struct MemFlash {
 }
 
 impl MemFlash {
-    ghost use Rattle.flash_model.specs.Memory.{mem_flash, starved_count, is_planned, is_stopped, HasNoOrders, IsFresh, IsUnchanged, KeepsCounts, Shows, SameRecord, Begins, Succeeds, Wants, Passes, Fails};
+    ghost use Rattle.flash_model.specs.Memory.{mem_flash, starved_count, is_planned, is_stopped, HasNoOrders, IsFresh};
+    ghost use Rattle.flash_model.specs.Memory.{IsUnchanged, KeepsCounts, Shows, SameRecord, Begins, Succeeds, Wants};
+    ghost use Rattle.flash_model.specs.Memory.{Passes, Fails};
 
     /// A flash of so many blocks, all blank.
     ///
@@ -218,10 +222,14 @@ impl Flash for MemFlash {
         requires block { block < (mem_flash self.old).blocks }
         requires page { page < 64 }
         requires blank { (mem_flash self.old).state.pages block page ≡ blank_page }
-        ensures state { OnOk result ((mem_flash self.new).state ≡ programmed (mem_flash self.old).state block page bytes.now) }
-        ensures failed { OnErr result (FailsToProgram block page bytes.now (mem_flash self.old).state (mem_flash self.new).state) }
-        ensures during { EachFlashCase (λ c. IsStill (mem_flash self.old).state c ⊎ (IsStill (mem_flash self.new).state c
-            ⊎ ProgramCase block page bytes.now (mem_flash self.old).state c)) (mem_flash self.old) (mem_flash self.new) }
+        ensures state { OnOk result ((mem_flash self.new).state
+            ≡ programmed (mem_flash self.old).state block page bytes.now) }
+        ensures failed { OnErr result (FailsToProgram block page bytes.now (mem_flash self.old).state
+            (mem_flash self.new).state) }
+        ensures during { EachFlashCase (λ c. IsStill (mem_flash self.old).state c
+            ⊎ (IsStill (mem_flash self.new).state c
+            ⊎ ProgramCase block page bytes.now (mem_flash self.old).state c)) (mem_flash self.old)
+            (mem_flash self.new) }
         ensures time { FlashElapses (mem_flash self.old) (mem_flash self.new) }
         ensures cause { OnErr result (Rose (mem_flash self.old).faults (mem_flash self.new).faults) }
         ensures passes { OnOk result ((mem_flash self.new).faults ≡ (mem_flash self.old).faults) }
@@ -245,7 +253,8 @@ impl Flash for MemFlash {
         requires { block < (mem_flash self.old).blocks }
         ensures state { OnOk result ((mem_flash self.new).state ≡ erased (mem_flash self.old).state block) }
         ensures failed { OnErr result (FailsToErase block (mem_flash self.old).state (mem_flash self.new).state) }
-        ensures during { EachFlashCase (λ c. IsStill (mem_flash self.old).state c ⊎ (IsStill (mem_flash self.new).state c
+        ensures during { EachFlashCase (λ c. IsStill (mem_flash self.old).state c
+            ⊎ (IsStill (mem_flash self.new).state c
             ⊎ EraseCase block (mem_flash self.old).state c)) (mem_flash self.old) (mem_flash self.new) }
         ensures time { FlashElapses (mem_flash self.old) (mem_flash self.new) }
         ensures cause { OnErr result (Rose (mem_flash self.old).faults (mem_flash self.new).faults) }
@@ -267,9 +276,11 @@ impl Flash for MemFlash {
     }
 
     fn announce(&mut self, file: u32, at: u64, bytes: &[u8]) -> Result<(), FlashFailed>
-        ensures state { OnOk result ((mem_flash self.new).state ≡ announce_write (mem_flash self.old).state file at bytes.now) }
+        ensures state { OnOk result ((mem_flash self.new).state
+            ≡ announce_write (mem_flash self.old).state file at bytes.now) }
         ensures failed { OnErr result ((mem_flash self.new).state ≡ (mem_flash self.old).state) }
-        ensures during { EachFlashCase (λ c. IsStill (mem_flash self.old).state c ⊎ IsStill (mem_flash self.new).state c)
+        ensures during { EachFlashCase (λ c. IsStill (mem_flash self.old).state c
+            ⊎ IsStill (mem_flash self.new).state c)
             (mem_flash self.old) (mem_flash self.new) }
         ensures time { FlashElapses (mem_flash self.old) (mem_flash self.new) }
         ensures cause { OnErr result (Rose (mem_flash self.old).faults (mem_flash self.new).faults) }
@@ -289,7 +300,8 @@ impl Flash for MemFlash {
     fn settle(&mut self) -> Result<(), FlashFailed>
         ensures state { OnOk result ((mem_flash self.new).state ≡ settle_pages (mem_flash self.old).state) }
         ensures failed { OnErr result ((mem_flash self.new).state ≡ (mem_flash self.old).state) }
-        ensures during { EachFlashCase (λ c. IsStill (mem_flash self.old).state c ⊎ IsStill (mem_flash self.new).state c)
+        ensures during { EachFlashCase (λ c. IsStill (mem_flash self.old).state c
+            ⊎ IsStill (mem_flash self.new).state c)
             (mem_flash self.old) (mem_flash self.new) }
         ensures time { FlashElapses (mem_flash self.old) (mem_flash self.new) }
         ensures cause { OnErr result (Rose (mem_flash self.old).faults (mem_flash self.new).faults) }

@@ -14,7 +14,8 @@ third_false false b c d e is = refl
 too_long : (slot : List ℕ) → nat_le (length_in slot) max_body ≡ false → verified slot ≡ None
 unfolding verified
 too_long slot long = ap (λ b. cond b (Some (generation_in slot, body_in slot)) None)
-    (third_false (nat_le header (length slot)) (nat_le 1 (generation_in slot)) (nat_le (length_in slot) max_body) (nat_le (header + length_in slot) (length slot)) _ long)
+    (third_false (nat_le header (length slot)) (nat_le 1 (generation_in slot)) (nat_le (length_in slot) max_body)
+    (nat_le (header + length_in slot) (length slot)) _ long)
 
 blank_is_long : nat_le (length_in blank_page) max_body ≡ false
 unfolding length_in blank_page

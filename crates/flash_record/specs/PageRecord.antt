@@ -1,9 +1,11 @@
--- What a page of flash says as a record: a sealed text whose generation is the sequence number, with a body of 272 bytes.
+-- What a page of flash says as a record: a sealed text whose generation is the sequence number, with a body of 272
+-- bytes.
 use Rattle.std.specs.Prelude.{ℕ, ◌==◌, List, ◌++◌, length, drop, Option, Some, None, if◌then◌else◌}
 use Rattle.byteorder.specs.Endian.{little_bytes, little_number}
 use Rattle.hash_guard.specs.SealedText.{verified}
 
--- a page of a file: the sequence number of the record, the file, the place of the page in the file, the file's length, and the bytes
+-- a page of a file: the sequence number of the record, the file, the place of the page in the file, the file's length,
+-- and the bytes
 pub record PageRecord : Type 0 where
   pub sequence : ℕ
   pub file : ℕ

@@ -3,4 +3,11 @@ use Rattle.flash_record.specs.declared.reading.Record.{Record}
 use Rattle.flash_record.specs.PageRecord.{PageRecord}
 
 abbrev pub stated : Record → PageRecord
-stated found = record { sequence = found.sequence; file = found.file; page = found.page; len = found.len; bytes = found.bytes.now }
+stated found = record {
+  sequence = found.sequence;
+  file = found.file;
+  page = found.page;
+  len = found.len;
+  bytes =
+      found.bytes.now;
+}

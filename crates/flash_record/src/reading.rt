@@ -33,7 +33,8 @@ pub struct Record<'a> {
 
 /// The record that a page of flash is; `None` exactly where it is none.
 pub fn read_record(page: &[u8]) -> Option<Record<'_>>
-    ensures record { MatchOption result (record_in page.now ≡ None) (λ found. record_in page.now ≡ Some (stated found)) }
+    ensures record { MatchOption result (record_in page.now ≡ None)
+        (λ found. record_in page.now ≡ Some (stated found)) }
     ensures long { IfSome result (λ found. length found.bytes.now ≡ 256) }
 {
     match verify(page) {

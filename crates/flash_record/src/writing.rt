@@ -8,8 +8,8 @@ use byteorder::{ByteOrder, LittleEndian};
 use flash_model::{BLANK_PAGE, PAGE_BYTES};
 use hash_guard::{HEADER, seal_into};
 
-/// The page of flash that keeps these bytes of a file of `len` bytes under this sequence number. What stands behind the text is as in a
-/// blank page.
+/// The page of flash that keeps these bytes of a file of `len` bytes under this sequence number. What stands behind the
+/// text is as in a blank page.
 pub fn record_page(
     sequence: u64,
     file: u32,
@@ -20,7 +20,14 @@ pub fn record_page(
     requires { 1 ≤ sequence }
     ensures long { length result ≡ 512 }
     ensures behind { drop 316 result ≡ replicate 196 255 }
-    ensures record { record_in result ≡ Some (record { sequence = sequence; file = file; page = page; len = len; bytes = bytes.now }) }
+    ensures record { record_in result ≡ Some (record {
+      sequence = sequence;
+      file = file;
+      page = page;
+      len = len;
+      bytes =
+          bytes.now;
+    }) }
 {
     let mut body = [0; BODY];
     write_body(&mut body, file, page, len, bytes);

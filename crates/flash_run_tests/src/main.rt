@@ -1,4 +1,5 @@
-//! Sessions with the program over raw flash in memory, beside a disk in memory: rows in, and the same rows out with what the program wrote.
+//! Sessions with the program over raw flash in memory, beside a disk in memory: rows in, and the same rows out with
+//! what the program wrote.
 //!
 //! | row | what it does, and what is printed behind it |
 //! |---|---|

@@ -1,4 +1,5 @@
-//! Scripts: what was run on a flash since it was fresh, and lines of which the last is stopped at each call of the flash.
+//! Scripts: what was run on a flash since it was fresh, and lines of which the last is stopped at each call of the
+//! flash.
 
 use crate::runs::{Ran, run_over_flash};
 use flash_model::MemFlash;
@@ -63,7 +64,8 @@ impl Script {
         Ok(input)
     }
 
-    /// What a look in a new run finds after a stop at each call of the flash that the last line makes, and after no stop, each once in a row.
+    /// What a look in a new run finds after a stop at each call of the flash that the last line makes, and after no
+    /// stop, each once in a row.
     pub(crate) fn stops(
         &mut self,
         migrations: &Migrations,

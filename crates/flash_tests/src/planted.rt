@@ -102,8 +102,8 @@ pub fn plant_everywhere(flash: &mut MemFlash) -> bool {
 /// How many pages of file 2 lie in each of the first three blocks of a crowded flash.
 pub const COLD: u32 = 42;
 
-/// Fills three blocks of a flash. Each has 42 pages of file 2, which are needed; its other records are of page 0 of file 1, and only the
-/// last of these is needed.
+/// Fills three blocks of a flash. Each has 42 pages of file 2, which are needed; its other records are of page 0 of
+/// file 1, and only the last of these is needed.
 pub fn crowd(flash: &mut MemFlash) -> bool {
     for block in 0..3 {
         for at in 0..64 {

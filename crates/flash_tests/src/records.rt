@@ -7,7 +7,8 @@ use flash_record::{Record, read_record, record_page};
 use sha2::{Digest, Sha256};
 use std::alloc::{AllocError, Global};
 
-/// The page of the record of a step: its number, its file, its page, the file's length, and its first, its inner and its last byte.
+/// The page of the record of a step: its number, its file, its page, the file's length, and its first, its inner and
+/// its last byte.
 fn page_in(step: &Step<'_>) -> [u8; PAGE_BYTES] {
     let mut bytes = [step.byte(5); 256];
     bytes[0] = step.byte(4);

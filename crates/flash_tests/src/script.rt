@@ -8,7 +8,8 @@ use flash_model::MemFlash;
 /// The disk of all cases.
 pub type MemDisk = FlashDisk<MemFlash>;
 
-/// How many writes the script has. Write k, from 0, goes into file k mod 2, at 100 times k mod 7, with 300 bytes of the value k + 1.
+/// How many writes the script has. Write k, from 0, goes into file k mod 2, at 100 times k mod 7, with 300 bytes of the
+/// value k + 1.
 pub const WRITES: u32 = 30;
 
 /// Makes write k of the script.

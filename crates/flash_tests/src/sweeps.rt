@@ -78,7 +78,8 @@ fn are_with_or_without(disk: &mut MemDisk, writes: u32, one: Option<u32>) -> boo
     is_with_or_without(disk, 0, writes, one) && is_with_or_without(disk, 1, writes, one)
 }
 
-// The flash stops at this call; it is opened again, each byte is as before or after the write that failed, and the writes go on.
+// The flash stops at this call; it is opened again, each byte is as before or after the write that failed, and the
+// writes go on.
 fn stops(alloc: Global, call: u64) -> Option<Outcome> {
     let mut flash = MemFlash::new(alloc, 4).ok()?;
     flash.stop_after(call);
@@ -169,8 +170,8 @@ fn play_on(disk: &mut MemDisk) -> (Option<u32>, u32) {
     (failed, count)
 }
 
-// One call fails; one write fails, all others are Ok, and each byte is as with the one that failed or without it, also after the disk was
-// opened again.
+// One call fails; one write fails, all others are Ok, and each byte is as with the one that failed or without it, also
+// after the disk was opened again.
 fn fails(alloc: Global, call: u64) -> Option<Outcome> {
     let mut flash = MemFlash::new(alloc, 4).ok()?;
     plan_one(alloc, &mut flash, call)?;

@@ -12,7 +12,8 @@ use Rattle.guarded_cell.specs.Register.{IsBlank, IsAlone, own}
 use Rattle.guarded_cell.specs.Fronts.{IsChosen, FrontsPut, FrontsCase, IsFrontsCase}
 use Rattle.guarded_cell.specs.Stops.{FormatStops}
 use Rattle.guarded_cell.proofs.Texts.{put_verifies, put_only, put_blank}
-use Rattle.guarded_cell.proofs.Known.{IsKnown, IsKnownCase, known_same, known_puts, case_settled, case_same, case_step, after_known}
+use Rattle.guarded_cell.proofs.Known.{IsKnown, IsKnownCase, known_same, known_puts, case_settled, case_same, case_step}
+use Rattle.guarded_cell.proofs.Known.{after_known}
 use Rattle.guarded_cell.proofs.Putting.{zeros, no_slot_apart, other_apart}
 use Rattle.guarded_cell.proofs.Flags.{all, all_yes}
 use Rattle.guarded_cell.proofs.Blanked.{NoText, zeros_only}
@@ -24,7 +25,8 @@ module _ (first copies : ℕ) (few : copies ≤ 8) (text : List ℕ) (start : Im
   blank_stops : (c : Case) → IsKnownCase first copies NoText NoSlots start c → FormatStops first copies 1 text start c
   blank_stops c k = record {
     slots = λ sound damaged image decay. inl (λ copy lt g t v. ⊎_elim (λ was. was) (λ is_not. absurd is_not)
-        (after_known first copies NoText NoSlots start c k sound damaged image decay copy (own g) lt (omega arith) g t v));
+        (after_known first copies NoText NoSlots start c k sound damaged image decay copy (own g) lt (omega arith) g t
+        v));
     elsewhere = record { base = k.kept.base; full = k.kept.full; left = k.kept.left };
   }
 
@@ -34,15 +36,18 @@ module _ (first copies : ℕ) (few : copies ≤ 8) (text : List ℕ) (start : Im
 
   blank_step : (parity : ℕ) → parity < 2 → (d c : Case) → FrontsCase first parity copies all zeros d c
       → IsKnownCase first copies NoText NoSlots start d → IsKnownCase first copies NoText NoSlots start c
-  blank_step parity small d c fronts known = case_step first copies NoText NoSlots start parity copies all zeros d c fronts zeros_only
+  blank_step parity small d c fronts known = case_step first copies NoText NoSlots start parity copies all zeros d c
+      fronts zeros_only
       (λ f is_not. no_slot_apart first copies parity all small f is_not) known
 
-  module _ (even blank : Image) (put_even : FrontsPut first 0 copies all zeros start even) (put_odd : FrontsPut first 1 copies all zeros even blank) where
+  module _ (even blank : Image) (put_even : FrontsPut first 0 copies all zeros start even)
+      (put_odd : FrontsPut first 1 copies all zeros even blank) where
     is_blank : (copy parity : ℕ) → copy < copies → parity < 2 → IsBlank (blank (slot first copy parity))
     is_blank copy parity lt small g t v = ⊎_elim
         (λ e. put_blank (start (slot first copy 0)) g t
         (subst (λ (s : List ℕ). VerifiesAs s g t)
-        (put_odd.some.others (slot first copy 0) (other_apart first copies 1 0 all copy (omega arith) (omega arith) (λ d. omega (arith, d)))
+        (put_odd.some.others (slot first copy 0) (other_apart first copies 1 0 all copy (omega arith) (omega arith)
+        (λ d. omega (arith, d)))
         ∙ put_even.put copy lt (all_yes copies copy few lt))
         (subst (λ (p : ℕ). VerifiesAs (blank (slot first copy p)) g t) e v)))
         (λ ne.
@@ -57,11 +62,14 @@ module _ (first copies : ℕ) (few : copies ≤ 8) (text : List ℕ) (start : Im
         ∙ put_even.some.others f (no_slot_apart first copies 0 all (omega arith) f is_not)
 
     blank_known : IsKnown first copies NoText start blank
-    blank_known = known_puts first copies NoText (IsChosen first 1 copies all) zeros start even blank put_odd.some zeros_only
-        (known_puts first copies NoText (IsChosen first 0 copies all) zeros start start even put_even.some zeros_only (known_same first copies NoText start))
+    blank_known = known_puts first copies NoText (IsChosen first 1 copies all) zeros start even blank put_odd.some
+        zeros_only
+        (known_puts first copies NoText (IsChosen first 0 copies all) zeros start start even put_even.some zeros_only
+        (known_same first copies NoText start))
 
     -- the blanks are durable
-    pub blanked_case : (c : Case) → IsSettledAt blank c → IsKnownCase first copies NoText (IsNoSlot first copies) start c
+    pub blanked_case : (c : Case) → IsSettledAt blank c → IsKnownCase first copies NoText (IsNoSlot first copies) start
+        c
     blanked_case c settled = case_settled first copies NoText NoSlots start blank c settled blank_known blank_elsewhere
 
     module _ (short : length text ≤ max_body) (bytes : List ℕ) (are_sealed : bytes ≡ sealed 1 text) where
@@ -78,7 +86,8 @@ module _ (first copies : ℕ) (few : copies ≤ 8) (text : List ℕ) (start : Im
         slots = λ sound damaged image decay. inr (λ copy lt g t v. ⊎_elim
             (λ was. absurd (is_blank copy (own g) lt (omega arith) g t was))
             (λ it. it)
-            (after_known first copies Extra NoSlots blank c k sound damaged image decay copy (own g) lt (omega arith) g t v));
+            (after_known first copies Extra NoSlots blank c k sound damaged image decay copy (own g) lt (omega arith) g
+            t v));
         elsewhere = record {
           base = λ f is_not. k.kept.base f is_not ∙ blank_elsewhere f is_not;
           full = λ f is_not. k.kept.full f is_not ∙ blank_elsewhere f is_not;
@@ -87,51 +96,62 @@ module _ (first copies : ℕ) (few : copies ≤ 8) (text : List ℕ) (start : Im
       }
 
       -- while the text is written
-      pub text_pass : (d c : Case) → IsSettledAt blank d → FrontsCase first 1 copies all bytes d c → FormatStops first copies 1 text start c
-      text_pass d c settled fronts = text_stops c (case_step first copies Extra NoSlots blank 1 copies all bytes d c fronts sealed_only
-          (λ f is_not. no_slot_apart first copies 1 all (omega arith) f is_not) (case_same first copies Extra NoSlots blank d settled))
+      pub text_pass : (d c : Case) → IsSettledAt blank d → FrontsCase first 1 copies all bytes d c
+          → FormatStops first copies 1 text start c
+      text_pass d c settled fronts = text_stops c (case_step first copies Extra NoSlots blank 1 copies all bytes d c
+          fronts sealed_only
+          (λ f is_not. no_slot_apart first copies 1 all (omega arith) f is_not)
+          (case_same first copies Extra NoSlots blank d settled))
 
       module _ (new : Image) (put : FrontsPut first 1 copies all bytes blank new) where
         pub text_elsewhere : Spares (IsNoSlot first copies) start new
-        text_elsewhere f is_not = put.some.others f (no_slot_apart first copies 1 all (omega arith) f is_not) ∙ blank_elsewhere f is_not
+        text_elsewhere f is_not = put.some.others f (no_slot_apart first copies 1 all (omega arith) f is_not)
+            ∙ blank_elsewhere f is_not
 
         pub text_end : (c : Case) → IsSettledAt new c → FormatStops first copies 1 text start c
         text_end c settled = text_stops c (case_settled first copies Extra NoSlots blank new c settled
-            (known_puts first copies Extra (IsChosen first 1 copies all) bytes blank blank new put.some sealed_only (known_same first copies Extra blank))
+            (known_puts first copies Extra (IsChosen first 1 copies all) bytes blank blank new put.some sealed_only
+            (known_same first copies Extra blank))
             (λ f is_not. put.some.others f (no_slot_apart first copies 1 all (omega arith) f is_not)))
 
         pub text_alone : IsAlone new first copies 1 text
         text_alone = record {
-          held = λ copy lt. subst (λ (s : List ℕ). VerifiesAs s 1 text) (sym (put.put copy lt (all_yes copies copy few lt)))
+          held = λ copy lt. subst (λ (s : List ℕ). VerifiesAs s 1 text)
+              (sym (put.put copy lt (all_yes copies copy few lt)))
               (subst (λ (xs : List ℕ). VerifiesAs (put_bytes (blank (slot first copy 1)) 0 xs) 1 text) (sym are_sealed)
               (put_verifies (blank (slot first copy 1)) 1 text (omega arith) (omega arith) short));
           blank = λ copy lt g t v. is_blank copy 0 lt (omega arith) g t (subst (λ (s : List ℕ). VerifiesAs s g t)
-              (put.some.others (slot first copy 0) (other_apart first copies 1 0 all copy (omega arith) (omega arith) (λ d. omega (arith, d)))) v);
+              (put.some.others (slot first copy 0) (other_apart first copies 1 0 all copy (omega arith) (omega arith)
+              (λ d. omega (arith, d)))) v);
         }
 
 -- ---- over the moments of the call
 
-module _ (first copies : ℕ) (few : copies ≤ 8) (text : List ℕ) (told : Bool) (old even blank new : Medium) (quiet : Quiet old)
+module _ (first copies : ℕ) (few : copies ≤ 8) (text : List ℕ) (told : Bool) (old even blank new : Medium)
+    (quiet : Quiet old)
     (during : Follows (FrontsCase first 0 copies all zeros) old.now (even.since old.moment)) where
   pub format_first : EachCase (FormatStops first copies 1 text old.image) old even
   format_first c past =
       let (d, now, fronts) = during c past in
       blank_stops first copies few text old.image c
-      (blank_step first copies few text old.image 0 (omega arith) d c fronts (case_same first copies NoText (IsNoSlot first copies) old.image d (quiet d now)))
+      (blank_step first copies few text old.image 0 (omega arith) d c fronts
+      (case_same first copies NoText (IsNoSlot first copies) old.image d (quiet d now)))
 
   pub format_second : (done : Type 0) → IsLawful told even → Elapses old even → Elapses even blank
       → (done → FrontsPut first 0 copies all zeros old.image even.image)
       → (done → FrontsPut first 1 copies all zeros even.image blank.image)
       → EachCase (IsFrontsCase first 1 copies all zeros even blank done) even blank
       → EachCase (FormatStops first copies 1 text old.image) old blank
-  format_second done law time next put blanked cases = goes_on (FormatStops first copies 1 text old.image) time next format_first
+  format_second done law time next put blanked cases = goes_on (FormatStops first copies 1 text old.image) time next
+      format_first
       (λ c past. blank_stops first copies few text old.image c (⊎_elim
       (λ before.
       let from = during before.0 (case_now law time before.0 before.1) in
       blank_step first copies few text old.image 1 (omega arith) before.0 c before.2
       (blank_step first copies few text old.image 0 (omega arith) from.0 before.0 from.2
       (case_same first copies NoText (IsNoSlot first copies) old.image from.0 (quiet from.0 from.1))))
-      (λ after. blanked_case first copies few text old.image even.image blank.image (put after.0) (blanked after.0) c after.1)
+      (λ after. blanked_case first copies few text old.image even.image blank.image (put after.0) (blanked after.0) c
+      after.1)
       (cases c past)))
 
   pub format_third : (done : Type 0) → length text ≤ max_body → (bytes : List ℕ) → bytes ≡ sealed 1 text → Quiet blank
@@ -141,6 +161,8 @@ module _ (first copies : ℕ) (few : copies ≤ 8) (text : List ℕ) (told : Boo
       → EachCase (IsFrontsCase first 1 copies all bytes blank new done) blank new
       → EachCase (FormatStops first copies 1 text old.image) blank new
   format_third done short bytes are_sealed calm put blanked written cases c past = ⊎_elim
-      (λ before. text_pass first copies few text old.image even.image blank.image put blanked short bytes are_sealed before.0 c (calm before.0 before.1) before.2)
-      (λ after. text_end first copies few text old.image even.image blank.image put blanked short bytes are_sealed new.image (written after.0) c after.1)
+      (λ before. text_pass first copies few text old.image even.image blank.image put blanked short bytes are_sealed
+      before.0 c (calm before.0 before.1) before.2)
+      (λ after. text_end first copies few text old.image even.image blank.image put blanked short bytes are_sealed
+      new.image (written after.0) c after.1)
       (cases c past)

@@ -1,5 +1,6 @@
 -- All texts but one are blanked: what a stop leaves, and what stands at the end.
-use Rattle.std.proofs.Common.{◌≡◌, ◌⊎◌, ℕ, ◌+◌, ◌*◌, ◌<◌, List, Bool, true, refl, sym, ◌∙◌, subst, inl, inr, ⊎_elim, arith}
+use Rattle.std.proofs.Common.{◌≡◌, ◌⊎◌, ℕ, ◌+◌, ◌*◌, ◌<◌, List, Bool, true, refl, sym, ◌∙◌, subst, inl, inr, ⊎_elim}
+use Rattle.std.proofs.Common.{arith}
 use Rattle.hash_guard.specs.SealedText.{VerifiesAs}
 use Rattle.hash_guard.specs.Laws.{verifies_once}
 use Rattle.disk_model.specs.Image.{Image, put_bytes}
@@ -14,7 +15,8 @@ use Rattle.guarded_cell.specs.declared.slots.Pick.TheVariants.{Others, Verifying
 use Rattle.guarded_cell.specs.Fronts.{IsChosen, FrontsPut, FrontsCase, IsFrontsCase}
 use Rattle.guarded_cell.specs.Stops.{KeepStops}
 use Rattle.guarded_cell.proofs.Texts.{put_blank}
-use Rattle.guarded_cell.proofs.Known.{IsKnownCase, known_same, known_puts, case_settled, case_same, case_step, after_known, undamaged_holds}
+use Rattle.guarded_cell.proofs.Known.{IsKnownCase, known_same, known_puts, case_settled, case_same, case_step}
+use Rattle.guarded_cell.proofs.Known.{after_known, undamaged_holds}
 use Rattle.guarded_cell.proofs.Putting.{zeros, by_flag, no_slot_apart, other_apart, unchosen_apart}
 
 abbrev pub NoText : ℕ → List ℕ → Type 0
@@ -34,14 +36,17 @@ module _ (first copies generation : ℕ) (text : List ℕ) (start : Image) where
   abbrev Kept : ℕ → Type 0
   Kept f = IsNoSlot first copies f ⊎ IsHolder f
 
-  keep_stops : (c : Case) → IsKnownCase first copies NoText Kept start c → KeepStops first copies generation text start c
+  keep_stops : (c : Case) → IsKnownCase first copies NoText Kept start c
+      → KeepStops first copies generation text start c
   keep_stops c k = record {
     known = λ sound damaged image decay copy lt g t v. ⊎_elim (λ was. was) (λ is_not. absurd is_not)
         (after_known first copies NoText Kept start c k sound damaged image decay copy (own g) lt (omega arith) g t v);
     kept = λ sound damaged image decay copy lt safe held.
-        let mine : IsHolder (slot first copy (own generation)) = record { copy = copy; within = lt; is = refl; holds = held } in
+        let mine : IsHolder (slot first copy (own generation)) =
+        record { copy = copy; within = lt; is = refl; holds = held } in
         undamaged_holds first copies damaged c.left image decay copy generation text safe
-        (subst (λ (s : List ℕ). VerifiesAs s generation text) (sym (k.kept.left (slot first copy (own generation)) (inr mine))) held);
+        (subst (λ (s : List ℕ). VerifiesAs s generation text)
+        (sym (k.kept.left (slot first copy (own generation)) (inr mine))) held);
     elsewhere = record {
       base = λ f is_not. k.kept.base f (inl is_not);
       full = λ f is_not. k.kept.full f (inl is_not);
@@ -61,7 +66,8 @@ module _ (first copies generation : ℕ) (text : List ℕ) (start : Image) where
         let e : first + 4 * mine.copy + own generation ≡ first + 4 * is.copy + own generation = sym mine.is ∙ is.is in
         let same : mine.copy ≡ is.copy = omega (arith, e) in
         let has : Tells Others true (start (slot first is.copy (own generation))) generation text =
-        subst (λ (b : Bool). Tells Others b (start (slot first is.copy (own generation))) generation text) is.flag (picks is.copy is.within) in
+        subst (λ (b : Bool). Tells Others b (start (slot first is.copy (own generation))) generation text) is.flag
+        (picks is.copy is.within) in
         has (λ g t v. verifies_once (start (slot first is.copy (own generation))) g generation t text v
         (subst (λ (x : ℕ). Holds start first x generation text) same mine.holds))
 
@@ -74,17 +80,22 @@ module _ (first copies generation : ℕ) (text : List ℕ) (start : Image) where
     stale_apart : (f : ℕ) → Kept f → ¬ (IsChosen first (other generation) copies stale f)
     stale_apart f keep is = ⊎_elim
         (λ is_not. no_slot_apart first copies (other generation) stale (omega arith) f is_not is)
-        (λ mine. other_apart first copies (other generation) (own generation) stale mine.copy (omega arith) (omega arith) (λ e. omega (arith, e))
+        (λ mine. other_apart first copies (other generation) (own generation) stale mine.copy (omega arith)
+        (omega arith) (λ e. omega (arith, e))
         (subst (IsChosen first (other generation) copies stale) mine.is is))
         keep
 
-    first_case : (d c : Case) → IsSettledAt start d → FrontsCase first (own generation) copies others zeros d c → IsKnownCase first copies NoText Kept start c
-    first_case d c settled fronts = case_step first copies NoText Kept start (own generation) copies others zeros d c fronts zeros_only own_apart
+    first_case : (d c : Case) → IsSettledAt start d → FrontsCase first (own generation) copies others zeros d c
+        → IsKnownCase first copies NoText Kept start c
+    first_case d c settled fronts = case_step first copies NoText Kept start (own generation) copies others zeros d c
+        fronts zeros_only own_apart
         (case_same first copies NoText Kept start d settled)
 
-    second_case : (d c : Case) → IsKnownCase first copies NoText Kept start d → FrontsCase first (other generation) copies stale zeros d c
+    second_case : (d c : Case) → IsKnownCase first copies NoText Kept start d
+        → FrontsCase first (other generation) copies stale zeros d c
         → IsKnownCase first copies NoText Kept start c
-    second_case d c known fronts = case_step first copies NoText Kept start (other generation) copies stale zeros d c fronts zeros_only stale_apart known
+    second_case d c known fronts = case_step first copies NoText Kept start (other generation) copies stale zeros d c
+        fronts zeros_only stale_apart known
 
     module _ (mid new : Image) (put : FrontsPut first (own generation) copies others zeros start mid)
         (blanked : FrontsPut first (other generation) copies stale zeros mid new) where
@@ -93,32 +104,41 @@ module _ (first copies generation : ℕ) (text : List ℕ) (start : Image) where
 
       end_case : (c : Case) → IsSettledAt new c → IsKnownCase first copies NoText Kept start c
       end_case c settled = case_settled first copies NoText Kept start new c settled
-          (known_puts first copies NoText (IsChosen first (other generation) copies stale) zeros start mid new blanked.some zeros_only
-          (known_puts first copies NoText (IsChosen first (own generation) copies others) zeros start start mid put.some zeros_only (known_same first copies NoText start)))
+          (known_puts first copies NoText (IsChosen first (other generation) copies stale) zeros start mid new
+          blanked.some zeros_only
+          (known_puts first copies NoText (IsChosen first (own generation) copies others) zeros start start mid put.some
+          zeros_only (known_same first copies NoText start)))
           new_kept
 
       new_own : (copy : ℕ) → new (slot first copy (own generation)) ≡ mid (slot first copy (own generation))
       new_own copy = blanked.some.others (slot first copy (own generation))
-          (other_apart first copies (other generation) (own generation) stale copy (omega arith) (omega arith) (λ e. omega (arith, e)))
+          (other_apart first copies (other generation) (own generation) stale copy (omega arith) (omega arith)
+          (λ e. omega (arith, e)))
 
       mid_other : (copy : ℕ) → mid (slot first copy (other generation)) ≡ start (slot first copy (other generation))
       mid_other copy = put.some.others (slot first copy (other generation))
-          (other_apart first copies (own generation) (other generation) others copy (omega arith) (omega arith) (λ e. omega (arith, e)))
+          (other_apart first copies (own generation) (other generation) others copy (omega arith) (omega arith)
+          (λ e. omega (arith, e)))
 
       pub kept_alone : IsKeptAlone first copies generation text start new
       kept_alone = record {
         held = λ copy lt holds.
-            let mine : IsHolder (slot first copy (own generation)) = record { copy = copy; within = lt; is = refl; holds = holds } in
-            subst (λ (s : List ℕ). VerifiesAs s generation text) (sym (new_kept (slot first copy (own generation)) (inr mine))) holds;
-        own_slots = λ copy lt g t v. by_flag others copy ((g ≡ generation) × (t ≡ text) × Holds start first copy generation text)
+            let mine : IsHolder (slot first copy (own generation)) =
+            record { copy = copy; within = lt; is = refl; holds = holds } in
+            subst (λ (s : List ℕ). VerifiesAs s generation text)
+            (sym (new_kept (slot first copy (own generation)) (inr mine))) holds;
+        own_slots = λ copy lt g t v. by_flag others copy ((g ≡ generation) × (t ≡ text)
+            × Holds start first copy generation text)
             (λ is_set. absurd (put_blank (start (slot first copy (own generation))) g t
             (subst (λ (s : List ℕ). VerifiesAs s g t) (new_own copy ∙ put.put copy lt is_set) v)))
             (λ is_not.
             let was : VerifiesAs (start (slot first copy (own generation))) g t =
             subst (λ (s : List ℕ). VerifiesAs s g t)
-            (new_own copy ∙ put.some.others (slot first copy (own generation)) (unchosen_apart first copies (own generation) others copy is_not)) v in
+            (new_own copy ∙ put.some.others (slot first copy (own generation))
+            (unchosen_apart first copies (own generation) others copy is_not)) v in
             let only : HasNoOther (start (slot first copy (own generation))) generation text =
-            subst (λ (b : Bool). Tells Others b (start (slot first copy (own generation))) generation text) is_not (picks copy lt) in
+            subst (λ (b : Bool). Tells Others b (start (slot first copy (own generation))) generation text) is_not
+            (picks copy lt) in
             let same = only g t was in (
               same.0,
               same.1,
@@ -126,12 +146,15 @@ module _ (first copies generation : ℕ) (text : List ℕ) (start : Image) where
                   (subst (λ (y : List ℕ). VerifiesAs (start (slot first copy (own generation))) g y) same.1 was),
             ));
         blank = λ copy lt. by_flag stale copy (IsBlank (new (slot first copy (other generation))))
-            (λ is_set g t v. put_blank (mid (slot first copy (other generation))) g t (subst (λ (s : List ℕ). VerifiesAs s g t) (blanked.put copy lt is_set) v))
+            (λ is_set g t v. put_blank (mid (slot first copy (other generation))) g t
+            (subst (λ (s : List ℕ). VerifiesAs s g t) (blanked.put copy lt is_set) v))
             (λ is_not g t v.
             let was : IsBlank (start (slot first copy (other generation))) =
-            subst (λ (b : Bool). Tells Verifying b (start (slot first copy (other generation))) generation text) is_not (stales copy lt) in
+            subst (λ (b : Bool). Tells Verifying b (start (slot first copy (other generation))) generation text) is_not
+            (stales copy lt) in
             was g t (subst (λ (s : List ℕ). VerifiesAs s g t)
-            (blanked.some.others (slot first copy (other generation)) (unchosen_apart first copies (other generation) stale copy is_not) ∙ mid_other copy) v));
+            (blanked.some.others (slot first copy (other generation))
+            (unchosen_apart first copies (other generation) stale copy is_not) ∙ mid_other copy) v));
       }
 
 -- ---- over the moments of the call
@@ -144,18 +167,22 @@ module _ (first copies generation : ℕ) (text : List ℕ) (told : Bool) (old mi
   pub keep_first : EachCase (KeepStops first copies generation text old.image) old mid
   keep_first c past =
       let (d, now, fronts) = during c past in
-      keep_stops first copies generation text old.image c (first_case first copies generation text old.image others stale picks stales d c (quiet d now) fronts)
+      keep_stops first copies generation text old.image c
+      (first_case first copies generation text old.image others stale picks stales d c (quiet d now) fronts)
 
   pub keep_second : (done : Type 0) → IsLawful told mid → Elapses old mid → Elapses mid new
       → (done → FrontsPut first (own generation) copies others zeros old.image mid.image)
       → (done → FrontsPut first (other generation) copies stale zeros mid.image new.image)
       → EachCase (IsFrontsCase first (other generation) copies stale zeros mid new done) mid new
       → EachCase (KeepStops first copies generation text old.image) old new
-  keep_second done law time next put blanked cases = goes_on (KeepStops first copies generation text old.image) time next keep_first
+  keep_second done law time next put blanked cases = goes_on (KeepStops first copies generation text old.image) time
+      next keep_first
       (λ c past. keep_stops first copies generation text old.image c (⊎_elim
       (λ before.
       let from = during before.0 (case_now law time before.0 before.1) in
       second_case first copies generation text old.image others stale picks stales before.0 c
-      (first_case first copies generation text old.image others stale picks stales from.0 before.0 (quiet from.0 from.1) from.2) before.2)
-      (λ after. end_case first copies generation text old.image others stale picks stales mid.image new.image (put after.0) (blanked after.0) c after.1)
+      (first_case first copies generation text old.image others stale picks stales from.0 before.0 (quiet from.0 from.1)
+      from.2) before.2)
+      (λ after. end_case first copies generation text old.image others stale picks stales mid.image new.image
+      (put after.0) (blanked after.0) c after.1)
       (cases c past)))

@@ -14,17 +14,22 @@ all = replicate 8 true
 pub all_yes : (copies copy : ℕ) → copies ≤ 8 → copy < copies → get_or all copy false ≡ true
 all_yes copies copy few lt = get_or-replicate 8 copy true false (omega (arith, few, lt))
 
-module _ (image : Image) (first copies generation : ℕ) (t next : List ℕ) (few : copies ≤ 8) (alone : IsAlone image first copies generation t) where
+module _ (image : Image) (first copies generation : ℕ) (t next : List ℕ) (few : copies ≤ 8)
+    (alone : IsAlone image first copies generation t) where
   -- where each copy holds a text alone, no copy holds the next one
   pub all_lack : Picks Lacking all image first copies (own (generation + 1)) (generation + 1) next
   all_lack copy lt =
       let e : own (generation + 1) ≡ other generation = omega arith in
-      subst (λ (b : Bool). Tells Lacking b (image (slot first copy (own (generation + 1)))) (generation + 1) next) (sym (all_yes copies copy few lt))
-      (λ v. alone.blank copy lt (generation + 1) next (subst (λ (p : ℕ). VerifiesAs (image (slot first copy p)) (generation + 1) next) e v))
+      subst (λ (b : Bool). Tells Lacking b (image (slot first copy (own (generation + 1)))) (generation + 1) next)
+      (sym (all_yes copies copy few lt))
+      (λ v. alone.blank copy lt (generation + 1) next (subst
+      (λ (p : ℕ). VerifiesAs (image (slot first copy p)) (generation + 1) next) e v))
 
   -- and each old slot is stale
   pub all_stale : Picks Verifying all image first copies (other (generation + 1)) (generation + 1) next
   all_stale copy lt =
       let e : own generation ≡ other (generation + 1) = omega arith in
-      subst (λ (b : Bool). Tells Verifying b (image (slot first copy (other (generation + 1)))) (generation + 1) next) (sym (all_yes copies copy few lt))
-      (λ blank. blank generation t (subst (λ (p : ℕ). VerifiesAs (image (slot first copy p)) generation t) e (alone.held copy lt)))
+      subst (λ (b : Bool). Tells Verifying b (image (slot first copy (other (generation + 1)))) (generation + 1) next)
+      (sym (all_yes copies copy few lt))
+      (λ blank. blank generation t (subst (λ (p : ℕ). VerifiesAs (image (slot first copy p)) generation t) e
+      (alone.held copy lt)))

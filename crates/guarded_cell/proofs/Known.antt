@@ -16,7 +16,8 @@ IsKnown first copies Extra start image = (copy parity : ℕ) → copy < copies �
     → VerifiesAs (image (slot first copy parity)) h t → VerifiesAs (start (slot first copy parity)) h t ⊎ Extra h t
 
 -- so it is in a case, in which some files are as at the start
-pub record IsKnownCase (first copies : ℕ) (Extra : ℕ → List ℕ → Type 0) (Kept : ℕ → Type 0) (start : Image) (c : Case) : Type 0 where
+pub record IsKnownCase (first copies : ℕ) (Extra : ℕ → List ℕ → Type 0) (Kept : ℕ → Type 0) (start : Image)
+    (c : Case) : Type 0 where
   pub base : IsKnown first copies Extra start c.base
   pub full : IsKnown first copies Extra start c.full
   pub kept : IsSettledOn Kept start c
@@ -34,7 +35,8 @@ module _ (first copies : ℕ) (Extra : ℕ → List ℕ → Type 0) where
       (puts.each (slot first copy parity))
 
   module _ (Kept : ℕ → Type 0) (start : Image) where
-    pub case_settled : (image : Image) (c : Case) → IsSettledAt image c → IsKnown first copies Extra start image → Spares Kept start image
+    pub case_settled : (image : Image) (c : Case) → IsSettledAt image c → IsKnown first copies Extra start image
+        → Spares Kept start image
         → IsKnownCase first copies Extra Kept start c
     case_settled image c settled known spares = record {
       base = subst (λ (im : Image). IsKnown first copies Extra start im) (sym settled.base) known;
@@ -49,7 +51,8 @@ module _ (first copies : ℕ) (Extra : ℕ → List ℕ → Type 0) where
     pub case_same : (c : Case) → IsSettledAt start c → IsKnownCase first copies Extra Kept start c
     case_same c settled = case_settled start c settled (known_same start) (λ f keep. refl)
 
-    pub case_step : (parity n : ℕ) (chosen : List Bool) (bytes : List ℕ) (d c : Case) → FrontsCase first parity n chosen bytes d c
+    pub case_step : (parity n : ℕ) (chosen : List Bool) (bytes : List ℕ) (d c : Case)
+        → FrontsCase first parity n chosen bytes d c
         → ((old : List ℕ) (h : ℕ) (t : List ℕ) → VerifiesAs (put_bytes old 0 bytes) h t → Extra h t)
         → ((f : ℕ) → Kept f → ¬ (IsChosen first parity n chosen f))
         → IsKnownCase first copies Extra Kept start d → IsKnownCase first copies Extra Kept start c
@@ -65,7 +68,8 @@ module _ (first copies : ℕ) (Extra : ℕ → List ℕ → Type 0) where
 
     -- after a crash and damage
     pub after_known : (c : Case) → IsKnownCase first copies Extra Kept start c → IsSoundFor (IsSlotPiece first copies) c
-        → (damaged : List ℕ) (image : Image) → DecaysFor (IsSlotPiece first copies) damaged c.left image → IsKnown first copies Extra start image
+        → (damaged : List ℕ) (image : Image) → DecaysFor (IsSlotPiece first copies) damaged c.left image
+        → IsKnown first copies Extra start image
     after_known c k sound damaged image decay copy parity lt p h t v =
         let piece : SlotText = record { copy = copy; parity = parity; generation = h; text = t } in
         let now : IsSlotPiece first copies image piece = record { copy = lt; parity = p; verifies = v } in
@@ -76,13 +80,19 @@ module _ (first copies : ℕ) (Extra : ℕ → List ℕ → Type 0) where
         (sound piece was)
 
 -- a slot of a copy outside the damage is as the crash left it
-pub undamaged_slot : (first copies : ℕ) (damaged : List ℕ) (left image : Image) → DecaysFor (IsSlotPiece first copies) damaged left image
-    → (copy parity : ℕ) → IsUndamaged damaged first copy → parity < 2 → image (slot first copy parity) ≡ left (slot first copy parity)
-undamaged_slot first copies damaged left image decay copy parity safe p = decay.others (slot first copy parity) (safe parity (omega (arith, p)))
+pub undamaged_slot : (first copies : ℕ) (damaged : List ℕ) (left image : Image)
+    → DecaysFor (IsSlotPiece first copies) damaged left image
+    → (copy parity : ℕ) → IsUndamaged damaged first copy → parity < 2
+    → image (slot first copy parity) ≡ left (slot first copy parity)
+undamaged_slot first copies damaged left image decay copy parity safe p =
+    decay.others (slot first copy parity) (safe parity (omega (arith, p)))
 
 -- so what it held and a file that is as it was, it holds
-pub undamaged_holds : (first copies : ℕ) (damaged : List ℕ) (left image : Image) → DecaysFor (IsSlotPiece first copies) damaged left image
-    → (copy g : ℕ) (t : List ℕ) → IsUndamaged damaged first copy → Holds left first copy g t → Holds image first copy g t
+pub undamaged_holds : (first copies : ℕ) (damaged : List ℕ) (left image : Image)
+    → DecaysFor (IsSlotPiece first copies) damaged left image
+    → (copy g : ℕ) (t : List ℕ) → IsUndamaged damaged first copy → Holds left first copy g t
+    → Holds image first copy g t
 undamaged_holds first copies damaged left image decay copy g t safe held =
     let small : own g < 2 = omega arith in
-    subst (λ (s : List ℕ). VerifiesAs s g t) (sym (undamaged_slot first copies damaged left image decay copy (own g) safe small)) held
+    subst (λ (s : List ℕ). VerifiesAs s g t) (sym (undamaged_slot first copies damaged left image decay copy (own g)
+    safe small)) held

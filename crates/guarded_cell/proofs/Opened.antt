@@ -11,7 +11,8 @@ use Rattle.guarded_cell.specs.Stops.{PutStops}
 use Rattle.guarded_cell.specs.Opens.{StandsAs, OpenStops, OpenStopsAt}
 use Rattle.guarded_cell.proofs.Putting.{still_stops}
 
-pub open_still : (first copies m : ℕ) (start : Image) (c : Case) → IsSettledAt start c → OpenStops first copies m start c
+pub open_still : (first copies m : ℕ) (start : Image) (c : Case) → IsSettledAt start c
+    → OpenStops first copies m start c
 open_still first copies m start c settled = go (standing start first copies m)
   where
     go : (s : Option Seen) → OpenStopsAt first copies s start c
@@ -19,21 +20,28 @@ open_still first copies m start c settled = go (standing start first copies m)
     go (Some seen) = still_stops first copies seen.generation seen.text start c settled
 
 -- nothing is written until a text is found to stand, and then it is put into every copy
-pub open_later : (first copies m : ℕ) (old mid new : Medium) (seen : Seen) → Elapses old mid → Elapses mid new → IsIdle old mid
+pub open_later : (first copies m : ℕ) (old mid new : Medium) (seen : Seen) → Elapses old mid → Elapses mid new
+    → IsIdle old mid
     → standing old.image first copies m ≡ Some seen
-    → EachCase (PutStops first copies seen.generation seen.text mid.image) mid new → EachCase (OpenStops first copies m old.image) old new
-open_later first copies m old mid new seen time next idle stands put = goes_on (OpenStops first copies m old.image) time next
+    → EachCase (PutStops first copies seen.generation seen.text mid.image) mid new
+    → EachCase (OpenStops first copies m old.image) old new
+open_later first copies m old mid new seen time next idle stands put =
+    goes_on (OpenStops first copies m old.image) time next
     (λ c past. open_still first copies m old.image c (idle.during c past))
     (λ c past. subst (λ (s : Option Seen). OpenStopsAt first copies s old.image c) (sym stands)
     (subst (λ (im : Image). PutStops first copies seen.generation seen.text im c) idle.image (put c past)))
 
-pub stands_as : (s : Option Seen) (seen : Seen) (g : ℕ) (t : List ℕ) → s ≡ Some seen → g ≡ seen.generation → t ≡ seen.text → StandsAs s g t
-stands_as s seen g t is_it counts alike = subst (λ (x : Option Seen). StandsAs x g t) (sym is_it) (sym counts, sym alike)
+pub stands_as : (s : Option Seen) (seen : Seen) (g : ℕ) (t : List ℕ) → s ≡ Some seen → g ≡ seen.generation
+    → t ≡ seen.text → StandsAs s g t
+stands_as s seen g t is_it counts alike = subst (λ (x : Option Seen). StandsAs x g t) (sym is_it)
+    (sym counts, sym alike)
 
 -- ---- the count of bytes
 
 -- a text that can be sealed again is short
-pub opened_most : (copies len was mid now : ℕ) → mid ≡ was → len ≤ 524244 → now ≤ mid + copies * (44 + len + 44) → now ≤ was + copies * (44 + 524244 + 44)
+pub opened_most : (copies len was mid now : ℕ) → mid ≡ was → len ≤ 524244 → now ≤ mid + copies * (44 + len + 44)
+    → now ≤ was + copies * (44 + 524244 + 44)
 opened_most copies len was mid now same short written =
-    let wider : copies * (44 + len + 44) ≤ copies * (44 + 524244 + 44) = mul-le-mul_left copies (omega (arith, short)) in
+    let wider : copies * (44 + len + 44) ≤ copies * (44 + 524244 + 44) =
+    mul-le-mul_left copies (omega (arith, short)) in
     omega (arith, same, written, wider)

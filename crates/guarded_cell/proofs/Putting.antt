@@ -1,5 +1,6 @@
 -- A text is put into every copy: what a stop leaves in each phase, and what stands at the end.
-use Rattle.std.proofs.Common.{◌≡◌, ◌≢◌, ◌⊎◌, ℕ, ◌+◌, ◌*◌, ◌^◌, ◌<◌, ◌≤◌, List, length, replicate, get_or, Bool, true, false, refl, sym, ap, ◌∙◌, subst, inl, inr, ⊎_elim, arith}
+use Rattle.std.proofs.Common.{◌≡◌, ◌≢◌, ◌⊎◌, ℕ, ◌+◌, ◌*◌, ◌^◌, ◌<◌, ◌≤◌, List, length, replicate, get_or, Bool, true}
+use Rattle.std.proofs.Common.{false, refl, sym, ap, ◌∙◌, subst, inl, inr, ⊎_elim, arith}
 use Rattle.std.proofs.Math.Nat.{mul-le-mul_left, mul-add}
 use Rattle.hash_guard.specs.SealedText.{VerifiesAs, sealed, max_body}
 use Rattle.disk_model.specs.Image.{Image, put_bytes}
@@ -14,13 +15,15 @@ use Rattle.guarded_cell.specs.declared.slots.Pick.TheVariants.{Lacking, Verifyin
 use Rattle.guarded_cell.specs.Fronts.{IsChosen, FrontsPut, FrontsCase, IsFrontsCase}
 use Rattle.guarded_cell.specs.Stops.{PutStops}
 use Rattle.guarded_cell.proofs.Texts.{put_verifies, put_only, put_blank}
-use Rattle.guarded_cell.proofs.Known.{IsKnown, IsKnownCase, known_same, known_puts, case_settled, case_same, case_step, after_known, undamaged_holds}
+use Rattle.guarded_cell.proofs.Known.{IsKnown, IsKnownCase, known_same, known_puts, case_settled, case_same, case_step}
+use Rattle.guarded_cell.proofs.Known.{after_known, undamaged_holds}
 
 abbrev pub zeros : List ℕ
 zeros = replicate 44 0
 
 -- the flag of a copy says it one way or the other
-pub by_flag : (chosen : List Bool) (copy : ℕ) (P : Type 0) → (get_or chosen copy false ≡ true → P) → (get_or chosen copy false ≡ false → P) → P
+pub by_flag : (chosen : List Bool) (copy : ℕ) (P : Type 0) → (get_or chosen copy false ≡ true → P)
+    → (get_or chosen copy false ≡ false → P) → P
 by_flag chosen copy P is_set is_not = go (get_or chosen copy false) refl
   where
     go : (b : Bool) → get_or chosen copy false ≡ b → P
@@ -28,16 +31,19 @@ by_flag chosen copy P is_set is_not = go (get_or chosen copy false) refl
     go false e = is_not e
 
 -- a slot of no slot of the place, of the other parity, or of a copy that is not chosen, is not chosen
-pub no_slot_apart : (first copies parity : ℕ) (chosen : List Bool) → parity < 2 → (f : ℕ) → IsNoSlot first copies f → ¬ (IsChosen first parity copies chosen f)
+pub no_slot_apart : (first copies parity : ℕ) (chosen : List Bool) → parity < 2 → (f : ℕ) → IsNoSlot first copies f
+    → ¬ (IsChosen first parity copies chosen f)
 no_slot_apart first copies parity chosen small f is_not is = is_not is.copy parity is.within small is.is
 
-pub other_apart : (first copies p q : ℕ) (chosen : List Bool) (copy : ℕ) → p < 2 → q < 2 → p ≢ q → ¬ (IsChosen first p copies chosen (slot first copy q))
+pub other_apart : (first copies p q : ℕ) (chosen : List Bool) (copy : ℕ) → p < 2 → q < 2 → p ≢ q
+    → ¬ (IsChosen first p copies chosen (slot first copy q))
 other_apart first copies p q chosen copy sp sq differ is =
     let e : first + 4 * copy + q ≡ first + 4 * is.copy + p = is.is in
     let same : p ≡ q = omega (arith, e, sp, sq) in
     differ same
 
-pub unchosen_apart : (first copies p : ℕ) (chosen : List Bool) (copy : ℕ) → get_or chosen copy false ≡ false → ¬ (IsChosen first p copies chosen (slot first copy p))
+pub unchosen_apart : (first copies p : ℕ) (chosen : List Bool) (copy : ℕ) → get_or chosen copy false ≡ false
+    → ¬ (IsChosen first p copies chosen (slot first copy p))
 unchosen_apart first copies p chosen copy is_not is =
     let e : first + 4 * copy + p ≡ first + 4 * is.copy + p = is.is in
     let same : copy ≡ is.copy = omega (arith, e) in
@@ -71,15 +77,24 @@ module _ (first copies generation : ℕ) (text : List ℕ) (start : Image) where
   first_stops : (c : Case) → IsKnownCase first copies Extra Kept start c → PutStops first copies generation text start c
   first_stops c k = record {
     slots = λ sound damaged image decay. record {
-      known = λ copy lt g t v. after_known first copies Extra Kept start c k sound damaged image decay copy (own g) lt (omega arith) g t v;
+      known = λ copy lt g t v. after_known first copies Extra Kept start c k sound damaged image decay copy (own g) lt
+          (omega arith) g t v;
       kept = λ copy lt safe held.
-          let mine : IsHolder (slot first copy (own generation)) = record { copy = copy; within = lt; is = refl; holds = held } in
+          let mine : IsHolder (slot first copy (own generation)) =
+          record { copy = copy; within = lt; is = refl; holds = held } in
           undamaged_holds first copies damaged c.left image decay copy generation text safe
-          (subst (λ (s : List ℕ). VerifiesAs s generation text) (sym (k.kept.left (slot first copy (own generation)) (inr (inr mine)))) held);
+          (subst (λ (s : List ℕ). VerifiesAs s generation text)
+          (sym (k.kept.left (slot first copy (own generation)) (inr (inr mine)))) held);
       stands = inl (λ copy lt safe g t parity held.
-          let its : IsOther (slot first copy (own g)) = record { copy = copy; within = lt; is = ap (slot first copy) (parity ∙ next_parity) } in
+          let its : IsOther (slot first copy (own g)) = record {
+            copy = copy;
+            within = lt;
+            is =
+                ap (slot first copy) (parity ∙ next_parity);
+          } in
           undamaged_holds first copies damaged c.left image decay copy g t safe
-          (subst (λ (s : List ℕ). VerifiesAs s g t) (sym (k.kept.left (slot first copy (own g)) (inr (inl its)))) held));
+          (subst (λ (s : List ℕ). VerifiesAs s g t) (sym (k.kept.left (slot first copy (own g)) (inr (inl its))))
+          held));
     };
     elsewhere = record {
       base = λ f is_not. k.kept.base f (inl is_not);
@@ -90,12 +105,16 @@ module _ (first copies generation : ℕ) (text : List ℕ) (start : Image) where
 
   -- every copy holds the text
   second_stops : (c : Case) → IsKnownCase first copies Extra (IsNoSlot first copies) start c
-      → ((copy : ℕ) → copy < copies → Holds c.left first copy generation text) → PutStops first copies generation text start c
+      → ((copy : ℕ) → copy < copies → Holds c.left first copy generation text)
+      → PutStops first copies generation text start c
   second_stops c k all = record {
     slots = λ sound damaged image decay. record {
-      known = λ copy lt g t v. after_known first copies Extra (IsNoSlot first copies) start c k sound damaged image decay copy (own g) lt (omega arith) g t v;
-      kept = λ copy lt safe held. undamaged_holds first copies damaged c.left image decay copy generation text safe (all copy lt);
-      stands = inr (λ copy lt safe. undamaged_holds first copies damaged c.left image decay copy generation text safe (all copy lt));
+      known = λ copy lt g t v. after_known first copies Extra (IsNoSlot first copies) start c k sound damaged image
+          decay copy (own g) lt (omega arith) g t v;
+      kept = λ copy lt safe held. undamaged_holds first copies damaged c.left image decay copy generation text safe
+          (all copy lt);
+      stands = inr (λ copy lt safe. undamaged_holds first copies damaged c.left image decay copy generation text safe
+          (all copy lt));
     };
     elsewhere = record { base = k.kept.base; full = k.kept.full; left = k.kept.left };
   }
@@ -113,7 +132,8 @@ module _ (first copies generation : ℕ) (text : List ℕ) (start : Image) where
         (subst (λ (xs : List ℕ). VerifiesAs (put_bytes old 0 xs) h t) are_sealed v)
 
     sealed_verifies_there : (old : List ℕ) → VerifiesAs (put_bytes old 0 bytes) generation text
-    sealed_verifies_there old = subst (λ (xs : List ℕ). VerifiesAs (put_bytes old 0 xs) generation text) (sym are_sealed)
+    sealed_verifies_there old = subst (λ (xs : List ℕ). VerifiesAs (put_bytes old 0 xs) generation text)
+        (sym are_sealed)
         (put_verifies old generation text positive fits short)
 
     blank_only : (old : List ℕ) (h : ℕ) (t : List ℕ) → VerifiesAs (put_bytes old 0 zeros) h t → Extra h t
@@ -124,14 +144,16 @@ module _ (first copies generation : ℕ) (text : List ℕ) (start : Image) where
         let e : first + 4 * mine.copy + own generation ≡ first + 4 * is.copy + own generation = sym mine.is ∙ is.is in
         let same : mine.copy ≡ is.copy = omega (arith, e) in
         let lacks_it : Tells Lacking true (start (slot first is.copy (own generation))) generation text =
-        subst (λ (b : Bool). Tells Lacking b (start (slot first is.copy (own generation))) generation text) is.flag (lacks is.copy is.within) in
+        subst (λ (b : Bool). Tells Lacking b (start (slot first is.copy (own generation))) generation text) is.flag
+        (lacks is.copy is.within) in
         lacks_it (subst (λ (x : ℕ). Holds start first x generation text) same mine.holds)
 
     apart : (f : ℕ) → Kept f → ¬ (IsChosen first (own generation) copies lacking f)
     apart f keep is = ⊎_elim
         (λ is_not. no_slot_apart first copies (own generation) lacking (omega arith) f is_not is)
         (λ rest. ⊎_elim
-        (λ its. other_apart first copies (own generation) (other generation) lacking its.copy (omega arith) (omega arith) (λ e. omega (arith, e))
+        (λ its. other_apart first copies (own generation) (other generation) lacking its.copy (omega arith)
+        (omega arith) (λ e. omega (arith, e))
         (subst (IsChosen first (own generation) copies lacking) its.is is))
         (λ mine. holder_apart f mine is)
         rest)
@@ -146,43 +168,53 @@ module _ (first copies generation : ℕ) (text : List ℕ) (start : Image) where
 
     module _ (mid : Image) (put : FrontsPut first (own generation) copies lacking bytes start mid) where
       mid_known : IsKnown first copies Extra start mid
-      mid_known = known_puts first copies Extra (IsChosen first (own generation) copies lacking) bytes start start mid put.some sealed_only
+      mid_known = known_puts first copies Extra (IsChosen first (own generation) copies lacking) bytes start start mid
+          put.some sealed_only
           (known_same first copies Extra start)
 
       pub mid_elsewhere : Spares (IsNoSlot first copies) start mid
-      mid_elsewhere f is_not = put.some.others f (no_slot_apart first copies (own generation) lacking (omega arith) f is_not)
+      mid_elsewhere f is_not = put.some.others f (no_slot_apart first copies (own generation) lacking (omega arith) f
+          is_not)
 
       mid_holds : (copy : ℕ) → copy < copies → Holds mid first copy generation text
       mid_holds copy lt = by_flag lacking copy (Holds mid first copy generation text)
           (λ is_set. subst (λ (s : List ℕ). VerifiesAs s generation text) (sym (put.put copy lt is_set))
           (sealed_verifies_there (start (slot first copy (own generation)))))
           (λ is_not. subst (λ (s : List ℕ). VerifiesAs s generation text)
-          (sym (put.some.others (slot first copy (own generation)) (unchosen_apart first copies (own generation) lacking copy is_not)))
-          (subst (λ (b : Bool). Tells Lacking b (start (slot first copy (own generation))) generation text) is_not (lacks copy lt)))
+          (sym (put.some.others (slot first copy (own generation))
+          (unchosen_apart first copies (own generation) lacking copy is_not)))
+          (subst (λ (b : Bool). Tells Lacking b (start (slot first copy (own generation))) generation text) is_not
+          (lacks copy lt)))
 
       mid_other : (copy : ℕ) → mid (slot first copy (other generation)) ≡ start (slot first copy (other generation))
       mid_other copy = put.some.others (slot first copy (other generation))
-          (other_apart first copies (own generation) (other generation) lacking copy (omega arith) (omega arith) (λ e. omega (arith, e)))
+          (other_apart first copies (own generation) (other generation) lacking copy (omega arith) (omega arith)
+          (λ e. omega (arith, e)))
 
       mid_case : (c : Case) → IsSettledAt mid c → IsKnownCase first copies Extra (IsNoSlot first copies) start c
-      mid_case c settled = case_settled first copies Extra (IsNoSlot first copies) start mid c settled mid_known mid_elsewhere
+      mid_case c settled = case_settled first copies Extra (IsNoSlot first copies) start mid c settled mid_known
+          mid_elsewhere
 
       -- the text is durable
       pub mid_stops : (c : Case) → IsSettledAt mid c → PutStops first copies generation text start c
       mid_stops c settled = second_stops c (mid_case c settled)
-          (λ copy lt. subst (λ (s : List ℕ). VerifiesAs s generation text) (sym (ap (λ (im : Image). im (slot first copy (own generation))) settled.left)) (mid_holds copy lt))
+          (λ copy lt. subst (λ (s : List ℕ). VerifiesAs s generation text)
+          (sym (ap (λ (im : Image). im (slot first copy (own generation))) settled.left)) (mid_holds copy lt))
 
       own_apart : (copy : ℕ) → ¬ (IsChosen first (other generation) copies stale (slot first copy (own generation)))
-      own_apart copy = other_apart first copies (other generation) (own generation) stale copy (omega arith) (omega arith) (λ e. omega (arith, e))
+      own_apart copy = other_apart first copies (other generation) (own generation) stale copy (omega arith)
+          (omega arith) (λ e. omega (arith, e))
 
       -- while the stale slots are blanked
       pub second_pass : (d c : Case) → IsSettledAt mid d → FrontsCase first (other generation) copies stale zeros d c
           → PutStops first copies generation text start c
       second_pass d c settled fronts = second_stops c
-          (case_step first copies Extra (IsNoSlot first copies) start (other generation) copies stale zeros d c fronts blank_only
+          (case_step first copies Extra (IsNoSlot first copies) start (other generation) copies stale zeros d c fronts
+          blank_only
           (λ f is_not. no_slot_apart first copies (other generation) stale (omega arith) f is_not) (mid_case d settled))
           (λ copy lt. subst (λ (s : List ℕ). VerifiesAs s generation text)
-          (sym (fronts.left (slot first copy (own generation)) (own_apart copy) ∙ ap (λ (im : Image). im (slot first copy (own generation))) settled.left))
+          (sym (fronts.left (slot first copy (own generation)) (own_apart copy)
+          ∙ ap (λ (im : Image). im (slot first copy (own generation))) settled.left))
           (mid_holds copy lt))
 
       module _ (new : Image) (blanked : FrontsPut first (other generation) copies stale zeros mid new) where
@@ -192,25 +224,31 @@ module _ (first copies generation : ℕ) (text : List ℕ) (start : Image) where
 
         new_blank : (copy : ℕ) → copy < copies → IsBlank (new (slot first copy (other generation)))
         new_blank copy lt = by_flag stale copy (IsBlank (new (slot first copy (other generation))))
-            (λ is_set g t v. put_blank (mid (slot first copy (other generation))) g t (subst (λ (s : List ℕ). VerifiesAs s g t) (blanked.put copy lt is_set) v))
+            (λ is_set g t v. put_blank (mid (slot first copy (other generation))) g t
+            (subst (λ (s : List ℕ). VerifiesAs s g t) (blanked.put copy lt is_set) v))
             (λ is_not g t v.
             let was : IsBlank (start (slot first copy (other generation))) =
-            subst (λ (b : Bool). Tells Verifying b (start (slot first copy (other generation))) generation text) is_not (stales copy lt) in
+            subst (λ (b : Bool). Tells Verifying b (start (slot first copy (other generation))) generation text) is_not
+            (stales copy lt) in
             was g t (subst (λ (s : List ℕ). VerifiesAs s g t)
-            (blanked.some.others (slot first copy (other generation)) (unchosen_apart first copies (other generation) stale copy is_not) ∙ mid_other copy) v))
+            (blanked.some.others (slot first copy (other generation))
+            (unchosen_apart first copies (other generation) stale copy is_not) ∙ mid_other copy) v))
 
         pub new_alone : IsAlone new first copies generation text
         new_alone = record { held = new_holds; blank = new_blank }
 
         pub new_elsewhere : Spares (IsNoSlot first copies) start new
-        new_elsewhere f is_not = blanked.some.others f (no_slot_apart first copies (other generation) stale (omega arith) f is_not) ∙ mid_elsewhere f is_not
+        new_elsewhere f is_not = blanked.some.others f (no_slot_apart first copies (other generation) stale
+            (omega arith) f is_not) ∙ mid_elsewhere f is_not
 
         -- the blanks are durable
         pub new_stops : (c : Case) → IsSettledAt new c → PutStops first copies generation text start c
         new_stops c settled = second_stops c
             (case_settled first copies Extra (IsNoSlot first copies) start new c settled
-            (known_puts first copies Extra (IsChosen first (other generation) copies stale) zeros start mid new blanked.some blank_only mid_known) new_elsewhere)
-            (λ copy lt. subst (λ (s : List ℕ). VerifiesAs s generation text) (sym (ap (λ (im : Image). im (slot first copy (own generation))) settled.left)) (new_holds copy lt))
+            (known_puts first copies Extra (IsChosen first (other generation) copies stale) zeros start mid new
+            blanked.some blank_only mid_known) new_elsewhere)
+            (λ copy lt. subst (λ (s : List ℕ). VerifiesAs s generation text)
+            (sym (ap (λ (im : Image). im (slot first copy (own generation))) settled.left)) (new_holds copy lt))
 
 -- ---- over the moments of the calls
 
@@ -219,64 +257,79 @@ module _ (first copies generation : ℕ) (text : List ℕ) (old mid new : Medium
     (lacking stale : List Bool) (bytes : List ℕ) (are_sealed : bytes ≡ sealed generation text)
     (lacks : Picks Lacking lacking old.image first copies (own generation) generation text)
     (stales : Picks Verifying stale old.image first copies (other generation) generation text) where
-  pub first_moment : (done : Type 0) → Quiet old → (done → FrontsPut first (own generation) copies lacking bytes old.image mid.image)
+  pub first_moment : (done : Type 0) → Quiet old → (done
+      → FrontsPut first (own generation) copies lacking bytes old.image mid.image)
       → EachCase (IsFrontsCase first (own generation) copies lacking bytes old mid done) old mid
       → EachCase (PutStops first copies generation text old.image) old mid
   first_moment done quiet put cases c past = ⊎_elim
-      (λ before. first_pass first copies generation text old.image positive fits short lacking stale bytes are_sealed lacks stales
+      (λ before. first_pass first copies generation text old.image positive fits short lacking stale bytes are_sealed
+      lacks stales
       before.0 c (quiet before.0 before.1) before.2)
-      (λ after. mid_stops first copies generation text old.image positive fits short lacking stale bytes are_sealed lacks stales
+      (λ after. mid_stops first copies generation text old.image positive fits short lacking stale bytes are_sealed
+      lacks stales
       mid.image (put after.0) c after.1)
       (cases c past)
 
-  pub second_moment : (done : Type 0) → Quiet mid → FrontsPut first (own generation) copies lacking bytes old.image mid.image
+  pub second_moment : (done : Type 0) → Quiet mid → FrontsPut first (own generation) copies lacking bytes old.image
+      mid.image
       → (done → FrontsPut first (other generation) copies stale zeros mid.image new.image)
       → EachCase (IsFrontsCase first (other generation) copies stale zeros mid new done) mid new
       → EachCase (PutStops first copies generation text old.image) mid new
   second_moment done quiet put blanked cases c past = ⊎_elim
-      (λ before. second_pass first copies generation text old.image positive fits short lacking stale bytes are_sealed lacks stales
+      (λ before. second_pass first copies generation text old.image positive fits short lacking stale bytes are_sealed
+      lacks stales
       mid.image put before.0 c (quiet before.0 before.1) before.2)
-      (λ after. new_stops first copies generation text old.image positive fits short lacking stale bytes are_sealed lacks stales
+      (λ after. new_stops first copies generation text old.image positive fits short lacking stale bytes are_sealed
+      lacks stales
       mid.image put new.image (blanked after.0) c after.1)
       (cases c past)
 
 -- only chosen slots changed
 pub chosen_elsewhere : (first copies parity : ℕ) (chosen : List Bool) (old new : Image) → parity < 2
     → Spares (λ f. ¬ (IsChosen first parity copies chosen f)) old new → Spares (IsNoSlot first copies) old new
-chosen_elsewhere first copies parity chosen old new small spares f is_not = spares f (no_slot_apart first copies parity chosen small f is_not)
+chosen_elsewhere first copies parity chosen old new small spares f is_not =
+    spares f (no_slot_apart first copies parity chosen small f is_not)
 
 pub spares_on : (Files : ℕ → Type 0) (a b c : Image) → Spares Files a b → Spares Files b c → Spares Files a c
 spares_on Files a b c first next f in_it = next f in_it ∙ first f in_it
 
 -- reads on a quiet disk, and then other calls
-pub reads_then : (P : Case → Type 0) (old mid new : Medium) → Quiet old → Elapses old mid → OnlyReads old mid → Elapses mid new
+pub reads_then : (P : Case → Type 0) (old mid new : Medium) → Quiet old → Elapses old mid → OnlyReads old mid
+    → Elapses mid new
     → ((c : Case) → IsSettledAt old.image c → P c) → EachCase P mid new → EachCase P old new
-reads_then P old mid new quiet time reads next still later = goes_on P time next (λ c past. still c (quiet c (reads.during c past))) later
+reads_then P old mid new quiet time reads next still later =
+    goes_on P time next (λ c past. still c (quiet c (reads.during c past))) later
 
-pub reads_alone : (P : Case → Type 0) (old mid : Medium) → Quiet old → OnlyReads old mid → ((c : Case) → IsSettledAt old.image c → P c) → EachCase P old mid
+pub reads_alone : (P : Case → Type 0) (old mid : Medium) → Quiet old → OnlyReads old mid
+    → ((c : Case) → IsSettledAt old.image c → P c) → EachCase P old mid
 reads_alone P old mid quiet reads still c past = still c (quiet c (reads.during c past))
 
 -- no call at all
-pub none_alone : (P : Case → Type 0) (told : Bool) (old : Medium) → IsLawful told old → Quiet old → ((c : Case) → IsSettledAt old.image c → P c) → EachCase P old old
+pub none_alone : (P : Case → Type 0) (told : Bool) (old : Medium) → IsLawful told old → Quiet old
+    → ((c : Case) → IsSettledAt old.image c → P c) → EachCase P old old
 none_alone P told old law quiet still c past = still c (quiet c (law.only_now c past))
 
 -- ---- the count of bytes
 
-pub first_written : (copies len size was now : ℕ) → size ≡ 44 + len → now ≤ was + copies * size → now ≤ was + copies * (44 + len + 44)
+pub first_written : (copies len size was now : ℕ) → size ≡ 44 + len → now ≤ was + copies * size
+    → now ≤ was + copies * (44 + len + 44)
 first_written copies len size was now is more =
     let wider : copies * size ≤ copies * (44 + len + 44) = mul-le-mul_left copies (omega (arith, is)) in
     omega (arith, more, wider)
 
-pub both_written : (copies len size was mid now : ℕ) → size ≡ 44 + len → mid ≤ was + copies * size → now ≤ mid + copies * 44
+pub both_written : (copies len size was mid now : ℕ) → size ≡ 44 + len → mid ≤ was + copies * size
+    → now ≤ mid + copies * 44
     → now ≤ was + copies * (44 + len + 44)
 both_written copies len size was mid now is more again =
     let e : copies * size ≡ copies * (44 + len) = ap (λ (n : ℕ). copies * n) is in
     let whole : copies * (44 + len + 44) ≡ copies * (44 + len) + copies * 44 = mul-add copies (44 + len) 44 in
     omega (arith, more, again, e, whole)
 
-pub format_written : (copies len size was even blank now : ℕ) → size ≡ 44 + len → even ≤ was + copies * 44 → blank ≤ even + copies * 44
+pub format_written : (copies len size was even blank now : ℕ) → size ≡ 44 + len → even ≤ was + copies * 44
+    → blank ≤ even + copies * 44
     → now ≤ blank + copies * size → now ≤ was + copies * (44 + 44 + (44 + len))
 format_written copies len size was even blank now is first second third =
     let e : copies * size ≡ copies * (44 + len) = ap (λ (n : ℕ). copies * n) is in
-    let whole : copies * (44 + 44 + (44 + len)) ≡ copies * (44 + 44) + copies * (44 + len) = mul-add copies (44 + 44) (44 + len) in
+    let whole : copies * (44 + 44 + (44 + len)) ≡ copies * (44 + 44) + copies * (44 + len) =
+    mul-add copies (44 + 44) (44 + len) in
     omega (arith, first, second, third, e, whole)

@@ -13,7 +13,8 @@ use Rattle.guarded_cell.specs.Fronts.{IsChosen, IsNone}
 use Rattle.guarded_cell.specs.Rights.{IsRight, IsRightFor, IsClear}
 
 -- a slot that a pass spares is not chosen by it
-pub spared_apart : (pick : Pick) (chosen : List Bool) (image : Image) (first copies parity generation : ℕ) (text : List ℕ) (file : ℕ)
+pub spared_apart : (pick : Pick) (chosen : List Bool) (image : Image) (first copies parity generation : ℕ)
+    (text : List ℕ) (file : ℕ)
     → Picks pick chosen image first copies parity generation text
     → ((copy : ℕ) → copy < copies → file ≡ slot first copy parity → IsSpared pick (image file) generation text)
     → ¬ (IsChosen first parity copies chosen file)
@@ -27,7 +28,8 @@ module _ (first copies generation : ℕ) (text : List ℕ) (old : Image) (mine s
       → Spares (λ f. ¬ (IsChosen first (own generation) copies mine f)) old mid
       → Spares (IsRight old first copies generation text) old mid
   right_first mid picks spares f right =
-      spares f (spared_apart Lacking mine old first copies (own generation) generation text f picks (λ copy lt. (right copy lt).0))
+      spares f (spared_apart Lacking mine old first copies (own generation) generation text f picks
+      (λ copy lt. (right copy lt).0))
 
   pub right_both : (mid new : Image) → Picks Lacking mine old first copies (own generation) generation text
       → Picks Verifying stale old first copies (other generation) generation text
@@ -35,14 +37,16 @@ module _ (first copies generation : ℕ) (text : List ℕ) (old : Image) (mine s
       → Spares (λ f. ¬ (IsChosen first (other generation) copies stale f)) mid new
       → Spares (IsRight old first copies generation text) old new
   right_both mid new picks stales spares later f right =
-      later f (spared_apart Verifying stale old first copies (other generation) generation text f stales (λ copy lt. (right copy lt).1))
+      later f (spared_apart Verifying stale old first copies (other generation) generation text f stales
+      (λ copy lt. (right copy lt).1))
       ∙ right_first mid picks spares f right
 
   pub clear_first : (mid : Image) → Picks Others mine old first copies (own generation) generation text
       → Spares (λ f. ¬ (IsChosen first (own generation) copies mine f)) old mid
       → Spares (IsClear old first copies generation text) old mid
   clear_first mid picks spares f clear =
-      spares f (spared_apart Others mine old first copies (own generation) generation text f picks (λ copy lt. (clear copy lt).0))
+      spares f (spared_apart Others mine old first copies (own generation) generation text f picks
+      (λ copy lt. (clear copy lt).0))
 
   pub clear_both : (mid new : Image) → Picks Others mine old first copies (own generation) generation text
       → Picks Verifying stale old first copies (other generation) generation text
@@ -50,37 +54,44 @@ module _ (first copies generation : ℕ) (text : List ℕ) (old : Image) (mine s
       → Spares (λ f. ¬ (IsChosen first (other generation) copies stale f)) mid new
       → Spares (IsClear old first copies generation text) old new
   clear_both mid new picks stales spares later f clear =
-      later f (spared_apart Verifying stale old first copies (other generation) generation text f stales (λ copy lt. (clear copy lt).1))
+      later f (spared_apart Verifying stale old first copies (other generation) generation text f stales
+      (λ copy lt. (clear copy lt).1))
       ∙ clear_first mid picks spares f clear
 
 -- an image that was only read is the old one
 pub right_since : (first copies generation : ℕ) (text : List ℕ) (old mid new : Image) → mid ≡ old
-    → Spares (IsRight mid first copies generation text) mid new → Spares (IsRight old first copies generation text) old new
+    → Spares (IsRight mid first copies generation text) mid new
+    → Spares (IsRight old first copies generation text) old new
 right_since first copies generation text old mid new same spares =
     subst (λ (im : Image). Spares (IsRight im first copies generation text) im new) same spares
 
 pub clear_since : (first copies generation : ℕ) (text : List ℕ) (old mid new : Image) → mid ≡ old
-    → Spares (IsClear mid first copies generation text) mid new → Spares (IsClear old first copies generation text) old new
+    → Spares (IsClear mid first copies generation text) mid new
+    → Spares (IsClear old first copies generation text) old new
 clear_since first copies generation text old mid new same spares =
     subst (λ (im : Image). Spares (IsClear im first copies generation text) im new) same spares
 
 -- where a text stands, the slots that are right for it are left alone
 pub right_for : (s : Option Seen) (seen : Seen) (first copies : ℕ) (old new : Image) → s ≡ Some seen
-    → Spares (IsRight old first copies seen.generation seen.text) old new → Spares (IsRightFor s old first copies) old new
+    → Spares (IsRight old first copies seen.generation seen.text) old new
+    → Spares (IsRightFor s old first copies) old new
 right_for s seen first copies old new stands spares =
     subst (λ (x : Option Seen). Spares (IsRightFor x old first copies) old new) (sym stands) spares
 
 -- ---- where every copy holds the text alone, no slot is picked
 
-module _ (first copies generation : ℕ) (text : List ℕ) (image : Image) (alone : IsAlone image first copies generation text) (chosen : List Bool) where
+module _ (first copies generation : ℕ) (text : List ℕ) (image : Image)
+    (alone : IsAlone image first copies generation text) (chosen : List Bool) where
   pub none_lacking : Picks Lacking chosen image first copies (own generation) generation text → IsNone copies chosen
   none_lacking picks copy lt = elim (cases_Bool (get_or chosen copy false)) [
-    | inl passes ↦ absurd (subst (λ (b : Bool). Tells Lacking b (image (slot first copy (own generation))) generation text) passes (picks copy lt) (alone.held copy lt))
+    | inl passes ↦ absurd (subst (λ (b : Bool). Tells Lacking b (image (slot first copy (own generation))) generation
+        text) passes (picks copy lt) (alone.held copy lt))
     | inr fails ↦ fails
   ]
 
   pub none_stale : Picks Verifying chosen image first copies (other generation) generation text → IsNone copies chosen
   none_stale picks copy lt = elim (cases_Bool (get_or chosen copy false)) [
-    | inl passes ↦ absurd (subst (λ (b : Bool). Tells Verifying b (image (slot first copy (other generation))) generation text) passes (picks copy lt) (alone.blank copy lt))
+    | inl passes ↦ absurd (subst (λ (b : Bool). Tells Verifying b (image (slot first copy (other generation)))
+        generation text) passes (picks copy lt) (alone.blank copy lt))
     | inr fails ↦ fails
   ]

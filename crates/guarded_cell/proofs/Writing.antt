@@ -1,5 +1,6 @@
 -- How bytes get over the fronts of chosen slots, write by write.
-use Rattle.std.proofs.Common.{◌≡◌, ◌⊎◌, ℕ, ◌+◌, ◌*◌, ◌<◌, ◌≤◌, List, length, get_or, Bool, true, false, IsTrue, refl, sym, ap, ◌∙◌, subst, inl, inr, ⊎_elim, le_trans, add-one, arith}
+use Rattle.std.proofs.Common.{◌≡◌, ◌⊎◌, ℕ, ◌+◌, ◌*◌, ◌<◌, ◌≤◌, List, length, get_or, Bool, true, false, IsTrue, refl}
+use Rattle.std.proofs.Common.{sym, ap, ◌∙◌, subst, inl, inr, ⊎_elim, le_trans, add-one, arith}
 use Rattle.std.proofs.Math.Nat.{suc-mul, mul-le-mul_right}
 use Rattle.std.proofs.lemmas.Bool.{cases_eq, cases_lt, false≢true}
 use Rattle.disk_model.specs.Image.{Image, put_bytes, put_image, TornImage}
@@ -22,16 +23,19 @@ module _ (Files : ℕ → Type 0) (bytes : List ℕ) where
   pub puts_none : (a : Image) → PutsSome Files bytes a a
   puts_none a = record { each = λ f. inl refl; others = λ f not. refl }
 
-  pub put_again : (a b : Image) (file : ℕ) → PutsSome Files bytes a b → put_image b file 0 bytes file ≡ put_bytes (a file) 0 bytes
+  pub put_again : (a b : Image) (file : ℕ) → PutsSome Files bytes a b
+      → put_image b file 0 bytes file ≡ put_bytes (a file) 0 bytes
   put_again a b file puts = put_image_here b file 0 bytes ∙ ⊎_elim
       (λ e. ap (λ (xs : List ℕ). put_bytes xs 0 bytes) e)
       (λ e. ap (λ (xs : List ℕ). put_bytes xs 0 bytes) e ∙ put_twice (a file) bytes)
       (puts.each file)
 
-  pub puts_step : (a b : Image) (file : ℕ) → Files file → PutsSome Files bytes a b → PutsSome Files bytes a (put_image b file 0 bytes)
+  pub puts_step : (a b : Image) (file : ℕ) → Files file → PutsSome Files bytes a b
+      → PutsSome Files bytes a (put_image b file 0 bytes)
   puts_step a b file chosen puts = record {
     each = λ f. ⊎_elim
-        (λ same. inr (subst (λ (x : ℕ). put_image b file 0 bytes x ≡ put_bytes (a x) 0 bytes) (sym same) (put_again a b file puts)))
+        (λ same. inr (subst (λ (x : ℕ). put_image b file 0 bytes x ≡ put_bytes (a x) 0 bytes) (sym same)
+        (put_again a b file puts)))
         (λ differs. ⊎_elim
         (λ e. inl (put_image_elsewhere b file 0 bytes f differs ∙ e))
         (λ e. inr (put_image_elsewhere b file 0 bytes f differs ∙ e))
@@ -41,7 +45,8 @@ module _ (Files : ℕ → Type 0) (bytes : List ℕ) where
   }
 
 -- what is so at the start of each turn of the loop that writes
-pub record IsWriting (first parity copies k : ℕ) (chosen : List Bool) (bytes : List ℕ) (told : Bool) (start now : Medium) : Type 0 where
+pub record IsWriting (first parity copies k : ℕ) (chosen : List Bool) (bytes : List ℕ) (told : Bool)
+    (start now : Medium) : Type 0 where
   pub some : IsTrue told → PutsSome (IsChosen first parity copies chosen) bytes start.image now.image
   pub put : IsTrue told → (copy : ℕ) → copy < k → get_or chosen copy false ≡ true
       → now.image (slot first copy parity) ≡ put_bytes (start.image (slot first copy parity)) 0 bytes
@@ -64,11 +69,13 @@ module _ (first parity copies : ℕ) (chosen : List Bool) (bytes : List ℕ) whe
   fronts_step : (file : ℕ) → Chosen file → (a d c : Case) → Step a d → WriteCase file 0 bytes d c → Step a c
   fronts_step file is a d c fronts write = record {
     base = write.base ∙ fronts.base;
-    full = subst (λ (image : Image). PutsSome Chosen bytes a.full image) (sym write.full) (puts_step Chosen bytes a.full d.full file is fronts.full);
+    full = subst (λ (image : Image). PutsSome Chosen bytes a.full image) (sym write.full)
+        (puts_step Chosen bytes a.full d.full file is fronts.full);
     left = λ f not. write.left.others f (λ e. not (subst Chosen (sym e) is)) ∙ fronts.left f not;
   }
 
-  pub during_step : {told : Bool} {start mid new : Medium} (file : ℕ) → IsChosen first parity copies chosen file → IsLawful told mid → Elapses start mid → Elapses mid new
+  pub during_step : {told : Bool} {start mid new : Medium} (file : ℕ) → IsChosen first parity copies chosen file
+      → IsLawful told mid → Elapses start mid → Elapses mid new
       → Follows (FrontsCase first parity copies chosen bytes) start.now (mid.since start.moment)
       → Follows (WriteOrNot file 0 bytes) mid.now (new.since mid.moment)
       → Follows (FrontsCase first parity copies chosen bytes) start.now (new.since start.moment)
@@ -90,7 +97,8 @@ module _ (first parity copies : ℕ) (chosen : List Bool) (bytes : List ℕ) whe
   some_chosen k lt is_set none = false≢true (sym (none k lt) ∙ is_set)
 
   -- no turn was made
-  pub writing_none : {told : Bool} {start : Medium} → IsLawful told start → IsWriting first parity copies 0 chosen bytes told start start
+  pub writing_none : {told : Bool} {start : Medium} → IsLawful told start
+      → IsWriting first parity copies 0 chosen bytes told start start
   writing_none {told} {start} law = record {
     some = λ _. puts_none Chosen bytes start.image;
     put = λ _ copy lt. absurd (omega (arith, lt));
@@ -103,7 +111,8 @@ module _ (first parity copies : ℕ) (chosen : List Bool) (bytes : List ℕ) whe
 
   -- a copy is passed
   pub writing_skips : {told : Bool} {start mid : Medium} (k : ℕ) → get_or chosen k false ≡ false
-      → IsWriting first parity copies k chosen bytes told start mid → IsWriting first parity copies (k + 1) chosen bytes told start mid
+      → IsWriting first parity copies k chosen bytes told start mid
+      → IsWriting first parity copies (k + 1) chosen bytes told start mid
   writing_skips {told} {start} {mid} k is_not w = record {
     some = w.some;
     put = λ tells copy lt flag. ⊎_elim
@@ -118,7 +127,8 @@ module _ (first parity copies : ℕ) (chosen : List Bool) (bytes : List ℕ) whe
   }
 
   -- a copy is written
-  pub writing_writes : {told : Bool} {start mid new : Medium} (k : ℕ) → k < copies → get_or chosen k false ≡ true → IsLawful told mid
+  pub writing_writes : {told : Bool} {start mid new : Medium} (k : ℕ) → k < copies → get_or chosen k false ≡ true
+      → IsLawful told mid
       → IsWriting first parity copies k chosen bytes told start mid
       → (IsTrue told → new.image ≡ put_image mid.image (slot first k parity) 0 bytes)
       → Follows (WriteOrNot (slot first k parity) 0 bytes) mid.now (new.since mid.moment)
@@ -130,9 +140,11 @@ module _ (first parity copies : ℕ) (chosen : List Bool) (bytes : List ℕ) whe
         some = λ tells. subst (λ (image : Image). PutsSome Chosen bytes start.image image) (sym (whole tells))
             (puts_step Chosen bytes start.image mid.image (slot first k parity) is (w.some tells));
         put = λ tells copy below flag. ap (λ (image : Image). image (slot first copy parity)) (whole tells) ∙ ⊎_elim
-            (λ before. put_image_elsewhere mid.image (slot first k parity) 0 bytes (slot first copy parity) (λ e. omega (arith, e, before)) ∙ w.put tells copy before flag)
+            (λ before. put_image_elsewhere mid.image (slot first k parity) 0 bytes (slot first copy parity)
+            (λ e. omega (arith, e, before)) ∙ w.put tells copy before flag)
             (λ above. let same : copy ≡ k = omega (arith, above, below) in
-            subst (λ (x : ℕ). put_image mid.image (slot first k parity) 0 bytes (slot first x parity) ≡ put_bytes (start.image (slot first x parity)) 0 bytes) (sym same)
+            subst (λ (x : ℕ). put_image mid.image (slot first k parity) 0 bytes (slot first x parity)
+            ≡ put_bytes (start.image (slot first x parity)) 0 bytes) (sym same)
             (put_again Chosen bytes start.image mid.image (slot first k parity) (w.some tells)))
             (cases_lt copy k);
         during = during_step (slot first k parity) is law w.time next w.during cases;
@@ -151,7 +163,8 @@ module _ (first parity copies : ℕ) (chosen : List Bool) (bytes : List ℕ) whe
       let is : Chosen (slot first k parity) = record { copy = k; within = lt; flag = is_set; is = refl } in
       (torn tells).others f (λ e. not (subst Chosen (sym e) is)) ∙ (w.some tells).others f not
 
-  pub cut_during : {told : Bool} {start mid new : Medium} (k : ℕ) → k < copies → get_or chosen k false ≡ true → IsLawful told mid
+  pub cut_during : {told : Bool} {start mid new : Medium} (k : ℕ) → k < copies → get_or chosen k false ≡ true
+      → IsLawful told mid
       → IsWriting first parity copies k chosen bytes told start mid
       → Follows (WriteOrNot (slot first k parity) 0 bytes) mid.now (new.since mid.moment) → Elapses mid new
       → Follows (FrontsCase first parity copies chosen bytes) start.now (new.since start.moment)
@@ -166,16 +179,19 @@ module _ (first parity copies : ℕ) (chosen : List Bool) (bytes : List ℕ) whe
       let whole : k + 1 ≤ copies = omega arith in
       omega (arith, more, w.written, more_times k (length bytes), times_within (k + 1) copies (length bytes) whole)
 
-  pub cut_none : (start new : Medium) (k : ℕ) → k < copies → get_or chosen k false ≡ true → IsNone copies chosen → new.written ≡ start.written
+  pub cut_none : (start new : Medium) (k : ℕ) → k < copies → get_or chosen k false ≡ true → IsNone copies chosen
+      → new.written ≡ start.written
   cut_none start new k lt is_set none = absurd (some_chosen k lt is_set none)
 
   -- all turns are made
-  pub all_put : {told : Bool} {start new : Medium} (k : ℕ) → copies ≤ k → IsWriting first parity copies k chosen bytes told start new
+  pub all_put : {told : Bool} {start new : Medium} (k : ℕ) → copies ≤ k
+      → IsWriting first parity copies k chosen bytes told start new
       → IsTrue told → FrontsPut first parity copies chosen bytes start.image new.image
   all_put k le w tells = record { some = w.some tells; put = λ copy lt flag. w.put tells copy (le_trans lt le) flag }
 
   -- a sync behind the writes
-  pub synced_case : {told : Bool} {old mid new : Medium} (done : Type 0) → IsLawful told mid → Elapses old mid → Elapses mid new
+  pub synced_case : {told : Bool} {old mid new : Medium} (done : Type 0) → IsLawful told mid → Elapses old mid
+      → Elapses mid new
       → Follows (FrontsCase first parity copies chosen bytes) old.now (mid.since old.moment) → WritesNothing mid new
       → ((c : Case) → new.now c → mid.now c ⊎ (done × IsSettledAt new.image c))
       → EachCase (IsFrontsCase first parity copies chosen bytes old new done) old new

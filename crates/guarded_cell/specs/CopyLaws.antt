@@ -1,5 +1,7 @@
--- Laws of the copies that pass a test: which they are, which is the first, and that they are so many exactly where at least so many copies pass.
-use Rattle.std.proofs.Common.{◌≡◌, ℕ, zero, suc, ◌+◌, ◌<◌, ◌≤◌, List, [], ◌∷◌, ◌++◌, length, get_or, Bool, true, false, cond, sym, ap, ◌∙◌, subst, inl, inr, ⊎_elim, length-append, refl, arith}
+-- Laws of the copies that pass a test: which they are, which is the first, and that they are so many exactly where at
+-- least so many copies pass.
+use Rattle.std.proofs.Common.{◌≡◌, ℕ, zero, suc, ◌+◌, ◌<◌, ◌≤◌, List, [], ◌∷◌, ◌++◌, length, get_or, Bool, true, false}
+use Rattle.std.proofs.Common.{cond, sym, ap, ◌∙◌, subst, inl, inr, ⊎_elim, length-append, refl, arith}
 use Rattle.std.proofs.lemmas.Bool.{cases_Bool, false_from_ne_true, cases_lt, cond-true, cond-false}
 use Rattle.std.proofs.lemmas.List.Elements.{Contains-append_left, Contains-append_cases, Contains-push}
 use Rattle.std.proofs.lemmas.List.{get_or_append_left}
@@ -51,12 +53,14 @@ module _ (test : ℕ → Bool) where
   pub passing_is : (n copy : ℕ) → copy < n → test copy ≡ true → Contains (copies_that test n) (copy + 1)
   passing_is zero copy lt e = absurd (omega (arith, lt))
   passing_is (suc n) copy lt e = ⊎_elim
-      (λ before. Contains-append_left (copies_that test n) (cond (test n) ((n + 1) ∷ []) []) (copy + 1) (passing_is n copy before e))
+      (λ before. Contains-append_left (copies_that test n) (cond (test n) ((n + 1) ∷ []) []) (copy + 1)
+      (passing_is n copy before e))
       (λ last.
       let it : copy ≡ n = omega (arith, lt, last) in
       let there : test n ≡ true = sym (ap test it) ∙ e in
       subst (λ (x : ℕ). Contains (copies_that test (suc n)) (x + 1)) (sym it)
-      (subst (λ (xs : List ℕ). Contains xs (n + 1)) (sym (passes n there)) (Contains-push (copies_that test n) (n + 1))))
+      (subst (λ (xs : List ℕ). Contains xs (n + 1)) (sym (passes n there))
+      (Contains-push (copies_that test n) (n + 1))))
       (cases_lt copy n)
 
   pub is_passing : (n copy : ℕ) → Contains (copies_that test n) (copy + 1) → (copy < n) × (test copy ≡ true)
@@ -64,9 +68,11 @@ module _ (test : ℕ → Bool) where
   is_passing (suc n) copy inside = ⊎_elim
       (λ before. let it = is_passing n copy before in (omega (arith, it.0), it.1))
       (λ last. ⊎_elim
-      (λ e. let same = only (subst (λ (xs : List ℕ). Contains xs (copy + 1)) (cond-true (test n) ((n + 1) ∷ []) [] e) last) in
+      (λ e. let same = only (subst (λ (xs : List ℕ). Contains xs (copy + 1)) (cond-true (test n) ((n + 1) ∷ []) [] e)
+      last) in
       (omega (arith, same), ap test same ∙ e))
-      (λ e. let (k, lt, at) = subst (λ (xs : List ℕ). Contains xs (copy + 1)) (cond-false (test n) ((n + 1) ∷ []) [] e) last in
+      (λ e. let (k, lt, at) = subst (λ (xs : List ℕ). Contains xs (copy + 1)) (cond-false (test n) ((n + 1) ∷ []) [] e)
+      last in
       absurd (omega (arith, lt)))
       (cases_Bool (test n)))
       (Contains-append_cases (copies_that test n) (cond (test n) ((n + 1) ∷ []) []) (copy + 1) inside)
@@ -89,19 +95,27 @@ module _ (test : ℕ → Bool) where
 
   -- the first of them, before which none passes
   pub first_passing : (n : ℕ) → 1 ≤ length (copies_that test n)
-      → (copy : ℕ) × (copy < n) × (test copy ≡ true) × (get_or (copies_that test n) 0 0 ≡ copy + 1) × ((c : ℕ) → c < copy → test c ≡ false)
+      → (copy : ℕ) × (copy < n) × (test copy ≡ true) × (get_or (copies_that test n) 0 0 ≡ copy + 1)
+      × ((c : ℕ) → c < copy → test c ≡ false)
   first_passing zero some = absurd (omega (arith, some))
   first_passing (suc n) some = ⊎_elim
       (λ earlier.
-      let (copy, lt, e, at, none) = first_passing n (omega (arith, earlier)) in
-      (copy, omega (arith, lt), e, get_or_append_left (copies_that test n) (cond (test n) ((n + 1) ∷ []) []) 0 0 earlier ∙ at, none))
+      let (copy, lt, e, at, none) = first_passing n (omega (arith, earlier)) in (
+        copy,
+        omega (arith, lt),
+        e,
+        get_or_append_left (copies_that test n) (cond (test n) ((n + 1) ∷ []) []) 0 0 earlier
+            ∙ at,
+        none,
+      ))
       (λ none. ⊎_elim
       (λ e. (
         n,
         omega arith,
         e,
         ap (λ (xs : List ℕ). get_or xs 0 0) (passes n e) ∙ alone (copies_that test n) none,
-        λ c lt. false_from_ne_true (test c) (λ yes. let (k, within, at) = passing_is n c lt yes in omega (arith, within, none)),
+        λ c lt. false_from_ne_true (test c) (λ yes. let (k, within, at) =
+            passing_is n c lt yes in omega (arith, within, none)),
       ))
       (λ e. let same = fails n e in absurd (omega (arith, some, same, none)))
       (cases_Bool (test n)))

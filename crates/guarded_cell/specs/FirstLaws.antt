@@ -1,12 +1,15 @@
 -- Laws of first copies: at one generation held texts stand in the order of their first copies, and each has a copy.
-use Rattle.std.proofs.Common.{◌≡◌, ℕ, zero, suc, ◌+◌, ◌%◌, ◌<◌, ◌≤◌, List, [], ◌∷◌, ◌++◌, length, get_or, cond, eqb, Option, Some, None, All, find, refl, sym, ap, ◌∙◌, subst, ⊎_elim, length-append, arith}
+use Rattle.std.proofs.Common.{◌≡◌, ℕ, zero, suc, ◌+◌, ◌%◌, ◌<◌, ◌≤◌, List, [], ◌∷◌, ◌++◌, length, get_or, cond, eqb}
+use Rattle.std.proofs.Common.{Option, Some, None, All, find, refl, sym, ap, ◌∙◌, subst, ⊎_elim, length-append, arith}
 use Rattle.std.proofs.lemmas.Bool.{cases_Bool, cond-true, cond-false, eqb-true, le-leb}
 use Rattle.hash_guard.specs.SealedText.{verified}
 use Rattle.disk_model.specs.Image.{Image}
 use Rattle.disk_model.specs.Place.{slot}
 use Rattle.guarded_cell.specs.declared.looking.Seen.{Seen}
-use Rattle.guarded_cell.specs.Held.{Text, of_parity, text_in, is_seen, with_copy, with_slot, holds, copies_that, held, standing}
-use Rattle.guarded_cell.specs.SeenLaws.{IsAhead, IsInOrder, text_of, alike, never_both, first_seen, seen_more, placed, with_slot_in_order, copies_in, has, skips, enough, later, here}
+use Rattle.guarded_cell.specs.Held.{Text, of_parity, text_in, is_seen, with_copy, with_slot, holds, copies_that, held}
+use Rattle.guarded_cell.specs.Held.{standing}
+use Rattle.guarded_cell.specs.SeenLaws.{IsAhead, IsInOrder, text_of, alike, never_both, first_seen, seen_more, placed}
+use Rattle.guarded_cell.specs.SeenLaws.{with_slot_in_order, copies_in, has, skips, enough, later, here}
 use Rattle.guarded_cell.specs.HeldLaws.{held_in_order, copies_of, holds_is, is_holds, by_holding, standing_copies}
 use Rattle.guarded_cell.specs.CopyLaws.{first_passing}
 use Rattle.guarded_cell.specs.Register.{Holds, IsHeldBy}
@@ -23,7 +26,8 @@ IsEarlier s (x ∷ xs) = (x.generation ≡ s.generation → first_of s < first_o
 -- each text has copies, at one generation in order, and none begins beyond the bound of its parity
 abbrev pub IsByFirst : (bound : ℕ → ℕ) → List Seen → Type 0
 IsByFirst bound [] = Unit {0}
-IsByFirst bound (x ∷ xs) = (1 ≤ length x.copies) × (first_of x < bound (x.generation % 2)) × IsEarlier x xs × IsByFirst bound xs
+IsByFirst bound (x ∷ xs) = (1 ≤ length x.copies) × (first_of x < bound (x.generation % 2)) × IsEarlier x xs
+    × IsByFirst bound xs
 
 first_push : (cs : List ℕ) (c : ℕ) → 1 ≤ length cs → get_or (cs ++ c ∷ []) 0 0 ≡ get_or cs 0 0
 first_push [] c some = absurd (omega (arith, some))
@@ -34,7 +38,8 @@ looser b c [] le by = tt
 looser b c (x ∷ xs) le by =
     let low = le (x.generation % 2) in let is = by.1 in (by.0, omega (arith, low, is), by.2, looser b c xs le by.3)
 
-more_earlier : (copy : ℕ) (s : Seen) (xs : List Seen) → 1 ≤ length s.copies → IsEarlier s xs → IsEarlier (seen_more copy s) xs
+more_earlier : (copy : ℕ) (s : Seen) (xs : List Seen) → 1 ≤ length s.copies → IsEarlier s xs
+    → IsEarlier (seen_more copy s) xs
 more_earlier copy s [] some is = tt
 more_earlier copy s (x ∷ xs) some is =
     let same = first_push s.copies copy some in
@@ -45,7 +50,8 @@ greater_earlier copy t u [] less ahead = tt
 greater_earlier copy t u (x ∷ xs) less ahead =
     ((λ e. let le = ahead.0 in absurd (omega (arith, e, le, less))), greater_earlier copy t u xs less ahead.2)
 
-still_earlier : (bound : ℕ → ℕ) (copy : ℕ) (t : Text) (s : Seen) (xs : List Seen) → (t.0 ≡ s.generation → first_of s < copy)
+still_earlier : (bound : ℕ → ℕ) (copy : ℕ) (t : Text) (s : Seen) (xs : List Seen)
+    → (t.0 ≡ s.generation → first_of s < copy)
     → IsByFirst bound xs → IsEarlier s xs → IsEarlier s (with_copy copy t xs)
 still_earlier bound copy t s [] later by is = (later, tt)
 still_earlier bound copy t s (x ∷ xs) later by is = placed copy t x xs (IsEarlier s)
@@ -64,7 +70,8 @@ module _ (b c : ℕ → ℕ) (copy : ℕ) (le : (p : ℕ) → b p ≤ c p) where
       let long = length-append x.copies (copy ∷ []) in
       let low = le (x.generation % 2) in
       let is = by.1 in
-      let some : 1 ≤ length (x.copies ++ copy ∷ []) = long_enough (length x.copies) (length (x.copies ++ copy ∷ [])) long in
+      let some : 1 ≤ length (x.copies ++ copy ∷ []) = long_enough (length x.copies) (length (x.copies ++ copy ∷ []))
+      long in
       (some, omega (arith, same, low, is), more_earlier copy x xs by.0 by.2, looser b c xs le by.3))
       (λ e less. (
         omega arith,
@@ -78,7 +85,8 @@ module _ (b c : ℕ → ℕ) (copy : ℕ) (le : (p : ℕ) → b p ≤ c p) where
         by.0,
         omega (arith, low, is),
         still_earlier b copy t x xs (λ one.
-            let within : first_of x < b (t.0 % 2) = subst (λ (g : ℕ). first_of x < b (g % 2)) (sym one) is in omega (arith, within, old)) by.3 by.2,
+            let within : first_of x < b (t.0 % 2) = subst (λ (g : ℕ). first_of x < b (g % 2)) (sym one) is in
+            omega (arith, within, old)) by.3 by.2,
         copy_by_first t xs old new order.1 by.3,
       ))
     where
@@ -91,10 +99,13 @@ module _ (b c : ℕ → ℕ) (copy : ℕ) (le : (p : ℕ) → b p ≤ c p) where
   slot_by_first parity (Some t) xs old new order by = ⊎_elim
       (λ same.
       let is : t.0 % 2 ≡ parity = eqb-true (t.0 % 2) parity same in
-      subst (λ (o : Option Text). IsByFirst c (with_slot copy o xs)) (sym (cond-true (eqb (t.0 % 2) parity) (Some t) None same))
-      (copy_by_first t xs (subst (λ (p : ℕ). b p ≤ copy) (sym is) old) (subst (λ (p : ℕ). copy < c p) (sym is) new) order by))
+      subst (λ (o : Option Text). IsByFirst c (with_slot copy o xs))
+      (sym (cond-true (eqb (t.0 % 2) parity) (Some t) None same))
+      (copy_by_first t xs (subst (λ (p : ℕ). b p ≤ copy) (sym is) old) (subst (λ (p : ℕ). copy < c p) (sym is) new)
+      order by))
       (λ differs.
-      subst (λ (o : Option Text). IsByFirst c (with_slot copy o xs)) (sym (cond-false (eqb (t.0 % 2) parity) (Some t) None differs))
+      subst (λ (o : Option Text). IsByFirst c (with_slot copy o xs))
+      (sym (cond-false (eqb (t.0 % 2) parity) (Some t) None differs))
       (looser b c xs le by))
       (cases_Bool (eqb (t.0 % 2) parity))
 
@@ -131,7 +142,8 @@ held_by_first image first (suc n) =
     let even = middle_even n in
     let odd = middle_odd n in
     let one : IsByFirst (middle n) (with_slot (n + 1) (text_in image first n 0) (held image first n)) =
-    slot_by_first (λ p. n + 1) (middle n) (n + 1) (middle_low n) 0 (verified (image (slot first n 0))) (held image first n)
+    slot_by_first (λ p. n + 1) (middle n) (n + 1) (middle_low n) 0 (verified (image (slot first n 0)))
+    (held image first n)
     (omega arith) (omega (arith, even)) (held_in_order image first n) (held_by_first image first n) in
     slot_by_first (middle n) (λ p. suc n + 1) (n + 1) (λ p. let le = middle_high n p in omega (arith, le)) 1
     (verified (image (slot first n 1))) (with_slot (n + 1) (text_in image first n 0) (held image first n))
@@ -149,7 +161,8 @@ firsts : (bound : ℕ → ℕ) (xs : List Seen) (i j : ℕ) (d : Seen) → i < j
 firsts bound [] i j d before lt by e = absurd (omega (arith, lt))
 firsts bound (x ∷ xs) i zero d before lt by e = absurd (omega (arith, before))
 firsts bound (x ∷ xs) zero (suc j) d before lt by e = earlier_at x xs j d (omega (arith, lt)) by.2 e
-firsts bound (x ∷ xs) (suc i) (suc j) d before lt by e = firsts bound xs i j d (omega (arith, before)) (omega (arith, lt)) by.3 e
+firsts bound (x ∷ xs) (suc i) (suc j) d before lt by e =
+    firsts bound xs i j d (omega (arith, before)) (omega (arith, lt)) by.3 e
 
 some_copies : (bound : ℕ → ℕ) (xs : List Seen) → IsByFirst bound xs → All (λ seen. 1 ≤ length seen.copies) xs
 some_copies bound [] by k d lt = absurd (omega (arith, lt))
@@ -165,7 +178,8 @@ held_firsts image first copies i j d before lt e =
 
 -- each member has a copy
 pub held_some : (image : Image) (first copies : ℕ) → All (λ seen. 1 ≤ length seen.copies) (held image first copies)
-held_some image first copies = some_copies (λ p. copies + 1) (held image first copies) (held_by_first image first copies)
+held_some image first copies = some_copies (λ p. copies + 1) (held image first copies)
+    (held_by_first image first copies)
 
 -- ---- the text that stands
 
@@ -173,16 +187,19 @@ earlier_in : (u : Text) (s : Seen) (xs : List Seen) → IsEarlier s xs → 1 ≤
     → first_of s < get_or (copies_in u xs) 0 0
 earlier_in u s [] is some e = absurd (omega (arith, some))
 earlier_in u s (x ∷ xs) is some e = ⊎_elim
-    (λ same. subst (λ (cs : List ℕ). first_of s < get_or cs 0 0) (sym (has u x xs same)) (is.0 ((alike (text_of x) u same).0 ∙ e)))
+    (λ same. subst (λ (cs : List ℕ). first_of s < get_or cs 0 0) (sym (has u x xs same))
+    (is.0 ((alike (text_of x) u same).0 ∙ e)))
     (λ differs. subst (λ (cs : List ℕ). first_of s < get_or cs 0 0) (sym (skips u x xs differs))
     (earlier_in u s xs is.1 (subst (λ (cs : List ℕ). 1 ≤ length cs) (skips u x xs differs) some) e))
     (cases_Bool (is_seen u x))
 
-found_first : (bound : ℕ → ℕ) (m : ℕ) (xs : List Seen) (s : Seen) (u : Text) → IsByFirst bound xs → 1 ≤ m → find (enough m) xs ≡ Some s
+found_first : (bound : ℕ → ℕ) (m : ℕ) (xs : List Seen) (s : Seen) (u : Text) → IsByFirst bound xs → 1 ≤ m
+    → find (enough m) xs ≡ Some s
     → m ≤ length (copies_in u xs) → u.0 ≡ s.generation → (u.1 ≡ s.text → ⊥) → first_of s < get_or (copies_in u xs) 0 0
 found_first bound m [] s u by positive e many = λ one differ. cc
 found_first bound m (x ∷ xs) s u by positive e many = ⊎_elim
-    (λ yes. subst (λ (y : Seen). u.0 ≡ y.generation → (u.1 ≡ y.text → ⊥) → first_of y < get_or (copies_in u (x ∷ xs)) 0 0) (here m x xs s e yes)
+    (λ yes. subst (λ (y : Seen). u.0 ≡ y.generation → (u.1 ≡ y.text → ⊥)
+    → first_of y < get_or (copies_in u (x ∷ xs)) 0 0) (here m x xs s e yes)
     (λ one differ. ⊎_elim
     (λ same. absurd (differ (sym (alike (text_of x) u same).1)))
     (λ apart.
@@ -202,7 +219,8 @@ found_first bound m (x ∷ xs) s u by positive e many = ⊎_elim
     (cases_Bool (enough m x))
 
 -- of the texts of its generation that at least m copies hold, what stands is the one that is held first
-pub standing_first : (image : Image) (first copies m : ℕ) (seen : Seen) (text : List ℕ) → 1 ≤ m → standing image first copies m ≡ Some seen
+pub standing_first : (image : Image) (first copies m : ℕ) (seen : Seen) (text : List ℕ) → 1 ≤ m
+    → standing image first copies m ≡ Some seen
     → IsHeldBy image first copies m seen.generation text → (text ≡ seen.text → ⊥)
     → (copy : ℕ) × (copy < copies) × Holds image first copy seen.generation seen.text
     × ((a : ℕ) → a ≤ copy → ¬ (Holds image first a seen.generation text))
@@ -210,17 +228,22 @@ unfolding standing
 standing_first image first copies m seen text positive e some differ =
     let u : Text = (seen.generation, text) in
     let it = standing_copies image first copies m seen e in
-    let it_long : m ≤ length (copies_that (λ c. holds image first c (text_of seen)) copies) = subst (λ (cs : List ℕ). m ≤ length cs) it.0 it.1 in
+    let it_long : m ≤ length (copies_that (λ c. holds image first c (text_of seen)) copies) =
+    subst (λ (cs : List ℕ). m ≤ length cs) it.0 it.1 in
     let u_long = by_holding image first copies m u some in
-    let (c, lt, holding, at, none) = first_passing (λ c. holds image first c (text_of seen)) copies (omega (arith, it_long, positive)) in
-    let (b, blt, b_holding, b_at, b_none) = first_passing (λ c. holds image first c u) copies (omega (arith, u_long, positive)) in
+    let (c, lt, holding, at, none) = first_passing (λ c. holds image first c (text_of seen)) copies
+    (omega (arith, it_long, positive)) in
+    let (b, blt, b_holding, b_at, b_none) = first_passing (λ c. holds image first c u) copies
+    (omega (arith, u_long, positive)) in
     let before : first_of seen < get_or (copies_in u (held image first copies)) 0 0 =
     found_first (λ p. copies + 1) m (held image first copies) seen u (held_by_first image first copies) positive e
     (subst (λ (cs : List ℕ). m ≤ length cs) (sym (copies_of image first copies u)) u_long) refl differ in
     let its_first : first_of seen ≡ c + 1 = ap (λ (cs : List ℕ). get_or cs 0 0) it.0 ∙ at in
-    let u_first : get_or (copies_in u (held image first copies)) 0 0 ≡ b + 1 = ap (λ (cs : List ℕ). get_or cs 0 0) (copies_of image first copies u) ∙ b_at in (
+    let u_first : get_or (copies_in u (held image first copies)) 0 0 ≡ b + 1 =
+    ap (λ (cs : List ℕ). get_or cs 0 0) (copies_of image first copies u) ∙ b_at in (
       c,
       lt,
       holds_is image first c (text_of seen) holding,
-      λ a le v. never_both (holds image first a u) (is_holds image first a u v) (b_none a (omega (arith, le, before, its_first, u_first))),
+      λ a le v. never_both (holds image first a u) (is_holds image first a u v)
+          (b_none a (omega (arith, le, before, its_first, u_first))),
     )

@@ -35,6 +35,7 @@ pub record FrontsCase (first parity copies : ℕ) (chosen : List Bool) (bytes : 
   pub left : Spares (λ f. ¬ (IsChosen first parity copies chosen f)) old.left new.left
 
 -- a case while the fronts are written, or one after they were made durable
-abbrev pub IsFrontsCase : (first parity copies : ℕ) → List Bool → List ℕ → (old new : Medium) → (done : Type 0) → Case → Type 0
+abbrev pub IsFrontsCase : (first parity copies : ℕ) → List Bool → List ℕ → (old new : Medium) → (done : Type 0) → Case
+    → Type 0
 IsFrontsCase first parity copies chosen bytes old new done c =
     ((d : Case) × old.now d × FrontsCase first parity copies chosen bytes d c) ⊎ (done × IsSettledAt new.image c)

@@ -1,5 +1,6 @@
 -- The texts that the copies of a register hold, in order, and the one that stands. In lists copies are counted from 1.
-use Rattle.std.specs.Prelude.{ℕ, zero, suc, ◌+◌, ◌%◌, ◌==◌, List, [], ◌∷◌, ◌++◌, length, Bool, ◌&&◌, not, nat_eq, nat_le, nat_lt, Option, Some, None, find, if◌then◌else◌}
+use Rattle.std.specs.Prelude.{ℕ, zero, suc, ◌+◌, ◌%◌, ◌==◌, List, [], ◌∷◌, ◌++◌, length, Bool, ◌&&◌, not, nat_eq}
+use Rattle.std.specs.Prelude.{nat_le, nat_lt, Option, Some, None, find, if◌then◌else◌}
 use Rattle.std.specs.Str.{bytes_eq}
 use Rattle.hash_guard.specs.SealedText.{verified}
 use Rattle.disk_model.specs.Image.{Image}
@@ -37,9 +38,11 @@ copies_that test (suc n) = copies_that test n ++ (if test n then (n + 1) ∷ [] 
 
 -- the copies that do not hold a text
 unfoldable pub lacking : Image → (first copies generation : ℕ) → List ℕ → List ℕ
-lacking image first copies generation text = copies_that (λ copy. not (holds image first copy (generation, text))) copies
+lacking image first copies generation text = copies_that (λ copy. not (holds image first copy (generation, text)))
+    copies
 
--- one copy more of a text, among texts that stand greatest generation first, and at one generation in the order of their first copies
+-- one copy more of a text, among texts that stand greatest generation first, and at one generation in the order of
+-- their first copies
 abbrev pub with_copy : ℕ → Text → List Seen → List Seen
 with_copy copy t [] = record { generation = t.0; text = t.1; copies = copy ∷ [] } ∷ []
 with_copy copy t (seen ∷ rest) =
@@ -54,7 +57,8 @@ with_slot copy (Some t) seens = with_copy copy t seens
 -- every text that one of the first n copies holds, with those copies, greatest generation first, then by first copy
 unfoldable pub held : Image → (first copies : ℕ) → List Seen
 held image first zero = []
-held image first (suc copy) = with_slot (copy + 1) (text_in image first copy 1) (with_slot (copy + 1) (text_in image first copy 0) (held image first copy))
+held image first (suc copy) = with_slot (copy + 1) (text_in image first copy 1)
+    (with_slot (copy + 1) (text_in image first copy 0) (held image first copy))
 
 -- the first of a list of texts that at least m copies hold
 abbrev pub standing_in : (m : ℕ) → List Seen → Option Seen

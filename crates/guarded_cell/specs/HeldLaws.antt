@@ -1,5 +1,7 @@
--- Laws of the texts that a register's copies hold: which they are, copy by copy, in what order, and which of them stands.
-use Rattle.std.proofs.Common.{◌≡◌, ℕ, zero, suc, ◌+◌, ◌%◌, ◌<◌, ◌≤◌, List, [], ◌∷◌, ◌++◌, length, get_or, true, false, cond, not, Option, Some, None, All, refl, sym, ap, ◌∙◌, subst, ⊎_elim, arith}
+-- Laws of the texts that a register's copies hold: which they are, copy by copy, in what order, and which of them
+-- stands.
+use Rattle.std.proofs.Common.{◌≡◌, ℕ, zero, suc, ◌+◌, ◌%◌, ◌<◌, ◌≤◌, List, [], ◌∷◌, ◌++◌, length, get_or, true, false}
+use Rattle.std.proofs.Common.{cond, not, Option, Some, None, All, refl, sym, ap, ◌∙◌, subst, ⊎_elim, arith}
 use Rattle.std.proofs.lemmas.Bool.{cases_eq, false_from_ne_true, not-true, not_from_false}
 use Rattle.std.specs.List.{Any, Contains}
 use Rattle.hash_guard.specs.SealedText.{VerifiesAs, verified}
@@ -11,7 +13,9 @@ use Rattle.guarded_cell.specs.Register.{Holds, IsHeldBy, IsStanding, HasNoStandi
 use Rattle.guarded_cell.specs.Held.{Text, text_in, is_text, holds, copies_that, lacking, with_slot, held, standing}
 use Rattle.guarded_cell.specs.CopyLaws.{enough_pass, passing_enough, passing_is, is_passing, some_passes}
 use Rattle.guarded_cell.specs.StopLaws.{at_least_map}
-use Rattle.guarded_cell.specs.SeenLaws.{IsInOrder, alike, copies_in, descends, found, greatest_found, high_slot, is_alike, low_slot, member_copies, member_of, never_both, none_found, other_parity, same_parity, text_of, with_slot_in_order}
+use Rattle.guarded_cell.specs.SeenLaws.{IsInOrder, alike, copies_in, descends, found, greatest_found, high_slot}
+use Rattle.guarded_cell.specs.SeenLaws.{is_alike, low_slot, member_copies, member_of, never_both, none_found}
+use Rattle.guarded_cell.specs.SeenLaws.{other_parity, same_parity, text_of, with_slot_in_order}
 
 -- ---- what a copy holds
 
@@ -26,15 +30,18 @@ is_text-verifies t bytes e = go (verified bytes) refl e
         (subst (λ (y : List ℕ). VerifiesAs bytes u.0 y) same.1 (verified-verifies bytes u.0 u.1 is))
 
 -- the test is true exactly where the copy holds the text
-pub holds_is : (image : Image) (first copy : ℕ) (t : Text) → holds image first copy t ≡ true → Holds image first copy t.0 t.1
+pub holds_is : (image : Image) (first copy : ℕ) (t : Text) → holds image first copy t ≡ true
+    → Holds image first copy t.0 t.1
 holds_is image first copy t e = is_text-verifies t (image (slot first copy (own t.0))) e
 
-pub is_holds : (image : Image) (first copy : ℕ) (t : Text) → Holds image first copy t.0 t.1 → holds image first copy t ≡ true
+pub is_holds : (image : Image) (first copy : ℕ) (t : Text) → Holds image first copy t.0 t.1
+    → holds image first copy t ≡ true
 is_holds image first copy t v =
     ap (is_text t) (verifies-verified (image (slot first copy (own t.0))) t.0 t.1 v) ∙ is_alike t t refl refl
 
 -- at least m copies hold the text exactly where the copies that pass the test are so many
-pub held_by : (image : Image) (first copies m : ℕ) (t : Text) → m ≤ length (copies_that (λ copy. holds image first copy t) copies)
+pub held_by : (image : Image) (first copies m : ℕ) (t : Text)
+    → m ≤ length (copies_that (λ copy. holds image first copy t) copies)
     → IsHeldBy image first copies m t.0 t.1
 held_by image first copies m t le =
     at_least_map (λ copy. holds image first copy t ≡ true) (λ copy. Holds image first copy t.0 t.1) copies m
@@ -51,7 +58,8 @@ by_holding image first copies m t some =
 
 -- a copy is among them exactly where it does not hold the text
 pub lacking_is : (image : Image) (first copies generation : ℕ) (text : List ℕ) (copy : ℕ)
-    → Contains (lacking image first copies generation text) (copy + 1) → (copy < copies) × ¬ (Holds image first copy generation text)
+    → Contains (lacking image first copies generation text) (copy + 1)
+    → (copy < copies) × ¬ (Holds image first copy generation text)
 unfolding lacking
 lacking_is image first copies generation text copy inside =
     let it = is_passing (λ c. not (holds image first c (generation, text))) copies copy inside in (
@@ -61,12 +69,14 @@ lacking_is image first copies generation text copy inside =
     )
 
 pub is_lacking : (image : Image) (first copies generation : ℕ) (text : List ℕ) (copy : ℕ)
-    → copy < copies → ¬ (Holds image first copy generation text) → Contains (lacking image first copies generation text) (copy + 1)
+    → copy < copies → ¬ (Holds image first copy generation text)
+    → Contains (lacking image first copies generation text) (copy + 1)
 unfolding lacking
 is_lacking image first copies generation text copy lt never =
     passing_is (λ c. not (holds image first c (generation, text))) copies copy lt
     (not_from_false (holds image first copy (generation, text))
-    (false_from_ne_true (holds image first copy (generation, text)) (λ e. never (holds_is image first copy (generation, text) e))))
+    (false_from_ne_true (holds image first copy (generation, text))
+    (λ e. never (holds_is image first copy (generation, text) e))))
 
 -- ---- the texts that are held
 
@@ -75,7 +85,8 @@ pub held_in_order : (image : Image) (first copies : ℕ) → IsInOrder (held ima
 unfolding held
 held_in_order image first zero = tt
 held_in_order image first (suc n) =
-    with_slot_in_order (n + 1) (text_in image first n 1) (with_slot (n + 1) (text_in image first n 0) (held image first n))
+    with_slot_in_order (n + 1) (text_in image first n 1)
+    (with_slot (n + 1) (text_in image first n 0) (held image first n))
     (with_slot_in_order (n + 1) (text_in image first n 0) (held image first n) (held_in_order image first n))
 
 -- among the texts that are held, a text has just the copies that hold it
@@ -89,14 +100,18 @@ copies_of image first (suc n) u =
     ap (λ (cs : List ℕ). cs ++ cond (holds image first n u) ((n + 1) ∷ []) []) (copies_of image first n u) in
     ⊎_elim
     (λ even.
-    low_slot (n + 1) u (text_in image first n 0) (text_in image first n 1) (holds image first n u) (held image first n) (held_in_order image first n)
-    (same_parity u 0 (verified (image (slot first n 0))) even ∙ ap (λ (p : ℕ). is_text u (verified (image (slot first n p)))) (sym even))
+    low_slot (n + 1) u (text_in image first n 0) (text_in image first n 1) (holds image first n u) (held image first n)
+    (held_in_order image first n)
+    (same_parity u 0 (verified (image (slot first n 0))) even
+    ∙ ap (λ (p : ℕ). is_text u (verified (image (slot first n p)))) (sym even))
     (other_parity u 1 (verified (image (slot first n 1))) (λ e. omega (arith, even, e))) ∙ earlier)
     (λ odd.
     let one : u.0 % 2 ≡ 1 = is_odd (u.0) odd in
-    high_slot (n + 1) u (text_in image first n 0) (text_in image first n 1) (holds image first n u) (held image first n) (held_in_order image first n)
+    high_slot (n + 1) u (text_in image first n 0) (text_in image first n 1) (holds image first n u) (held image first n)
+    (held_in_order image first n)
     (other_parity u 0 (verified (image (slot first n 0))) odd)
-    (same_parity u 1 (verified (image (slot first n 1))) one ∙ ap (λ (p : ℕ). is_text u (verified (image (slot first n p)))) (sym one)) ∙ earlier)
+    (same_parity u 1 (verified (image (slot first n 1))) one
+    ∙ ap (λ (p : ℕ). is_text u (verified (image (slot first n p)))) (sym one)) ∙ earlier)
     (cases_eq (u.0 % 2) 0)
   where
     is_odd : (g : ℕ) → (g % 2 ≡ 0 → ⊥) → g % 2 ≡ 1
@@ -104,35 +119,41 @@ copies_of image first (suc n) u =
 
 -- a member's copies are just those that hold its text
 pub held_copies : (image : Image) (first copies : ℕ)
-    → All (λ seen. seen.copies ≡ copies_that (λ copy. holds image first copy (seen.generation, seen.text)) copies) (held image first copies)
+    → All (λ seen. seen.copies ≡ copies_that (λ copy. holds image first copy (seen.generation, seen.text)) copies)
+    (held image first copies)
 held_copies image first copies k d lt =
     sym (member_copies (held image first copies) k d lt (held_in_order image first copies))
     ∙ copies_of image first copies (text_of (get_or (held image first copies) k d))
 
 -- every text that some copy holds is a member
-pub held_all : (image : Image) (first copies copy generation : ℕ) (text : List ℕ) → copy < copies → Holds image first copy generation text
+pub held_all : (image : Image) (first copies copy generation : ℕ) (text : List ℕ) → copy < copies
+    → Holds image first copy generation text
     → Any (λ seen. (seen.generation ≡ generation) × (seen.text ≡ text)) (held image first copies)
 held_all image first copies copy generation text lt v =
     let t : Text = (generation, text) in
     let (k, within, at) = passing_is (λ c. holds image first c t) copies copy lt (is_holds image first copy t v) in
     let some : 1 ≤ length (copies_that (λ c. holds image first c t) copies) = omega (arith, within) in
-    member_of t (held image first copies) (subst (λ (cs : List ℕ). 1 ≤ length cs) (sym (copies_of image first copies t)) some)
+    member_of t (held image first copies) (subst (λ (cs : List ℕ). 1 ≤ length cs) (sym (copies_of image first copies t))
+    some)
 
 -- generations do not rise from member to member, and no text stands twice
 pub held_descends : (image : Image) (first copies i j : ℕ) (d : Seen) → i < j → j < length (held image first copies)
     → (get_or (held image first copies) j d).generation ≤ (get_or (held image first copies) i d).generation
-held_descends image first copies i j d before lt = (descends (held image first copies) i j d before lt (held_in_order image first copies)).0
+held_descends image first copies i j d before lt = (descends (held image first copies) i j d before lt
+    (held_in_order image first copies)).0
 
 pub held_once : (image : Image) (first copies i j : ℕ) (d : Seen) → i < j → j < length (held image first copies)
     → (get_or (held image first copies) j d).generation ≡ (get_or (held image first copies) i d).generation
     → (get_or (held image first copies) j d).text ≡ (get_or (held image first copies) i d).text → ⊥
-held_once image first copies i j d before lt = (descends (held image first copies) i j d before lt (held_in_order image first copies)).1
+held_once image first copies i j d before lt = (descends (held image first copies) i j d before lt
+    (held_in_order image first copies)).1
 
 -- ---- the text that stands
 
 -- the copies of the text that stands are just those that hold it, and they are at least m
 pub standing_copies : (image : Image) (first copies m : ℕ) (seen : Seen) → standing image first copies m ≡ Some seen
-    → (seen.copies ≡ copies_that (λ copy. holds image first copy (seen.generation, seen.text)) copies) × (m ≤ length seen.copies)
+    → (seen.copies ≡ copies_that (λ copy. holds image first copy (seen.generation, seen.text)) copies)
+    × (m ≤ length seen.copies)
 unfolding standing
 standing_copies image first copies m seen e =
     let it = found m (held image first copies) seen e in
@@ -143,26 +164,32 @@ standing_copies image first copies m seen e =
     )
 
 -- what is found is what stands
-pub standing_stands : (image : Image) (first copies m : ℕ) (seen : Seen) → 1 ≤ m → standing image first copies m ≡ Some seen
+pub standing_stands : (image : Image) (first copies m : ℕ) (seen : Seen) → 1 ≤ m
+    → standing image first copies m ≡ Some seen
     → IsStanding image first copies m seen.generation seen.text
 unfolding standing
 standing_stands image first copies m seen positive e =
     let it = standing_copies image first copies m seen e in
     record {
       enough = held_by image first copies m (text_of seen) (subst (λ (cs : List ℕ). m ≤ length cs) it.0 it.1);
-      greatest = λ g t some. greatest_found m (held image first copies) seen (g, t) (held_in_order image first copies) positive e
-          (subst (λ (cs : List ℕ). m ≤ length cs) (sym (copies_of image first copies (g, t))) (by_holding image first copies m (g, t) some));
+      greatest = λ g t some. greatest_found m (held image first copies) seen (g, t) (held_in_order image first copies)
+          positive e
+          (subst (λ (cs : List ℕ). m ≤ length cs) (sym (copies_of image first copies (g, t)))
+          (by_holding image first copies m (g, t) some));
     }
 
 -- where none is found, nothing stands
-pub standing_none : (image : Image) (first copies m : ℕ) → 1 ≤ m → standing image first copies m ≡ None → HasNoStanding image first copies m
+pub standing_none : (image : Image) (first copies m : ℕ) → 1 ≤ m → standing image first copies m ≡ None
+    → HasNoStanding image first copies m
 unfolding standing
 standing_none image first copies m positive e g t some =
     none_found m (held image first copies) (g, t) positive e
-    (subst (λ (cs : List ℕ). m ≤ length cs) (sym (copies_of image first copies (g, t))) (by_holding image first copies m (g, t) some))
+    (subst (λ (cs : List ℕ). m ≤ length cs) (sym (copies_of image first copies (g, t)))
+    (by_holding image first copies m (g, t) some))
 
 -- and where nothing stands, none is found
-pub none_standing : (image : Image) (first copies m : ℕ) → HasNoStanding image first copies m → standing image first copies m ≡ None
+pub none_standing : (image : Image) (first copies m : ℕ) → HasNoStanding image first copies m
+    → standing image first copies m ≡ None
 none_standing image first copies m nothing = go (standing image first copies m) refl
   where
     go : (answer : Option Seen) → standing image first copies m ≡ answer → standing image first copies m ≡ None
@@ -173,19 +200,22 @@ none_standing image first copies m nothing = go (standing image first copies m) 
         (held_by image first copies m (text_of seen) (subst (λ (cs : List ℕ). m ≤ length cs) it.0 it.1)))
 
 -- where no two held texts have one generation, what stands is found
-pub stands_standing : (image : Image) (first copies m generation : ℕ) (text : List ℕ) → 1 ≤ m → IsOneEach image first copies
+pub stands_standing : (image : Image) (first copies m generation : ℕ) (text : List ℕ) → 1 ≤ m
+    → IsOneEach image first copies
     → IsStanding image first copies m generation text
     → (seen : Seen) × (standing image first copies m ≡ Some seen) × (seen.generation ≡ generation) × (seen.text ≡ text)
 stands_standing image first copies m generation text positive one stands = go (standing image first copies m) refl
   where
-    holder : (g : ℕ) (t : List ℕ) → IsHeldBy image first copies m g t → (copy : ℕ) × (copy < copies) × Holds image first copy g t
+    holder : (g : ℕ) (t : List ℕ) → IsHeldBy image first copies m g t
+        → (copy : ℕ) × (copy < copies) × Holds image first copy g t
     holder g t some =
         let many = by_holding image first copies m (g, t) some in
         let (copy, lt, e) = some_passes (λ c. holds image first c (g, t)) copies (omega (arith, many, positive)) in
         (copy, lt, holds_is image first copy (g, t) e)
 
     go : (answer : Option Seen) → standing image first copies m ≡ answer
-        → (seen : Seen) × (standing image first copies m ≡ Some seen) × (seen.generation ≡ generation) × (seen.text ≡ text)
+        → (seen : Seen) × (standing image first copies m ≡ Some seen) × (seen.generation ≡ generation)
+        × (seen.text ≡ text)
     go None e = absurd (standing_none image first copies m positive e generation text stands.enough)
     go (Some seen) e =
         let it = standing_stands image first copies m seen positive e in
@@ -193,5 +223,10 @@ stands_standing image first copies m generation text positive one stands = go (s
         let high = stands.greatest seen.generation seen.text it.enough in
         let same : seen.generation ≡ generation = omega (arith, low, high) in
         let (a, alt, va) = holder seen.generation seen.text it.enough in
-        let (b, blt, vb) = holder generation text stands.enough in
-        (seen, e, same, one a b generation seen.text text alt blt (subst (λ (g : ℕ). Holds image first a g seen.text) same va) vb)
+        let (b, blt, vb) = holder generation text stands.enough in (
+          seen,
+          e,
+          same,
+          one a b generation seen.text text alt blt
+              (subst (λ (g : ℕ). Holds image first a g seen.text) same va) vb,
+        )

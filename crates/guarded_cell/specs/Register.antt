@@ -33,7 +33,8 @@ pub record IsAlone (image : Image) (first copies generation : ℕ) (text : List 
 pub record IsKeptAlone (first copies generation : ℕ) (text : List ℕ) (old new : Image) : Type 0 where
   pub held : (copy : ℕ) → copy < copies → Holds old first copy generation text → Holds new first copy generation text
   pub own_slots : (copy : ℕ) → copy < copies → (g : ℕ) (t : List ℕ)
-      → VerifiesAs (new (slot first copy (own generation))) g t → (g ≡ generation) × (t ≡ text) × Holds old first copy generation text
+      → VerifiesAs (new (slot first copy (own generation))) g t
+      → (g ≡ generation) × (t ≡ text) × Holds old first copy generation text
   pub blank : (copy : ℕ) → copy < copies → IsBlank (new (slot first copy (other generation)))
 
 -- no two held texts have one generation
@@ -48,4 +49,5 @@ pub record IsStanding (image : Image) (first copies m generation : ℕ) (text : 
 
 -- nothing stands: no text is held by m copies
 abbrev pub HasNoStanding : Image → (first copies m : ℕ) → Type 0
-HasNoStanding image first copies m = (generation : ℕ) (text : List ℕ) → ¬ (IsHeldBy image first copies m generation text)
+HasNoStanding image first copies m = (generation : ℕ) (text : List ℕ)
+    → ¬ (IsHeldBy image first copies m generation text)

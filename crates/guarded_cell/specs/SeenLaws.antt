@@ -1,6 +1,10 @@
--- Laws of texts that were seen, in a list: their order, the copies with which each stands, and the first with enough of them.
-use Rattle.std.proofs.Common.{◌≡◌, ℕ, zero, suc, ◌%◌, ◌<◌, ◌≤◌, List, [], ◌∷◌, ◌++◌, length, get_or, Bool, true, false, cond, ◌&&◌, nat_eq, nat_le, nat_lt, eqb, Option, Some, None, find, if◌then◌else◌, refl, sym, ap, ◌∙◌, subst, ⊎_elim, eq-eqb, arith}
-use Rattle.std.proofs.lemmas.Bool.{cases_Bool, cond-true, cond-false, eqb-true, eqb-false, ltb-true, ltb-false, le-leb, leb-true, and_parts, and_from, false_from_ne_true}
+-- Laws of texts that were seen, in a list: their order, the copies with which each stands, and the first with enough of
+-- them.
+use Rattle.std.proofs.Common.{◌≡◌, ℕ, zero, suc, ◌%◌, ◌<◌, ◌≤◌, List, [], ◌∷◌, ◌++◌, length, get_or, Bool, true, false}
+use Rattle.std.proofs.Common.{cond, ◌&&◌, nat_eq, nat_le, nat_lt, eqb, Option, Some, None, find, if◌then◌else◌, refl}
+use Rattle.std.proofs.Common.{sym, ap, ◌∙◌, subst, ⊎_elim, eq-eqb, arith}
+use Rattle.std.proofs.lemmas.Bool.{cases_Bool, cond-true, cond-false, eqb-true, eqb-false, ltb-true, ltb-false, le-leb}
+use Rattle.std.proofs.lemmas.Bool.{leb-true, and_parts, and_from, false_from_ne_true}
 use Rattle.std.proofs.lemmas.List.{append-nil}
 use Rattle.std.proofs.lemmas.Slice.Eq.{bytes_eq-Decides}
 use Rattle.std.specs.Str.{bytes_eq}
@@ -24,7 +28,8 @@ is_alike a b one two =
     and_from (nat_eq a.0 b.0) (bytes_eq a.1 b.1) (eq-eqb a.0 b.0 one) ((bytes_eq-Decides a.1 b.1).1 two)
 
 pub unlike : (a b : Text) → (a.0 ≡ b.0 → a.1 ≡ b.1 → ⊥) → (nat_eq a.0 b.0 && bytes_eq a.1 b.1) ≡ false
-unlike a b differ = false_from_ne_true (nat_eq a.0 b.0 && bytes_eq a.1 b.1) (λ e. let same = alike a b e in differ same.0 same.1)
+unlike a b differ = false_from_ne_true (nat_eq a.0 b.0 && bytes_eq a.1 b.1)
+    (λ e. let same = alike a b e in differ same.0 same.1)
 
 pub never_both : (b : Bool) → b ≡ true → b ≡ false → ⊥
 never_both b passes fails = cc
@@ -80,8 +85,11 @@ module _ (copy : ℕ) (t : Text) (x : Seen) (xs : List Seen) where
 -- a text that is greater than the first is ahead of all
 greater_ahead : (t u : Text) (xs : List Seen) → u.0 < t.0 → IsAhead u xs → IsAhead t xs
 greater_ahead t u [] less ahead = tt
-greater_ahead t u (x ∷ xs) less ahead =
-    (omega (arith, less, ahead.0), unlike (text_of x) t (λ one two. let le = ahead.0 in omega (arith, one, less, le)), greater_ahead t u xs less ahead.2)
+greater_ahead t u (x ∷ xs) less ahead = (
+  omega (arith, less, ahead.0),
+  unlike (text_of x) t (λ one two. let le = ahead.0 in omega (arith, one, less, le)),
+  greater_ahead t u xs less ahead.2,
+)
 
 still_ahead : (u : Text) (copy : ℕ) (t : Text) (xs : List Seen) → t.0 ≤ u.0 → is_seen u (first_seen copy t) ≡ false
     → IsAhead u xs → IsAhead u (with_copy copy t xs)
@@ -101,7 +109,10 @@ with_copy_in_order copy t (x ∷ xs) order = placed copy t x xs IsInOrder
     (λ e. order)
     (λ e less. let le : x.generation ≤ t.0 = omega (arith, less) in
     ((le, e, greater_ahead t (text_of x) xs less order.0), order))
-    (λ e more. (still_ahead (text_of x) copy t xs more (turned copy t x e) order.0, with_copy_in_order copy t xs order.1))
+    (λ e more. (
+      still_ahead (text_of x) copy t xs more (turned copy t x e) order.0,
+      with_copy_in_order copy t xs order.1,
+    ))
 
 pub with_slot_in_order : (copy : ℕ) (o : Option Text) (xs : List Seen) → IsInOrder xs → IsInOrder (with_slot copy o xs)
 with_slot_in_order copy None xs order = order
@@ -125,21 +136,26 @@ none_ahead t [] ahead = refl
 none_ahead t (x ∷ xs) ahead = skips t x xs ahead.1 ∙ none_ahead t xs ahead.2
 
 -- one copy more of a text: the text has it, and every other text has what it had
-gains : (copy : ℕ) (t : Text) (xs : List Seen) → IsInOrder xs → copies_in t (with_copy copy t xs) ≡ copies_in t xs ++ copy ∷ []
+gains : (copy : ℕ) (t : Text) (xs : List Seen) → IsInOrder xs
+    → copies_in t (with_copy copy t xs) ≡ copies_in t xs ++ copy ∷ []
 gains copy t [] order = has t (first_seen copy t) [] (is_alike t t refl refl)
 gains copy t (x ∷ xs) order = placed copy t x xs (λ ys. copies_in t ys ≡ copies_in t (x ∷ xs) ++ copy ∷ [])
     (λ e. has t (seen_more copy x) xs e ∙ ap (λ (cs : List ℕ). cs ++ copy ∷ []) (sym (has t x xs e)))
     (λ e less. has t (first_seen copy t) (x ∷ xs) (is_alike t t refl refl)
-    ∙ ap (λ (cs : List ℕ). cs ++ copy ∷ []) (sym (skips t x xs e ∙ none_ahead t xs (greater_ahead t (text_of x) xs less order.0))))
-    (λ e more. skips t x (with_copy copy t xs) e ∙ gains copy t xs order.1 ∙ ap (λ (cs : List ℕ). cs ++ copy ∷ []) (sym (skips t x xs e)))
+    ∙ ap (λ (cs : List ℕ). cs ++ copy ∷ []) (sym (skips t x xs e
+    ∙ none_ahead t xs (greater_ahead t (text_of x) xs less order.0))))
+    (λ e more. skips t x (with_copy copy t xs) e ∙ gains copy t xs order.1
+    ∙ ap (λ (cs : List ℕ). cs ++ copy ∷ []) (sym (skips t x xs e)))
 
-keeps : (copy : ℕ) (t u : Text) (xs : List Seen) → is_seen u (first_seen copy t) ≡ false → copies_in u (with_copy copy t xs) ≡ copies_in u xs
+keeps : (copy : ℕ) (t u : Text) (xs : List Seen) → is_seen u (first_seen copy t) ≡ false
+    → copies_in u (with_copy copy t xs) ≡ copies_in u xs
 keeps copy t u [] differs = skips u (first_seen copy t) [] differs
 keeps copy t u (x ∷ xs) differs = placed copy t x xs (λ ys. copies_in u ys ≡ copies_in u (x ∷ xs))
     (λ e.
     let same = alike (text_of x) t e in
     let apart : is_seen u x ≡ false = unlike (text_of x) u
-    (λ one two. never_both (is_seen u (first_seen copy t)) (is_alike t u (sym same.0 ∙ one) (sym same.1 ∙ two)) differs) in
+    (λ one two. never_both (is_seen u (first_seen copy t)) (is_alike t u (sym same.0 ∙ one) (sym same.1 ∙ two)) differs)
+    in
     skips u (seen_more copy x) xs apart ∙ sym (skips u x xs apart))
     (λ e less. skips u (first_seen copy t) (x ∷ xs) differs)
     (λ e more. ap (λ (cs : List ℕ). cond (is_seen u x) x.copies cs) (keeps copy t u xs differs))
@@ -161,7 +177,8 @@ slot_adds copy (Some t) u xs order = ⊎_elim
     ∙ ap (λ (cs : List ℕ). copies_in u xs ++ cs) (sym (cond-false (is_text u (Some t)) (copy ∷ []) [] e)))
     (cases_Bool (is_text u (Some t)))
 
-pub same_parity : (u : Text) (parity : ℕ) (o : Option Text) → u.0 % 2 ≡ parity → is_text u (of_parity parity o) ≡ is_text u o
+pub same_parity : (u : Text) (parity : ℕ) (o : Option Text) → u.0 % 2 ≡ parity
+    → is_text u (of_parity parity o) ≡ is_text u o
 same_parity u parity None e = refl
 same_parity u parity (Some t) e = ⊎_elim
     (λ same. ap (is_text u) (cond-true (eqb (t.0 % 2) parity) (Some t) None same))
@@ -169,7 +186,8 @@ same_parity u parity (Some t) e = ⊎_elim
     ∙ sym (unlike t u (λ one two. eqb-false (t.0 % 2) parity differs (ap (λ (g : ℕ). g % 2) one ∙ e))))
     (cases_Bool (eqb (t.0 % 2) parity))
 
-pub other_parity : (u : Text) (parity : ℕ) (o : Option Text) → (u.0 % 2 ≡ parity → ⊥) → is_text u (of_parity parity o) ≡ false
+pub other_parity : (u : Text) (parity : ℕ) (o : Option Text) → (u.0 % 2 ≡ parity → ⊥)
+    → is_text u (of_parity parity o) ≡ false
 other_parity u parity None e = refl
 other_parity u parity (Some t) e = ⊎_elim
     (λ same. ap (is_text u) (cond-true (eqb (t.0 % 2) parity) (Some t) None same)
@@ -217,7 +235,8 @@ member_copies (x ∷ xs) (suc k) d lt order =
     (λ one two. never_both (is_seen (text_of x) y) (is_alike (text_of y) (text_of x) (sym one) (sym two)) ahead.1))
     ∙ member_copies xs k d within order.1
 
-pub member_of : (t : Text) (xs : List Seen) → 1 ≤ length (copies_in t xs) → Any (λ seen. (seen.generation ≡ t.0) × (seen.text ≡ t.1)) xs
+pub member_of : (t : Text) (xs : List Seen) → 1 ≤ length (copies_in t xs)
+    → Any (λ seen. (seen.generation ≡ t.0) × (seen.text ≡ t.1)) xs
 member_of t [] some = absurd (omega (arith, some))
 member_of t (x ∷ xs) some = ⊎_elim
     (λ e. (0, x, omega arith, refl, alike (text_of x) t e))
@@ -232,9 +251,13 @@ pub descends : (xs : List Seen) (i j : ℕ) (d : Seen) → i < j → j < length 
 descends [] i j d before lt order = absurd (omega (arith, lt))
 descends (x ∷ xs) i zero d before lt order = absurd (omega (arith, before))
 descends (x ∷ xs) zero (suc j) d before lt order =
-    let it = ahead_at (text_of x) xs j d (omega (arith, lt)) order.0 in
-    (it.0, λ one two. never_both (is_seen (text_of x) (get_or xs j d)) (is_alike (text_of (get_or xs j d)) (text_of x) one two) it.1)
-descends (x ∷ xs) (suc i) (suc j) d before lt order = descends xs i j d (omega (arith, before)) (omega (arith, lt)) order.1
+    let it = ahead_at (text_of x) xs j d (omega (arith, lt)) order.0 in (
+      it.0,
+      λ one two. never_both (is_seen (text_of x) (get_or xs j d))
+          (is_alike (text_of (get_or xs j d)) (text_of x) one two) it.1,
+    )
+descends (x ∷ xs) (suc i) (suc j) d before lt order = descends xs i j d (omega (arith, before)) (omega (arith, lt))
+    order.1
 
 -- ---- the first with enough copies
 
@@ -242,7 +265,8 @@ module _ (m : ℕ) where
   abbrev pub enough : Seen → Bool
   enough seen = nat_le m (length seen.copies)
 
-  pub later : (x : Seen) (xs : List Seen) (o : Option Seen) → find enough (x ∷ xs) ≡ o → enough x ≡ false → find enough xs ≡ o
+  pub later : (x : Seen) (xs : List Seen) (o : Option Seen) → find enough (x ∷ xs) ≡ o → enough x ≡ false
+      → find enough xs ≡ o
   later x xs o e few = sym (cond-false (enough x) (Some x) (find enough xs) few) ∙ e
 
   pub here : (x : Seen) (xs : List Seen) (s : Seen) → find enough (x ∷ xs) ≡ Some s → enough x ≡ true → x ≡ s
@@ -264,7 +288,8 @@ module _ (m : ℕ) where
       (cases_Bool (is_seen u x))
 
   -- a text that is not the first's has its copies in the rest
-  pub in_rest : (u : Text) (x : Seen) (xs : List Seen) → m ≤ length (copies_in u (x ∷ xs)) → enough x ≡ false → m ≤ length (copies_in u xs)
+  pub in_rest : (u : Text) (x : Seen) (xs : List Seen) → m ≤ length (copies_in u (x ∷ xs)) → enough x ≡ false
+      → m ≤ length (copies_in u xs)
   in_rest u x xs many few = ⊎_elim
       (λ e.
       let le : m ≤ length x.copies = subst (λ (cs : List ℕ). m ≤ length cs) (has u x xs e) many in

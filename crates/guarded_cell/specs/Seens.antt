@@ -18,4 +18,5 @@ pub record IsBefore (t : Text) (seen : Seen) : Type 0 where
 pub record IsPlaceOf (t : Text) (seens : List Seen) (at : ℕ) : Type 0 where
   pub within : at ≤ length seens
   pub before : (i : ℕ) → i < at → (d : Seen) → IsBefore t (slice_index_or seens i d)
-  pub here : at < length seens → (d : Seen) → (is_seen t (slice_index_or seens at d) ≡ true) ⊎ ((slice_index_or seens at d).generation < t.0)
+  pub here : at < length seens → (d : Seen) → (is_seen t (slice_index_or seens at d) ≡ true)
+      ⊎ ((slice_index_or seens at d).generation < t.0)

@@ -5,7 +5,8 @@ use Rattle.disk_model.specs.Image.{Image}
 use Rattle.guarded_cell.specs.declared.looking.Seen.{Seen}
 use Rattle.guarded_cell.specs.Held.{holds, held, standing}
 use Rattle.guarded_cell.specs.CopyLaws.{passing_is, is_passing}
-use Rattle.guarded_cell.specs.HeldLaws.{holds_is, is_holds, held_copies, held_all, held_descends, standing_copies, standing_stands, standing_none}
+use Rattle.guarded_cell.specs.HeldLaws.{holds_is, is_holds, held_copies, held_all, held_descends, standing_copies}
+use Rattle.guarded_cell.specs.HeldLaws.{standing_stands, standing_none}
 use Rattle.guarded_cell.specs.FirstLaws.{held_firsts, held_some, standing_first}
 use Rattle.guarded_cell.specs.SeenLaws.{text_of}
 use Rattle.guarded_cell.specs.Shown.{Shows, Chooses}
@@ -22,13 +23,15 @@ held_shows image first copies = record {
   all_holders = λ k d lt copy within v.
       let seen : Seen = get_or (held image first copies) k d in
       subst (λ (cs : List ℕ). Contains cs (copy + 1)) (sym (held_copies image first copies k d lt))
-      (passing_is (λ c. holds image first c (text_of seen)) copies copy within (is_holds image first copy (text_of seen) v));
+      (passing_is (λ c. holds image first c (text_of seen)) copies copy within
+      (is_holds image first copy (text_of seen) v));
   some = held_some image first copies;
   descends = λ i j d before lt. held_descends image first copies i j d before lt;
   firsts = λ i j d before lt e. held_firsts image first copies i j d before lt e;
 }
 
-pub standing_chosen : (image : Image) (first copies m : ℕ) → 1 ≤ m → Chooses image first copies m (standing image first copies m)
+pub standing_chosen : (image : Image) (first copies m : ℕ) → 1 ≤ m
+    → Chooses image first copies m (standing image first copies m)
 standing_chosen image first copies m positive = record {
   stands = λ seen e. standing_stands image first copies m seen positive e;
   copies_are = λ seen e. (standing_copies image first copies m seen e).0;

@@ -8,9 +8,11 @@ use Rattle.guarded_cell.specs.Stops.{IsOldOrNew}
 
 -- every slot of the place is as it was
 abbrev pub SameSlots : (first copies : ℕ) → (old new : Image) → Type 0
-SameSlots first copies old new = (copy parity : ℕ) → copy < copies → parity < 2 → new (slot first copy parity) ≡ old (slot first copy parity)
+SameSlots first copies old new = (copy parity : ℕ) → copy < copies → parity < 2
+    → new (slot first copy parity) ≡ old (slot first copy parity)
 
--- A text is put into every copy under the generation after the one that stands, no greater one is held, and m copies that held what stands are not damaged.
+-- A text is put into every copy under the generation after the one that stands, no greater one is held, and m copies
+-- that held what stands are not damaged.
 pub record IsAdopting (first copies m g : ℕ) (text next damaged : List ℕ) (start image : Image) : Type 0 where
   pub positive : 1 ≤ m
   pub one : IsOneEach start first copies

@@ -59,8 +59,10 @@ module _ (first copies m g : ℕ) (text next damaged : List ℕ) (start image : 
   pub write_stands : AtLeast (λ c. IsUndamaged damaged first c) copies m → ¬ (HasNoStanding image first copies m)
   write_stands safe nothing = ⊎_elim
       (λ old. nothing g text (at_least_map (λ c. IsUndamaged damaged first c) (λ c. Holds image first c g text) copies m
-      (λ c lt spared. let e : own g ≡ own (g + 1 + 1) = omega arith in old c lt spared g text e (alone.held c lt)) safe))
-      (λ new. nothing (g + 1) next (at_least_map (λ c. IsUndamaged damaged first c) (λ c. Holds image first c (g + 1) next) copies m new safe))
+      (λ c lt spared. let e : own g ≡ own (g + 1 + 1) = omega arith in old c lt spared g text e (alone.held c lt))
+      safe))
+      (λ new. nothing (g + 1) next (at_least_map (λ c. IsUndamaged damaged first c)
+      (λ c. Holds image first c (g + 1) next) copies m new safe))
       stop.stands
 
 -- ---- an opening, or an adoption of the text that stands
@@ -68,22 +70,26 @@ module _ (first copies m g : ℕ) (text next damaged : List ℕ) (start image : 
 -- where so many copies that held the text that stands are not damaged, it stands
 pub put_stands : (first copies m g : ℕ) (text damaged : List ℕ) (start image : Image)
     → IsStanding start first copies m g text → IsOldOrNew first copies g text damaged start image
-    → AtLeast (λ c. IsUndamaged damaged first c × Holds start first c g text) copies m → IsStanding image first copies m g text
+    → AtLeast (λ c. IsUndamaged damaged first c × Holds start first c g text) copies m
+    → IsStanding image first copies m g text
 put_stands first copies m g text damaged start image stands stop safe = record {
-  enough = at_least_map (λ c. IsUndamaged damaged first c × Holds start first c g text) (λ c. Holds image first c g text) copies m
+  enough = at_least_map (λ c. IsUndamaged damaged first c × Holds start first c g text)
+      (λ c. Holds image first c g text) copies m
       (λ c lt both. stop.kept c lt both.0 both.1) safe;
   greatest = λ h t enough. ⊎_elim
       (λ above. absurd (
-      let was : IsHeldBy start first copies m h t = at_least_map (λ c. Holds image first c h t) (λ c. Holds start first c h t) copies m
-      (λ c lt held. ⊎_elim (λ it. it) (λ new. absurd (omega (arith, above, new.0))) (stop.known c lt h t held)) enough in
+      let was : IsHeldBy start first copies m h t = at_least_map (λ c. Holds image first c h t)
+      (λ c. Holds start first c h t) copies m
+      (λ c lt held. ⊎_elim (λ it. it) (λ new. absurd (omega (arith, above, new.0))) (stop.known c lt h t held)) enough
+      in
       let le = stands.greatest h t was in
       omega (arith, above, le)))
       (λ within. within)
       (cases_lt g h);
 }
 
--- The next text after the one that stands is adopted, and no greater generation is held: where so many copies that held what stands are not
--- damaged, something stands, and it is that text or the adopted one.
+-- The next text after the one that stands is adopted, and no greater generation is held: where so many copies that held
+-- what stands are not damaged, something stands, and it is that text or the adopted one.
 module _ (first copies m g : ℕ) (text next damaged : List ℕ) (start image : Image) (positive : 1 ≤ m)
     (one : IsOneEach start first copies) (stands : IsStanding start first copies m g text)
     (least : (copy : ℕ) → copy < copies → (h : ℕ) (t : List ℕ) → Holds start first copy h t → h ≤ g)
@@ -91,9 +97,11 @@ module _ (first copies m g : ℕ) (text next damaged : List ℕ) (start image : 
     (safe : AtLeast (λ c. IsUndamaged damaged first c × Holds start first c g text) copies m) where
   held_again : IsHeldBy image first copies m g text ⊎ IsHeldBy image first copies m (g + 1) next
   held_again = ⊎_elim
-      (λ old. inl (at_least_map (λ c. IsUndamaged damaged first c × Holds start first c g text) (λ c. Holds image first c g text) copies m
+      (λ old. inl (at_least_map (λ c. IsUndamaged damaged first c × Holds start first c g text)
+      (λ c. Holds image first c g text) copies m
       (λ c lt both. let e : own g ≡ own (g + 1 + 1) = omega arith in old c lt both.0 g text e both.1) safe))
-      (λ new. inr (at_least_map (λ c. IsUndamaged damaged first c × Holds start first c g text) (λ c. Holds image first c (g + 1) next) copies m
+      (λ new. inr (at_least_map (λ c. IsUndamaged damaged first c × Holds start first c g text)
+      (λ c. Holds image first c (g + 1) next) copies m
       (λ c lt both. new c lt both.0) safe))
       stop.stands
 
@@ -108,7 +116,8 @@ module _ (first copies m g : ℕ) (text next damaged : List ℕ) (start image : 
       ⊎_elim
       (λ was.
       let low = least copy lt h t was in
-      let high : g ≤ h = ⊎_elim (λ it. now.greatest g text it) (λ it. let le = now.greatest (g + 1) next it in omega (arith, le)) held_again in
+      let high : g ≤ h = ⊎_elim (λ it. now.greatest g text it)
+      (λ it. let le = now.greatest (g + 1) next it in omega (arith, le)) held_again in
       let same : h ≡ g = omega (arith, low, high) in
       inl (same, one copy a g t text lt alt (subst (λ (x : ℕ). Holds start first copy x t) same was) was_text))
       inr

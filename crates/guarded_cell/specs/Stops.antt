@@ -21,7 +21,8 @@ pub record IsSlotPiece (first copies : ℕ) (image : Image) (piece : SlotText) :
   pub parity : piece.parity < 2
   pub verifies : VerifiesAs (image (slot first piece.copy piece.parity)) piece.generation piece.text
 
--- what a crash leaves, where no text is made by chance, and what is left of that after damage: so it is for each such image
+-- what a crash leaves, where no text is made by chance, and what is left of that after damage: so it is for each such
+-- image
 abbrev pub AfterStop : (first copies : ℕ) → (damaged_to : List ℕ → Image → Type 0) → Case → Type 0
 AfterStop first copies P c = IsSoundFor (IsSlotPiece first copies) c → (damaged : List ℕ) (image : Image)
     → DecaysFor (IsSlotPiece first copies) damaged c.left image → P damaged image
@@ -41,7 +42,8 @@ abbrev pub KeepsText : (first copies generation : ℕ) → List ℕ → (damaged
 KeepsText first copies generation text damaged start image = (copy : ℕ) → copy < copies → IsUndamaged damaged first copy
     → Holds start first copy generation text → Holds image first copy generation text
 
--- A text is put into every copy. Either each copy outside the damage still holds what it held in its slot of the other parity, or each holds the text.
+-- A text is put into every copy. Either each copy outside the damage still holds what it held in its slot of the other
+-- parity, or each holds the text.
 pub record IsOldOrNew (first copies generation : ℕ) (text damaged : List ℕ) (start image : Image) : Type 0 where
   pub known : HoldsKnown first copies generation text start image
   pub kept : KeepsText first copies generation text damaged start image
@@ -68,5 +70,6 @@ pub record KeepStops (first copies generation : ℕ) (text : List ℕ) (start : 
 -- a stop while a register is made anew: every copy holds only what it held, or every copy holds only the text
 pub record FormatStops (first copies generation : ℕ) (text : List ℕ) (start : Image) (c : Case) : Type 0 where
   pub slots : AfterStop first copies (λ damaged image. HoldsLess first copies start image
-      ⊎ ((copy : ℕ) → copy < copies → (g : ℕ) (t : List ℕ) → Holds image first copy g t → (g ≡ generation) × (t ≡ text))) c
+      ⊎ ((copy : ℕ) → copy < copies → (g : ℕ) (t : List ℕ) → Holds image first copy g t
+      → (g ≡ generation) × (t ≡ text))) c
   pub elsewhere : IsElsewhere first copies start c

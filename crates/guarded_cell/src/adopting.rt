@@ -21,8 +21,8 @@ use disk_model::{Disk, DiskFailed, Place};
 use hash_guard::seal;
 use std::alloc::Global;
 
-/// Brings every copy to this text under this generation: it is written where it lacks, which is made durable, and then every other
-/// slot that verifies is blanked, which is made durable too.
+/// Brings every copy to this text under this generation: it is written where it lacks, which is made durable, and then
+/// every other slot that verifies is blanked, which is made durable too.
 ///
 /// # Errors
 ///
@@ -46,17 +46,20 @@ pub fn adopt<D: Disk>(
     ensures cause { IsErrOf result CellError.Device → Rose (D.medium disk.old).faults (D.medium disk.new).faults }
     ensures passes { OnOk result ((D.medium disk.new).faults ≡ (D.medium disk.old).faults) }
 
-    // Only slots of the place change, and none that is right already; where every copy holds the text alone, nothing is written. A stop at
-    // any moment leaves every copy what it held or every copy the text.
-    ensures elsewhere { IsTrue D.told → Spares (IsNoSlot place.first place.copies) (D.medium disk.old).image (D.medium disk.new).image }
-    ensures right { IsTrue D.told → Spares (IsRight (D.medium disk.old).image place.first place.copies generation text.now)
+    // Only slots of the place change, and none that is right already; where every copy holds the text alone, nothing is
+    // written. A stop at any moment leaves every copy what it held or every copy the text.
+    ensures elsewhere { IsTrue D.told → Spares (IsNoSlot place.first place.copies) (D.medium disk.old).image
+        (D.medium disk.new).image }
+    ensures right { IsTrue D.told → Spares (IsRight (D.medium disk.old).image place.first place.copies generation
+        text.now)
         (D.medium disk.old).image (D.medium disk.new).image }
     ensures already { IsTrue D.told → IsAlone (D.medium disk.old).image place.first place.copies generation text.now
         → (D.medium disk.new).written ≡ (D.medium disk.old).written }
     ensures any_moment { IsTrue D.told → Quiet (D.medium disk.old)
         → EachCase (PutStops place.first place.copies generation text.now (D.medium disk.old).image)
         (D.medium disk.old) (D.medium disk.new) }
-    ensures written { (D.medium disk.new).written ≤ (D.medium disk.old).written + place.copies * (header + length text.now + header) }
+    ensures written { (D.medium disk.new).written ≤ (D.medium disk.old).written
+        + place.copies * (header + length text.now + header) }
     ensures time { Elapses (D.medium disk.old) (D.medium disk.new) }
 {
     let sealed_text = seal(alloc, generation, text)?;
@@ -79,17 +82,21 @@ fn adopt_in<D: Disk>(
     requires text { sealed_text.now ≡ sealed generation text.now }
     requires room { length room.old ≡ front }
 
-    ensures alone { IsTrue D.told → OnOk result (IsAlone (D.medium disk.new).image place.first place.copies generation text.now) }
+    ensures alone { IsTrue D.told → OnOk result (IsAlone (D.medium disk.new).image place.first place.copies generation
+        text.now) }
     ensures quiet { OnOk result (Quiet (D.medium disk.new)) }
-    ensures elsewhere { IsTrue D.told → Spares (IsNoSlot place.first place.copies) (D.medium disk.old).image (D.medium disk.new).image }
-    ensures right { IsTrue D.told → Spares (IsRight (D.medium disk.old).image place.first place.copies generation text.now)
+    ensures elsewhere { IsTrue D.told → Spares (IsNoSlot place.first place.copies) (D.medium disk.old).image
+        (D.medium disk.new).image }
+    ensures right { IsTrue D.told → Spares (IsRight (D.medium disk.old).image place.first place.copies generation
+        text.now)
         (D.medium disk.old).image (D.medium disk.new).image }
     ensures already { IsTrue D.told → IsAlone (D.medium disk.old).image place.first place.copies generation text.now
         → (D.medium disk.new).written ≡ (D.medium disk.old).written }
     ensures any_moment { IsTrue D.told → Quiet (D.medium disk.old)
         → EachCase (PutStops place.first place.copies generation text.now (D.medium disk.old).image)
         (D.medium disk.old) (D.medium disk.new) }
-    ensures written { (D.medium disk.new).written ≤ (D.medium disk.old).written + place.copies * (header + length text.now + header) }
+    ensures written { (D.medium disk.new).written ≤ (D.medium disk.old).written
+        + place.copies * (header + length text.now + header) }
     ensures time { Elapses (D.medium disk.old) (D.medium disk.new) }
     ensures cause { OnErr result (Rose (D.medium disk.old).faults (D.medium disk.new).faults) }
     ensures passes { OnOk result ((D.medium disk.new).faults ≡ (D.medium disk.old).faults) }
@@ -116,19 +123,24 @@ pub(crate) fn settle_on<D: Disk>(
     requires room { length room.old ≡ front }
     requires flags { place.copies ≤ length lacking.now }
     requires lacking { IsTrue D.told
-        → Picks Lacking lacking.now (D.medium disk.old).image place.first place.copies (own generation) generation text.now }
+        → Picks Lacking lacking.now (D.medium disk.old).image place.first place.copies (own generation) generation
+        text.now }
 
-    ensures alone { IsTrue D.told → OnOk result (IsAlone (D.medium disk.new).image place.first place.copies generation text.now) }
+    ensures alone { IsTrue D.told → OnOk result (IsAlone (D.medium disk.new).image place.first place.copies generation
+        text.now) }
     ensures quiet { OnOk result (Quiet (D.medium disk.new)) }
-    ensures elsewhere { IsTrue D.told → Spares (IsNoSlot place.first place.copies) (D.medium disk.old).image (D.medium disk.new).image }
-    ensures right { IsTrue D.told → Spares (IsRight (D.medium disk.old).image place.first place.copies generation text.now)
+    ensures elsewhere { IsTrue D.told → Spares (IsNoSlot place.first place.copies) (D.medium disk.old).image
+        (D.medium disk.new).image }
+    ensures right { IsTrue D.told → Spares (IsRight (D.medium disk.old).image place.first place.copies generation
+        text.now)
         (D.medium disk.old).image (D.medium disk.new).image }
     ensures already { IsTrue D.told → IsAlone (D.medium disk.old).image place.first place.copies generation text.now
         → (D.medium disk.new).written ≡ (D.medium disk.old).written }
     ensures any_moment { IsTrue D.told → Quiet (D.medium disk.old)
         → EachCase (PutStops place.first place.copies generation text.now (D.medium disk.old).image)
         (D.medium disk.old) (D.medium disk.new) }
-    ensures written { (D.medium disk.new).written ≤ (D.medium disk.old).written + place.copies * (header + length text.now + header) }
+    ensures written { (D.medium disk.new).written ≤ (D.medium disk.old).written
+        + place.copies * (header + length text.now + header) }
     ensures time { Elapses (D.medium disk.old) (D.medium disk.new) }
     ensures cause { OnErr result (Rose (D.medium disk.old).faults (D.medium disk.new).faults) }
     ensures passes { OnOk result ((D.medium disk.new).faults ≡ (D.medium disk.old).faults) }

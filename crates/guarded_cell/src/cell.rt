@@ -48,8 +48,8 @@ impl Cell {
         Ok(room)
     }
 
-    /// Writes the next text: under the next generation over the other slots of all copies, which is made durable, and then the old
-    /// slots are blanked, which is made durable too.
+    /// Writes the next text: under the next generation over the other slots of all copies, which is made durable, and
+    /// then the old slots are blanked, which is made durable too.
     ///
     /// # Errors
     ///
@@ -70,14 +70,17 @@ impl Cell {
 
         // A want of memory hands the cell back, and then nothing happened. Only a disk that failed closes the cell.
         ensures memory { IfErr result (λ fault. HandsBack self fault (disk.new ≡ disk.old)) }
-        ensures cause { IfErr result (λ fault. IsDeviceFault fault → Rose (D.medium disk.old).faults (D.medium disk.new).faults) }
+        ensures cause { IfErr result (λ fault. IsDeviceFault fault
+            → Rose (D.medium disk.old).faults (D.medium disk.new).faults) }
         ensures passes { OnOk result ((D.medium disk.new).faults ≡ (D.medium disk.old).faults) }
 
         // Only slots of the place change, and a stop at any moment leaves the old text or the new one.
         ensures elsewhere { IsTrue D.told
-            → Spares (IsNoSlot (place_of self).first (place_of self).copies) (D.medium disk.old).image (D.medium disk.new).image }
+            → Spares (IsNoSlot (place_of self).first (place_of self).copies) (D.medium disk.old).image
+            (D.medium disk.new).image }
         ensures any_moment { IsTrue D.told → Quiet (D.medium disk.old)
-            → EachCase (PutStops (place_of self).first (place_of self).copies (generation_of self + 1) text.now (D.medium disk.old).image)
+            → EachCase (PutStops (place_of self).first (place_of self).copies (generation_of self + 1) text.now
+            (D.medium disk.old).image)
             (D.medium disk.old) (D.medium disk.new) }
         ensures written { (D.medium disk.new).written
             ≤ (D.medium disk.old).written + (place_of self).copies * (header + length text.now + header) }
@@ -92,8 +95,8 @@ impl Cell {
         }
     }
 
-    /// Writes the next text as [`Cell::write`] does, in room that [`Cell::room`] made. It takes no memory, and a failure of the disk
-    /// closes the cell.
+    /// Writes the next text as [`Cell::write`] does, in room that [`Cell::room`] made. It takes no memory, and a
+    /// failure of the disk closes the cell.
     pub fn write_in<D: Disk>(
         self,
         disk: &mut D,
@@ -113,9 +116,11 @@ impl Cell {
 
         // Only slots of the place change, and a stop at any moment leaves the old text or the new one.
         ensures elsewhere { IsTrue D.told
-            → Spares (IsNoSlot (place_of self).first (place_of self).copies) (D.medium disk.old).image (D.medium disk.new).image }
+            → Spares (IsNoSlot (place_of self).first (place_of self).copies) (D.medium disk.old).image
+            (D.medium disk.new).image }
         ensures any_moment { IsTrue D.told → Quiet (D.medium disk.old)
-            → EachCase (PutStops (place_of self).first (place_of self).copies (generation_of self + 1) text.now (D.medium disk.old).image)
+            → EachCase (PutStops (place_of self).first (place_of self).copies (generation_of self + 1) text.now
+            (D.medium disk.old).image)
             (D.medium disk.old) (D.medium disk.new) }
         ensures written { (D.medium disk.new).written
             ≤ (D.medium disk.old).written + (place_of self).copies * (header + length text.now + header) }

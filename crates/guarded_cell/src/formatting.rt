@@ -18,7 +18,8 @@ use disk_model::{Disk, DiskFailed, Place};
 use hash_guard::{BLANK, seal};
 use std::alloc::Global;
 
-/// Gives up what the place held: all slots are blanked, which is made durable, and then every copy takes the text under generation 1.
+/// Gives up what the place held: all slots are blanked, which is made durable, and then every copy takes the text under
+/// generation 1.
 ///
 /// # Errors
 ///
@@ -41,9 +42,11 @@ pub fn format_cell<D: Disk>(
     ensures passes { OnOk result ((D.medium disk.new).faults ≡ (D.medium disk.old).faults) }
 
     // Only slots of the place change, and a stop at any moment leaves only what was held or only the new text.
-    ensures elsewhere { IsTrue D.told → Spares (IsNoSlot place.first place.copies) (D.medium disk.old).image (D.medium disk.new).image }
+    ensures elsewhere { IsTrue D.told → Spares (IsNoSlot place.first place.copies) (D.medium disk.old).image
+        (D.medium disk.new).image }
     ensures any_moment { IsTrue D.told → Quiet (D.medium disk.old)
-        → EachCase (FormatStops place.first place.copies 1 text.now (D.medium disk.old).image) (D.medium disk.old) (D.medium disk.new) }
+        → EachCase (FormatStops place.first place.copies 1 text.now (D.medium disk.old).image) (D.medium disk.old)
+        (D.medium disk.new) }
     ensures written { (D.medium disk.new).written
         ≤ (D.medium disk.old).written + place.copies * (header + header + (header + length text.now)) }
     ensures time { Elapses (D.medium disk.old) (D.medium disk.new) }
@@ -63,11 +66,14 @@ fn format_in<D: Disk>(
     requires short { length text.now ≤ max_body }
     requires text { sealed_text.now ≡ sealed 1 text.now }
 
-    ensures alone { IsTrue D.told → OnOk result (IsAlone (D.medium disk.new).image place.first place.copies 1 text.now) }
+    ensures alone { IsTrue D.told → OnOk result (IsAlone (D.medium disk.new).image place.first place.copies 1
+        text.now) }
     ensures quiet { OnOk result (Quiet (D.medium disk.new)) }
-    ensures elsewhere { IsTrue D.told → Spares (IsNoSlot place.first place.copies) (D.medium disk.old).image (D.medium disk.new).image }
+    ensures elsewhere { IsTrue D.told → Spares (IsNoSlot place.first place.copies) (D.medium disk.old).image
+        (D.medium disk.new).image }
     ensures any_moment { IsTrue D.told → Quiet (D.medium disk.old)
-        → EachCase (FormatStops place.first place.copies 1 text.now (D.medium disk.old).image) (D.medium disk.old) (D.medium disk.new) }
+        → EachCase (FormatStops place.first place.copies 1 text.now (D.medium disk.old).image) (D.medium disk.old)
+        (D.medium disk.new) }
     ensures written { (D.medium disk.new).written
         ≤ (D.medium disk.old).written + place.copies * (header + header + (header + length text.now)) }
     ensures time { Elapses (D.medium disk.old) (D.medium disk.new) }

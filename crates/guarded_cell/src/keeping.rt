@@ -19,8 +19,8 @@ use disk_model::{Disk, DiskFailed, Place};
 use hash_guard::BLANK;
 use std::alloc::Global;
 
-/// Blanks every slot that verifies and does not hold this text under this generation, and makes that durable. The copies that held the
-/// text hold it still.
+/// Blanks every slot that verifies and does not hold this text under this generation, and makes that durable. The
+/// copies that held the text hold it still.
 ///
 /// # Errors
 ///
@@ -41,9 +41,12 @@ pub fn keep_only<D: Disk>(
     ensures cause { IsErrOf result CellError.Device → Rose (D.medium disk.old).faults (D.medium disk.new).faults }
     ensures passes { OnOk result ((D.medium disk.new).faults ≡ (D.medium disk.old).faults) }
 
-    // Only slots of the place change, and none that is clear already. At any moment the copies that held the text hold it.
-    ensures elsewhere { IsTrue D.told → Spares (IsNoSlot place.first place.copies) (D.medium disk.old).image (D.medium disk.new).image }
-    ensures right { IsTrue D.told → Spares (IsClear (D.medium disk.old).image place.first place.copies generation text.now)
+    // Only slots of the place change, and none that is clear already. At any moment the copies that held the text hold
+    // it.
+    ensures elsewhere { IsTrue D.told → Spares (IsNoSlot place.first place.copies) (D.medium disk.old).image
+        (D.medium disk.new).image }
+    ensures right { IsTrue D.told → Spares (IsClear (D.medium disk.old).image place.first place.copies generation
+        text.now)
         (D.medium disk.old).image (D.medium disk.new).image }
     ensures any_moment { IsTrue D.told → Quiet (D.medium disk.old)
         → EachCase (KeepStops place.first place.copies generation text.now (D.medium disk.old).image)
@@ -69,8 +72,10 @@ fn keep_in<D: Disk>(
     ensures alone { IsTrue D.told → OnOk result
         (IsKeptAlone place.first place.copies generation text.now (D.medium disk.old).image (D.medium disk.new).image) }
     ensures quiet { OnOk result (Quiet (D.medium disk.new)) }
-    ensures elsewhere { IsTrue D.told → Spares (IsNoSlot place.first place.copies) (D.medium disk.old).image (D.medium disk.new).image }
-    ensures right { IsTrue D.told → Spares (IsClear (D.medium disk.old).image place.first place.copies generation text.now)
+    ensures elsewhere { IsTrue D.told → Spares (IsNoSlot place.first place.copies) (D.medium disk.old).image
+        (D.medium disk.new).image }
+    ensures right { IsTrue D.told → Spares (IsClear (D.medium disk.old).image place.first place.copies generation
+        text.now)
         (D.medium disk.old).image (D.medium disk.new).image }
     ensures any_moment { IsTrue D.told → Quiet (D.medium disk.old)
         → EachCase (KeepStops place.first place.copies generation text.now (D.medium disk.old).image)
@@ -107,15 +112,19 @@ fn blank_both<D: Disk>(
     requires others_flags { place.copies ≤ length others.now }
     requires stale_flags { place.copies ≤ length stale.now }
     requires others { IsTrue D.told
-        → Picks Others others.now (D.medium disk.old).image place.first place.copies (own generation) generation text.now }
+        → Picks Others others.now (D.medium disk.old).image place.first place.copies (own generation) generation
+        text.now }
     requires stale { IsTrue D.told
-        → Picks Verifying stale.now (D.medium disk.old).image place.first place.copies (other generation) generation text.now }
+        → Picks Verifying stale.now (D.medium disk.old).image place.first place.copies (other generation) generation
+        text.now }
 
     ensures alone { IsTrue D.told → OnOk result
         (IsKeptAlone place.first place.copies generation text.now (D.medium disk.old).image (D.medium disk.new).image) }
     ensures quiet { OnOk result (Quiet (D.medium disk.new)) }
-    ensures elsewhere { IsTrue D.told → Spares (IsNoSlot place.first place.copies) (D.medium disk.old).image (D.medium disk.new).image }
-    ensures right { IsTrue D.told → Spares (IsClear (D.medium disk.old).image place.first place.copies generation text.now)
+    ensures elsewhere { IsTrue D.told → Spares (IsNoSlot place.first place.copies) (D.medium disk.old).image
+        (D.medium disk.new).image }
+    ensures right { IsTrue D.told → Spares (IsClear (D.medium disk.old).image place.first place.copies generation
+        text.now)
         (D.medium disk.old).image (D.medium disk.new).image }
     ensures any_moment { IsTrue D.told → Quiet (D.medium disk.old)
         → EachCase (KeepStops place.first place.copies generation text.now (D.medium disk.old).image)

@@ -1,4 +1,5 @@
-//! What the list of held texts says of the register, and what its stops say of the text that stands. The functions do nothing.
+//! What the list of held texts says of the register, and what its stops say of the text that stands. The functions do
+//! nothing.
 
 ghost use Rattle.std.specs.Prelude.{◌≡◌, ◌⊎◌, ◌∷◌, [], ℕ, ◌+◌, ◌<◌, ◌≤◌, List, true, Some};
 ghost use Rattle.std.specs.List.{Contains};
@@ -17,12 +18,16 @@ ghost use Rattle.guarded_cell.specs.Stands.{SameSlots, IsAdopting};
 /// The laws of [`look`](crate::look) and [`open_cell`](crate::open_cell), for proofs.
 pub fn held_is_lawful()
     ensures held { (image : Image) (first copies : ℕ) → Shows image first copies (held image first copies) }
-    ensures standing { (image : Image) (first copies m : ℕ) → 1 ≤ m → Chooses image first copies m (standing image first copies m) }
-    ensures among { (image : Image) (first copies m : ℕ) → standing image first copies m ≡ standing_in m (held image first copies) }
+    ensures standing { (image : Image) (first copies m : ℕ) → 1 ≤ m
+        → Chooses image first copies m (standing image first copies m) }
+    ensures among { (image : Image) (first copies m : ℕ)
+        → standing image first copies m ≡ standing_in m (held image first copies) }
 
     // A text that is held alone is all that is held, and no copy lacks it.
-    ensures alone { (image : Image) (first copies g : ℕ) (text : List ℕ) → 1 ≤ copies → IsAlone image first copies g text
-        → (held image first copies ≡ record { generation = g; text = text; copies = copies_that (λ c. true) copies } ∷ [])
+    ensures alone { (image : Image) (first copies g : ℕ) (text : List ℕ) → 1 ≤ copies
+        → IsAlone image first copies g text
+        → (held image first copies ≡ record { generation = g; text = text; copies = copies_that (λ c. true) copies }
+        ∷ [])
         × (lacking image first copies g text ≡ []) }
 
     // What stands is found, where no two held texts have one generation. A copy that does not hold a text lacks it.
@@ -39,14 +44,15 @@ pub fn held_is_lawful()
         → standing new first copies m ≡ standing old first copies m }
 {}
 
-/// What the stops of [`Cell::write`](crate::Cell::write), [`open_cell`](crate::open_cell) and [`adopt`](crate::adopt) say of the text
-/// that stands, and what damage leaves of a register that nobody touched, for proofs.
+/// What the stops of [`Cell::write`](crate::Cell::write), [`open_cell`](crate::open_cell) and [`adopt`](crate::adopt)
+/// say of the text that stands, and what damage leaves of a register that nobody touched, for proofs.
 pub fn stops_are_lawful()
-    // The next text is written where one is held alone: what at least m copies hold is the old text or the next one, and something is,
-    // where m copies are not damaged.
+    // The next text is written where one is held alone: what at least m copies hold is the old text or the next one,
+    // and something is, where m copies are not damaged.
     ensures write_old_or_new { (first copies m g : ℕ) (text next damaged : List ℕ) (start image : Image) → 1 ≤ m
         → IsAlone start first copies g text → IsOldOrNew first copies (g + 1) next damaged start image
-        → (h : ℕ) (t : List ℕ) → IsHeldBy image first copies m h t → ((h ≡ g) × (t ≡ text)) ⊎ ((h ≡ g + 1) × (t ≡ next)) }
+        → (h : ℕ) (t : List ℕ) → IsHeldBy image first copies m h t
+        → ((h ≡ g) × (t ≡ text)) ⊎ ((h ≡ g + 1) × (t ≡ next)) }
     ensures write_stands { (first copies m g : ℕ) (text next damaged : List ℕ) (start image : Image) → 1 ≤ m
         → IsAlone start first copies g text → IsOldOrNew first copies (g + 1) next damaged start image
         → AtLeast (λ c. IsUndamaged damaged first c) copies m → ¬ (HasNoStanding image first copies m) }
@@ -54,18 +60,21 @@ pub fn stops_are_lawful()
     // What stands is put into every copy: it stands still, where m copies that held it are not damaged.
     ensures put_stands { (first copies m g : ℕ) (text damaged : List ℕ) (start image : Image)
         → IsStanding start first copies m g text → IsOldOrNew first copies g text damaged start image
-        → AtLeast (λ c. IsUndamaged damaged first c × Holds start first c g text) copies m → IsStanding image first copies m g text }
+        → AtLeast (λ c. IsUndamaged damaged first c × Holds start first c g text) copies m
+        → IsStanding image first copies m g text }
 
-    // A text is adopted under the generation after what stands: one of the two stands, where m copies that held the old one are not
-    // damaged.
+    // A text is adopted under the generation after what stands: one of the two stands, where m copies that held the old
+    // one are not damaged.
     ensures adopt_stands { (first copies m g : ℕ) (text next damaged : List ℕ) (start image : Image)
         → IsAdopting first copies m g text next damaged start image → ¬ (HasNoStanding image first copies m) }
     ensures adopt_old_or_new { (first copies m g : ℕ) (text next damaged : List ℕ) (start image : Image)
-        → IsAdopting first copies m g text next damaged start image → (h : ℕ) (t : List ℕ) → IsStanding image first copies m h t
+        → IsAdopting first copies m g text next damaged start image → (h : ℕ) (t : List ℕ)
+        → IsStanding image first copies m h t
         → ((h ≡ g) × (t ≡ text)) ⊎ ((h ≡ g + 1) × (t ≡ next)) }
 
     // Nobody touched the register: it holds less, and undamaged copies keep what they held.
-    ensures untouched { (first copies : ℕ) (start : Image) (c : Case) → IsSettledOn (λ f. ¬ (IsNoSlot first copies f)) start c
+    ensures untouched { (first copies : ℕ) (start : Image) (c : Case)
+        → IsSettledOn (λ f. ¬ (IsNoSlot first copies f)) start c
         → AfterStop first copies (λ damaged image. HoldsLess first copies start image
         × ((g : ℕ) (text : List ℕ) → KeepsText first copies g text damaged start image)) c }
 {}

@@ -27,13 +27,15 @@ pub struct Seen {
     pub copies: Numbers,
 }
 
-/// Every text that some copy holds, greatest generation first, then by first copy. It begins with a sync and writes nothing.
+/// Every text that some copy holds, greatest generation first, then by first copy. It begins with a sync and writes
+/// nothing.
 ///
 /// # Errors
 ///
 /// Never `Corrupt`.
 pub fn look<D: Disk>(alloc: Global, disk: &mut D, place: Place) -> Result<Vec<Seen>, CellError>
-    ensures held { IsTrue D.told → IfOk result (λ seens. seens.items ≡ held (D.medium disk.old).image place.first place.copies) }
+    ensures held { IsTrue D.told → IfOk result (λ seens. seens.items
+        ≡ held (D.medium disk.old).image place.first place.copies) }
     ensures sealable { IfOk result (λ seens. All IsSealable seens.items) }
 
     ensures quiet { OnOk result (Quiet (D.medium disk.new)) }
@@ -61,7 +63,8 @@ fn see_all<D: Disk>(
     room: &mut [u8],
 ) -> Result<Vec<Seen>, CellError>
     requires { length room.old ≡ front }
-    ensures held { IsTrue D.told → IfOk result (λ seens. seens.items ≡ held (D.medium disk.old).image place.first place.copies) }
+    ensures held { IsTrue D.told → IfOk result (λ seens. seens.items
+        ≡ held (D.medium disk.old).image place.first place.copies) }
     ensures sealable { IfOk result (λ seens. All IsSealable seens.items) }
     ensures reads { OnlyReads (D.medium disk.old) (D.medium disk.new) }
     ensures never_corrupt { IsErrOf result CellError.Corrupt → ⊥ }
@@ -93,7 +96,8 @@ fn see_slot<D: Disk>(
     requires parity { parity < 2 }
     requires sealable { All IsSealable seens.old.items }
     ensures seen { IsTrue D.told → OnOk result
-        (seens.new.items ≡ with_slot (copy + 1) (text_in (D.medium disk.old).image place.first copy parity) seens.old.items) }
+        (seens.new.items ≡ with_slot (copy + 1) (text_in (D.medium disk.old).image place.first copy parity)
+        seens.old.items) }
     ensures sealable { OnOk result (All IsSealable seens.new.items) }
     ensures reads { OnlyReads (D.medium disk.old) (D.medium disk.new) }
     ensures never_corrupt { IsErrOf result CellError.Corrupt → ⊥ }
@@ -117,7 +121,8 @@ fn note_front(
 ) -> Result<(), AllocError>
     requires copy { copy < 8 }
     requires sealable { All IsSealable seens.old.items }
-    ensures seen { OnOk result (seens.new.items ≡ with_slot (copy + 1) (of_parity parity (verified bytes.now)) seens.old.items) }
+    ensures seen { OnOk result (seens.new.items ≡ with_slot (copy + 1) (of_parity parity (verified bytes.now))
+        seens.old.items) }
     ensures sealable { OnOk result (All IsSealable seens.new.items) }
 {
     match verify(bytes) {

@@ -1,6 +1,7 @@
 //! Opening the register at the text that stands.
 
-ghost use Rattle.std.specs.Prelude.{◌≡◌, ◌≤◌, ◌<◌, ◌+◌, ◌*◌, IsTrue, IfOk, OnOk, IsErrOf, length, nat_le, None, get_or, false};
+ghost use Rattle.std.specs.Prelude.{◌≡◌, ◌≤◌, ◌<◌, ◌+◌, ◌*◌, IsTrue, IfOk, OnOk, IsErrOf, length, nat_le, None, get_or};
+ghost use Rattle.std.specs.Prelude.{false};
 ghost use Rattle.per_base.specs.Causes.{Rose};
 ghost use Rattle.disk_model.specs.Frame.{Spares};
 ghost use Rattle.disk_model.specs.Medium.{Quiet, EachCase, Elapses};
@@ -35,7 +36,8 @@ pub struct OpenedCell {
     pub lacking: Numbers,
 }
 
-/// Finds the text that at least `m` copies hold under the greatest generation, and brings every copy to it. It begins with a sync.
+/// Finds the text that at least `m` copies hold under the greatest generation, and brings every copy to it. It begins
+/// with a sync.
 ///
 /// # Errors
 ///
@@ -50,9 +52,11 @@ pub fn open_cell<D: Disk>(
 
     ensures place { IfOk result (λ opened. place_of opened.cell ≡ place) }
     ensures stands { IsTrue D.told → IfOk result (λ opened.
-        StandsAs (standing (D.medium disk.old).image place.first place.copies m) (generation_of opened.cell) opened.text) }
+        StandsAs (standing (D.medium disk.old).image place.first place.copies m) (generation_of opened.cell)
+        opened.text) }
     ensures lacking { IsTrue D.told → IfOk result (λ opened.
-        opened.lacking ≡ lacking (D.medium disk.old).image place.first place.copies (generation_of opened.cell) opened.text) }
+        opened.lacking ≡ lacking (D.medium disk.old).image place.first place.copies
+        (generation_of opened.cell) opened.text) }
     ensures held { IsTrue D.told → IfOk result (λ opened. CellAt (D.medium disk.new).image opened.cell opened.text) }
     ensures quiet { OnOk result (Quiet (D.medium disk.new)) }
 
@@ -63,23 +67,29 @@ pub fn open_cell<D: Disk>(
     ensures settled { IsErrOf result CellError.Corrupt
         → Quiet (D.medium disk.new) × ((D.medium disk.new).written ≡ (D.medium disk.old).written) }
     ensures memory { IsErrOf result CellError.OutOfMemory
-        → ((D.medium disk.new).image ≡ (D.medium disk.old).image) × ((D.medium disk.new).written ≡ (D.medium disk.old).written) }
+        → ((D.medium disk.new).image ≡ (D.medium disk.old).image)
+        × ((D.medium disk.new).written ≡ (D.medium disk.old).written) }
     ensures cause { IsErrOf result CellError.Device → Rose (D.medium disk.old).faults (D.medium disk.new).faults }
     ensures passes { OnOk result ((D.medium disk.new).faults ≡ (D.medium disk.old).faults) }
     ensures fed { IsErrOf result CellError.OutOfMemory → (D.medium disk.new).faults ≡ (D.medium disk.old).faults }
     ensures unfailed { IsErrOf result CellError.Corrupt → (D.medium disk.new).faults ≡ (D.medium disk.old).faults }
 
-    // Only slots of the place change, and none that is right already. A stop at any moment leaves every copy what it held or every copy
-    // the text that stood.
-    ensures elsewhere { IsTrue D.told → Spares (IsNoSlot place.first place.copies) (D.medium disk.old).image (D.medium disk.new).image }
+    // Only slots of the place change, and none that is right already. A stop at any moment leaves every copy what it
+    // held or every copy the text that stood.
+    ensures elsewhere { IsTrue D.told → Spares (IsNoSlot place.first place.copies) (D.medium disk.old).image
+        (D.medium disk.new).image }
     ensures right { IsTrue D.told → Spares
-        (IsRightFor (standing (D.medium disk.old).image place.first place.copies m) (D.medium disk.old).image place.first place.copies)
+        (IsRightFor (standing (D.medium disk.old).image place.first place.copies m) (D.medium disk.old).image
+        place.first place.copies)
         (D.medium disk.old).image (D.medium disk.new).image }
     ensures any_moment { IsTrue D.told → Quiet (D.medium disk.old)
-        → EachCase (OpenStops place.first place.copies m (D.medium disk.old).image) (D.medium disk.old) (D.medium disk.new) }
+        → EachCase (OpenStops place.first place.copies m (D.medium disk.old).image) (D.medium disk.old)
+        (D.medium disk.new) }
     ensures written { IfOk result (λ opened.
-        (D.medium disk.new).written ≤ (D.medium disk.old).written + place.copies * (header + length opened.text + header)) }
-    ensures at_most { (D.medium disk.new).written ≤ (D.medium disk.old).written + place.copies * (header + max_body + header) }
+        (D.medium disk.new).written ≤ (D.medium disk.old).written
+        + place.copies * (header + length opened.text + header)) }
+    ensures at_most { (D.medium disk.new).written ≤ (D.medium disk.old).written
+        + place.copies * (header + max_body + header) }
     ensures time { Elapses (D.medium disk.old) (D.medium disk.new) }
 {
     let seens = look(alloc, disk, place)?;
@@ -92,8 +102,8 @@ pub fn open_cell<D: Disk>(
     }
 }
 
-/// The text that stands among those that [`look`] gave: the first that at least `m` copies hold. Takes no memory and no disk, so that
-/// a text can be judged before [`adopt`](crate::adopt) brings every copy to it.
+/// The text that stands among those that [`look`] gave: the first that at least `m` copies hold. Takes no memory and no
+/// disk, so that a text can be judged before [`adopt`](crate::adopt) brings every copy to it.
 pub fn standing_among(seens: Vec<Seen>, m: u32) -> Option<Seen>
     ensures { result ≡ standing_in m seens.items }
 {
@@ -123,17 +133,21 @@ fn open_at<D: Disk>(
     ensures quiet { OnOk result (Quiet (D.medium disk.new)) }
     ensures never_corrupt { IsErrOf result CellError.Corrupt → ⊥ }
     ensures memory { IsErrOf result CellError.OutOfMemory
-        → ((D.medium disk.new).image ≡ (D.medium disk.old).image) × ((D.medium disk.new).written ≡ (D.medium disk.old).written) }
+        → ((D.medium disk.new).image ≡ (D.medium disk.old).image)
+        × ((D.medium disk.new).written ≡ (D.medium disk.old).written) }
     ensures cause { IsErrOf result CellError.Device → Rose (D.medium disk.old).faults (D.medium disk.new).faults }
     ensures passes { OnOk result ((D.medium disk.new).faults ≡ (D.medium disk.old).faults) }
     ensures fed { IsErrOf result CellError.OutOfMemory → (D.medium disk.new).faults ≡ (D.medium disk.old).faults }
-    ensures elsewhere { IsTrue D.told → Spares (IsNoSlot place.first place.copies) (D.medium disk.old).image (D.medium disk.new).image }
-    ensures right { IsTrue D.told → Spares (IsRight (D.medium disk.old).image place.first place.copies seen.generation seen.text)
+    ensures elsewhere { IsTrue D.told → Spares (IsNoSlot place.first place.copies) (D.medium disk.old).image
+        (D.medium disk.new).image }
+    ensures right { IsTrue D.told → Spares (IsRight (D.medium disk.old).image place.first place.copies seen.generation
+        seen.text)
         (D.medium disk.old).image (D.medium disk.new).image }
     ensures any_moment { IsTrue D.told → Quiet (D.medium disk.old)
         → EachCase (PutStops place.first place.copies seen.generation seen.text (D.medium disk.old).image)
         (D.medium disk.old) (D.medium disk.new) }
-    ensures written { (D.medium disk.new).written ≤ (D.medium disk.old).written + place.copies * (header + length seen.text + header) }
+    ensures written { (D.medium disk.new).written ≤ (D.medium disk.old).written
+        + place.copies * (header + length seen.text + header) }
     ensures time { Elapses (D.medium disk.old) (D.medium disk.new) }
 {
     let lacking = open_text(alloc, disk, place, seen.generation, seen.text.as_slice())?;
@@ -161,21 +175,26 @@ fn open_text<D: Disk>(
     requires short { length text.now ≤ max_body }
     ensures lacking { IsTrue D.told → IfOk result (λ numbers.
         numbers ≡ lacking (D.medium disk.old).image place.first place.copies generation text.now) }
-    ensures alone { IsTrue D.told → OnOk result (IsAlone (D.medium disk.new).image place.first place.copies generation text.now) }
+    ensures alone { IsTrue D.told → OnOk result (IsAlone (D.medium disk.new).image place.first place.copies generation
+        text.now) }
     ensures quiet { OnOk result (Quiet (D.medium disk.new)) }
     ensures never_corrupt { IsErrOf result CellError.Corrupt → ⊥ }
     ensures memory { IsErrOf result CellError.OutOfMemory
-        → ((D.medium disk.new).image ≡ (D.medium disk.old).image) × ((D.medium disk.new).written ≡ (D.medium disk.old).written) }
+        → ((D.medium disk.new).image ≡ (D.medium disk.old).image)
+        × ((D.medium disk.new).written ≡ (D.medium disk.old).written) }
     ensures cause { IsErrOf result CellError.Device → Rose (D.medium disk.old).faults (D.medium disk.new).faults }
     ensures passes { OnOk result ((D.medium disk.new).faults ≡ (D.medium disk.old).faults) }
     ensures fed { IsErrOf result CellError.OutOfMemory → (D.medium disk.new).faults ≡ (D.medium disk.old).faults }
-    ensures elsewhere { IsTrue D.told → Spares (IsNoSlot place.first place.copies) (D.medium disk.old).image (D.medium disk.new).image }
-    ensures right { IsTrue D.told → Spares (IsRight (D.medium disk.old).image place.first place.copies generation text.now)
+    ensures elsewhere { IsTrue D.told → Spares (IsNoSlot place.first place.copies) (D.medium disk.old).image
+        (D.medium disk.new).image }
+    ensures right { IsTrue D.told → Spares (IsRight (D.medium disk.old).image place.first place.copies generation
+        text.now)
         (D.medium disk.old).image (D.medium disk.new).image }
     ensures any_moment { IsTrue D.told → Quiet (D.medium disk.old)
         → EachCase (PutStops place.first place.copies generation text.now (D.medium disk.old).image)
         (D.medium disk.old) (D.medium disk.new) }
-    ensures written { (D.medium disk.new).written ≤ (D.medium disk.old).written + place.copies * (header + length text.now + header) }
+    ensures written { (D.medium disk.new).written ≤ (D.medium disk.old).written
+        + place.copies * (header + length text.now + header) }
     ensures time { Elapses (D.medium disk.old) (D.medium disk.new) }
 {
     let sealed_text = seal(alloc, generation, text)?;

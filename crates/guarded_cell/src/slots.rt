@@ -111,7 +111,8 @@ fn look_at<D: Disk>(
     room: &mut [u8],
 ) -> Result<Found, DiskFailed>
     requires { length room.old ≡ front }
-    ensures found { IsTrue D.told → IfOk result (λ found. IsFound found ((D.medium disk.old).image file) generation text.now) }
+    ensures found { IsTrue D.told → IfOk result (λ found.
+        IsFound found ((D.medium disk.old).image file) generation text.now) }
     ensures reads { OnlyReads (D.medium disk.old) (D.medium disk.new) }
     ensures time { Elapses (D.medium disk.old) (D.medium disk.new) }
     ensures cause { OnErr result (Rose (D.medium disk.old).faults (D.medium disk.new).faults) }

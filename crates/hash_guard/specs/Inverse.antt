@@ -1,5 +1,7 @@
--- Reading undoes writing and the other way round: a slot of bytes that verifies begins with the text that seals what it verifies as.
-use Rattle.std.proofs.Common.{◌≡◌, ℕ, zero, suc, ◌+◌, ◌*◌, ◌/◌, ◌%◌, ◌^◌, ◌<◌, ◌≤◌, List, [], ◌∷◌, ◌++◌, length, take, drop, slice_index, refl, sym, ap, ◌∙◌, append_assoc, arith, length-drop}
+-- Reading undoes writing and the other way round: a slot of bytes that verifies begins with the text that seals what it
+-- verifies as.
+use Rattle.std.proofs.Common.{◌≡◌, ℕ, zero, suc, ◌+◌, ◌*◌, ◌/◌, ◌%◌, ◌^◌, ◌<◌, ◌≤◌, List, [], ◌∷◌, ◌++◌, length, take}
+use Rattle.std.proofs.Common.{drop, slice_index, refl, sym, ap, ◌∙◌, append_assoc, arith, length-drop}
 use Rattle.std.proofs.lemmas.List.{drop-drop, get_or-drop}
 use Rattle.std.proofs.Math.Seq.{take-add}
 use Rattle.std.proofs.Math.Nat.{div-div-eq-div-mul, div-one, pow-succ'}
@@ -40,7 +42,8 @@ bytes-number (suc n) [] bytes le = absurd (omega arith)
 bytes-number (suc n) (x ∷ xs) bytes le =
     let small : x < 256 = bytes 0 in
     let rest = little_from 0 n xs in
-    let moved : little_from 0 (suc n) (x ∷ xs) ≡ x + 256 * rest = ap (λ (m : ℕ). x + 256 * m) (little_from-cons 0 n x xs) in
+    let moved : little_from 0 (suc n) (x ∷ xs) ≡ x + 256 * rest =
+    ap (λ (m : ℕ). x + 256 * m) (little_from-cons 0 n x xs) in
     let lowest : (x + 256 * rest) % 256 ≡ x = omega arith in
     ap (bytes_low_first 0 (suc n)) moved
     ∙ ap (λ (b : ℕ). b ∷ bytes_low_first 1 n (x + 256 * rest)) lowest
@@ -78,7 +81,8 @@ numbered-read slot g body bytes v =
     ∙ ap (take 4) (sym (drop-drop 8 32 slot)) in
     let its_body : body ≡ take (length_in slot) (drop 12 (drop 32 slot)) = v.body_is
     ∙ ap (take (length_in slot)) (sym (drop-drop 12 32 slot)) in
-    joined (drop 32 slot) (little_bytes 8 g) (little_bytes 4 (length body)) body (length_in slot) generation number its_body
+    joined (drop 32 slot) (little_bytes 8 g) (little_bytes 4 (length body)) body (length_in slot) generation number
+    its_body
 
 pub verified-sealed : (slot : List ℕ) (g : ℕ) (body : List ℕ) → ((i : ℕ) → slice_index slot i < 256)
     → VerifiesAs slot g body

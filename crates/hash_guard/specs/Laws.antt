@@ -1,5 +1,7 @@
 -- Laws of sealed texts: how long they are, what verifies and what never does, and that a slot's front decides alone.
-use Rattle.std.proofs.Common.{◌≡◌, ℕ, ◌+◌, ◌-◌, ◌^◌, ◌<◌, ◌≤◌, List, ◌++◌, length, take, drop, replicate, Bool, true, false, ◌&&◌, Option, Some, None, refl, sym, ap, ◌∙◌, append_assoc, subst, arith, length-append, length-drop}
+use Rattle.std.proofs.Common.{◌≡◌, ℕ, ◌+◌, ◌-◌, ◌^◌, ◌<◌, ◌≤◌, List, ◌++◌, length, take, drop, replicate, Bool, true}
+use Rattle.std.proofs.Common.{false, ◌&&◌, Option, Some, None, refl, sym, ap, ◌∙◌, append_assoc, subst, arith}
+use Rattle.std.proofs.Common.{length-append, length-drop}
 use Rattle.std.proofs.lemmas.List.{take_at, drop_at, take-take, drop-drop, drop-take, length-take, length-take-le}
 use Rattle.std.proofs.lemmas.Bool.{cond-true, le-leb, leb-true}
 use Rattle.std.proofs.lemmas.Option.{cond_some}
@@ -8,7 +10,8 @@ use Rattle.byteorder.specs.Endian.{little_bytes, little_from}
 use Rattle.byteorder.specs.Numbers.{little_number-reads_back, length-bytes_low_first, little_from-take}
 use Rattle.sha2.specs.Sha256.{sha256}
 use Rattle.sha2.proofs.Facts256.{length-sha256}
-use Rattle.hash_guard.specs.SealedText.{header, max_body, numbered, sealed, generation_in, length_in, body_in, IsSealed, VerifiesAs, is_sealed, verified}
+use Rattle.hash_guard.specs.SealedText.{header, max_body, numbered, sealed, generation_in, length_in, body_in, IsSealed}
+use Rattle.hash_guard.specs.SealedText.{VerifiesAs, is_sealed, verified}
 
 -- ---- the length of a text
 
@@ -64,8 +67,10 @@ pub sealed_verifies : (generation : ℕ) (body rest : List ℕ) → 1 ≤ genera
     → length body ≤ max_body → VerifiesAs (sealed generation body ++ rest) generation body
 unfolding sealed numbered generation_in length_in
 sealed_verifies generation body rest positive fits short =
-    let p = parts (sha256 (numbered generation body)) (little_bytes 8 generation) (little_bytes 4 (length body)) body rest
-    (length-sha256 (numbered generation body)) (length-bytes_low_first 0 8 generation) (length-bytes_low_first 0 4 (length body)) in
+    let p = parts (sha256 (numbered generation body)) (little_bytes 8 generation) (little_bytes 4 (length body)) body
+    rest
+    (length-sha256 (numbered generation body)) (length-bytes_low_first 0 8 generation)
+    (length-bytes_low_first 0 4 (length body)) in
     let slot : List ℕ = sealed generation body ++ rest in
     let its_generation : generation ≡ generation_in slot =
     sym (ap (little_from 0 8) p.from_generation
@@ -218,7 +223,8 @@ each false b p = cc
 -- the test is true exactly where the slot's front is a text under its own hash
 is_sealed-true : (slot : List ℕ) → IsSealed slot → is_sealed slot ≡ true
 is_sealed-true slot s =
-    both _ _ (both _ _ (both _ _ (both _ _ (le-leb _ _ s.head) (le-leb _ _ s.generation)) (le-leb _ _ s.short)) (le-leb _ _ s.whole))
+    both _ _ (both _ _ (both _ _ (both _ _ (le-leb _ _ s.head) (le-leb _ _ s.generation)) (le-leb _ _ s.short))
+    (le-leb _ _ s.whole))
     ((bytes_eq-Decides (take 32 slot) (sha256 (take (12 + length_in slot) (drop 32 slot)))).1 s.hash)
 
 sealed-is_sealed : (slot : List ℕ) → is_sealed slot ≡ true → IsSealed slot

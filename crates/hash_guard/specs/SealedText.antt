@@ -1,5 +1,7 @@
--- A text under its hash: 32 bytes of SHA-256 of all that follows, the generation in 8 bytes, the body's length in 4 bytes, and the body. Numbers are little-endian.
-use Rattle.std.specs.Prelude.{◌≡◌, ℕ, ◌+◌, ◌≤◌, List, ◌++◌, length, take, drop, Bool, cond, ◌&&◌, nat_le, Option, Some, None}
+-- A text under its hash: 32 bytes of SHA-256 of all that follows, the generation in 8 bytes, the body's length in 4
+-- bytes, and the body. Numbers are little-endian.
+use Rattle.std.specs.Prelude.{◌≡◌, ℕ, ◌+◌, ◌≤◌, List, ◌++◌, length, take, drop, Bool, cond, ◌&&◌, nat_le, Option, Some}
+use Rattle.std.specs.Prelude.{None}
 use Rattle.std.specs.Str.{bytes_eq}
 use Rattle.byteorder.specs.Endian.{little_bytes, little_number}
 use Rattle.sha2.specs.Sha256.{sha256}

@@ -1,5 +1,6 @@
 -- How long texts are, and how many blocks an index has.
-use Rattle.std.proofs.Common.{◌≡◌, ℕ, ◌+◌, ◌*◌, ◌/◌, ◌≤◌, true, false, cond, eqb, leb, ltb, List, [], ◌∷◌, length, Option, Some, None, refl, arith}
+use Rattle.std.proofs.Common.{◌≡◌, ℕ, ◌+◌, ◌*◌, ◌/◌, ◌≤◌, true, false, cond, eqb, leb, ltb, List, [], ◌∷◌, length}
+use Rattle.std.proofs.Common.{Option, Some, None, refl, arith}
 use Rattle.std.specs.Prelude.{◌&&◌, IsTrue, sum_by}
 use Rattle.std.specs.Int.{w32, w64, to_le_bytes}
 use Rattle.std.specs.List.{flat_map, AllByRecursion}
@@ -21,28 +22,44 @@ use Rattle.index_text.specs.Sizes.{Fits, area_blocks, changed_length, entry_leng
 name_length : (name : List ℕ) → IsName name → length name ≤ 255
 name_length name is = leb-true _ _ (and_parts _ _ (and_parts _ (list_all in_name name) is).0).1
 
-length-info_text : (kind : StoreKind) (i : Option FileInfo) → IsTrue (has_info kind i) → length (info_text i) ≡ info_length kind
+length-info_text : (kind : StoreKind) (i : Option FileInfo) → IsTrue (has_info kind i)
+    → length (info_text i) ≡ info_length kind
 length-info_text Keys None h = refl
 length-info_text Keys (Some i) h = absurd cc
 length-info_text Files None h = absurd cc
 length-info_text Files (Some i) h = refl
 
 length-changed_text : (format n : ℕ) → length (changed_text format n) ≡ changed_length format
-length-changed_text format n = elim (eqb format 2) as (λ b. length (cond b (to_le_bytes w64 n) []) ≡ cond b 8 0) [ true ↦ refl | false ↦ refl ]
+length-changed_text format n = elim (eqb format 2) as (λ b. length (cond b (to_le_bytes w64 n) []) ≡ cond b 8 0)
+    [ true ↦ refl | false ↦ refl ]
 
 length-numbers : (xs : List ℕ) → length (flat_map (to_le_bytes w32) xs) ≡ 4 * length xs
 length-numbers [] = refl
 length-numbers (x ∷ xs) = omega (arith, length-numbers xs)
 
-length-entry_text : (format : ℕ) (kind : StoreKind) (e : IndexEntry) → IsEntry format kind e → length (entry_text format e) ≡ entry_length format kind e
+length-entry_text : (format : ℕ) (kind : StoreKind) (e : IndexEntry) → IsEntry format kind e
+    → length (entry_text format e) ≡ entry_length format kind e
 unfolding entry_text
 length-entry_text format kind e is =
-    simp length-append (omega (arith, length-info_text kind e.info is.info, length-changed_text format e.changed, length-numbers e.blocks, is.hash))
+    simp length-append (omega (
+      arith,
+      length-info_text kind e.info is.info,
+      length-changed_text format e.changed,
+      length-numbers e.blocks,
+      is.hash,
+    ))
 
-length-entries : (format : ℕ) (kind : StoreKind) (es : List IndexEntry) → AllByRecursion (IsEntry format kind) es → length (flat_map (entry_text format) es) ≡ sum_by (entry_length format kind) es
+length-entries : (format : ℕ) (kind : StoreKind) (es : List IndexEntry) → AllByRecursion (IsEntry format kind) es
+    → length (flat_map (entry_text format) es) ≡ sum_by (entry_length format kind) es
 length-entries format kind [] each = refl
 length-entries format kind (e ∷ es) each =
-    rw (flat_map-cons, length-append, sum_by-cons, length-entry_text format kind e each.0, length-entries format kind es each.1) refl
+    rw (
+      flat_map-cons,
+      length-append,
+      sum_by-cons,
+      length-entry_text format kind e each.0,
+      length-entries format kind es each.1,
+    ) refl
 
 -- the length of a text
 pub length-index_text : (i : Index) → IsIndex i → length (index_text i) ≡ text_length i
@@ -55,7 +72,8 @@ length-index_text i rules = omega (arith, length-entries i.format i.kind i.entri
 blocks_above : (len n : ℕ) → n ≡ block_count len → 256 * n ≤ len + 255
 blocks_above len n e = omega arith
 
-blocks_bound : (format : ℕ) (kind : StoreKind) (es : List IndexEntry) → AllByRecursion (IsEntry format kind) es → 256 * length (blocks_of es) ≤ size_of es + 255 * length es
+blocks_bound : (format : ℕ) (kind : StoreKind) (es : List IndexEntry) → AllByRecursion (IsEntry format kind) es
+    → 256 * length (blocks_of es) ≤ size_of es + 255 * length es
 blocks_bound format kind [] each = omega arith
 blocks_bound format kind (e ∷ es) each =
     let rest = blocks_bound format kind es each.1 in
@@ -73,7 +91,8 @@ info_length_bound Files = omega arith
 changed_length_bound : (format : ℕ) → changed_length format ≤ 8
 changed_length_bound format = elim (eqb format 2) as (λ b. cond b 8 0 ≤ 8) [ true ↦ omega arith | false ↦ omega arith ]
 
-entries_bound : (format : ℕ) (kind : StoreKind) (es : List IndexEntry) → AllByRecursion (IsEntry format kind) es → sum_by (entry_length format kind) es ≤ 326 * length es + 4 * length (blocks_of es)
+entries_bound : (format : ℕ) (kind : StoreKind) (es : List IndexEntry) → AllByRecursion (IsEntry format kind) es
+    → sum_by (entry_length format kind) es ≤ 326 * length es + 4 * length (blocks_of es)
 entries_bound format kind [] each = omega arith
 entries_bound format kind (e ∷ es) each =
     let rest = entries_bound format kind es each.1 in
@@ -84,10 +103,12 @@ entries_bound format kind (e ∷ es) each =
 
 size_within : (kind : StoreKind) (allowed : ℕ) (i : Index) → Fits kind allowed i → size_of i.entries ≤ allowed
 size_within kind allowed i fits =
-    let front = and_parts (eqb (kind_code i.kind) (kind_code kind) && leb (size_of i.entries) allowed) (list_all (λ b. ltb b (area_blocks allowed)) (blocks_of i.entries)) fits in
+    let front = and_parts (eqb (kind_code i.kind) (kind_code kind) && leb (size_of i.entries) allowed)
+    (list_all (λ b. ltb b (area_blocks allowed)) (blocks_of i.entries)) fits in
     leb-true _ _ (and_parts (eqb (kind_code i.kind) (kind_code kind)) (leb (size_of i.entries) allowed) front.0).1
 
-pub text_is_short : (kind : StoreKind) (allowed : ℕ) (i : Index) → IsIndex i → Fits kind allowed i → allowed ≤ 4194304 → length (index_text i) ≤ 403460
+pub text_is_short : (kind : StoreKind) (allowed : ℕ) (i : Index) → IsIndex i → Fits kind allowed i → allowed ≤ 4194304
+    → length (index_text i) ≤ 403460
 text_is_short kind allowed i rules fits small =
     let blocks = blocks_bound i.format i.kind i.entries rules.each in
     let entries = entries_bound i.format i.kind i.entries rules.each in

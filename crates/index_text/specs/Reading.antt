@@ -1,5 +1,6 @@
 -- The index that a text spells, read field by field from the left.
-use Rattle.std.specs.Prelude.{◌≡◌, ℕ, List, [], ◌∷◌, length, Bool, true, ◌&&◌, Option, Some, None, Result, Ok, Err, nat_le, nat_eq, ◌==◌, if◌then◌else◌}
+use Rattle.std.specs.Prelude.{◌≡◌, ℕ, List, [], ◌∷◌, length, Bool, true, ◌&&◌, Option, Some, None, Result, Ok, Err}
+use Rattle.std.specs.Prelude.{nat_le, nat_eq, ◌==◌, if◌then◌else◌}
 use Rattle.std.specs.Int.{w16, w32, w64}
 use Rattle.std.specs.Ordering.{is_lt}
 use Rattle.std.specs.Set.{distinct_count}
@@ -38,7 +39,9 @@ abbrev pub coded_kind : ℕ → Option StoreKind
 coded_kind code = if code == 1 then Some Keys else (if code == 2 then Some Files else None)
 
 abbrev pub coded_cause : ℕ → Option Cause
-coded_cause code = if code == 1 then Some Installation else (if code == 2 then Some Update else (if code == 3 then Some Reset else (if code == 4 then Some Recovery else (if code == 5 then Some Application else None))))
+coded_cause code = if code == 1 then Some Installation else
+    (if code == 2 then Some Update else (if code == 3 then Some Reset else
+    (if code == 4 then Some Recovery else (if code == 5 then Some Application else None))))
 
 unfoldable pub cause_at : List ℕ → Option (Cause × List ℕ)
 cause_at bytes = do
@@ -53,7 +56,17 @@ file_info_at bytes = do
   accessed ← number_at w64 modified.1
   creation ← cause_at accessed.1
   modification ← cause_at creation.1
-  Some (record { created = created.0; modified = modified.0; accessed = accessed.0; creation = creation.0; modification = modification.0 }, modification.1)
+  Some (
+    record {
+      created = created.0;
+      modified = modified.0;
+      accessed = accessed.0;
+      creation =
+          creation.0;
+      modification = modification.0;
+    },
+    modification.1,
+  )
 
 unfoldable pub info_at : StoreKind → List ℕ → Option (Option FileInfo × List ℕ)
 info_at Keys bytes = Some (None, bytes)
@@ -77,7 +90,10 @@ entry_at format kind bytes = do
   len ← len_at kind changed.1
   hash ← bytes_at 32 len.1
   blocks ← many (number_at w32) (block_count len.0) hash.1
-  Some (record { name = name.0; info = info.0; changed = changed.0; len = len.0; hash = hash.0; blocks = blocks.0 }, blocks.1)
+  Some (
+    record { name = name.0; info = info.0; changed = changed.0; len = len.0; hash = hash.0; blocks = blocks.0 },
+    blocks.1,
+  )
 
 -- ---- the whole text
 
@@ -87,7 +103,10 @@ header_at bytes = do
   code ← byte_at format.1
   kind ← coded_kind code.0
   count ← number_at w16 code.1
-  only_if (is_format format.0 && nat_le count.0 1024) (record { format = format.0; kind = kind; count = count.0 }, count.1)
+  only_if (is_format format.0 && nat_le count.0 1024) (
+    record { format = format.0; kind = kind; count = count.0 },
+    count.1,
+  )
 
 -- each name is below the next
 abbrev pub ascends : List (List ℕ) → Bool
@@ -104,4 +123,5 @@ unfoldable pub index_of : List ℕ → Option Index
 index_of text = do
   header ← header_at text
   entries ← many (entry_at header.0.format header.0.kind) header.0.count header.1
-  only_if (length entries.1 == 0 && ascends (names_of entries.0) && are_distinct (blocks_of entries.0)) (record { format = header.0.format; kind = header.0.kind; entries = entries.0 })
+  only_if (length entries.1 == 0 && ascends (names_of entries.0) && are_distinct (blocks_of entries.0))
+      (record { format = header.0.format; kind = header.0.kind; entries = entries.0 })

@@ -1,5 +1,6 @@
 -- The rules that an index keeps.
-use Rattle.std.specs.Prelude.{◌≡◌, ◌≤◌, ◌<◌, ℕ, ◌+◌, ◌/◌, ◌^◌, List, length, map, Bool, ◌||◌, ◌==◌, nat_eq, Option, None, Some, is_none, is_some, ⊤, IsTrue}
+use Rattle.std.specs.Prelude.{◌≡◌, ◌≤◌, ◌<◌, ℕ, ◌+◌, ◌/◌, ◌^◌, List, length, map, Bool, ◌||◌, ◌==◌, nat_eq, Option}
+use Rattle.std.specs.Prelude.{None, Some, is_none, is_some, ⊤, IsTrue}
 use Rattle.std.specs.List.{flat_map, AllByRecursion, IsDistinct}
 use Rattle.std.specs.List.Sorted.{IsStrictlySortedBy}
 use Rattle.per_base.specs.declared.elements.StoreKind.{StoreKind}

@@ -5,11 +5,13 @@ use Rattle.per_base.specs.declared.elements.Cause.TheVariants as cause
 use Rattle.index_text.specs.declared.entries.Index.{Index}
 use Rattle.index_text.specs.Spelling.{index_text, entry_text}
 use Rattle.per_base.specs.Fields.{many, bytes_at, number_at}
-use Rattle.index_text.specs.Reading.{index_of, header_at, entry_at, name_at, info_at, file_info_at, cause_at, changed_at, len_at}
+use Rattle.index_text.specs.Reading.{index_of, header_at, entry_at, name_at, info_at, file_info_at, cause_at}
+use Rattle.index_text.specs.Reading.{changed_at, len_at}
 
 -- the SHA-256 of `abc`
 abbrev hash : List ℕ
-hash = 0xba ∷ 0x78 ∷ 0x16 ∷ 0xbf ∷ 0x8f ∷ 0x01 ∷ 0xcf ∷ 0xea ∷ 0x41 ∷ 0x41 ∷ 0x40 ∷ 0xde ∷ 0x5d ∷ 0xae ∷ 0x22 ∷ 0x23 ∷ 0xb0 ∷ 0x03 ∷ 0x61 ∷ 0xa3 ∷ 0x96 ∷ 0x17 ∷ 0x7a ∷ 0x9c ∷ 0xb4 ∷ 0x10 ∷ 0xff ∷ 0x61 ∷ 0xf2 ∷ 0x00 ∷ 0x15 ∷ 0xad ∷ []
+hash = 0xba ∷ 0x78 ∷ 0x16 ∷ 0xbf ∷ 0x8f ∷ 0x01 ∷ 0xcf ∷ 0xea ∷ 0x41 ∷ 0x41 ∷ 0x40 ∷ 0xde ∷ 0x5d ∷ 0xae ∷ 0x22 ∷ 0x23
+    ∷ 0xb0 ∷ 0x03 ∷ 0x61 ∷ 0xa3 ∷ 0x96 ∷ 0x17 ∷ 0x7a ∷ 0x9c ∷ 0xb4 ∷ 0x10 ∷ 0xff ∷ 0x61 ∷ 0xf2 ∷ 0x00 ∷ 0x15 ∷ 0xad ∷ []
 
 -- the file `a` with the content `abc`
 abbrev one_file : ℕ → ℕ → List ℕ → Index
@@ -18,7 +20,14 @@ one_file format changed blocks = record {
   kind = Files;
   entries = record {
     name = 97 ∷ [];
-    info = Some (record { created = 0; modified = 0; accessed = 0; creation = cause.Installation; modification = cause.Installation });
+    info = Some (record {
+      created = 0;
+      modified = 0;
+      accessed = 0;
+      creation = cause.Installation;
+      modification =
+          cause.Installation;
+    });
     changed = changed;
     len = 3;
     hash = hash;
@@ -35,7 +44,8 @@ bytes_1 = 1 ∷ 2 ∷ 1 ∷ 0 ∷ 1 ∷ 97 ∷ zeros ++ zeros ++ zeros ++ 1 ∷ 
 
 -- in format 2, last changed in generation 1
 abbrev bytes_2 : List ℕ
-bytes_2 = 2 ∷ 2 ∷ 1 ∷ 0 ∷ 1 ∷ 97 ∷ zeros ++ zeros ++ zeros ++ 1 ∷ 1 ∷ 1 ∷ 0 ∷ 0 ∷ 0 ∷ 0 ∷ 0 ∷ 0 ∷ 0 ∷ 3 ∷ 0 ∷ 0 ∷ 0 ∷ hash ++ 5 ∷ 0 ∷ 0 ∷ 0 ∷ []
+bytes_2 = 2 ∷ 2 ∷ 1 ∷ 0 ∷ 1 ∷ 97 ∷ zeros ++ zeros ++ zeros ++ 1 ∷ 1 ∷ 1 ∷ 0 ∷ 0 ∷ 0 ∷ 0 ∷ 0 ∷ 0 ∷ 0 ∷ 3 ∷ 0 ∷ 0 ∷ 0
+    ∷ hash ++ 5 ∷ 0 ∷ 0 ∷ 0 ∷ []
 
 spells_1 : index_text (one_file 1 0 (5 ∷ [])) ≡ bytes_1
 unfolding index_text entry_text

@@ -1,5 +1,6 @@
 -- How long a text is, and the index of a storage of a given size.
-use Rattle.std.specs.Prelude.{ℕ, ◌+◌, ◌*◌, ◌/◌, List, length, sum_by, Bool, IsTrue, ◌&&◌, ◌==◌, nat_le, nat_lt, if◌then◌else◌}
+use Rattle.std.specs.Prelude.{ℕ, ◌+◌, ◌*◌, ◌/◌, List, length, sum_by, Bool, IsTrue, ◌&&◌, ◌==◌, nat_le, nat_lt}
+use Rattle.std.specs.Prelude.{if◌then◌else◌}
 use Rattle.std.specs.List.{list_all}
 use Rattle.per_base.specs.declared.elements.StoreKind.{StoreKind}
 use Rattle.per_base.specs.declared.elements.StoreKind.TheVariants.{Keys, Files}
@@ -32,7 +33,8 @@ area_blocks allowed = 2 * (allowed / 256 + 1024)
 
 -- an index of this kind whose names and contents are within the allowed bytes and whose blocks lie in the area
 abbrev pub fits : StoreKind → ℕ → Index → Bool
-fits kind allowed i = kind_code i.kind == kind_code kind && nat_le (size_of i.entries) allowed && list_all (λ b. nat_lt b (area_blocks allowed)) (blocks_of i.entries)
+fits kind allowed i = kind_code i.kind == kind_code kind && nat_le (size_of i.entries) allowed
+    && list_all (λ b. nat_lt b (area_blocks allowed)) (blocks_of i.entries)
 
 abbrev pub Fits : StoreKind → ℕ → Index → Type 0
 Fits kind allowed i = IsTrue (fits kind allowed i)

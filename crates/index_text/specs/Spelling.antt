@@ -27,7 +27,8 @@ name_text name = length name ∷ name
 
 -- three moments and two causes
 abbrev pub file_info_text : FileInfo → List ℕ
-file_info_text i = to_le_bytes w64 i.created ++ (to_le_bytes w64 i.modified ++ (to_le_bytes w64 i.accessed ++ cause_code i.creation ∷ cause_code i.modification ∷ []))
+file_info_text i = to_le_bytes w64 i.created ++ (to_le_bytes w64 i.modified
+    ++ (to_le_bytes w64 i.accessed ++ cause_code i.creation ∷ cause_code i.modification ∷ []))
 
 -- an info, and nothing for a key
 abbrev pub info_text : Option FileInfo → List ℕ
@@ -39,7 +40,8 @@ abbrev pub changed_text : ℕ → ℕ → List ℕ
 changed_text format changed = if format == 2 then to_le_bytes w64 changed else []
 
 unfoldable pub entry_text : ℕ → IndexEntry → List ℕ
-entry_text format e = name_text e.name ++ (info_text e.info ++ (changed_text format e.changed ++ (to_le_bytes w32 e.len ++ (e.hash ++ flat_map (to_le_bytes w32) e.blocks))))
+entry_text format e = name_text e.name ++ (info_text e.info
+    ++ (changed_text format e.changed ++ (to_le_bytes w32 e.len ++ (e.hash ++ flat_map (to_le_bytes w32) e.blocks))))
 
 -- format, kind, and the number of entries
 abbrev pub header_text : ℕ → StoreKind → ℕ → List ℕ

@@ -5,7 +5,8 @@ ghost use Rattle.std.specs.Int.{w32};
 ghost use Rattle.per_base.specs.Names.{is_name};
 ghost use Rattle.index_text.specs.Rules.{block_count, max_len};
 ghost use Rattle.per_base.specs.Fields.{bytes_at, many, number_at, only_if};
-ghost use Rattle.index_text.specs.Reading.{Gives, cause_at, coded_cause, changed_at, file_info_at, info_at, coded_kind, len_at, name_at};
+ghost use Rattle.index_text.specs.Reading.{Gives, cause_at, coded_cause, changed_at, file_info_at, info_at, coded_kind};
+ghost use Rattle.index_text.specs.Reading.{len_at, name_at};
 
 use crate::entries::{HASH_BYTES, MAX_FILE_BYTES, MAX_KEY_BYTES};
 use crate::errors::IndexError;

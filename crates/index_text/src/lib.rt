@@ -1,14 +1,14 @@
 //! The text of an index: which elements a storage has, and where their contents lie.
 //!
-//! An index lists the elements of one storage by name, each with the length and the hash of its content and with the numbers of
-//! the blocks that hold it; an element of a file storage has its info too. Format 2 also gives each element the generation of its
-//! last change. `write_index` gives the one text of an index, and `read_index` takes exactly the texts of indexes, in format 1
-//! and format 2, back apart.
+//! An index lists the elements of one storage by name, each with the length and the hash of its content and with the
+//! numbers of the blocks that hold it; an element of a file storage has its info too. Format 2 also gives each element
+//! the generation of its last change. `write_index` gives the one text of an index, and `read_index` takes exactly the
+//! texts of indexes, in format 1 and format 2, back apart.
 //!
-//! Every index that is read keeps the rules: at most 1,024 elements, names that ascend, contents within the limit of their kind,
-//! an info exactly for files, and no block twice in the whole text. A text has one index and an index one text, and that of an
-//! index that fits the largest storage has at most 403,460 bytes. Reading goes over the text once, and looks for repeated blocks
-//! by an ordered set, never by pairs.
+//! Every index that is read keeps the rules: at most 1,024 elements, names that ascend, contents within the limit of
+//! their kind, an info exactly for files, and no block twice in the whole text. A text has one index and an index one
+//! text, and that of an index that fits the largest storage has at most 403,460 bytes. Reading goes over the text once,
+//! and looks for repeated blocks by an ordered set, never by pairs.
 #![tactic(auto)]
 
 mod entries;

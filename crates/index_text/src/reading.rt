@@ -16,7 +16,9 @@ use std::alloc::Global;
 
 /// The index that the bytes spell, in format 1 or format 2.
 ///
-/// Errors: `NotAnIndex` exactly where the bytes are the text of no index; `OutOfMemory`.
+/// # Errors
+///
+/// `NotAnIndex` exactly where the bytes are the text of no index; `OutOfMemory`.
 pub fn read_index(alloc: Global, bytes: &[u8]) -> Result<Index, IndexError>
     // What is read keeps the rules, and is spelled so.
     ensures rules { IfOk result (λ index. IsIndex index × InRange index) }
@@ -86,7 +88,8 @@ fn entries_of(
     header: Header,
     bytes: &[u8],
 ) -> Result<(Vec<IndexEntry>, &[u8]), IndexError>
-    ensures { Gives (λ x. (x.0.items, x.1.now)) result (many (entry_at header.format header.kind) header.count bytes.now) }
+    ensures { Gives (λ x. (x.0.items, x.1.now)) result (many (entry_at header.format header.kind) header.count
+        bytes.now) }
 {
     let mut entries = Vec::new(alloc);
     let mut rest = bytes;

@@ -4,7 +4,8 @@ ghost use Rattle.std.specs.Prelude.{◌≡◌, ◌≤◌, ◌<◌, ◌^◌, ◌+
 ghost use Rattle.std.specs.List.{AllByRecursion, flat_map};
 ghost use Rattle.std.specs.Int.{to_le_bytes, w32};
 ghost use Rattle.index_text.specs.Rules.{EntryInRange, InfoInRange, InfoIsInRange, IsIndex};
-ghost use Rattle.index_text.specs.Spelling.{cause_code, changed_text, entry_text, file_info_text, index_text, info_text, kind_code, name_text};
+ghost use Rattle.index_text.specs.Spelling.{cause_code, changed_text, entry_text, file_info_text, index_text};
+ghost use Rattle.index_text.specs.Spelling.{info_text, kind_code, name_text};
 ghost use Rattle.index_text.specs.Reading.{index_of};
 ghost use Rattle.index_text.specs.Sizes.{text_length};
 
@@ -12,8 +13,9 @@ use crate::entries::{Index, IndexEntry};
 use per_base::{Cause, FileInfo, StoreKind};
 use std::alloc::{AllocError, Global};
 
-/// The one text of an index that keeps the rules: format 1 or 2, at most 1,024 entries with ascending names, contents within the
-/// limit of their kind, an info exactly for files, numbers of the last change in format 2 alone, and no block twice.
+/// The one text of an index that keeps the rules: format 1 or 2, at most 1,024 entries with ascending names, contents
+/// within the limit of their kind, an info exactly for files, numbers of the last change in format 2 alone, and no
+/// block twice.
 pub fn write_index(alloc: Global, index: &Index) -> Result<Vec<u8>, AllocError>
     requires { IsIndex index.now }
     ensures text { IfOk result (λ text. text.items ≡ index_text index.now) }

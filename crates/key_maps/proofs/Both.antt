@@ -1,5 +1,6 @@
 -- The sizes of a map, and what always holds of both maps.
-use Rattle.std.proofs.Common.{◌≡◌, ℕ, ◌+◌, ◌-◌, ◌<◌, ◌≤◌, List, [], ◌∷◌, length, Bool, false, refl, sym, ◌∙◌, ap, subst, arith}
+use Rattle.std.proofs.Common.{◌≡◌, ℕ, ◌+◌, ◌-◌, ◌<◌, ◌≤◌, List, [], ◌∷◌, length, Bool, false, refl, sym, ◌∙◌, ap, subst}
+use Rattle.std.proofs.Common.{arith}
 use Rattle.std.specs.Prelude.{Option, Some, None, IfSome, IsTrue, sum_by, ◌↔◌}
 use Rattle.std.specs.BTreeMap.{is_at}
 use Rattle.std.specs.List.Sorted.{IsStrictlySortedBy}
@@ -14,7 +15,8 @@ use Rattle.key_maps.specs.declared.cells.Pending.{Pending}
 use Rattle.key_maps.specs.declared.cells.Pending.TheVariants.{Same, Removed, Now}
 use Rattle.key_maps.specs.declared.changes.KeyChange.{KeyChange}
 use Rattle.key_maps.specs.declared.extents.Extent.{Extent}
-use Rattle.key_maps.specs.Cells.{AreCells, AreMeasured, Cells, IsCell, IsPending, IsSettled, IsStep, Measures, cell_at, changed, synced_map, synced_of, visible_map, visible_of}
+use Rattle.key_maps.specs.Cells.{AreCells, AreMeasured, Cells, IsCell, IsPending, IsSettled, IsStep, Measures, cell_at}
+use Rattle.key_maps.specs.Cells.{changed, synced_map, synced_of, visible_map, visible_of}
 use Rattle.key_maps.specs.Changes.{AreChanges, change_of, has_any}
 use Rattle.key_maps.specs.KeyElements.{IsKey, is_readable}
 use Rattle.key_maps.specs.Picked.{picked}
@@ -31,37 +33,50 @@ weigh e = length e.0 + e.1.len
 abbrev one : List ℕ × Element → ℕ
 one e = 1
 
-pub size_set : (m : Map) (name : List ℕ) (old new : Element) → IsStrictlySortedBy name_cmp (names_of m) → element_at m name ≡ Some old → size_of (with_element m name new) + old.len ≡ size_of m + new.len
+pub size_set : (m : Map) (name : List ℕ) (old new : Element) → IsStrictlySortedBy name_cmp (names_of m)
+    → element_at m name ≡ Some old → size_of (with_element m name new) + old.len ≡ size_of m + new.len
 size_set m name old new sorted is =
-    let sum : sum_by weigh (with_element m name new) + (length name + old.len) ≡ sum_by weigh m + (length name + new.len) = rw is at (sum_insert nat_list_cmp_total exact_bytes weigh name new m sorted) in
+    let sum : sum_by weigh (with_element m name new) + (length name + old.len)
+    ≡ sum_by weigh m + (length name + new.len) = rw is at
+    (sum_insert nat_list_cmp_total exact_bytes weigh name new m sorted) in
     omega (arith, sum)
 
-pub size_new : (m : Map) (name : List ℕ) (new : Element) → IsStrictlySortedBy name_cmp (names_of m) → element_at m name ≡ None → size_of (with_element m name new) ≡ size_of m + (length name + new.len)
+pub size_new : (m : Map) (name : List ℕ) (new : Element) → IsStrictlySortedBy name_cmp (names_of m)
+    → element_at m name ≡ None → size_of (with_element m name new) ≡ size_of m + (length name + new.len)
 size_new m name new sorted is =
-    let sum : sum_by weigh (with_element m name new) + 0 ≡ sum_by weigh m + (length name + new.len) = rw is at (sum_insert nat_list_cmp_total exact_bytes weigh name new m sorted) in
+    let sum : sum_by weigh (with_element m name new) + 0 ≡ sum_by weigh m + (length name + new.len) =
+    rw is at (sum_insert nat_list_cmp_total exact_bytes weigh name new m sorted) in
     omega (arith, sum)
 
-pub size_gone : (m : Map) (name : List ℕ) (old : Element) → element_at m name ≡ Some old → size_of (without m name) + (length name + old.len) ≡ size_of m
+pub size_gone : (m : Map) (name : List ℕ) (old : Element) → element_at m name ≡ Some old
+    → size_of (without m name) + (length name + old.len) ≡ size_of m
 size_gone m name old is = rw is at (sum_remove {R = name_cmp} exact_bytes weigh name m)
 
-pub count_set : (m : Map) (name : List ℕ) (old new : Element) → IsStrictlySortedBy name_cmp (names_of m) → element_at m name ≡ Some old → length (with_element m name new) ≡ length m
+pub count_set : (m : Map) (name : List ℕ) (old new : Element) → IsStrictlySortedBy name_cmp (names_of m)
+    → element_at m name ≡ Some old → length (with_element m name new) ≡ length m
 count_set m name old new sorted is =
-    let sum : sum_by one (with_element m name new) + 1 ≡ sum_by one m + 1 = rw is at (sum_insert nat_list_cmp_total exact_bytes one name new m sorted) in
+    let sum : sum_by one (with_element m name new) + 1 ≡ sum_by one m + 1 =
+    rw is at (sum_insert nat_list_cmp_total exact_bytes one name new m sorted) in
     omega (arith, sum, length_sum m, length_sum (with_element m name new))
 
-pub count_new : (m : Map) (name : List ℕ) (new : Element) → IsStrictlySortedBy name_cmp (names_of m) → element_at m name ≡ None → length (with_element m name new) ≡ length m + 1
+pub count_new : (m : Map) (name : List ℕ) (new : Element) → IsStrictlySortedBy name_cmp (names_of m)
+    → element_at m name ≡ None → length (with_element m name new) ≡ length m + 1
 count_new m name new sorted is =
-    let sum : sum_by one (with_element m name new) + 0 ≡ sum_by one m + 1 = rw is at (sum_insert nat_list_cmp_total exact_bytes one name new m sorted) in
+    let sum : sum_by one (with_element m name new) + 0 ≡ sum_by one m + 1 =
+    rw is at (sum_insert nat_list_cmp_total exact_bytes one name new m sorted) in
     omega (arith, sum, length_sum m, length_sum (with_element m name new))
 
-pub count_gone : (m : Map) (name : List ℕ) (old : Element) → element_at m name ≡ Some old → length (without m name) + 1 ≡ length m
+pub count_gone : (m : Map) (name : List ℕ) (old : Element) → element_at m name ≡ Some old
+    → length (without m name) + 1 ≡ length m
 count_gone m name old is =
-    let sum : sum_by one (without m name) + 1 ≡ sum_by one m = rw is at (sum_remove {R = name_cmp} exact_bytes one name m) in
+    let sum : sum_by one (without m name) + 1 ≡ sum_by one m =
+    rw is at (sum_remove {R = name_cmp} exact_bytes one name m) in
     omega (arith, sum, length_sum m, length_sum (without m name))
 
 -- ---- the extents
 
-pub few_with : (m : Map) (name : List ℕ) (new : Element) → IsStrictlySortedBy name_cmp (names_of m) → length m ≤ 1024 → (element_at m name ≡ None → length m < 1024) → length (with_element m name new) ≤ 1024
+pub few_with : (m : Map) (name : List ℕ) (new : Element) → IsStrictlySortedBy name_cmp (names_of m) → length m ≤ 1024
+    → (element_at m name ≡ None → length m < 1024) → length (with_element m name new) ≤ 1024
 few_with m name new sorted few place = by (element_at m name) refl
   where
     by : (found : Option Element) → element_at m name ≡ found → length (with_element m name new) ≤ 1024
@@ -74,18 +89,24 @@ visible_sorted cells are = sorted_picked name_cmp visible_of cells are.ordered
 pub synced_sorted : (cells : Cells) → AreCells cells → IsStrictlySortedBy name_cmp (names_of (synced_map cells))
 synced_sorted cells are = sorted_picked name_cmp synced_of cells are.ordered
 
-pub stepped : (old new : Cells) (synced visible extent : Extent) (target : Map) → AreMeasured old synced visible → IsStep old new target → Measures extent target → AreMeasured new synced extent
+pub stepped : (old new : Cells) (synced visible extent : Extent) (target : Map) → AreMeasured old synced visible
+    → IsStep old new target → Measures extent target → AreMeasured new synced extent
 stepped old new synced visible extent target are step measures = record {
   kept = step.kept;
   settled = subst (λ (m : Map). Measures synced m) (sym step.synced) are.settled;
   pending = subst (λ (m : Map). Measures extent m) (sym step.visible) measures;
 }
 
-pub put_measured : (old new : Cells) (synced visible extent : Extent) (name : List ℕ) (key : Element) → AreMeasured old synced visible → IsStep old new (with_element (visible_map old) name key)
-    → extent.count ≡ length (with_element (visible_map old) name key) → extent.size ≡ size_of (with_element (visible_map old) name key)
-    → (element_at (visible_map old) name ≡ None → length (visible_map old) < 1024) → size_of (with_element (visible_map old) name key) ≤ 4194304 → AreMeasured new synced extent
+pub put_measured : (old new : Cells) (synced visible extent : Extent) (name : List ℕ) (key : Element)
+    → AreMeasured old synced visible → IsStep old new (with_element (visible_map old) name key)
+    → extent.count ≡ length (with_element (visible_map old) name key)
+    → extent.size ≡ size_of (with_element (visible_map old) name key)
+    → (element_at (visible_map old) name ≡ None → length (visible_map old) < 1024)
+    → size_of (with_element (visible_map old) name key) ≤ 4194304 → AreMeasured new synced extent
 put_measured old new synced visible extent name key are step count size place small =
-    let few : length (with_element (visible_map old) name key) ≤ 1024 = few_with (visible_map old) name key (visible_sorted old are.kept) (omega (arith, are.pending.counted, are.pending.few)) place in
+    let few : length (with_element (visible_map old) name key) ≤ 1024 =
+    few_with (visible_map old) name key (visible_sorted old are.kept)
+    (omega (arith, are.pending.counted, are.pending.few)) place in
     stepped old new synced visible extent (with_element (visible_map old) name key) are step (record {
       counted = count;
       sized = size;
@@ -93,11 +114,15 @@ put_measured old new synced visible extent name key are step count size place sm
       small = omega (arith, size, small);
     })
 
-pub removed_measured : (old new : Cells) (synced visible extent : Extent) (name : List ℕ) (key : Element) (taken : ℕ) → AreMeasured old synced visible → IsStep old new (without (visible_map old) name)
-    → element_at (visible_map old) name ≡ Some key → taken ≡ length name + key.len → extent.count ≡ visible.count - 1 → extent.size ≡ visible.size - taken → AreMeasured new synced extent
+pub removed_measured : (old new : Cells) (synced visible extent : Extent) (name : List ℕ) (key : Element) (taken : ℕ)
+    → AreMeasured old synced visible → IsStep old new (without (visible_map old) name)
+    → element_at (visible_map old) name ≡ Some key → taken ≡ length name + key.len → extent.count ≡ visible.count - 1
+    → extent.size ≡ visible.size - taken → AreMeasured new synced extent
 removed_measured old new synced visible extent name key taken are step there takes count size =
-    let counts : length (without (visible_map old) name) + 1 ≡ length (visible_map old) = count_gone (visible_map old) name key there in
-    let sizes : size_of (without (visible_map old) name) + (length name + key.len) ≡ size_of (visible_map old) = size_gone (visible_map old) name key there in
+    let counts : length (without (visible_map old) name) + 1 ≡ length (visible_map old) =
+    count_gone (visible_map old) name key there in
+    let sizes : size_of (without (visible_map old) name) + (length name + key.len) ≡ size_of (visible_map old) =
+    size_gone (visible_map old) name key there in
     let was : Measures visible (visible_map old) = are.pending in
     stepped old new synced visible extent (without (visible_map old) name) are step (record {
       counted = omega (arith, counts, count, was.counted);
@@ -106,14 +131,24 @@ removed_measured old new synced visible extent name key taken are step there tak
       small = omega (arith, size, was.small);
     })
 
-pub cleared_measured : (old new : Cells) (synced visible extent : Extent) → AreMeasured old synced visible → IsStep old new [] → extent.count ≡ 0 → extent.size ≡ 0 → AreMeasured new synced extent
+pub cleared_measured : (old new : Cells) (synced visible extent : Extent) → AreMeasured old synced visible
+    → IsStep old new [] → extent.count ≡ 0 → extent.size ≡ 0 → AreMeasured new synced extent
 cleared_measured old new synced visible extent are step count size =
-    stepped old new synced visible extent [] are step (record { counted = count; sized = size; few = omega (arith, count); small = omega (arith, size) })
+    stepped old new synced visible extent [] are step (record {
+      counted = count;
+      sized = size;
+      few =
+          omega (arith, count);
+      small = omega (arith, size);
+    })
 
-pub discarded_measured : (old new : Cells) (synced visible : Extent) → AreMeasured old synced visible → IsStep old new (synced_map old) → AreMeasured new synced synced
-discarded_measured old new synced visible are step = stepped old new synced visible synced (synced_map old) are step are.settled
+pub discarded_measured : (old new : Cells) (synced visible : Extent) → AreMeasured old synced visible
+    → IsStep old new (synced_map old) → AreMeasured new synced synced
+discarded_measured old new synced visible are step = stepped old new synced visible synced (synced_map old) are step
+    are.settled
 
-pub settled_measured : (old new : Cells) (synced visible : Extent) → AreMeasured old synced visible → IsSettled old new → AreMeasured new visible visible
+pub settled_measured : (old new : Cells) (synced visible : Extent) → AreMeasured old synced visible → IsSettled old new
+    → AreMeasured new visible visible
 settled_measured old new synced visible are step = record {
   kept = step.kept;
   settled = subst (λ (m : Map). Measures visible m) (sym step.synced) are.pending;
@@ -135,40 +170,50 @@ if_found m name all = by (element_at m name) refl
     by None p = tt
     by (Some key) p = all_lookup IsKey (is_at (name_cmp name)) m key all p
 
-as_synced : (cells : Cells) → AreCells cells → (name : List ℕ) (key : Element) → element_at (visible_map cells) name ≡ Some key → is_readable key.content ≡ false → element_at (synced_map cells) name ≡ Some key
+as_synced : (cells : Cells) → AreCells cells → (name : List ℕ) (key : Element)
+    → element_at (visible_map cells) name ≡ Some key → is_readable key.content ≡ false
+    → element_at (synced_map cells) name ≡ Some key
 as_synced cells are name key there unreadable =
     synced_at cells name are ∙ by (cell_at cells name) refl (sym (visible_at cells name are) ∙ there)
   where
-    of_pending : (cell : Cell) (pending : Pending) → IsPending pending → changed cell.synced pending ≡ Some key → cell.synced ≡ Some key
+    of_pending : (cell : Cell) (pending : Pending) → IsPending pending → changed cell.synced pending ≡ Some key
+        → cell.synced ≡ Some key
     of_pending cell Same is p = p
     of_pending cell Removed is p = absurd (cc)
     of_pending cell (Now other) is p =
         let same : other ≡ key = cc in
-        let readable : IsTrue (is_readable key.content) = subst (λ (e : Element). IsTrue (is_readable e.content)) same is.1 in
+        let readable : IsTrue (is_readable key.content) = subst (λ (e : Element). IsTrue (is_readable e.content)) same
+        is.1 in
         let never : IsTrue false = subst IsTrue unreadable readable in absurd (cc)
 
-    by : (found : Option Cell) → cell_at cells name ≡ found → option_and_then visible_of found ≡ Some key → option_and_then synced_of found ≡ Some key
+    by : (found : Option Cell) → cell_at cells name ≡ found → option_and_then visible_of found ≡ Some key
+        → option_and_then synced_of found ≡ Some key
     by None p q = absurd (cc)
-    by (Some cell) p q = of_pending cell cell.pending (all_lookup IsCell (is_at (name_cmp name)) cells cell are.sound p).1 q
+    by (Some cell) p q = of_pending cell cell.pending (all_lookup IsCell (is_at (name_cmp name)) cells cell are.sound
+        p).1 q
 
-pub measured_maps : (cells : Cells) (synced visible : Extent) → AreMeasured cells synced visible → AreTwoMaps (record { synced = synced_map cells; visible = visible_map cells })
+pub measured_maps : (cells : Cells) (synced visible : Extent) → AreMeasured cells synced visible
+    → AreTwoMaps (record { synced = synced_map cells; visible = visible_map cells })
 measured_maps cells synced visible are = record {
   synced = record {
     ordered = synced_sorted cells are.kept;
     few = omega (arith, are.settled.counted, are.settled.few);
     small = omega (arith, are.settled.sized, are.settled.small);
-    keys = λ name key there. all_lookup IsKey (is_at (name_cmp name)) (synced_map cells) key (synced_keys cells are.kept) there;
+    keys = λ name key there. all_lookup IsKey (is_at (name_cmp name)) (synced_map cells) key
+        (synced_keys cells are.kept) there;
   };
   visible = record {
     ordered = visible_sorted cells are.kept;
     few = omega (arith, are.pending.counted, are.pending.few);
     small = omega (arith, are.pending.sized, are.pending.small);
-    keys = λ name key there. all_lookup IsKey (is_at (name_cmp name)) (visible_map cells) key (visible_keys cells are.kept) there;
+    keys = λ name key there. all_lookup IsKey (is_at (name_cmp name)) (visible_map cells) key
+        (visible_keys cells are.kept) there;
   };
   unreadable = as_synced cells are.kept;
 }
 
-pub changes_exact : (cells : Cells) → AreCells cells → (has_any (picked change_of cells) ≡ false) ↔ (synced_map cells ≡ visible_map cells)
+pub changes_exact : (cells : Cells) → AreCells cells → (has_any (picked change_of cells) ≡ false) ↔
+    (synced_map cells ≡ visible_map cells)
 changes_exact cells are = (there, back)
   where
     none : (changes : List (List ℕ × KeyChange)) → has_any changes ≡ false → changes ≡ []
@@ -178,19 +223,27 @@ changes_exact cells are = (there, back)
     there : has_any (picked change_of cells) ≡ false → synced_map cells ≡ visible_map cells
     there p =
         no_changes (synced_map cells) (visible_map cells) (synced_sorted cells are) (visible_sorted cells are)
-        (λ name. if_found (synced_map cells) name (synced_keys cells are)) (λ name. if_found (visible_map cells) name (visible_keys cells are))
-        (subst (λ (l : List (List ℕ × KeyChange)). AreChanges l (synced_map cells) (visible_map cells)) (none (picked change_of cells) p) (changes_are cells are))
+        (λ name. if_found (synced_map cells) name (synced_keys cells are))
+        (λ name. if_found (visible_map cells) name (visible_keys cells are))
+        (subst (λ (l : List (List ℕ × KeyChange)). AreChanges l (synced_map cells) (visible_map cells))
+        (none (picked change_of cells) p) (changes_are cells are))
 
     back : synced_map cells ≡ visible_map cells → has_any (picked change_of cells) ≡ false
     back same =
         ap has_any (same_changes (picked change_of cells) (visible_map cells)
         (subst (λ (m : Map). AreChanges (picked change_of cells) m (visible_map cells)) same (changes_are cells are)))
 
-pub exact_by : (answer : Bool) (cells : Cells) → AreCells cells → answer ≡ has_any (picked change_of cells) → (answer ≡ false) ↔ (synced_map cells ≡ visible_map cells)
-exact_by answer cells are is = ((λ p. (changes_exact cells are).0 (sym is ∙ p)), (λ e. is ∙ (changes_exact cells are).1 e))
+pub exact_by : (answer : Bool) (cells : Cells) → AreCells cells → answer ≡ has_any (picked change_of cells)
+    → (answer ≡ false) ↔ (synced_map cells ≡ visible_map cells)
+exact_by answer cells are is = (
+  (λ p. (changes_exact cells are).0 (sym is ∙ p)),
+  (λ e. is ∙ (changes_exact cells are).1 e),
+)
 
-pub changes_by : (changes : List (List ℕ × KeyChange)) (cells : Cells) → AreCells cells → changes ≡ picked change_of cells → AreChanges changes (synced_map cells) (visible_map cells)
-changes_by changes cells are is = subst (λ (l : List (List ℕ × KeyChange)). AreChanges l (synced_map cells) (visible_map cells)) (sym is) (changes_are cells are)
+pub changes_by : (changes : List (List ℕ × KeyChange)) (cells : Cells) → AreCells cells
+    → changes ≡ picked change_of cells → AreChanges changes (synced_map cells) (visible_map cells)
+changes_by changes cells are is = subst (λ (l : List (List ℕ × KeyChange)).
+    AreChanges l (synced_map cells) (visible_map cells)) (sym is) (changes_are cells are)
 
 pub without_absent : (m : Map) (name : List ℕ) → element_at m name ≡ None → without m name ≡ m
 without_absent m name none = remove_none (is_at (name_cmp name)) m none

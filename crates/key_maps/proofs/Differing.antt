@@ -57,23 +57,28 @@ key_is here there one other same =
     let contents : here.content ≡ there.content = content_is here.content there.content parts.1 in
     (λ i. record { info = infos i; len = lens i; content = contents i })
 
-pub difference_none : (old new : Option Element) → IfSome old IsKey → IfSome new IsKey → difference old new ≡ None → old ≡ new
+pub difference_none : (old new : Option Element) → IfSome old IsKey → IfSome new IsKey → difference old new ≡ None
+    → old ≡ new
 difference_none None None one other none = refl
 difference_none None (Some key) one other none = absurd (cc)
 difference_none (Some old) None one other none = absurd (cc)
 difference_none (Some old) (Some key) one other none = by (same_key old key) refl none
   where
-    by : (b : Bool) → same_key old key ≡ b → cond b None (Some (Put (bytes_of key.content))) ≡ None → Some old ≡ Some key
+    by : (b : Bool) → same_key old key ≡ b → cond b None (Some (Put (bytes_of key.content))) ≡ None
+        → Some old ≡ Some key
     by true p is = ap (λ (x : Element). Some x) (key_is old key one other p)
     by false p is = absurd (cc)
 
 -- ---- two maps
 
-pub no_changes : (old new : Map) → IsStrictlySortedBy name_cmp (names_of old) → IsStrictlySortedBy name_cmp (names_of new)
-    → ((name : List ℕ) → IfSome (element_at old name) IsKey) → ((name : List ℕ) → IfSome (element_at new name) IsKey) → AreChanges [] old new → old ≡ new
+pub no_changes : (old new : Map) → IsStrictlySortedBy name_cmp (names_of old)
+    → IsStrictlySortedBy name_cmp (names_of new)
+    → ((name : List ℕ) → IfSome (element_at old name) IsKey) → ((name : List ℕ) → IfSome (element_at new name) IsKey)
+    → AreChanges [] old new → old ≡ new
 no_changes old new sorted ascending keys others none =
     same_lists nat_list_cmp_total exact_bytes old new sorted ascending
-    (λ name. difference_none (element_at old name) (element_at new name) (keys name) (others name) (sym (none.exact name)))
+    (λ name. difference_none (element_at old name) (element_at new name) (keys name) (others name)
+    (sym (none.exact name)))
 
 pub same_changes : (changes : List (List ℕ × KeyChange)) (m : Map) → AreChanges changes m m → changes ≡ []
 same_changes changes m are =

@@ -1,5 +1,6 @@
 -- The cells of what lies on the disk.
-use Rattle.std.proofs.Common.{◌≡◌, ℕ, suc, ◌+◌, ◌<◌, ◌≤◌, List, [], ◌∷◌, ◌++◌, length, take, drop, get_or, Bool, true, false, cond, refl, sym, ◌∙◌, ap, subst, arith}
+use Rattle.std.proofs.Common.{◌≡◌, ℕ, suc, ◌+◌, ◌<◌, ◌≤◌, List, [], ◌∷◌, ◌++◌, length, take, drop, get_or, Bool, true}
+use Rattle.std.proofs.Common.{false, cond, refl, sym, ◌∙◌, ap, subst, arith}
 use Rattle.std.specs.Prelude.{Some, None, sum_by}
 use Rattle.std.specs.List.{All}
 use Rattle.std.specs.List.Sorted.{IsStrictlySortedBy}
@@ -14,8 +15,10 @@ use Rattle.per_base.specs.declared.elements.Entry.{Entry}
 use Rattle.per_base.specs.Maps.{Map, size_of}
 use Rattle.per_base.specs.Names.{name_cmp}
 use Rattle.key_maps.specs.declared.extents.Extent.{Extent}
-use Rattle.key_maps.specs.Cells.{AreCells, AreMeasured, Cells, IsCell, Measures, opened, opened_cell, synced_map, visible_map, with_cell}
-use Rattle.key_maps.specs.KeyElements.{Encodes, HasLength, IsKey, IsKeyEntry, element_of, entry_names, judged, judged_content, judged_map}
+use Rattle.key_maps.specs.Cells.{AreCells, AreMeasured, Cells, IsCell, Measures, opened, opened_cell, synced_map}
+use Rattle.key_maps.specs.Cells.{visible_map, with_cell}
+use Rattle.key_maps.specs.KeyElements.{Encodes, HasLength, IsKey, IsKeyEntry, element_of, entry_names, judged}
+use Rattle.key_maps.specs.KeyElements.{judged_content, judged_map}
 use Rattle.value_code.specs.Reading.{is_encoding}
 use Rattle.key_maps.proofs.Ordered.{AllValues, insert_last, sorted_front}
 
@@ -53,9 +56,13 @@ judged_key entry is = record {
 
 opened_sound : (entries : List Entry) → All IsKeyEntry entries → AllValues IsCell (opened entries)
 opened_sound [] all = tt
-opened_sound (e ∷ es) all = ((judged_key e (all 0 e (omega arith)), tt), opened_sound es (λ k d lt. all (suc k) d (omega arith)))
+opened_sound (e ∷ es) all = (
+  (judged_key e (all 0 e (omega arith)), tt),
+  opened_sound es (λ k d lt. all (suc k) d (omega arith)),
+)
 
-pub opened_are : (entries : List Entry) → All IsKeyEntry entries → IsStrictlySortedBy name_cmp (entry_names entries) → AreCells (opened entries)
+pub opened_are : (entries : List Entry) → All IsKeyEntry entries → IsStrictlySortedBy name_cmp (entry_names entries)
+    → AreCells (opened entries)
 opened_are entries all sorted = record {
   ordered = subst (λ (l : List (List ℕ)). IsStrictlySortedBy name_cmp l) (sym (opened_keys entries)) sorted;
   sound = opened_sound entries all;
@@ -63,22 +70,30 @@ opened_are entries all sorted = record {
 
 -- ---- one more entry
 
-taken_sorted : (entries : List Entry) (n : ℕ) → IsStrictlySortedBy name_cmp (entry_names entries) → IsStrictlySortedBy name_cmp (keys_of (opened (take n entries)))
+taken_sorted : (entries : List Entry) (n : ℕ) → IsStrictlySortedBy name_cmp (entry_names entries)
+    → IsStrictlySortedBy name_cmp (keys_of (opened (take n entries)))
 taken_sorted entries n sorted =
-    let both : entry_names (take n entries) ++ entry_names (drop n entries) ≡ entry_names entries = sym (map-append (λ (e : Entry). e.name) (take n entries) (drop n entries)) ∙ ap entry_names (whole entries n) in
-    let front : IsStrictlySortedBy name_cmp (entry_names (take n entries)) = sorted_front name_cmp (entry_names (take n entries)) (entry_names (drop n entries)) (subst (λ (l : List (List ℕ)). IsStrictlySortedBy name_cmp l) (sym both) sorted) in
+    let both : entry_names (take n entries) ++ entry_names (drop n entries) ≡ entry_names entries =
+    sym (map-append (λ (e : Entry). e.name) (take n entries) (drop n entries)) ∙ ap entry_names (whole entries n) in
+    let front : IsStrictlySortedBy name_cmp (entry_names (take n entries)) =
+    sorted_front name_cmp (entry_names (take n entries)) (entry_names (drop n entries))
+    (subst (λ (l : List (List ℕ)). IsStrictlySortedBy name_cmp l) (sym both) sorted) in
     subst (λ (l : List (List ℕ)). IsStrictlySortedBy name_cmp l) (sym (opened_keys (take n entries))) front
   where
     whole : (xs : List Entry) (k : ℕ) → take k xs ++ drop k xs ≡ xs
     whole xs k = take-append-drop k xs
 
-pub opened_more : (entries : List Entry) (i : ℕ) (e : Entry) → i < length entries → e ≡ get_or entries i e → IsStrictlySortedBy name_cmp (entry_names entries)
+pub opened_more : (entries : List Entry) (i : ℕ) (e : Entry) → i < length entries → e ≡ get_or entries i e
+    → IsStrictlySortedBy name_cmp (entry_names entries)
     → with_cell (opened (take i entries)) e.name (opened_cell e).1 ≡ opened (take (i + 1) entries)
 opened_more entries i e lt is sorted =
-    let more : take (i + 1) entries ≡ take i entries ++ e ∷ [] = take_more entries i e lt ∙ ap (λ (x : Entry). take i entries ++ x ∷ []) (sym is) in
-    let last : opened (take (i + 1) entries) ≡ opened (take i entries) ++ opened_cell e ∷ [] = ap opened more ∙ map_push opened_cell (take i entries) e in
+    let more : take (i + 1) entries ≡ take i entries ++ e ∷ [] =
+    take_more entries i e lt ∙ ap (λ (x : Entry). take i entries ++ x ∷ []) (sym is) in
+    let last : opened (take (i + 1) entries) ≡ opened (take i entries) ++ opened_cell e ∷ [] =
+    ap opened more ∙ map_push opened_cell (take i entries) e in
     insert_last nat_list_cmp_total e.name (opened_cell e).1 (opened (take i entries))
-    (subst (λ (l : Cells). IsStrictlySortedBy name_cmp (keys_of l)) last (taken_sorted entries (i + 1) sorted)) ∙ sym last
+    (subst (λ (l : Cells). IsStrictlySortedBy name_cmp (keys_of l)) last (taken_sorted entries (i + 1) sorted))
+    ∙ sym last
 
 -- ---- sizes
 
@@ -86,13 +101,21 @@ pub judged_length : (entries : List Entry) → length (judged_map entries) ≡ l
 judged_length [] = refl
 judged_length (e ∷ es) = omega (arith, judged_length es)
 
-pub judged_size : (entries : List Entry) → sum_by (λ (e : Entry). length e.name + e.len) entries ≡ size_of (judged_map entries)
+pub judged_size : (entries : List Entry) → sum_by (λ (e : Entry). length e.name + e.len) entries
+    ≡ size_of (judged_map entries)
 judged_size [] = refl
 judged_size (e ∷ es) =
-    omega (arith, sum_by-cons (λ (x : Entry). length x.name + x.len) e es, sum_by-cons (λ (x : List ℕ × Element). length x.0 + x.1.len) (e.name, judged (element_of e)) (judged_map es), judged_size es)
+    omega (
+      arith,
+      sum_by-cons (λ (x : Entry). length x.name + x.len) e es,
+      sum_by-cons (λ (x : List ℕ × Element). length x.0 + x.1.len) (e.name, judged (element_of e)) (judged_map es),
+      judged_size es,
+    )
 
-pub opened_measured : (entries : List Entry) (cells : Cells) (extent : Extent) → All IsKeyEntry entries → IsStrictlySortedBy name_cmp (entry_names entries) → cells ≡ opened entries
-    → extent.count ≡ length entries → extent.size ≡ sum_by (λ (e : Entry). length e.name + e.len) entries → length entries ≤ 1024 → size_of (judged_map entries) ≤ 4194304 → AreMeasured cells extent extent
+pub opened_measured : (entries : List Entry) (cells : Cells) (extent : Extent) → All IsKeyEntry entries
+    → IsStrictlySortedBy name_cmp (entry_names entries) → cells ≡ opened entries
+    → extent.count ≡ length entries → extent.size ≡ sum_by (λ (e : Entry). length e.name + e.len) entries
+    → length entries ≤ 1024 → size_of (judged_map entries) ≤ 4194304 → AreMeasured cells extent extent
 opened_measured entries cells extent all sorted is count size few small =
     subst (λ (l : Cells). AreMeasured l extent extent) (sym is) (record {
       kept = opened_are entries all sorted;

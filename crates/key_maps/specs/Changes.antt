@@ -49,7 +49,8 @@ difference old (Some key) = cond (is_same old key) None (Some (Put (bytes_of key
 -- the changes that make the first map into the second: in the order of the names, and exactly where the two differ
 pub record AreChanges (changes : List (List ℕ × KeyChange)) (old new : Map) : Type 0 where
   pub ordered : IsStrictlySortedBy name_cmp (keys_of changes)
-  pub exact : (name : List ℕ) → lookup (is_at (name_cmp name)) changes ≡ difference (element_at old name) (element_at new name)
+  pub exact : (name : List ℕ) → lookup (is_at (name_cmp name)) changes
+      ≡ difference (element_at old name) (element_at new name)
 
 abbrev pub change_of : Cell → Option KeyChange
 change_of cell = difference (synced_of cell) (visible_of cell)

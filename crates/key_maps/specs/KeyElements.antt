@@ -1,4 +1,5 @@
--- A key: an element without an info. What lies on the disk is judged: bytes that encode no value are unreadable, and no salvage.
+-- A key: an element without an info. What lies on the disk is judged: bytes that encode no value are unreadable, and no
+-- salvage.
 use Rattle.std.specs.Prelude.{◌≡◌, ℕ, ◌≤◌, List, length, map, Bool, true, false, cond, Option, None, Some, IsTrue}
 use Rattle.per_base.specs.declared.elements.Content.{Content}
 use Rattle.per_base.specs.declared.elements.Content.TheVariants.{Good, Bad}

@@ -22,4 +22,5 @@ pub record IsKeyMap (m : Map) : Type 0 where
 pub record AreTwoMaps (maps : TwoMaps) : Type 0 where
   pub synced : IsKeyMap maps.synced
   pub visible : IsKeyMap maps.visible
-  pub unreadable : (name : List ℕ) (key : Element) → element_at maps.visible name ≡ Some key → is_readable key.content ≡ false → element_at maps.synced name ≡ Some key
+  pub unreadable : (name : List ℕ) (key : Element) → element_at maps.visible name ≡ Some key
+      → is_readable key.content ≡ false → element_at maps.synced name ≡ Some key

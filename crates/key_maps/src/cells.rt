@@ -1,6 +1,7 @@
 //! The cells of the map: what is synchronised, and what is pending. Each step on them, with what it makes of both maps.
 
-ghost use Rattle.std.specs.Prelude.{◌≡◌, ◌∷◌, [], IfOk, IsSome, IsTrue, None, OnErr, OnOk, Some, option_copied, is_some, IfErr};
+ghost use Rattle.std.specs.Prelude.{◌≡◌, ◌∷◌, [], IfOk, IsSome, IsTrue, None, OnErr, OnOk, Some, option_copied};
+ghost use Rattle.std.specs.Prelude.{is_some, IfErr};
 ghost use Rattle.std.specs.List.Sorted.{IsStrictlySortedBy};
 ghost use Rattle.std.specs.Map.{keys_of};
 ghost use Rattle.std.specs.Option.{option_and_then};
@@ -12,7 +13,8 @@ ghost use Rattle.key_maps.specs.KeyElements.{is_readable};
 ghost use Rattle.key_maps.specs.Picked.{picked};
 ghost use Rattle.key_maps.specs.declared.cells.Cell.{Cell};
 ghost use Rattle.key_maps.specs.declared.cells.Pending.TheVariants.{Same};
-ghost use Rattle.key_maps.specs.Cells.{AreCells, IsSettled, IsStep, cell_at, synced_map, synced_of, visible_map, visible_of, with_cell};
+ghost use Rattle.key_maps.specs.Cells.{AreCells, IsSettled, IsStep, cell_at, synced_map, synced_of, visible_map};
+ghost use Rattle.key_maps.specs.Cells.{visible_of, with_cell};
 
 use crate::changes::KeyChange;
 use crate::key_elements::KeyElement;
@@ -121,7 +123,8 @@ pub fn get<'a>(cells: &'a BTreeMap<Name, Cell>, name: &Name) -> Option<&'a KeyEl
 #[tactic(auto, using(crate::proofs::Steps::cell_set))]
 fn mark(cells: &mut BTreeMap<Name, Cell>, name: &Name, pending: Pending) -> Result<(), Pending>
     ensures there { OnOk result (IsSome (cell_at cells.old.entries name.now)) }
-    ensures marked { OnOk result ((cell : Cell) → cell_at cells.old.entries name.now ≡ Some cell → cells.new.entries ≡ with_cell cells.old.entries name.now (record cell { pending = pending })) }
+    ensures marked { OnOk result ((cell : Cell) → cell_at cells.old.entries name.now ≡ Some cell
+        → cells.new.entries ≡ with_cell cells.old.entries name.now (record cell { pending = pending })) }
     ensures absent { OnErr result (cell_at cells.old.entries name.now ≡ None) }
     ensures unchanged { OnErr result (cells.new.entries ≡ cells.old.entries) }
     ensures back { IfErr result (λ back. back ≡ pending) }
@@ -153,7 +156,8 @@ fn add_pending(
     name: &Name,
     pending: Pending,
 ) -> Result<(), AllocError>
-    ensures added { OnOk result (cells.new.entries ≡ with_cell cells.old.entries name.now (record { synced = None; pending = pending })) }
+    ensures added { OnOk result (cells.new.entries ≡ with_cell cells.old.entries name.now
+        (record { synced = None; pending = pending })) }
     ensures unchanged { OnErr result (cells.new.entries ≡ cells.old.entries) }
 {
     let cell = Cell {
@@ -167,7 +171,8 @@ fn add_pending(
 pub fn put(cells: &mut BTreeMap<Name, Cell>, name: &Name, key: KeyElement) -> Result<(), AllocError>
     requires kept { AreCells cells.old.entries }
     requires readable { IsTrue (is_readable key.content) }
-    ensures step { OnOk result (IsStep cells.old.entries cells.new.entries (with_element (visible_map cells.old.entries) name.now key)) }
+    ensures step { OnOk result (IsStep cells.old.entries cells.new.entries
+        (with_element (visible_map cells.old.entries) name.now key)) }
     ensures unchanged { OnErr result (cells.new.entries ≡ cells.old.entries) }
 {
     let _len = key.len();

@@ -4,7 +4,8 @@ ghost use Rattle.std.specs.Prelude.{◌≡◌, ◌≤◌, IfOk, IfSome, IsTrue, 
 ghost use Rattle.per_base.specs.declared.elements.Content.TheVariants.{Bad, Good};
 ghost use Rattle.key_maps.specs.Changes as changes;
 ghost use Rattle.key_maps.specs.Changes.{bytes_of, same_key};
-ghost use Rattle.key_maps.specs.KeyElements.{IsKey, IsKeyEntry, element_of, is_readable, judged, judged_content, judged_salvage, key_of};
+ghost use Rattle.key_maps.specs.KeyElements.{IsKey, IsKeyEntry, element_of, is_readable, judged, judged_content};
+ghost use Rattle.key_maps.specs.KeyElements.{judged_salvage, key_of};
 ghost use Rattle.key_maps.specs.Shown.{content_of, salvage_in, stored_in};
 
 use crate::stored::Stored;

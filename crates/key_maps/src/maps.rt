@@ -1,6 +1,7 @@
 //! The two maps.
 
-ghost use Rattle.std.specs.Prelude.{◌≡◌, ◌<◌, ◌≤◌, ◌↔◌, [], false, IfOk, IsTrue, List, MatchOption, None, OnErr, OnOk, Some, length, option_copied, is_some, ℕ};
+ghost use Rattle.std.specs.Prelude.{◌≡◌, ◌<◌, ◌≤◌, ◌↔◌, [], false, IfOk, IsTrue, List, MatchOption, None, OnErr, OnOk};
+ghost use Rattle.std.specs.Prelude.{Some, length, option_copied, is_some, ℕ};
 ghost use Rattle.std.specs.Bool.{OnFalse, OnTrue};
 ghost use Rattle.per_base.specs.declared.elements.Element.{Element};
 ghost use Rattle.per_base.specs.Maps.{element_at, has, names_of, size_of, with_element, without};
@@ -98,8 +99,10 @@ impl KeyMaps {
     /// The number and the size of the visible keys with a key of this length under this name.
     #[tactic(auto, using(crate::proofs::Both::size_set, crate::proofs::Both::size_new, crate::proofs::Both::size_gone, crate::proofs::Both::count_set, crate::proofs::Both::count_new, crate::proofs::Both::visible_sorted))]
     fn extent_with(&self, name: &Name, len: u32) -> Extent
-        ensures counted { (key : Element) → key.len ≡ len → result.count ≡ length (with_element self.now.visible name.now key) }
-        ensures sized { (key : Element) → key.len ≡ len → result.size ≡ size_of (with_element self.now.visible name.now key) }
+        ensures counted { (key : Element) → key.len ≡ len → result.count
+            ≡ length (with_element self.now.visible name.now key) }
+        ensures sized { (key : Element) → key.len ≡ len → result.size
+            ≡ size_of (with_element self.now.visible name.now key) }
     {
         match cells::get(&self.cells, name) {
             Some(old) => Extent {
@@ -177,7 +180,8 @@ impl KeyMaps {
         cells::has_changes(&self.cells)
     }
 
-    /// What a sync hands down: the changes that make the synchronised map into the visible one, exactly where they differ.
+    /// What a sync hands down: the changes that make the synchronised map into the visible one, exactly where they
+    /// differ.
     pub fn changes(&self, alloc: Global) -> Result<Vec<(Name, KeyChange)>, AllocError>
         ensures { IfOk result (λ changes. AreChanges changes.items self.now.synced self.now.visible) }
     {

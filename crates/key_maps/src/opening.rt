@@ -24,7 +24,11 @@ impl KeyMaps {
         requires ordered { IsStrictlySortedBy name_cmp (entry_names entries.now) }
         requires few { length entries.now ≤ KEYS }
         requires small { size_of (judged_map entries.now) ≤ STORAGE_BYTES }
-        ensures { IfOk result (λ maps. maps ≡ record { synced = judged_map entries.now; visible = judged_map entries.now }) }
+        ensures { IfOk result (λ maps. maps ≡ record {
+          synced = judged_map entries.now;
+          visible =
+              judged_map entries.now;
+        }) }
     {
         let cells = cells_of(alloc, entries)?;
         let extent = Extent {

@@ -45,7 +45,9 @@ impl Stored {
 
     /// The value that the bytes encode, with them.
     ///
-    /// Errors: `NotAValue` exactly where no value encodes to the bytes; `OutOfMemory`.
+    /// # Errors
+    ///
+    /// `NotAValue` exactly where no value encodes to the bytes; `OutOfMemory`.
     pub fn read(alloc: Global, bytes: &[u8]) -> Result<Stored, DecodeError>
         ensures bytes { IfOk result (λ stored. stored ≡ bytes.now) }
         ensures readable { OnOk result (IsTrue (is_encoding bytes.now)) }

@@ -1,5 +1,6 @@
 -- What is read of a content.
-use Rattle.std.proofs.Common.{◌≡◌, ◌<◌, ◌&&◌, ◌∙◌, ℕ, List, length, Bool, true, false, cond, not, refl, sym, subst, arith}
+use Rattle.std.proofs.Common.{◌≡◌, ◌<◌, ◌&&◌, ◌∙◌, ℕ, List, length, Bool, true, false, cond, not, refl, sym, subst}
+use Rattle.std.proofs.Common.{arith}
 use Rattle.std.specs.Prelude.{Some, None, Result, Ok, Err, nat_le}
 use Rattle.std.proofs.lemmas.Bool.Decides.{nat_tests}
 use Rattle.per_base.specs.declared.elements.Content.{Content}
@@ -17,18 +18,22 @@ use Rattle.deployment_model.specs.Data.{StorageData}
 use Rattle.deployment_model.specs.Lookups.{initial_of}
 use Rattle.key_maps.specs.KeyElements.{key_of}
 use Rattle.key_maps.specs.Shown.{stored_in}
-use Rattle.kvs_core.specs.Calls.{as_kind, get_any, get_as, mismatch, placed, read, reset_key, stored_kind, takes_any, unless_differ, unless_refused, unless_typed, with_place, with_room}
+use Rattle.kvs_core.specs.Calls.{as_kind, get_any, get_as, mismatch, placed, read, reset_key, stored_kind, takes_any}
+use Rattle.kvs_core.specs.Calls.{unless_differ, unless_refused, unless_typed, with_place, with_room}
 use Rattle.kvs_core.specs.Refusals.{IsTextRefusal, NeedsMemory}
 
-pub read_stored : (c : StorageData) (name : List ℕ) (content : Content) (bytes : List ℕ) (value : Tree) → Some bytes ≡ stored_in content → decoded bytes ≡ Some value → read c name content ≡ Ok value
+pub read_stored : (c : StorageData) (name : List ℕ) (content : Content) (bytes : List ℕ) (value : Tree)
+    → Some bytes ≡ stored_in content → decoded bytes ≡ Some value → read c name content ≡ Ok value
 read_stored c name (Good there) bytes value is reads = let same : there ≡ bytes = cc in rw (same, reads) refl
 read_stored c name (Bad salvage) bytes value is reads = absurd (cc)
 
-pub read_bad : (c : StorageData) (name : List ℕ) (content : Content) → None ≡ stored_in content → read c name content ≡ Err (IntegrityCorrupted (Part c.name name))
+pub read_bad : (c : StorageData) (name : List ℕ) (content : Content) → None ≡ stored_in content
+    → read c name content ≡ Err (IntegrityCorrupted (Part c.name name))
 read_bad c name (Good there) is = absurd (cc)
 read_bad c name (Bad salvage) is = refl
 
-pub kind_stored : (content : Content) (bytes : List ℕ) (value : Tree) → Some bytes ≡ stored_in content → decoded bytes ≡ Some value → stored_kind content ≡ Some (type_of value)
+pub kind_stored : (content : Content) (bytes : List ℕ) (value : Tree) → Some bytes ≡ stored_in content
+    → decoded bytes ≡ Some value → stored_kind content ≡ Some (type_of value)
 kind_stored (Good there) bytes value is reads = let same : there ≡ bytes = cc in rw (same, reads) refl
 kind_stored (Bad salvage) bytes value is reads = absurd (cc)
 
@@ -42,15 +47,20 @@ kind_bad (Bad salvage) is = refl
 needs_same : {A : Type 0} (stored asked : Kind) (answer : A) → NeedsMemory (unless_differ stored asked (Ok answer))
 needs_same {A = A} stored asked answer = by (same_kind stored asked)
   where
-    by : (same : Bool) → NeedsMemory (cond (not same) (let r : Result A PerError = Err (mismatch stored asked) in r) (Ok answer))
+    by : (same : Bool) → NeedsMemory (cond (not same) (let r : Result A PerError = Err (mismatch stored asked) in r)
+        (Ok answer))
     by true = tt
     by false = tt
 
-pub needs_value : (c : StorageData) (m : Map) (name : List ℕ) (asked : Kind) (value : Tree) → get_any c m name ≡ Ok value → NeedsMemory (get_as c m name asked)
+pub needs_value : (c : StorageData) (m : Map) (name : List ℕ) (asked : Kind) (value : Tree)
+    → get_any c m name ≡ Ok value → NeedsMemory (get_as c m name asked)
 needs_value c m name asked value is = rw is (needs_same (type_of value) asked value)
 
-pub needs_kind : (content : Content) (bytes : List ℕ) (value : Tree) (asked : Kind) (m : Map) → Some bytes ≡ stored_in content → decoded bytes ≡ Some value → NeedsMemory (unless_typed (stored_kind content) asked (Ok m))
-needs_kind content bytes value asked m is reads = rw (kind_stored content bytes value is reads) (needs_same (type_of value) asked m)
+pub needs_kind : (content : Content) (bytes : List ℕ) (value : Tree) (asked : Kind) (m : Map)
+    → Some bytes ≡ stored_in content → decoded bytes ≡ Some value
+    → NeedsMemory (unless_typed (stored_kind content) asked (Ok m))
+needs_kind content bytes value asked m is reads = rw (kind_stored content bytes value is reads)
+    (needs_same (type_of value) asked m)
 
 -- what is refused whatever its type stays refused
 pub text_kept : (asked : Kind) (due : Result Tree PerError) → IsTextRefusal due → IsTextRefusal (as_kind asked due)
@@ -67,26 +77,34 @@ there m name key is = rw is refl
 
 -- ---- a place for a name
 
-pub few_without : (m : Map) (name : List ℕ) (full : Bool) → full ≡ (not (has m name) && nat_le 1024 (length m)) → full ≡ false → element_at m name ≡ None → length m < 1024
+pub few_without : (m : Map) (name : List ℕ) (full : Bool) → full ≡ (not (has m name) && nat_le 1024 (length m))
+    → full ≡ false → element_at m name ≡ None → length m < 1024
 few_without m name full is empty none =
     let here : (not (has m name) && nat_le 1024 (length m)) ≡ false = sym is ∙ empty in
     let less : nat_le 1024 (length m) ≡ false = rw none at here in
     grind (arith, nat_tests, less)
 
-pub has_place : (m : Map) (name : List ℕ) (full : Bool) → full ≡ (not (has m name) && nat_le 1024 (length m)) → full ≡ false → with_place m name (Ok m) ≡ Ok m
-has_place m name full is empty = let here : (not (has m name) && nat_le 1024 (length m)) ≡ false = sym is ∙ empty in rw here refl
+pub has_place : (m : Map) (name : List ℕ) (full : Bool) → full ≡ (not (has m name) && nat_le 1024 (length m))
+    → full ≡ false → with_place m name (Ok m) ≡ Ok m
+has_place m name full is empty = let here : (not (has m name) && nat_le 1024 (length m)) ≡ false =
+    sym is ∙ empty in rw here refl
 
-pub placed_there : (c : StorageData) (m : Map) (name bytes stored : List ℕ) (full : Bool) → full ≡ (not (has m name) && nat_le 1024 (length m)) → full ≡ false → stored ≡ bytes
+pub placed_there : (c : StorageData) (m : Map) (name bytes stored : List ℕ) (full : Bool)
+    → full ≡ (not (has m name) && nat_le 1024 (length m)) → full ≡ false → stored ≡ bytes
     → placed c m name bytes ≡ with_room c (with_element m name (key_of stored))
 placed_there c m name bytes stored full is empty same =
     let here : (not (has m name) && nat_le 1024 (length m)) ≡ false = sym is ∙ empty in
     rw (← same, here) refl
 
-pub takes_place : (c : StorageData) (m : Map) (name : List ℕ) (asked : Kind) → ((rest : Result Map PerError) → unless_refused c m name asked rest ≡ rest)
+pub takes_place : (c : StorageData) (m : Map) (name : List ℕ) (asked : Kind)
+    → ((rest : Result Map PerError) → unless_refused c m name asked rest ≡ rest)
     → with_place m name (Ok m) ≡ Ok m → NeedsMemory (takes_any c m name asked)
-takes_place c m name asked passes place = subst (λ (due : Result Map PerError). NeedsMemory due) (sym (passes (with_place m name (Ok m)) ∙ place)) tt
+takes_place c m name asked passes place = subst (λ (due : Result Map PerError). NeedsMemory due)
+    (sym (passes (with_place m name (Ok m)) ∙ place)) tt
 
 -- what a reset needs memory for, where there is an initial value and a place for it
-pub reset_there : (c : StorageData) (m : Map) (name bytes : List ℕ) (full : Bool) → c.read_only ≡ false → initial_of c name ≡ Some bytes → full ≡ (not (has m name) && nat_le 1024 (length m)) → full ≡ false
+pub reset_there : (c : StorageData) (m : Map) (name bytes : List ℕ) (full : Bool) → c.read_only ≡ false
+    → initial_of c name ≡ Some bytes → full ≡ (not (has m name) && nat_le 1024 (length m)) → full ≡ false
     → NeedsMemory (with_room c (with_element m name (key_of bytes))) → NeedsMemory (reset_key c m name)
-reset_there c m name bytes full writes is fills empty needs = rw (writes, is, placed_there c m name bytes bytes full fills empty refl) needs
+reset_there c m name bytes full writes is fills empty needs =
+    rw (writes, is, placed_there c m name bytes bytes full fills empty refl) needs

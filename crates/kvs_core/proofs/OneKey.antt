@@ -13,11 +13,14 @@ use Rattle.key_maps.proofs.Ordered.{sorted_cons, sorted_none}
 pub one_name : (name : List ℕ) → IsStrictlySortedBy name_cmp (name ∷ [])
 one_name name = sorted_cons name_cmp name [] tt (sorted_none name_cmp)
 
-pub one_ordered : (entry : Entry) (entries : List Entry) → entries ≡ entry ∷ [] → IsStrictlySortedBy name_cmp (entry_names entries)
+pub one_ordered : (entry : Entry) (entries : List Entry) → entries ≡ entry ∷ []
+    → IsStrictlySortedBy name_cmp (entry_names entries)
 one_ordered entry entries is = subst (λ es. IsStrictlySortedBy name_cmp (entry_names es)) (sym is) (one_name entry.name)
 
-pub one_key : (s : StorageData) (key : ElementData) → s.elements ≡ key ∷ [] → s.kind ≡ Keys → s.minimum ≡ 0 → s.m ≡ 2 → s.n ≡ 3
-    → IsName s.name → 1 ≤ s.maximum → s.maximum ≤ 4194304 → IsElement Keys key → initial_size key ≤ s.maximum → IsStorage s
+pub one_key : (s : StorageData) (key : ElementData) → s.elements ≡ key ∷ [] → s.kind ≡ Keys → s.minimum ≡ 0 → s.m ≡ 2
+    → s.n ≡ 3
+    → IsName s.name → 1 ≤ s.maximum → s.maximum ≤ 4194304 → IsElement Keys key → initial_size key ≤ s.maximum
+    → IsStorage s
 one_key s key one of_keys least m n named some_room maximum each fits =
     let sum = sum_by-cons initial_size key [] in
     record {

@@ -1,11 +1,14 @@
 -- The calls of a session of keys: each is a function of the storage's configuration, the visible map and the arguments.
-use Rattle.std.specs.Prelude.{ℕ, List, [], length, not, ◌&&◌, nat_le, nat_lt, Option, None, Some, option_map, Result, Ok, Err}
+use Rattle.std.specs.Prelude.{ℕ, List, [], length, not, ◌&&◌, nat_le, nat_lt, Option, None, Some, option_map, Result}
+use Rattle.std.specs.Prelude.{Ok, Err}
 use Rattle.per_base.specs.declared.elements.Content.{Content}
 use Rattle.per_base.specs.declared.elements.Content.TheVariants.{Good, Bad}
 use Rattle.per_base.specs.declared.elements.Element.{Element}
 use Rattle.per_base.specs.declared.errors.Limit.TheVariants as limit
 use Rattle.per_base.specs.declared.errors.PerError.{PerError}
-use Rattle.per_base.specs.declared.errors.PerError.TheVariants.{KeyNotFound, IllegalWriteAccess, IntegrityCorrupted, DataTypeMismatch, InitValueNotAvailable, OutOfStorageSpace, LimitReached}
+use Rattle.per_base.specs.declared.errors.PerError.TheVariants.{KeyNotFound, IllegalWriteAccess, IntegrityCorrupted}
+use Rattle.per_base.specs.declared.errors.PerError.TheVariants.{DataTypeMismatch, InitValueNotAvailable}
+use Rattle.per_base.specs.declared.errors.PerError.TheVariants.{OutOfStorageSpace, LimitReached}
 use Rattle.per_base.specs.declared.errors.Unit.TheVariants.{Part}
 use Rattle.per_base.specs.Maps.{Map, element_at, has, size_of, with_element, without}
 use Rattle.value_model.specs.Encoding.{encoding}
@@ -85,7 +88,8 @@ placed c m name bytes = with_place m name (with_room c (with_element m name (key
 
 -- refused where the storage is read-only, or where values of the name have another type
 abbrev pub unless_refused : StorageData → Map → List ℕ → Kind → Result Map PerError → Result Map PerError
-unless_refused c m name asked rest = refuse c.read_only IllegalWriteAccess (unless_typed (kind_for (element_named c name) (element_at m name)) asked rest)
+unless_refused c m name asked rest = refuse c.read_only IllegalWriteAccess
+    (unless_typed (kind_for (element_named c name) (element_at m name)) asked rest)
 
 -- what refuses a value before it is encoded: all but want of room, for which its encoding must be measured
 abbrev pub takes_any : StorageData → Map → List ℕ → Kind → Result Map PerError
@@ -102,7 +106,8 @@ set_value c m name value =
     (set_any c m name value))
 
 abbrev pub remove_key : StorageData → Map → List ℕ → Result Map PerError
-remove_key c m name = refuse c.read_only IllegalWriteAccess (refuse (not (has m name)) KeyNotFound (Ok (without m name)))
+remove_key c m name = refuse c.read_only IllegalWriteAccess
+    (refuse (not (has m name)) KeyNotFound (Ok (without m name)))
 
 abbrev pub remove_all_keys : StorageData → Map → Result Map PerError
 remove_all_keys c m = refuse c.read_only IllegalWriteAccess (Ok [])
@@ -128,11 +133,13 @@ recovered c m name (Bad (Some salvage)) = Ok (with_element m name (key_of salvag
 recovered c m name (Bad None) = restored c m name (initial_of c name)
 
 abbrev pub recover_key : StorageData → Map → List ℕ → Result Map PerError
-recover_key c m name = refuse c.read_only IllegalWriteAccess (found (element_at m name) (λ key. recovered c m name key.content))
+recover_key c m name = refuse c.read_only IllegalWriteAccess
+    (found (element_at m name) (λ key. recovered c m name key.content))
 
 abbrev pub with_initial : {A : Type 0} → Option (List ℕ) → (List ℕ → Result A PerError) → Result A PerError
 with_initial None call = Err InitValueNotAvailable
 with_initial (Some bytes) call = call bytes
 
 abbrev pub reset_key : StorageData → Map → List ℕ → Result Map PerError
-reset_key c m name = refuse c.read_only IllegalWriteAccess (with_initial (initial_of c name) (λ bytes. placed c m name bytes))
+reset_key c m name = refuse c.read_only IllegalWriteAccess
+    (with_initial (initial_of c name) (λ bytes. placed c m name bytes))

@@ -3,7 +3,8 @@ use Rattle.std.specs.Prelude.{◌≡◌, ◌≢◌, Bool, cond, Result, Ok, Err}
 use Rattle.per_base.specs.declared.errors.Holder.{Holder}
 use Rattle.per_base.specs.declared.errors.Holder.TheVariants as holder
 use Rattle.per_base.specs.declared.errors.PerError.{PerError}
-use Rattle.per_base.specs.declared.errors.PerError.TheVariants.{DataTypeMismatch, IntegrityCorrupted, OutOfMemory, ResourceBusy}
+use Rattle.per_base.specs.declared.errors.PerError.TheVariants.{DataTypeMismatch, IntegrityCorrupted, OutOfMemory}
+use Rattle.per_base.specs.declared.errors.PerError.TheVariants.{ResourceBusy}
 use Rattle.per_base.specs.declared.errors.Unit as damaged
 use Rattle.per_base.specs.declared.errors.Unit.TheVariants as unit
 

@@ -25,7 +25,9 @@ impl KeySession {
 
     /// The visible names, ascending.
     ///
-    /// Errors: `OutOfMemory` alone.
+    /// # Errors
+    ///
+    /// `OutOfMemory` alone.
     pub fn all_keys(&self) -> Result<Vec<Name>, PerError>
         ensures names { IfOk result (λ names. names.items ≡ names_of self.now.visible) }
         ensures memory { IfErr result (λ error. error ≡ PerError.OutOfMemory) }
@@ -45,14 +47,18 @@ impl KeySession {
 
     /// The value of a key.
     ///
-    /// Errors: `KeyNotFound` where it is not visible; `IntegrityCorrupted` where it is unreadable; `OutOfMemory`.
+    /// # Errors
+    ///
+    /// `KeyNotFound` where it is not visible; `IntegrityCorrupted` where it is unreadable; `OutOfMemory`.
     #[tactic(auto, using(crate::proofs::Contents::read_stored, crate::proofs::Contents::read_bad))]
     pub fn get_any(&self, name: &Name) -> Result<&Value, PerError>
         ensures ok { IfOk result (λ value. calls.get_any self.now.config self.now.visible name.now ≡ Ok value.now) }
         ensures valid { IfOk result (λ value. IsValue value.now) }
-        ensures refused { IfErr result (λ error. IsRefusal (calls.get_any self.now.config self.now.visible name.now) error) }
+        ensures refused { IfErr result (λ error. IsRefusal (calls.get_any self.now.config self.now.visible name.now)
+            error) }
         // A value takes no memory, nor does that there is none.
-        ensures memory { IfErr result (λ error. error ≡ PerError.OutOfMemory → IsTextRefusal (calls.get_any self.now.config self.now.visible name.now)) }
+        ensures memory { IfErr result (λ error. error ≡ PerError.OutOfMemory
+            → IsTextRefusal (calls.get_any self.now.config self.now.visible name.now)) }
     {
         let Some(key) = self.maps.get(name) else {
             return Err(PerError::KeyNotFound);
@@ -65,15 +71,20 @@ impl KeySession {
 
     /// The value of a key, asked for by its type.
     ///
-    /// Errors: those of `get_any`; `DataTypeMismatch` with the stored and the asked type where they differ; `OutOfMemory`, and this
-    /// only in the place of a refusal that carries names or texts.
+    /// # Errors
+    ///
+    /// Those of `get_any`; `DataTypeMismatch` with the stored and the asked type where they differ; `OutOfMemory`, and
+    /// this only in the place of a refusal that carries names or texts.
     #[tactic(auto, using(crate::proofs::Contents::text_kept))]
     pub fn get_as(&self, name: &Name, asked: &ValueType) -> Result<&Value, PerError>
         requires { IsTrue (kind_fits (kind_of asked.now)) }
-        ensures ok { IfOk result (λ value. calls.get_as self.now.config self.now.visible name.now (kind_of asked.now) ≡ Ok value.now) }
+        ensures ok { IfOk result (λ value. calls.get_as self.now.config self.now.visible name.now (kind_of asked.now)
+            ≡ Ok value.now) }
         ensures valid { IfOk result (λ value. IsValue value.now) }
-        ensures refused { IfErr result (λ error. IsRefusal (calls.get_as self.now.config self.now.visible name.now (kind_of asked.now)) error) }
-        ensures memory { IfErr result (λ error. error ≡ PerError.OutOfMemory → IsTextRefusal (calls.get_as self.now.config self.now.visible name.now (kind_of asked.now))) }
+        ensures refused { IfErr result (λ error. IsRefusal
+            (calls.get_as self.now.config self.now.visible name.now (kind_of asked.now)) error) }
+        ensures memory { IfErr result (λ error. error ≡ PerError.OutOfMemory
+            → IsTextRefusal (calls.get_as self.now.config self.now.visible name.now (kind_of asked.now))) }
     {
         let value = self.get_any(name)?;
         if !has_type(value, asked) {
@@ -84,12 +95,17 @@ impl KeySession {
 
     /// The thing of a Rust type that a key's value is.
     ///
-    /// Errors: those of `get_any`; `DataTypeMismatch` with the stored and the asked type where they differ; `OutOfMemory`.
+    /// # Errors
+    ///
+    /// Those of `get_any`; `DataTypeMismatch` with the stored and the asked type where they differ; `OutOfMemory`.
     #[tactic(auto, using(crate::proofs::Contents::needs_value, crate::proofs::Contents::text_needs))]
     pub fn get_value<T: PerValue>(&self, name: &Name) -> Result<T, PerError>
-        ensures ok { IfOk result (λ thing. calls.get_as self.now.config self.now.visible name.now T.kind ≡ Ok (T.tree thing)) }
-        ensures refused { IfErr result (λ error. IsRefusal (calls.get_as self.now.config self.now.visible name.now T.kind) error) }
-        ensures memory { IfErr result (λ error. error ≡ PerError.OutOfMemory → NeedsMemory (calls.get_as self.now.config self.now.visible name.now T.kind)) }
+        ensures ok { IfOk result (λ thing. calls.get_as self.now.config self.now.visible name.now T.kind
+            ≡ Ok (T.tree thing)) }
+        ensures refused { IfErr result (λ error. IsRefusal
+            (calls.get_as self.now.config self.now.visible name.now T.kind) error) }
+        ensures memory { IfErr result (λ error. error ≡ PerError.OutOfMemory
+            → NeedsMemory (calls.get_as self.now.config self.now.visible name.now T.kind)) }
     {
         let value = self.get_any(name)?;
         let Ok(asked) = T::type_of(self.alloc) else {
@@ -106,7 +122,8 @@ impl KeySession {
 
     /// The refusal of an unreadable key.
     pub(crate) fn corrupted(&self, name: &Name) -> PerError
-        ensures { result ≢ PerError.OutOfMemory → result ≡ PerError.IntegrityCorrupted (Part self.now.config.name name.now) }
+        ensures { result ≢ PerError.OutOfMemory → result ≡ PerError.IntegrityCorrupted
+            (Part self.now.config.name name.now) }
     {
         let Ok(storage) = self.config.name.copy() else {
             return PerError::OutOfMemory;

@@ -15,15 +15,21 @@ use per_base::{Limit, Name, PerError};
 impl KeySession {
     /// A readable key stays; an unreadable one becomes its salvage, else its initial value, else it goes.
     ///
-    /// Errors: `IllegalWriteAccess` where the storage is read-only; `KeyNotFound` where the name is not visible;
+    /// # Errors
+    ///
+    /// `IllegalWriteAccess` where the storage is read-only; `KeyNotFound` where the name is not visible;
     /// `OutOfStorageSpace` where the initial value does not fit; `OutOfMemory`.
     #[tactic(auto, using(crate::proofs::Recoveries::recovers_good, crate::proofs::Recoveries::recovers_salvage, crate::proofs::Recoveries::recovers_other, crate::proofs::Recoveries::same_room))]
     pub fn recover_key(&mut self, name: &Name) -> Result<(), PerError>
         ensures ok { OnOk result (calls.recover_key self.old.config self.old.visible name.now ≡ Ok self.new.visible) }
-        ensures refused { IfErr result (λ error. IsRefusal (calls.recover_key self.old.config self.old.visible name.now) error) }
+        ensures refused { IfErr result (λ error. IsRefusal (calls.recover_key self.old.config self.old.visible name.now)
+            error) }
         // Want of memory stands for no refusal, and comes only where a salvage or an initial value is taken.
-        ensures memory { IfErr result (λ error. error ≡ PerError.OutOfMemory → NeedsMemory (calls.recover_key self.old.config self.old.visible name.now)) }
-        ensures copies { IfErr result (λ error. error ≡ PerError.OutOfMemory → (key : Element) → element_at self.old.visible name.now ≡ Some key → calls.TakesCopy (initial_of self.old.config name.now) key.content) }
+        ensures memory { IfErr result (λ error. error ≡ PerError.OutOfMemory
+            → NeedsMemory (calls.recover_key self.old.config self.old.visible name.now)) }
+        ensures copies { IfErr result (λ error. error ≡ PerError.OutOfMemory → (key : Element)
+            → element_at self.old.visible name.now ≡ Some key
+            → calls.TakesCopy (initial_of self.old.config name.now) key.content) }
         ensures beside { self.new ≡ record self.old { visible = self.new.visible } }
         ensures unchanged { OnErr result (self.new ≡ self.old) }
     {
@@ -49,10 +55,15 @@ impl KeySession {
     /// The initial value of a visible key becomes its value; without one the key goes.
     fn restore(&mut self, name: &Name) -> Result<(), PerError>
         requires { IsTrue (has self.old.visible name.now) }
-        ensures ok { OnOk result (calls.restored self.old.config self.old.visible name.now (initial_of self.old.config name.now) ≡ Ok self.new.visible) }
-        ensures refused { IfErr result (λ error. IsRefusal (calls.restored self.old.config self.old.visible name.now (initial_of self.old.config name.now)) error) }
-        ensures memory { IfErr result (λ error. error ≡ PerError.OutOfMemory → NeedsMemory (calls.restored self.old.config self.old.visible name.now (initial_of self.old.config name.now))) }
-        ensures copies { IfErr result (λ error. error ≡ PerError.OutOfMemory → IsSome (initial_of self.old.config name.now)) }
+        ensures ok { OnOk result (calls.restored self.old.config self.old.visible name.now
+            (initial_of self.old.config name.now) ≡ Ok self.new.visible) }
+        ensures refused { IfErr result (λ error. IsRefusal
+            (calls.restored self.old.config self.old.visible name.now (initial_of self.old.config name.now)) error) }
+        ensures memory { IfErr result (λ error. error ≡ PerError.OutOfMemory
+            → NeedsMemory (calls.restored self.old.config self.old.visible name.now
+            (initial_of self.old.config name.now))) }
+        ensures copies { IfErr result (λ error. error ≡ PerError.OutOfMemory
+            → IsSome (initial_of self.old.config name.now)) }
         ensures beside { self.new ≡ record self.old { visible = self.new.visible } }
         ensures unchanged { OnErr result (self.new ≡ self.old) }
     {
@@ -68,9 +79,13 @@ impl KeySession {
     fn start(&self, name: &Name, initial: &[u8]) -> Result<Stored, PerError>
         requires { length initial.now ≤ 65536 }
         ensures ok { IfOk result (λ stored. stored ≡ initial.now) }
-        ensures room { IfOk result (λ stored. size_of (with_element self.now.visible name.now (key_of stored)) ≤ self.now.config.maximum) }
-        ensures refused { IfErr result (λ error. IsRefusal (calls.with_room self.now.config (with_element self.now.visible name.now (key_of initial.now))) error) }
-        ensures memory { IfErr result (λ error. error ≡ PerError.OutOfMemory → NeedsMemory (calls.with_room self.now.config (with_element self.now.visible name.now (key_of initial.now)))) }
+        ensures room { IfOk result (λ stored. size_of (with_element self.now.visible name.now (key_of stored))
+            ≤ self.now.config.maximum) }
+        ensures refused { IfErr result (λ error. IsRefusal
+            (calls.with_room self.now.config (with_element self.now.visible name.now (key_of initial.now))) error) }
+        ensures memory { IfErr result (λ error. error ≡ PerError.OutOfMemory
+            → NeedsMemory (calls.with_room self.now.config (with_element self.now.visible name.now
+            (key_of initial.now)))) }
     {
         self.has_room(name, initial.len() as u32)?;
         match Stored::read(self.alloc, initial) {
@@ -81,14 +96,18 @@ impl KeySession {
 
     /// The initial value of a key becomes its visible value.
     ///
-    /// Errors: `IllegalWriteAccess` where the storage is read-only; `InitValueNotAvailable` where there is no initial value;
+    /// # Errors
+    ///
+    /// `IllegalWriteAccess` where the storage is read-only; `InitValueNotAvailable` where there is no initial value;
     /// `LimitReached` with `Elements`; `OutOfStorageSpace`; `OutOfMemory`.
     #[tactic(auto, using(crate::proofs::Contents::few_without, crate::proofs::Contents::placed_there, crate::proofs::Contents::reset_there))]
     pub fn reset_key(&mut self, name: &Name) -> Result<(), PerError>
         ensures ok { OnOk result (calls.reset_key self.old.config self.old.visible name.now ≡ Ok self.new.visible) }
-        ensures refused { IfErr result (λ error. IsRefusal (calls.reset_key self.old.config self.old.visible name.now) error) }
+        ensures refused { IfErr result (λ error. IsRefusal (calls.reset_key self.old.config self.old.visible name.now)
+            error) }
         // Want of memory stands for no refusal.
-        ensures memory { IfErr result (λ error. error ≡ PerError.OutOfMemory → NeedsMemory (calls.reset_key self.old.config self.old.visible name.now)) }
+        ensures memory { IfErr result (λ error. error ≡ PerError.OutOfMemory
+            → NeedsMemory (calls.reset_key self.old.config self.old.visible name.now)) }
         ensures beside { self.new ≡ record self.old { visible = self.new.visible } }
         ensures unchanged { OnErr result (self.new ≡ self.old) }
     {

@@ -44,8 +44,8 @@ impl Model for KeySession {
 }
 
 impl KeySession {
-    /// A session of the keys that these entries are: each is judged, so that bytes that encode no value are unreadable and no
-    /// salvage. Nothing is pending.
+    /// A session of the keys that these entries are: each is judged, so that bytes that encode no value are unreadable
+    /// and no salvage. Nothing is pending.
     pub fn new(
         alloc: Global,
         config: &StorageConfig,
@@ -57,7 +57,12 @@ impl KeySession {
         requires ordered { IsStrictlySortedBy name_cmp (entry_names entries.now) }
         requires few { length entries.now ≤ KEYS }
         requires room { size_of (judged_map entries.now) ≤ config.now.maximum }
-        ensures { IfOk result (λ session. session ≡ record { config = storage_data config.now; synced = judged_map entries.now; visible = judged_map entries.now }) }
+        ensures { IfOk result (λ session. session ≡ record {
+          config = storage_data config.now;
+          synced =
+              judged_map entries.now;
+          visible = judged_map entries.now;
+        }) }
     {
         let maps = KeyMaps::new(alloc, entries)?;
         let config = config.copy(alloc)?;

@@ -22,9 +22,12 @@ impl KeySession {
         self.maps.has_changes()
     }
 
-    /// What a sync hands down: the changes that make the synchronised map into the visible one, exactly where they differ.
+    /// What a sync hands down: the changes that make the synchronised map into the visible one, exactly where they
+    /// differ.
     ///
-    /// Errors: `OutOfMemory` alone.
+    /// # Errors
+    ///
+    /// `OutOfMemory` alone.
     pub fn changes(&self) -> Result<Vec<(Name, KeyChange)>, PerError>
         ensures changes { IfOk result (λ changes. AreChanges changes.items self.now.synced self.now.visible) }
         ensures memory { IfErr result (λ error. error ≡ PerError.OutOfMemory) }

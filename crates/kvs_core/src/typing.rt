@@ -75,9 +75,16 @@ impl KeySession {
     /// Refuses a value whose type is not that of the key: the configured one, or that of its visible readable value.
     #[tactic(auto, using(crate::proofs::Contents::there))]
     fn check_type(&self, name: &Name, value: &Value) -> Result<(), PerError>
-        ensures ok { OnOk result ((rest : Result Map PerError) → calls.unless_typed (calls.kind_for (element_named self.now.config name.now) (element_at self.now.visible name.now)) (type_of value.now) rest ≡ rest) }
-        ensures refused { IfErr result (λ error. (rest : Result Map PerError) → IsRefusal (calls.unless_typed (calls.kind_for (element_named self.now.config name.now) (element_at self.now.visible name.now)) (type_of value.now) rest) error) }
-        ensures memory { IfErr result (λ error. error ≡ PerError.OutOfMemory → NeedsMemory (calls.unless_typed (calls.kind_for (element_named self.now.config name.now) (element_at self.now.visible name.now)) (type_of value.now) (calls.with_place self.now.visible name.now (Ok self.now.visible)))) }
+        ensures ok { OnOk result ((rest : Result Map PerError)
+            → calls.unless_typed (calls.kind_for (element_named self.now.config name.now)
+            (element_at self.now.visible name.now)) (type_of value.now) rest ≡ rest) }
+        ensures refused { IfErr result (λ error. (rest : Result Map PerError)
+            → IsRefusal (calls.unless_typed (calls.kind_for (element_named self.now.config name.now)
+            (element_at self.now.visible name.now)) (type_of value.now) rest) error) }
+        ensures memory { IfErr result (λ error. error ≡ PerError.OutOfMemory
+            → NeedsMemory (calls.unless_typed (calls.kind_for (element_named self.now.config name.now)
+            (element_at self.now.visible name.now)) (type_of value.now)
+            (calls.with_place self.now.visible name.now (Ok self.now.visible)))) }
     {
         if let Some(element) = self.config.element(name) {
             return match &element.value_type {
@@ -93,9 +100,13 @@ impl KeySession {
 
     /// Refuses a value for a read-only storage, and one whose type is not that of the key.
     pub(crate) fn check_value(&self, name: &Name, value: &Value) -> Result<(), PerError>
-        ensures ok { OnOk result ((rest : Result Map PerError) → calls.unless_refused self.now.config self.now.visible name.now (type_of value.now) rest ≡ rest) }
-        ensures refused { IfErr result (λ error. (rest : Result Map PerError) → IsRefusal (calls.unless_refused self.now.config self.now.visible name.now (type_of value.now) rest) error) }
-        ensures memory { IfErr result (λ error. error ≡ PerError.OutOfMemory → NeedsMemory (calls.takes_any self.now.config self.now.visible name.now (type_of value.now))) }
+        ensures ok { OnOk result ((rest : Result Map PerError)
+            → calls.unless_refused self.now.config self.now.visible name.now (type_of value.now) rest ≡ rest) }
+        ensures refused { IfErr result (λ error. (rest : Result Map PerError)
+            → IsRefusal (calls.unless_refused self.now.config self.now.visible name.now (type_of value.now) rest)
+            error) }
+        ensures memory { IfErr result (λ error. error ≡ PerError.OutOfMemory
+            → NeedsMemory (calls.takes_any self.now.config self.now.visible name.now (type_of value.now))) }
     {
         if self.config.read_only {
             return Err(PerError::IllegalWriteAccess);
@@ -105,9 +116,12 @@ impl KeySession {
 
     fn check_configured(&self, stored: &ValueType, value: &Value) -> Result<(), PerError>
         requires { IsTrue (kind_fits (kind_of stored.now)) }
-        ensures ok { OnOk result ((rest : Result Map PerError) → calls.unless_differ (kind_of stored.now) (type_of value.now) rest ≡ rest) }
-        ensures refused { IfErr result (λ error. (rest : Result Map PerError) → IsRefusal (calls.unless_differ (kind_of stored.now) (type_of value.now) rest) error) }
-        ensures memory { IfErr result (λ error. error ≡ PerError.OutOfMemory → (rest : Result Map PerError) → NeedsMemory (calls.unless_differ (kind_of stored.now) (type_of value.now) rest)) }
+        ensures ok { OnOk result ((rest : Result Map PerError)
+            → calls.unless_differ (kind_of stored.now) (type_of value.now) rest ≡ rest) }
+        ensures refused { IfErr result (λ error. (rest : Result Map PerError)
+            → IsRefusal (calls.unless_differ (kind_of stored.now) (type_of value.now) rest) error) }
+        ensures memory { IfErr result (λ error. error ≡ PerError.OutOfMemory → (rest : Result Map PerError)
+            → NeedsMemory (calls.unless_differ (kind_of stored.now) (type_of value.now) rest)) }
     {
         if has_type(value, stored) {
             return Ok(());
@@ -117,9 +131,12 @@ impl KeySession {
 
     #[tactic(auto, using(crate::proofs::Contents::kind_stored, crate::proofs::Contents::kind_bad, crate::proofs::Contents::needs_kind, value_code::proofs::ValueLaws::typed_fits))]
     fn check_stored(&self, key: &KeyElement, value: &Value) -> Result<(), PerError>
-        ensures ok { OnOk result ((rest : Result Map PerError) → calls.unless_typed (calls.stored_kind key.now.content) (type_of value.now) rest ≡ rest) }
-        ensures refused { IfErr result (λ error. (rest : Result Map PerError) → IsRefusal (calls.unless_typed (calls.stored_kind key.now.content) (type_of value.now) rest) error) }
-        ensures memory { IfErr result (λ error. error ≡ PerError.OutOfMemory → (m : Map) → NeedsMemory (calls.unless_typed (calls.stored_kind key.now.content) (type_of value.now) (Ok m))) }
+        ensures ok { OnOk result ((rest : Result Map PerError)
+            → calls.unless_typed (calls.stored_kind key.now.content) (type_of value.now) rest ≡ rest) }
+        ensures refused { IfErr result (λ error. (rest : Result Map PerError)
+            → IsRefusal (calls.unless_typed (calls.stored_kind key.now.content) (type_of value.now) rest) error) }
+        ensures memory { IfErr result (λ error. error ≡ PerError.OutOfMemory → (m : Map)
+            → NeedsMemory (calls.unless_typed (calls.stored_kind key.now.content) (type_of value.now) (Ok m))) }
     {
         let Some(stored) = key.stored() else {
             return Ok(());

@@ -1,6 +1,7 @@
 //! Writing and removing keys.
 
-ghost use Rattle.std.specs.Prelude.{◌≡◌, ◌≢◌, ◌<◌, ◌≤◌, ◌⊎◌, ◌&&◌, nat_le, not, IfErr, IsTrue, None, Ok, OnErr, OnOk, length};
+ghost use Rattle.std.specs.Prelude.{◌≡◌, ◌≢◌, ◌<◌, ◌≤◌, ◌⊎◌, ◌&&◌, nat_le, not, IfErr, IsTrue, None, Ok, OnErr, OnOk};
+ghost use Rattle.std.specs.Prelude.{length};
 ghost use Rattle.per_base.specs.declared.elements.Element.{Element};
 ghost use Rattle.per_base.specs.Maps.{element_at, has, size_of, with_element};
 ghost use Rattle.value_model.specs.Encoding.{encoding};
@@ -20,16 +21,20 @@ use value_model::{Value, ValueError};
 impl KeySession {
     /// Makes a value visible under a name.
     ///
-    /// Errors: `IllegalWriteAccess` where the storage is read-only; `DataTypeMismatch` where the value's type differs from the
-    /// configured one, or for a key that is not configured from that of its visible readable value; `LimitReached` with `Elements`
-    /// where the name is not visible and 1,024 are; `OutOfStorageSpace` where the visible size would exceed the maximum, with both
-    /// numbers; `OutOfMemory`.
+    /// # Errors
+    ///
+    /// `IllegalWriteAccess` where the storage is read-only; `DataTypeMismatch` where the value's type differs from the
+    /// configured one, or for a key that is not configured from that of its visible readable value; `LimitReached` with
+    /// `Elements` where the name is not visible and 1,024 are; `OutOfStorageSpace` where the visible size would exceed
+    /// the maximum, with both numbers; `OutOfMemory`.
     #[tactic(auto, using(crate::proofs::Contents::takes_place))]
     pub fn set_any(&mut self, name: &Name, value: Value) -> Result<(), PerError>
         ensures ok { OnOk result (calls.set_any self.old.config self.old.visible name.now value ≡ Ok self.new.visible) }
-        ensures refused { IfErr result (λ error. IsRefusal (calls.set_any self.old.config self.old.visible name.now value) error) }
+        ensures refused { IfErr result (λ error. IsRefusal
+            (calls.set_any self.old.config self.old.visible name.now value) error) }
         // Want of memory stands for want of room alone.
-        ensures memory { IfErr result (λ error. error ≡ PerError.OutOfMemory → NeedsMemory (calls.takes_any self.old.config self.old.visible name.now (type_of value))) }
+        ensures memory { IfErr result (λ error. error ≡ PerError.OutOfMemory
+            → NeedsMemory (calls.takes_any self.old.config self.old.visible name.now (type_of value))) }
         ensures beside { self.new ≡ record self.old { visible = self.new.visible } }
         ensures unchanged { OnErr result (self.new ≡ self.old) }
     {
@@ -42,12 +47,18 @@ impl KeySession {
 
     /// Makes the value of a Rust thing visible under a name.
     ///
-    /// Errors: `LimitReached` with `ValueDepth` or `ValueBytes` where the value is too deep or too long; then as `set_any`.
+    /// # Errors
+    ///
+    /// `LimitReached` with `ValueDepth` or `ValueBytes` where the value is too deep or too long; then as `set_any`.
     pub fn set_value<T: PerValue>(&mut self, name: &Name, value: &T) -> Result<(), PerError>
-        ensures ok { OnOk result (calls.set_value self.old.config self.old.visible name.now (T.tree value.now) ≡ Ok self.new.visible) }
-        ensures refused { IfErr result (λ error. IsRefusal (calls.set_value self.old.config self.old.visible name.now (T.tree value.now)) error) }
+        ensures ok { OnOk result (calls.set_value self.old.config self.old.visible name.now (T.tree value.now)
+            ≡ Ok self.new.visible) }
+        ensures refused { IfErr result (λ error. IsRefusal
+            (calls.set_value self.old.config self.old.visible name.now (T.tree value.now)) error) }
         // Want of memory stands for want of room alone, but where the value itself takes memory, which is made first.
-        ensures memory { IfErr result (λ error. error ≡ PerError.OutOfMemory → TakesMemory T.kind ⊎ NeedsMemory (calls.takes_any self.old.config self.old.visible name.now (type_of (T.tree value.now)))) }
+        ensures memory { IfErr result (λ error. error ≡ PerError.OutOfMemory
+            → TakesMemory T.kind ⊎ NeedsMemory (calls.takes_any self.old.config self.old.visible name.now
+            (type_of (T.tree value.now)))) }
         ensures beside { self.new ≡ record self.old { visible = self.new.visible } }
         ensures unchanged { OnErr result (self.new ≡ self.old) }
     {
@@ -65,10 +76,14 @@ impl KeySession {
 
     /// Makes nothing visible under a name.
     ///
-    /// Errors: `IllegalWriteAccess` where the storage is read-only; `KeyNotFound` where the name is not visible. Takes no memory.
+    /// # Errors
+    ///
+    /// `IllegalWriteAccess` where the storage is read-only; `KeyNotFound` where the name is not visible. Takes no
+    /// memory.
     pub fn remove_key(&mut self, name: &Name) -> Result<(), PerError>
         ensures ok { OnOk result (calls.remove_key self.old.config self.old.visible name.now ≡ Ok self.new.visible) }
-        ensures refused { IfErr result (λ error. calls.remove_key self.old.config self.old.visible name.now ≡ Err error) }
+        ensures refused { IfErr result (λ error. calls.remove_key self.old.config self.old.visible name.now
+            ≡ Err error) }
         ensures beside { self.new ≡ record self.old { visible = self.new.visible } }
         ensures unchanged { OnErr result (self.new ≡ self.old) }
     {
@@ -83,7 +98,9 @@ impl KeySession {
 
     /// Makes nothing visible at all.
     ///
-    /// Errors: `IllegalWriteAccess` where the storage is read-only. Takes no memory.
+    /// # Errors
+    ///
+    /// `IllegalWriteAccess` where the storage is read-only. Takes no memory.
     pub fn remove_all_keys(&mut self) -> Result<(), PerError>
         ensures ok { OnOk result (calls.remove_all_keys self.old.config self.old.visible ≡ Ok self.new.visible) }
         ensures refused { IfErr result (λ error. calls.remove_all_keys self.old.config self.old.visible ≡ Err error) }
@@ -100,9 +117,12 @@ impl KeySession {
     /// Puts a value under a name, where there is a place and room for it.
     #[tactic(auto, using(crate::proofs::Contents::few_without, crate::proofs::Contents::has_place, crate::proofs::Contents::placed_there))]
     fn write(&mut self, name: &Name, value: Value) -> Result<(), PerError>
-        ensures ok { OnOk result (calls.placed self.old.config self.old.visible name.now (encoding value) ≡ Ok self.new.visible) }
-        ensures refused { IfErr result (λ error. IsRefusal (calls.placed self.old.config self.old.visible name.now (encoding value)) error) }
-        ensures memory { IfErr result (λ error. error ≡ PerError.OutOfMemory → calls.with_place self.old.visible name.now (Ok self.old.visible) ≡ Ok self.old.visible) }
+        ensures ok { OnOk result (calls.placed self.old.config self.old.visible name.now (encoding value)
+            ≡ Ok self.new.visible) }
+        ensures refused { IfErr result (λ error. IsRefusal
+            (calls.placed self.old.config self.old.visible name.now (encoding value)) error) }
+        ensures memory { IfErr result (λ error. error ≡ PerError.OutOfMemory
+            → calls.with_place self.old.visible name.now (Ok self.old.visible) ≡ Ok self.old.visible) }
         ensures beside { self.new ≡ record self.old { visible = self.new.visible } }
         ensures unchanged { OnErr result (self.new ≡ self.old) }
     {
@@ -128,8 +148,10 @@ impl KeySession {
     /// Puts an encoding under a name that has a place, where there is room for it.
     pub(crate) fn fit(&mut self, name: &Name, stored: Stored) -> Result<(), PerError>
         requires { element_at self.old.visible name.now ≡ None → length self.old.visible < KEYS }
-        ensures ok { OnOk result (calls.with_room self.old.config (with_element self.old.visible name.now (key_of stored)) ≡ Ok self.new.visible) }
-        ensures refused { IfErr result (λ error. IsRefusal (calls.with_room self.old.config (with_element self.old.visible name.now (key_of stored))) error) }
+        ensures ok { OnOk result (calls.with_room self.old.config
+            (with_element self.old.visible name.now (key_of stored)) ≡ Ok self.new.visible) }
+        ensures refused { IfErr result (λ error. IsRefusal
+            (calls.with_room self.old.config (with_element self.old.visible name.now (key_of stored))) error) }
         ensures beside { self.new ≡ record self.old { visible = self.new.visible } }
         ensures unchanged { OnErr result (self.new ≡ self.old) }
     {
@@ -140,8 +162,10 @@ impl KeySession {
 
     /// Whether there is room for a key whose encoding has this length. Takes no memory.
     pub(crate) fn has_room(&self, name: &Name, len: u32) -> Result<(), PerError>
-        ensures ok { OnOk result ((key : Element) → key.len ≡ len → size_of (with_element self.now.visible name.now key) ≤ self.now.config.maximum) }
-        ensures refused { IfErr result (λ error. (key : Element) → key.len ≡ len → calls.with_room self.now.config (with_element self.now.visible name.now key) ≡ Err error) }
+        ensures ok { OnOk result ((key : Element) → key.len ≡ len
+            → size_of (with_element self.now.visible name.now key) ≤ self.now.config.maximum) }
+        ensures refused { IfErr result (λ error. (key : Element) → key.len ≡ len
+            → calls.with_room self.now.config (with_element self.now.visible name.now key) ≡ Err error) }
         ensures space { IfErr result (λ error. error ≢ PerError.OutOfMemory) }
     {
         let needed = self.maps.size_with(name, len);

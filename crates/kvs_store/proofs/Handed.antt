@@ -47,14 +47,17 @@ bytes_eq_sym a b = same_from_decides (bytes_eq a b) (bytes_eq b a) (bytes_eq-Dec
 same_place : (name other : List ℕ) → bytes_eq other name ≡ is_at (name_cmp name) other
 same_place name other = bytes_eq_sym other name ∙ sym (is_eq-slice_cmp name other)
 
-handed_at : (name : List ℕ) (cs : List (List ℕ × KeyChange)) → change_at name (map handed cs) ≡ option_map (handed_as name) (lookup (is_at (name_cmp name)) cs)
+handed_at : (name : List ℕ) (cs : List (List ℕ × KeyChange))
+    → change_at name (map handed cs) ≡ option_map (handed_as name) (lookup (is_at (name_cmp name)) cs)
 handed_at name [] = refl
 handed_at name (e ∷ es) = by (is_at (name_cmp name) e.0) (same_place name e.0) (handed_at name es)
   where
-    by : (b : Bool) → bytes_eq e.0 name ≡ b → change_at name (map handed es) ≡ option_map (handed_as name) (lookup (is_at (name_cmp name)) es)
+    by : (b : Bool) → bytes_eq e.0 name ≡ b → change_at name (map handed es)
+        ≡ option_map (handed_as name) (lookup (is_at (name_cmp name)) es)
         → cond (bytes_eq (changed_name (handed e)) name) (Some (handed e)) (change_at name (map handed es))
         ≡ option_map (handed_as name) (cond b (Some e.1) (lookup (is_at (name_cmp name)) es))
-    by true p later = rw (changed_of e.0 e.1, p) (ap (λ (n : List ℕ). Some (handed_as n e.1)) ((bytes_eq-Decides e.0 name).0 p))
+    by true p later = rw (changed_of e.0 e.1, p) (ap (λ (n : List ℕ). Some (handed_as n e.1))
+        ((bytes_eq-Decides e.0 name).0 p))
     by false p later = rw (changed_of e.0 e.1, p) later
 
 -- ---- one key
@@ -81,10 +84,12 @@ same_infos a b p q = rw (p, q) refl
 same_keys : (a b : Element) → IsKey a → IsKey b → changes.same_element a b ≡ keys.same_key a b
 same_keys a b one other = rw (same_infos a.info b.info one.plain other.plain, same_content a.content b.content) refl
 
-put_key : (name : List ℕ) (key : Element) → IsKey key → made.put name key ≡ handed_as name (Put (keys.bytes_of key.content))
+put_key : (name : List ℕ) (key : Element) → IsKey key → made.put name key
+    ≡ handed_as name (Put (keys.bytes_of key.content))
 put_key name key is = rw (is.plain, same_bytes_of key.content) refl
 
-touch_key : (name : List ℕ) (key : Element) (info : Option FileInfo) → info ≡ None → made.touch name key info ≡ made.put name key
+touch_key : (name : List ℕ) (key : Element) (info : Option FileInfo) → info ≡ None
+    → made.touch name key info ≡ made.put name key
 touch_key name key info none = rw none refl
 
 replaced : (name : List ℕ) (old key : Element) → IsKey key → made.replacement name old key ≡ made.put name key
@@ -94,7 +99,8 @@ replaced name old key is = by (same_bytes old key)
     by true = touch_key name key key.info is.plain
     by false = refl
 
-option_cond : (b : Bool) (name : List ℕ) (c : KeyChange) → option_map (handed_as name) (cond b None (Some c)) ≡ cond b None (Some (handed_as name c))
+option_cond : (b : Bool) (name : List ℕ) (c : KeyChange)
+    → option_map (handed_as name) (cond b None (Some c)) ≡ cond b None (Some (handed_as name c))
 option_cond true name c = refl
 option_cond false name c = refl
 
@@ -116,13 +122,17 @@ key_at m is name = by (element_at m name) refl
     by None p = tt
     by (Some key) p = is.keys name key p
 
-handed_make : (cs : List (List ℕ × KeyChange)) (old new : Map) → IsKeyMap old → IsKeyMap new → AreChanges cs old new → MakeInto (map handed cs) old new
+handed_make : (cs : List (List ℕ × KeyChange)) (old new : Map) → IsKeyMap old → IsKeyMap new → AreChanges cs old new
+    → MakeInto (map handed cs) old new
 handed_make cs old new one other are = record {
   names_ascend = subst (λ (l : List (List ℕ)). IsStrictlySortedBy name_cmp l) (sym (handed_names cs)) are.ordered;
   exact = λ name. handed_at name cs ∙ ap (option_map (handed_as name)) (are.exact name)
-      ∙ handed_difference name (element_at old name) (element_at new name) (key_at old one name) (key_at new other name);
+      ∙ handed_difference name (element_at old name) (element_at new name) (key_at old one name)
+      (key_at new other name);
 }
 
-pub handed_changes : (cs : List (List ℕ × KeyChange)) (all : List Change) (old new : Map) → AreTwoMaps (record { synced = old; visible = new }) → AreChanges cs old new
+pub handed_changes : (cs : List (List ℕ × KeyChange)) (all : List Change) (old new : Map)
+    → AreTwoMaps (record { synced = old; visible = new }) → AreChanges cs old new
     → all ≡ map handed cs → MakeInto all old new
-handed_changes cs all old new maps are is = subst (λ (l : List Change). MakeInto l old new) (sym is) (handed_make cs old new maps.synced maps.visible are)
+handed_changes cs all old new maps are is = subst (λ (l : List Change). MakeInto l old new) (sym is)
+    (handed_make cs old new maps.synced maps.visible are)

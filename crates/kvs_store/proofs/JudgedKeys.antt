@@ -11,7 +11,8 @@ use Rattle.per_base.specs.declared.elements.Scope.TheVariants as scope
 use Rattle.per_base.specs.declared.reports.Report.{Report}
 use Rattle.element_state.specs.declared.shapes.Shape.{Shape}
 use Rattle.element_state.specs.declared.shapes.View.{View}
-use Rattle.element_state.specs.Reports.{element_failed, element_reports, is_readable, recovered_reports, report_of, report_some, reports, store_recovered}
+use Rattle.element_state.specs.Reports.{element_failed, element_reports, is_readable, recovered_reports, report_of}
+use Rattle.element_state.specs.Reports.{report_some, reports, store_recovered}
 use Rattle.element_state.specs.States.{mended_by, mended_entry, mended_view}
 use Rattle.element_state.specs.Views as views
 use Rattle.element_state.specs.Views.{judged_content, judged_entry, judged_view}
@@ -21,7 +22,8 @@ use Rattle.key_maps.specs.KeyElements.{is_encoding, judged_map}
 
 -- ---- reports
 
-readable_is : (test : List ℕ → Bool) (c : Content) → is_readable (λ bytes. true) (judged_content test c) ≡ is_readable test c
+readable_is : (test : List ℕ → Bool) (c : Content) → is_readable (λ bytes. true) (judged_content test c)
+    ≡ is_readable test c
 readable_is test (Good value) = by (test value)
   where
     by : (b : Bool) → is_readable (λ bytes. true) (cond b (Good value) (Bad None)) ≡ b
@@ -34,25 +36,32 @@ readable_is test (Bad (Some salvage)) = by (test salvage)
     by true = refl
     by false = refl
 
-same_recovered : (test : List ℕ → Bool) (scope : Scope) (shape : Shape) (e : Entry) → recovered_reports scope shape (judged_entry test e) ≡ recovered_reports scope shape e
+same_recovered : (test : List ℕ → Bool) (scope : Scope) (shape : Shape) (e : Entry)
+    → recovered_reports scope shape (judged_entry test e) ≡ recovered_reports scope shape e
 same_recovered test scope.Element shape e = refl
 same_recovered test scope.Storage shape e = refl
 
-entry_reports : (test : List ℕ → Bool) (shape : Shape) (e : Entry) → element_reports (λ bytes. true) shape (judged_entry test e) ≡ element_reports test shape e
+entry_reports : (test : List ℕ → Bool) (shape : Shape) (e : Entry)
+    → element_reports (λ bytes. true) shape (judged_entry test e) ≡ element_reports test shape e
 entry_reports test shape e =
-    ap (λ (l : List Report). cond (is_readable (λ bytes. true) (judged_content test e.content)) l (report_of (element_failed shape.kind) shape (Some e.name) e.lacking ∷ []))
+    ap (λ (l : List Report). cond (is_readable (λ bytes. true) (judged_content test e.content)) l
+    (report_of (element_failed shape.kind) shape (Some e.name) e.lacking ∷ []))
     (same_recovered test shape.scope shape e)
-    ∙ ap (λ (b : Bool). cond b (recovered_reports shape.scope shape e) (report_of (element_failed shape.kind) shape (Some e.name) e.lacking ∷ [])) (readable_is test e.content)
+    ∙ ap (λ (b : Bool). cond b (recovered_reports shape.scope shape e)
+    (report_of (element_failed shape.kind) shape (Some e.name) e.lacking ∷ [])) (readable_is test e.content)
 
 all_reports : (test : List ℕ → Bool) (shape : Shape) (es : List Entry)
-    → flat_map (element_reports (λ bytes. true) shape) (map (judged_entry test) es) ≡ flat_map (element_reports test shape) es
+    → flat_map (element_reports (λ bytes. true) shape) (map (judged_entry test) es)
+    ≡ flat_map (element_reports test shape) es
 all_reports test shape [] = refl
 all_reports test shape (e ∷ es) = rw (entry_reports test shape e, all_reports test shape es) refl
 
 -- the reports of a view that is judged are those of the view with the test
-pub judged_reports : (test : List ℕ → Bool) (shape : Shape) (v : View) → reports (λ bytes. true) shape (judged_view test v) ≡ reports test shape v
+pub judged_reports : (test : List ℕ → Bool) (shape : Shape) (v : View)
+    → reports (λ bytes. true) shape (judged_view test v) ≡ reports test shape v
 unfolding reports
-judged_reports test shape v = ap (λ (l : List Report). report_some (store_recovered shape.kind) shape None v.lacking ++ l) (all_reports test shape v.entries)
+judged_reports test shape v = ap (λ (l : List Report). report_some (store_recovered shape.kind) shape None v.lacking
+    ++ l) (all_reports test shape v.entries)
 
 -- ---- maps
 
@@ -89,6 +98,7 @@ mended_map [] = refl
 mended_map (e ∷ es) = rw (mended_key e e.content, mended_map es) refl
 
 -- copies that are mended change no key
-pub mended_keys : (shape : Shape) (v : View) → synchronised is_encoding (mended_view shape v) ≡ synchronised is_encoding v
+pub mended_keys : (shape : Shape) (v : View) → synchronised is_encoding (mended_view shape v)
+    ≡ synchronised is_encoding v
 unfolding mended_view
 mended_keys shape v = sym (judged_synchronised (mended_view shape v)) ∙ (mended_map v.entries ∙ judged_synchronised v)

@@ -28,10 +28,12 @@ use Rattle.kvs_store.specs.Storages.{IsOpen, keys_in}
 use Rattle.kvs_store.proofs.JudgedKeys.{judged_reports, judged_synchronised, mended_keys}
 use Rattle.kvs_store.proofs.Stored.{key_entries, keys_fit}
 
-module _ (shape : Shape) (config : StorageData) (store : Store) (entries : List Entry) (lies : IsConfigured Keys config shape) (is : IsView shape (stores.view_in store))
+module _ (shape : Shape) (config : StorageData) (store : Store) (entries : List Entry)
+    (lies : IsConfigured Keys config shape) (is : IsView shape (stores.view_in store))
     (shown : entries ≡ stores.entries_of store) where
   pub entries_are_keys : All IsKeyEntry entries
-  entries_are_keys = subst (λ (es : List Entry). All IsKeyEntry es) (sym shown) (key_entries shape (stores.view_in store) lies.kind is)
+  entries_are_keys = subst (λ (es : List Entry). All IsKeyEntry es) (sym shown)
+      (key_entries shape (stores.view_in store) lies.kind is)
 
   pub entries_ascend : IsStrictlySortedBy name_cmp (entry_names entries)
   entries_ascend = subst (λ (es : List Entry). IsStrictlySortedBy name_cmp (entry_names es)) (sym shown) is.names_ascend
@@ -47,28 +49,43 @@ module _ (shape : Shape) (config : StorageData) (store : Store) (entries : List 
 abbrev pub read_session : StorageData → List Entry → Session
 read_session config entries = record { config = config; synced = judged_map entries; visible = judged_map entries }
 
-pub opened_is_open : (shape : Shape) (config : StorageData) (store : Store) (entries : List Entry) (session : Session) → IsConfigured Keys config shape → stores.shape_of store ≡ shape
+pub opened_is_open : (shape : Shape) (config : StorageData) (store : Store) (entries : List Entry) (session : Session)
+    → IsConfigured Keys config shape → stores.shape_of store ≡ shape
     → entries ≡ stores.entries_of store → session ≡ read_session config entries → IsOpen store session
 opened_is_open shape config store entries session lies placed shown is = record {
-  configured = subst (λ (s : Shape). IsConfigured Keys session.config s) (sym placed) (subst (λ (s : Session). IsConfigured Keys s.config shape) (sym is) lies);
+  configured = subst (λ (s : Shape). IsConfigured Keys session.config s) (sym placed)
+      (subst (λ (s : Session). IsConfigured Keys s.config shape) (sym is) lies);
   synced = ap (λ (s : Session). s.synced) is ∙ (ap judged_map shown ∙ judged_synchronised (stores.view_in store));
 }
 
-pub opened_is : (told : Bool) (image : Image) (shape : Shape) (entries : List Entry) (before : View) (copy : Shape) (seen : View) (store : Store) (synced : Map) (all : List Report)
-    → (IsTrue told → opened_of (store_at image shape) ≡ Some before) → stores.view_in store ≡ mended_view shape before → stores.shape_of store ≡ shape
-    → entries ≡ stores.entries_of store → synced ≡ judged_map entries → copy ≡ shape → seen ≡ judged_view is_encoding before
+pub opened_is : (told : Bool) (image : Image) (shape : Shape) (entries : List Entry) (before : View) (copy : Shape)
+    (seen : View) (store : Store) (synced : Map) (all : List Report)
+    → (IsTrue told → opened_of (store_at image shape) ≡ Some before) → stores.view_in store ≡ mended_view shape before
+    → stores.shape_of store ≡ shape
+    → entries ≡ stores.entries_of store → synced ≡ judged_map entries → copy ≡ shape
+    → seen ≡ judged_view is_encoding before
     → all ≡ reports (λ bytes. true) copy seen
-    → IsOpened told image shape is_encoding (record { shape = stores.shape_of store; view = stores.view_in store; synced = synced; reports = all })
-opened_is told image shape entries before copy seen store synced all found view placed shown read same judged reported = record {
-  before = before;
-  seen = found;
-  place = placed;
-  view = view;
-  synced = read ∙ (ap judged_map shown ∙ (judged_synchronised (stores.view_in store) ∙ (ap keys_in view ∙ mended_keys shape before)));
-  reports = reported ∙ (ap (λ (s : Shape). reports (λ bytes. true) s seen) same ∙ (ap (λ (v : View). reports (λ bytes. true) shape v) judged ∙ judged_reports is_encoding shape before));
-}
+    → IsOpened told image shape is_encoding (record {
+      shape = stores.shape_of store;
+      view =
+          stores.view_in store;
+      synced = synced;
+      reports = all;
+    })
+opened_is told image shape entries before copy seen store synced all found view placed shown read same judged reported =
+    record {
+      before = before;
+      seen = found;
+      place = placed;
+      view = view;
+      synced = read ∙ (ap judged_map shown ∙ (judged_synchronised (stores.view_in store)
+          ∙ (ap keys_in view ∙ mended_keys shape before)));
+      reports = reported ∙ (ap (λ (s : Shape). reports (λ bytes. true) s seen) same
+          ∙ (ap (λ (v : View). reports (λ bytes. true) shape v) judged ∙ judged_reports is_encoding shape before));
+    }
 
-pub shape_is : (shape : Shape) (config : StorageData) → IsStorage config → IsConfigured Keys config shape → IsShape shape
+pub shape_is : (shape : Shape) (config : StorageData) → IsStorage config → IsConfigured Keys config shape
+    → IsShape shape
 shape_is shape config is lies = record {
   some = omega (arith, is.some_agree, lies.m);
   enough = omega (arith, is.enough_copies, lies.m, lies.copies);

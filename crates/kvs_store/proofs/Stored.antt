@@ -39,7 +39,8 @@ key_entry shape keys e is = record {
 
 module _ (shape : Shape) (v : View) (keys : shape.kind ≡ Keys) (is : IsView shape v) where
   pub key_entries : All IsKeyEntry v.entries
-  key_entries k d lt = all_at IsKeyEntry v.entries k d (all_less (IsEntryOf shape) IsKeyEntry (key_entry shape keys) v.entries is.each) lt
+  key_entries k d lt = all_at IsKeyEntry v.entries k d (all_less (IsEntryOf shape) IsKeyEntry (key_entry shape keys)
+      v.entries is.each) lt
 
   pub keys_fit : (maximum : ℕ) → shape.allowed ≡ maximum → size_of (judged_map v.entries) ≤ maximum
   keys_fit maximum allows = omega (arith, judged_size v.entries, is.small, allows)

@@ -1,5 +1,6 @@
 -- A sync: what is handed down may be committed, and what the commit makes.
-use Rattle.std.proofs.Common.{◌≡◌, ◌≢◌, ℕ, ◌+◌, ◌*◌, ◌≤◌, ◌<◌, List, [], length, Bool, true, false, refl, sym, ◌∙◌, ap, subst, arith}
+use Rattle.std.proofs.Common.{◌≡◌, ◌≢◌, ℕ, ◌+◌, ◌*◌, ◌≤◌, ◌<◌, List, [], length, Bool, true, false, refl, sym, ◌∙◌, ap}
+use Rattle.std.proofs.Common.{subst, arith}
 use Rattle.std.specs.Prelude.{Option, Some, IsTrue, not, ◌↔◌}
 use Rattle.std.proofs.Math.Nat.{mul-le-mul_left}
 use Rattle.per_base.specs.declared.elements.Content.{Content}
@@ -41,7 +42,8 @@ use Rattle.kvs_store.specs.Synced.{IsSynced, WritesAtMost, is_synced, settled, s
 
 -- ---- where nothing is called
 
-pub none_storing : UntouchedLaw → (told : Bool) (shape : Shape) (after : State) (m : Medium) → IsShape shape → IsLawful told m → IsStoring told shape after m m
+pub none_storing : UntouchedLaw → (told : Bool) (shape : Shape) (after : State) (m : Medium) → IsShape shape
+    → IsLawful told m → IsStoring told shape after m m
 none_storing untouched told shape after m is law = record {
   elsewhere = λ tells file spared. refl;
   outside = λ tells quiet. none_around told shape.place.first shape.place.copies m law quiet;
@@ -52,8 +54,10 @@ none_storing untouched told shape after m is law = record {
 -- an opening, whatever the next state is to be
 pub opened_storing : (told : Bool) (shape : Shape) (old new : Medium)
     → (IsTrue told → Spares (IsOutside shape.place.first shape.place.copies) old.image new.image)
-    → (IsTrue told → Quiet old → EachCase (IsSettledOn (IsOutside shape.place.first shape.place.copies) old.image) old new)
-    → (IsTrue told → (after : State) → KeptThroughout shape after old new) → Elapses old new → (after : State) → IsStoring told shape after old new
+    → (IsTrue told → Quiet old → EachCase (IsSettledOn (IsOutside shape.place.first shape.place.copies) old.image) old
+    new)
+    → (IsTrue told → (after : State) → KeptThroughout shape after old new) → Elapses old new → (after : State)
+    → IsStoring told shape after old new
 opened_storing told shape old new elsewhere outside any_moment time after = record {
   elsewhere = elsewhere;
   outside = outside;
@@ -68,12 +72,15 @@ pub within_none : (copies contents index written : ℕ) → IsWithin copies cont
 within_none copies contents index written = omega arith
 
 pub none_written : (kvs : KvsSession) (m : Medium) → WritesAtMost kvs m m
-none_written kvs m = within_none (shape_of kvs.store).place.copies (map_cost (shape_of kvs.store).kind kvs.session.synced kvs.session.visible)
+none_written kvs m = within_none (shape_of kvs.store).place.copies
+    (map_cost (shape_of kvs.store).kind kvs.session.synced kvs.session.visible)
     (index_length (shape_of kvs.store).kind (synced_view kvs).entries) m.written
 
 -- both maps are then as they were
-pub none_settled : (kvs : KvsSession) → kvs.session.synced ≡ kvs.session.visible → kvs ≡ record kvs { store = kvs.store; session = settled kvs.session }
-none_settled kvs same = ap (λ (m : Map). let later : KvsSession = record kvs { session = record kvs.session { synced = m } } in later) same
+pub none_settled : (kvs : KvsSession) → kvs.session.synced ≡ kvs.session.visible
+    → kvs ≡ record kvs { store = kvs.store; session = settled kvs.session }
+none_settled kvs same = ap (λ (m : Map). let later : KvsSession =
+    record kvs { session = record kvs.session { synced = m } } in later) same
 
 pub none_durable : (told : Bool) (kvs : KvsSession) (index : ℕ) (m : Medium) → is_synced kvs ≡ true
     → IsDurable told (shape_of kvs.store) kvs.session.synced kvs.session.visible index m m
@@ -81,7 +88,8 @@ none_durable told kvs index m same = record {
   durable = λ differ. absurd (cc);
   quiet = λ quiet. quiet;
   clean = λ tells clean. clean;
-  written = within_none (shape_of kvs.store).place.copies (map_cost (shape_of kvs.store).kind kvs.session.synced kvs.session.visible) index m.written;
+  written = within_none (shape_of kvs.store).place.copies
+      (map_cost (shape_of kvs.store).kind kvs.session.synced kvs.session.visible) index m.written;
   passes = refl;
 }
 
@@ -95,60 +103,77 @@ decided false false P one two = let no : false ≡ true = two.1 (one.0 refl) in 
 -- ---- what is handed down
 
 -- a key is as a storage of keys asks
-writable : (kind : StoreKind) → kind ≡ Keys → (key : Element) (bytes : List ℕ) → key.content ≡ Good bytes → IsKey key → IsWritable kind key bytes
+writable : (kind : StoreKind) → kind ≡ Keys → (key : Element) (bytes : List ℕ) → key.content ≡ Good bytes → IsKey key
+    → IsWritable kind key bytes
 writable kind keys key bytes good is =
-    subst (λ (k : StoreKind). IsWritable k key bytes) (sym keys) (record { info = rw is.plain refl; length = (encodes good).1; small = is.small })
+    subst (λ (k : StoreKind). IsWritable k key bytes) (sym keys)
+    (record { info = rw is.plain refl; length = (encodes good).1; small = is.small })
   where
     encodes : key.content ≡ Good bytes → Encodes (Good bytes) key.len
     encodes p = subst (λ (c : Content). Encodes c key.len) p is.measured
 
-held_as : (kind : StoreKind) → kind ≡ Keys → (synced : Option Element) (key : Element) (content : Content) → key.content ≡ content → IsKey key
+held_as : (kind : StoreKind) → kind ≡ Keys → (synced : Option Element) (key : Element) (content : Content)
+    → key.content ≡ content → IsKey key
     → (is_readable content ≡ false → synced ≡ Some key) → IsHeld kind synced key content
 held_as kind keys synced key (Good bytes) p is unreadable = writable kind keys key bytes p is
 held_as kind keys synced key (Bad salvage) p is unreadable = unreadable refl
 
-module _ (kvs : KvsSession) (is : IsOpen kvs.store (session_of kvs)) (read : IsView (shape_of kvs.store) (view_in kvs.store)) (maps : AreTwoMaps kvs.session)
-    (room : HasRoom kvs.config kvs.session) (changes : List Change) (made : MakeInto changes kvs.session.synced kvs.session.visible) where
+module _ (kvs : KvsSession) (is : IsOpen kvs.store (session_of kvs))
+    (read : IsView (shape_of kvs.store) (view_in kvs.store)) (maps : AreTwoMaps kvs.session)
+    (room : HasRoom kvs.config kvs.session) (changes : List Change)
+    (made : MakeInto changes kvs.session.synced kvs.session.visible) where
   next_map : IsNext (shape_of kvs.store) kvs.session.synced kvs.session.visible
   next_map = record {
     names_ascend = maps.visible.ordered;
     few = maps.visible.few;
     small = omega (arith, room.visible, is.configured.allowed);
-    each = λ name key at. held_as (shape_of kvs.store).kind is.configured.kind (element_at kvs.session.synced name) key key.content refl
+    each = λ name key at. held_as (shape_of kvs.store).kind is.configured.kind (element_at kvs.session.synced name) key
+        key.content refl
         (maps.visible.keys name key at) (maps.unreadable name key at);
   }
 
-  pub is_sync : IsSync (shape_of kvs.store) is_encoding (view_in kvs.store) kvs.session.synced kvs.session.visible changes
+  pub is_sync : IsSync (shape_of kvs.store) is_encoding (view_in kvs.store) kvs.session.synced kvs.session.visible
+      changes
   is_sync = record { read = read; held = is.synced; next = next_map; made = made }
 
   visible_passes : Passes is_encoding kvs.session.visible
-  visible_passes name key bytes at good = (subst (λ (c : Content). Encodes c key.len) good (maps.visible.keys name key at).measured).0
+  visible_passes name key bytes at good = (subst (λ (c : Content). Encodes c key.len) good
+      (maps.visible.keys name key at).measured).0
 
-  next_keys : HeldLaw → keys_in (committed (shape_of kvs.store) (view_in kvs.store) kvs.session.synced kvs.session.visible) ≡ kvs.session.visible
-  next_keys held = held (shape_of kvs.store) is_encoding (view_in kvs.store) kvs.session.synced kvs.session.visible changes is_sync visible_passes
+  next_keys : HeldLaw → keys_in (committed (shape_of kvs.store) (view_in kvs.store) kvs.session.synced
+      kvs.session.visible) ≡ kvs.session.visible
+  next_keys held = held (shape_of kvs.store) is_encoding (view_in kvs.store) kvs.session.synced kvs.session.visible
+      changes is_sync visible_passes
 
   -- the storage after the commit keeps what always holds
-  pub open_later : CommittedLaw → HeldLaw → (later : Store) → shape_of later ≡ shape_of kvs.store → view_in later ≡ committed_by (shape_of kvs.store) (view_in kvs.store) changes
+  pub open_later : CommittedLaw → HeldLaw → (later : Store) → shape_of later ≡ shape_of kvs.store
+      → view_in later ≡ committed_by (shape_of kvs.store) (view_in kvs.store) changes
       → IsOpen later (record (session_of kvs) { synced = kvs.session.visible })
   open_later law held later shape view = record {
     configured = subst (λ (s : Shape). IsConfigured Keys kvs.config s) (sym shape) is.configured;
-    synced = sym (ap keys_in (view ∙ law (shape_of kvs.store) is_encoding (view_in kvs.store) kvs.session.synced kvs.session.visible changes is_sync) ∙ next_keys held);
+    synced = sym (ap keys_in (view ∙ law (shape_of kvs.store) is_encoding (view_in kvs.store) kvs.session.synced
+        kvs.session.visible changes is_sync) ∙ next_keys held);
   }
 
 -- ---- what a commit makes
 
-differ_view : (kvs : KvsSession) → is_synced kvs ≡ false → synced_view kvs ≡ committed (shape_of kvs.store) (view_in kvs.store) kvs.session.synced kvs.session.visible
+differ_view : (kvs : KvsSession) → is_synced kvs ≡ false
+    → synced_view kvs ≡ committed (shape_of kvs.store) (view_in kvs.store) kvs.session.synced kvs.session.visible
 differ_view kvs differ = rw differ refl
 
-within_more : (copies contents more index before after : ℕ) → contents ≤ more → IsWithin copies contents index before after → IsWithin copies more index before after
+within_more : (copies contents more index before after : ℕ) → contents ≤ more
+    → IsWithin copies contents index before after → IsWithin copies more index before after
 within_more copies contents more index before after less within =
-    let grows : copies * (contents + index + 88) ≤ copies * (more + index + 88) = mul-le-mul_left copies (omega arith) in
+    let grows : copies * (contents + index + 88) ≤ copies * (more + index + 88) =
+    mul-le-mul_left copies (omega arith) in
     omega (arith, within, grows)
 
-module _ (kvs : KvsSession) (changes : List Change) (sync : IsSync (shape_of kvs.store) is_encoding (view_in kvs.store) kvs.session.synced kvs.session.visible changes)
+module _ (kvs : KvsSession) (changes : List Change) (sync : IsSync (shape_of kvs.store) is_encoding (view_in kvs.store)
+    kvs.session.synced kvs.session.visible changes)
     (differ : is_synced kvs ≡ false) (law : CommittedLaw) where
   view_then : committed_by (shape_of kvs.store) (view_in kvs.store) changes ≡ synced_view kvs
-  view_then = law (shape_of kvs.store) is_encoding (view_in kvs.store) kvs.session.synced kvs.session.visible changes sync ∙ sym (differ_view kvs differ)
+  view_then = law (shape_of kvs.store) is_encoding (view_in kvs.store) kvs.session.synced kvs.session.visible changes
+      sync ∙ sym (differ_view kvs differ)
 
   abbrev pub cost_then : ℕ
   cost_then = commit_cost (shape_of kvs.store).kind (entries_of kvs.store) changes
@@ -157,21 +182,31 @@ module _ (kvs : KvsSession) (changes : List Change) (sync : IsSync (shape_of kvs
   cost_between = map_cost (shape_of kvs.store).kind kvs.session.synced kvs.session.visible
 
   costs : CostLaw → cost_then ≤ cost_between
-  costs cost = cost (shape_of kvs.store) is_encoding (view_in kvs.store) kvs.session.synced kvs.session.visible changes sync
+  costs cost = cost (shape_of kvs.store) is_encoding (view_in kvs.store) kvs.session.synced kvs.session.visible changes
+      sync
 
   pub commit_at_most : CostLaw → (old new : Medium)
-      → IsWithin (shape_of kvs.store).place.copies cost_then (index_length (shape_of kvs.store).kind (committed_by (shape_of kvs.store) (view_in kvs.store) changes).entries) old.written new.written
+      → IsWithin (shape_of kvs.store).place.copies cost_then
+      (index_length (shape_of kvs.store).kind (committed_by (shape_of kvs.store) (view_in kvs.store)
+      changes).entries) old.written new.written
       → WritesAtMost kvs old new
-  commit_at_most cost old new within = subst (λ (v : View). IsWithin (shape_of kvs.store).place.copies cost_between (index_length (shape_of kvs.store).kind v.entries) old.written new.written) view_then
-      (within_more (shape_of kvs.store).place.copies cost_then cost_between (index_length (shape_of kvs.store).kind (committed_by (shape_of kvs.store) (view_in kvs.store) changes).entries)
+  commit_at_most cost old new within = subst (λ (v : View).
+      IsWithin (shape_of kvs.store).place.copies cost_between (index_length (shape_of kvs.store).kind v.entries)
+      old.written new.written) view_then
+      (within_more (shape_of kvs.store).place.copies cost_then cost_between
+      (index_length (shape_of kvs.store).kind (committed_by (shape_of kvs.store) (view_in kvs.store)
+      changes).entries)
       old.written new.written (costs cost) within)
 
   pub commit_synced : CostLaw → OthersLaw → (told : Bool) (later : Store) (old new : Medium)
-      → view_in later ≡ committed_by (shape_of kvs.store) (view_in kvs.store) changes → shape_of later ≡ shape_of kvs.store → IsUsed told new.image later
+      → view_in later ≡ committed_by (shape_of kvs.store) (view_in kvs.store) changes
+      → shape_of later ≡ shape_of kvs.store → IsUsed told new.image later
       → (IsTrue told → IsClean (shape_of kvs.store) old.image → IsClean (shape_of kvs.store) new.image) → Quiet new
-      → IsWithin (shape_of kvs.store).place.copies cost_then (length (index_text (index_in later))) old.written new.written
+      → IsWithin (shape_of kvs.store).place.copies cost_then (length (index_text (index_in later))) old.written
+      new.written
       → KeepsOthers changes (index_in kvs.store).entries (index_in later).entries → (index_in later).format ≡ 2
-      → length (index_text (index_in later)) ≡ index_length (shape_of kvs.store).kind (entries_of later) → new.faults ≡ old.faults
+      → length (index_text (index_in later)) ≡ index_length (shape_of kvs.store).kind (entries_of later)
+      → new.faults ≡ old.faults
       → IsSynced told kvs (record kvs { store = later; session = settled kvs.session }) old new
   commit_synced cost others told later old new view shape used clean quiet written carried format text passes = record {
     session = refl;
@@ -182,7 +217,8 @@ module _ (kvs : KvsSession) (changes : List Change) (sync : IsSync (shape_of kvs
       durable = λ differs. quiet;
       quiet = λ before. quiet;
       clean = clean;
-      written = within_more (shape_of kvs.store).place.copies cost_then cost_between (length (index_text (index_in later))) old.written new.written (costs cost) written;
+      written = within_more (shape_of kvs.store).place.copies cost_then cost_between
+          (length (index_text (index_in later))) old.written new.written (costs cost) written;
       passes = passes;
     };
     carried = λ name same. carried name (others kvs.session.synced kvs.session.visible changes sync.made name same);
@@ -191,13 +227,17 @@ module _ (kvs : KvsSession) (changes : List Change) (sync : IsSync (shape_of kvs
   }
 
   pub commit_storing : (told : Bool) (old new : Medium)
-      → (IsTrue told → Spares (IsOutside (shape_of kvs.store).place.first (shape_of kvs.store).place.copies) old.image new.image)
-      → (IsTrue told → Quiet old → EachCase (IsSettledOn (IsOutside (shape_of kvs.store).place.first (shape_of kvs.store).place.copies) old.image) old new)
-      → (IsTrue told → KeptThroughout (shape_of kvs.store) (Opens (committed_by (shape_of kvs.store) (view_in kvs.store) changes) []) old new)
+      → (IsTrue told → Spares (IsOutside (shape_of kvs.store).place.first (shape_of kvs.store).place.copies) old.image
+      new.image)
+      → (IsTrue told → Quiet old → EachCase (IsSettledOn (IsOutside (shape_of kvs.store).place.first
+      (shape_of kvs.store).place.copies) old.image) old new)
+      → (IsTrue told → KeptThroughout (shape_of kvs.store)
+      (Opens (committed_by (shape_of kvs.store) (view_in kvs.store) changes) []) old new)
       → Elapses old new → IsStoring told (shape_of kvs.store) (Opens (synced_view kvs) []) old new
   commit_storing told old new elsewhere outside any_moment time = record {
     elsewhere = elsewhere;
     outside = outside;
-    any_moment = λ tells. subst (λ (v : View). KeptThroughout (shape_of kvs.store) (Opens v []) old new) view_then (any_moment tells);
+    any_moment = λ tells. subst (λ (v : View). KeptThroughout (shape_of kvs.store) (Opens v []) old new) view_then
+        (any_moment tells);
     time = time;
   }

@@ -4,4 +4,10 @@ use Rattle.element_maps.specs.Storages.{Opened}
 use Rattle.kvs_store.specs.declared.opening.OpenedKvs.{OpenedKvs}
 
 abbrev pub given : OpenedKvs → Opened
-given o = record { shape = shape_of o.kvs.store; view = view_in o.kvs.store; synced = o.kvs.session.synced; reports = o.reports.items }
+given o = record {
+  shape = shape_of o.kvs.store;
+  view = view_in o.kvs.store;
+  synced = o.kvs.session.synced;
+  reports =
+      o.reports.items;
+}

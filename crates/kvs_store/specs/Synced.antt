@@ -27,7 +27,8 @@ synced_view kvs = maps.synced_view (shape_of kvs.store) (view_in kvs.store) kvs.
 
 -- in each copy at most the keys that differ, and the next index
 abbrev pub WritesAtMost : KvsSession → (old new : Medium) → Type 0
-WritesAtMost kvs old new = IsWithin (shape_of kvs.store).place.copies (map_cost (shape_of kvs.store).kind kvs.session.synced kvs.session.visible)
+WritesAtMost kvs old new = IsWithin (shape_of kvs.store).place.copies
+    (map_cost (shape_of kvs.store).kind kvs.session.synced kvs.session.visible)
     (index_length (shape_of kvs.store).kind (synced_view kvs).entries) old.written new.written
 
 -- what the calls see is durable in a later storage, and all else of it stays
@@ -36,11 +37,14 @@ pub record IsSynced (told : Bool) (kvs later : KvsSession) (old new : Medium) : 
   pub shape : shape_of later.store ≡ shape_of kvs.store
   pub view : view_in later.store ≡ synced_view kvs
   pub used : IsUsed told new.image later.store
-  pub durable : IsDurable told (shape_of kvs.store) kvs.session.synced kvs.session.visible (length (index_text (index_in later.store))) old new
+  pub durable : IsDurable told (shape_of kvs.store) kvs.session.synced kvs.session.visible
+      (length (index_text (index_in later.store))) old new
   -- its index
-  pub carried : KeepsEqual kvs.session.synced kvs.session.visible (index_in kvs.store).entries (index_in later.store).entries
+  pub carried : KeepsEqual kvs.session.synced kvs.session.visible (index_in kvs.store).entries
+      (index_in later.store).entries
   pub format : is_synced kvs ≡ false → (index_in later.store).format ≡ 2
-  pub text : is_synced kvs ≡ false → length (index_text (index_in later.store)) ≡ index_length (shape_of kvs.store).kind (view_in later.store).entries
+  pub text : is_synced kvs ≡ false → length (index_text (index_in later.store))
+      ≡ index_length (shape_of kvs.store).kind (view_in later.store).entries
 
 -- all but a failure of the device hands the storage back, and then this holds
 abbrev pub HandsBack : KvsSession → SyncFault → Type 0 → Type 0

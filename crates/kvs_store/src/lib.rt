@@ -1,15 +1,17 @@
 //! A key-value storage on its disk.
 //!
-//! [`open_kvs`] opens the storage and reads all of its keys into memory, each judged: bytes that encode no value are unreadable. A
-//! [`Kvs`] then holds what is synchronised and what the calls see. Every call but [`Kvs::sync_to_storage`] works on what the calls
-//! see alone and touches no disk; a sync hands down exactly the keys that differ, all at once.
+//! [`open_kvs`] opens the storage and reads all of its keys into memory, each judged: bytes that encode no value are
+//! unreadable. A [`Kvs`] then holds what is synchronised and what the calls see. Every call but
+//! [`Kvs::sync_to_storage`] works on what the calls see alone and touches no disk; a sync hands down exactly the keys
+//! that differ, all at once.
 //!
-//! The promises: an opening shows just what the storage stands for, and reports just what was lacking or unreadable before it. A
-//! sync that answers Ok has made what the calls see the storage's content, and one that hands the storage back has done nothing. A
-//! stop at any moment leaves the storage of before or that of after, and no file outside its place changes.
+//! The promises: an opening shows just what the storage stands for, and reports just what was lacking or unreadable
+//! before it. A sync that answers Ok has made what the calls see the storage's content, and one that hands the storage
+//! back has done nothing. A stop at any moment leaves the storage of before or that of after, and no file outside its
+//! place changes.
 //!
-//! Limits: those of the layers below, 1,024 keys and 4,194,304 bytes; a storage is used with the disk of its opening, by one caller
-//! at a time. Dropping a [`Kvs`] drops its pending changes.
+//! Limits: those of the layers below, 1,024 keys and 4,194,304 bytes; a storage is used with the disk of its opening,
+//! by one caller at a time. Dropping a [`Kvs`] drops its pending changes.
 #![tactic(auto)]
 
 mod handing;

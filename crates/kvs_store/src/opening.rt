@@ -36,12 +36,13 @@ pub struct OpenedKvs {
     pub reports: Vec<Report>,
 }
 
-/// Opens a key-value storage: brings every copy to the text at which it opens, writes each key again, on which enough copies agree, in
-/// the copies that lack it, and reads all keys.
+/// Opens a key-value storage: brings every copy to the text at which it opens, writes each key again, on which enough
+/// copies agree, in the copies that lack it, and reads all keys.
 ///
 /// # Errors
 ///
-/// `Corrupt` exactly where no text qualifies: then nothing is written. `Device` where the disk fails, and `OutOfMemory`.
+/// `Corrupt` exactly where no text qualifies: then nothing is written. `Device` where the disk fails, and
+/// `OutOfMemory`.
 pub fn open_kvs<D: Disk>(
     alloc: Global,
     disk: &mut D,
@@ -51,17 +52,21 @@ pub fn open_kvs<D: Disk>(
     requires valid { IsStorage (storage_data config.now) }
     requires configured { IsConfigured Keys (storage_data config.now) shape }
 
-    // The storage in use, by the index that was found; what is synchronised is the keys that it shows, and nothing is pending.
+    // The storage in use, by the index that was found; what is synchronised is the keys that it shows, and nothing is
+    // pending.
     ensures opened { IfOk result (λ o. IsOpened D.told (D.medium disk.old).image shape is_encoding (given o)) }
-    ensures adopted { IsTrue D.told → IfOk result (λ o. OpensBy (D.medium disk.old).image shape (index_in o.kvs.store)) }
+    ensures adopted { IsTrue D.told → IfOk result (λ o. OpensBy (D.medium disk.old).image shape
+        (index_in o.kvs.store)) }
     ensures session { IfOk result (λ o. o.kvs.session.visible ≡ o.kvs.session.synced) }
     ensures config { IfOk result (λ o. o.kvs.config ≡ storage_data config.now) }
     ensures used { IfOk result (λ o. IsUsed D.told (D.medium disk.new).image o.kvs.store) }
-    ensures clean { IsTrue D.told → IsClean shape (D.medium disk.old).image → OnOk result (IsClean shape (D.medium disk.new).image) }
+    ensures clean { IsTrue D.told → IsClean shape (D.medium disk.old).image
+        → OnOk result (IsClean shape (D.medium disk.new).image) }
     ensures quiet { OnOk result (Quiet (D.medium disk.new)) }
 
     // A corrupt storage is left as it is.
-    ensures corrupt { IsTrue D.told → IsErrOf result StoreError.Corrupt → opened_of (store_at (D.medium disk.old).image shape) ≡ None }
+    ensures corrupt { IsTrue D.told → IsErrOf result StoreError.Corrupt
+        → opened_of (store_at (D.medium disk.old).image shape) ≡ None }
     ensures untouched { IsErrOf result StoreError.Corrupt → (D.medium disk.new).image ≡ (D.medium disk.old).image }
     ensures unwritten { IsErrOf result StoreError.Corrupt → (D.medium disk.new).written ≡ (D.medium disk.old).written }
     ensures settled { IsErrOf result StoreError.Corrupt → Quiet (D.medium disk.new) }
@@ -73,7 +78,8 @@ pub fn open_kvs<D: Disk>(
     ensures unfailed { IsErrOf result StoreError.Corrupt → (D.medium disk.new).faults ≡ (D.medium disk.old).faults }
 
     // Where nothing lacks, nothing is written.
-    ensures idle { IsTrue D.told → LacksNothing shape (D.medium disk.old).image → IsAsBefore (D.medium disk.old) (D.medium disk.new) }
+    ensures idle { IsTrue D.told → LacksNothing shape (D.medium disk.old).image
+        → IsAsBefore (D.medium disk.old) (D.medium disk.new) }
 
     // No file outside the place changes, and a stop at any moment keeps the storage, whatever its next state is to be.
     ensures storing { (after : State) → IsStoring D.told shape after (D.medium disk.old) (D.medium disk.new) }

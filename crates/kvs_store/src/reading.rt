@@ -63,17 +63,20 @@ impl Kvs {
     ///
     /// # Errors
     ///
-    /// Those of `get_any`; `DataTypeMismatch` with the stored and the asked type where they differ; `OutOfMemory`, and this only in
-    /// the place of a refusal that carries names or texts.
+    /// Those of `get_any`; `DataTypeMismatch` with the stored and the asked type where they differ; `OutOfMemory`, and
+    /// this only in the place of a refusal that carries names or texts.
     pub fn get_as(&self, name: &Name, asked: &ValueType) -> Result<&Value, PerError>
         requires { IsTrue (kind_fits (kind_of asked.now)) }
         ensures ok { IfOk result (λ value.
-            calls.get_as (session_of self.now).config (session_of self.now).visible name.now (kind_of asked.now) ≡ Ok value.now) }
+            calls.get_as (session_of self.now).config (session_of self.now).visible name.now (kind_of asked.now)
+            ≡ Ok value.now) }
         ensures valid { IfOk result (λ value. IsValue value.now) }
         ensures refused { IfErr result (λ error.
-            IsRefusal (calls.get_as (session_of self.now).config (session_of self.now).visible name.now (kind_of asked.now)) error) }
+            IsRefusal (calls.get_as (session_of self.now).config (session_of self.now).visible name.now
+            (kind_of asked.now)) error) }
         ensures memory { IfErr result (λ error. error ≡ PerError.OutOfMemory
-            → IsTextRefusal (calls.get_as (session_of self.now).config (session_of self.now).visible name.now (kind_of asked.now))) }
+            → IsTextRefusal (calls.get_as (session_of self.now).config (session_of self.now).visible name.now
+            (kind_of asked.now))) }
     {
         self.session.get_as(name, asked)
     }
@@ -85,7 +88,8 @@ impl Kvs {
     /// Those of `get_any`; `DataTypeMismatch` with the stored and the asked type where they differ; `OutOfMemory`.
     pub fn get_value<T: PerValue>(&self, name: &Name) -> Result<T, PerError>
         ensures ok { IfOk result (λ thing.
-            calls.get_as (session_of self.now).config (session_of self.now).visible name.now T.kind ≡ Ok (T.tree thing)) }
+            calls.get_as (session_of self.now).config (session_of self.now).visible name.now T.kind
+            ≡ Ok (T.tree thing)) }
         ensures refused { IfErr result (λ error.
             IsRefusal (calls.get_as (session_of self.now).config (session_of self.now).visible name.now T.kind) error) }
         ensures memory { IfErr result (λ error. error ≡ PerError.OutOfMemory

@@ -13,8 +13,8 @@ use kvs_core::KeySession;
 use std::alloc::Global;
 use std::marker::Model;
 
-/// An open key-value storage. It is used with the disk of its opening, and dropping it drops its pending changes. Contracts see it as
-/// a `KvsSession`.
+/// An open key-value storage. It is used with the disk of its opening, and dropping it drops its pending changes.
+/// Contracts see it as a `KvsSession`.
 #[derive(Drop)]
 pub struct Kvs {
     pub(crate) alloc: Global,
@@ -35,7 +35,12 @@ impl Model for Kvs {
 
     ghost use Rattle.kvs_store.specs.Storages.{IsOpen};
 
-    ghost view = { λ k. record { config = k.session.config; store = k.store; session = record { synced = k.session.synced; visible = k.session.visible } } };
+    ghost view = { λ k. record {
+      config = k.session.config;
+      store = k.store;
+      session =
+          record { synced = k.session.synced; visible = k.session.visible };
+    } };
 
     ghost invariant = { λ k. IsOpen k.store k.session };
 }

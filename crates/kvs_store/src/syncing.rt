@@ -8,7 +8,8 @@ ghost use Rattle.element_store.specs.Committing.{index_in, index_length};
 ghost use Rattle.element_store.specs.Stores.{IsUsed, shape_of, view_in};
 ghost use Rattle.element_maps.specs.Differences.{MakeInto};
 ghost use Rattle.element_maps.specs.Storages.{IsDurable, IsStoring, KeepsEqual};
-ghost use Rattle.kvs_store.specs.Synced.{HandsBack, IsDeviceFault, IsSynced, WritesAtMost, is_synced, settled, synced_view};
+ghost use Rattle.kvs_store.specs.Synced.{HandsBack, IsDeviceFault, IsSynced, WritesAtMost, is_synced, settled};
+ghost use Rattle.kvs_store.specs.Synced.{synced_view};
 
 use crate::storages::Kvs;
 use disk_model::Disk;
@@ -29,13 +30,14 @@ pub enum SyncFault {
 }
 
 impl Kvs {
-    /// Makes what the calls see the content of the storage, all at once: a stop at any moment leaves the storage of before or that of
-    /// after. Only the keys that differ are written, and where none does, the disk is not called and no memory is taken.
+    /// Makes what the calls see the content of the storage, all at once: a stop at any moment leaves the storage of
+    /// before or that of after. Only the keys that differ are written, and where none does, the disk is not called and
+    /// no memory is taken.
     ///
     /// # Errors
     ///
-    /// `WornOut` exactly where the maps differ and the generation is the greatest, and `OutOfMemory`, hand the storage back with its
-    /// pending changes before any call of the disk. `Device` closes it.
+    /// `WornOut` exactly where the maps differ and the generation is the greatest, and `OutOfMemory`, hand the storage
+    /// back with its pending changes before any call of the disk. `Device` closes it.
     pub fn sync_to_storage<D: Disk>(self, disk: &mut D) -> Result<Kvs, SyncFault>
         requires { IsUsed D.told (D.medium disk.old).image self.store }
 
@@ -50,11 +52,14 @@ impl Kvs {
 
         // What is handed back is unchanged, and so is the disk. Only a disk that failed closes the storage.
         ensures handed_back { IfErr result (λ fault. HandsBack self fault (disk.new ≡ disk.old)) }
-        ensures worn_out { (result ≡ Err (SyncFault.WornOut self)) ↔ ((is_synced self ≡ false) × IsTrue (is_worn (view_in self.store))) }
-        ensures cause { IfErr result (λ fault. IsDeviceFault fault → Rose (D.medium disk.old).faults (D.medium disk.new).faults) }
+        ensures worn_out { (result ≡ Err (SyncFault.WornOut self)) ↔
+            ((is_synced self ≡ false) × IsTrue (is_worn (view_in self.store))) }
+        ensures cause { IfErr result (λ fault. IsDeviceFault fault
+            → Rose (D.medium disk.old).faults (D.medium disk.new).faults) }
 
         // What differed is durable: in each copy the keys that do, and the index.
-        ensures durable { IfOk result (λ kvs. IsDurable D.told (shape_of self.store) self.session.synced self.session.visible
+        ensures durable { IfOk result (λ kvs. IsDurable D.told (shape_of self.store) self.session.synced
+            self.session.visible
             (length (index_text (index_in kvs.store))) (D.medium disk.old) (D.medium disk.new)) }
         ensures at_most { WritesAtMost self (D.medium disk.old) (D.medium disk.new) }
 
@@ -66,7 +71,8 @@ impl Kvs {
             ≡ index_length (shape_of self.store).kind (view_in kvs.store).entries) }
 
         // No file outside the place changes, and a stop at any moment leaves the storage of before or that of after.
-        ensures storing { IsStoring D.told (shape_of self.store) (Opens (synced_view self) []) (D.medium disk.old) (D.medium disk.new) }
+        ensures storing { IsStoring D.told (shape_of self.store) (Opens (synced_view self) []) (D.medium disk.old)
+            (D.medium disk.new) }
     {
         untouched_is_kept();
         syncs_are_decided();
@@ -99,9 +105,11 @@ impl Kvs {
         ensures synced { IfOk result (λ kvs. IsSynced D.told self kvs (D.medium disk.old) (D.medium disk.new)) }
         ensures handed_back { IfErr result (λ fault. HandsBack self fault (disk.new ≡ disk.old)) }
         ensures not_worn_out { result ≢ Err (SyncFault.WornOut self) }
-        ensures cause { IfErr result (λ fault. IsDeviceFault fault → Rose (D.medium disk.old).faults (D.medium disk.new).faults) }
+        ensures cause { IfErr result (λ fault. IsDeviceFault fault
+            → Rose (D.medium disk.old).faults (D.medium disk.new).faults) }
         ensures at_most { WritesAtMost self (D.medium disk.old) (D.medium disk.new) }
-        ensures storing { IsStoring D.told (shape_of self.store) (Opens (synced_view self) []) (D.medium disk.old) (D.medium disk.new) }
+        ensures storing { IsStoring D.told (shape_of self.store) (Opens (synced_view self) []) (D.medium disk.old)
+            (D.medium disk.new) }
     {
         changes_make_maps();
         self.holds();

@@ -20,16 +20,19 @@ impl Kvs {
     ///
     /// # Errors
     ///
-    /// `IllegalWriteAccess` where the storage is read-only; `DataTypeMismatch` where the value's type differs from the configured one,
-    /// or for a key that is not configured from that of its visible readable value; `LimitReached` with `Elements` where the name is not
-    /// visible and 1,024 are; `OutOfStorageSpace` where the visible size would exceed the maximum, with both numbers; `OutOfMemory`.
+    /// `IllegalWriteAccess` where the storage is read-only; `DataTypeMismatch` where the value's type differs from the
+    /// configured one, or for a key that is not configured from that of its visible readable value; `LimitReached` with
+    /// `Elements` where the name is not visible and 1,024 are; `OutOfStorageSpace` where the visible size would exceed
+    /// the maximum, with both numbers; `OutOfMemory`.
     pub fn set_any(&mut self, name: &Name, value: Value) -> Result<(), PerError>
-        ensures ok { OnOk result (calls.set_any (session_of self.old).config (session_of self.old).visible name.now value ≡ Ok (session_of self.new).visible) }
+        ensures ok { OnOk result (calls.set_any (session_of self.old).config (session_of self.old).visible name.now
+            value ≡ Ok (session_of self.new).visible) }
         ensures refused { IfErr result (λ error.
             IsRefusal (calls.set_any (session_of self.old).config (session_of self.old).visible name.now value) error) }
         // Want of memory stands for want of room alone.
         ensures memory { IfErr result (λ error. error ≡ PerError.OutOfMemory
-            → NeedsMemory (calls.takes_any (session_of self.old).config (session_of self.old).visible name.now (type_of value))) }
+            → NeedsMemory (calls.takes_any (session_of self.old).config (session_of self.old).visible name.now
+            (type_of value))) }
         ensures beside { self.new ≡ showing self.old (session_of self.new).visible }
         ensures unchanged { OnErr result (self.new ≡ self.old) }
     {
@@ -42,12 +45,15 @@ impl Kvs {
     ///
     /// `LimitReached` with `ValueDepth` or `ValueBytes` where the value is too deep or too long; then as `set_any`.
     pub fn set_value<T: PerValue>(&mut self, name: &Name, value: &T) -> Result<(), PerError>
-        ensures ok { OnOk result (calls.set_value (session_of self.old).config (session_of self.old).visible name.now (T.tree value.now) ≡ Ok (session_of self.new).visible) }
+        ensures ok { OnOk result (calls.set_value (session_of self.old).config (session_of self.old).visible name.now
+            (T.tree value.now) ≡ Ok (session_of self.new).visible) }
         ensures refused { IfErr result (λ error.
-            IsRefusal (calls.set_value (session_of self.old).config (session_of self.old).visible name.now (T.tree value.now)) error) }
+            IsRefusal (calls.set_value (session_of self.old).config (session_of self.old).visible name.now
+            (T.tree value.now)) error) }
         // Want of memory stands for want of room alone, but where the value itself takes memory, which is made first.
         ensures memory { IfErr result (λ error. error ≡ PerError.OutOfMemory → TakesMemory T.kind
-            ⊎ NeedsMemory (calls.takes_any (session_of self.old).config (session_of self.old).visible name.now (type_of (T.tree value.now)))) }
+            ⊎ NeedsMemory (calls.takes_any (session_of self.old).config (session_of self.old).visible name.now
+            (type_of (T.tree value.now)))) }
         ensures beside { self.new ≡ showing self.old (session_of self.new).visible }
         ensures unchanged { OnErr result (self.new ≡ self.old) }
     {
@@ -60,8 +66,10 @@ impl Kvs {
     ///
     /// `IllegalWriteAccess` where the storage is read-only; `KeyNotFound` where the name is not visible.
     pub fn remove_key(&mut self, name: &Name) -> Result<(), PerError>
-        ensures ok { OnOk result (calls.remove_key (session_of self.old).config (session_of self.old).visible name.now ≡ Ok (session_of self.new).visible) }
-        ensures refused { IfErr result (λ error. calls.remove_key (session_of self.old).config (session_of self.old).visible name.now ≡ Err error) }
+        ensures ok { OnOk result (calls.remove_key (session_of self.old).config (session_of self.old).visible name.now
+            ≡ Ok (session_of self.new).visible) }
+        ensures refused { IfErr result (λ error. calls.remove_key (session_of self.old).config
+            (session_of self.old).visible name.now ≡ Err error) }
         ensures beside { self.new ≡ showing self.old (session_of self.new).visible }
         ensures unchanged { OnErr result (self.new ≡ self.old) }
     {
@@ -74,8 +82,10 @@ impl Kvs {
     ///
     /// `IllegalWriteAccess` where the storage is read-only.
     pub fn remove_all_keys(&mut self) -> Result<(), PerError>
-        ensures ok { OnOk result (calls.remove_all_keys (session_of self.old).config (session_of self.old).visible ≡ Ok (session_of self.new).visible) }
-        ensures refused { IfErr result (λ error. calls.remove_all_keys (session_of self.old).config (session_of self.old).visible ≡ Err error) }
+        ensures ok { OnOk result (calls.remove_all_keys (session_of self.old).config (session_of self.old).visible
+            ≡ Ok (session_of self.new).visible) }
+        ensures refused { IfErr result (λ error. calls.remove_all_keys (session_of self.old).config
+            (session_of self.old).visible ≡ Err error) }
         ensures beside { self.new ≡ showing self.old (session_of self.new).visible }
         ensures unchanged { OnErr result (self.new ≡ self.old) }
     {
@@ -86,16 +96,18 @@ impl Kvs {
     ///
     /// # Errors
     ///
-    /// `IllegalWriteAccess` where the storage is read-only; `KeyNotFound` where the name is not visible; `OutOfStorageSpace` where the
-    /// initial value does not fit; `OutOfMemory`.
+    /// `IllegalWriteAccess` where the storage is read-only; `KeyNotFound` where the name is not visible;
+    /// `OutOfStorageSpace` where the initial value does not fit; `OutOfMemory`.
     pub fn recover_key(&mut self, name: &Name) -> Result<(), PerError>
-        ensures ok { OnOk result (calls.recover_key (session_of self.old).config (session_of self.old).visible name.now ≡ Ok (session_of self.new).visible) }
+        ensures ok { OnOk result (calls.recover_key (session_of self.old).config (session_of self.old).visible name.now
+            ≡ Ok (session_of self.new).visible) }
         ensures refused { IfErr result (λ error.
             IsRefusal (calls.recover_key (session_of self.old).config (session_of self.old).visible name.now) error) }
         // Want of memory stands for no refusal, and comes only where a salvage or an initial value is taken.
         ensures memory { IfErr result (λ error. error ≡ PerError.OutOfMemory
             → NeedsMemory (calls.recover_key (session_of self.old).config (session_of self.old).visible name.now)) }
-        ensures copies { IfErr result (λ error. error ≡ PerError.OutOfMemory → (key : Element) → element_at (session_of self.old).visible name.now ≡ Some key
+        ensures copies { IfErr result (λ error. error ≡ PerError.OutOfMemory → (key : Element)
+            → element_at (session_of self.old).visible name.now ≡ Some key
             → calls.TakesCopy (initial_of (session_of self.old).config name.now) key.content) }
         ensures beside { self.new ≡ showing self.old (session_of self.new).visible }
         ensures unchanged { OnErr result (self.new ≡ self.old) }
@@ -107,10 +119,11 @@ impl Kvs {
     ///
     /// # Errors
     ///
-    /// `IllegalWriteAccess` where the storage is read-only; `InitValueNotAvailable` where there is no initial value; `LimitReached` with
-    /// `Elements`; `OutOfStorageSpace`; `OutOfMemory`.
+    /// `IllegalWriteAccess` where the storage is read-only; `InitValueNotAvailable` where there is no initial value;
+    /// `LimitReached` with `Elements`; `OutOfStorageSpace`; `OutOfMemory`.
     pub fn reset_key(&mut self, name: &Name) -> Result<(), PerError>
-        ensures ok { OnOk result (calls.reset_key (session_of self.old).config (session_of self.old).visible name.now ≡ Ok (session_of self.new).visible) }
+        ensures ok { OnOk result (calls.reset_key (session_of self.old).config (session_of self.old).visible name.now
+            ≡ Ok (session_of self.new).visible) }
         ensures refused { IfErr result (λ error.
             IsRefusal (calls.reset_key (session_of self.old).config (session_of self.old).visible name.now) error) }
         // Want of memory stands for no refusal.

@@ -1,5 +1,6 @@
 -- How the first agreed text moves as a loop passes the copies.
-use Rattle.std.proofs.Common.{◌≡◌, ℕ, suc, ◌+◌, ◌<◌, ◌≤◌, List, ◌∷◌, length, get_or, drop, Option, Some, None, Vec, nat_le, false, sym, ap, ◌∙◌, add-one, drop-cons, arith, inl, inr}
+use Rattle.std.proofs.Common.{◌≡◌, ℕ, suc, ◌+◌, ◌<◌, ◌≤◌, List, ◌∷◌, length, get_or, drop, Option, Some, None, Vec}
+use Rattle.std.proofs.Common.{nat_le, false, sym, ap, ◌∙◌, add-one, drop-cons, arith, inl, inr}
 use Rattle.std.specs.declared.alloc.Global.{Global}
 use Rattle.std.proofs.lemmas.Bool.{cond-true, cond-false, le-leb}
 use Rattle.std.proofs.lemmas.Bool.Decides.{leb_tells}
@@ -20,7 +21,8 @@ Copies = List (Option (Vec ℕ Global))
 abbrev pub agreed_from : ℕ → Copies → ℕ → Option (List ℕ)
 agreed_from m copies i = first_agreed m (texts_of copies) (texts_of (drop i copies))
 
-module _ (m : ℕ) (copies : Copies) (i : ℕ) (copy : Option (Vec ℕ Global)) (lt : i < length copies) (is : copy ≡ get_or copies i copy) where
+module _ (m : ℕ) (copies : Copies) (i : ℕ) (copy : Option (Vec ℕ Global)) (lt : i < length copies)
+    (is : copy ≡ get_or copies i copy) where
   opened : (same : Option (Vec ℕ Global)) → copy ≡ same
       → agreed_from m copies i ≡ first_agreed m (texts_of copies) (texts_of (same ∷ drop (i + 1) copies))
   opened same e = ap (λ rest. first_agreed m (texts_of copies) (texts_of rest)) (from_here copies i copy lt is

@@ -1,5 +1,6 @@
 -- Laws of the vote: its text is held by enough copies, and there is one wherever some text is.
-use Rattle.std.proofs.Common.{◌≡◌, ◌⊎◌, ℕ, ◌+◌, ◌<◌, ◌≤◌, List, [], ◌∷◌, Option, Some, None, Bool, true, false, cond, nat_le, refl, sym, ap, ◌∙◌, arith, inl, inr}
+use Rattle.std.proofs.Common.{◌≡◌, ◌⊎◌, ℕ, ◌+◌, ◌<◌, ◌≤◌, List, [], ◌∷◌, Option, Some, None, Bool, true, false, cond}
+use Rattle.std.proofs.Common.{nat_le, refl, sym, ap, ◌∙◌, arith, inl, inr}
 use Rattle.std.proofs.lemmas.Bool.{cond-true, cond-false, leb-true}
 use Rattle.std.proofs.lemmas.Bool.Decides.{leb_tells}
 use Rattle.std.proofs.lemmas.List.Sums.{sum_by-cons}
@@ -46,7 +47,8 @@ held_step : (text x : List ℕ) (copies : Copies) (b : Bool) → bytes_eq x text
     → 1 ≤ holders (Some x ∷ copies) text → (x ≡ text) ⊎ (1 ≤ holders copies text)
 held_step text x copies true is held = inl ((bytes_eq-Decides x text).0 is)
 held_step text x copies false is held =
-    let counted : holders (Some x ∷ copies) text ≡ cond {A = ℕ} (bytes_eq x text) 1 0 + holders copies text = holders-cons (Some x) copies text in
+    let counted : holders (Some x ∷ copies) text ≡ cond {A = ℕ} (bytes_eq x text) 1 0 + holders copies text =
+    holders-cons (Some x) copies text in
     let none : cond {A = ℕ} (bytes_eq x text) 1 0 ≡ 0 = cond-false (bytes_eq x text) 1 0 is in
     inr (omega (arith, counted, none, held))
 

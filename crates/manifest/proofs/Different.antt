@@ -1,5 +1,6 @@
 -- As many things stand by their names as there are different names, and all of them just where no name stands twice.
-use Rattle.std.proofs.Common.{◌≡◌, ℕ, Bool, true, false, not, ◌||◌, List, [], ◌∷◌, length, map, refl, sym, ap, subst, suc, ◌∙◌}
+use Rattle.std.proofs.Common.{◌≡◌, ℕ, Bool, true, false, not, ◌||◌, List, [], ◌∷◌, length, map, refl, sym, ap, subst}
+use Rattle.std.proofs.Common.{suc, ◌∙◌}
 use Rattle.std.specs.Prelude.{fold, nat_eq}
 use Rattle.std.specs.List.{AllByRecursion, IsDistinct, list_any}
 use Rattle.std.specs.Map.{keys_of}
@@ -46,19 +47,26 @@ or_nothing : (b : Bool) → b ≡ (b || false)
 or_nothing true = refl
 or_nothing false = refl
 
-any_at : (o : Ordering) (q k : List ℕ) (v : Listed) (e : Entry) (es more : Named) → name_cmp k e.0 ≡ o → list_any (same q) (keys_of more) ≡ (same q k || list_any (same q) (keys_of es))
-    → list_any (same q) (keys_of (match_ordering o ((k, v) ∷ e ∷ es) ((e.0, v) ∷ es) (e ∷ more))) ≡ (same q k || list_any (same q) (keys_of (e ∷ es)))
+any_at : (o : Ordering) (q k : List ℕ) (v : Listed) (e : Entry) (es more : Named) → name_cmp k e.0 ≡ o
+    → list_any (same q) (keys_of more) ≡ (same q k || list_any (same q) (keys_of es))
+    → list_any (same q) (keys_of (match_ordering o ((k, v) ∷ e ∷ es) ((e.0, v) ∷ es) (e ∷ more)))
+    ≡ (same q k || list_any (same q) (keys_of (e ∷ es)))
 any_at Less q k v e es more is rest = refl
 any_at Equal q k v e es more is rest =
-    let Q : List ℕ → Type 0 = λ n. list_any (same q) (keys_of (e ∷ es)) ≡ (same q n || list_any (same q) (keys_of (e ∷ es))) in
+    let Q : List ℕ → Type 0 = λ n. list_any (same q) (keys_of (e ∷ es))
+    ≡ (same q n || list_any (same q) (keys_of (e ∷ es))) in
     subst Q (sym (equal_names k e.0 is)) (twice (same q e.0) (list_any (same q) (keys_of es)))
-any_at Greater q k v e es more is rest = ap (λ b. same q e.0 || b) rest ∙ swapped (same q e.0) (same q k) (list_any (same q) (keys_of es))
+any_at Greater q k v e es more is rest = ap (λ b. same q e.0 || b) rest
+    ∙ swapped (same q e.0) (same q k) (list_any (same q) (keys_of es))
 
-any_inserted : (q k : List ℕ) (v : Listed) (es : Named) → list_any (same q) (keys_of (insert_entry name_cmp es k v)) ≡ (same q k || list_any (same q) (keys_of es))
+any_inserted : (q k : List ℕ) (v : Listed) (es : Named)
+    → list_any (same q) (keys_of (insert_entry name_cmp es k v)) ≡ (same q k || list_any (same q) (keys_of es))
 any_inserted q k v [] = refl
 any_inserted q k v (e ∷ es) = any_at (name_cmp k e.0) q k v e es _ refl (any_inserted q k v es)
 
-any_from : (q : List ℕ) (ls : List Listed) (m : Named) → list_any (same q) (keys_of (fold with_named m ls)) ≡ (list_any (same q) (keys_of m) || list_any (same q) (names ls))
+any_from : (q : List ℕ) (ls : List Listed) (m : Named)
+    → list_any (same q) (keys_of (fold with_named m ls))
+    ≡ (list_any (same q) (keys_of m) || list_any (same q) (names ls))
 any_from q [] m = or_nothing (list_any (same q) (keys_of m))
 any_from q (l ∷ ls) m =
     any_from q ls (with_named m l) ∙ ap (λ b. b || list_any (same q) (names ls)) (any_inserted q (name_in l.1) l m)
@@ -79,7 +87,8 @@ length-names (l ∷ ls) = ap suc (length-names ls)
 as_many : (ls : List Listed) → length (named ls) ≡ distinct_count same (names ls)
 as_many ls =
     sym (length-keys (named ls))
-    ∙ length-from_keys (eq_by_cmp_equiv nat_list_cmp_total) (keys_of (named ls)) (names ls) (IsDistinct-from_sorted name_cmp (keys_of (named ls)) (keys_sorted ls)) (λ q. any_named q ls)
+    ∙ length-from_keys (eq_by_cmp_equiv nat_list_cmp_total) (keys_of (named ls)) (names ls)
+    (IsDistinct-from_sorted name_cmp (keys_of (named ls)) (keys_sorted ls)) (λ q. any_named q ls)
 
 -- ---- whether they differ
 
@@ -87,13 +96,17 @@ none_of : (b c : Bool) → not (b || c) ≡ true → (b ≡ false) × (not c ≡
 none_of true c h = absurd cc
 none_of false c h = (refl, h)
 
-apart : (n : List ℕ) (ns : List (List ℕ)) → not (list_any (bytes_eq n) ns) ≡ true → AllByRecursion (λ m. same n m ≡ false) ns
+apart : (n : List ℕ) (ns : List (List ℕ)) → not (list_any (bytes_eq n) ns) ≡ true
+    → AllByRecursion (λ m. same n m ≡ false) ns
 apart n [] h = tt
-apart n (m ∷ ns) h = let parts = none_of (bytes_eq n m) (list_any (bytes_eq n) ns) h in (is_eq-slice_cmp n m ∙ parts.0, apart n ns parts.1)
+apart n (m ∷ ns) h = let parts = none_of (bytes_eq n m) (list_any (bytes_eq n) ns) h in
+    (is_eq-slice_cmp n m ∙ parts.0, apart n ns parts.1)
 
-none_again : (n : List ℕ) (ns : List (List ℕ)) → AllByRecursion (λ m. same n m ≡ false) ns → not (list_any (bytes_eq n) ns) ≡ true
+none_again : (n : List ℕ) (ns : List (List ℕ)) → AllByRecursion (λ m. same n m ≡ false) ns
+    → not (list_any (bytes_eq n) ns) ≡ true
 none_again n [] all = refl
-none_again n (m ∷ ns) all = let differs : bytes_eq n m ≡ false = sym (is_eq-slice_cmp n m) ∙ all.0 in rw differs (none_again n ns all.1)
+none_again n (m ∷ ns) all = let differs : bytes_eq n m ≡ false =
+    sym (is_eq-slice_cmp n m) ∙ all.0 in rw differs (none_again n ns all.1)
 
 distinct : (ns : List (List ℕ)) → all_differ ns ≡ true → IsDistinct same ns
 unfolding IsDistinct

@@ -18,7 +18,8 @@ use Rattle.value_text.proofs.Public.{same_type, kind_in_takes}
 use Rattle.deployment_model.specs.Conditions.{HasTypeFor}
 use Rattle.manifest.specs.Parts.{type_in, encoding_as}
 
-pub then_some : {A B : Type 0} (f : A → Option B) (o : Option A) (b : B) → option_and_then f o ≡ Some b → (a : A) × (o ≡ Some a) × (f a ≡ Some b)
+pub then_some : {A B : Type 0} (f : A → Option B) (o : Option A) (b : B) → option_and_then f o ≡ Some b
+    → (a : A) × (o ≡ Some a) × (f a ≡ Some b)
 then_some f None b e = absurd cc
 then_some f (Some a) b e = (a, refl, e)
 
@@ -39,7 +40,10 @@ none_unless false bytes never = refl
 
 -- a value of another type has no encoding as one of this type
 pub of_another_type : (k : Kind) (t : Tree) → IsType k → IsValue t → (type_of t ≡ k → ⊥) → encoding_as k t ≡ None
-of_another_type k t type value apart = none_unless _ _ (λ h. apart (same_type (type_of t) k (type_of_value t value) type ((bytes_eq-Decides (type_text (type_of t)) (type_text k)).0 h)))
+of_another_type k t type value apart = none_unless _ _
+    (λ h. apart (same_type (type_of t) k (type_of_value t value) type
+    ((bytes_eq-Decides (type_text (type_of t)) (type_text k)).0 h)))
 
 pub of_its_type : (k : Kind) (t : Tree) → type_of t ≡ k → encoding_as k t ≡ Some (encoding t)
-of_its_type k t same = let alike : bytes_eq (type_text (type_of t)) (type_text k) ≡ true = (bytes_eq-Decides (type_text (type_of t)) (type_text k)).1 (ap type_text same) in rw alike refl
+of_its_type k t same = let alike : bytes_eq (type_text (type_of t)) (type_text k) ≡ true =
+    (bytes_eq-Decides (type_text (type_of t)) (type_text k)).1 (ap type_text same) in rw alike refl

@@ -4,10 +4,18 @@ use Rattle.serde_json.specs.Data.{Data}
 use Rattle.per_base.specs.declared.elements.Scope.TheVariants as scope
 use Rattle.deployment_model.specs.declared.configs.CollectionStrategy.TheVariants as collection
 use Rattle.deployment_model.specs.Data.{ElementData, StorageData, DeploymentData}
-use Rattle.manifest.specs.Parts.{Listed, by_name, storages, elements, name_in, minimum_in, maximum_in, collection_in, read_only_in, redundancy_in, agreeing_in, copies_in, scope_in, version_in, strategy_in, type_for, initial_in}
+use Rattle.manifest.specs.Parts.{Listed, by_name, storages, elements, name_in, minimum_in, maximum_in, collection_in}
+use Rattle.manifest.specs.Parts.{read_only_in, redundancy_in, agreeing_in, copies_in, scope_in, version_in, strategy_in}
+use Rattle.manifest.specs.Parts.{type_for, initial_in}
 
 unfoldable pub element_said : Listed → ElementData
-element_said e = record { name = name_in e.1; value_type = type_for e; initial = initial_in e; strategy = strategy_in e.1 }
+element_said e = record {
+  name = name_in e.1;
+  value_type = type_for e;
+  initial = initial_in e;
+  strategy =
+      strategy_in e.1;
+}
 
 unfoldable pub storage_said : Listed → StorageData
 storage_said s = record {

@@ -1,5 +1,6 @@
 -- The parts of a manifest: its storages, their elements, and what is said of each, with the defaults.
-use Rattle.std.specs.Prelude.{ℕ, List, [], ◌∷◌, ◌++◌, length, map, codes, Bool, ◌&&◌, ◌||◌, nat_le, Option, None, Some, option_and_then, unwrap_or, fold, if◌then◌else◌, Result, Ok, Err}
+use Rattle.std.specs.Prelude.{ℕ, List, [], ◌∷◌, ◌++◌, length, map, codes, Bool, ◌&&◌, ◌||◌, nat_le, Option, None, Some}
+use Rattle.std.specs.Prelude.{option_and_then, unwrap_or, fold, if◌then◌else◌, Result, Ok, Err}
 use Rattle.std.specs.List.{list_all, flat_map}
 use Rattle.std.specs.Str.{bytes_eq}
 use Rattle.std.specs.BTreeMap.{insert_entry}
@@ -32,7 +33,8 @@ of_kind kind things = map (λ d. (kind, d)) things
 
 -- the storages of keys, and then those of files
 unfoldable pub storages : Data → List Listed
-storages d = of_kind Keys (things_in (get (codes "keyValueStorages") d)) ++ of_kind Files (things_in (get (codes "fileStorages") d))
+storages d = of_kind Keys (things_in (get (codes "keyValueStorages") d))
+    ++ of_kind Files (things_in (get (codes "fileStorages") d))
 
 abbrev pub elements_word : StoreKind → List ℕ
 elements_word Keys = codes "keyValuePairs"
@@ -80,13 +82,15 @@ word_in [] word = None
 word_in (row ∷ rows) word = if bytes_eq word row.0 then Some row.1 else word_in rows word
 
 unfoldable pub collection_said : List ℕ → Option CollectionStrategy
-collection_said word = word_in ((codes "keepExisting", collection.KeepExisting) ∷ (codes "delete", collection.Delete) ∷ []) word
+collection_said word = word_in ((codes "keepExisting", collection.KeepExisting) ∷ (codes "delete", collection.Delete)
+    ∷ []) word
 
 unfoldable pub scope_said : List ℕ → Option Scope
 scope_said word = word_in ((codes "element", scope.Element) ∷ (codes "storage", scope.Storage) ∷ []) word
 
 unfoldable pub strategy_said : List ℕ → Option ElementStrategy
-strategy_said word = word_in ((codes "keepExisting", element.KeepExisting) ∷ (codes "overwrite", element.Overwrite) ∷ (codes "delete", element.Delete) ∷ []) word
+strategy_said word = word_in ((codes "keepExisting", element.KeepExisting) ∷ (codes "overwrite", element.Overwrite)
+    ∷ (codes "delete", element.Delete) ∷ []) word
 
 unfoldable pub collection_in : Data → Option CollectionStrategy
 collection_in d = option_and_then collection_said (text_in (get (codes "updateStrategy") d))

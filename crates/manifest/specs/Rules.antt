@@ -1,5 +1,6 @@
 -- The rules that a manifest keeps, each a test that passes where the rule is kept, and the least that is broken.
-use Rattle.std.specs.Prelude.{ℕ, List, [], ◌∷◌, length, map, codes, sum_by, Bool, true, false, ◌&&◌, ◌||◌, not, nat_le, Option, None, Some, option_and_then, is_none, is_some, if◌then◌else◌}
+use Rattle.std.specs.Prelude.{ℕ, List, [], ◌∷◌, length, map, codes, sum_by, Bool, true, false, ◌&&◌, ◌||◌, not, nat_le}
+use Rattle.std.specs.Prelude.{Option, None, Some, option_and_then, is_none, is_some, if◌then◌else◌}
 use Rattle.std.specs.List.{list_all, list_any}
 use Rattle.std.specs.Str.{bytes_eq}
 use Rattle.serde_json.specs.Data.{Data}
@@ -9,7 +10,9 @@ use Rattle.per_base.specs.declared.elements.StoreKind.TheVariants.{Keys, Files}
 use Rattle.per_base.specs.Names.{is_name}
 use Rattle.deployment_model.specs.Conditions.{overwrites, start_size}
 use Rattle.manifest.specs.Values.{has_only, is_list_of_objects, is_object, is_within, may_be, whole_in}
-use Rattle.manifest.specs.Parts.{Listed, storages, elements, elements_word, all_elements, name_in, minimum_in, maximum_in, collection_said, scope_said, strategy_said, redundancy_in, agreeing_in, copies_in, version_in, strategy_in, type_in, initial_in}
+use Rattle.manifest.specs.Parts.{Listed, storages, elements, elements_word, all_elements, name_in, minimum_in}
+use Rattle.manifest.specs.Parts.{maximum_in, collection_said, scope_said, strategy_said, redundancy_in, agreeing_in}
+use Rattle.manifest.specs.Parts.{copies_in, version_in, strategy_in, type_in, initial_in}
 
 -- ---- of the manifest as a whole
 
@@ -20,7 +23,8 @@ unfoldable pub has_version : Data → Bool
 has_version d = is_within 1 4294967295 (version_in d)
 
 unfoldable pub lists_storages : Data → Bool
-lists_storages d = may_be is_list_of_objects (get (codes "keyValueStorages") d) && may_be is_list_of_objects (get (codes "fileStorages") d)
+lists_storages d = may_be is_list_of_objects (get (codes "keyValueStorages") d)
+    && may_be is_list_of_objects (get (codes "fileStorages") d)
 
 unfoldable pub has_known_members : Data → Bool
 has_known_members d = has_only (codes "version" ∷ codes "keyValueStorages" ∷ codes "fileStorages" ∷ []) d
@@ -31,7 +35,8 @@ has_few_storages d = nat_le (length (storages d)) 16
 -- ---- of the storages
 
 abbrev pub storage_words : StoreKind → List (List ℕ)
-storage_words kind = codes "name" ∷ codes "minimumSustainedSize" ∷ codes "maximumAllowedSize" ∷ codes "updateStrategy" ∷ codes "readOnly" ∷ codes "redundancy" ∷ elements_word kind ∷ []
+storage_words kind = codes "name" ∷ codes "minimumSustainedSize" ∷ codes "maximumAllowedSize" ∷ codes "updateStrategy"
+    ∷ codes "readOnly" ∷ codes "redundancy" ∷ elements_word kind ∷ []
 
 unfoldable pub has_storage_members : Listed → Bool
 has_storage_members s = has_only (storage_words s.0) s.1
@@ -57,7 +62,8 @@ abbrev pub has_size : ℕ → Data → Bool
 has_size least d = is_within least 4194304 (whole_in (Some d))
 
 unfoldable pub has_sizes : Listed → Bool
-has_sizes s = may_be (has_size 0) (get (codes "minimumSustainedSize") s.1) && may_be (has_size 1) (get (codes "maximumAllowedSize") s.1)
+has_sizes s = may_be (has_size 0) (get (codes "minimumSustainedSize") s.1)
+    && may_be (has_size 1) (get (codes "maximumAllowedSize") s.1)
 
 unfoldable pub sizes_are_in_range : List Listed → Bool
 sizes_are_in_range ss = list_all has_sizes ss
@@ -93,7 +99,8 @@ abbrev pub says_scope : Data → Bool
 says_scope d = is_some (option_and_then scope_said (as_str d))
 
 abbrev pub is_redundancy : Data → Bool
-is_redundancy r = is_object r && has_only (codes "m" ∷ codes "n" ∷ codes "scope" ∷ []) r && may_be says_scope (get (codes "scope") r)
+is_redundancy r = is_object r && has_only (codes "m" ∷ codes "n" ∷ codes "scope" ∷ []) r
+    && may_be says_scope (get (codes "scope") r)
 
 unfoldable pub has_redundancy : Listed → Bool
 has_redundancy s = may_be is_redundancy (redundancy_in s.1)
@@ -161,7 +168,8 @@ abbrev pub says_strategy : Data → Bool
 says_strategy d = is_some (option_and_then strategy_said (as_str d))
 
 unfoldable pub has_strategy : Listed → Bool
-has_strategy e = may_be says_strategy (get (codes "updateStrategy") e.1) && (not (overwrites (strategy_in e.1)) || is_some (get (codes "initial") e.1))
+has_strategy e = may_be says_strategy (get (codes "updateStrategy") e.1)
+    && (not (overwrites (strategy_in e.1)) || is_some (get (codes "initial") e.1))
 
 unfoldable pub elements_have_strategies : List Listed → Bool
 elements_have_strategies es = list_all has_strategy es
@@ -220,4 +228,5 @@ or_else (Some rule) later = Some rule
 
 -- the least rule that a value breaks
 unfoldable pub least_broken : Data → Option ℕ
-least_broken d = or_else (first_broken whole_rules d) (or_else (first_broken storage_rules (storages d)) (first_broken element_rules (storages d)))
+least_broken d = or_else (first_broken whole_rules d) (or_else (first_broken storage_rules (storages d))
+    (first_broken element_rules (storages d)))

@@ -84,7 +84,8 @@ fn checked_name(alloc: Global, text: &str) -> Result<Name, AllocError>
 }
 
 fn elements_said(alloc: Global, storage: Listed<'_>) -> Result<Vec<ElementConfig>, AllocError>
-    ensures { IfOk result (λ configs. map element_data configs.items ≡ map element_said (by_name (elements (listed_view storage.entry)))) }
+    ensures { IfOk result (λ configs. map element_data configs.items
+        ≡ map element_said (by_name (elements (listed_view storage.entry)))) }
 {
     let listed = listed_elements(alloc, storage)?;
     let ordered = by_name(alloc, listed.as_slice())?;

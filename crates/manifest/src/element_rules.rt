@@ -6,7 +6,11 @@ ghost use Rattle.serde_json.specs.Find.{get};
 ghost use Rattle.serde_json.specs.View.{view};
 ghost use Rattle.manifest.specs.Parts.{all_elements, elements, strategy_in};
 ghost use Rattle.manifest.specs.Reading.{Judges};
-ghost use Rattle.manifest.specs.Rules.{are_named, element_rules, elements_are_named, elements_differ, elements_have_known_members, elements_have_strategies, first_broken, has_different_elements, has_element_members, has_room, has_strategy, has_type, initial_size, initials_are_read, initials_fit, keys_have_types, may_start, says_strategy};
+ghost use Rattle.manifest.specs.Rules.{are_named, element_rules, elements_are_named, elements_differ};
+ghost use Rattle.manifest.specs.Rules.{elements_have_known_members, elements_have_strategies, first_broken};
+ghost use Rattle.manifest.specs.Rules.{has_different_elements, has_element_members, has_room, has_strategy, has_type};
+ghost use Rattle.manifest.specs.Rules.{initial_size, initials_are_read, initials_fit, keys_have_types, may_start};
+ghost use Rattle.manifest.specs.Rules.{says_strategy};
 ghost use Rattle.manifest.specs.Values.{may_be};
 ghost use Rattle.manifest.specs.Views.{listed_view, listed_views};
 
@@ -138,7 +142,8 @@ fn may_start(alloc: Global, element: Listed<'_>) -> Result<bool, AllocError>
     Ok(initial_of(alloc, element)?.is_some())
 }
 
-/// Rule 23: the update strategy of an element is one of its three words, and what is overwritten has an initial content.
+/// Rule 23: the update strategy of an element is one of its three words, and what is overwritten has an initial
+/// content.
 #[tactic(auto, unfolding(crate::specs::Rules::elements_have_strategies))]
 fn elements_have_strategies(elements: &[Listed<'_>]) -> bool
     ensures { result ≡ elements_have_strategies (listed_views elements.now) }
@@ -172,7 +177,8 @@ fn says_strategy(word: &Value) -> bool
 }
 
 fn may_be_overwritten(element: &Value) -> bool
-    ensures { result ≡ (not (overwrites (strategy_in (view element.now))) || is_some (get (codes "initial") (view element.now))) }
+    ensures { result
+        ≡ (not (overwrites (strategy_in (view element.now))) || is_some (get (codes "initial") (view element.now))) }
 {
     match strategy_of(element) {
         Some(ElementStrategy::Overwrite) => element.get("initial").is_some(),

@@ -22,7 +22,8 @@ use value_text::parse_value;
 /// The most bytes of a file.
 const MAX_FILE_BYTES: usize = 1_048_576;
 
-/// What the element starts with: the encoding of a value, or the content of a file; none where nothing that can be read is said.
+/// What the element starts with: the encoding of a value, or the content of a file; none where nothing that can be read
+/// is said.
 #[tactic(auto, unfolding(crate::specs::Parts::initial_in))]
 pub(crate) fn initial_of(alloc: Global, element: Listed<'_>) -> Result<Option<Bytes>, AllocError>
     ensures { IfOk result (λ bytes. bytes ≡ initial_in (listed_view element.entry)) }

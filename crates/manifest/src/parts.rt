@@ -4,7 +4,10 @@ ghost use Rattle.std.specs.Prelude.{◌≡◌, ◌++◌, map, option_map, IfOk};
 ghost use Rattle.serde_json.specs.View.{view};
 ghost use Rattle.value_model.specs.Views.{kind_of};
 ghost use Rattle.per_base.specs.declared.elements.StoreKind.TheVariants.{Files, Keys};
-ghost use Rattle.manifest.specs.Parts.{agreeing_in, all_elements, collection_in, collection_said, copies_in, elements, elements_word, maximum_in, minimum_in, name_in, of_kind, read_only_in, redundancy_in, scope_in, scope_said, storages, strategy_in, strategy_said, type_in, version_in};
+ghost use Rattle.manifest.specs.Parts.{agreeing_in, all_elements, collection_in, collection_said, copies_in, elements};
+ghost use Rattle.manifest.specs.Parts.{elements_word, maximum_in, minimum_in, name_in, of_kind, read_only_in};
+ghost use Rattle.manifest.specs.Parts.{redundancy_in, scope_in, scope_said, storages, strategy_in, strategy_said};
+ghost use Rattle.manifest.specs.Parts.{type_in, version_in};
 ghost use Rattle.manifest.specs.Views.{listed_view, listed_views};
 
 use crate::values::{small_number, text, things, whole_number};
@@ -75,7 +78,8 @@ fn push_listed<'a>(
     things: &'a [Value],
     found: &mut Vec<Listed<'a>>,
 ) -> Result<(), AllocError>
-    ensures { IfOk result (λ _. listed_views found.new.items ≡ listed_views found.old.items ++ of_kind kind (map view things.now)) }
+    ensures { IfOk result (λ _. listed_views found.new.items
+        ≡ listed_views found.old.items ++ of_kind kind (map view things.now)) }
 {
     for value in things {
         found.push(Listed { kind, value })?;

@@ -23,7 +23,9 @@ const MAX_BYTES: usize = 65_536;
 
 /// The deployment that the text of a manifest says.
 ///
-/// Errors: `Rejected` with the least rule that the text breaks, exactly where it breaks one; `OutOfMemory`.
+/// # Errors
+///
+/// `Rejected` with the least rule that the text breaks, exactly where it breaks one; `OutOfMemory`.
 pub fn read_manifest(alloc: Global, bytes: &[u8]) -> Result<Deployment, ManifestError>
     // the text decides: which rule is the least broken, and which deployment it says where none is
     ensures rejected { IfErr result (Refuses (broken_rule bytes.now)) }

@@ -5,7 +5,13 @@ ghost use Rattle.serde_json.specs.Find.{get};
 ghost use Rattle.serde_json.specs.View.{view};
 ghost use Rattle.manifest.specs.Parts.{maximum_in};
 ghost use Rattle.manifest.specs.Reading.{Judges};
-ghost use Rattle.manifest.specs.Rules.{are_counts, are_named, collections_have_strategies, elements_are_few, first_broken, has_collection_strategy, has_counts, has_few_elements, has_minimum_below, has_redundancy, has_size, has_sizes, is_named, is_redundancy, maximums_fit_together, minimums_are_below, read_only_is_said, redundancies_are_objects, redundancies_have_counts, says_collection, says_counts, says_read_only, says_scope, sizes_are_in_range, storage_rules, storages_have_known_members};
+ghost use Rattle.manifest.specs.Rules.{are_counts, are_named, collections_have_strategies, elements_are_few};
+ghost use Rattle.manifest.specs.Rules.{first_broken, has_collection_strategy, has_counts, has_few_elements};
+ghost use Rattle.manifest.specs.Rules.{has_minimum_below, has_redundancy, has_size, has_sizes, is_named, is_redundancy};
+ghost use Rattle.manifest.specs.Rules.{maximums_fit_together, minimums_are_below, read_only_is_said};
+ghost use Rattle.manifest.specs.Rules.{redundancies_are_objects, redundancies_have_counts, says_collection};
+ghost use Rattle.manifest.specs.Rules.{says_counts, says_read_only, says_scope, sizes_are_in_range, storage_rules};
+ghost use Rattle.manifest.specs.Rules.{storages_have_known_members};
 ghost use Rattle.manifest.specs.Values.{may_be};
 ghost use Rattle.manifest.specs.Views.{listed_view, listed_views};
 

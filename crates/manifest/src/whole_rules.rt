@@ -4,7 +4,8 @@ ghost use Rattle.std.specs.Prelude.{◌≡◌};
 ghost use Rattle.serde_json.specs.View.{view};
 ghost use Rattle.manifest.specs.Parts.{storages};
 ghost use Rattle.manifest.specs.Reading.{Judges};
-ghost use Rattle.manifest.specs.Rules.{first_broken, has_few_storages, has_known_members, has_version, is_an_object, lists_storages, whole_rules};
+ghost use Rattle.manifest.specs.Rules.{first_broken, has_few_storages, has_known_members, has_version, is_an_object};
+ghost use Rattle.manifest.specs.Rules.{lists_storages, whole_rules};
 
 use crate::errors::ManifestError;
 use crate::parts::version_of;

@@ -12,7 +12,8 @@ use serde_json::Value;
 
 /// Whether a manifest has no other members than it may have.
 pub(crate) fn has_manifest_members(manifest: &Value) -> bool
-    ensures { result ≡ has_only (codes "version" ∷ codes "keyValueStorages" ∷ codes "fileStorages" ∷ []) (view manifest.now) }
+    ensures { result
+        ≡ has_only (codes "version" ∷ codes "keyValueStorages" ∷ codes "fileStorages" ∷ []) (view manifest.now) }
 {
     match manifest.as_object() {
         Some(members) => members.keys().all(|name| is_manifest_word(name.as_str())),

@@ -1,5 +1,6 @@
 -- Facts on tests and options.
-use Rattle.std.proofs.Common.{◌≡◌, ℕ, suc, ◌<◌, ◌≤◌, zero, Bool, true, false, List, [], ◌∷◌, ◌++◌, length, Option, Some, None, refl, sym, ap, arith, inl, inr}
+use Rattle.std.proofs.Common.{◌≡◌, ℕ, suc, ◌<◌, ◌≤◌, zero, Bool, true, false, List, [], ◌∷◌, ◌++◌, length, Option, Some}
+use Rattle.std.proofs.Common.{None, refl, sym, ap, arith, inl, inr}
 use Rattle.std.specs.Prelude.{◌⊎◌, ◌&&◌, nat_eq, slice_get, unwrap_or, is_some}
 use Rattle.std.proofs.lemmas.Bool.{eqb-true}
 
@@ -34,13 +35,18 @@ pub split : (i l : ℕ) → i ≤ l → (l ≡ i) ⊎ (suc i ≤ l)
 split zero zero le = inl refl
 split zero (suc l) le = inr (omega arith)
 split (suc i) zero le = absurd (omega (arith, le))
-split (suc i) (suc l) le = elim (split i l (omega (arith, le))) [ inl e ↦ inl (ap suc e) | inr h ↦ inr (omega (arith, h)) ]
+split (suc i) (suc l) le = elim (split i l (omega (arith, le)))
+    [ inl e ↦ inl (ap suc e) | inr h ↦ inr (omega (arith, h)) ]
 
 pub compare : (i j : ℕ) → (i < j) ⊎ ((i ≡ j) ⊎ (j < i))
 compare zero zero = inr (inl refl)
 compare zero (suc j) = inl (omega arith)
 compare (suc i) zero = inr (inr (omega arith))
-compare (suc i) (suc j) = elim (compare i j) [ inl h ↦ inl (omega (arith, h)) | inr e ↦ elim e [ inl s ↦ inr (inl (ap suc s)) | inr h ↦ inr (inr (omega (arith, h))) ] ]
+compare (suc i) (suc j) = elim (compare i j) [
+  | inl h ↦ inl (omega (arith, h))
+  | inr e ↦
+      elim e [ inl s ↦ inr (inl (ap suc s)) | inr h ↦ inr (inr (omega (arith, h))) ]
+]
 
 pub less_not_equal : (k n : ℕ) → k < n → nat_eq k n ≡ false
 less_not_equal k n lt = is_false (nat_eq k n) (λ is. let e : k ≡ n = eqb-true k n is in omega (arith, lt, e))
@@ -51,12 +57,14 @@ pub nil_of : (js : List ℕ) → length js ≡ 0 → js ≡ []
 nil_of [] e = refl
 nil_of (j ∷ js) e = absurd (omega (arith, e))
 
-pub cons_of : (n : ℕ) (js : List ℕ) → length js ≡ suc n → (l : ℕ) × (rest : List ℕ) × (js ≡ l ∷ rest) × (length rest ≡ n)
+pub cons_of : (n : ℕ) (js : List ℕ) → length js ≡ suc n
+    → (l : ℕ) × (rest : List ℕ) × (js ≡ l ∷ rest) × (length rest ≡ n)
 cons_of n [] e = absurd (omega (arith, e))
 cons_of n (j ∷ js) e = (j, js, refl, omega (arith, e))
 
 -- an element of a list with one more at its end
-pub at_end : {A : Type 0} (xs : List A) (y z : A) (n : ℕ) → slice_get (xs ++ y ∷ []) n ≡ Some z → (slice_get xs n ≡ Some z) ⊎ ((n ≡ length xs) × (y ≡ z))
+pub at_end : {A : Type 0} (xs : List A) (y z : A) (n : ℕ) → slice_get (xs ++ y ∷ []) n ≡ Some z
+    → (slice_get xs n ≡ Some z) ⊎ ((n ≡ length xs) × (y ≡ z))
 at_end [] y z zero e = inr (refl, some_is y z e)
 at_end [] y z (suc n) e = absurd (not_none z (sym e))
 at_end (x ∷ xs) y z zero e = inl e

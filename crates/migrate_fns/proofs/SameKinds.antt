@@ -1,7 +1,8 @@
 -- The test for equal types is true exactly where they are equal.
 use Rattle.std.proofs.Common.{◌≡◌, ℕ, List, Bool, true, false, refl, sym, ap, subst, ◌∙◌}
 use Rattle.std.specs.Prelude.{◌&&◌, ◌↔◌, IsTrue}
-use Rattle.value_model.specs.Kinds.{Size, one, two, four, eight, Kind, bool_kind, unsigned_kind, signed_kind, text_kind, bytes_kind, list_kind, fields_kind, Kinds, no_kinds, kind_then}
+use Rattle.value_model.specs.Kinds.{Size, one, two, four, eight, Kind, bool_kind, unsigned_kind, signed_kind, text_kind}
+use Rattle.value_model.specs.Kinds.{bytes_kind, list_kind, fields_kind, Kinds, no_kinds, kind_then}
 use Rattle.migrate_fns.specs.Rules.{Rule, is_for, serves}
 use Rattle.migrate_fns.specs.SameKind.{same_size, same_kind, same_kinds}
 use Rattle.migrate_fns.proofs.Facts.{not_false, is_false, both_true, true_both}
@@ -51,7 +52,8 @@ mutual
 
   pub same_kinds-refl : (ks : Kinds) → same_kinds ks ks ≡ true
   same_kinds-refl no_kinds = refl
-  same_kinds-refl (kind_then k ks) = true_both (same_kind k k) (same_kinds ks ks) (same_kind-refl k) (same_kinds-refl ks)
+  same_kinds-refl (kind_then k ks) = true_both (same_kind k k) (same_kinds ks ks) (same_kind-refl k)
+      (same_kinds-refl ks)
 
 pub same_from_is : (k l : Kind) → k ≡ l → same_kind k l ≡ true
 same_from_is k l e = subst (λ x. same_kind k x ≡ true) e (same_kind-refl k)
@@ -61,7 +63,8 @@ same_test true k l h = sym (same_from_is k l (h.0 refl))
 same_test false k l h = sym (is_false (same_kind k l) (λ e. not_false (h.1 (kind_is k l e))))
 
 -- a converter that serves has the two types
-pub serves_types : (element : List ℕ) (from to : Kind) (r : Rule) → serves element from to r ≡ true → (r.from ≡ from) × (r.to ≡ to)
+pub serves_types : (element : List ℕ) (from to : Kind) (r : Rule) → serves element from to r ≡ true
+    → (r.from ≡ from) × (r.to ≡ to)
 serves_types element from to r h =
     let a = both_true (is_for r.element element) (same_kind r.from from && same_kind r.to to) h in
     let b = both_true (same_kind r.from from) (same_kind r.to to) a.1 in

@@ -1,5 +1,6 @@
 -- Chains of converters: which lists of places fit, which of them is the shortest and then least, and the search for it.
-use Rattle.std.specs.Prelude.{◌≡◌, ◌⊎◌, ℕ, zero, suc, List, [], ◌∷◌, length, Bool, true, false, cond, ◌&&◌, nat_le, nat_lt, nat_eq, Option, Some, None, option_map, is_some, not, slice_get, ⊤}
+use Rattle.std.specs.Prelude.{◌≡◌, ◌⊎◌, ℕ, zero, suc, List, [], ◌∷◌, length, Bool, true, false, cond, ◌&&◌, nat_le}
+use Rattle.std.specs.Prelude.{nat_lt, nat_eq, Option, Some, None, option_map, is_some, not, slice_get, ⊤}
 use Rattle.value_model.specs.Kinds.{Kind}
 use Rattle.migrate_fns.specs.Rules.{Rule, is_for}
 use Rattle.migrate_fns.specs.SameKind.{same_kind}
@@ -11,7 +12,8 @@ usable element from r = is_for r.element element && same_kind r.from from
 -- the places are of converters that name this element or none, linked from the one type to the other
 abbrev pub linked : List Rule → List ℕ → Kind → List ℕ → Kind → Bool
 linked rules element to [] from = same_kind from to
-linked rules element to (i ∷ is) from = elim (slice_get rules i) [ None ↦ false | Some r ↦ usable element from r && linked rules element to is r.to ]
+linked rules element to (i ∷ is) from = elim (slice_get rules i)
+    [ None ↦ false | Some r ↦ usable element from r && linked rules element to is r.to ]
 
 -- a fitting list has 1 to 8 of them
 abbrev pub fitting : List Rule → List ℕ → Kind → Kind → List ℕ → Bool
@@ -45,7 +47,8 @@ with_place true i next to = option_map (λ is. i ∷ is) (next to)
 
 abbrev pub first_link : List ℕ → Kind → (Kind → Option (List ℕ)) → ℕ → List Rule → Option (List ℕ)
 first_link element from next i [] = None
-first_link element from next i (r ∷ rs) = or_later (with_place (usable element from r) i next r.to) (λ u. first_link element from next (suc i) rs)
+first_link element from next i (r ∷ rs) = or_later (with_place (usable element from r) i next r.to)
+    (λ u. first_link element from next (suc i) rs)
 
 abbrev pub if_same : Bool → Option (List ℕ)
 if_same false = None
@@ -58,7 +61,8 @@ links rules element to (suc n) from = first_link element from (links rules eleme
 
 abbrev pub shortest : List Rule → List ℕ → Kind → Kind → ℕ → ℕ → Option (List ℕ)
 shortest rules element from to zero n = None
-shortest rules element from to (suc fuel) n = or_later (links rules element to n from) (λ u. shortest rules element from to fuel (suc n))
+shortest rules element from to (suc fuel) n = or_later (links rules element to n from)
+    (λ u. shortest rules element from to fuel (suc n))
 
 -- the places of the shortest, then least, fitting list
 unfoldable pub chain_of : List Rule → List ℕ → Kind → Kind → Option (List ℕ)
@@ -78,13 +82,17 @@ abbrev pub first_taking : List Rule → Kind → List ℕ → Option ℕ
 first_taking rules from [] = None
 first_taking rules from (i ∷ is) = cond (takes rules from i) (Some i) (first_taking rules from is)
 
--- the level holds, for every type from which a list of n + 1 links leads to the end, the place that the least of them begins with
+-- the level holds, for every type from which a list of n + 1 links leads to the end, the place that the least of them
+-- begins with
 abbrev pub IsLevel : List Rule → List ℕ → Kind → ℕ → List ℕ → Type 0
-IsLevel rules element to n level = (from : Kind) → first_taking rules from level ≡ first_place (links rules element to (suc n) from)
+IsLevel rules element to n level = (from : Kind) → first_taking rules from level
+    ≡ first_place (links rules element to (suc n) from)
 
 abbrev pub AreLevels : List Rule → List ℕ → Kind → List (List ℕ) → Type 0
-AreLevels rules element to levels = (n : ℕ) (level : List ℕ) → slice_get levels n ≡ Some level → IsLevel rules element to n level
+AreLevels rules element to levels = (n : ℕ) (level : List ℕ) → slice_get levels n ≡ Some level
+    → IsLevel rules element to n level
 
 -- the converter begins a list of n + 1 links to the end, from a type that these places do not take yet
 abbrev pub opens : List Rule → List ℕ → Kind → ℕ → List ℕ → Rule → Bool
-opens rules element to n places r = is_for r.element element && (not (is_some (first_taking rules r.from places)) && is_some (links rules element to n r.to))
+opens rules element to n places r = is_for r.element element
+    && (not (is_some (first_taking rules r.from places)) && is_some (links rules element to n r.to))

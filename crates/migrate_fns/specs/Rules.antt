@@ -1,5 +1,6 @@
 -- Stored converters as data: for which element each is, and between which types; and what each may answer.
-use Rattle.std.specs.Prelude.{◌≡◌, ℕ, List, [], ◌∷◌, Bool, true, cond, ◌&&◌, Option, Some, None, option_map, option_and_then, slice_get}
+use Rattle.std.specs.Prelude.{◌≡◌, ℕ, List, [], ◌∷◌, Bool, true, cond, ◌&&◌, Option, Some, None, option_map}
+use Rattle.std.specs.Prelude.{option_and_then, slice_get}
 use Rattle.std.specs.Str.{bytes_eq}
 use Rattle.value_model.specs.Kinds.{Kind}
 use Rattle.value_model.specs.Trees.{Tree}
@@ -37,7 +38,8 @@ if_takes b k = cond b k None
 -- the type to which the converters at these places lead, where each takes what the one before gives
 abbrev pub reached : List Rule → List ℕ → Kind → Option Kind
 reached rules [] from = Some from
-reached rules (i ∷ is) from = option_and_then (λ (r : Rule). if_takes (same_kind r.from from) (reached rules is r.to)) (slice_get rules i)
+reached rules (i ∷ is) from = option_and_then (λ (r : Rule). if_takes (same_kind r.from from) (reached rules is r.to))
+    (slice_get rules i)
 
 abbrev pub last_type : List Rule → List ℕ → Option Kind
 last_type rules is = option_and_then (reached rules is) (first_type rules is)

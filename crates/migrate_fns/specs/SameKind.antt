@@ -1,6 +1,7 @@
 -- Whether two types are the same, as a test.
 use Rattle.std.specs.Prelude.{Bool, true, false, ◌&&◌}
-use Rattle.value_model.specs.Kinds.{Size, one, two, four, eight, Kind, bool_kind, unsigned_kind, signed_kind, text_kind, bytes_kind, list_kind, fields_kind, Kinds, no_kinds, kind_then}
+use Rattle.value_model.specs.Kinds.{Size, one, two, four, eight, Kind, bool_kind, unsigned_kind, signed_kind, text_kind}
+use Rattle.value_model.specs.Kinds.{bytes_kind, list_kind, fields_kind, Kinds, no_kinds, kind_then}
 
 abbrev pub same_size : Size → Size → Bool
 same_size one one = true

@@ -35,8 +35,10 @@ impl Chain<'_> {
     /// What the stored functions, one after the other, answer on this value.
     pub fn convert(&self, value: &Value) -> Result<Value, AllocError>
         requires { first_type (rules_of self.now.migrations.now) self.now.places ≡ Some (type_of value.now) }
-        ensures answer { IfOk result (λ w. ConvertsTo (answers_of self.now.migrations.now) self.now.places value.now w) }
-        ensures to { IfOk result (λ w. last_type (rules_of self.now.migrations.now) self.now.places ≡ Some (type_of w)) }
+        ensures answer { IfOk result (λ w. ConvertsTo (answers_of self.now.migrations.now) self.now.places value.now
+            w) }
+        ensures to { IfOk result (λ w. last_type (rules_of self.now.migrations.now) self.now.places
+            ≡ Some (type_of w)) }
     {
         convert_along(self.migrations, self.places.as_slice(), value)
     }
@@ -51,7 +53,8 @@ fn convert_along(
     requires linked { IsTrue (is_some (reached (rules_of migrations.now) places.now (type_of value.now))) }
     requires some { 1 ≤ length places.now }
     ensures answer { IfOk result (λ w. ConvertsTo (answers_of migrations.now) places.now value.now w) }
-    ensures to { IfOk result (λ w. reached (rules_of migrations.now) places.now (type_of value.now) ≡ Some (type_of w)) }
+    ensures to { IfOk result (λ w. reached (rules_of migrations.now) places.now (type_of value.now)
+        ≡ Some (type_of w)) }
 {
     let next = convert_at(migrations, places[0], value)?;
     let rest = &places[1..];
@@ -74,8 +77,8 @@ fn convert_at(migrations: &Migrations, place: u32, value: &Value) -> Result<Valu
 }
 
 impl Migrations {
-    /// The shortest list of 1 to 8 converters that name this element or none and lead from the one type to the other, each taking
-    /// what the one before gives; of several the least by places. None exactly where there is none.
+    /// The shortest list of 1 to 8 converters that name this element or none and lead from the one type to the other,
+    /// each taking what the one before gives; of several the least by places. None exactly where there is none.
     pub fn find_chain(
         &self,
         alloc: Global,
@@ -85,10 +88,13 @@ impl Migrations {
     ) -> Result<Option<Chain<'_>>, AllocError>
         ensures places { IfOk result (λ chain. option_map (λ c. c.places) chain
             ≡ chain_of (rules_of self.now) element.now (kind_of from.now) (kind_of to.now)) }
-        ensures found { IfOk result (λ chain. IsFound (rules_of self.now) element.now (kind_of from.now) (kind_of to.now) (option_map (λ c. c.places) chain)) }
+        ensures found { IfOk result (λ chain. IsFound (rules_of self.now) element.now (kind_of from.now)
+            (kind_of to.now) (option_map (λ c. c.places) chain)) }
         ensures lent { IfOk result (λ chain. IfSome chain (λ c. c.migrations.now ≡ self.now)) }
-        ensures first { IfOk result (λ chain. IfSome chain (λ c. first_type (rules_of self.now) c.places ≡ Some (kind_of from.now))) }
-        ensures last { IfOk result (λ chain. IfSome chain (λ c. last_type (rules_of self.now) c.places ≡ Some (kind_of to.now))) }
+        ensures first { IfOk result (λ chain. IfSome chain
+            (λ c. first_type (rules_of self.now) c.places ≡ Some (kind_of from.now))) }
+        ensures last { IfOk result (λ chain. IfSome chain (λ c. last_type (rules_of self.now) c.places
+            ≡ Some (kind_of to.now))) }
     {
         let search = Search {
             list: self.as_slice(),

@@ -1,12 +1,15 @@
-//! Stored converters: functions that make a value of one type of a value of another, for an update from an earlier version.
+//! Stored converters: functions that make a value of one type of a value of another, for an update from an earlier
+//! version.
 //!
-//! A [`Migration`] keeps a function beside its fact: it may be called on every value of the type `from`, and answers only values of
-//! the type `to`, or want of memory. Whoever makes one shows that fact, and nobody tests a type after a conversion.
+//! A [`Migration`] keeps a function beside its fact: it may be called on every value of the type `from`, and answers
+//! only values of the type `to`, or want of memory. Whoever makes one shows that fact, and nobody tests a type after a
+//! conversion.
 //!
-//! [`Migrations`] is a list of them. `find` gives the first with two types that names an element or none. `find_chain` gives the
-//! shortest list of 1 to 8 that lead from one type to another, one after the other, and of these the least by places; none exactly
-//! where there is none. It goes back from the wanted type, level by level: a level holds each type once, so hundreds of converters
-//! cost no exhaustive walk. A [`Chain`] is such a list, and answers what its stored functions, one after the other, may answer.
+//! [`Migrations`] is a list of them. `find` gives the first with two types that names an element or none. `find_chain`
+//! gives the shortest list of 1 to 8 that lead from one type to another, one after the other, and of these the least by
+//! places; none exactly where there is none. It goes back from the wanted type, level by level: a level holds each type
+//! once, so hundreds of converters cost no exhaustive walk. A [`Chain`] is such a list, and answers what its stored
+//! functions, one after the other, may answer.
 //!
 //! [`u8_to_u16`] and its like are functions to be stored: they keep the number, in twice the bytes.
 #![tactic(auto)]

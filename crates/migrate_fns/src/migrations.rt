@@ -17,7 +17,8 @@ use typed_value::{Value, ValueType};
 /// A converter as a function. It takes no allocator: it captures one where it needs one.
 pub type Converter = Box<dyn Fn(&Value) -> Result<Value, AllocError>>;
 
-/// A stored converter: the element that it is for, or none for every one, its two types, and the function beside its fact.
+/// A stored converter: the element that it is for, or none for every one, its two types, and the function beside its
+/// fact.
 #[derive(Drop)]
 pub struct Migration {
     pub element: Option<Name>,
@@ -32,8 +33,8 @@ pub struct Migration {
 impl Migration {
     ghost use Rattle.migrate_fns.specs.Stored.{MayGive, rule_of};
 
-    /// A converter. The function may be called on every value of the type `from`, and answers only values of the type `to`, or
-    /// want of memory: whoever makes one shows this. Takes no memory.
+    /// A converter. The function may be called on every value of the type `from`, and answers only values of the type
+    /// `to`, or want of memory: whoever makes one shows this. Takes no memory.
     pub fn new(
         element: Option<Name>,
         from: ValueType,
@@ -108,7 +109,8 @@ impl Migrations {
         Migrations { list }
     }
 
-    /// The first converter that has these types and names this element or none; none exactly where there is none. Takes no memory.
+    /// The first converter that has these types and names this element or none; none exactly where there is none. Takes
+    /// no memory.
     pub fn find(&self, element: &Name, from: &ValueType, to: &ValueType) -> Option<&Migration>
         ensures first { option_copied result
             ≡ find (λ m. serves element.now (kind_of from.now) (kind_of to.now) (rule_of m)) (listed self.now) }

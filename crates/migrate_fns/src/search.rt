@@ -1,6 +1,7 @@
 //! The search for a chain, level by level, back from the type where it is to end.
 
-ghost use Rattle.std.specs.Prelude.{◌≡◌, ◌<◌, ◌+◌, ◌^◌, suc, IfOk, IfSome, Some, is_some, length, map, option_map, slice_get};
+ghost use Rattle.std.specs.Prelude.{◌≡◌, ◌<◌, ◌+◌, ◌^◌, suc, IfOk, IfSome, Some, is_some, length, map, option_map};
+ghost use Rattle.std.specs.Prelude.{slice_get};
 ghost use Rattle.value_model.specs.Views.{kind_of};
 ghost use Rattle.migrate_fns.specs.Chains.{AreLevels, IsLevel, chain_of, first_taking, links, opens, takes};
 ghost use Rattle.migrate_fns.specs.Stored.{rule_of};
@@ -26,7 +27,8 @@ impl Search<'_> {
     /// The places of the shortest, then least, chain from this type.
     pub fn run(&self, alloc: Global, from: &ValueType) -> Result<Option<Numbers>, AllocError>
         ensures { IfOk result (λ places. places
-            ≡ chain_of (map rule_of self.now.list.now) self.now.element.now (kind_of from.now) (kind_of self.now.to.now)) }
+            ≡ chain_of (map rule_of self.now.list.now) self.now.element.now (kind_of from.now)
+            (kind_of self.now.to.now)) }
     {
         let mut levels = Vec::new(alloc);
         for _ in 0..MAX_LINKS {
@@ -42,7 +44,8 @@ impl Search<'_> {
     /// The next level: the first place of each type from which one more link than before leads to the end.
     fn next_level(&self, alloc: Global, levels: &[Numbers]) -> Result<Numbers, AllocError>
         requires { AreLevels (map rule_of self.now.list.now) self.now.element.now (kind_of self.now.to.now) levels.now }
-        ensures { IfOk result (IsLevel (map rule_of self.now.list.now) self.now.element.now (kind_of self.now.to.now) (length levels.now)) }
+        ensures { IfOk result (IsLevel (map rule_of self.now.list.now) self.now.element.now (kind_of self.now.to.now)
+            (length levels.now)) }
     {
         let mut places = Vec::new(alloc);
         for (place, migration) in self.list.iter().enumerate() {
@@ -53,10 +56,12 @@ impl Search<'_> {
         Ok(Numbers::new(places))
     }
 
-    /// Whether the converter begins a list of one more link than there are levels, from a type that these places do not take yet.
+    /// Whether the converter begins a list of one more link than there are levels, from a type that these places do not
+    /// take yet.
     fn opens(&self, migration: &Migration, places: &[u32], levels: &[Numbers]) -> bool
         requires { AreLevels (map rule_of self.now.list.now) self.now.element.now (kind_of self.now.to.now) levels.now }
-        ensures { result ≡ opens (map rule_of self.now.list.now) self.now.element.now (kind_of self.now.to.now) (length levels.now) places.now (rule_of migration.now) }
+        ensures { result ≡ opens (map rule_of self.now.list.now) self.now.element.now (kind_of self.now.to.now)
+            (length levels.now) places.now (rule_of migration.now) }
     {
         migration.is_for(self.element)
             && first_taking(self.list, places, &migration.from).is_none()
@@ -66,7 +71,8 @@ impl Search<'_> {
     /// Whether a list of as many links as there are levels leads from this type to the end.
     fn leads(&self, from: &ValueType, levels: &[Numbers]) -> bool
         requires { AreLevels (map rule_of self.now.list.now) self.now.element.now (kind_of self.now.to.now) levels.now }
-        ensures { result ≡ is_some (links (map rule_of self.now.list.now) self.now.element.now (kind_of self.now.to.now) (length levels.now) (kind_of from.now)) }
+        ensures { result ≡ is_some (links (map rule_of self.now.list.now) self.now.element.now (kind_of self.now.to.now)
+            (length levels.now) (kind_of from.now)) }
     {
         match levels.last() {
             None => is_same(from, self.to),
@@ -83,7 +89,8 @@ impl Search<'_> {
     ) -> Result<Option<Numbers>, AllocError>
         requires { AreLevels (map rule_of self.now.list.now) self.now.element.now (kind_of self.now.to.now) levels.now }
         ensures { IfOk result (λ places. places
-            ≡ links (map rule_of self.now.list.now) self.now.element.now (kind_of self.now.to.now) (length levels.now) (kind_of from.now)) }
+            ≡ links (map rule_of self.now.list.now) self.now.element.now (kind_of self.now.to.now) (length levels.now)
+            (kind_of from.now)) }
     {
         let mut places = Vec::new(alloc);
         let mut at = from;

@@ -1,7 +1,7 @@
 //! The six converters of the program, handed to whoever asks for them.
 //!
-//! Each keeps the number, in twice the bytes, for every element: `u8` to `u16`, `u16` to `u32`, `u32` to `u64`, and the same of signed
-//! numbers. A chain of them leads from each size to each larger one.
+//! Each keeps the number, in twice the bytes, for every element: `u8` to `u16`, `u16` to `u32`, `u32` to `u64`, and the
+//! same of signed numbers. A chain of them leads from each size to each larger one.
 #![tactic(auto)]
 
 ghost use Rattle.std.specs.Prelude.{◌≡◌, ◌+◌, IfOk, OnOk, length};
@@ -23,7 +23,8 @@ pub trait WithConverters {
     fn with_converters(self, migrations: &Migrations) -> Self::Answer;
 }
 
-/// Makes the six converters, and does something with them. Want of memory for them is the one error; then it is not done.
+/// Makes the six converters, and does something with them. Want of memory for them is the one error; then it is not
+/// done.
 pub fn with_converters<T: WithConverters + Drop>(
     alloc: Global,
     what: T,

@@ -25,21 +25,27 @@ pub made_or : {P : Type 0} (refused : Option PerError) → (refused ≡ None →
 made_or {P} None done handed = done refl
 made_or {P} (Some error) done handed = handed refl
 
-durable_session : (f later : FileSession) → stored_in later.store ≡ f.session.files → later ≡ record f { store = later.store }
+durable_session : (f later : FileSession) → stored_in later.store ≡ f.session.files
+    → later ≡ record f { store = later.store }
     → session_in (Files later) ≡ run.made_durable (session_in (Files f))
-durable_session f later stored beside = ap (λ (m : Map). run.files (record { synced = m; working = later.session })) stored
+durable_session f later stored beside = ap (λ (m : Map). run.files (record { synced = m; working = later.session }))
+    stored
     ∙ ap (λ (x : FileSession). run.files (record { synced = f.session.files; working = x.session })) beside
 
-module _ (told : Bool) (image : Image) (f : FileSession) (handle : ℕ) (o : FilesOutcome) (is : o.refused ≡ below.sync_refused f handle) where
+module _ (told : Bool) (image : Image) (f : FileSession) (handle : ℕ) (o : FilesOutcome)
+    (is : o.refused ≡ below.sync_refused f handle) where
   flush_is : flush_refused (Files f) handle ≡ o.refused
   flush_is = flush_refused_is f handle ∙ sym is
 
-  pub flush_made : (o.refused ≡ None → stored_in o.files.store ≡ f.session.files) → (o.refused ≡ None → view_in o.files.store ≡ below.synced_view f)
-      → o.files ≡ record f { store = o.files.store } → shape_of o.files.store ≡ shape_of f.store → IsUsed told image o.files.store → (IsSome o.refused → o.files ≡ f)
+  pub flush_made : (o.refused ≡ None → stored_in o.files.store ≡ f.session.files)
+      → (o.refused ≡ None → view_in o.files.store ≡ below.synced_view f)
+      → o.files ≡ record f { store = o.files.store } → shape_of o.files.store ≡ shape_of f.store
+      → IsUsed told image o.files.store → (IsSome o.refused → o.files ≡ f)
       → IsMade told image (Files f) (flush_refused (Files f) handle) (made_of (Files o.files) o.refused)
   flush_made stored view beside shape used same = by o.refused flush_is stored view same
     where
-      by : (refused : Option PerError) → flush_refused (Files f) handle ≡ refused → (refused ≡ None → stored_in o.files.store ≡ f.session.files)
+      by : (refused : Option PerError) → flush_refused (Files f) handle ≡ refused
+          → (refused ≡ None → stored_in o.files.store ≡ f.session.files)
           → (refused ≡ None → view_in o.files.store ≡ below.synced_view f) → (IsSome refused → o.files ≡ f)
           → IsMade told image (Files f) (flush_refused (Files f) handle) (made_of (Files o.files) refused)
       by None due stored view same = (
@@ -54,21 +60,25 @@ module _ (told : Bool) (image : Image) (f : FileSession) (handle : ℕ) (o : Fil
       )
       by (Some error) due stored view same = (due, ap (λ (x : FileSession). Files x) (same refl))
 
-  pub flush_due : (error : PerError) → flush_refused (Files f) handle ≡ Some error → (IsSome o.refused → o.files ≡ f) → made_of (Files o.files) o.refused ≡ made.Refused (Files f) error
+  pub flush_due : (error : PerError) → flush_refused (Files f) handle ≡ Some error → (IsSome o.refused → o.files ≡ f)
+      → made_of (Files o.files) o.refused ≡ made.Refused (Files f) error
   flush_due error due same =
       let refused : o.refused ≡ Some error = sym flush_is ∙ due in
       let some : IsSome o.refused = subst (λ (r : Option PerError). IsSome r) (sym refused) refl in
-      ap (λ (r : Option PerError). made_of (Files o.files) r) refused ∙ ap (λ (x : FileSession). made.Refused (Files x) error) (same some)
+      ap (λ (r : Option PerError). made_of (Files o.files) r) refused
+      ∙ ap (λ (x : FileSession). made.Refused (Files x) error) (same some)
 
 -- what is handed back is as it was
-pub same_files : (f : FileSession) (o : FilesOutcome) (result : Result FilesOutcome FilesFault) (refused : Option PerError) → result ≡ Ok o → result ≡ Ok (record { files = f; refused = refused }) → o.files ≡ f
+pub same_files : (f : FileSession) (o : FilesOutcome) (result : Result FilesOutcome FilesFault)
+    (refused : Option PerError) → result ≡ Ok o → result ≡ Ok (record { files = f; refused = refused }) → o.files ≡ f
 same_files f o result refused was due =
     let both = sym was ∙ due in
     let same : o ≡ record { files = f; refused = refused } = cc in
     ap (λ (x : FilesOutcome). x.files) same
 
 -- one refusal of a closing
-pub same_refusal : (f files : FileSession) (e error : PerError) (result : Result Closed FilesFault) → result ≡ Ok (closed.Refused files e) → result ≡ Ok (closed.Refused f error)
+pub same_refusal : (f files : FileSession) (e error : PerError) (result : Result Closed FilesFault)
+    → result ≡ Ok (closed.Refused files e) → result ≡ Ok (closed.Refused f error)
     → left.Refused (Files files) e ≡ left.Refused (Files f) error
 same_refusal f files e error result was due =
     let both = sym was ∙ due in
@@ -78,9 +88,11 @@ same_refusal f files e error result was due =
     ap (λ (x : FileSession). left.Refused (Files x) e) one ∙ ap (λ (x : PerError). left.Refused (Files f) x) two
 
 -- a result is one of the two
-pub not_both : {A E : Type 0} (result : Result A E) (answer : A) (fault : E) → result ≡ Ok answer → result ≡ Err fault → ⊥
+pub not_both : {A E : Type 0} (result : Result A E) (answer : A) (fault : E) → result ≡ Ok answer → result ≡ Err fault
+    → ⊥
 not_both {A} {E} result answer fault done failed = let both = sym done ∙ failed in absurd (cc)
 
-pub some_or : {P : Type 0} (refused : Option PerError) → (refused ≡ None → P) → ((error : PerError) → refused ≡ Some error → P) → P
+pub some_or : {P : Type 0} (refused : Option PerError) → (refused ≡ None → P)
+    → ((error : PerError) → refused ≡ Some error → P) → P
 some_or {P} None none some = none refl
 some_or {P} (Some error) none some = some error refl

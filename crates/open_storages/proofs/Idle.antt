@@ -21,13 +21,15 @@ settled_on files image c settled = record {
   left = λ f is. ap (λ (i : Image). i f) settled.left;
 }
 
-pub none_storing : UntouchedLaw → (told : Bool) (shape : Shape) (after : State) (m : Medium) → 1 ≤ shape.m → IsLawful told m → IsStoring told shape after m m
+pub none_storing : UntouchedLaw → (told : Bool) (shape : Shape) (after : State) (m : Medium) → 1 ≤ shape.m
+    → IsLawful told m → IsStoring told shape after m m
 none_storing untouched told shape after m some law = record {
   elsewhere = λ tells file spared. refl;
   outside = λ tells quiet. goes_none (IsSettledOn (IsOutside shape.place.first shape.place.copies) m.image) law
       (λ c here. settled_on (IsOutside shape.place.first shape.place.copies) m.image c (quiet c here));
   any_moment = λ tells quiet clean. goes_none (IsKeptCase shape m.image after) law
-      (λ c here. untouched shape m.image after c some clean (settled_on (IsOfPlace shape.place) m.image c (quiet c here)));
+      (λ c here. untouched shape m.image after c some clean
+      (settled_on (IsOfPlace shape.place) m.image c (quiet c here)));
   time = elapses_none law;
 }
 

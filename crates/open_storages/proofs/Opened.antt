@@ -25,8 +25,10 @@ use Rattle.open_storages.specs.declared.opening.Opening.TheVariants as opening
 use Rattle.open_storages.specs.Openings.{IsOpeningOf, Shows}
 use Rattle.open_storages.specs.Opens.{session_in}
 
-module _ (told : Bool) (tells : IsTrue told) (image : Image) (shape : Shape) (config : StorageData) (o : OpenedFiles) (untested : UntestedLaw) (of_files : config.kind ≡ kinds.Files)
-    (is : IsOpened told image shape (λ bytes. true) (given o)) (fresh : o.files.session ≡ record { files = stored_in o.files.store; handles = [] }) where
+module _ (told : Bool) (tells : IsTrue told) (image : Image) (shape : Shape) (config : StorageData) (o : OpenedFiles)
+    (untested : UntestedLaw) (of_files : config.kind ≡ kinds.Files)
+    (is : IsOpened told image shape (λ bytes. true) (given o))
+    (fresh : o.files.session ≡ record { files = stored_in o.files.store; handles = [] }) where
   stored_is : stored_in o.files.store ≡ map_of is.before
   stored_is = is.synced ∙ untested is.before
 
@@ -41,8 +43,10 @@ module _ (told : Bool) (tells : IsTrue told) (image : Image) (shape : Shape) (co
     view = is.view;
   }
 
-  by : (state : State) → opened_of state ≡ Some is.before → IsOpeningOf state shape config (opening.Opened (Files o.files) o.reports)
-  by (Opens v others) seen = let same : v ≡ is.before = cc in subst (λ (w : View). Shows shape config w (Files o.files) o.reports.items) (sym same) shows
+  by : (state : State) → opened_of state ≡ Some is.before
+      → IsOpeningOf state shape config (opening.Opened (Files o.files) o.reports)
+  by (Opens v others) seen = let same : v ≡ is.before =
+      cc in subst (λ (w : View). Shows shape config w (Files o.files) o.reports.items) (sym same) shows
   by (Corrupt salvage others) seen = absurd (cc)
 
   pub opened_files : IsOpeningOf (store_at image shape) shape config (opening.Opened (Files o.files) o.reports)

@@ -19,9 +19,11 @@ refused_when : (test : Bool) (error : PerError) → error_of {A = ⊤} (refuse t
 refused_when true error = refl
 refused_when false error = refl
 
-no_writer_is : (o : Option (Handle × Element)) → error_of {A = ⊤} (on_open o (λ handle file. refuse (not (writes handle.cursor.kind)) IllegalWriteAccess (Ok tt))) ≡ below.no_writer o
+no_writer_is : (o : Option (Handle × Element)) → error_of {A = ⊤}
+    (on_open o (λ handle file. refuse (not (writes handle.cursor.kind)) IllegalWriteAccess (Ok tt))) ≡ below.no_writer o
 no_writer_is None = refl
 no_writer_is (Some o) = refused_when (not (writes o.0.cursor.kind)) IllegalWriteAccess
 
 pub flush_refused_is : (f : FileSession) (handle : ℕ) → flush_refused (Files f) handle ≡ below.sync_refused f handle
-flush_refused_is f handle = ap (λ (e : Option PerError). first e (below.worn f)) (no_writer_is (open_at f.session handle))
+flush_refused_is f handle = ap (λ (e : Option PerError). first e (below.worn f))
+    (no_writer_is (open_at f.session handle))

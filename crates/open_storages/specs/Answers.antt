@@ -7,8 +7,10 @@ use Rattle.command_text.specs.declared.calls.Call.TheVariants as call
 use Rattle.command_text.specs.declared.replies.Answer.{Answer}
 use Rattle.command_text.specs.Replies.{HasText}
 
--- The answer is the row's, and so is what the calls see afterwards. A refusal is the row's, but for want of memory, and changes nothing.
-abbrev pub IsAnswered : {S : Type 0} → (row : Result (Answer × S) PerError) → (old new : S) → Result Answer PerError → Type 0
+-- The answer is the row's, and so is what the calls see afterwards. A refusal is the row's, but for want of memory, and
+-- changes nothing.
+abbrev pub IsAnswered : {S : Type 0} → (row : Result (Answer × S) PerError) → (old new : S) → Result Answer PerError
+    → Type 0
 IsAnswered row old new (Ok answer) = (row ≡ Ok (answer, new)) × HasText answer
 IsAnswered row old new (Err error) = IsRefusal row error × (new ≡ old)
 

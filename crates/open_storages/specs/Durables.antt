@@ -44,5 +44,6 @@ OnClosed (left.Refused same error) P = ⊤
 
 -- in each copy at most the contents that differ, and the next index
 abbrev pub WritesAtMost : Open → (old new : Medium) → Type 0
-WritesAtMost o old new = IsWithin (shape_of (store_in o)).place.copies (map_cost (config_in o).kind (synced_of (session_in o)) (seen_of (session_in o)))
+WritesAtMost o old new = IsWithin (shape_of (store_in o)).place.copies
+    (map_cost (config_in o).kind (synced_of (session_in o)) (seen_of (session_in o)))
     (index_length (config_in o).kind (durable_view o).entries) old.written new.written

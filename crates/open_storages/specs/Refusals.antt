@@ -24,7 +24,8 @@ worn o = not (is_still o) && is_worn (view_in (store_in o))
 
 -- the view once what the calls see is durable: that of before where nothing differs
 abbrev pub durable_view : Open → View
-durable_view o = synced_view (shape_of (store_in o)) (view_in (store_in o)) (synced_of (session_in o)) (seen_of (session_in o))
+durable_view o = synced_view (shape_of (store_in o)) (view_in (store_in o)) (synced_of (session_in o))
+    (seen_of (session_in o))
 
 abbrev pub error_of : {A : Type 0} → Result A PerError → Option PerError
 error_of (Ok x) = None

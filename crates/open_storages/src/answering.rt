@@ -15,17 +15,20 @@ use per_base::PerError;
 use std::alloc::Global;
 
 impl Open {
-    /// Answers a call that touches no disk, at a moment in seconds. The storage that the call names is taken to be this one.
+    /// Answers a call that touches no disk, at a moment in seconds. The storage that the call names is taken to be this
+    /// one.
     ///
     /// # Errors
     ///
-    /// Those of the call, in their order, and then nothing changes; `StorageNotFound` for every call that does not come to an open
-    /// storage of this kind; `OutOfMemory`, which comes in the place of any other answer.
+    /// Those of the call, in their order, and then nothing changes; `StorageNotFound` for every call that does not come
+    /// to an open storage of this kind; `OutOfMemory`, which comes in the place of any other answer.
     #[tactic(auto, using(crate::proofs::Rows::answered_ok, crate::proofs::Rows::answered_refused))]
     pub fn call(&mut self, alloc: Global, now: u64, call: &Call) -> Result<Answer, PerError>
-        ensures ok { IfOk result (λ answer. in_session (config_in self.old) now (session_in self.old) call.now ≡ Ok (answer, session_in self.new)) }
+        ensures ok { IfOk result (λ answer. in_session (config_in self.old) now (session_in self.old) call.now
+            ≡ Ok (answer, session_in self.new)) }
         ensures text { IfOk result HasText }
-        ensures refused { IfErr result (λ error. IsRefusal (in_session (config_in self.old) now (session_in self.old) call.now) error) }
+        ensures refused { IfErr result (λ error. IsRefusal
+            (in_session (config_in self.old) now (session_in self.old) call.now) error) }
         ensures unfailed { IfErr result (λ error. error ≢ PerError.PhysicalStorageFailure) }
         ensures unchanged { OnErr result (session_in self.new ≡ session_in self.old) }
         ensures config { config_in self.new ≡ config_in self.old }

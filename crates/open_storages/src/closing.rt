@@ -30,10 +30,11 @@ pub enum Closing {
 }
 
 impl Open {
-    /// Closes the storage. The pending changes of keys are dropped, without a call of the disk; working files are made durable.
+    /// Closes the storage. The pending changes of keys are dropped, without a call of the disk; working files are made
+    /// durable.
     ///
-    /// It is refused, and nothing changes, with `ResourceBusy` of the lowest handle where one is open; then with `LimitReached` of
-    /// `Generations` where files differ and no generation is left.
+    /// It is refused, and nothing changes, with `ResourceBusy` of the lowest handle where one is open; then with
+    /// `LimitReached` of `Generations` where files differ and no generation is left.
     ///
     /// # Errors
     ///
@@ -41,9 +42,11 @@ impl Open {
     pub fn close<D: Disk>(self, disk: &mut D) -> Result<Closing, Stop>
         requires used { IsUsed D.told (D.medium disk.old).image (store_in self) }
 
-        // What is due is given: a refusal hands the storage back as it was, and where nothing differs the disk is not called.
+        // What is due is given: a refusal hands the storage back as it was, and where nothing differs the disk is not
+        // called.
         ensures done { IfOk result (IsClosed self (close_refused self)) }
-        ensures due { (error : PerError) → close_refused self ≡ Some error → (result ≡ Ok (Closing.Refused self error)) × (disk.new ≡ disk.old) }
+        ensures due { (error : PerError) → close_refused self ≡ Some error
+            → (result ≡ Ok (Closing.Refused self error)) × (disk.new ≡ disk.old) }
         ensures keys { (config_in self).kind ≡ kinds.Keys → (result ≡ Ok Closing.Done) × (disk.new ≡ disk.old) }
         ensures unchanged { is_still self ≡ true → IsOk result × (disk.new ≡ disk.old) }
 
@@ -52,14 +55,16 @@ impl Open {
             (store_at (D.medium disk.new).image (shape_of (store_in self)) ≡ Opens (durable_view self) [])) }
 
         ensures quiet { Quiet (D.medium disk.old) → OnOk result (Quiet (D.medium disk.new)) }
-        ensures clean { IsTrue D.told → IsClean (shape_of (store_in self)) (D.medium disk.old).image → OnOk result (IsClean (shape_of (store_in self)) (D.medium disk.new).image) }
+        ensures clean { IsTrue D.told → IsClean (shape_of (store_in self)) (D.medium disk.old).image
+            → OnOk result (IsClean (shape_of (store_in self)) (D.medium disk.new).image) }
         ensures at_most { WritesAtMost self (D.medium disk.old) (D.medium disk.new) }
         ensures cause { IsErrOf result Stop.Device → Rose (D.medium disk.old).faults (D.medium disk.new).faults }
         ensures passes { OnOk result ((D.medium disk.new).faults ≡ (D.medium disk.old).faults) }
         ensures fed { IsErrOf result Stop.OutOfMemory → disk.new ≡ disk.old }
 
         // No file outside the place changes, and a stop at any moment leaves the storage of before or that of after.
-        ensures storing { IsStoring D.told (shape_of (store_in self)) (Opens (durable_view self) []) (D.medium disk.old) (D.medium disk.new) }
+        ensures storing { IsStoring D.told (shape_of (store_in self)) (Opens (durable_view self) []) (D.medium disk.old)
+            (D.medium disk.new) }
     {
         untouched_is_kept();
         self.holds();

@@ -1,12 +1,13 @@
 //! One open storage of either kind, and every call on it.
 //!
-//! An [`Open`] is a key-value storage or a file storage in use. [`open_storage`] opens it as it is configured, and says what was
-//! lacking or that it is corrupt; [`Open::call`] answers the calls that touch no disk; [`Open::sync`], [`Open::flush`] and
-//! [`Open::close`] make durable what the calls see, all at once, and write only what differs.
+//! An [`Open`] is a key-value storage or a file storage in use. [`open_storage`] opens it as it is configured, and says
+//! what was lacking or that it is corrupt; [`Open::call`] answers the calls that touch no disk; [`Open::sync`],
+//! [`Open::flush`] and [`Open::close`] make durable what the calls see, all at once, and write only what differs.
 //!
-//! The promises: each call answers as its row says, every refusal in its order with what it carries, and a refused call changes
-//! nothing. A stop at any moment leaves the storage of before or that of after, and no file outside its place changes. Where memory
-//! ran out or the device failed, the storage is let go, and what stands on the disk is what the next opening finds.
+//! The promises: each call answers as its row says, every refusal in its order with what it carries, and a refused call
+//! changes nothing. A stop at any moment leaves the storage of before or that of after, and no file outside its place
+//! changes. Where memory ran out or the device failed, the storage is let go, and what stands on the disk is what the
+//! next opening finds.
 #![tactic(auto)]
 
 mod answering;

@@ -29,14 +29,16 @@ use std::alloc::Global;
 /// What an opening found.
 #[derive(Drop)]
 pub enum Opening {
-    /// The storage in use, and what was lacking or could not be read: of the storage first, then of its elements by their names.
+    /// The storage in use, and what was lacking or could not be read: of the storage first, then of its elements by
+    /// their names.
     Opened(Open, Vec<Report>),
     /// The storage is corrupt, and stays as it is; the report says so.
     Corrupt(Report),
 }
 
-/// Opens the storage that lies at a shape, as it is configured: every copy is brought to the text at which it opens, and each element on
-/// which enough copies agree is written again where it lacks. Nothing is then pending, and no handle is open.
+/// Opens the storage that lies at a shape, as it is configured: every copy is brought to the text at which it opens,
+/// and each element on which enough copies agree is written again where it lacks. Nothing is then pending, and no
+/// handle is open.
 ///
 /// # Errors
 ///
@@ -50,15 +52,19 @@ pub fn open_storage<D: Disk>(
     requires valid { IsStorage (storage_data config.now) }
     requires configured { IsConfigured config.now.kind (storage_data config.now) shape }
 
-    ensures opened { IsTrue D.told → IfOk result (IsOpeningOf (store_at (D.medium disk.old).image shape) shape (storage_data config.now)) }
+    ensures opened { IsTrue D.told → IfOk result (IsOpeningOf (store_at (D.medium disk.old).image shape) shape
+        (storage_data config.now)) }
     ensures placed { IfOk result (λ opening. OnOpened opening (IsPlaced shape (storage_data config.now))) }
-    ensures used { IfOk result (λ opening. OnOpened opening (λ o. IsUsed D.told (D.medium disk.new).image (store_in o))) }
-    ensures clean { IsTrue D.told → IsClean shape (D.medium disk.old).image → OnOk result (IsClean shape (D.medium disk.new).image) }
+    ensures used { IfOk result (λ opening. OnOpened opening
+        (λ o. IsUsed D.told (D.medium disk.new).image (store_in o))) }
+    ensures clean { IsTrue D.told → IsClean shape (D.medium disk.old).image
+        → OnOk result (IsClean shape (D.medium disk.new).image) }
     ensures quiet { OnOk result (Quiet (D.medium disk.new)) }
 
     // A corrupt storage is left as it is.
     ensures untouched { IfOk result (λ opening. OnCorrupt opening
-        (((D.medium disk.new).image ≡ (D.medium disk.old).image) × ((D.medium disk.new).written ≡ (D.medium disk.old).written))) }
+        (((D.medium disk.new).image ≡ (D.medium disk.old).image)
+        × ((D.medium disk.new).written ≡ (D.medium disk.old).written))) }
 
     ensures cause { IsErrOf result Stop.Device → Rose (D.medium disk.old).faults (D.medium disk.new).faults }
     ensures passes { OnOk result ((D.medium disk.new).faults ≡ (D.medium disk.old).faults) }
@@ -89,13 +95,17 @@ fn open_keys<D: Disk>(
     requires configured { IsConfigured kinds.Keys (storage_data config.now) shape }
     requires failed { failed ≡ failed_report shape }
 
-    ensures opened { IsTrue D.told → IfOk result (IsOpeningOf (store_at (D.medium disk.old).image shape) shape (storage_data config.now)) }
+    ensures opened { IsTrue D.told → IfOk result (IsOpeningOf (store_at (D.medium disk.old).image shape) shape
+        (storage_data config.now)) }
     ensures placed { IfOk result (λ opening. OnOpened opening (IsPlaced shape (storage_data config.now))) }
-    ensures used { IfOk result (λ opening. OnOpened opening (λ o. IsUsed D.told (D.medium disk.new).image (store_in o))) }
-    ensures clean { IsTrue D.told → IsClean shape (D.medium disk.old).image → OnOk result (IsClean shape (D.medium disk.new).image) }
+    ensures used { IfOk result (λ opening. OnOpened opening
+        (λ o. IsUsed D.told (D.medium disk.new).image (store_in o))) }
+    ensures clean { IsTrue D.told → IsClean shape (D.medium disk.old).image
+        → OnOk result (IsClean shape (D.medium disk.new).image) }
     ensures quiet { OnOk result (Quiet (D.medium disk.new)) }
     ensures untouched { IfOk result (λ opening. OnCorrupt opening
-        (((D.medium disk.new).image ≡ (D.medium disk.old).image) × ((D.medium disk.new).written ≡ (D.medium disk.old).written))) }
+        (((D.medium disk.new).image ≡ (D.medium disk.old).image)
+        × ((D.medium disk.new).written ≡ (D.medium disk.old).written))) }
     ensures cause { IsErrOf result Stop.Device → Rose (D.medium disk.old).faults (D.medium disk.new).faults }
     ensures passes { OnOk result ((D.medium disk.new).faults ≡ (D.medium disk.old).faults) }
     ensures fed { IsErrOf result Stop.OutOfMemory → (D.medium disk.new).faults ≡ (D.medium disk.old).faults }
@@ -121,13 +131,17 @@ fn open_file_storage<D: Disk>(
     requires configured { IsConfigured kinds.Files (storage_data config.now) shape }
     requires failed { failed ≡ failed_report shape }
 
-    ensures opened { IsTrue D.told → IfOk result (IsOpeningOf (store_at (D.medium disk.old).image shape) shape (storage_data config.now)) }
+    ensures opened { IsTrue D.told → IfOk result (IsOpeningOf (store_at (D.medium disk.old).image shape) shape
+        (storage_data config.now)) }
     ensures placed { IfOk result (λ opening. OnOpened opening (IsPlaced shape (storage_data config.now))) }
-    ensures used { IfOk result (λ opening. OnOpened opening (λ o. IsUsed D.told (D.medium disk.new).image (store_in o))) }
-    ensures clean { IsTrue D.told → IsClean shape (D.medium disk.old).image → OnOk result (IsClean shape (D.medium disk.new).image) }
+    ensures used { IfOk result (λ opening. OnOpened opening
+        (λ o. IsUsed D.told (D.medium disk.new).image (store_in o))) }
+    ensures clean { IsTrue D.told → IsClean shape (D.medium disk.old).image
+        → OnOk result (IsClean shape (D.medium disk.new).image) }
     ensures quiet { OnOk result (Quiet (D.medium disk.new)) }
     ensures untouched { IfOk result (λ opening. OnCorrupt opening
-        (((D.medium disk.new).image ≡ (D.medium disk.old).image) × ((D.medium disk.new).written ≡ (D.medium disk.old).written))) }
+        (((D.medium disk.new).image ≡ (D.medium disk.old).image)
+        × ((D.medium disk.new).written ≡ (D.medium disk.old).written))) }
     ensures cause { IsErrOf result Stop.Device → Rose (D.medium disk.old).faults (D.medium disk.new).faults }
     ensures passes { OnOk result ((D.medium disk.new).faults ≡ (D.medium disk.old).faults) }
     ensures fed { IsErrOf result Stop.OutOfMemory → (D.medium disk.new).faults ≡ (D.medium disk.old).faults }

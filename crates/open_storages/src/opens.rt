@@ -18,12 +18,14 @@ pub enum Open {
 }
 
 impl Open {
-    /// What always holds of an open storage: it lies as it is configured, its session is one of its kind, and what is synchronised is
-    /// what the storage below shows.
+    /// What always holds of an open storage: it lies as it is configured, its session is one of its kind, and what is
+    /// synchronised is what the storage below shows.
     pub fn holds(&self)
-        ensures configured { IsConfigured (config_in self.now).kind (config_in self.now) (shape_of (store_in self.now)) }
+        ensures configured { IsConfigured (config_in self.now).kind (config_in self.now)
+            (shape_of (store_in self.now)) }
         ensures kind { kind_of (session_in self.now) ≡ (config_in self.now).kind }
-        ensures synced { synced_of (session_in self.now) ≡ seen_in (config_in self.now).kind (view_in (store_in self.now)) }
+        ensures synced { synced_of (session_in self.now) ≡ seen_in (config_in self.now).kind
+            (view_in (store_in self.now)) }
     {
         match self {
             Open::Keys(kvs) => kvs.holds(),

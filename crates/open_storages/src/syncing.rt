@@ -31,10 +31,11 @@ pub enum Durable {
 }
 
 impl Open {
-    /// Makes what the calls see of a storage of keys durable, all at once: only the keys that differ are written, and where none does,
-    /// the disk is not called.
+    /// Makes what the calls see of a storage of keys durable, all at once: only the keys that differ are written, and
+    /// where none does, the disk is not called.
     ///
-    /// It is refused, and nothing changes, with `LimitReached` of `Generations` where keys differ and no generation is left.
+    /// It is refused, and nothing changes, with `LimitReached` of `Generations` where keys differ and no generation is
+    /// left.
     ///
     /// # Errors
     ///
@@ -45,18 +46,21 @@ impl Open {
 
         // What is due is given: a refusal hands the storage back as it was, and where nothing differs nothing happens.
         ensures done { IfOk result (IsMade D.told (D.medium disk.new).image self (sync_refused self)) }
-        ensures due { (error : PerError) → sync_refused self ≡ Some error → (result ≡ Ok (Durable.Refused self error)) × (disk.new ≡ disk.old) }
+        ensures due { (error : PerError) → sync_refused self ≡ Some error
+            → (result ≡ Ok (Durable.Refused self error)) × (disk.new ≡ disk.old) }
         ensures unchanged { is_still self ≡ true → IsOk result × (disk.new ≡ disk.old) }
 
         ensures quiet { Quiet (D.medium disk.old) → OnOk result (Quiet (D.medium disk.new)) }
-        ensures clean { IsTrue D.told → IsClean (shape_of (store_in self)) (D.medium disk.old).image → OnOk result (IsClean (shape_of (store_in self)) (D.medium disk.new).image) }
+        ensures clean { IsTrue D.told → IsClean (shape_of (store_in self)) (D.medium disk.old).image
+            → OnOk result (IsClean (shape_of (store_in self)) (D.medium disk.new).image) }
         ensures at_most { WritesAtMost self (D.medium disk.old) (D.medium disk.new) }
         ensures cause { IsErrOf result Stop.Device → Rose (D.medium disk.old).faults (D.medium disk.new).faults }
         ensures passes { OnOk result ((D.medium disk.new).faults ≡ (D.medium disk.old).faults) }
         ensures fed { IsErrOf result Stop.OutOfMemory → disk.new ≡ disk.old }
 
         // No file outside the place changes, and a stop at any moment leaves the storage of before or that of after.
-        ensures storing { IsStoring D.told (shape_of (store_in self)) (Opens (durable_view self) []) (D.medium disk.old) (D.medium disk.new) }
+        ensures storing { IsStoring D.told (shape_of (store_in self)) (Opens (durable_view self) []) (D.medium disk.old)
+            (D.medium disk.new) }
     {
         self.holds();
         match self {
@@ -77,11 +81,12 @@ impl Open {
         }
     }
 
-    /// Makes the working files of a whole storage durable through a handle, all at once: only what differs is written, and where nothing
-    /// does, the disk is not called.
+    /// Makes the working files of a whole storage durable through a handle, all at once: only what differs is written,
+    /// and where nothing does, the disk is not called.
     ///
-    /// It is refused, and nothing changes, with `StorageNotFound` for a storage of keys; `NotOpen`; `IllegalWriteAccess` for a handle
-    /// that only reads; `LimitReached` of `Generations` where files differ and no generation is left.
+    /// It is refused, and nothing changes, with `StorageNotFound` for a storage of keys; `NotOpen`;
+    /// `IllegalWriteAccess` for a handle that only reads; `LimitReached` of `Generations` where files differ and no
+    /// generation is left.
     ///
     /// # Errors
     ///
@@ -90,17 +95,20 @@ impl Open {
         requires used { IsUsed D.told (D.medium disk.old).image (store_in self) }
 
         ensures done { IfOk result (IsMade D.told (D.medium disk.new).image self (flush_refused self handle)) }
-        ensures due { (error : PerError) → flush_refused self handle ≡ Some error → (result ≡ Ok (Durable.Refused self error)) × (disk.new ≡ disk.old) }
+        ensures due { (error : PerError) → flush_refused self handle ≡ Some error
+            → (result ≡ Ok (Durable.Refused self error)) × (disk.new ≡ disk.old) }
         ensures unchanged { is_still self ≡ true → IsOk result × (disk.new ≡ disk.old) }
 
         ensures quiet { Quiet (D.medium disk.old) → OnOk result (Quiet (D.medium disk.new)) }
-        ensures clean { IsTrue D.told → IsClean (shape_of (store_in self)) (D.medium disk.old).image → OnOk result (IsClean (shape_of (store_in self)) (D.medium disk.new).image) }
+        ensures clean { IsTrue D.told → IsClean (shape_of (store_in self)) (D.medium disk.old).image
+            → OnOk result (IsClean (shape_of (store_in self)) (D.medium disk.new).image) }
         ensures at_most { WritesAtMost self (D.medium disk.old) (D.medium disk.new) }
         ensures cause { IsErrOf result Stop.Device → Rose (D.medium disk.old).faults (D.medium disk.new).faults }
         ensures passes { OnOk result ((D.medium disk.new).faults ≡ (D.medium disk.old).faults) }
         ensures fed { IsErrOf result Stop.OutOfMemory → disk.new ≡ disk.old }
 
-        ensures storing { IsStoring D.told (shape_of (store_in self)) (Opens (durable_view self) []) (D.medium disk.old) (D.medium disk.new) }
+        ensures storing { IsStoring D.told (shape_of (store_in self)) (Opens (durable_view self) []) (D.medium disk.old)
+            (D.medium disk.new) }
     {
         untouched_is_kept();
         self.holds();

@@ -14,7 +14,8 @@ use per_base::{Bytes, Name, OpenKind, OpenMode, PerError, Sequence};
 /// Answers a call on files, at a moment in seconds.
 #[tactic(auto, using(crate::proofs::Rows::refused_then, crate::proofs::Rows::due_then, crate::proofs::Rows::answered_then), unfolding(run_model::specs::Sessions::on_working))]
 pub(crate) fn answer_files(files: &mut Files, now: u64, call: &Call) -> Result<Answer, PerError>
-    ensures answered { IsAnswered (on_working files.old.config now files.old.session call.now) files.old.session files.new.session result }
+    ensures answered { IsAnswered (on_working files.old.config now files.old.session call.now) files.old.session
+        files.new.session result }
     ensures beside { files.new ≡ record files.old { session = files.new.session; moment = files.new.moment } }
 {
     match call {
@@ -42,7 +43,8 @@ pub(crate) fn answer_files(files: &mut Files, now: u64, call: &Call) -> Result<A
 #[tactic(auto, using(crate::proofs::Rows::refused_then, crate::proofs::Rows::due_then, crate::proofs::Rows::answered_then), unfolding(run_model::specs::Sessions::on_working))]
 fn by_name(files: &mut Files, now: u64, call: &Call) -> Result<Answer, PerError>
     requires { is_by_name call.now ≡ true }
-    ensures answered { IsAnswered (on_working files.old.config now files.old.session call.now) files.old.session files.new.session result }
+    ensures answered { IsAnswered (on_working files.old.config now files.old.session call.now) files.old.session
+        files.new.session result }
     ensures beside { files.new ≡ record files.old { session = files.new.session; moment = files.new.moment } }
 {
     match call {
@@ -71,7 +73,8 @@ fn by_name(files: &mut Files, now: u64, call: &Call) -> Result<Answer, PerError>
 #[tactic(auto, using(crate::proofs::Rows::refused_then, crate::proofs::Rows::due_then, crate::proofs::Rows::answered_then), unfolding(run_model::specs::Sessions::on_working))]
 fn read(files: &mut Files, call: &Call) -> Result<Answer, PerError>
     requires { is_reading call.now ≡ true }
-    ensures answered { (now : ℕ) → IsAnswered (on_working files.old.config now files.old.session call.now) files.old.session files.new.session result }
+    ensures answered { (now : ℕ) → IsAnswered (on_working files.old.config now files.old.session call.now)
+        files.old.session files.new.session result }
     ensures beside { files.new ≡ record files.old { session = files.new.session; moment = files.new.moment } }
 {
     match call {
@@ -92,7 +95,8 @@ fn read(files: &mut Files, call: &Call) -> Result<Answer, PerError>
 #[tactic(auto, using(crate::proofs::Rows::refused_then, crate::proofs::Rows::due_then, crate::proofs::Rows::answered_then), unfolding(run_model::specs::Sessions::on_working))]
 fn place(files: &mut Files, call: &Call) -> Result<Answer, PerError>
     requires { is_placing call.now ≡ true }
-    ensures answered { (now : ℕ) → IsAnswered (on_working files.old.config now files.old.session call.now) files.old.session files.new.session result }
+    ensures answered { (now : ℕ) → IsAnswered (on_working files.old.config now files.old.session call.now)
+        files.old.session files.new.session result }
     ensures beside { files.new ≡ record files.old { session = files.new.session; moment = files.new.moment } }
 {
     match call {
@@ -116,7 +120,8 @@ fn change(files: &mut Files, now: u64, call: &Call) -> Result<Answer, PerError>
     requires by_name { is_by_name call.now ≡ false }
     requires reading { is_reading call.now ≡ false }
     requires placing { is_placing call.now ≡ false }
-    ensures answered { IsAnswered (on_working files.old.config now files.old.session call.now) files.old.session files.new.session result }
+    ensures answered { IsAnswered (on_working files.old.config now files.old.session call.now) files.old.session
+        files.new.session result }
     ensures beside { files.new ≡ record files.old { session = files.new.session; moment = files.new.moment } }
 {
     match call {
@@ -152,8 +157,10 @@ fn opened(
     mode: OpenMode,
     now: u64,
 ) -> Result<u32, PerError>
-    ensures ok { IfOk result (λ handle. open_file (storage_of files.old.config) files.old.session name.now kind mode now ≡ Ok (handle, files.new.session)) }
-    ensures refused { IfErr result (λ error. IsRefusal (open_file (storage_of files.old.config) files.old.session name.now kind mode now) error) }
+    ensures ok { IfOk result (λ handle. open_file (storage_of files.old.config) files.old.session name.now kind mode now
+        ≡ Ok (handle, files.new.session)) }
+    ensures refused { IfErr result (λ error. IsRefusal (open_file (storage_of files.old.config) files.old.session
+        name.now kind mode now) error) }
     ensures beside { files.new ≡ record files.old { session = files.new.session; moment = files.new.moment } }
     ensures unchanged { OnErr result (files.new ≡ files.old) }
 {
@@ -166,8 +173,10 @@ fn opened(
 
 /// Writes a piece through a handle, at this moment.
 fn written(files: &mut Files, handle: u32, bytes: &Bytes, now: u64) -> Result<(), PerError>
-    ensures ok { OnOk result (handling.write (storage_of files.old.config) files.old.session now handle bytes.now ≡ Ok files.new.session) }
-    ensures refused { IfErr result (λ error. IsRefusal (handling.write (storage_of files.old.config) files.old.session now handle bytes.now) error) }
+    ensures ok { OnOk result (handling.write (storage_of files.old.config) files.old.session now handle bytes.now
+        ≡ Ok files.new.session) }
+    ensures refused { IfErr result (λ error. IsRefusal (handling.write (storage_of files.old.config) files.old.session
+        now handle bytes.now) error) }
     ensures beside { files.new ≡ record files.old { session = files.new.session; moment = files.new.moment } }
     ensures unchanged { OnErr result (files.new.session ≡ files.old.session) }
 {

@@ -17,7 +17,8 @@ use value_model::Value;
 /// Answers a call on keys.
 #[tactic(auto, using(crate::proofs::Rows::refused_then, crate::proofs::Rows::due_then, crate::proofs::Rows::answered_then), unfolding(run_model::specs::Sessions::on_keys))]
 pub(crate) fn answer_keys(kvs: &mut Kvs, alloc: Global, call: &Call) -> Result<Answer, PerError>
-    ensures answered { IsAnswered (on_keys kvs.old.config (keys_of kvs.old) call.now) (keys_of kvs.old) (keys_of kvs.new) result }
+    ensures answered { IsAnswered (on_keys kvs.old.config (keys_of kvs.old) call.now) (keys_of kvs.old)
+        (keys_of kvs.new) result }
     ensures beside { kvs.new ≡ showing kvs.old kvs.new.session.visible }
 {
     match call {
@@ -57,23 +58,28 @@ pub(crate) fn answer_keys(kvs: &mut Kvs, alloc: Global, call: &Call) -> Result<A
 /// A copy of the value of a key.
 fn value_of(kvs: &Kvs, alloc: Global, key: &Name) -> Result<Value, PerError>
     ensures ok { IfOk result (λ value. calls.get_any kvs.now.config kvs.now.session.visible key.now ≡ Ok value) }
-    ensures refused { IfErr result (λ error. IsRefusal (calls.get_any kvs.now.config kvs.now.session.visible key.now) error) }
+    ensures refused { IfErr result (λ error. IsRefusal (calls.get_any kvs.now.config kvs.now.session.visible key.now)
+        error) }
 {
     copy_of(alloc, kvs.get_any(key)?)
 }
 
 /// A copy of the value of a key, asked for by its type.
 fn value_as(kvs: &Kvs, alloc: Global, key: &Name, asked: &AskedType) -> Result<Value, PerError>
-    ensures ok { IfOk result (λ value. calls.get_as kvs.now.config kvs.now.session.visible key.now asked.now ≡ Ok value) }
-    ensures refused { IfErr result (λ error. IsRefusal (calls.get_as kvs.now.config kvs.now.session.visible key.now asked.now) error) }
+    ensures ok { IfOk result (λ value. calls.get_as kvs.now.config kvs.now.session.visible key.now asked.now
+        ≡ Ok value) }
+    ensures refused { IfErr result (λ error. IsRefusal (calls.get_as kvs.now.config kvs.now.session.visible key.now
+        asked.now) error) }
 {
     copy_of(alloc, kvs.get_as(key, asked.value_type())?)
 }
 
 /// Makes a copy of a value visible under a name.
 fn set(kvs: &mut Kvs, alloc: Global, key: &Name, value: &Value) -> Result<(), PerError>
-    ensures ok { OnOk result (calls.set_any kvs.old.config kvs.old.session.visible key.now value.now ≡ Ok kvs.new.session.visible) }
-    ensures refused { IfErr result (λ error. IsRefusal (calls.set_any kvs.old.config kvs.old.session.visible key.now value.now) error) }
+    ensures ok { OnOk result (calls.set_any kvs.old.config kvs.old.session.visible key.now value.now
+        ≡ Ok kvs.new.session.visible) }
+    ensures refused { IfErr result (λ error. IsRefusal (calls.set_any kvs.old.config kvs.old.session.visible key.now
+        value.now) error) }
     ensures beside { kvs.new ≡ showing kvs.old kvs.new.session.visible }
     ensures unchanged { OnErr result (kvs.new ≡ kvs.old) }
 {

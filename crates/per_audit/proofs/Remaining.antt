@@ -1,5 +1,7 @@
--- What is left to be added, while storages and applications are gone through one after another; and what looks leave of a disk.
-use Rattle.std.proofs.Common.{◌≡◌, ℕ, zero, suc, ◌+◌, ◌-◌, ◌<◌, ◌≤◌, List, [], ◌∷◌, ◌++◌, map, length, get_or, drop, Bool, refl, sym, ap, ◌∙◌, subst, arith}
+-- What is left to be added, while storages and applications are gone through one after another; and what looks leave of
+-- a disk.
+use Rattle.std.proofs.Common.{◌≡◌, ℕ, zero, suc, ◌+◌, ◌-◌, ◌<◌, ◌≤◌, List, [], ◌∷◌, ◌++◌, map, length, get_or, drop}
+use Rattle.std.proofs.Common.{Bool, refl, sym, ap, ◌∙◌, subst, arith}
 use Rattle.std.specs.List.{AllByRecursion, flat_map, range_with_len}
 use Rattle.std.proofs.lemmas.List.{append-nil, append_assoc, drop_all, drop_more}
 use Rattle.disk_model.specs.Image.{Image}
@@ -20,12 +22,16 @@ use Rattle.per_audit.specs.declared.noting.Notes.{Notes}
 -- ---- storages of a version
 
 -- what is there and what the storages from a number on come to is what was there at first and what all of them come to
-abbrev pub Left : {A : Type 0} → (ℕ → StorageData → State → List A) → Image → (app bank number : ℕ) → List StorageConfig → (start now : List A) → Type 0
+abbrev pub Left : {A : Type 0} → (ℕ → StorageData → State → List A) → Image → (app bank number : ℕ) → List StorageConfig
+    → (start now : List A) → Type 0
 Left f image app bank number storages start now =
-    now ++ within f image app bank number (map storage_data (drop number storages)) ≡ start ++ within f image app bank 0 (map storage_data storages)
+    now ++ within f image app bank number (map storage_data (drop number storages))
+    ≡ start ++ within f image app bank 0 (map storage_data storages)
 
-module _ {A : Type 0} (f : ℕ → StorageData → State → List A) (image : Image) (app bank : ℕ) (storages : List StorageConfig) (start : List A) where
-  left_more : (number : ℕ) (x : StorageConfig) (now new : List A) → number < length storages → x ≡ get_or storages number x
+module _ {A : Type 0} (f : ℕ → StorageData → State → List A) (image : Image) (app bank : ℕ)
+    (storages : List StorageConfig) (start : List A) where
+  left_more : (number : ℕ) (x : StorageConfig) (now new : List A) → number < length storages
+      → x ≡ get_or storages number x
       → Left f image app bank number storages start now
       → new ≡ now ++ f bank (storage_data x) (store_at image (shape_of app bank number (storage_data x)))
       → Left f image app bank (number + 1) storages start new
@@ -34,7 +40,8 @@ module _ {A : Type 0} (f : ℕ → StorageData → State → List A) (image : Im
       let later = drop (number + 1) storages in
       let rest = within f image app bank (suc number) (map storage_data later) in
       let next : number + 1 ≡ suc number = omega arith in
-      let step : drop number storages ≡ x ∷ later = drop_more storages number x lt ∙ ap (λ (y : StorageConfig). y ∷ later) (sym is) in
+      let step : drop number storages ≡ x ∷ later = drop_more storages number x lt
+      ∙ ap (λ (y : StorageConfig). y ∷ later) (sym is) in
       ap (λ n. new ++ within f image app bank n (map storage_data later)) next
       ∙ ap (λ (xs : List A). xs ++ rest) added
       ∙ append_assoc now here rest
@@ -45,33 +52,43 @@ module _ {A : Type 0} (f : ℕ → StorageData → State → List A) (image : Im
       → now ≡ start ++ within f image app bank 0 (map storage_data storages)
   left_all number now past left =
       sym (append-nil now)
-      ∙ sym (ap (λ (ys : List StorageConfig). now ++ within f image app bank number (map storage_data ys)) (drop_all number storages past))
+      ∙ sym (ap (λ (ys : List StorageConfig). now ++ within f image app bank number (map storage_data ys))
+      (drop_all number storages past))
       ∙ left
 
-pub record AreLeft (image : Image) (app bank number : ℕ) (storages : List StorageConfig) (start now : Notes) : Type 0 where
-  pub elements : Left (listed_of app) image app bank number storages start.elements.items now.elements.items
-  pub findings : Left (of_storage app) image app bank number storages start.findings.items now.findings.items
+pub record AreLeft (image : Image) (app bank number : ℕ) (storages : List StorageConfig) (start now : Notes) : Type 0
+  where
+    pub elements : Left (listed_of app) image app bank number storages start.elements.items now.elements.items
+    pub findings : Left (of_storage app) image app bank number storages start.findings.items now.findings.items
 
 module _ (image : Image) (app bank : ℕ) (storages : List StorageConfig) (start : Notes) where
-  pub are_left_more : (number : ℕ) (x : StorageConfig) (now new : Notes) → number < length storages → x ≡ get_or storages number x
+  pub are_left_more : (number : ℕ) (x : StorageConfig) (now new : Notes) → number < length storages
+      → x ≡ get_or storages number x
       → AreLeft image app bank number storages start now
       → Adds (listed_of app bank (storage_data x) (store_at image (shape_of app bank number (storage_data x))))
       (of_storage app bank (storage_data x) (store_at image (shape_of app bank number (storage_data x)))) now new
       → AreLeft image app bank (number + 1) storages start new
   are_left_more number x now new lt is left adds = record {
-    elements = left_more (listed_of app) image app bank storages start.elements.items number x now.elements.items new.elements.items lt is left.elements adds.elements_are;
-    findings = left_more (of_storage app) image app bank storages start.findings.items number x now.findings.items new.findings.items lt is left.findings adds.findings_are;
+    elements = left_more (listed_of app) image app bank storages start.elements.items number x now.elements.items
+        new.elements.items lt is left.elements adds.elements_are;
+    findings = left_more (of_storage app) image app bank storages start.findings.items number x now.findings.items
+        new.findings.items lt is left.findings adds.findings_are;
   }
 
-  pub none_are_left : (number : ℕ) (now : Notes) → length storages ≤ number → AreLeft image app bank number storages start now
-      → Adds (within (listed_of app) image app bank 0 (map storage_data storages)) (within (of_storage app) image app bank 0 (map storage_data storages)) start now
+  pub none_are_left : (number : ℕ) (now : Notes) → length storages ≤ number
+      → AreLeft image app bank number storages start now
+      → Adds (within (listed_of app) image app bank 0 (map storage_data storages))
+      (within (of_storage app) image app bank 0 (map storage_data storages)) start now
   none_are_left number now past left = record {
-    elements_are = left_all (listed_of app) image app bank storages start.elements.items number now.elements.items past left.elements;
-    findings_are = left_all (of_storage app) image app bank storages start.findings.items number now.findings.items past left.findings;
+    elements_are = left_all (listed_of app) image app bank storages start.elements.items number now.elements.items past
+        left.elements;
+    findings_are = left_all (of_storage app) image app bank storages start.findings.items number now.findings.items past
+        left.findings;
   }
 
 -- each storage of a deployment keeps what storages keep
-pub storage_keeps : (ds : List StorageConfig) (k : ℕ) (x : StorageConfig) → AllByRecursion IsStorage (map storage_data ds) → k < length ds → x ≡ get_or ds k x
+pub storage_keeps : (ds : List StorageConfig) (k : ℕ) (x : StorageConfig)
+    → AllByRecursion IsStorage (map storage_data ds) → k < length ds → x ≡ get_or ds k x
     → IsStorage (storage_data x)
 storage_keeps [] k x all lt is = absurd (omega (arith, lt))
 storage_keeps (d ∷ ds) zero x all lt is = subst (λ (y : StorageConfig). IsStorage (storage_data y)) (sym is) all.0
@@ -105,7 +122,8 @@ findings_whole image = refl
 abbrev pub AppsLeft : {A : Type 0} → (ℕ → List A) → (app : ℕ) → (now : List A) → Type 0
 AppsLeft f app now = now ++ flat_map f (range_with_len app (8 - app)) ≡ flat_map f (range_with_len 0 8)
 
-apps_more : {A : Type 0} (f : ℕ → List A) (app : ℕ) (now new : List A) → app < 8 → AppsLeft f app now → new ≡ now ++ f app → AppsLeft f (app + 1) new
+apps_more : {A : Type 0} (f : ℕ → List A) (app : ℕ) (now new : List A) → app < 8 → AppsLeft f app now
+    → new ≡ now ++ f app → AppsLeft f (app + 1) new
 apps_more {A} f app now new lt left added =
     let rest = flat_map f (range_with_len (app + 1) (8 - (app + 1))) in
     let one : 8 - app ≡ suc (8 - (app + 1)) = omega (arith, lt) in
@@ -114,11 +132,14 @@ apps_more {A} f app now new lt left added =
     ∙ sym (ap (λ n. now ++ flat_map f (range_with_len app n)) one)
     ∙ left
 
-pub apps_more_at : {A : Type 0} (f : Image → ℕ → List A) (old mid : Image) (app : ℕ) (now new : List A) → app < 8 → mid ≡ old → AppsLeft (f old) app now
+pub apps_more_at : {A : Type 0} (f : Image → ℕ → List A) (old mid : Image) (app : ℕ) (now new : List A) → app < 8
+    → mid ≡ old → AppsLeft (f old) app now
     → new ≡ now ++ f mid app → AppsLeft (f old) (app + 1) new
-apps_more_at f old mid app now new lt same left added = apps_more (f old) app now new lt left (added ∙ ap (λ (im : Image). now ++ f im app) same)
+apps_more_at f old mid app now new lt same left added =
+    apps_more (f old) app now new lt left (added ∙ ap (λ (im : Image). now ++ f im app) same)
 
-pub apps_all : {A : Type 0} (f : ℕ → List A) (app : ℕ) (now : List A) → 8 ≤ app → AppsLeft f app now → now ≡ flat_map f (range_with_len 0 8)
+pub apps_all : {A : Type 0} (f : ℕ → List A) (app : ℕ) (now : List A) → 8 ≤ app → AppsLeft f app now
+    → now ≡ flat_map f (range_with_len 0 8)
 apps_all f app now past left =
     let none : 8 - app ≡ 0 = omega (arith, past) in
     sym (append-nil now) ∙ sym (ap (λ n. now ++ flat_map f (range_with_len app n)) none) ∙ left
@@ -134,7 +155,14 @@ pub record IsSeen (old new : Medium) : Type 0 where
   pub time : Elapses old new
 
 pub none_seen : {told : Bool} {m : Medium} → IsLawful told m → IsSeen m m
-none_seen law = record { image = refl; idle = λ quiet. idle_none law quiet; written = refl; passes = refl; time = elapses_none law }
+none_seen law = record {
+  image = refl;
+  idle = λ quiet. idle_none law quiet;
+  written = refl;
+  passes = refl;
+  time =
+      elapses_none law;
+}
 
 pub seen_on : {a b c : Medium} → IsSeen a b → IsSeen b c → IsSeen a c
 seen_on first next = record {

@@ -1,5 +1,6 @@
 -- Where nothing is found every application is intact, and where every application is intact nothing is found.
-use Rattle.std.proofs.Common.{◌≡◌, ℕ, suc, List, [], ◌∷◌, ◌++◌, map, Bool, true, false, cond, Option, Some, None, refl, sym, ap, ◌∙◌, arith}
+use Rattle.std.proofs.Common.{◌≡◌, ℕ, suc, List, [], ◌∷◌, ◌++◌, map, Bool, true, false, cond, Option, Some, None, refl}
+use Rattle.std.proofs.Common.{sym, ap, ◌∙◌, arith}
 use Rattle.std.specs.List.{AllByRecursion, flat_map}
 use Rattle.per_base.specs.declared.elements.Entry.{Entry}
 use Rattle.per_base.specs.declared.elements.Scope.{Scope}
@@ -12,25 +13,29 @@ use Rattle.disk_model.specs.Image.{Image}
 use Rattle.deployment_model.specs.Data.{StorageData}
 use Rattle.element_state.specs.declared.shapes.Shape.{Shape}
 use Rattle.element_state.specs.declared.shapes.View.{View}
-use Rattle.element_state.specs.Reports.{element_failed, element_recovered, element_reports, is_readable, recovered_reports, report_of, report_some, reports, store_recovered}
+use Rattle.element_state.specs.Reports.{element_failed, element_recovered, element_reports, is_readable}
+use Rattle.element_state.specs.Reports.{recovered_reports, report_of, report_some, reports, store_recovered}
 use Rattle.element_state.specs.States.{State, Opens, Corrupt, store_at}
 use Rattle.deploy_laws.specs.Apps.{Says, nothing, absent, installed, app_at, root_settled, says_at, shapes_named}
 use Rattle.deploy_laws.specs.Places.{Named, shape_of, shapes_from, shapes_if, shapes_in}
 use Rattle.deploy_rows.specs.Recovering.{is_content}
 use Rattle.per_audit.specs.declared.findings.Finding.{Finding}
 use Rattle.per_audit.specs.declared.findings.FindingKind.TheVariants.{Lost}
-use Rattle.per_audit.specs.Audits.{damaged_by, each_storage, finding, findings_at, findings_of, is_none_left, lacking_by, of_element, of_storage, storages_if, storages_of, unless_settled}
+use Rattle.per_audit.specs.Audits.{damaged_by, each_storage, finding, findings_at, findings_of, is_none_left}
+use Rattle.per_audit.specs.Audits.{lacking_by, of_element, of_storage, storages_if, storages_of, unless_settled}
 use Rattle.element_state.specs.Chosen.{opened_of}
 use Rattle.per_audit.specs.Laws.{IntactIsSoundLaw, IsIntactApp, IsIntactStorage, SilentOpeningLaw, SoundIsIntactLaw}
 use Rattle.per_audit.proofs.Lists.{all_silent, flat_silent, nil_join, nil_left, nil_right, range_silent}
 
 -- ---- one unit
 
-lacks_none : (app : ℕ) (bank : Option ℕ) (unit : Unit) (lacking : List ℕ) → damaged_by app bank unit lacking ≡ [] → lacking ≡ []
+lacks_none : (app : ℕ) (bank : Option ℕ) (unit : Unit) (lacking : List ℕ) → damaged_by app bank unit lacking ≡ []
+    → lacking ≡ []
 lacks_none app bank unit [] e = refl
 lacks_none app bank unit (copy ∷ copies) e = cc
 
-is_settled : (settled : Bool) (app : ℕ) (bank : Option ℕ) (unit : Unit) → unless_settled settled app bank unit ≡ [] → settled ≡ true
+is_settled : (settled : Bool) (app : ℕ) (bank : Option ℕ) (unit : Unit) → unless_settled settled app bank unit ≡ []
+    → settled ≡ true
 is_settled true app bank unit e = refl
 is_settled false app bank unit e = cc
 
@@ -40,22 +45,26 @@ none_other (v ∷ others) e = let false_true : false ≡ true = e in cc
 
 -- ---- an element
 
-report_none : (kind : ReportKind) (shape : Shape) (element : Option (List ℕ)) (copies : List ℕ) → report_some kind shape element copies ≡ [] → copies ≡ []
+report_none : (kind : ReportKind) (shape : Shape) (element : Option (List ℕ)) (copies : List ℕ)
+    → report_some kind shape element copies ≡ [] → copies ≡ []
 report_none kind shape element [] e = refl
 report_none kind shape element (copy ∷ copies) e = cc
 
 module _ (app bank : ℕ) (shape : Shape) (e : Entry) (unit : Unit) (lost : Finding) (report : Report) where
-  element_silent : (readable : Bool) (scope : Scope) → cond readable (damaged_by app (Some bank) unit (lacking_by scope e.lacking)) (lost ∷ []) ≡ []
+  element_silent : (readable : Bool) (scope : Scope) → cond readable
+      (damaged_by app (Some bank) unit (lacking_by scope e.lacking)) (lost ∷ []) ≡ []
       → cond readable (recovered_reports scope shape e) (report ∷ []) ≡ []
   element_silent true scope.Element none =
-      ap (report_some (element_recovered shape.kind) shape (Some e.name)) (lacks_none app (Some bank) unit e.lacking none)
+      ap (report_some (element_recovered shape.kind) shape (Some e.name))
+      (lacks_none app (Some bank) unit e.lacking none)
   element_silent true scope.Storage none = refl
   element_silent false scope none = cc
 
   report_silent : (readable : Bool) (scope : Scope) → cond readable (recovered_reports scope shape e) (report ∷ []) ≡ []
       → cond readable (damaged_by app (Some bank) unit (lacking_by scope e.lacking)) (lost ∷ []) ≡ []
   report_silent true scope.Element none =
-      ap (damaged_by app (Some bank) unit) (report_none (element_recovered shape.kind) shape (Some e.name) e.lacking none)
+      ap (damaged_by app (Some bank) unit) (report_none (element_recovered shape.kind) shape (Some e.name) e.lacking
+      none)
   report_silent true scope.Storage none = refl
   report_silent false scope none = cc
 
@@ -73,19 +82,24 @@ module _ (image : Image) (app bank number : ℕ) (s : StorageData) where
   unfolding reports shape_of
   same_reports v = refl
 
-  elements_silent : (entries : List Entry) → flat_map (of_element app bank s) entries ≡ [] → flat_map (element_reports test shape) entries ≡ []
+  elements_silent : (entries : List Entry) → flat_map (of_element app bank s) entries ≡ []
+      → flat_map (element_reports test shape) entries ≡ []
   unfolding shape_of
   elements_silent = flat_silent (of_element app bank s) (element_reports test shape)
-      (λ e. element_silent app bank shape e (Part s.name e.name) (finding app (Some bank) Lost (Part s.name e.name) e.lacking)
+      (λ e. element_silent app bank shape e (Part s.name e.name)
+      (finding app (Some bank) Lost (Part s.name e.name) e.lacking)
       (report_of (element_failed shape.kind) shape (Some e.name) e.lacking) (is_readable test e.content) s.scope)
 
-  reports_silent : (entries : List Entry) → flat_map (element_reports test shape) entries ≡ [] → flat_map (of_element app bank s) entries ≡ []
+  reports_silent : (entries : List Entry) → flat_map (element_reports test shape) entries ≡ []
+      → flat_map (of_element app bank s) entries ≡ []
   unfolding shape_of
   reports_silent = flat_silent (element_reports test shape) (of_element app bank s)
-      (λ e. report_silent app bank shape e (Part s.name e.name) (finding app (Some bank) Lost (Part s.name e.name) e.lacking)
+      (λ e. report_silent app bank shape e (Part s.name e.name)
+      (finding app (Some bank) Lost (Part s.name e.name) e.lacking)
       (report_of (element_failed shape.kind) shape (Some e.name) e.lacking) (is_readable test e.content) s.scope)
 
-  state_sound : (state : State) → store_at image shape ≡ state → of_storage app bank s state ≡ [] → IsIntactStorage image shape
+  state_sound : (state : State) → store_at image shape ≡ state → of_storage app bank s state ≡ []
+      → IsIntactStorage image shape
   state_sound (Corrupt salvage others) is none = cc
   state_sound (Opens v others) is none =
       let damaged = damaged_by app (Some bank) (Whole s.name) v.lacking in
@@ -93,13 +107,16 @@ module _ (image : Image) (app bank number : ℕ) (s : StorageData) where
       let elements = flat_map (of_element app bank s) v.entries in
       let front = nil_left (damaged ++ unsettled) elements none in
       let whole = lacks_none app (Some bank) (Whole s.name) v.lacking (nil_left damaged unsettled front) in
-      let alone = none_other others (is_settled (is_none_left others) app (Some bank) (Whole s.name) (nil_right damaged unsettled front)) in
+      let alone = none_other others (is_settled (is_none_left others) app (Some bank) (Whole s.name)
+      (nil_right damaged unsettled front)) in
       record {
         view = v;
         opens = is ∙ ap (Opens v) alone;
         whole = whole;
-        reports = same_reports v ∙ nil_join (report_some (store_recovered s.kind) shape None v.lacking) (flat_map (element_reports test shape) v.entries)
-            (ap (report_some (store_recovered s.kind) shape None) whole) (elements_silent v.entries (nil_right (damaged ++ unsettled) elements none));
+        reports = same_reports v ∙ nil_join (report_some (store_recovered s.kind) shape None v.lacking)
+            (flat_map (element_reports test shape) v.entries)
+            (ap (report_some (store_recovered s.kind) shape None) whole)
+            (elements_silent v.entries (nil_right (damaged ++ unsettled) elements none));
       }
 
   storage_sound : of_storage app bank s (store_at image shape) ≡ [] → IsIntactStorage image shape
@@ -110,9 +127,12 @@ module _ (image : Image) (app bank number : ℕ) (s : StorageData) where
       let v = is.view in
       let reported = sym (same_reports v) ∙ is.reports in
       ap (of_storage app bank s) is.opens
-      ∙ nil_join (damaged_by app (Some bank) (Whole s.name) v.lacking ++ []) (flat_map (of_element app bank s) v.entries)
-      (nil_join (damaged_by app (Some bank) (Whole s.name) v.lacking) [] (ap (damaged_by app (Some bank) (Whole s.name)) is.whole) refl)
-      (reports_silent v.entries (nil_right (report_some (store_recovered s.kind) shape None v.lacking) (flat_map (element_reports test shape) v.entries) reported))
+      ∙ nil_join (damaged_by app (Some bank) (Whole s.name) v.lacking ++ [])
+      (flat_map (of_element app bank s) v.entries)
+      (nil_join (damaged_by app (Some bank) (Whole s.name) v.lacking) []
+      (ap (damaged_by app (Some bank) (Whole s.name)) is.whole) refl)
+      (reports_silent v.entries (nil_right (report_some (store_recovered s.kind) shape None v.lacking)
+      (flat_map (element_reports test shape) v.entries) reported))
 
 -- ---- the storages of both versions
 
@@ -125,40 +145,53 @@ module _ (image : Image) (app : ℕ) where
 
   each_sound : (bank number : ℕ) (ss : List StorageData) (rest : List (ℕ × StorageData)) (shapes : List Shape)
       → (found rest shapes ≡ [] → AreSound shapes)
-      → found (map (λ s. (bank, s)) ss ++ rest) (shapes_from app bank number ss ++ shapes) ≡ [] → AreSound (shapes_from app bank number ss ++ shapes)
+      → found (map (λ s. (bank, s)) ss ++ rest) (shapes_from app bank number ss ++ shapes) ≡ []
+      → AreSound (shapes_from app bank number ss ++ shapes)
   each_sound bank number [] rest shapes then none = then none
   each_sound bank number (s ∷ ss) rest shapes then none =
       let here = of_storage app bank s (store_at image (shape_of app bank number s)) in
-      let later = found (map (λ s. (bank, s)) ss ++ rest) (shapes_from app bank (suc number) ss ++ shapes) in
-      (storage_sound image app bank number s (nil_left here later none), each_sound bank (suc number) ss rest shapes then (nil_right here later none))
+      let later = found (map (λ s. (bank, s)) ss ++ rest) (shapes_from app bank (suc number) ss ++ shapes) in (
+        storage_sound image app bank number s (nil_left here later none),
+        each_sound bank (suc number) ss rest shapes then (nil_right here later none),
+      )
 
   sound_each : (bank number : ℕ) (ss : List StorageData) (rest : List (ℕ × StorageData)) (shapes : List Shape)
       → (AreSound shapes → found rest shapes ≡ [])
-      → AreSound (shapes_from app bank number ss ++ shapes) → found (map (λ s. (bank, s)) ss ++ rest) (shapes_from app bank number ss ++ shapes) ≡ []
+      → AreSound (shapes_from app bank number ss ++ shapes)
+      → found (map (λ s. (bank, s)) ss ++ rest) (shapes_from app bank number ss ++ shapes) ≡ []
   sound_each bank number [] rest shapes then all = then all
   sound_each bank number (s ∷ ss) rest shapes then all =
-      nil_join (of_storage app bank s (store_at image (shape_of app bank number s))) (found (map (λ s. (bank, s)) ss ++ rest) (shapes_from app bank (suc number) ss ++ shapes))
+      nil_join (of_storage app bank s (store_at image (shape_of app bank number s)))
+      (found (map (λ s. (bank, s)) ss ++ rest) (shapes_from app bank (suc number) ss ++ shapes))
       (sound_storage image app bank number s all.0) (sound_each bank (suc number) ss rest shapes then all.1)
 
   -- of one version alone
-  version_sound : (bank number : ℕ) (ss : List StorageData) → found (map (λ s. (bank, s)) ss) (shapes_from app bank number ss) ≡ [] → AreSound (shapes_from app bank number ss)
+  version_sound : (bank number : ℕ) (ss : List StorageData)
+      → found (map (λ s. (bank, s)) ss) (shapes_from app bank number ss) ≡ []
+      → AreSound (shapes_from app bank number ss)
   version_sound bank number [] none = tt
   version_sound bank number (s ∷ ss) none =
       let here = of_storage app bank s (store_at image (shape_of app bank number s)) in
-      let later = found (map (λ s. (bank, s)) ss) (shapes_from app bank (suc number) ss) in
-      (storage_sound image app bank number s (nil_left here later none), version_sound bank (suc number) ss (nil_right here later none))
+      let later = found (map (λ s. (bank, s)) ss) (shapes_from app bank (suc number) ss) in (
+        storage_sound image app bank number s (nil_left here later none),
+        version_sound bank (suc number) ss (nil_right here later none),
+      )
 
-  sound_version : (bank number : ℕ) (ss : List StorageData) → AreSound (shapes_from app bank number ss) → found (map (λ s. (bank, s)) ss) (shapes_from app bank number ss) ≡ []
+  sound_version : (bank number : ℕ) (ss : List StorageData) → AreSound (shapes_from app bank number ss)
+      → found (map (λ s. (bank, s)) ss) (shapes_from app bank number ss) ≡ []
   sound_version bank number [] all = refl
   sound_version bank number (s ∷ ss) all =
-      nil_join (of_storage app bank s (store_at image (shape_of app bank number s))) (found (map (λ s. (bank, s)) ss) (shapes_from app bank (suc number) ss))
+      nil_join (of_storage app bank s (store_at image (shape_of app bank number s)))
+      (found (map (λ s. (bank, s)) ss) (shapes_from app bank (suc number) ss))
       (sound_storage image app bank number s all.0) (sound_version bank (suc number) ss all.1)
 
-  previous_sound : (previous : Option Named) → found (storages_if previous) (shapes_if app previous) ≡ [] → AreSound (shapes_if app previous)
+  previous_sound : (previous : Option Named) → found (storages_if previous) (shapes_if app previous) ≡ []
+      → AreSound (shapes_if app previous)
   previous_sound None none = tt
   previous_sound (Some v) none = version_sound v.bank 0 v.deployment.storages none
 
-  sound_previous : (previous : Option Named) → AreSound (shapes_if app previous) → found (storages_if previous) (shapes_if app previous) ≡ []
+  sound_previous : (previous : Option Named) → AreSound (shapes_if app previous)
+      → found (storages_if previous) (shapes_if app previous) ≡ []
   sound_previous None all = refl
   sound_previous (Some v) all = sound_version v.bank 0 v.deployment.storages all
 
@@ -172,9 +205,11 @@ module _ (image : Image) (app : ℕ) where
 
   -- what is found of an application whose root says this
   abbrev found_of : Says → (lacking : List ℕ) → (settled : Bool) → List Finding
-  found_of says lacking settled = findings_of app settled (record { says = says; lacking = lacking; states = map (store_at image) (shapes_named app says) })
+  found_of says lacking settled = findings_of app settled
+      (record { says = says; lacking = lacking; states = map (store_at image) (shapes_named app says) })
 
-  says_sound : (says : Says) (lacking : List ℕ) (settled : Bool) → found_of says lacking settled ≡ [] → IsSound says lacking settled
+  says_sound : (says : Says) (lacking : List ℕ) (settled : Bool) → found_of says lacking settled ≡ []
+      → IsSound says lacking settled
   unfolding findings_of shapes_named
   says_sound nothing lacking settled none = cc
   says_sound (absent g) lacking settled none =
@@ -196,24 +231,30 @@ module _ (image : Image) (app : ℕ) where
         says_some = λ e. let same : installed g active previous ≡ nothing = e in cc;
         whole = lacks_none app None Root lacking (nil_left damaged unsettled front);
         is_settled = is_settled settled app None Root (nil_right damaged unsettled front);
-        storages = each_sound active.bank 0 active.deployment.storages (storages_if previous) (shapes_if app previous) (previous_sound previous)
+        storages = each_sound active.bank 0 active.deployment.storages (storages_if previous) (shapes_if app previous)
+            (previous_sound previous)
             (nil_right (damaged ++ unsettled) rest none);
       }
 
-  root_silent : (lacking : List ℕ) (settled : Bool) → lacking ≡ [] → settled ≡ true → damaged_by app None Root lacking ++ unless_settled settled app None Root ≡ []
-  root_silent lacking settled whole alone = nil_join (damaged_by app None Root lacking) (unless_settled settled app None Root)
+  root_silent : (lacking : List ℕ) (settled : Bool) → lacking ≡ [] → settled ≡ true
+      → damaged_by app None Root lacking ++ unless_settled settled app None Root ≡ []
+  root_silent lacking settled whole alone = nil_join (damaged_by app None Root lacking)
+      (unless_settled settled app None Root)
       (ap (damaged_by app None Root) whole) (ap (λ (b : Bool). unless_settled b app None Root) alone)
 
-  sound_says : (says : Says) (lacking : List ℕ) (settled : Bool) → IsSound says lacking settled → found_of says lacking settled ≡ []
+  sound_says : (says : Says) (lacking : List ℕ) (settled : Bool) → IsSound says lacking settled
+      → found_of says lacking settled ≡ []
   unfolding findings_of shapes_named
   sound_says nothing lacking settled is = absurd (is.says_some refl)
   sound_says (absent g) lacking settled is =
-      nil_join (damaged_by app None Root lacking ++ unless_settled settled app None Root) [] (root_silent lacking settled is.whole is.is_settled) refl
+      nil_join (damaged_by app None Root lacking ++ unless_settled settled app None Root) []
+      (root_silent lacking settled is.whole is.is_settled) refl
   sound_says (installed g active previous) lacking settled is =
       nil_join (damaged_by app None Root lacking ++ unless_settled settled app None Root)
       (found (storages_of active ++ storages_if previous) (shapes_in app active ++ shapes_if app previous))
       (root_silent lacking settled is.whole is.is_settled)
-      (sound_each active.bank 0 active.deployment.storages (storages_if previous) (shapes_if app previous) (sound_previous previous) is.storages)
+      (sound_each active.bank 0 active.deployment.storages (storages_if previous) (shapes_if app previous)
+      (sound_previous previous) is.storages)
 
   app_sound : findings_of app (root_settled image app) (app_at image app) ≡ [] → IsIntactApp image app
   unfolding app_at
@@ -231,12 +272,14 @@ module _ (image : Image) (app : ℕ) where
 pub intact_disk : SoundIsIntactLaw
 unfolding findings_at
 intact_disk image none app lt = app_sound image app
-    (range_silent (λ app. findings_of app (root_settled image app) (app_at image app)) 0 8 app none (omega arith) (omega (arith, lt)))
+    (range_silent (λ app. findings_of app (root_settled image app) (app_at image app)) 0 8 app none (omega arith)
+    (omega (arith, lt)))
 
 pub sound_disk : IntactIsSoundLaw
 unfolding findings_at
 sound_disk image every =
-    all_silent (λ app. findings_of app (root_settled image app) (app_at image app)) 0 8 (λ app low lt. sound_app image app (every app (omega (arith, lt))))
+    all_silent (λ app. findings_of app (root_settled image app) (app_at image app)) 0 8
+    (λ app low lt. sound_app image app (every app (omega (arith, lt))))
 
 -- ---- an opening
 

@@ -10,7 +10,8 @@ use Rattle.per_audit.specs.declared.findings.Listed.{Listed}
 
 -- the application, the bank, the storage with the element, and the generation of its last change
 abbrev pub element_line : Listed → List ℕ
-element_line l = codes "element " ++ decimal l.app ++ codes " " ++ decimal l.bank ++ codes " " ++ l.storage ++ codes ":" ++ l.element
+element_line l = codes "element " ++ decimal l.app ++ codes " " ++ decimal l.bank ++ codes " " ++ l.storage ++ codes ":"
+    ++ l.element
     ++ codes " " ++ decimal l.changed ++ codes "\n"
 
 abbrev pub kind_word : FindingKind → List ℕ
@@ -25,7 +26,8 @@ bank_text (Some bank) = decimal bank
 
 -- what is found, the application, the bank, the unit and the copies
 abbrev pub finding_line : Finding → List ℕ
-finding_line f = kind_word f.kind ++ codes " " ++ decimal f.app ++ codes " " ++ bank_text f.bank ++ codes " " ++ unit_text f.unit
+finding_line f = kind_word f.kind ++ codes " " ++ decimal f.app ++ codes " " ++ bank_text f.bank ++ codes " "
+    ++ unit_text f.unit
     ++ codes " " ++ copies_text f.copies ++ codes "\n"
 
 -- a disk is sound where nothing is found, and else the findings are counted

@@ -40,7 +40,8 @@ unless_settled false app bank unit = finding app bank Unsettled unit [] ∷ []
 abbrev pub of_root : (app : ℕ) → (settled : Bool) → Says → (lacking : List ℕ) → List Finding
 of_root app settled nothing lacking = finding app None Lost Root (1 ∷ 2 ∷ 3 ∷ []) ∷ []
 of_root app settled (absent g) lacking = damaged_by app None Root lacking ++ unless_settled settled app None Root
-of_root app settled (installed g active previous) lacking = damaged_by app None Root lacking ++ unless_settled settled app None Root
+of_root app settled (installed g active previous) lacking =
+    damaged_by app None Root lacking ++ unless_settled settled app None Root
 
 -- ---- a storage, in its bank
 
@@ -62,7 +63,8 @@ is_none_left (v ∷ others) = false
 -- a corrupt storage is lost in all its copies, and nothing is said of its elements
 abbrev pub of_storage : (app bank : ℕ) → StorageData → State → List Finding
 of_storage app bank s (Corrupt salvage others) =
-    finding app (Some bank) Lost (Whole s.name) (range_with_len 1 s.n) ∷ unless_settled (is_none_left others) app (Some bank) (Whole s.name)
+    finding app (Some bank) Lost (Whole s.name) (range_with_len 1 s.n)
+    ∷ unless_settled (is_none_left others) app (Some bank) (Whole s.name)
 of_storage app bank s (Opens v others) = damaged_by app (Some bank) (Whole s.name) v.lacking
     ++ unless_settled (is_none_left others) app (Some bank) (Whole s.name)
     ++ flat_map (of_element app bank s) v.entries
@@ -91,13 +93,15 @@ storages_named (absent g) = []
 storages_named (installed g active previous) = storages_of active ++ storages_if previous
 
 -- storage by storage, each with its state
-abbrev pub each_storage : {A : Type 0} → (ℕ → StorageData → State → List A) → List (ℕ × StorageData) → List State → List A
+abbrev pub each_storage : {A : Type 0} → (ℕ → StorageData → State → List A) → List (ℕ × StorageData) → List State
+    → List A
 each_storage f [] states = []
 each_storage f (s ∷ storages) [] = []
 each_storage f (s ∷ storages) (state ∷ states) = f s.0 s.1 state ++ each_storage f storages states
 
 unfoldable pub findings_of : (app : ℕ) → (settled : Bool) → App → List Finding
-findings_of app settled a = of_root app settled a.says a.lacking ++ each_storage (of_storage app) (storages_named a.says) a.states
+findings_of app settled a = of_root app settled a.says a.lacking
+    ++ each_storage (of_storage app) (storages_named a.says) a.states
 
 unfoldable pub elements_of : (app : ℕ) → App → List Listed
 elements_of app a = each_storage (listed_of app) (storages_named a.says) a.states

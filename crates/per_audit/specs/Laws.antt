@@ -35,5 +35,6 @@ IntactIsSoundLaw = (image : Image) → ((app : ℕ) → app < 8 → IsIntactApp 
 
 -- an opening of a storage that is intact reports nothing
 abbrev pub SilentOpeningLaw : Type 0
-SilentOpeningLaw = (image : Image) (shape : Shape) (given : Opened) → IsIntactStorage image shape → IsOpened true image shape (is_content shape.kind) given
+SilentOpeningLaw = (image : Image) (shape : Shape) (given : Opened) → IsIntactStorage image shape
+    → IsOpened true image shape (is_content shape.kind) given
     → given.reports ≡ []

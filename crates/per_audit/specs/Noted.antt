@@ -14,7 +14,8 @@ use Rattle.per_audit.specs.declared.findings.Finding.{Finding}
 use Rattle.per_audit.specs.declared.findings.FindingKind.TheVariants.{Lost}
 use Rattle.per_audit.specs.declared.findings.Listed.{Listed}
 use Rattle.per_audit.specs.declared.noting.Notes.{Notes}
-use Rattle.per_audit.specs.Audits.{damaged_by, each_storage, finding, listed, listed_of, of_element, of_storage, unless_settled}
+use Rattle.per_audit.specs.Audits.{damaged_by, each_storage, finding, listed, listed_of, of_element, of_storage}
+use Rattle.per_audit.specs.Audits.{unless_settled}
 
 -- these elements and these findings were added to the notes
 pub record Adds (elements : List Listed) (findings : List Finding) (old new : Notes) : Type 0 where
@@ -25,7 +26,8 @@ pub record Adds (elements : List Listed) (findings : List Finding) (old new : No
 
 abbrev pub of_corrupt : (app bank : ℕ) → StorageData → (settled : Bool) → List Finding
 of_corrupt app bank s settled =
-    finding app (Some bank) Lost (Whole s.name) (range_with_len 1 s.n) ∷ unless_settled settled app (Some bank) (Whole s.name)
+    finding app (Some bank) Lost (Whole s.name) (range_with_len 1 s.n)
+    ∷ unless_settled settled app (Some bank) (Whole s.name)
 
 abbrev pub of_view : (app bank : ℕ) → StorageData → View → List Finding
 of_view app bank s v = damaged_by app (Some bank) (Whole s.name) v.lacking
@@ -50,7 +52,8 @@ elements_found app bank s (Some found) = elements_by app bank s found.opens foun
 
 -- ---- the storages of a version, from this number on
 
-abbrev pub within : {A : Type 0} → (ℕ → StorageData → State → List A) → Image → (app bank number : ℕ) → List StorageData → List A
+abbrev pub within : {A : Type 0} → (ℕ → StorageData → State → List A) → Image → (app bank number : ℕ) → List StorageData
+    → List A
 within f image app bank number storages =
     each_storage f (map (λ s. (bank, s)) storages) (map (store_at image) (shapes_from app bank number storages))
 
@@ -75,7 +78,8 @@ elements_seen image app (versions active previous lacking settled) =
 
 abbrev pub findings_seen : Image → (app : ℕ) → RootSeen → List Finding
 findings_seen image app bad = finding app None Lost Root (1 ∷ 2 ∷ 3 ∷ []) ∷ []
-findings_seen image app (no_version lacking settled) = damaged_by app None Root lacking ++ unless_settled settled app None Root
+findings_seen image app (no_version lacking settled) =
+    damaged_by app None Root lacking ++ unless_settled settled app None Root
 findings_seen image app (versions active previous lacking settled) =
     (damaged_by app None Root lacking ++ unless_settled settled app None Root)
     ++ of_version (of_storage app) image app active ++ of_previous (of_storage app) image app previous

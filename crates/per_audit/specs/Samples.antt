@@ -23,7 +23,8 @@ use Rattle.per_audit.specs.AuditText.{audit_text}
 
 -- all that the samples compute with
 unfoldable computed : ℕ
-unfolding elements_at elements_of findings_at findings_of audit_text app_at says_at shapes_named held standing verified decoded kind_at digits
+unfolding elements_at elements_of findings_at findings_of audit_text app_at says_at shapes_named held standing verified
+    decoded kind_at digits
 computed = 0
 
 -- the text of an audit of this application alone
@@ -33,7 +34,8 @@ text_of app settled a = audit_text (elements_of app a) (findings_of app settled 
 -- ---- roots
 
 unformatted : audit_text (elements_at (λ f. [])) (findings_at (λ f. []))
-    ≡ flat_map (λ app. codes "lost " ++ decimal app ++ codes " - root 1,2,3\n") (range_with_len 0 8) ++ codes "findings 8\n"
+    ≡ flat_map (λ app. codes "lost " ++ decimal app ++ codes " - root 1,2,3\n") (range_with_len 0 8)
+    ++ codes "findings 8\n"
 unfolding computed
 unformatted = refl
 
@@ -49,7 +51,8 @@ unfolding computed
 bad_root = refl
 
 -- the third copy lacks the root, and another text is held
-marked_root : text_of 3 false (without (absent 1) (3 ∷ [])) ≡ codes "damaged 3 - root 3\nunsettled 3 - root -\nfindings 2\n"
+marked_root : text_of 3 false (without (absent 1) (3 ∷ []))
+    ≡ codes "damaged 3 - root 3\nunsettled 3 - root -\nfindings 2\n"
 unfolding computed
 marked_root = refl
 
@@ -76,7 +79,15 @@ abbrev of_state : Scope → State → App
 of_state scope state = record { says = installed 1 (version_in 0 scope) None; lacking = []; states = state ∷ [] }
 
 abbrev home : Content → (lacking : List ℕ) → Entry
-home content lacking = record { name = codes "home"; info = None; changed = 1; len = 3; content = content; lacking = lacking }
+home content lacking = record {
+  name = codes "home";
+  info = None;
+  changed = 1;
+  len = 3;
+  content = content;
+  lacking =
+      lacking;
+}
 
 abbrev seen : (lacking : List ℕ) → Entry → View
 seen lacking entry = record { generation = 1; lacking = lacking; settled = true; entries = entry ∷ [] }
@@ -85,7 +96,8 @@ seen lacking entry = record { generation = 1; lacking = lacking; settled = true;
 abbrev good : Content
 good = Good (3 ∷ 1 ∷ 2 ∷ [])
 
-sound : text_of 0 true (of_state scope.Element (Opens (seen [] (home good [])) [])) ≡ codes "element 0 0 fav:home 1\nsound\n"
+sound : text_of 0 true (of_state scope.Element (Opens (seen [] (home good [])) []))
+    ≡ codes "element 0 0 fav:home 1\nsound\n"
 unfolding computed
 sound = refl
 
@@ -94,7 +106,8 @@ one_damaged : text_of 0 true (of_state scope.Element (Opens (seen [] (home good 
 unfolding computed
 one_damaged = refl
 
-two_damaged : text_of 0 true (of_state scope.Element (Opens (seen [] (home (Bad (Some (3 ∷ 1 ∷ 2 ∷ []))) (1 ∷ 2 ∷ []))) []))
+two_damaged : text_of 0 true (of_state scope.Element (Opens (seen [] (home (Bad (Some (3 ∷ 1 ∷ 2 ∷ []))) (1 ∷ 2 ∷ [])))
+    []))
     ≡ codes "element 0 0 fav:home 1\nlost 0 0 fav:home 1,2\nfindings 1\n"
 unfolding computed
 two_damaged = refl
@@ -117,17 +130,20 @@ unfolding computed
 storage_no_value = refl
 
 -- another text is held besides
-another_text : text_of 0 true (of_state scope.Element (Opens (seen (2 ∷ []) (home good (1 ∷ []))) (seen [] (home good []) ∷ [])))
+another_text : text_of 0 true (of_state scope.Element (Opens (seen (2 ∷ []) (home good (1 ∷ [])))
+    (seen [] (home good []) ∷ [])))
     ≡ codes "element 0 0 fav:home 1\ndamaged 0 0 fav 2\nunsettled 0 0 fav -\ndamaged 0 0 fav:home 1\nfindings 3\n"
 unfolding computed
 another_text = refl
 
 -- of a storage that does not open no element is listed
-corrupt : text_of 0 true (of_state scope.Element (Corrupt (Some (seen [] (home good []))) [])) ≡ codes "lost 0 0 fav 1,2,3\nfindings 1\n"
+corrupt : text_of 0 true (of_state scope.Element (Corrupt (Some (seen [] (home good []))) []))
+    ≡ codes "lost 0 0 fav 1,2,3\nfindings 1\n"
 unfolding computed
 corrupt = refl
 
-corrupt_others : text_of 0 true (of_state scope.Element (Corrupt (Some (seen [] (home good []))) (seen [] (home good []) ∷ [])))
+corrupt_others : text_of 0 true (of_state scope.Element
+    (Corrupt (Some (seen [] (home good []))) (seen [] (home good []) ∷ [])))
     ≡ codes "lost 0 0 fav 1,2,3\nunsettled 0 0 fav -\nfindings 2\n"
 unfolding computed
 corrupt_others = refl

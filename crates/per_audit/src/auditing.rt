@@ -25,8 +25,8 @@ use std::alloc::Global;
 /// The applications of a disk.
 const APPS: u32 = 8;
 
-/// Looks at every application of a disk and changes nothing: lists every element of each storage that opens, and what is damaged, lost
-/// or unsettled. Each content is read once. It begins with a sync and writes nothing.
+/// Looks at every application of a disk and changes nothing: lists every element of each storage that opens, and what
+/// is damaged, lost or unsettled. Each content is read once. It begins with a sync and writes nothing.
 ///
 /// # Errors
 ///
@@ -54,7 +54,8 @@ pub fn audit<D: Disk>(alloc: Global, disk: &mut D) -> Result<Audit, Stop>
 fn audit_app<D: Disk>(alloc: Global, disk: &mut D, app: u32, notes: &mut Notes) -> Result<(), Stop>
     requires { app < 8 }
     ensures adds { IsTrue D.told → OnOk result (Adds (elements_of app (app_at (D.medium disk.old).image app))
-        (findings_of app (root_settled (D.medium disk.old).image app) (app_at (D.medium disk.old).image app)) notes.old notes.new) }
+        (findings_of app (root_settled (D.medium disk.old).image app) (app_at (D.medium disk.old).image app)) notes.old
+        notes.new) }
     ensures quiet { OnOk result (Quiet (D.medium disk.new)) }
     ensures image { (D.medium disk.new).image ≡ (D.medium disk.old).image }
     ensures idle { Quiet (D.medium disk.old) → IsIdle (D.medium disk.old) (D.medium disk.new) }
@@ -102,7 +103,8 @@ fn audit_view<D: Disk>(
     }
 }
 
-// Adds what an application with a version has: what is found of its root, and the storages of the active version and of the previous one.
+// Adds what an application with a version has: what is found of its root, and the storages of the active version and of
+// the previous one.
 fn audit_versions<D: Disk>(
     alloc: Global,
     disk: &mut D,
@@ -112,7 +114,8 @@ fn audit_versions<D: Disk>(
 ) -> Result<(), Stop>
     requires app { app < 8 }
     requires versions { ShowsVersions (root_seen (Installed state.now)) }
-    ensures adds { IsTrue D.told → OnOk result (Adds (elements_seen (D.medium disk.old).image app (root_seen (Installed state.now)))
+    ensures adds { IsTrue D.told → OnOk result (Adds (elements_seen (D.medium disk.old).image app
+        (root_seen (Installed state.now)))
         (findings_seen (D.medium disk.old).image app (root_seen (Installed state.now))) notes.old notes.new) }
     ensures image { (D.medium disk.new).image ≡ (D.medium disk.old).image }
     ensures idle { Quiet (D.medium disk.old) → IsIdle (D.medium disk.old) (D.medium disk.new) }
@@ -147,7 +150,8 @@ fn audit_previous<D: Disk>(
     requires app { app < 8 }
     requires bank { bank ≤ 1 }
     requires deployment { IfSome previous.now (λ d. IsDeployment (deployment_data d)) }
-    ensures adds { IsTrue D.told → OnOk result (Adds (of_previous (listed_of app) (D.medium disk.old).image app (named_in bank previous.now))
+    ensures adds { IsTrue D.told → OnOk result (Adds (of_previous (listed_of app) (D.medium disk.old).image app
+        (named_in bank previous.now))
         (of_previous (of_storage app) (D.medium disk.old).image app (named_in bank previous.now)) notes.old notes.new) }
     ensures image { (D.medium disk.new).image ≡ (D.medium disk.old).image }
     ensures idle { Quiet (D.medium disk.old) → IsIdle (D.medium disk.old) (D.medium disk.new) }
@@ -184,8 +188,10 @@ fn audit_storages<D: Disk>(
     requires bank { bank ≤ 1 }
     requires few { length storages.now ≤ 16 }
     requires each { AllByRecursion IsStorage (map storage_data storages.now) }
-    ensures adds { IsTrue D.told → OnOk result (Adds (within (listed_of app) (D.medium disk.old).image app bank 0 (map storage_data storages.now))
-        (within (of_storage app) (D.medium disk.old).image app bank 0 (map storage_data storages.now)) notes.old notes.new) }
+    ensures adds { IsTrue D.told → OnOk result (Adds (within (listed_of app) (D.medium disk.old).image app bank 0
+        (map storage_data storages.now))
+        (within (of_storage app) (D.medium disk.old).image app bank 0 (map storage_data storages.now)) notes.old
+        notes.new) }
     ensures image { (D.medium disk.new).image ≡ (D.medium disk.old).image }
     ensures idle { Quiet (D.medium disk.old) → IsIdle (D.medium disk.old) (D.medium disk.new) }
     ensures written { (D.medium disk.new).written ≡ (D.medium disk.old).written }
@@ -215,8 +221,10 @@ fn audit_storage<D: Disk>(
     requires number { number < 16 }
     requires config { IsStorage (storage_data config.now) }
     ensures adds { IsTrue D.told → OnOk result (Adds
-        (listed_of app bank (storage_data config.now) (store_at (D.medium disk.old).image (shape_of app bank number (storage_data config.now))))
-        (of_storage app bank (storage_data config.now) (store_at (D.medium disk.old).image (shape_of app bank number (storage_data config.now))))
+        (listed_of app bank (storage_data config.now) (store_at (D.medium disk.old).image
+        (shape_of app bank number (storage_data config.now))))
+        (of_storage app bank (storage_data config.now) (store_at (D.medium disk.old).image
+        (shape_of app bank number (storage_data config.now))))
         notes.old notes.new) }
     ensures image { (D.medium disk.new).image ≡ (D.medium disk.old).image }
     ensures idle { Quiet (D.medium disk.old) → IsIdle (D.medium disk.old) (D.medium disk.new) }

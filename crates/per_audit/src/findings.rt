@@ -42,8 +42,8 @@ pub struct Finding {
     pub copies: Numbers,
 }
 
-/// What an audit lists and finds: application by application, of each the root first, and then storage by storage, the active version's
-/// before the previous one's.
+/// What an audit lists and finds: application by application, of each the root first, and then storage by storage, the
+/// active version's before the previous one's.
 #[derive(Debug, Drop)]
 pub struct Audit {
     /// Every element of a storage that opens.

@@ -1,4 +1,5 @@
-//! What is listed and found so far, and what a root or a storage adds to it by how it was seen. Nothing here touches a disk.
+//! What is listed and found so far, and what a root or a storage adds to it by how it was seen. Nothing here touches a
+//! disk.
 
 ghost use Rattle.std.specs.Prelude.{◌≡◌, ◌∷◌, ◌++◌, [], IfOk, None, OnOk, Some, map};
 ghost use Rattle.std.specs.List.{flat_map, range_with_len};
@@ -73,7 +74,8 @@ pub(crate) fn note_root(
     lacking: &Numbers,
     settled: bool,
 ) -> Result<(), AllocError>
-    ensures { OnOk result (Adds [] (damaged_by app None Root lacking.now ++ unless_settled settled app None Root) notes.old notes.new) }
+    ensures { OnOk result (Adds [] (damaged_by app None Root lacking.now ++ unless_settled settled app None Root)
+        notes.old notes.new) }
 {
     let findings = &mut notes.findings;
     push_damaged(findings, app, None, Unit::Root, lacking)?;
@@ -126,7 +128,8 @@ fn list_entries(
     config: &StorageConfig,
     entries: &[Entry],
 ) -> Result<(), AllocError>
-    ensures { OnOk result (elements.new.items ≡ elements.old.items ++ map (listed app bank (storage_data config.now)) entries.now) }
+    ensures { OnOk result (elements.new.items ≡ elements.old.items
+        ++ map (listed app bank (storage_data config.now)) entries.now) }
 {
     for entry in entries {
         elements.push(listed(app, bank, config, entry)?)?;
@@ -157,7 +160,8 @@ fn push_corrupt(
     config: &StorageConfig,
     settled: bool,
 ) -> Result<(), AllocError>
-    ensures { OnOk result (findings.new.items ≡ findings.old.items ++ of_corrupt app bank (storage_data config.now) settled) }
+    ensures { OnOk result (findings.new.items ≡ findings.old.items
+        ++ of_corrupt app bank (storage_data config.now) settled) }
 {
     let copies = all_copies(alloc, config.n)?;
     let unit = Unit::Whole(config.name.copy()?);
@@ -175,7 +179,8 @@ fn push_view(
     config: &StorageConfig,
     view: &View,
 ) -> Result<(), AllocError>
-    ensures { OnOk result (findings.new.items ≡ findings.old.items ++ of_view app bank (storage_data config.now) view.now) }
+    ensures { OnOk result (findings.new.items ≡ findings.old.items
+        ++ of_view app bank (storage_data config.now) view.now) }
 {
     let unit = Unit::Whole(config.name.copy()?);
     push_damaged(findings, app, Some(bank), unit, &view.lacking)?;
@@ -210,7 +215,8 @@ fn push_element(
     config: &StorageConfig,
     entry: &Entry,
 ) -> Result<(), AllocError>
-    ensures { OnOk result (findings.new.items ≡ findings.old.items ++ of_element app bank (storage_data config.now) entry.now) }
+    ensures { OnOk result (findings.new.items ≡ findings.old.items
+        ++ of_element app bank (storage_data config.now) entry.now) }
 {
     let unit = Unit::Part(config.name.copy()?, entry.name.copy()?);
     if !is_readable(alloc, config.kind, &entry.content)? {

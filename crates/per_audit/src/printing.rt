@@ -11,8 +11,8 @@ use std::alloc::{AllocError, Global};
 use std::fmt::Write;
 
 impl Audit {
-    /// The text of the audit: a line for each element, a line for each finding, and `sound` or how many findings there are, each with its
-    /// line feed.
+    /// The text of the audit: a line for each element, a line for each finding, and `sound` or how many findings there
+    /// are, each with its line feed.
     #[tactic(auto, unfolding(crate::specs::AuditText::audit_text))]
     pub fn text(&self, alloc: Global) -> Result<Vec<u8>, AllocError>
         ensures { IfOk result (λ text. text.items ≡ audit_text self.now.elements self.now.findings) }

@@ -1,5 +1,7 @@
 -- What an export makes of a view, and that it is an export.
-use Rattle.std.proofs.Common.{◌≡◌, ℕ, suc, ◌+◌, ◌<◌, ◌≤◌, Bool, true, false, cond, List, [], ◌∷◌, ◌++◌, length, map, drop, Option, Some, None, Result, Ok, Err, refl, sym, ap, ◌∙◌, subst, true≢false, append_assoc, append-nil, arith}
+use Rattle.std.proofs.Common.{◌≡◌, ℕ, suc, ◌+◌, ◌<◌, ◌≤◌, Bool, true, false, cond, List, [], ◌∷◌, ◌++◌, length, map}
+use Rattle.std.proofs.Common.{drop, Option, Some, None, Result, Ok, Err, refl, sym, ap, ◌∙◌, subst, true≢false}
+use Rattle.std.proofs.Common.{append_assoc, append-nil, arith}
 use Rattle.std.specs.Prelude.{IsTrue, IfSome}
 use Rattle.std.specs.List.{AllByRecursion}
 use Rattle.std.specs.List.Sorted.{IsStrictlySortedBy}
@@ -43,18 +45,22 @@ use Rattle.per_backup.proofs.Rows.{exporting_found, exporting_missing}
 abbrev pub followed_by : List Fresh → Result (List Fresh) PerError → Result (List Fresh) PerError
 followed_by known rest = rest >>= λ fs. Ok (known ++ fs)
 
-one_more : (known : List Fresh) (f : Fresh) (rest : Result (List Fresh) PerError) → followed_by known (rest >>= λ fs. Ok (f ∷ fs)) ≡ followed_by (known ++ f ∷ []) rest
+one_more : (known : List Fresh) (f : Fresh) (rest : Result (List Fresh) PerError)
+    → followed_by known (rest >>= λ fs. Ok (f ∷ fs)) ≡ followed_by (known ++ f ∷ []) rest
 one_more known f (Ok fs) = ap (λ (xs : List Fresh). Ok xs) (sym (append_assoc known (f ∷ []) fs))
 one_more known f (Err e) = refl
 
 pub follows_one : (s : StorageData) (known : List Fresh) (e : Entry) (es : List Entry) (f : Fresh) → fresh_of s e ≡ Ok f
     → followed_by known (contents_of s (e ∷ es)) ≡ followed_by (known ++ f ∷ []) (contents_of s es)
-follows_one s known e es f is = ap (λ (r : Result Fresh PerError). followed_by known (r >>= λ g. contents_of s es >>= λ fs. Ok (g ∷ fs))) is
+follows_one s known e es f is = ap (λ (r : Result Fresh PerError).
+    followed_by known (r >>= λ g. contents_of s es >>= λ fs. Ok (g ∷ fs))) is
     ∙ one_more known f (contents_of s es)
 
-pub follows_none : (s : StorageData) (known : List Fresh) (e : Entry) (es : List Entry) (x : PerError) → fresh_of s e ≡ Err x
+pub follows_none : (s : StorageData) (known : List Fresh) (e : Entry) (es : List Entry) (x : PerError)
+    → fresh_of s e ≡ Err x
     → followed_by known (contents_of s (e ∷ es)) ≡ Err x
-follows_none s known e es x is = ap (λ (r : Result Fresh PerError). followed_by known (r >>= λ g. contents_of s es >>= λ fs. Ok (g ∷ fs))) is
+follows_none s known e es x is = ap (λ (r : Result Fresh PerError).
+    followed_by known (r >>= λ g. contents_of s es >>= λ fs. Ok (g ∷ fs))) is
 
 pub follows_end : (s : StorageData) (known : List Fresh) → followed_by known (contents_of s []) ≡ Ok known
 follows_end s known = ap (λ (xs : List Fresh). Ok xs) (append-nil known)
@@ -69,24 +75,32 @@ fresh_good : (s : StorageData) (e : Entry) (bytes : List ℕ) → e.content ≡ 
     → fresh_of s e ≡ fresh_by s.name e (cond (is_content s.kind bytes) (Good bytes) (Bad None))
 fresh_good s e bytes is = ap (λ (c : Content). fresh_by s.name e (judged_content (is_content s.kind) c)) is
 
-pub fresh_counts : (s : StorageData) (e : Entry) (bytes : List ℕ) → e.content ≡ Good bytes → is_content s.kind bytes ≡ true
+pub fresh_counts : (s : StorageData) (e : Entry) (bytes : List ℕ) → e.content ≡ Good bytes
+    → is_content s.kind bytes ≡ true
     → fresh_of s e ≡ Ok (record { name = e.name; info = e.info; bytes = bytes })
-fresh_counts s e bytes is counts = fresh_good s e bytes is ∙ ap (λ (c : Content). fresh_by s.name e c) (cond-true (is_content s.kind bytes) (Good bytes) (Bad None) counts)
+fresh_counts s e bytes is counts = fresh_good s e bytes is
+    ∙ ap (λ (c : Content). fresh_by s.name e c) (cond-true (is_content s.kind bytes) (Good bytes) (Bad None) counts)
 
-pub fresh_fails : (s : StorageData) (e : Entry) (bytes : List ℕ) → e.content ≡ Good bytes → is_content s.kind bytes ≡ false
+pub fresh_fails : (s : StorageData) (e : Entry) (bytes : List ℕ) → e.content ≡ Good bytes
+    → is_content s.kind bytes ≡ false
     → fresh_of s e ≡ Err (error.IntegrityCorrupted (unit.Part s.name e.name))
-fresh_fails s e bytes is fails = fresh_good s e bytes is ∙ ap (λ (c : Content). fresh_by s.name e c) (cond-false (is_content s.kind bytes) (Good bytes) (Bad None) fails)
+fresh_fails s e bytes is fails = fresh_good s e bytes is
+    ∙ ap (λ (c : Content). fresh_by s.name e c) (cond-false (is_content s.kind bytes) (Good bytes) (Bad None) fails)
 
-bad_by : (test : List ℕ → Bool) (s : StorageData) (e : Entry) (salvage : Option (List ℕ)) → fresh_by s.name e (judged_content test (Bad salvage)) ≡ Err (error.IntegrityCorrupted (unit.Part s.name e.name))
+bad_by : (test : List ℕ → Bool) (s : StorageData) (e : Entry) (salvage : Option (List ℕ))
+    → fresh_by s.name e (judged_content test (Bad salvage)) ≡ Err (error.IntegrityCorrupted (unit.Part s.name e.name))
 bad_by test s e None = refl
 bad_by test s e (Some bytes) = by (test bytes)
   where
-    by : (b : Bool) → fresh_by s.name e (cond b (Bad (Some bytes)) (Bad None)) ≡ Err (error.IntegrityCorrupted (unit.Part s.name e.name))
+    by : (b : Bool) → fresh_by s.name e (cond b (Bad (Some bytes)) (Bad None))
+        ≡ Err (error.IntegrityCorrupted (unit.Part s.name e.name))
     by true = refl
     by false = refl
 
-pub fresh_bad : (s : StorageData) (e : Entry) (salvage : Option (List ℕ)) → e.content ≡ Bad salvage → fresh_of s e ≡ Err (error.IntegrityCorrupted (unit.Part s.name e.name))
-fresh_bad s e salvage is = ap (λ (c : Content). fresh_by s.name e (judged_content (is_content s.kind) c)) is ∙ bad_by (is_content s.kind) s e salvage
+pub fresh_bad : (s : StorageData) (e : Entry) (salvage : Option (List ℕ)) → e.content ≡ Bad salvage
+    → fresh_of s e ≡ Err (error.IntegrityCorrupted (unit.Part s.name e.name))
+fresh_bad s e salvage is = ap (λ (c : Content). fresh_by s.name e (judged_content (is_content s.kind) c)) is
+    ∙ bad_by (is_content s.kind) s e salvage
 
 -- ---- what is exported is an export
 
@@ -100,8 +114,10 @@ record IsOne (kind : StoreKind) (e : Entry) (f : Fresh) : Type 0 where
   pub rules : IsExportable kind f
 
 module _ (shape : Shape) (s : StorageData) (kind : shape.kind ≡ s.kind) where
-  one_so : (e : Entry) → IsEntryOf shape e → (content : Content) → e.content ≡ content → (f : Fresh) → fresh_of s e ≡ Ok f → IsOne s.kind e f
-  one_so e entry (Bad salvage) is f given = absurd (no_ok (error.IntegrityCorrupted (unit.Part s.name e.name)) f (sym (fresh_bad s e salvage is) ∙ given))
+  one_so : (e : Entry) → IsEntryOf shape e → (content : Content) → e.content ≡ content → (f : Fresh)
+      → fresh_of s e ≡ Ok f → IsOne s.kind e f
+  one_so e entry (Bad salvage) is f given = absurd (no_ok (error.IntegrityCorrupted (unit.Part s.name e.name)) f
+      (sym (fresh_bad s e salvage is) ∙ given))
   one_so e entry (Good bytes) is f given = by (is_content s.kind bytes) refl
     where
       made : Fresh
@@ -109,14 +125,22 @@ module _ (shape : Shape) (s : StorageData) (kind : shape.kind ≡ s.kind) where
 
       long : length bytes ≤ max_len s.kind
       long = let same = subst (λ (c : Content). HasLength e.len c) is entry.content in
-          subst (λ (k : StoreKind). length bytes ≤ max_len k) kind (subst (λ (n : ℕ). n ≤ max_len shape.kind) (sym same) entry.len)
+          subst (λ (k : StoreKind). length bytes ≤ max_len k) kind
+          (subst (λ (n : ℕ). n ≤ max_len shape.kind) (sym same) entry.len)
 
       by : (b : Bool) → is_content s.kind bytes ≡ b → IsOne s.kind e f
-      by true counts = subst (λ (g : Fresh). IsOne s.kind e g) (ok_same made f (sym (fresh_counts s e bytes is counts) ∙ given)) (record {
-        name = refl;
-        rules = record { info = subst (λ (k : StoreKind). IsTrue (has_info k e.info)) kind entry.info; len = long; content = agrees s.kind bytes ∙ counts };
-      })
-      by false fails = absurd (no_ok (error.IntegrityCorrupted (unit.Part s.name e.name)) f (sym (fresh_fails s e bytes is fails) ∙ given))
+      by true counts = subst (λ (g : Fresh). IsOne s.kind e g)
+          (ok_same made f (sym (fresh_counts s e bytes is counts) ∙ given)) (record {
+            name = refl;
+            rules = record {
+              info = subst (λ (k : StoreKind). IsTrue (has_info k e.info)) kind entry.info;
+              len =
+                  long;
+              content = agrees s.kind bytes ∙ counts;
+            };
+          })
+      by false fails = absurd (no_ok (error.IntegrityCorrupted (unit.Part s.name e.name)) f
+          (sym (fresh_fails s e bytes is fails) ∙ given))
 
   -- and all of them
   record AreAll (es : List Entry) (fs : List Fresh) : Type 0 where
@@ -124,24 +148,30 @@ module _ (shape : Shape) (s : StorageData) (kind : shape.kind ≡ s.kind) where
     pub rules : AllByRecursion (IsExportable s.kind) fs
     pub long : length fs ≡ length es
 
-  all_so : (es : List Entry) → AllByRecursion (IsEntryOf shape) es → (fs : List Fresh) → contents_of s es ≡ Ok fs → AreAll es fs
-  all_so [] entries fs given = subst (λ (xs : List Fresh). AreAll [] xs) (ok_same [] fs given) (record { names = refl; rules = tt; long = refl })
+  all_so : (es : List Entry) → AllByRecursion (IsEntryOf shape) es → (fs : List Fresh) → contents_of s es ≡ Ok fs
+      → AreAll es fs
+  all_so [] entries fs given = subst (λ (xs : List Fresh). AreAll [] xs) (ok_same [] fs given)
+      (record { names = refl; rules = tt; long = refl })
   all_so (e ∷ es) entries fs given = by (all_so es entries.1) (fresh_of s e) refl (contents_of s es) refl given
     where
-      by : ((gs : List Fresh) → contents_of s es ≡ Ok gs → AreAll es gs) → (one : Result Fresh PerError) → fresh_of s e ≡ one
-          → (rest : Result (List Fresh) PerError) → contents_of s es ≡ rest → (one >>= λ f. rest >>= λ gs. Ok (f ∷ gs)) ≡ Ok fs → AreAll (e ∷ es) fs
+      by : ((gs : List Fresh) → contents_of s es ≡ Ok gs → AreAll es gs) → (one : Result Fresh PerError)
+          → fresh_of s e ≡ one
+          → (rest : Result (List Fresh) PerError) → contents_of s es ≡ rest
+          → (one >>= λ f. rest >>= λ gs. Ok (f ∷ gs)) ≡ Ok fs → AreAll (e ∷ es) fs
       by all (Err x) one rest others is = absurd (no_ok x fs is)
       by all (Ok f) one (Err x) others is = absurd (no_ok x fs is)
       by all (Ok f) one (Ok gs) others is =
           let first = one_so e entries.0 e.content refl f one in
           let more = all gs others in
           subst (λ (xs : List Fresh). AreAll (e ∷ es) xs) (ok_same (f ∷ gs) fs is) (record {
-            names = ap (λ (n : List ℕ). n ∷ map (λ (g : Fresh). g.name) gs) first.name ∙ ap (λ (ns : List (List ℕ)). e.name ∷ ns) more.names;
+            names = ap (λ (n : List ℕ). n ∷ map (λ (g : Fresh). g.name) gs) first.name
+                ∙ ap (λ (ns : List (List ℕ)). e.name ∷ ns) more.names;
             rules = (first.rules, more.rules);
             long = ap suc more.long;
           })
 
-  pub exportable : (v : View) → IsView shape v → (fs : List Fresh) → contents_of s v.entries ≡ Ok fs → AreExportable s.kind fs
+  pub exportable : (v : View) → IsView shape v → (fs : List Fresh) → contents_of s v.entries ≡ Ok fs
+      → AreExportable s.kind fs
   exportable v view fs given = let all = all_so v.entries view.each fs given in record {
     few = subst (λ (n : ℕ). n ≤ 1024) (sym all.long) view.few;
     each = all.rules;
@@ -150,24 +180,31 @@ module _ (shape : Shape) (s : StorageData) (kind : shape.kind ≡ s.kind) where
 
 -- ---- the text of a state
 
-pub text_corrupt : (s : StorageData) (state : State) → opened_of state ≡ None → text_from s state ≡ Err (error.IntegrityCorrupted (unit.Whole s.name))
+pub text_corrupt : (s : StorageData) (state : State) → opened_of state ≡ None
+    → text_from s state ≡ Err (error.IntegrityCorrupted (unit.Whole s.name))
 text_corrupt s (Opens v others) is = absurd cc
 text_corrupt s (Corrupt salvage others) is = refl
 
 text_opens : (s : StorageData) (v : View) (state : State) → opened_of state ≡ Some v
-    → text_from s state ≡ ((contents_of s v.entries >>= λ contents. Ok (record { kind = s.kind; contents = contents })) >>= λ x. Ok (export_text x))
+    → text_from s state ≡ ((contents_of s v.entries >>= λ contents. Ok (record { kind = s.kind; contents = contents }))
+    >>= λ x. Ok (export_text x))
 text_opens s v (Corrupt salvage others) is = absurd cc
 text_opens s v (Opens w others) is = let same : w ≡ v = cc in
-    ap (λ (u : View). (contents_of s u.entries >>= λ contents. Ok (record { kind = s.kind; contents = contents })) >>= λ x. Ok (export_text x)) same
+    ap (λ (u : View). (contents_of s u.entries >>= λ contents. Ok (record { kind = s.kind; contents = contents })) >>=
+    λ x. Ok (export_text x)) same
 
-pub text_made : (s : StorageData) (v : View) (state : State) → opened_of state ≡ Some v → (fs : List Fresh) → contents_of s v.entries ≡ Ok fs
+pub text_made : (s : StorageData) (v : View) (state : State) → opened_of state ≡ Some v → (fs : List Fresh)
+    → contents_of s v.entries ≡ Ok fs
     → text_from s state ≡ Ok (export_text (record { kind = s.kind; contents = fs }))
 text_made s v state is fs given = text_opens s v state is
-    ∙ ap (λ (r : Result (List Fresh) PerError). (r >>= λ contents. Ok (record { kind = s.kind; contents = contents })) >>= λ x. Ok (export_text x)) given
+    ∙ ap (λ (r : Result (List Fresh) PerError). (r >>= λ contents. Ok (record { kind = s.kind; contents = contents }))
+    >>= λ x. Ok (export_text x)) given
 
-pub text_refused : (s : StorageData) (v : View) (state : State) → opened_of state ≡ Some v → (e : PerError) → contents_of s v.entries ≡ Err e → text_from s state ≡ Err e
+pub text_refused : (s : StorageData) (v : View) (state : State) → opened_of state ≡ Some v → (e : PerError)
+    → contents_of s v.entries ≡ Err e → text_from s state ≡ Err e
 text_refused s v state is e given = text_opens s v state is
-    ∙ ap (λ (r : Result (List Fresh) PerError). (r >>= λ contents. Ok (record { kind = s.kind; contents = contents })) >>= λ x. Ok (export_text x)) given
+    ∙ ap (λ (r : Result (List Fresh) PerError). (r >>= λ contents. Ok (record { kind = s.kind; contents = contents }))
+    >>= λ x. Ok (export_text x)) given
 
 -- ---- the answer of an export
 
@@ -188,14 +225,26 @@ state_seen false there view is = (state_of view, λ tells. absurd (true≢false 
 abbrev Answered : (told : Bool) → Image → ℕ → List ℕ → Exported → Type 0
 Answered told image app name x = (it : App) × IsSeen told image app it × (exported_as x ≡ exporting it name)
 
-pub answered : (told : Bool) (image mid : Image) (app : ℕ) (name : List ℕ) (l : Located) → mid ≡ image → IsLocated told image app name l
+pub answered : (told : Bool) (image mid : Image) (app : ℕ) (name : List ℕ) (l : Located) → mid ≡ image
+    → IsLocated told image app name l
     → (view : Option View) → (IsTrue told → opened_of (store_at mid l.shape) ≡ view)
-    → (x : Exported) → ((state : State) → opened_of state ≡ view → exported_as x ≡ text_from (config_of l) state) → Answered told image app name x
+    → (x : Exported) → ((state : State) → opened_of state ≡ view → exported_as x ≡ text_from (config_of l) state)
+    → Answered told image app name x
 answered told image mid app name l same located view opened x gives =
-    let seen = state_seen told (store_at image l.shape) view (λ tells. ap (λ (im : Image). opened_of (store_at im l.shape)) (sym same) ∙ opened tells) in
-    let found = located.named seen.0 seen.1 in
-    (found.0, found.1, gives seen.0 seen.2 ∙ sym (exporting_found found.0 name (found_as located.active located.of.number l seen.0) found.2))
+    let seen = state_seen told (store_at image l.shape) view
+    (λ tells. ap (λ (im : Image). opened_of (store_at im l.shape)) (sym same) ∙ opened tells) in
+    let found = located.named seen.0 seen.1 in (
+      found.0,
+      found.1,
+      gives seen.0 seen.2 ∙ sym (exporting_found found.0 name
+          (found_as located.active located.of.number l seen.0) found.2),
+    )
 
-pub answered_missing : (told : Bool) (image : Image) (app : ℕ) (name : List ℕ) (e : PerError) → IsMissing told image app name e
+pub answered_missing : (told : Bool) (image : Image) (app : ℕ) (name : List ℕ) (e : PerError)
+    → IsMissing told image app name e
     → (x : Exported) → exported_as x ≡ Err e → Answered told image app name x
-answered_missing told image app name e missing x is = (missing.0, missing.1, is ∙ sym (exporting_missing missing.0 name e missing.2))
+answered_missing told image app name e missing x is = (
+  missing.0,
+  missing.1,
+  is ∙ sym (exporting_missing missing.0 name e missing.2),
+)

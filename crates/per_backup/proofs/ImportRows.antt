@@ -1,5 +1,6 @@
 -- The contents of an export as those of a storage that is made.
-use Rattle.std.proofs.Common.{◌≡◌, ℕ, ◌≤◌, slice_get, slice_set, Bool, true, false, cond, List, [], ◌∷◌, length, map, Option, Some, None, Result, Ok, Err, refl, sym, ap, ◌∙◌, subst, true≢false}
+use Rattle.std.proofs.Common.{◌≡◌, ℕ, ◌≤◌, slice_get, slice_set, Bool, true, false, cond, List, [], ◌∷◌, length, map}
+use Rattle.std.proofs.Common.{Option, Some, None, Result, Ok, Err, refl, sym, ap, ◌∙◌, subst, true≢false}
 use Rattle.std.specs.Prelude.{IsTrue, nat_lt, sum_by}
 use Rattle.std.specs.List.{AllByRecursion}
 use Rattle.std.proofs.lemmas.Bool.{cond-true, cond-false}
@@ -14,7 +15,8 @@ use Rattle.per_base.specs.declared.errors.PerError.TheVariants.{ExportRejected}
 use Rattle.per_base.specs.FieldLaws.{IsBytes}
 use Rattle.index_text.specs.Contents.{IsFresh, fresh_size}
 use Rattle.deployment_model.specs.Data.{StorageData}
-use Rattle.element_state.specs.States.{State, Corrupt, Opens, fresh_entry, fresh_element, fresh_map, fresh_state, next_generation, salvage_of}
+use Rattle.element_state.specs.States.{State, Corrupt, Opens, fresh_entry, fresh_element, fresh_map, fresh_state}
+use Rattle.element_state.specs.States.{next_generation, salvage_of}
 use Rattle.update_plan.specs.Plans.{is_kind}
 use Rattle.deployment_model.specs.Lookups.{storage_number}
 use Rattle.deploy_laws.specs.Places.{Named}
@@ -26,7 +28,8 @@ use Rattle.export_text.specs.declared.exports.Export.{Export}
 use Rattle.export_text.specs.Exports.{AreExportable, IsExport, IsExportable, export_of, export_text}
 use Rattle.export_text.specs.Exports as exports
 use Rattle.run_model.specs.Found.{Found, found_at, found_in, found_with, storage_in, with_state}
-use Rattle.per_backup.specs.Backups.{contents_of, export_for, exported_from, exporting, fresh_of, importing, importing_into, least_mismatch, text_from, unless}
+use Rattle.per_backup.specs.Backups.{contents_of, export_for, exported_from, exporting, fresh_of, importing}
+use Rattle.per_backup.specs.Backups.{importing_into, least_mismatch, text_from, unless}
 use Rattle.per_backup.specs.Laws.{AgainLaw, ExportedLaw, ImportsLaw}
 use Rattle.per_backup.proofs.ExportRows.{agrees, fresh_counts}
 use Rattle.per_backup.proofs.Lists.{get_set, no_ok, ok_same, some_same}
@@ -34,7 +37,8 @@ use Rattle.per_backup.proofs.Rows.{exporting_found, importing_found, importing_m
 
 -- ---- the rules of the elements of an export are those of the elements of a storage
 
-elements_each : (kind : StoreKind) (fs : List Fresh) → AllByRecursion (IsExportable kind) fs → AllByRecursion (IsFresh kind) fs
+elements_each : (kind : StoreKind) (fs : List Fresh) → AllByRecursion (IsExportable kind) fs
+    → AllByRecursion (IsFresh kind) fs
 elements_each kind [] each = tt
 elements_each kind (f ∷ fs) each = (record { info = each.0.info; small = each.0.len }, elements_each kind fs each.1)
 
@@ -52,52 +56,71 @@ kind_is Files Files is = refl
 -- ---- the rows of an import
 
 row_of : (s : StorageData) (state : State) (text : List ℕ) (found : Option Export) → export_of text ≡ found
-    → importing s state text ≡ (export_for s.kind found >>= λ x. unless (least_mismatch s x.contents) (if_fits s state x.contents))
+    → importing s state text ≡ (export_for s.kind found >>= λ x.
+    unless (least_mismatch s x.contents) (if_fits s state x.contents))
 unfolding importing
-row_of s state text found is = ap (λ (o : Option Export). export_for s.kind o >>= λ x. unless (least_mismatch s x.contents) (if_fits s state x.contents)) is
+row_of s state text found is = ap (λ (o : Option Export). export_for s.kind o >>= λ x.
+    unless (least_mismatch s x.contents) (if_fits s state x.contents)) is
 
-pub row_rejected : (s : StorageData) (text : List ℕ) → export_of text ≡ None → (state : State) → importing s state text ≡ Err ExportRejected
+pub row_rejected : (s : StorageData) (text : List ℕ) → export_of text ≡ None → (state : State)
+    → importing s state text ≡ Err ExportRejected
 row_rejected s text is state = row_of s state text None is
 
-row_kind : (s : StorageData) (text : List ℕ) (x : Export) → export_of text ≡ Some x → (b : Bool) → is_kind s.kind x.kind ≡ b → (state : State)
-    → importing s state text ≡ (cond b (Ok x) (Err ExportRejected) >>= λ y. unless (least_mismatch s y.contents) (if_fits s state y.contents))
+row_kind : (s : StorageData) (text : List ℕ) (x : Export) → export_of text ≡ Some x → (b : Bool)
+    → is_kind s.kind x.kind ≡ b → (state : State)
+    → importing s state text ≡ (cond b (Ok x) (Err ExportRejected) >>= λ y.
+    unless (least_mismatch s y.contents) (if_fits s state y.contents))
 row_kind s text x is b same state = row_of s state text (Some x) is
-    ∙ ap (λ (c : Bool). cond c (Ok x) (Err ExportRejected) >>= λ y. unless (least_mismatch s y.contents) (if_fits s state y.contents)) same
+    ∙ ap (λ (c : Bool). cond c (Ok x) (Err ExportRejected) >>= λ y.
+    unless (least_mismatch s y.contents) (if_fits s state y.contents)) same
 
-pub row_other : (s : StorageData) (text : List ℕ) (x : Export) → export_of text ≡ Some x → is_kind s.kind x.kind ≡ false → (state : State) → importing s state text ≡ Err ExportRejected
+pub row_other : (s : StorageData) (text : List ℕ) (x : Export) → export_of text ≡ Some x → is_kind s.kind x.kind ≡ false
+    → (state : State) → importing s state text ≡ Err ExportRejected
 row_other s text x is differ state = row_kind s text x is false differ state
 
-pub row_taken : (s : StorageData) (text : List ℕ) (x : Export) → export_of text ≡ Some x → is_kind s.kind x.kind ≡ true → (state : State)
+pub row_taken : (s : StorageData) (text : List ℕ) (x : Export) → export_of text ≡ Some x → is_kind s.kind x.kind ≡ true
+    → (state : State)
     → importing s state text ≡ unless (least_mismatch s x.contents) (if_fits s state x.contents)
 row_taken s text x is same state = row_kind s text x is true same state
 
-pub row_typed : (s : StorageData) (text : List ℕ) (x : Export) → export_of text ≡ Some x → is_kind s.kind x.kind ≡ true → (e : PerError) → least_mismatch s x.contents ≡ Some e
+pub row_typed : (s : StorageData) (text : List ℕ) (x : Export) → export_of text ≡ Some x → is_kind s.kind x.kind ≡ true
+    → (e : PerError) → least_mismatch s x.contents ≡ Some e
     → (state : State) → importing s state text ≡ Err e
-row_typed s text x is same e typed state = row_taken s text x is same state ∙ ap (λ (o : Option PerError). unless o (if_fits s state x.contents)) typed
+row_typed s text x is same e typed state = row_taken s text x is same state
+    ∙ ap (λ (o : Option PerError). unless o (if_fits s state x.contents)) typed
 
-pub row_fits : (s : StorageData) (text : List ℕ) (x : Export) → export_of text ≡ Some x → is_kind s.kind x.kind ≡ true → least_mismatch s x.contents ≡ None
+pub row_fits : (s : StorageData) (text : List ℕ) (x : Export) → export_of text ≡ Some x → is_kind s.kind x.kind ≡ true
+    → least_mismatch s x.contents ≡ None
     → (fs : List Fresh) → fs ≡ x.contents → (state : State) → importing s state text ≡ if_fits s state fs
-row_fits s text x is same typed fs are state = row_taken s text x is same state ∙ ap (λ (o : Option PerError). unless o (if_fits s state x.contents)) typed
+row_fits s text x is same typed fs are state = row_taken s text x is same state
+    ∙ ap (λ (o : Option PerError). unless o (if_fits s state x.contents)) typed
     ∙ ap (λ (gs : List Fresh). if_fits s state gs) (sym are)
 
-pub elements_taken : (kind : StoreKind) (x : Export) → IsExport x → is_kind kind x.kind ≡ true → (fs : List Fresh) → fs ≡ x.contents → AreElements kind fs
+pub elements_taken : (kind : StoreKind) (x : Export) → IsExport x → is_kind kind x.kind ≡ true → (fs : List Fresh)
+    → fs ≡ x.contents → AreElements kind fs
 elements_taken kind x rules same fs are = subst (λ (gs : List Fresh). AreElements kind gs) (sym are)
-    (are_elements kind x.contents (subst (λ (k : StoreKind). AreExportable k x.contents) (sym (kind_is kind x.kind same)) rules.rules))
+    (are_elements kind x.contents (subst (λ (k : StoreKind). AreExportable k x.contents)
+    (sym (kind_is kind x.kind same)) rules.rules))
 
 -- ---- what an import that is done makes
 
 abbrev row_by : (large worn : Bool) → StorageData → State → List Fresh → Result State PerError
 row_by large worn s state fs = cond large (Err (error.OutOfStorageSpace (sum_by fresh_size fs) s.maximum))
-    (cond worn (Err (error.LimitReached limit.Generations)) (Ok (fresh_state (next_generation (salvage_of state)) (fresh_map fs))))
+    (cond worn (Err (error.LimitReached limit.Generations))
+    (Ok (fresh_state (next_generation (salvage_of state)) (fresh_map fs))))
 
-made_so : (large worn : Bool) (s : StorageData) (state : State) (fs : List Fresh) (next : State) → row_by large worn s state fs ≡ Ok next
+made_so : (large worn : Bool) (s : StorageData) (state : State) (fs : List Fresh) (next : State)
+    → row_by large worn s state fs ≡ Ok next
     → next ≡ fresh_state (next_generation (salvage_of state)) (fresh_map fs)
 made_so true worn s state fs next is = absurd (no_ok _ next is)
 made_so false true s state fs next is = absurd (no_ok _ next is)
-made_so false false s state fs next is = sym (ok_same (fresh_state (next_generation (salvage_of state)) (fresh_map fs)) next is)
+made_so false false s state fs next is = sym (ok_same (fresh_state (next_generation (salvage_of state)) (fresh_map fs))
+    next is)
 
-fits_made : (s : StorageData) (state : State) (fs : List Fresh) (next : State) → if_fits s state fs ≡ Ok next → next ≡ fresh_state (next_generation (salvage_of state)) (fresh_map fs)
-fits_made s state fs next is = made_so (nat_lt s.maximum (sum_by fresh_size fs)) (is_worn_out (salvage_of state)) s state fs next is
+fits_made : (s : StorageData) (state : State) (fs : List Fresh) (next : State) → if_fits s state fs ≡ Ok next
+    → next ≡ fresh_state (next_generation (salvage_of state)) (fresh_map fs)
+fits_made s state fs next is = made_so (nat_lt s.maximum (sum_by fresh_size fs)) (is_worn_out (salvage_of state)) s
+    state fs next is
 
 -- an import that is done read an export of the storage's kind, and made exactly its contents
 record IsMade (s : StorageData) (state : State) (text : List ℕ) (next : State) : Type 0 where
@@ -106,30 +129,38 @@ record IsMade (s : StorageData) (state : State) (text : List ℕ) (next : State)
   pub kind : spelled.kind ≡ s.kind
   pub made : next ≡ fresh_state (next_generation (salvage_of state)) (fresh_map spelled.contents)
 
-unless_done : {A : Type 0} (refused : Option PerError) (row : Result A PerError) (x : A) → unless refused row ≡ Ok x → row ≡ Ok x
+unless_done : {A : Type 0} (refused : Option PerError) (row : Result A PerError) (x : A) → unless refused row ≡ Ok x
+    → row ≡ Ok x
 unless_done None row x is = is
 unless_done (Some e) row x is = absurd (no_ok e x is)
 
-made_by : (s : StorageData) (state : State) (text : List ℕ) (next : State) (found : Option Export) → export_of text ≡ found
-    → (export_for s.kind found >>= λ x. unless (least_mismatch s x.contents) (if_fits s state x.contents)) ≡ Ok next → IsMade s state text next
+made_by : (s : StorageData) (state : State) (text : List ℕ) (next : State) (found : Option Export)
+    → export_of text ≡ found
+    → (export_for s.kind found >>= λ x. unless (least_mismatch s x.contents) (if_fits s state x.contents)) ≡ Ok next
+    → IsMade s state text next
 made_by s state text next None read is = absurd (no_ok ExportRejected next is)
 made_by s state text next (Some x) read is = by (is_kind s.kind x.kind) refl is
   where
-    by : (b : Bool) → is_kind s.kind x.kind ≡ b → (cond b (Ok x) (Err ExportRejected) >>= λ y. unless (least_mismatch s y.contents) (if_fits s state y.contents)) ≡ Ok next → IsMade s state text next
+    by : (b : Bool) → is_kind s.kind x.kind ≡ b → (cond b (Ok x) (Err ExportRejected) >>= λ y.
+        unless (least_mismatch s y.contents) (if_fits s state y.contents)) ≡ Ok next → IsMade s state text next
     by false kind is = absurd (no_ok ExportRejected next is)
     by true kind is = record {
       spelled = x;
       read = read;
       kind = sym (kind_is s.kind x.kind kind);
-      made = fits_made s state x.contents next (unless_done (least_mismatch s x.contents) (if_fits s state x.contents) next is);
+      made = fits_made s state x.contents next (unless_done (least_mismatch s x.contents) (if_fits s state x.contents)
+          next is);
     }
 
-is_made : (s : StorageData) (state : State) (text : List ℕ) (next : State) → importing s state text ≡ Ok next → IsMade s state text next
-is_made s state text next is = made_by s state text next (export_of text) refl (sym (row_of s state text (export_of text) refl) ∙ is)
+is_made : (s : StorageData) (state : State) (text : List ℕ) (next : State) → importing s state text ≡ Ok next
+    → IsMade s state text next
+is_made s state text next is = made_by s state text next (export_of text) refl
+    (sym (row_of s state text (export_of text) refl) ∙ is)
 
 pub imports : ImportsLaw
 imports s state text x next read is = let m = is_made s state text next is in
-    m.made ∙ ap (λ (y : Export). fresh_state (next_generation (salvage_of state)) (fresh_map y.contents)) (some_same m.spelled x (sym m.read ∙ read))
+    m.made ∙ ap (λ (y : Export). fresh_state (next_generation (salvage_of state)) (fresh_map y.contents))
+    (some_same m.spelled x (sym m.read ∙ read))
 
 -- ---- what was exported
 
@@ -144,7 +175,8 @@ kind_from : (from : StorageData) (old : State) (x : Export) → exported_from fr
 kind_from from (Corrupt salvage others) x is = absurd (no_ok _ x is)
 kind_from from (Opens v others) x is = by (contents_of from v.entries) is
   where
-    by : (r : Result (List Fresh) PerError) → (r >>= λ contents. Ok (record { kind = from.kind; contents = contents })) ≡ Ok x → x.kind ≡ from.kind
+    by : (r : Result (List Fresh) PerError) → (r >>= λ contents. Ok (record { kind = from.kind; contents = contents }))
+        ≡ Ok x → x.kind ≡ from.kind
     by (Err e) is = absurd (no_ok e x is)
     by (Ok fs) is = ap (λ (y : Export). y.kind) (sym (ok_same (record { kind = from.kind; contents = fs }) x is))
 
@@ -154,64 +186,83 @@ exported spelled from into old state x is rules same =
 
 -- ---- and again
 
-fresh_again : (s : StorageData) (generation : ℕ) (f : Fresh) → IsTrue (is_content s.kind f.bytes) → fresh_of s (fresh_entry generation (fresh_element f)) ≡ Ok f
+fresh_again : (s : StorageData) (generation : ℕ) (f : Fresh) → IsTrue (is_content s.kind f.bytes)
+    → fresh_of s (fresh_entry generation (fresh_element f)) ≡ Ok f
 fresh_again s generation f counts = fresh_counts s (fresh_entry generation (fresh_element f)) f.bytes refl counts
 
-contents_again : (s : StorageData) (generation : ℕ) (fs : List Fresh) → AllByRecursion (IsExportable s.kind) fs → contents_of s (map (fresh_entry generation) (fresh_map fs)) ≡ Ok fs
+contents_again : (s : StorageData) (generation : ℕ) (fs : List Fresh) → AllByRecursion (IsExportable s.kind) fs
+    → contents_of s (map (fresh_entry generation) (fresh_map fs)) ≡ Ok fs
 contents_again s generation [] each = refl
 contents_again s generation (f ∷ fs) each =
-    ap (λ (r : Result Fresh PerError). r >>= λ g. contents_of s (map (fresh_entry generation) (fresh_map fs)) >>= λ gs. Ok (g ∷ gs))
+    ap (λ (r : Result Fresh PerError). r >>= λ g. contents_of s (map (fresh_entry generation) (fresh_map fs)) >>= λ gs.
+    Ok (g ∷ gs))
     (fresh_again s generation f (sym (agrees s.kind f.bytes) ∙ each.0.content))
     ∙ ap (λ (r : Result (List Fresh) PerError). r >>= λ gs. Ok (f ∷ gs)) (contents_again s generation fs each.1)
 
-text_again : (s : StorageData) (generation : ℕ) (x : Export) → IsExport x → x.kind ≡ s.kind → text_from s (fresh_state generation (fresh_map x.contents)) ≡ Ok (export_text x)
+text_again : (s : StorageData) (generation : ℕ) (x : Export) → IsExport x → x.kind ≡ s.kind
+    → text_from s (fresh_state generation (fresh_map x.contents)) ≡ Ok (export_text x)
 unfolding fresh_state
 text_again s generation x rules kind =
-    ap (λ (r : Result (List Fresh) PerError). (r >>= λ contents. Ok (record { kind = s.kind; contents = contents })) >>= λ y. Ok (export_text y))
-    (contents_again s generation x.contents (subst (λ (k : StoreKind). AllByRecursion (IsExportable k) x.contents) kind rules.rules.each))
+    ap (λ (r : Result (List Fresh) PerError). (r >>= λ contents. Ok (record { kind = s.kind; contents = contents })) >>=
+    λ y. Ok (export_text y))
+    (contents_again s generation x.contents (subst (λ (k : StoreKind). AllByRecursion (IsExportable k) x.contents) kind
+    rules.rules.each))
     ∙ ap (λ (k : StoreKind). Ok (export_text (record { kind = k; contents = x.contents }))) (sym kind)
 
 -- what was found is found again in its next state
-found_again_with : (v : Named) (number : ℕ) (config : Option StorageData) (states : List State) (state : Option State) → slice_get states number ≡ state → (f : Found)
+found_again_with : (v : Named) (number : ℕ) (config : Option StorageData) (states : List State) (state : Option State)
+    → slice_get states number ≡ state → (f : Found)
     → found_with v.bank number None config state ≡ Ok f → (next : State)
-    → found_with v.bank number None config (slice_get (slice_set states f.number next) number) ≡ Ok (record f { state = next })
+    → found_with v.bank number None config (slice_get (slice_set states f.number next) number)
+    ≡ Ok (record f { state = next })
 found_again_with v number None states state at f is next = absurd (no_ok _ f is)
 found_again_with v number (Some s) states None at f is next = absurd (no_ok _ f is)
 found_again_with v number (Some s) states (Some state) at f is next =
-    let same : f ≡ record { bank = v.bank; number = number; config = s; state = state } = ok_same f (record { bank = v.bank; number = number; config = s; state = state }) (sym is) in
-    subst (λ (g : Found). found_with v.bank number None (Some s) (slice_get (slice_set states g.number next) number) ≡ Ok (record g { state = next })) (sym same)
+    let same : f ≡ record { bank = v.bank; number = number; config = s; state = state } =
+    ok_same f (record { bank = v.bank; number = number; config = s; state = state }) (sym is) in
+    subst (λ (g : Found). found_with v.bank number None (Some s) (slice_get (slice_set states g.number next) number)
+    ≡ Ok (record g { state = next })) (sym same)
     (ap (λ (o : Option State). found_with v.bank number None (Some s) o) (get_set states number next state at))
 
-found_again_at : (v : Named) (states : List State) (number : Option ℕ) (f : Found) → found_at v states None number ≡ Ok f → (next : State)
+found_again_at : (v : Named) (states : List State) (number : Option ℕ) (f : Found)
+    → found_at v states None number ≡ Ok f → (next : State)
     → found_at v (slice_set states f.number next) None number ≡ Ok (record f { state = next })
 found_again_at v states None f is next = absurd (no_ok _ f is)
-found_again_at v states (Some number) f is next = found_again_with v number (slice_get v.deployment.storages number) states (slice_get states number) refl f is next
+found_again_at v states (Some number) f is next = found_again_with v number (slice_get v.deployment.storages number)
+    states (slice_get states number) refl f is next
 
-found_again : (says : Says) (states : List State) (name : List ℕ) (f : Found) → found_in says states name None ≡ Ok f → (next : State)
+found_again : (says : Says) (states : List State) (name : List ℕ) (f : Found) → found_in says states name None ≡ Ok f
+    → (next : State)
     → found_in says (slice_set states f.number next) name None ≡ Ok (record f { state = next })
 found_again nothing states name f is next = absurd (no_ok _ f is)
 found_again (absent g) states name f is next = absurd (no_ok _ f is)
-found_again (installed g active previous) states name f is next = found_again_at active states (storage_number active.deployment name) f is next
+found_again (installed g active previous) states name f is next =
+    found_again_at active states (storage_number active.deployment name) f is next
 
-row_done : (a : App) (f : Found) (row : Result State PerError) (b : App) → with_row a f row ≡ Ok b → (next : State) × (row ≡ Ok next) × (b ≡ with_state a f next)
+row_done : (a : App) (f : Found) (row : Result State PerError) (b : App) → with_row a f row ≡ Ok b
+    → (next : State) × (row ≡ Ok next) × (b ≡ with_state a f next)
 row_done a f (Ok next) b is = (next, refl, sym (ok_same (with_state a f next) b is))
 row_done a f (Err e) b is = absurd (no_ok e b is)
 
-again_found : TakenLaw → (a b : App) (name text : List ℕ) → IsBytes text → (f : Found) → storage_in a name None ≡ Ok f → importing_into a name text ≡ Ok b → exporting b name ≡ Ok text
+again_found : TakenLaw → (a b : App) (name text : List ℕ) → IsBytes text → (f : Found) → storage_in a name None ≡ Ok f
+    → importing_into a name text ≡ Ok b → exporting b name ≡ Ok text
 again_found taken a b name text bytes f found is =
     let done = row_done a f (importing f.config f.state text) b (sym (importing_found a name text f found) ∙ is) in
     let made = is_made f.config f.state text done.0 done.1 in
     let spelled = taken text made.spelled bytes made.read in
-    let there : storage_in b name None ≡ Ok (record f { state = done.0 }) = ap (λ (x : App). storage_in x name None) done.2 ∙ found_again a.says a.states name f found done.0 in
+    let there : storage_in b name None ≡ Ok (record f { state = done.0 }) =
+    ap (λ (x : App). storage_in x name None) done.2 ∙ found_again a.says a.states name f found done.0 in
     exporting_found b name (record f { state = done.0 }) there
     ∙ ap (λ (st : State). text_from f.config st) made.made
     ∙ text_again f.config (next_generation (salvage_of f.state)) made.spelled spelled.0 made.kind
     ∙ ap (λ (t : List ℕ). Ok t) (sym spelled.1)
 
-again_by : TakenLaw → (a b : App) (name text : List ℕ) → IsBytes text → (found : Result Found PerError) → storage_in a name None ≡ found → importing_into a name text ≡ Ok b
+again_by : TakenLaw → (a b : App) (name text : List ℕ) → IsBytes text → (found : Result Found PerError)
+    → storage_in a name None ≡ found → importing_into a name text ≡ Ok b
     → exporting b name ≡ Ok text
 again_by taken a b name text bytes (Ok f) found is = again_found taken a b name text bytes f found is
-again_by taken a b name text bytes (Err e) found is = absurd (no_ok e b (sym (importing_missing a name text e found) ∙ is))
+again_by taken a b name text bytes (Err e) found is = absurd
+    (no_ok e b (sym (importing_missing a name text e found) ∙ is))
 
 pub again : TakenLaw → AgainLaw
 again taken a b name text bytes is = again_by taken a b name text bytes (storage_in a name None) refl is

@@ -1,9 +1,11 @@
 -- Places of lists, and results.
-use Rattle.std.proofs.Common.{◌≡◌, ℕ, zero, suc, ◌+◌, ◌<◌, ◌≤◌, List, [], ◌∷◌, ◌++◌, length, get_or, drop, Option, Some, None, Result, Ok, Err, slice_get, slice_set, refl, sym, ap, ◌∙◌, subst, arith}
+use Rattle.std.proofs.Common.{◌≡◌, ℕ, zero, suc, ◌+◌, ◌<◌, ◌≤◌, List, [], ◌∷◌, ◌++◌, length, get_or, drop, Option, Some}
+use Rattle.std.proofs.Common.{None, Result, Ok, Err, slice_get, slice_set, refl, sym, ap, ◌∙◌, subst, arith}
 use Rattle.std.specs.Prelude.{IfErr, IfOk, IfSome}
 use Rattle.std.specs.List.{AllByRecursion}
 
-pub get_set : {A : Type 0} (xs : List A) (n : ℕ) (x y : A) → slice_get xs n ≡ Some y → slice_get (slice_set xs n x) n ≡ Some x
+pub get_set : {A : Type 0} (xs : List A) (n : ℕ) (x y : A) → slice_get xs n ≡ Some y
+    → slice_get (slice_set xs n x) n ≡ Some x
 get_set [] n x y is = absurd cc
 get_set (z ∷ zs) zero x y is = refl
 get_set (z ∷ zs) (suc n) x y is = get_set zs n x y is
@@ -14,12 +16,14 @@ set_same [] n x is = refl
 set_same (y ∷ ys) zero x is = let e : y ≡ x = grind arith in ap (λ z. z ∷ ys) (sym e)
 set_same (y ∷ ys) (suc n) x is = ap (λ zs. y ∷ zs) (set_same ys n x is)
 
-pub get_append : {A : Type 0} (xs ys : List A) (n : ℕ) (x : A) → slice_get xs n ≡ Some x → slice_get (xs ++ ys) n ≡ Some x
+pub get_append : {A : Type 0} (xs ys : List A) (n : ℕ) (x : A) → slice_get xs n ≡ Some x
+    → slice_get (xs ++ ys) n ≡ Some x
 get_append [] ys n x is = absurd cc
 get_append (z ∷ zs) ys zero x is = is
 get_append (z ∷ zs) ys (suc n) x is = get_append zs ys n x is
 
-pub all_at : {A : Type 0} (P : A → Type 0) (xs : List A) (n : ℕ) (x : A) → AllByRecursion P xs → slice_get xs n ≡ Some x → P x
+pub all_at : {A : Type 0} (P : A → Type 0) (xs : List A) (n : ℕ) (x : A) → AllByRecursion P xs → slice_get xs n ≡ Some x
+    → P x
 all_at P [] n x every is = absurd cc
 all_at P (y ∷ ys) zero x every is = let e : y ≡ x = grind arith in subst P e every.0
 all_at P (y ∷ ys) (suc n) x every is = all_at P ys n x every.1 is
@@ -30,7 +34,8 @@ length_set (y ∷ ys) zero x = refl
 length_set (y ∷ ys) (suc n) x = let e = length_set ys n x in omega (arith, e)
 
 -- an item of a list, and what is left from there
-pub item_at : {A : Type 0} (xs : List A) (i : ℕ) (x : A) → i < length xs → x ≡ get_or xs i x → drop i xs ≡ x ∷ drop (suc i) xs
+pub item_at : {A : Type 0} (xs : List A) (i : ℕ) (x : A) → i < length xs → x ≡ get_or xs i x
+    → drop i xs ≡ x ∷ drop (suc i) xs
 item_at [] i x lt e = absurd (omega (arith, lt))
 item_at (y ∷ ys) zero x lt e = ap (λ z. z ∷ ys) (sym e)
 item_at (y ∷ ys) (suc i) x lt e = item_at ys i x (omega (arith, lt)) e

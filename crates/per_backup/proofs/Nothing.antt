@@ -1,5 +1,6 @@
 -- Calls that change nothing: what they keep of an application, and what follows them.
-use Rattle.std.proofs.Common.{◌≡◌, ℕ, ◌<◌, ◌≤◌, Bool, List, Option, Some, None, Result, Ok, Err, refl, sym, ap, ◌∙◌, subst}
+use Rattle.std.proofs.Common.{◌≡◌, ℕ, ◌<◌, ◌≤◌, Bool, List, Option, Some, None, Result, Ok, Err, refl, sym, ap, ◌∙◌}
+use Rattle.std.proofs.Common.{subst}
 use Rattle.std.specs.Prelude.{IsErr, IsOk, IsTrue}
 use Rattle.per_base.specs.declared.errors.PerError.{PerError}
 use Rattle.disk_model.specs.Frame.{IsSettledOn, Spares}
@@ -26,7 +27,8 @@ use Rattle.per_backup.specs.StorageLaws.{StorageLaws}
 use Rattle.per_backup.proofs.Rows.{importing_found, importing_missing, later_import, row_goes, some_agree, with_row}
 use Rattle.per_backup.proofs.Stored.{settled_so}
 
-pub nothing_on : {old mid new : Medium} → Elapses old mid → ChangesNothing old mid → Elapses mid new → ChangesNothing mid new → ChangesNothing old new
+pub nothing_on : {old mid new : Medium} → Elapses old mid → ChangesNothing old mid → Elapses mid new
+    → ChangesNothing mid new → ChangesNothing old new
 nothing_on {old} {mid} {new} before first later next = record {
   image = next.image ∙ first.image;
   written = next.written ∙ first.written;
@@ -35,9 +37,11 @@ nothing_on {old} {mid} {new} before first later next = record {
 
 -- ---- while nothing changes
 
-module _ (laws : StorageLaws) (app : ℕ) (lt : app < 8) (name text : List ℕ) (old new : Medium) (nothing : ChangesNothing old new) where
+module _ (laws : StorageLaws) (app : ℕ) (lt : app < 8) (name text : List ℕ) (old new : Medium)
+    (nothing : ChangesNothing old new) where
   kept_so : (shape : Shape) (state : State) → 1 ≤ shape.m → KeptThroughout shape state old new
-  kept_so shape state some quiet clean c past = laws.untouched shape old.image state c some clean (settled_so (IsOfPlace shape.place) old.image c ((nothing.idle quiet).during c past))
+  kept_so shape state some quiet clean c past = laws.untouched shape old.image state c some clean
+      (settled_so (IsOfPlace shape.place) old.image c ((nothing.idle quiet).during c past))
 
   -- each moment of an import
   pub nothing_keeps : ImportKeeps app name text old new
@@ -45,32 +49,40 @@ module _ (laws : StorageLaws) (app : ℕ) (lt : app < 8) (name text : List ℕ) 
     kept = λ f found. kept_so (shape_in app f) _ (some_agree laws old.image app name f found);
     elsewhere = λ f found file out. ap (λ (im : Image). im file) nothing.image;
     outside = λ f found quiet c past. settled_so _ old.image c ((nothing.idle quiet).during c past);
-    stands = λ quiet clean c past. laws.still app old.image _ c lt clean (settled_so (IsFileOf app) old.image c ((nothing.idle quiet).during c past))
+    stands = λ quiet clean c past. laws.still app old.image _ c lt clean
+        (settled_so (IsFileOf app) old.image c ((nothing.idle quiet).during c past))
         (later_import (app_at old.image app) name text);
     refused = λ err. nothing;
   }
 
   -- and the end of one that is refused
-  pub nothing_imported : (e : PerError) → importing_into (app_at old.image app) name text ≡ Err e → Imported app name text old new
+  pub nothing_imported : (e : PerError) → importing_into (app_at old.image app) name text ≡ Err e
+      → Imported app name text old new
   nothing_imported e err = record {
     world = ap (λ (im : Image). app_at im app) nothing.image ∙ sym (ap (after (app_at old.image app)) err);
-    clean = λ f found ok. absurd (row_goes (app_at old.image app) f (importing f.config f.state text) e (sym (importing_found (app_at old.image app) name text f found) ∙ err) ok);
+    clean = λ f found ok. absurd (row_goes (app_at old.image app) f (importing f.config f.state text) e
+        (sym (importing_found (app_at old.image app) name text f found) ∙ err) ok);
     stays_clean = λ clean. subst (λ (im : Image). IsCleanApp app im) (sym nothing.image) clean;
   }
 
 -- ---- what follows
 
-module _ (laws : StorageLaws) (old mid new : Medium) (before : Elapses old mid) (nothing : ChangesNothing old mid) (later : Elapses mid new) where
-  pub then_kept : (shape : Shape) (state : State) → 1 ≤ shape.m → KeptThroughout shape state mid new → KeptThroughout shape state old new
+module _ (laws : StorageLaws) (old mid new : Medium) (before : Elapses old mid) (nothing : ChangesNothing old mid)
+    (later : Elapses mid new) where
+  pub then_kept : (shape : Shape) (state : State) → 1 ≤ shape.m → KeptThroughout shape state mid new
+      → KeptThroughout shape state old new
   then_kept shape state some keeps quiet clean = goes_on (IsKeptCase shape old.image state) before later
-      (λ c past. laws.untouched shape old.image state c some clean (settled_so (IsOfPlace shape.place) old.image c ((nothing.idle quiet).during c past)))
+      (λ c past. laws.untouched shape old.image state c some clean
+      (settled_so (IsOfPlace shape.place) old.image c ((nothing.idle quiet).during c past)))
       (subst (λ (im : Image). EachCase (IsKeptCase shape im state) mid new) nothing.image
       (keeps (nothing.idle quiet).quiet (subst (λ (im : Image). IsClean shape im) (sym nothing.image) clean)))
 
-  pub then_outside : (Files : ℕ → Type 0) → (Quiet mid → EachCase (IsSettledOn Files mid.image) mid new) → Quiet old → EachCase (IsSettledOn Files old.image) old new
+  pub then_outside : (Files : ℕ → Type 0) → (Quiet mid → EachCase (IsSettledOn Files mid.image) mid new) → Quiet old
+      → EachCase (IsSettledOn Files old.image) old new
   then_outside Files outside quiet = goes_on (IsSettledOn Files old.image) before later
       (λ c past. settled_so Files old.image c ((nothing.idle quiet).during c past))
-      (subst (λ (im : Image). EachCase (IsSettledOn Files im) mid new) nothing.image (outside (nothing.idle quiet).quiet))
+      (subst (λ (im : Image). EachCase (IsSettledOn Files im) mid new) nothing.image
+      (outside (nothing.idle quiet).quiet))
 
   pub then_spares : (Files : ℕ → Type 0) → Spares Files mid.image new.image → Spares Files old.image new.image
   then_spares Files spares file out = spares file out ∙ ap (λ (im : Image). im file) nothing.image
@@ -81,14 +93,20 @@ module _ (laws : StorageLaws) (old mid new : Medium) (before : Elapses old mid) 
 abbrev pub Refuses : (told : Bool) → Image → ℕ → (name text : List ℕ) → PerError → Type 0
 Refuses told image app name text e = (it : App) × IsSeen told image app it × (importing_into it name text ≡ Err e)
 
-pub missing_refuses : (told : Bool) (image : Image) (app : ℕ) (name text : List ℕ) (e : PerError) → IsMissing told image app name e → Refuses told image app name text e
-missing_refuses told image app name text e missing = (missing.0, missing.1, importing_missing missing.0 name text e missing.2)
+pub missing_refuses : (told : Bool) (image : Image) (app : ℕ) (name text : List ℕ) (e : PerError)
+    → IsMissing told image app name e → Refuses told image app name text e
+missing_refuses told image app name text e missing = (
+  missing.0,
+  missing.1,
+  importing_missing missing.0 name text e missing.2,
+)
 
 -- a row that refuses whatever the state is
 abbrev pub IsRefusedRow : StorageData → (text : List ℕ) → PerError → Type 0
 IsRefusedRow s text e = (state : State) → importing s state text ≡ Err e
 
-pub early_refuses : (told : Bool) (image : Image) (app : ℕ) (name text : List ℕ) (e : PerError) (l : Located) → IsLocated told image app name l
+pub early_refuses : (told : Bool) (image : Image) (app : ℕ) (name text : List ℕ) (e : PerError) (l : Located)
+    → IsLocated told image app name l
     → ((state : State) → importing (config_of l) state text ≡ Err e) → Refuses told image app name text e
 early_refuses told image app name text e l located row =
     let there = store_at image l.shape in
@@ -96,13 +114,21 @@ early_refuses told image app name text e l located row =
       found.0,
       found.1,
       importing_found found.0 name text (found_as located.active located.of.number l there) found.2
-          ∙ ap (λ (r : Result State PerError). with_row found.0 (found_as located.active located.of.number l there) r) (row there),
+          ∙ ap (λ (r : Result State PerError). with_row found.0 (found_as located.active located.of.number l there) r)
+          (row there),
     )
 
-pub refuses_answers : (told : Bool) (image : Image) (app : ℕ) (name text : List ℕ) (e : PerError) → Refuses told image app name text e
+pub refuses_answers : (told : Bool) (image : Image) (app : ℕ) (name text : List ℕ) (e : PerError)
+    → Refuses told image app name text e
     → (it : App) × IsSeen told image app it × Answers (Some e) (importing_into it name text)
-refuses_answers told image app name text e given = (given.0, given.1, subst (λ (r : Result App PerError). Answers (Some e) r) (sym given.2) refl)
+refuses_answers told image app name text e given = (
+  given.0,
+  given.1,
+  subst (λ (r : Result App PerError). Answers (Some e) r) (sym given.2) refl,
+)
 
-pub refuses_there : (told : Bool) (image : Image) (app : ℕ) (name text : List ℕ) (e : PerError) → Refuses told image app name text e → IsTrue told
+pub refuses_there : (told : Bool) (image : Image) (app : ℕ) (name text : List ℕ) (e : PerError)
+    → Refuses told image app name text e → IsTrue told
     → importing_into (app_at image app) name text ≡ Err e
-refuses_there told image app name text e given tells = subst (λ (it : App). importing_into it name text ≡ Err e) (given.1 tells) given.2
+refuses_there told image app name text e given tells =
+    subst (λ (it : App). importing_into it name text ≡ Err e) (given.1 tells) given.2

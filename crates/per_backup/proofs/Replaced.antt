@@ -1,5 +1,6 @@
 -- An import that makes its storage anew, by what a deployment promises of that.
-use Rattle.std.proofs.Common.{◌≡◌, ◌⊎◌, ℕ, ◌<◌, ◌≤◌, Bool, true, List, Option, Some, None, Result, Ok, Err, slice_set, refl, sym, ap, ◌∙◌, subst, inl, inr}
+use Rattle.std.proofs.Common.{◌≡◌, ◌⊎◌, ℕ, ◌<◌, ◌≤◌, Bool, true, List, Option, Some, None, Result, Ok, Err, slice_set}
+use Rattle.std.proofs.Common.{refl, sym, ap, ◌∙◌, subst, inl, inr}
 use Rattle.std.specs.Prelude.{IfOk, IsErr, IsOk, IsSome, IsTrue, OnOk}
 use Rattle.std.specs.List.{AllByRecursion}
 use Rattle.per_base.specs.declared.elements.Fresh.{Fresh}
@@ -32,28 +33,37 @@ use Rattle.per_backup.proofs.Rows.{after_row, answers_row, importing_found, one_
 use Rattle.per_backup.proofs.Stored.{clean_there, stays_so, stored_here, storing_here}
 
 -- what a deployment promises of a storage that it makes anew with these contents
-pub record Replaces (told : Bool) (shape : Shape) (row : State → Result State PerError) (old new : Medium) (result : Result (Option PerError) Stop) : Type 0 where
-  pub refused : IfOk result (λ refused. (state : State) × (IsTrue told → store_at old.image shape ≡ state) × Answers refused (row state))
-  pub state : IsTrue told → OnOk result (store_at new.image shape ≡ after_state (store_at old.image shape) (row (store_at old.image shape)))
+pub record Replaces (told : Bool) (shape : Shape) (row : State → Result State PerError) (old new : Medium)
+    (result : Result (Option PerError) Stop) : Type 0 where
+  pub refused : IfOk result (λ refused. (state : State) × (IsTrue told → store_at old.image shape ≡ state)
+      × Answers refused (row state))
+  pub state : IsTrue told → OnOk result (store_at new.image shape
+      ≡ after_state (store_at old.image shape) (row (store_at old.image shape)))
   pub unchanged : IfOk result (λ refused. IsSome refused → ChangesNothing old new)
   pub stays : IsTrue told → IsErr (row (store_at old.image shape)) → ChangesNothing old new
-  pub clean : IsTrue told → IfOk result (λ refused. (refused ≡ None) ⊎ IsClean shape old.image → IsClean shape new.image)
+  pub clean : IsTrue told → IfOk result (λ refused. (refused ≡ None) ⊎ IsClean shape old.image
+      → IsClean shape new.image)
   pub outside : Leaves told (IsOutside shape.place.first shape.place.copies) old new
-  pub any_moment : IsTrue told → KeptThroughout shape (after_state (store_at old.image shape) (row (store_at old.image shape))) old new
+  pub any_moment : IsTrue told → KeptThroughout shape (after_state (store_at old.image shape)
+      (row (store_at old.image shape))) old new
 
 -- the same facts of a storage at a shape, whichever way the shape is written
-at_shape : (told : Bool) (one other : Shape) (row : State → Result State PerError) (old new : Medium) (result : Result (Option PerError) Stop) → one ≡ other
+at_shape : (told : Bool) (one other : Shape) (row : State → Result State PerError) (old new : Medium)
+    (result : Result (Option PerError) Stop) → one ≡ other
     → Replaces told one row old new result → Replaces told other row old new result
-at_shape told one other row old new result same replaces = subst (λ (sh : Shape). Replaces told sh row old new result) same replaces
+at_shape told one other row old new result same replaces =
+    subst (λ (sh : Shape). Replaces told sh row old new result) same replaces
 
-if_done : (result : Result (Option PerError) Stop) (P : Type 0) → ((refused : Option PerError) → result ≡ Ok refused → P) → OnOk result P
+if_done : (result : Result (Option PerError) Stop) (P : Type 0)
+    → ((refused : Option PerError) → result ≡ Ok refused → P) → OnOk result P
 if_done (Ok refused) P gives = gives refused refl
 if_done (Err stop) P gives = tt
 
 on_so : {X E : Type 0} (r : Result X E) (x : X) (P : Type 0) → r ≡ Ok x → OnOk r P → P
 on_so r x P is given = subst (λ (y : Result _ _). OnOk y P) is given
 
-module _ (laws : StorageLaws) (told : Bool) (app : ℕ) (lt : app < 8) (name text : List ℕ) (l : Located) (contents : List Fresh)
+module _ (laws : StorageLaws) (told : Bool) (app : ℕ) (lt : app < 8) (name text : List ℕ) (l : Located)
+    (contents : List Fresh)
     (row_is : (state : State) → importing (config_of l) state text ≡ if_fits (config_of l) state contents)
     (old mid new : Medium) (before : Elapses old mid) (nothing : ChangesNothing old mid) (later : Elapses mid new)
     (located : IsLocated told old.image app name l) (result : Result (Option PerError) Stop)
@@ -75,26 +85,32 @@ module _ (laws : StorageLaws) (told : Bool) (app : ℕ) (lt : app < 8) (name tex
 
   -- ---- its answer
 
-  pub replaced_answers : IfOk result (λ refused. (it : App) × IsSeen told old.image app it × Answers refused (importing_into it name text))
+  pub replaced_answers : IfOk result (λ refused. (it : App) × IsSeen told old.image app it
+      × Answers refused (importing_into it name text))
   replaced_answers = by result replaces.refused
     where
-      by : (r : Result (Option PerError) Stop) → IfOk r (λ refused. (state : State) × (IsTrue told → store_at mid.image l.shape ≡ state) × Answers refused (row state))
-          → IfOk r (λ refused. (it : App) × IsSeen told old.image app it × Answers refused (importing_into it name text))
+      by : (r : Result (Option PerError) Stop) → IfOk r (λ refused. (state : State)
+          × (IsTrue told → store_at mid.image l.shape ≡ state) × Answers refused (row state))
+          → IfOk r (λ refused. (it : App) × IsSeen told old.image app it
+          × Answers refused (importing_into it name text))
       by (Err stop) given = tt
       by (Ok refused) given =
-          let found = located.named given.0 (λ tells. sym (given.1 tells) ∙ ap (λ (im : Image). store_at im l.shape) nothing.image) in
+          let found = located.named given.0 (λ tells. sym (given.1 tells)
+          ∙ ap (λ (im : Image). store_at im l.shape) nothing.image) in
           let f = found_as located.active number l given.0 in (
             found.0,
             found.1,
             subst (λ (r : Result App PerError). Answers refused r)
-                (sym (importing_found found.0 name text f found.2 ∙ ap (λ (r : Result State PerError). with_row found.0 f r) (row_is given.0)))
+                (sym (importing_found found.0 name text f found.2
+                ∙ ap (λ (r : Result State PerError). with_row found.0 f r) (row_is given.0)))
                 (answers_row found.0 f refused (row given.0) given.2),
           )
 
   pub replaced_unchanged : IfOk result (λ refused. IsSome refused → ChangesNothing old new)
   replaced_unchanged = by result replaces.unchanged
     where
-      by : (r : Result (Option PerError) Stop) → IfOk r (λ refused. IsSome refused → ChangesNothing mid new) → IfOk r (λ refused. IsSome refused → ChangesNothing old new)
+      by : (r : Result (Option PerError) Stop) → IfOk r (λ refused. IsSome refused → ChangesNothing mid new)
+          → IfOk r (λ refused. IsSome refused → ChangesNothing old new)
       by (Err stop) given = tt
       by (Ok refused) given = λ some. nothing_on before nothing later (given some)
 
@@ -133,7 +149,8 @@ module _ (laws : StorageLaws) (told : Bool) (app : ℕ) (lt : app < 8) (name tex
     next_mid = ap (λ (st : State). after_state st (row st)) was_mid
 
     same : with_state a f was ≡ a
-    same = stays_so laws app (located.says tells).0 located.active (located.says tells).1 number s located.of.config old.image says_old
+    same = stays_so laws app (located.says tells).0 located.active (located.says tells).1 number s located.of.config
+        old.image says_old
 
     row_into : importing_into a name text ≡ with_row a f (row was)
     row_into = importing_found a name text f found ∙ ap (with_row a f) (row_is was)
@@ -149,41 +166,58 @@ module _ (laws : StorageLaws) (told : Bool) (app : ℕ) (lt : app < 8) (name tex
         (subst (λ (st : State). KeptThroughout here st mid new) next_mid (anew.any_moment tells))
 
     outside_here : Quiet old → EachCase (IsSettledOn (IsOutside here.place.first here.place.copies) old.image) old new
-    outside_here = then_outside laws old mid new before nothing later (IsOutside here.place.first here.place.copies) (anew.outside.throughout tells)
+    outside_here = then_outside laws old mid new before nothing later (IsOutside here.place.first here.place.copies)
+        (anew.outside.throughout tells)
 
     elsewhere_here : Spares (IsOutside here.place.first here.place.copies) old.image new.image
-    elsewhere_here = then_spares laws old mid new before nothing later (IsOutside here.place.first here.place.copies) (anew.outside.at_the_end tells)
+    elsewhere_here = then_spares laws old mid new before nothing later (IsOutside here.place.first here.place.copies)
+        (anew.outside.at_the_end tells)
 
     pub replaced_keeps : ImportKeeps app name text old new
     replaced_keeps = record {
-      kept = λ g is. subst (λ (x : Found). KeptThroughout (shape_in app x) (after_state x.state (importing x.config x.state text)) old new) (sym (it_is g is))
-          (subst (λ (r : Result State PerError). KeptThroughout here (after_state was r) old new) (sym (row_is was)) kept_here);
-      elsewhere = λ g is. subst (λ (x : Found). Spares (IsOutside (shape_in app x).place.first (shape_in app x).place.copies) old.image new.image) (sym (it_is g is)) elsewhere_here;
-      outside = λ g is. subst (λ (x : Found). Quiet old → EachCase (IsSettledOn (IsOutside (shape_in app x).place.first (shape_in app x).place.copies) old.image) old new) (sym (it_is g is)) outside_here;
+      kept = λ g is. subst (λ (x : Found). KeptThroughout (shape_in app x)
+          (after_state x.state (importing x.config x.state text)) old new) (sym (it_is g is))
+          (subst (λ (r : Result State PerError). KeptThroughout here (after_state was r) old new) (sym (row_is was))
+          kept_here);
+      elsewhere = λ g is. subst (λ (x : Found). Spares (IsOutside (shape_in app x).place.first
+          (shape_in app x).place.copies) old.image new.image) (sym (it_is g is)) elsewhere_here;
+      outside = λ g is. subst (λ (x : Found). Quiet old → EachCase
+          (IsSettledOn (IsOutside (shape_in app x).place.first (shape_in app x).place.copies) old.image) old new)
+          (sym (it_is g is)) outside_here;
       stands = subst (λ (b : App). StandsThroughout app b old new) (sym world)
-          (storing_here laws app (located.says tells).0 located.active (located.says tells).1 number s located.of.config lt located.of.in_bank located.of.in_slots next old new says_old outside_here kept_here);
+          (storing_here laws app (located.says tells).0 located.active (located.says tells).1 number s located.of.config
+          lt located.of.in_bank located.of.in_slots next old new says_old outside_here kept_here);
       refused = λ err. nothing_on before nothing later (anew.stays tells
-          (subst (λ (st : State). IsErr (row st)) (sym was_mid) (row_refused a f (row was) (subst (λ (r : Result App PerError). IsErr r) row_into err))));
+          (subst (λ (st : State). IsErr (row st)) (sym was_mid)
+          (row_refused a f (row was) (subst (λ (r : Result App PerError). IsErr r) row_into err))));
     }
 
-    stored : (app_at new.image app ≡ record a { states = slice_set a.states number (store_at new.image here) }) × (IsCleanApp app old.image → IsClean here new.image → IsCleanApp app new.image)
-    stored = stored_here laws app (located.says tells).0 located.active (located.says tells).1 number s located.of.config lt located.of.in_bank located.of.in_slots old.image new.image elsewhere_here says_old
+    stored : (app_at new.image app ≡ record a { states = slice_set a.states number (store_at new.image here) })
+        × (IsCleanApp app old.image → IsClean here new.image → IsCleanApp app new.image)
+    stored = stored_here laws app (located.says tells).0 located.active (located.says tells).1 number s
+        located.of.config lt located.of.in_bank located.of.in_slots old.image new.image elsewhere_here says_old
 
     -- it is clean where it was, and where it was made
-    clean_here : (refused : Option PerError) → result ≡ Ok refused → (refused ≡ None) ⊎ IsClean here old.image → IsClean here new.image
+    clean_here : (refused : Option PerError) → result ≡ Ok refused → (refused ≡ None) ⊎ IsClean here old.image
+        → IsClean here new.image
     clean_here refused is (inl none) = ok_so result refused _ is (anew.clean tells) (inl none)
-    clean_here refused is (inr clean) = ok_so result refused _ is (anew.clean tells) (inr (subst (λ (im : Image). IsClean here im) (sym nothing.image) clean))
+    clean_here refused is (inr clean) = ok_so result refused _ is (anew.clean tells)
+        (inr (subst (λ (im : Image). IsClean here im) (sym nothing.image) clean))
 
     made : (refused : Option PerError) → result ≡ Ok refused → IsOk (row was) → refused ≡ None
     made refused is ok =
         let given = ok_so result refused _ is anew.refused in
-        row_done refused (row was) (subst (λ (st : State). Answers refused (row st)) (sym (given.1 tells) ∙ was_mid) given.2) ok
+        row_done refused (row was) (subst (λ (st : State). Answers refused (row st)) (sym (given.1 tells) ∙ was_mid)
+        given.2) ok
 
     pub replaced_imported : OnOk result (Imported app name text old new)
     replaced_imported = if_done result (Imported app name text old new) (λ refused is. record {
-      world = stored.0 ∙ ap (λ (st : State). record a { states = slice_set a.states number st }) (on_so result refused _ is (anew.state tells) ∙ next_mid) ∙ sym world;
+      world = stored.0 ∙ ap (λ (st : State). record a { states = slice_set a.states number st })
+          (on_so result refused _ is (anew.state tells) ∙ next_mid) ∙ sym world;
       clean = λ g found_so ok. subst (λ (x : Found). IsClean (shape_in app x) new.image) (sym (it_is g found_so))
           (clean_here refused is (inl (made refused is (subst (λ (r : Result State PerError). IsOk r) (row_is was)
           (subst (λ (x : Found). IsOk (importing x.config x.state text)) (it_is g found_so) ok)))));
-      stays_clean = λ clean. stored.1 clean (clean_here refused is (inr (clean_there laws app (located.says tells).0 located.active (located.says tells).1 number s located.of.config old.image says_old clean)));
+      stays_clean = λ clean. stored.1 clean (clean_here refused is
+          (inr (clean_there laws app (located.says tells).0 located.active (located.says tells).1 number s
+          located.of.config old.image says_old clean)));
     })

@@ -1,5 +1,6 @@
 -- The storage that was found by what is seen of a root, as it is found in the application that was seen.
-use Rattle.std.proofs.Common.{◌≡◌, ℕ, ◌<◌, ◌≤◌, Bool, true, false, List, [], map, Option, Some, None, Result, Ok, Err, option_map, length, slice_get, slice_index_or, refl, sym, ap, ◌∙◌, subst, true≢false}
+use Rattle.std.proofs.Common.{◌≡◌, ℕ, ◌<◌, ◌≤◌, Bool, true, false, List, [], map, Option, Some, None, Result, Ok, Err}
+use Rattle.std.proofs.Common.{option_map, length, slice_get, slice_index_or, refl, sym, ap, ◌∙◌, subst, true≢false}
 use Rattle.std.specs.Prelude.{IfErr, IsTrue}
 use Rattle.std.proofs.lemmas.Option.{slice_get-map, slice_get_read}
 use Rattle.per_base.specs.declared.errors.PerError.{PerError}
@@ -30,46 +31,63 @@ app_so look states = record { says = says_so look; lacking = []; states = states
 
 -- ---- none is found
 
-out_by : (look : RootSeen) (name : List ℕ) (e : PerError) → IsOut name look e → (says : Says) (lacking : List ℕ) (settled : Bool) → look ≡ seen_by says lacking settled
+out_by : (look : RootSeen) (name : List ℕ) (e : PerError) → IsOut name look e
+    → (says : Says) (lacking : List ℕ) (settled : Bool) → look ≡ seen_by says lacking settled
     → (states : List State) → found_in says states name None ≡ Err e
-out_by look name e out nothing lacking settled is states = ap (λ (x : PerError). Err x) (sym (subst (λ (l : RootSeen). IsOut name l e) is out))
-out_by look name e out (absent g) lacking settled is states = ap (λ (x : PerError). Err x) (sym (subst (λ (l : RootSeen). IsOut name l e) is out))
+out_by look name e out nothing lacking settled is states =
+    ap (λ (x : PerError). Err x) (sym (subst (λ (l : RootSeen). IsOut name l e) is out))
+out_by look name e out (absent g) lacking settled is states =
+    ap (λ (x : PerError). Err x) (sym (subst (λ (l : RootSeen). IsOut name l e) is out))
 out_by look name e out (installed g active previous) lacking settled is states =
     let so = subst (λ (l : RootSeen). IsOut name l e) is out in
     ap (found_at active states None) so.0 ∙ ap (λ (x : PerError). Err x) (sym so.1)
 
-out_so : (look : RootSeen) (name : List ℕ) (e : PerError) → IsOut name look e → found_in (says_so look) [] name None ≡ Err e
+out_so : (look : RootSeen) (name : List ℕ) (e : PerError) → IsOut name look e
+    → found_in (says_so look) [] name None ≡ Err e
 out_so bad name e out = ap (λ (x : PerError). Err x) (sym out)
 out_so (no_version lacking settled) name e out = ap (λ (x : PerError). Err x) (sym out)
-out_so (versions active previous lacking settled) name e out = ap (found_at active [] None) out.0 ∙ ap (λ (x : PerError). Err x) (sym out.1)
+out_so (versions active previous lacking settled) name e out =
+    ap (found_at active [] None) out.0 ∙ ap (λ (x : PerError). Err x) (sym out.1)
 
-pub missing : (told : Bool) (image : Image) (app : ℕ) (name : List ℕ) (look : RootSeen) → (IsTrue told → look ≡ seen_at image app)
+pub missing : (told : Bool) (image : Image) (app : ℕ) (name : List ℕ) (look : RootSeen)
+    → (IsTrue told → look ≡ seen_at image app)
     → (e : PerError) → IsOut name look e → IsMissing told image app name e
 missing true image app name look seen e out = (
   app_at image app,
   λ tells. refl,
-  out_by look name e out (app_at image app).says (app_at image app).lacking (root_settled image app) (seen refl) (app_at image app).states,
+  out_by look name e out (app_at image app).says (app_at image app).lacking (root_settled image app) (seen refl)
+      (app_at image app).states,
 )
-missing false image app name look seen e out = (app_so look [], λ tells. absurd (true≢false (sym tells)), out_so look name e out)
+missing false image app name look seen e out = (
+  app_so look [],
+  λ tells. absurd (true≢false (sym tells)),
+  out_so look name e out,
+)
 
 -- ---- one is found
 
 -- the root says what was seen
-says_seen : (active : Named) (previous : Option Named) (lacking : List ℕ) (settled : Bool) (says : Says) (others : List ℕ) (alone : Bool)
-    → versions active previous lacking settled ≡ seen_by says others alone → (g : ℕ) × (before : Option Named) × (says ≡ installed g active before)
+says_seen : (active : Named) (previous : Option Named) (lacking : List ℕ) (settled : Bool) (says : Says)
+    (others : List ℕ) (alone : Bool)
+    → versions active previous lacking settled ≡ seen_by says others alone
+    → (g : ℕ) × (before : Option Named) × (says ≡ installed g active before)
 says_seen active previous lacking settled nothing others alone is = absurd cc
 says_seen active previous lacking settled (absent g) others alone is = absurd cc
-says_seen active previous lacking settled (installed g v before) others alone is = let e : v ≡ active = cc in (g, before, ap (λ (x : Named). installed g x before) e)
+says_seen active previous lacking settled (installed g v before) others alone is = let e : v ≡ active =
+    cc in (g, before, ap (λ (x : Named). installed g x before) e)
 
-found_so : (active : Named) (states : List State) (found : Option ℕ) (number : ℕ) (s : StorageData) (state : State) → found ≡ Some number
+found_so : (active : Named) (states : List State) (found : Option ℕ) (number : ℕ) (s : StorageData) (state : State)
+    → found ≡ Some number
     → slice_get active.deployment.storages number ≡ Some s → slice_get states number ≡ Some state
     → found_at active states None found ≡ Ok (record { bank = active.bank; number = number; config = s; state = state })
 found_so active states found number s state by at is = ap (found_at active states None) by
     ∙ ap (λ (c : Option StorageData). found_with active.bank number None c (slice_get states number)) at
     ∙ ap (λ (x : Option State). found_with active.bank number None (Some s) x) is
 
-module _ (laws : StorageLaws) (image : Image) (app : ℕ) (name : List ℕ) (active : Named) (l : Located) (of : IsOf app name active l) where
-  named_there : (g : ℕ) (previous : Option Named) → says_at image app ≡ installed g active previous → (state : State) → state ≡ store_at image l.shape
+module _ (laws : StorageLaws) (image : Image) (app : ℕ) (name : List ℕ) (active : Named) (l : Located)
+    (of : IsOf app name active l) where
+  named_there : (g : ℕ) (previous : Option Named) → says_at image app ≡ installed g active previous → (state : State)
+      → state ≡ store_at image l.shape
       → storage_in (app_at image app) name None ≡ Ok (found_as active of.number l state)
   named_there g previous says state is =
       ap (λ (x : Says). found_in x (app_at image app).states name None) (says_of image app ∙ says)
@@ -78,11 +96,16 @@ module _ (laws : StorageLaws) (image : Image) (app : ℕ) (name : List ℕ) (act
       ∙ ap (λ (x : State). Some x) (ap (store_at image) (sym of.shape) ∙ sym is))
 
   named_so : (previous : Option Named) (lacking : List ℕ) (settled : Bool) (state : State)
-      → storage_in (app_so (versions active previous lacking settled) (map (λ (s : StorageData). state) active.deployment.storages)) name None ≡ Ok (found_as active of.number l state)
-  named_so previous lacking settled state = found_so active (map (λ (s : StorageData). state) active.deployment.storages) _ of.number (config_of l) state of.by_name of.config
-      (slice_get-map (λ (s : StorageData). state) active.deployment.storages of.number ∙ ap (option_map (λ (s : StorageData). state)) of.config)
+      → storage_in (app_so (versions active previous lacking settled)
+      (map (λ (s : StorageData). state) active.deployment.storages)) name None
+      ≡ Ok (found_as active of.number l state)
+  named_so previous lacking settled state = found_so active
+      (map (λ (s : StorageData). state) active.deployment.storages) _ of.number (config_of l) state of.by_name of.config
+      (slice_get-map (λ (s : StorageData). state) active.deployment.storages of.number
+      ∙ ap (option_map (λ (s : StorageData). state)) of.config)
 
-pub located : StorageLaws → (told : Bool) (image : Image) (app : ℕ) (name : List ℕ) (look : RootSeen) → (IsTrue told → look ≡ seen_at image app)
+pub located : StorageLaws → (told : Bool) (image : Image) (app : ℕ) (name : List ℕ) (look : RootSeen)
+    → (IsTrue told → look ≡ seen_at image app)
     → (l : Located) → IsIn app name look l → IsLocated told image app name l
 located laws told image app name bad seen l of = absurd of
 located laws told image app name (no_version lacking settled) seen l of = absurd of
@@ -94,7 +117,8 @@ located laws told image app name (versions active previous lacking settled) seen
 }
   where
     says : IsTrue told → (g : ℕ) × (before : Option Named) × (says_at image app ≡ installed g active before)
-    says tells = let s = says_seen active previous lacking settled (app_at image app).says (app_at image app).lacking (root_settled image app) (seen tells) in
+    says tells = let s = says_seen active previous lacking settled (app_at image app).says (app_at image app).lacking
+        (root_settled image app) (seen tells) in
         (s.0, s.1, sym (says_of image app) ∙ s.2)
 
     named : (b : Bool) → b ≡ told → (state : State) → (IsTrue told → state ≡ store_at image l.shape)
@@ -109,10 +133,12 @@ located laws told image app name (versions active previous lacking settled) seen
 
 -- ---- by their numbers
 
-pub config_there : (storages ys : List StorageConfig) (n : ℕ) (s : StorageConfig) → ys ≡ storages → n < length storages → s ≡ slice_index_or ys n s
+pub config_there : (storages ys : List StorageConfig) (n : ℕ) (s : StorageConfig) → ys ≡ storages → n < length storages
+    → s ≡ slice_index_or ys n s
     → slice_get (map storage_data storages) n ≡ Some (storage_data s)
 config_there storages ys n s e lt is = slice_get-map storage_data storages n
-    ∙ ap (option_map storage_data) (slice_get_read storages (length storages) n s refl lt (is ∙ ap (λ (xs : List StorageConfig). slice_index_or xs n s) e))
+    ∙ ap (option_map storage_data) (slice_get_read storages (length storages) n s refl lt
+    (is ∙ ap (λ (xs : List StorageConfig). slice_index_or xs n s) e))
 
 pub weaker_err : {X E : Type 0} (r : Result X E) (P Q : E → Type 0) → ((e : E) → P e → Q e) → IfErr r P → IfErr r Q
 weaker_err (Ok x) P Q leads p = tt

@@ -1,10 +1,14 @@
 -- Types of values: the test whether two are the same, and that the type of a value has a text.
-use Rattle.std.proofs.Common.{◌≡◌, ℕ, suc, ◌≤◌, Bool, true, false, ◌&&◌, nat_le, Option, Some, None, cond, refl, sym, ap, ◌∙◌, subst, true≢false}
+use Rattle.std.proofs.Common.{◌≡◌, ℕ, suc, ◌≤◌, Bool, true, false, ◌&&◌, nat_le, Option, Some, None, cond, refl, sym}
+use Rattle.std.proofs.Common.{ap, ◌∙◌, subst, true≢false}
 use Rattle.std.specs.Prelude.{IsTrue, ◌↔◌}
 use Rattle.std.proofs.lemmas.Bool.{and_from, and_parts, cond-false, cond-true, le-leb}
 use Rattle.per_base.specs.declared.errors.PerError.{PerError}
-use Rattle.value_model.specs.Kinds.{Size, one, two, four, eight, Kind, bool_kind, unsigned_kind, signed_kind, text_kind, bytes_kind, list_kind, fields_kind, Kinds, no_kinds, kind_then, count_kinds, is_group, kind_fits, kinds_fit}
-use Rattle.value_model.specs.Trees.{Tree, bool_tree, unsigned_tree, signed_tree, text_tree, bytes_tree, list_tree, fields_tree, Trees, no_trees, tree_then, count_trees, type_of, types_of}
+use Rattle.value_model.specs.Kinds.{Size, one, two, four, eight, Kind, bool_kind, unsigned_kind, signed_kind, text_kind}
+use Rattle.value_model.specs.Kinds.{bytes_kind, list_kind, fields_kind, Kinds, no_kinds, kind_then, count_kinds}
+use Rattle.value_model.specs.Kinds.{is_group, kind_fits, kinds_fit}
+use Rattle.value_model.specs.Trees.{Tree, bool_tree, unsigned_tree, signed_tree, text_tree, bytes_tree, list_tree}
+use Rattle.value_model.specs.Trees.{fields_tree, Trees, no_trees, tree_then, count_trees, type_of, types_of}
 use Rattle.value_model.specs.Validity.{IsTyped, AllTyped}
 use Rattle.value_text.specs.Limits.{same_size, same_kind, same_kinds}
 use Rattle.kvs_core.specs.Calls.{mismatch}
@@ -58,10 +62,13 @@ mutual
   kinds_self (kind_then k ks) = and_from (same_kind k k) (same_kinds ks ks) (kind_self k) (kinds_self ks)
 
 -- what a test answers of two types, by what it says
-pub same_so : (answer : Bool) (j k : Kind) → (IsTrue answer ↔ (j ≡ k)) → answer ≡ true → differing (Some j) (Some k) ≡ None
-same_so answer j k both is = cond-true (same_kind j k) None (Some (mismatch j k)) (ap (λ (x : Kind). same_kind x k) (both.0 is) ∙ kind_self k)
+pub same_so : (answer : Bool) (j k : Kind) → (IsTrue answer ↔ (j ≡ k)) → answer ≡ true
+    → differing (Some j) (Some k) ≡ None
+same_so answer j k both is = cond-true (same_kind j k) None (Some (mismatch j k))
+    (ap (λ (x : Kind). same_kind x k) (both.0 is) ∙ kind_self k)
 
-pub differ_so : (answer : Bool) (j k : Kind) → (IsTrue answer ↔ (j ≡ k)) → answer ≡ false → differing (Some j) (Some k) ≡ Some (mismatch j k)
+pub differ_so : (answer : Bool) (j k : Kind) → (IsTrue answer ↔ (j ≡ k)) → answer ≡ false
+    → differing (Some j) (Some k) ≡ Some (mismatch j k)
 differ_so answer j k both is = cond-false (same_kind j k) None (Some (mismatch j k)) (by (same_kind j k) refl)
   where
     by : (b : Bool) → same_kind j k ≡ b → b ≡ false
@@ -75,7 +82,8 @@ count_types no_trees = refl
 count_types (tree_then t ts) = ap suc (count_types ts)
 
 group_fits : (ts : Trees) → 1 ≤ count_trees ts → count_trees ts ≤ 32 → is_group (count_kinds (types_of ts)) ≡ true
-group_fits ts least most = rw (count_types ts) (and_from (nat_le 1 (count_trees ts)) (nat_le (count_trees ts) 32) (le-leb _ _ least) (le-leb _ _ most))
+group_fits ts least most = rw (count_types ts) (and_from (nat_le 1 (count_trees ts)) (nat_le (count_trees ts) 32)
+    (le-leb _ _ least) (le-leb _ _ most))
 
 mutual
   pub typed_fits : (t : Tree) → IsTyped t → IsTrue (kind_fits (type_of t))
@@ -85,8 +93,10 @@ mutual
   typed_fits (text_tree t) typed = refl
   typed_fits (bytes_tree b) typed = refl
   typed_fits (list_tree k ts) typed = typed.0
-  typed_fits (fields_tree ts) typed = and_from (is_group (count_kinds (types_of ts))) (kinds_fit (types_of ts)) (group_fits ts typed.0 typed.1.0) (all_fit ts typed.1.1)
+  typed_fits (fields_tree ts) typed = and_from (is_group (count_kinds (types_of ts))) (kinds_fit (types_of ts))
+      (group_fits ts typed.0 typed.1.0) (all_fit ts typed.1.1)
 
   all_fit : (ts : Trees) → AllTyped ts → IsTrue (kinds_fit (types_of ts))
   all_fit no_trees typed = refl
-  all_fit (tree_then t ts) typed = and_from (kind_fits (type_of t)) (kinds_fit (types_of ts)) (typed_fits t typed.0) (all_fit ts typed.1)
+  all_fit (tree_then t ts) typed = and_from (kind_fits (type_of t)) (kinds_fit (types_of ts)) (typed_fits t typed.0)
+      (all_fit ts typed.1)

@@ -1,5 +1,6 @@
 -- What an export gives of a storage, and what an import makes of an application, or their refusals.
-use Rattle.std.specs.Prelude.{ℕ, List, [], ◌∷◌, Bool, cond, Option, Some, None, option_map, option_and_then, Result, Ok, Err}
+use Rattle.std.specs.Prelude.{ℕ, List, [], ◌∷◌, Bool, cond, Option, Some, None, option_map, option_and_then, Result, Ok}
+use Rattle.std.specs.Prelude.{Err}
 use Rattle.per_base.specs.declared.elements.Content.{Content}
 use Rattle.per_base.specs.declared.elements.Content.TheVariants.{Good, Bad}
 use Rattle.per_base.specs.declared.elements.Entry.{Entry}
@@ -44,7 +45,8 @@ contents_of s (e ∷ es) = fresh_of s e >>= λ f. contents_of s es >>= λ fs. Ok
 -- a storage that does not open is not exported
 abbrev pub exported_from : StorageData → State → Result Export PerError
 exported_from s (Corrupt salvage others) = Err (error.IntegrityCorrupted (unit.Whole s.name))
-exported_from s (Opens v others) = contents_of s v.entries >>= λ contents. Ok (record { kind = s.kind; contents = contents })
+exported_from s (Opens v others) = contents_of s v.entries >>= λ contents.
+    Ok (record { kind = s.kind; contents = contents })
 
 abbrev pub text_from : StorageData → State → Result (List ℕ) PerError
 text_from s state = exported_from s state >>= λ x. Ok (export_text x)
@@ -71,7 +73,8 @@ exported_type f = option_map type_of (decoded f.bytes)
 abbrev pub differing : (exported configured : Option Kind) → Option PerError
 differing exported None = None
 differing None (Some configured) = None
-differing (Some exported) (Some configured) = cond (same_kind exported configured) None (Some (mismatch exported configured))
+differing (Some exported) (Some configured) = cond (same_kind exported configured) None
+    (Some (mismatch exported configured))
 
 abbrev pub mismatch_of : StorageData → Fresh → Option PerError
 mismatch_of s f = differing (exported_type f) (configured_type s f.name)
@@ -90,10 +93,13 @@ abbrev pub unless : {A : Type 0} → Option PerError → Result A PerError → R
 unless None row = row
 unless (Some e) row = Err e
 
--- the state of the storage that is made of a text: exactly the contents of the export, infos included, under the generation of a reset
+-- the state of the storage that is made of a text: exactly the contents of the export, infos included, under the
+-- generation of a reset
 unfoldable pub importing : StorageData → State → (text : List ℕ) → Result State PerError
-importing s state text = export_for s.kind (export_of text) >>= λ x. unless (least_mismatch s x.contents) (if_fits s state x.contents)
+importing s state text = export_for s.kind (export_of text) >>= λ x.
+    unless (least_mismatch s x.contents) (if_fits s state x.contents)
 
 -- the application with this storage so
 unfoldable pub importing_into : App → (name text : List ℕ) → Result App PerError
-importing_into a name text = storage_in a name None >>= λ f. importing f.config f.state text >>= λ state. Ok (with_state a f state)
+importing_into a name text = storage_in a name None >>= λ f. importing f.config f.state text >>= λ state.
+    Ok (with_state a f state)

@@ -54,7 +54,8 @@ pub record ImportKeeps (app : ℕ) (name text : List ℕ) (old new : Medium) : T
   pub outside : (f : Found) → storage_in (app_at old.image app) name None ≡ Ok f → Quiet old
       → EachCase (IsSettledOn (IsOutside (shape_in app f).place.first (shape_in app f).place.copies) old.image) old new
   -- so the application stands between what it was and itself with the imported storage
-  pub stands : StandsThroughout app (after (app_at old.image app) (importing_into (app_at old.image app) name text)) old new
+  pub stands : StandsThroughout app (after (app_at old.image app) (importing_into (app_at old.image app) name text)) old
+      new
   -- and where the import is refused nothing changes
   pub refused : IsErr (importing_into (app_at old.image app) name text) → ChangesNothing old new
 
@@ -62,5 +63,6 @@ pub record ImportKeeps (app : ℕ) (name text : List ℕ) (old new : Medium) : T
 pub record Imported (app : ℕ) (name text : List ℕ) (old new : Medium) : Type 0 where
   pub world : app_at new.image app ≡ after (app_at old.image app) (importing_into (app_at old.image app) name text)
   -- the place of what was imported is clean, whatever it was before, and those of the application stay so
-  pub clean : (f : Found) → storage_in (app_at old.image app) name None ≡ Ok f → IsOk (importing f.config f.state text) → IsClean (shape_in app f) new.image
+  pub clean : (f : Found) → storage_in (app_at old.image app) name None ≡ Ok f → IsOk (importing f.config f.state text)
+      → IsClean (shape_in app f) new.image
   pub stays_clean : IsCleanApp app old.image → IsCleanApp app new.image

@@ -44,7 +44,8 @@ IsIn app name (versions active previous lacking settled) l = IsOf app name activ
 abbrev pub IsOut : (name : List ℕ) → RootSeen → PerError → Type 0
 IsOut name bad e = e ≡ error.IntegrityCorrupted unit.Root
 IsOut name (no_version lacking settled) e = e ≡ error.NotInstalled
-IsOut name (versions active previous lacking settled) e = (storage_number active.deployment name ≡ None) × (e ≡ error.StorageNotFound)
+IsOut name (versions active previous lacking settled) e =
+    (storage_number active.deployment name ≡ None) × (e ≡ error.StorageNotFound)
 
 -- ---- of the application that was seen
 
@@ -56,7 +57,8 @@ found_as active number l state = record { bank = active.bank; number = number; c
 pub record IsLocated (told : Bool) (image : Image) (app : ℕ) (name : List ℕ) (l : Located) : Type 0 where
   pub active : Named
   pub of : IsOf app name active l
-  pub says : IsTrue told → (generation : ℕ) × (previous : Option Named) × (says_at image app ≡ installed generation active previous)
+  pub says : IsTrue told → (generation : ℕ) × (previous : Option Named)
+      × (says_at image app ≡ installed generation active previous)
   pub named : (state : State) → (IsTrue told → state ≡ store_at image l.shape)
       → (it : App) × IsSeen told image app it × (storage_in it name None ≡ Ok (found_as active of.number l state))
 

@@ -10,17 +10,20 @@ use Rattle.export_text.specs.declared.exports.Export.{Export}
 use Rattle.export_text.specs.Exports.{IsExport, export_of, export_text}
 use Rattle.per_backup.specs.Backups.{exported_from, exporting, importing, importing_into, least_mismatch, unless}
 
--- what is imported is what the text spells, names, contents and infos, under the generation of a reset, and nothing of what was there
+-- what is imported is what the text spells, names, contents and infos, under the generation of a reset, and nothing of
+-- what was there
 abbrev pub ImportsLaw : Type 0
 ImportsLaw = (s : StorageData) (state : State) (text : List ℕ) (x : Export) (next : State) → export_of text ≡ Some x
     → importing s state text ≡ Ok next → next ≡ fresh_state (next_generation (salvage_of state)) (fresh_map x.contents)
 
--- what was exported can be imported into every storage of the same kind, unless a type differs, or it does not fit, or none of its
--- generations is left
+-- what was exported can be imported into every storage of the same kind, unless a type differs, or it does not fit, or
+-- none of its generations is left
 abbrev pub ExportedLaw : Type 0
-ExportedLaw = (from into : StorageData) (old state : State) (x : Export) → exported_from from old ≡ Ok x → IsExport x → is_kind into.kind from.kind ≡ true
+ExportedLaw = (from into : StorageData) (old state : State) (x : Export) → exported_from from old ≡ Ok x → IsExport x
+    → is_kind into.kind from.kind ≡ true
     → importing into state (export_text x) ≡ unless (least_mismatch into x.contents) (if_fits into state x.contents)
 
 -- what was imported is exported again as the same text, byte for byte
 abbrev pub AgainLaw : Type 0
-AgainLaw = (a b : App) (name text : List ℕ) → IsBytes text → importing_into a name text ≡ Ok b → exporting b name ≡ Ok text
+AgainLaw = (a b : App) (name text : List ℕ) → IsBytes text → importing_into a name text ≡ Ok b
+    → exporting b name ≡ Ok text

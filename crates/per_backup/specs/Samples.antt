@@ -21,12 +21,15 @@ use Rattle.element_state.specs.declared.shapes.View.{View}
 use Rattle.element_state.specs.States.{State, Corrupt, Opens, fresh_map, fresh_state, greatest_generation}
 use Rattle.deploy_laws.specs.Apps.{App, absent, installed, nothing}
 use Rattle.export_text.specs.declared.exports.Export.{Export}
-use Rattle.export_text.specs.Exports.{export_text, fresh_text, content_at, fresh_at, marked_at, header_at, body_read, body_hashed, export_of}
+use Rattle.export_text.specs.Exports.{export_text, fresh_text, content_at, fresh_at, marked_at, header_at, body_read}
+use Rattle.export_text.specs.Exports.{body_hashed, export_of}
 use Rattle.per_backup.specs.Backups.{exporting, importing, importing_into}
 
 -- all that the samples compute with
 unfoldable computed : ℕ
-unfolding exporting importing importing_into export_text fresh_text content_at fresh_at marked_at header_at body_read body_hashed export_of name_at info_at len_at many bytes_at number_at decoded kind_at fresh_state digits sha256 digest_bytes hash_after compress rounds schedule first_words
+unfolding exporting importing importing_into export_text fresh_text content_at fresh_at marked_at header_at body_read
+    body_hashed export_of name_at info_at len_at many bytes_at number_at decoded kind_at fresh_state digits sha256
+    digest_bytes hash_after compress rounds schedule first_words
 computed = 0
 
 -- the key `a` with the value 7 of one byte
@@ -46,14 +49,40 @@ text = body ++ sha256 body
 -- ---- storages, the only one of its application's active version
 
 abbrev storage : StoreKind → (maximum : ℕ) → List ElementData → StorageData
-storage kind maximum elements = record { name = codes "fav"; kind = kind; minimum = 0; maximum = maximum; strategy = KeepExisting; read_only = false; m = 1; n = 1; scope = scope.Element; elements = elements }
+storage kind maximum elements = record {
+  name = codes "fav";
+  kind = kind;
+  minimum = 0;
+  maximum = maximum;
+  strategy =
+      KeepExisting;
+  read_only = false;
+  m = 1;
+  n = 1;
+  scope = scope.Element;
+  elements = elements;
+}
 
 abbrev app_with : StorageData → State → App
-app_with s state = record { says = installed 2 (record { bank = 0; deployment = record { version = 1; storages = s ∷ [] } }) None; lacking = []; states = state ∷ [] }
+app_with s state = record {
+  says = installed 2 (record {
+    bank = 0;
+    deployment =
+        record { version = 1; storages = s ∷ [] };
+  }) None;
+  lacking = [];
+  states = state ∷ [];
+}
 
 -- the key `a` is configured with two bytes
 abbrev wider : StorageData
-wider = storage Keys 64 (record { name = codes "a"; value_type = Some (unsigned_kind two); initial = None; strategy = None } ∷ [])
+wider = storage Keys 64 (record {
+  name = codes "a";
+  value_type = Some (unsigned_kind two);
+  initial = None;
+  strategy =
+      None;
+} ∷ [])
 
 -- what it holds, under this generation
 abbrev holding : ℕ → List Fresh → State
@@ -66,7 +95,8 @@ into_empty : importing (storage Keys 64 []) (holding 4 []) text ≡ Ok (holding 
 unfolding computed
 into_empty = refl
 
-into_other : importing (storage Keys 64 []) (holding 8 (record { name = codes "b"; info = None; bytes = 2 ∷ 9 ∷ [] } ∷ [])) text ≡ Ok (holding 9 (a_is_7 ∷ []))
+into_other : importing (storage Keys 64 []) (holding 8
+    (record { name = codes "b"; info = None; bytes = 2 ∷ 9 ∷ [] } ∷ [])) text ≡ Ok (holding 9 (a_is_7 ∷ []))
 unfolding computed
 into_other = refl
 
@@ -90,7 +120,8 @@ into_wider : importing wider (Corrupt None []) text ≡ Err (error.DataTypeMisma
 unfolding computed
 into_wider = refl
 
-too_large_too : importing (record wider { maximum = 2 }) (Corrupt None []) text ≡ Err (error.DataTypeMismatch (codes "u8") (codes "u16"))
+too_large_too : importing (record wider { maximum = 2 }) (Corrupt None []) text
+    ≡ Err (error.DataTypeMismatch (codes "u8") (codes "u16"))
 unfolding computed
 too_large_too = refl
 
@@ -103,15 +134,18 @@ worn : importing (storage Keys 64 []) (holding greatest_generation []) text ≡ 
 unfolding computed
 worn = refl
 
-no_such_storage : importing_into (app_with (storage Keys 64 []) (holding 4 [])) (codes "cal") text ≡ Err error.StorageNotFound
+no_such_storage : importing_into (app_with (storage Keys 64 []) (holding 4 [])) (codes "cal") text
+    ≡ Err error.StorageNotFound
 unfolding computed
 no_such_storage = refl
 
-nothing_installed : importing_into (record { says = absent 1; lacking = []; states = [] }) (codes "fav") text ≡ Err error.NotInstalled
+nothing_installed : importing_into (record { says = absent 1; lacking = []; states = [] }) (codes "fav") text
+    ≡ Err error.NotInstalled
 unfolding computed
 nothing_installed = refl
 
-bad_root : importing_into (record { says = nothing; lacking = []; states = [] }) (codes "fav") text ≡ Err (error.IntegrityCorrupted unit.Root)
+bad_root : importing_into (record { says = nothing; lacking = []; states = [] }) (codes "fav") text
+    ≡ Err (error.IntegrityCorrupted unit.Root)
 unfolding computed
 bad_root = refl
 
@@ -122,11 +156,13 @@ unfolding computed
 exported_again = refl
 
 -- bytes that encode no value
-unreadable : exporting (app_with (storage Keys 64 []) (holding 5 (record { name = codes "home"; info = None; bytes = 99 ∷ [] } ∷ []))) (codes "fav")
+unreadable : exporting (app_with (storage Keys 64 []) (holding 5
+    (record { name = codes "home"; info = None; bytes = 99 ∷ [] } ∷ []))) (codes "fav")
     ≡ Err (error.IntegrityCorrupted (unit.Part (codes "fav") (codes "home")))
 unfolding computed
 unreadable = refl
 
-corrupt : exporting (app_with (storage Keys 64 []) (Corrupt None [])) (codes "fav") ≡ Err (error.IntegrityCorrupted (unit.Whole (codes "fav")))
+corrupt : exporting (app_with (storage Keys 64 []) (Corrupt None [])) (codes "fav")
+    ≡ Err (error.IntegrityCorrupted (unit.Whole (codes "fav")))
 unfolding computed
 corrupt = refl

@@ -32,10 +32,12 @@ pub enum Exported {
     Refused(PerError),
 }
 
-/// The text of the storage of this name in the active version of an application, as it lies on the disk. Nothing is changed.
+/// The text of the storage of this name in the active version of an application, as it lies on the disk. Nothing is
+/// changed.
 ///
-/// Refusals, the first that holds: `IntegrityCorrupted` with the root where it is bad; `NotInstalled`; `StorageNotFound`;
-/// `IntegrityCorrupted` with the storage where it cannot be opened, and else with the least element that cannot be read.
+/// Refusals, the first that holds: `IntegrityCorrupted` with the root where it is bad; `NotInstalled`;
+/// `StorageNotFound`; `IntegrityCorrupted` with the storage where it cannot be opened, and else with the least element
+/// that cannot be read.
 ///
 /// # Errors
 ///
@@ -65,7 +67,8 @@ pub fn export<D: Disk>(alloc: Global, disk: &mut D, app: u32, name: &Name) -> Re
 // The view at which a storage opens; none exactly where it is corrupt.
 fn opened<D: Disk>(alloc: Global, disk: &mut D, shape: &Shape) -> Result<Option<View>, Stop>
     requires { IsShape shape.now }
-    ensures view { IsTrue D.told → IfOk result (λ view. opened_of (store_at (D.medium disk.old).image shape.now) ≡ view) }
+    ensures view { IsTrue D.told → IfOk result (λ view. opened_of (store_at (D.medium disk.old).image shape.now)
+        ≡ view) }
     ensures read { IfOk result (λ view. IfSome view (IsView shape.now)) }
     ensures image { (D.medium disk.new).image ≡ (D.medium disk.old).image }
     ensures idle { Quiet (D.medium disk.old) → IsIdle (D.medium disk.old) (D.medium disk.new) }

@@ -24,8 +24,8 @@ pub(crate) struct Located {
     pub(crate) config: StorageConfig,
 }
 
-/// The storage of this name in the active version of an application, or the refusal: `IntegrityCorrupted` with the root where it is bad,
-/// `NotInstalled`, `StorageNotFound`. It looks at the root and changes nothing.
+/// The storage of this name in the active version of an application, or the refusal: `IntegrityCorrupted` with the root
+/// where it is bad, `NotInstalled`, `StorageNotFound`. It looks at the root and changes nothing.
 pub(crate) fn find<D: Disk>(
     alloc: Global,
     disk: &mut D,
@@ -74,7 +74,8 @@ fn find_storage(
     requires app { app < 8 }
     requires bank { bank ≤ 1 }
     requires active { IsDeployment (deployment_data active) }
-    ensures found { IfOk result (λ found. IfOk found (IsOf app name.now (record { bank = bank; deployment = deployment_data active }))) }
+    ensures found { IfOk result (λ found. IfOk found (IsOf app name.now
+        (record { bank = bank; deployment = deployment_data active }))) }
     ensures missing { IfOk result (λ found. IfErr found (λ e.
         (storage_number (deployment_data active) name.now ≡ None) × (e ≡ PerError.StorageNotFound))) }
 {

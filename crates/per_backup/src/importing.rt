@@ -25,17 +25,19 @@ use export_text::{ExportError, read_export};
 use per_base::{Fresh, Name, PerError, StoreKind};
 use std::alloc::{AllocError, Global};
 
-/// Makes the storage of this name in the active version of an application anew with exactly the contents of an export, infos included,
-/// under the generation of a reset. It may be read-only, and it need not open.
+/// Makes the storage of this name in the active version of an application anew with exactly the contents of an export,
+/// infos included, under the generation of a reset. It may be read-only, and it need not open.
 ///
-/// Refusals, the first that holds: `IntegrityCorrupted` with the root where it is bad; `NotInstalled`; `StorageNotFound`; `ExportRejected`
-/// where the bytes are no export of the storage's kind; `DataTypeMismatch` for the least key whose type is not the configured one, with
-/// the type in the export and then the configured one; `OutOfStorageSpace` where the contents are more than the storage may have;
-/// `LimitReached` with `Generations` where no generation is left. Then nothing was written.
+/// Refusals, the first that holds: `IntegrityCorrupted` with the root where it is bad; `NotInstalled`;
+/// `StorageNotFound`; `ExportRejected` where the bytes are no export of the storage's kind; `DataTypeMismatch` for the
+/// least key whose type is not the configured one, with the type in the export and then the configured one;
+/// `OutOfStorageSpace` where the contents are more than the storage may have; `LimitReached` with `Generations` where
+/// no generation is left. Then nothing was written.
 ///
 /// # Errors
 ///
-/// `Device` where the disk fails, and `OutOfMemory`. Then the storage is as it was or as it is imported, and settled when it is opened.
+/// `Device` where the disk fails, and `OutOfMemory`. Then the storage is as it was or as it is imported, and settled
+/// when it is opened.
 pub fn import<D: Disk>(
     alloc: Global,
     disk: &mut D,
@@ -46,8 +48,10 @@ pub fn import<D: Disk>(
     requires { app < 8 }
     ensures refused { IfOk result (λ refused. (it : App) × IsSeen D.told (D.medium disk.old).image app it
         × Answers refused (importing_into it name.now bytes.now)) }
-    ensures unchanged { IfOk result (λ refused. IsSome refused → ChangesNothing (D.medium disk.old) (D.medium disk.new)) }
-    ensures imported { IsTrue D.told → OnOk result (Imported app name.now bytes.now (D.medium disk.old) (D.medium disk.new)) }
+    ensures unchanged { IfOk result (λ refused. IsSome refused
+        → ChangesNothing (D.medium disk.old) (D.medium disk.new)) }
+    ensures imported { IsTrue D.told → OnOk result (Imported app name.now bytes.now (D.medium disk.old)
+        (D.medium disk.new)) }
     ensures keeps { IsTrue D.told → ImportKeeps app name.now bytes.now (D.medium disk.old) (D.medium disk.new) }
     ensures quiet { OnOk result (Quiet (D.medium disk.new)) }
     ensures cause { IsErrOf result Stop.Device → Rose (D.medium disk.old).faults (D.medium disk.new).faults }
@@ -75,7 +79,8 @@ fn importable(
 ) -> Result<Result<Vec<Fresh>, PerError>, AllocError>
     requires { IsStorage (storage_data config.now) }
     ensures row { IfOk result (λ found. IfOk found (λ contents. (state : State)
-        → importing (storage_data config.now) state bytes.now ≡ if_fits (storage_data config.now) state contents.items)) }
+        → importing (storage_data config.now) state bytes.now
+        ≡ if_fits (storage_data config.now) state contents.items)) }
     ensures elements { IfOk result (λ found. IfOk found (λ contents. AreElements config.now.kind contents.items)) }
     ensures refused { IfOk result (λ found. IfErr found (λ e. (state : State)
         → importing (storage_data config.now) state bytes.now ≡ Err e)) }

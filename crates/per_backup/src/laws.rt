@@ -7,8 +7,8 @@ use deploy_laws::{files_lie_apart, others_stand, roots_say, storing_stands, unto
 use element_laws::untouched_is_kept;
 use export_text::export_is_exact;
 
-/// An import makes exactly what its text spells. What was exported can be imported, but for types that differ, room and generations. And
-/// what was imported is exported again as the same text.
+/// An import makes exactly what its text spells. What was exported can be imported, but for types that differ, room and
+/// generations. And what was imported is exported again as the same text.
 pub fn exports_come_back()
     ensures imports { ImportsLaw }
     ensures exported { ExportedLaw }
@@ -17,7 +17,8 @@ pub fn exports_come_back()
     export_is_exact();
 }
 
-/// A storage's files lie apart from all others: what changes them alone changes that storage alone, also at every moment.
+/// A storage's files lie apart from all others: what changes them alone changes that storage alone, also at every
+/// moment.
 pub(crate) fn storages_stand()
     ensures { StorageLaws }
 {

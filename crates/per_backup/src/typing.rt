@@ -83,7 +83,8 @@ fn differing(
 ) -> Result<Option<PerError>, AllocError>
     requires exported { IsTrue (kind_fits (kind_of exported.now)) }
     requires configured { IsTrue (kind_fits (kind_of configured.now)) }
-    ensures { IfOk result (λ refused. refused ≡ differing (Some (kind_of exported.now)) (Some (kind_of configured.now))) }
+    ensures { IfOk result (λ refused. refused ≡ differing (Some (kind_of exported.now))
+        (Some (kind_of configured.now))) }
 {
     if exported.is_same(configured) {
         return Ok(None);

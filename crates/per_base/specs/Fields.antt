@@ -1,5 +1,7 @@
--- Fields of a text, read from the left: a field is a value and the bytes after it. Numbers stand with their lowest byte first.
-use Rattle.std.specs.Prelude.{◌≡◌, ℕ, zero, suc, List, [], ◌∷◌, take, drop, length, Bool, Option, Some, None, Result, Ok, Err, nat_lt, if◌then◌else◌}
+-- Fields of a text, read from the left: a field is a value and the bytes after it. Numbers stand with their lowest byte
+-- first.
+use Rattle.std.specs.Prelude.{◌≡◌, ℕ, zero, suc, List, [], ◌∷◌, take, drop, length, Bool, Option, Some, None, Result}
+use Rattle.std.specs.Prelude.{Ok, Err, nat_lt, if◌then◌else◌}
 use Rattle.std.specs.Int.{Width, byte_len, from_le_bytes}
 
 infixl 10 ◌>>=◌
@@ -20,7 +22,8 @@ unfoldable pub bytes_at : ℕ → List ℕ → Option (List ℕ × List ℕ)
 bytes_at n bytes = if nat_lt (length bytes) n then None else Some (take n bytes, drop n bytes)
 
 unfoldable pub number_at : Width → List ℕ → Option (ℕ × List ℕ)
-number_at w bytes = if nat_lt (length bytes) (byte_len w) then None else Some (from_le_bytes w (take (byte_len w) bytes), drop (byte_len w) bytes)
+number_at w bytes = if nat_lt (length bytes) (byte_len w) then None else Some
+    (from_le_bytes w (take (byte_len w) bytes), drop (byte_len w) bytes)
 
 abbrev pub only_if : {A : Type 0} → Bool → A → Option A
 only_if b x = if b then Some x else None

@@ -1,4 +1,5 @@
--- Finite maps from names to elements: lists of pairs in the order of the names, in the words that std has for a `BTreeMap`.
+-- Finite maps from names to elements: lists of pairs in the order of the names, in the words that std has for a
+-- `BTreeMap`.
 use Rattle.std.specs.Prelude.{ℕ, ◌+◌, List, length, map, Bool, Option, sum_by, is_some}
 use Rattle.std.specs.BTreeMap.{insert_entry, is_at}
 use Rattle.std.specs.Map.{lookup, remove_entry}

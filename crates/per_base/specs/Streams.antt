@@ -1,4 +1,5 @@
--- What the streams in memory know of themselves: a source with the bytes that are left, a sink with the bytes that it took.
+-- What the streams in memory know of themselves: a source with the bytes that are left, a sink with the bytes that it
+-- took.
 use Rattle.std.specs.Prelude.{◌≡◌, ℕ, List, Bool, IsTrue, IsFalse, nat_eq}
 use Rattle.std.specs.List.{list_any}
 use Rattle.per_base.specs.Causes.{raised}

@@ -51,7 +51,8 @@ pub enum Content {
     Bad(Option<Bytes>),
 }
 
-/// An element as a session holds it: its info (files alone), the length of its encoding or content in bytes, and its content.
+/// An element as a session holds it: its info (files alone), the length of its encoding or content in bytes, and its
+/// content.
 #[derive(Debug, Drop)]
 pub struct Element {
     pub info: Option<FileInfo>,
@@ -59,7 +60,8 @@ pub struct Element {
     pub content: Content,
 }
 
-/// An element as it lies on the disk: besides, the generation of its last change and the copies that lack it, ascending.
+/// An element as it lies on the disk: besides, the generation of its last change and the copies that lack it,
+/// ascending.
 #[derive(Debug, Drop)]
 pub struct Entry {
     pub name: Name,

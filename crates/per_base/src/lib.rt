@@ -1,11 +1,13 @@
 //! The words that every crate of `per` shares.
 //!
-//! Names of storages, keys and files; the small types for bytes, texts and lists that contracts see as plain lists; elements with
-//! their contents and infos; errors, reports and modes of opening; readers of the bytes and numbers at the front of a text; and
-//! the two streams of the outside, a source of bytes and a sink for bytes, each with a count of faults that never falls.
+//! Names of storages, keys and files; the small types for bytes, texts and lists that contracts see as plain lists;
+//! elements with their contents and infos; errors, reports and modes of opening; readers of the bytes and numbers at
+//! the front of a text; and the two streams of the outside, a source of bytes and a sink for bytes, each with a count
+//! of faults that never falls.
 //!
-//! Nothing here touches a disk. The promises are the grammar of names, sums that do not overflow within the limits, that a reader
-//! takes exactly the texts of what it gives, and that a stream answers its failure only where its count of faults rose.
+//! Nothing here touches a disk. The promises are the grammar of names, sums that do not overflow within the limits,
+//! that a reader takes exactly the texts of what it gives, and that a stream answers its failure only where its count
+//! of faults rose.
 #![tactic(auto)]
 
 mod elements;

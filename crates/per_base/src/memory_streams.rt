@@ -1,6 +1,7 @@
 //! Streams in memory, which tell all that they hold and fail by a plan: for tests.
 
-ghost use Rattle.std.specs.Prelude.{◌≡◌, ◌<◌, ◌≤◌, [], Some, IfOk, is_err, IsTrue, OnErr, IsErr, ◌⊎◌, is_some, length, min, take};
+ghost use Rattle.std.specs.Prelude.{◌≡◌, ◌<◌, ◌≤◌, [], Some, IfOk, is_err, IsTrue, OnErr, IsErr, ◌⊎◌, is_some, length};
+ghost use Rattle.std.specs.Prelude.{min, take};
 ghost use Rattle.std.specs.Io.KnownBytes.{ReadConsumes, WriteAppends};
 ghost use Rattle.per_base.specs.Causes.{HasCause, Rose, raised};
 ghost use Rattle.per_base.specs.Streams.{FailsAsPlanned, FailsForWant, is_failing};
@@ -26,7 +27,14 @@ impl Model for MemSource {
 
     ghost Value = { SourceState };
 
-    ghost view = { λ s. record { left = drop s.given s.bytes.items; piece = s.piece; failing = s.failing.items; calls = s.calls; faults = s.faults } };
+    ghost view = { λ s. record {
+      left = drop s.given s.bytes.items;
+      piece = s.piece;
+      failing = s.failing.items;
+      calls =
+          s.calls;
+      faults = s.faults;
+    } };
 
     ghost invariant = { λ s. (s.given ≤ vec_len s.bytes) × (1 ≤ s.piece) };
 }
@@ -60,8 +68,8 @@ impl Source for MemSource {
         ensures bytes { ReadConsumes (Some self.old.left) (Some self.new.left) result out.new }
         ensures told { is_some (Some self.new.left) ≡ is_some (Some self.old.left) }
         ensures cause { HasCause self.old.faults self.new.faults result }
-        // As much as there is, up to the piece, and a failure exactly where the plan has one, which counts once. No other call counts as
-        // a fault.
+        // As much as there is, up to the piece, and a failure exactly where the plan has one, which counts once. No
+        // other call counts as a fault.
         ensures count { IfOk result (λ n. n ≡ min (min self.old.piece (length out.new)) (length self.old.left)) }
         ensures fails { is_failing self.old.failing self.old.calls ≡ is_err result }
         ensures counted { OnErr result (self.new.faults ≡ raised self.old.faults) }
@@ -109,7 +117,15 @@ impl Model for MemSink {
 
     ghost Value = { SinkState };
 
-    ghost view = { λ s. record { written = s.bytes.items; piece = s.piece; failing = s.failing.items; calls = s.calls; faults = s.faults; starved = s.starved } };
+    ghost view = { λ s. record {
+      written = s.bytes.items;
+      piece = s.piece;
+      failing = s.failing.items;
+      calls =
+          s.calls;
+      faults = s.faults;
+      starved = s.starved;
+    } };
 }
 
 impl MemSink {
@@ -155,12 +171,14 @@ impl Sink for MemSink {
         ensures told { is_some (Some self.new.written) ≡ is_some (Some self.old.written) }
         ensures cause { HasCause self.old.faults self.new.faults result }
         ensures stuck { IfOk result (λ n. n ≡ 0 → 0 < length bytes.now → Rose self.old.faults self.new.faults) }
-        // As much as there is, up to the piece, and a failure only where the plan has one or memory ran out, which is counted.
+        // As much as there is, up to the piece, and a failure only where the plan has one or memory ran out, which is
+        // counted.
         ensures count { IfOk result (λ n. n ≡ min self.old.piece (length bytes.now)) }
         ensures planned { IsTrue (is_failing self.old.failing self.old.calls) → IsErr result }
         ensures fails { OnErr result (FailsAsPlanned self.old self.new ⊎ FailsForWant self.old self.new) }
         ensures counted { OnErr result (self.new.faults ≡ raised self.old.faults) }
-        ensures stuck_once { IfOk result (λ n. n ≡ 0 → 0 < length bytes.now → self.new.faults ≡ raised self.old.faults) }
+        ensures stuck_once { IfOk result (λ n. n ≡ 0 → 0 < length bytes.now
+            → self.new.faults ≡ raised self.old.faults) }
         ensures fed { IfOk result (λ n. self.new.starved ≡ self.old.starved) }
         ensures clean { IfOk result (λ n. (0 < n) ⊎ (length bytes.now ≡ 0) → self.new.faults ≡ self.old.faults) }
         ensures plan { (self.new.piece ≡ self.old.piece) × (self.new.failing ≡ self.old.failing) }

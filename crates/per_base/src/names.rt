@@ -32,7 +32,9 @@ pub const NAME_BYTES: usize = 255;
 impl Name {
     /// A name with this text.
     ///
-    /// Errors: `BadName` exactly where the text is outside the grammar of names; `OutOfMemory`.
+    /// # Errors
+    ///
+    /// `BadName` exactly where the text is outside the grammar of names; `OutOfMemory`.
     pub fn new(alloc: Global, text: &str) -> Result<Name, PerError>
         ensures name { IfOk result (λ name. name ≡ text.now) }
         ensures grammar { OnOk result (IsName text.now) }

@@ -38,7 +38,8 @@ impl Flags for OpenMode {
 
     ghost exact = { ⊤ };
 
-    ghost table = { (codes "AT_THE_BEGINNING", 1) ∷ (codes "AT_THE_END", 2) ∷ (codes "TRUNCATE", 4) ∷ (codes "APPEND", 8) ∷ [] };
+    ghost table = { (codes "AT_THE_BEGINNING", 1) ∷ (codes "AT_THE_END", 2)
+        ∷ (codes "TRUNCATE", 4) ∷ (codes "APPEND", 8) ∷ [] };
 
     ghost set_of = { λ mode. mode.0 };
 

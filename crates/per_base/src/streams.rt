@@ -16,10 +16,12 @@ pub trait Source {
     /// How many calls failed. The count stops at the greatest `u64`.
     ghost faults: { Self → ℕ };
 
-    /// Puts the next bytes at the front of `out` and says how many they are: 0 only at the end of the input, where there is room.
-    /// The rest of `out` may hold anything.
+    /// Puts the next bytes at the front of `out` and says how many they are: 0 only at the end of the input, where
+    /// there is room. The rest of `out` may hold anything.
     ///
-    /// Errors: `Failed` only where the count of faults rose; then nothing is taken from the source.
+    /// # Errors
+    ///
+    /// `Failed` only where the count of faults rose; then nothing is taken from the source.
     fn read(&mut self, out: &mut [u8]) -> Result<usize, Failed>
         ensures bound { IfOk result (λ n. n ≤ length out.new) }
         ensures bytes { ReadConsumes (left self.old) (left self.new) result out.new }
@@ -35,9 +37,12 @@ pub trait Sink {
     /// How many calls failed. The count stops at the greatest `u64`.
     ghost faults: { Self → ℕ };
 
-    /// Takes bytes from the front of `bytes` and says how many they are. Where it takes none of some, its count of faults rises too.
+    /// Takes bytes from the front of `bytes` and says how many they are. Where it takes none of some, its count of
+    /// faults rises too.
     ///
-    /// Errors: `Failed` only where the count of faults rose; then nothing is taken.
+    /// # Errors
+    ///
+    /// `Failed` only where the count of faults rose; then nothing is taken.
     fn write(&mut self, bytes: &[u8]) -> Result<usize, Failed>
         ensures bound { IfOk result (λ n. n ≤ length bytes.now) }
         ensures bytes { WriteAppends (written self.old) (written self.new) result bytes.now }

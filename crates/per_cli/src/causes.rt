@@ -42,8 +42,8 @@ pub(crate) struct Ended<'a> {
     pub(crate) sink: Option<io::Error>,
 }
 
-/// Says why a run ended where its status is not 0. At status 0 it says why commands were answered by error 4, and that a folder is not
-/// there or was not formatted, since every command is then refused.
+/// Says why a run ended where its status is not 0. At status 0 it says why commands were answered by error 4, and that
+/// a folder is not there or was not formatted, since every command is then refused.
 pub(crate) fn say<R: Files + Eprint>(rt: &R, ended: &Ended<'_>) -> io::Result<()> {
     let dir = ended.dir;
     match ended.status {

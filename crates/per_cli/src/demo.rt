@@ -61,7 +61,8 @@ impl<'a, R: Print> Read for LinesShown<'a, R> {
     }
 }
 
-/// Runs the session in a folder of its own, which stays, and shows each line with its reply. Gives the status of the run that ended last.
+/// Runs the session in a folder of its own, which stays, and shows each line with its reply. Gives the status of the
+/// run that ended last.
 pub(crate) fn show<R: Files<File = File> + AllocGlobal + Env + Print + Eprint>(
     rt: &R,
     number: u32,

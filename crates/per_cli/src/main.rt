@@ -1,11 +1,11 @@
 //! The program `per`: a folder, standard input and standard output.
 //!
-//! `per --dir DIR` makes the folder a disk, standard input a source and standard output a sink, and ends with the status of
-//! [`per_run::per_run`] over them and the six converters of [`number_converters`]. `per --help` says what there is, and `per --demo` shows a
-//! first session.
+//! `per --dir DIR` makes the folder a disk, standard input a source and standard output a sink, and ends with the
+//! status of [`per_run::per_run`] over them and the six converters of [`number_converters`]. `per --help` says what
+//! there is, and `per --demo` shows a first session.
 //!
-//! Where a run did not end well, one line on standard error says why ([`causes`]). Two statuses are main's own: 4 where memory runs out
-//! before the top call, and 12 where the system does not give the words.
+//! Where a run did not end well, one line on standard error says why ([`causes`]). Two statuses are main's own: 4 where
+//! memory runs out before the top call, and 12 where the system does not give the words.
 #![tactic(auto)]
 
 mod causes;

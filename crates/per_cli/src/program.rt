@@ -12,7 +12,8 @@ use std::fs::File;
 use std::io::{Read, Write};
 use std::rt::Files;
 
-/// The folder that the words name, whether lines are to be handled in it, and how many blocks its flash has, where it has one.
+/// The folder that the words name, whether lines are to be handled in it, and how many blocks its flash has, where it
+/// has one.
 #[derive(Drop)]
 struct Target {
     dir: String,
@@ -56,7 +57,8 @@ impl<'a, R: Files<File = File> + Eprint, I: Read + Drop, O: Write + Drop> WithCo
     }
 }
 
-/// Runs the program with these words, says on standard error why it ended where it did not end well, and gives the status.
+/// Runs the program with these words, says on standard error why it ended where it did not end well, and gives the
+/// status.
 pub(crate) fn run<R: Files<File = File> + AllocGlobal + Eprint, I: Read + Drop, O: Write + Drop>(
     rt: &R,
     words: &[String],

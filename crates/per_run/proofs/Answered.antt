@@ -9,7 +9,8 @@ use Rattle.per_run.proofs.Outputs.{not_done, writes_none}
 
 -- ---- an audit
 
-pub audits_none : (told : Bool) (status : ℕ) (now : Option (List ℕ)) (old new : Medium) → (status ≡ 3) ⊎ (status ≡ 4) → ChangesNothing old new → FailsAtThree status old.faults new.faults
+pub audits_none : (told : Bool) (status : ℕ) (now : Option (List ℕ)) (old new : Medium) → (status ≡ 3) ⊎ (status ≡ 4)
+    → ChangesNothing old new → FailsAtThree status old.faults new.faults
     → Audits told status now now old new
 audits_none told status now old new is stays failed = record {
   elements = elements_at old.image;
@@ -29,4 +30,5 @@ sound_none [] is = refl
 sound_none (f ∷ findings) is = let bad : false ≡ true = is in cc
 
 pub unsound_some : (findings : List Finding) → is_sound findings ≡ false → findings ≢ []
-unsound_some findings is none = let bad : is_sound [] ≡ false = subst (λ (fs : List Finding). is_sound fs ≡ false) none is in cc
+unsound_some findings is none = let bad : is_sound [] ≡ false =
+    subst (λ (fs : List Finding). is_sound fs ≡ false) none is in cc

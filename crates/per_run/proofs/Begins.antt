@@ -24,7 +24,8 @@ use Rattle.per_run.proofs.Goes.{goes_none}
 use Rattle.per_run.proofs.Inputs.{not_seen}
 
 -- nothing is handled yet
-pub handled_none : (told : Bool) (rules : List Rule) (answers : Answers) (now : Option (List ℕ)) (memory : Memory) (old new : Medium) → Elapses old new
+pub handled_none : (told : Bool) (rules : List Rule) (answers : Answers) (now : Option (List ℕ)) (memory : Memory)
+    (old new : Medium) → Elapses old new
     → (IsTrue told → Starts memory old new) → Handled told rules answers old now [] now memory new
 handled_none told rules answers now memory old new time starts = record {
   turns = [];
@@ -33,8 +34,10 @@ handled_none told rules answers now memory old new time starts = record {
   goes = goes_none told rules answers memory old new time starts;
 }
 
-pub reached_none : (told : Bool) (rules : List Rule) (answers : Answers) (start : Medium) (before now : Option (List ℕ)) (memory : Memory) (medium : Medium) (kept : List ℕ) (number : ℕ)
-    → Handled told rules answers start before [] now memory medium → kept ≡ [] → number ≡ 0 → Reached told rules answers start before [] now memory medium kept number
+pub reached_none : (told : Bool) (rules : List Rule) (answers : Answers) (start : Medium) (before now : Option (List ℕ))
+    (memory : Memory) (medium : Medium) (kept : List ℕ) (number : ℕ)
+    → Handled told rules answers start before [] now memory medium → kept ≡ [] → number ≡ 0
+    → Reached told rules answers start before [] now memory medium kept number
 reached_none told rules answers start before now memory medium kept number handled empty none = record {
   lines = [];
   rest = [];
@@ -50,12 +53,14 @@ reached_none told rules answers start before now memory medium kept number handl
 pub unbegun : AppLaws → (told : Bool) (m : Medium) → IsLawful told m → StartKeeps m m
 unbegun laws told m lawful quiet app lt clean c since =
     let stands : StandsCase app (app_at m.image app) (reopened (app_at m.image app)) c =
-    laws.still app m.image (reopened (app_at m.image app)) c lt clean (settled_on (IsFileOf app) m.image c (quiet c (lawful.only_now c since))) (same_root refl refl) in
+    laws.still app m.image (reopened (app_at m.image app)) c lt clean
+    (settled_on (IsFileOf app) m.image c (quiet c (lawful.only_now c since))) (same_root refl refl) in
     subst (λ x. StandsCase app x (disk_at (disks (started (world_at m.image))) app) c) (sym (at_entry m.image app lt))
     (subst (λ y. StandsCase app (app_at m.image app) y c) (sym (at_start m.image app lt)) stands)
 
 -- a run that did not come to its lines
-pub run_none : (told : Bool) (rules : List Rule) (answers : Answers) (left before : Option (List ℕ)) (source sink : ℕ) (old new : Medium) (status : ℕ)
+pub run_none : (told : Bool) (rules : List Rule) (answers : Answers) (left before : Option (List ℕ)) (source sink : ℕ)
+    (old new : Medium) (status : ℕ)
     → IsLawful told new → Elapses old new → (IsTrue told → StartKeeps old new) → status ≡ 3 → Rose old.faults new.faults
     → Run told rules answers status left left before before source source sink sink old new
 run_none told rules answers left before source sink old new status lawful time keeps is rose = record {
@@ -74,10 +79,12 @@ run_none told rules answers left before source sink old new status lawful time k
   cause = rose;
   blamed = time.faults;
   time = time;
-  disk = λ tells. start_disk rules answers endings.device before before told old new lawful time (λ begun. begun) (keeps tells);
+  disk = λ tells. start_disk rules answers endings.device before before told old new lawful time (λ begun. begun)
+      (keeps tells);
 }
 
-pub run_short : (told : Bool) (rules : List Rule) (answers : Answers) (left before : Option (List ℕ)) (source sink : ℕ) (old new : Medium) (status : ℕ)
+pub run_short : (told : Bool) (rules : List Rule) (answers : Answers) (left before : Option (List ℕ)) (source sink : ℕ)
+    (old new : Medium) (status : ℕ)
     → IsLawful told new → Elapses old new → (IsTrue told → StartKeeps old new) → status ≡ 4
     → Run told rules answers status left left before before source source sink sink old new
 run_short told rules answers left before source sink old new status lawful time keeps is = record {
@@ -96,41 +103,50 @@ run_short told rules answers left before source sink old new status lawful time 
   cause = tt;
   blamed = time.faults;
   time = time;
-  disk = λ tells. start_disk rules answers endings.start_memory before before told old new lawful time (λ begun. begun) (keeps tells);
+  disk = λ tells. start_disk rules answers endings.start_memory before before told old new lawful time (λ begun. begun)
+      (keeps tells);
 }
 
 -- the same memory under another name
-pub handled_as : (told : Bool) (rules : List Rule) (answers : Answers) (start : Medium) (before : Option (List ℕ)) (lines : List (List ℕ)) (now : Option (List ℕ)) (memory same : Memory) (medium : Medium)
-    → same ≡ memory → Handled told rules answers start before lines now memory medium → Handled told rules answers start before lines now same medium
+pub handled_as : (told : Bool) (rules : List Rule) (answers : Answers) (start : Medium) (before : Option (List ℕ))
+    (lines : List (List ℕ)) (now : Option (List ℕ)) (memory same : Memory) (medium : Medium)
+    → same ≡ memory → Handled told rules answers start before lines now memory medium
+    → Handled told rules answers start before lines now same medium
 handled_as told rules answers start before lines now memory same medium is handled =
     subst (λ (m : Memory). Handled told rules answers start before lines now m medium) (sym is) handled
 
 -- a run that came to its lines
-pub run_from : (told : Bool) (rules : List Rule) (answers : Answers) (ending : Way) (left_before left_now before now : Option (List ℕ)) (source_before source_now sink_before sink_now : ℕ)
-    (old new : Medium) (status : ℕ) → Elapses old new → status ≡ status_of (ending_of ending) → (ending ≡ ways.Source → Rose source_before source_now)
+pub run_from : (told : Bool) (rules : List Rule) (answers : Answers) (ending : Way)
+    (left_before left_now before now : Option (List ℕ)) (source_before source_now sink_before sink_now : ℕ)
+    (old new : Medium) (status : ℕ) → Elapses old new → status ≡ status_of (ending_of ending)
+    → (ending ≡ ways.Source → Rose source_before source_now)
     → Blamed ending sink_before sink_now → Ran told rules answers ending old left_before left_now before now new
-    → Run told rules answers status left_before left_now before now source_before source_now sink_before sink_now old new
-run_from told rules answers ending left_before left_now before now source_before source_now sink_before sink_now old new status time is source blamed ran = record {
-  ending = ending_of ending;
-  status_is = is;
-  given = ran.given;
-  taken = ran.taken;
-  bound = ran.bound;
-  ended = ran.ended;
-  end_seen = ran.end_seen;
-  input = ran.input;
-  lines = ran.course.lines;
-  turns = ran.course.turns;
-  gives = ran.course.gives;
-  ends = ran.course.ends;
-  cause = cause_of ending source blamed.sink;
-  blamed = ran.course.blamed;
-  time = time;
-  disk = ran.course.disk;
-}
+    → Run told rules answers status left_before left_now before now source_before source_now sink_before sink_now old
+    new
+run_from told rules answers ending left_before left_now before now source_before source_now sink_before sink_now old new
+    status time is source blamed ran = record {
+      ending = ending_of ending;
+      status_is = is;
+      given = ran.given;
+      taken = ran.taken;
+      bound = ran.bound;
+      ended = ran.ended;
+      end_seen = ran.end_seen;
+      input = ran.input;
+      lines = ran.course.lines;
+      turns = ran.course.turns;
+      gives = ran.course.gives;
+      ends = ran.course.ends;
+      cause = cause_of ending source blamed.sink;
+      blamed = ran.course.blamed;
+      time = time;
+      disk = ran.course.disk;
+    }
   where
-    cause_of : (e : Way) → (e ≡ ways.Source → Rose source_before source_now) → (e ≡ ways.Sink → Rose sink_before sink_now)
-        → HasCauseOf (ending_of e) (record { disk = old.faults; source = source_before; sink = sink_before }) (record { disk = new.faults; source = source_now; sink = sink_now })
+    cause_of : (e : Way) → (e ≡ ways.Source → Rose source_before source_now)
+        → (e ≡ ways.Sink → Rose sink_before sink_now)
+        → HasCauseOf (ending_of e) (record { disk = old.faults; source = source_before; sink = sink_before })
+        (record { disk = new.faults; source = source_now; sink = sink_now })
     cause_of ways.AllRead by_source by_sink = tt
     cause_of ways.EndLine by_source by_sink = tt
     cause_of ways.BadLine by_source by_sink = tt

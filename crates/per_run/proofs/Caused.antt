@@ -1,5 +1,7 @@
 -- Why a job ended by its status.
-use Rattle.std.proofs.Common.{ℕ, zero, suc, ◌<◌, ◌≤◌, ◌-◌, List, [], ◌∷◌, ◌++◌, length, ◌≡◌, ◌⊎◌, inl, inr, refl, sym, ◌∙◌, ap, subst, arith, Option, Some, None, option_map, Err, Bool, true, false, ◌&&◌, nat_eq, nat_le, IfSome, slice_index_or, codes, if◌then◌else◌}
+use Rattle.std.proofs.Common.{ℕ, zero, suc, ◌<◌, ◌≤◌, ◌-◌, List, [], ◌∷◌, ◌++◌, length, ◌≡◌, ◌⊎◌, inl, inr, refl, sym}
+use Rattle.std.proofs.Common.{◌∙◌, ap, subst, arith, Option, Some, None, option_map, Err, Bool, true, false, ◌&&◌}
+use Rattle.std.proofs.Common.{nat_eq, nat_le, IfSome, slice_index_or, codes, if◌then◌else◌}
 use Rattle.std.specs.Bool.{⊤}
 use Rattle.std.specs.List.{AllByRecursion, Contains}
 use Rattle.std.specs.Str.Parse.{digits_value, without_leading_plus}
@@ -23,7 +25,8 @@ use Rattle.per_run.specs.declared.words.JobKind.{JobKind}
 use Rattle.per_run.specs.declared.words.JobKind.TheVariants.{Run, Format, Generate, Audit}
 use Rattle.per_run.specs.Jobs.{IsCaused, JobDone, by_disk, by_itself, by_sink, by_source, statuses_of}
 use Rattle.per_run.specs.Steps.{IsInRange}
-use Rattle.per_run.specs.Words.{command, dir_of, flagged, flash_of, generate_of, has_matches, is_set, job_in, job_of, kind_in, modes, only_mode, reads_input, valued}
+use Rattle.per_run.specs.Words.{command, dir_of, flagged, flash_of, generate_of, has_matches, is_set, job_in, job_of}
+use Rattle.per_run.specs.Words.{kind_in, modes, only_mode, reads_input, valued}
 use Rattle.per_run.proofs.Answered.{audits_none}
 use Rattle.per_run.proofs.Begins.{run_short, unbegun}
 use Rattle.per_run.proofs.Completes.{OneLine, completes}
@@ -35,27 +38,36 @@ use Rattle.per_run.proofs.Outputs.{nothing_changed}
 among : (status other : ℕ) (xs : List ℕ) → status ≡ other → Contains xs other → Contains xs status
 among status other xs is contains = subst (Contains xs) (sym is) contains
 
-ended_so : (ending : Ending) (status : ℕ) (b n : Failed) → status ≡ status_of ending → HasCauseOf ending b n → IsCaused Run status b n
+ended_so : (ending : Ending) (status : ℕ) (b n : Failed) → status ≡ status_of ending → HasCauseOf ending b n
+    → IsCaused Run status b n
 ended_so endings.all_read status b n is cause = by_itself (among status 0 (statuses_of Run) is (0, omega arith, refl))
 ended_so endings.end_line status b n is cause = by_itself (among status 0 (statuses_of Run) is (0, omega arith, refl))
 ended_so endings.bad_line status b n is cause = by_itself (among status 2 (statuses_of Run) is (1, omega arith, refl))
 ended_so endings.device status b n is cause = by_disk is cause
-ended_so endings.start_memory status b n is cause = by_itself (among status 4 (statuses_of Run) is (2, omega arith, refl))
+ended_so endings.start_memory status b n is cause = by_itself
+    (among status 4 (statuses_of Run) is (2, omega arith, refl))
 ended_so endings.memory status b n is cause = by_itself (among status 4 (statuses_of Run) is (2, omega arith, refl))
 ended_so endings.source status b n is cause = by_source is refl cause
 ended_so endings.sink status b n is cause = by_sink is cause
 ended_so endings.too_long status b n is cause = by_itself (among status 7 (statuses_of Run) is (3, omega arith, refl))
 
-pub run_caused : (told : Bool) (rules : List Rule) (answers : Answers) (status : ℕ) (left_before left_now before now : Option (List ℕ)) (source_before source_now sink_before sink_now : ℕ)
-    (old new : Medium) → runs.Run told rules answers status left_before left_now before now source_before source_now sink_before sink_now old new
-    → IsCaused Run status (record { disk = old.faults; source = source_before; sink = sink_before }) (record { disk = new.faults; source = source_now; sink = sink_now })
-run_caused told rules answers status left_before left_now before now source_before source_now sink_before sink_now old new r = ended_so r.ending status _ _ r.status_is r.cause
+pub run_caused : (told : Bool) (rules : List Rule) (answers : Answers) (status : ℕ)
+    (left_before left_now before now : Option (List ℕ)) (source_before source_now sink_before sink_now : ℕ)
+    (old new : Medium) → runs.Run told rules answers status left_before left_now before now source_before source_now
+    sink_before sink_now old new
+    → IsCaused Run status (record { disk = old.faults; source = source_before; sink = sink_before })
+    (record { disk = new.faults; source = source_now; sink = sink_now })
+run_caused told rules answers status left_before left_now before now source_before source_now sink_before sink_now old
+    new r = ended_so r.ending status _ _ r.status_is r.cause
 
 -- a job that writes once
 pub written_caused : (kind : JobKind) (status : ℕ) (b n : Failed) → statuses_of kind ≡ 0 ∷ 4 ∷ []
-    → (status ≡ 0) ⊎ ((status ≡ 4) ⊎ (((status ≡ 3) × Rose b.disk n.disk) ⊎ ((status ≡ 6) × Rose b.sink n.sink))) → IsCaused kind status b n
-written_caused kind status b n has (inl none) = by_itself (subst (λ (xs : List ℕ). Contains xs status) (sym has) (among status 0 (0 ∷ 4 ∷ []) none (0, omega arith, refl)))
-written_caused kind status b n has (inr (inl four)) = by_itself (subst (λ (xs : List ℕ). Contains xs status) (sym has) (among status 4 (0 ∷ 4 ∷ []) four (1, omega arith, refl)))
+    → (status ≡ 0) ⊎ ((status ≡ 4) ⊎ (((status ≡ 3) × Rose b.disk n.disk) ⊎ ((status ≡ 6) × Rose b.sink n.sink)))
+    → IsCaused kind status b n
+written_caused kind status b n has (inl none) = by_itself
+    (subst (λ (xs : List ℕ). Contains xs status) (sym has) (among status 0 (0 ∷ 4 ∷ []) none (0, omega arith, refl)))
+written_caused kind status b n has (inr (inl four)) = by_itself
+    (subst (λ (xs : List ℕ). Contains xs status) (sym has) (among status 4 (0 ∷ 4 ∷ []) four (1, omega arith, refl)))
 written_caused kind status b n has (inr (inr (inl disk))) = by_disk disk.0 disk.1
 written_caused kind status b n has (inr (inr (inr sink))) = by_sink sink.0 sink.1
 
@@ -66,14 +78,17 @@ short_caused (Generate k) b n = by_itself (1, omega arith, refl)
 short_caused Audit b n = by_itself (1, omega arith, refl)
 
 -- the output of a job that came to it, by this status where all of it was taken
-pub output_caused : (kind : JobKind) (status done : ℕ) (b n : Failed) → Contains (statuses_of kind) done → (status ≡ done) ⊎ ((status ≡ 4) ⊎ ((status ≡ 6) × Rose b.sink n.sink))
+pub output_caused : (kind : JobKind) (status done : ℕ) (b n : Failed) → Contains (statuses_of kind) done
+    → (status ≡ done) ⊎ ((status ≡ 4) ⊎ ((status ≡ 6) × Rose b.sink n.sink))
     → IsCaused kind status b n
 output_caused kind status done b n has (inl is) = by_itself (among status done (statuses_of kind) is has)
-output_caused kind status done b n has (inr (inl four)) = subst (λ s. IsCaused kind s b n) (sym four) (short_caused kind b n)
+output_caused kind status done b n has (inr (inl four)) =
+    subst (λ s. IsCaused kind s b n) (sym four) (short_caused kind b n)
 output_caused kind status done b n has (inr (inr six)) = by_sink six.0 six.1
 
 -- an audit that was written
-pub audit_caused : (status : ℕ) (b n : Failed) → ((status ≡ 0) ⊎ (status ≡ 8)) ⊎ ((status ≡ 4) ⊎ ((status ≡ 6) × Rose b.sink n.sink)) → IsCaused Audit status b n
+pub audit_caused : (status : ℕ) (b n : Failed) → ((status ≡ 0) ⊎ (status ≡ 8))
+    ⊎ ((status ≡ 4) ⊎ ((status ≡ 6) × Rose b.sink n.sink)) → IsCaused Audit status b n
 audit_caused status b n (inl (inl none)) = output_caused Audit status 0 b n (0, omega arith, refl) (inl none)
 audit_caused status b n (inl (inr eight)) = output_caused Audit status 8 b n (2, omega arith, refl) (inl eight)
 audit_caused status b n (inr other) = output_caused Audit status 0 b n (0, omega arith, refl) (inr other)
@@ -84,7 +99,13 @@ no_one (x ∷ xs) each zero within is = each.0 is
 no_one (x ∷ xs) each (suc k) within is = no_one xs each.1 k (omega (arith, within)) is
 
 others_than_one : (kind : JobKind) → AllByRecursion (λ x. x ≡ 1 → ⊥) (statuses_of kind)
-others_than_one Run = (λ is. omega (arith, is), (λ is. omega (arith, is), (λ is. omega (arith, is), (λ is. omega (arith, is), tt))))
+others_than_one Run = (
+  λ is. omega (arith, is),
+  (
+    λ is. omega (arith, is),
+    (λ is. omega (arith, is), (λ is. omega (arith, is), tt)),
+  ),
+)
 others_than_one Format = (λ is. omega (arith, is), (λ is. omega (arith, is), tt))
 others_than_one (Generate k) = (λ is. omega (arith, is), (λ is. omega (arith, is), tt))
 others_than_one Audit = (λ is. omega (arith, is), (λ is. omega (arith, is), (λ is. omega (arith, is), tt)))
@@ -100,12 +121,15 @@ not_one kind status b n (by_sink six rose) is = omega (arith, six, is)
 
 -- ---- the same of a kind by another name
 
-pub done_as : (told : Bool) (kind same : JobKind) (rules : List Rule) (answers : Answers) (status : ℕ) (left left_now before now : Option (List ℕ)) (b n : Failed) (old new : Medium) → kind ≡ same
-    → JobDone told same rules answers status left left_now before now b n old new → JobDone told kind rules answers status left left_now before now b n old new
+pub done_as : (told : Bool) (kind same : JobKind) (rules : List Rule) (answers : Answers) (status : ℕ)
+    (left left_now before now : Option (List ℕ)) (b n : Failed) (old new : Medium) → kind ≡ same
+    → JobDone told same rules answers status left left_now before now b n old new
+    → JobDone told kind rules answers status left left_now before now b n old new
 done_as told kind same rules answers status left left_now before now b n old new is done =
     subst (λ (k : JobKind). JobDone told k rules answers status left left_now before now b n old new) (sym is) done
 
-pub caused_as : (kind same : JobKind) (status : ℕ) (b n : Failed) → kind ≡ same → IsCaused same status b n → IsCaused kind status b n
+pub caused_as : (kind same : JobKind) (status : ℕ) (b n : Failed) → kind ≡ same → IsCaused same status b n
+    → IsCaused kind status b n
 caused_as kind same status b n is caused = subst (λ (k : JobKind). IsCaused k status b n) (sym is) caused
 
 -- ---- the job of the words
@@ -123,37 +147,53 @@ each_is None P each = tt
 each_is (Some x) P each = each x
 
 pub some_none : {P : Type 0} (o : Option Job) (job : Job) → o ≡ Some job → o ≡ None → P
-some_none {P} o job some none = let bad : ◌≡◌ {A = Option Job} (Some job) None = sym some ∙ none in absurd (apart job bad)
+some_none {P} o job some none = let bad : ◌≡◌ {A = Option Job} (Some job) None =
+    sym some ∙ none in absurd (apart job bad)
   where
     apart : (j : Job) → ◌≡◌ {A = Option Job} (Some j) None → ⊥
     apart j is = cc
 
 -- ---- a job for whose words there was no memory
 
-pub done_none : AppLaws → (told : Bool) (kind : JobKind) (rules : List Rule) (answers : Answers) (left before : Option (List ℕ)) (source sink : ℕ) (m : Medium) → IsLawful told m
-    → JobDone told kind rules answers 4 left left before before (record { disk = m.faults; source = source; sink = sink }) (record { disk = m.faults; source = source; sink = sink }) m m
-done_none laws told Run rules answers left before source sink m lawful = run_short told rules answers left before source sink m m 4 lawful (elapses_none lawful) (λ tells. unbegun laws told m lawful) refl
+pub done_none : AppLaws → (told : Bool) (kind : JobKind) (rules : List Rule) (answers : Answers)
+    (left before : Option (List ℕ)) (source sink : ℕ) (m : Medium) → IsLawful told m
+    → JobDone told kind rules answers 4 left left before before
+    (record { disk = m.faults; source = source; sink = sink })
+    (record { disk = m.faults; source = source; sink = sink }) m m
+done_none laws told Run rules answers left before source sink m lawful =
+    run_short told rules answers left before source sink m m 4 lawful (elapses_none lawful)
+    (λ tells. unbegun laws told m lawful) refl
 done_none laws told Format rules answers left before source sink m lawful = formats_none told 4 before m (inr refl)
-done_none laws told (Generate n) rules answers left before source sink m lawful = generates_none told rules answers n 4 before m m (inr refl) (elapses_none lawful).faults
-done_none laws told Audit rules answers left before source sink m lawful = audits_none told 4 before m m (inr refl) (nothing_changed lawful) (λ unfailed. refl)
+done_none laws told (Generate n) rules answers left before source sink m lawful =
+    generates_none told rules answers n 4 before m m (inr refl) (elapses_none lawful).faults
+done_none laws told Audit rules answers left before source sink m lawful =
+    audits_none told 4 before m m (inr refl) (nothing_changed lawful) (λ unfailed. refl)
 
 pub unread_none : {S : Type 0} (o : Option Job) (s : S) → IfSome o (λ job. reads_input job.kind ≡ false → s ≡ s)
 unread_none o s = each_is o (λ job. reads_input job.kind ≡ false → s ≡ s) (λ job reads. refl)
 
 pub complete_none : (o : Option Job) (left : Option (List ℕ)) (A B C : Type 0)
-    → IfSome o (λ job. job.kind ≡ Run → A → B → C → IfSome left (λ l. IsWellFormed l → (◌≡◌ {A = ℕ} 4 0) ⊎ (◌≡◌ {A = ℕ} 4 4)))
-complete_none o left A B C = each_is o (λ job. job.kind ≡ Run → A → B → C → IfSome left (λ l. IsWellFormed l → (◌≡◌ {A = ℕ} 4 0) ⊎ (◌≡◌ {A = ℕ} 4 4)))
-    (λ job is disk source sink. each_is left (λ l. IsWellFormed l → (◌≡◌ {A = ℕ} 4 0) ⊎ (◌≡◌ {A = ℕ} 4 4)) (λ l formed. inr refl))
+    → IfSome o (λ job. job.kind ≡ Run → A → B → C → IfSome left
+    (λ l. IsWellFormed l → (◌≡◌ {A = ℕ} 4 0) ⊎ (◌≡◌ {A = ℕ} 4 4)))
+complete_none o left A B C = each_is o (λ job. job.kind ≡ Run → A → B → C
+    → IfSome left (λ l. IsWellFormed l → (◌≡◌ {A = ℕ} 4 0) ⊎ (◌≡◌ {A = ℕ} 4 4)))
+    (λ job is disk source sink. each_is left (λ l. IsWellFormed l → (◌≡◌ {A = ℕ} 4 0) ⊎ (◌≡◌ {A = ℕ} 4 4))
+    (λ l formed. inr refl))
 
 -- ---- a run over good lines
 
-pub completes_if : OneLine → (told : Bool) (kind : JobKind) (rules : List Rule) (answers : Answers) (status : ℕ) (left left_now before now : Option (List ℕ)) (b n : Failed) (old new : Medium)
-    → b.disk ≡ old.faults → n.disk ≡ new.faults → JobDone told kind rules answers status left left_now before now b n old new → kind ≡ Run → (Rose old.faults new.faults → ⊥) → (Rose b.source n.source → ⊥)
+pub completes_if : OneLine → (told : Bool) (kind : JobKind) (rules : List Rule) (answers : Answers) (status : ℕ)
+    (left left_now before now : Option (List ℕ)) (b n : Failed) (old new : Medium)
+    → b.disk ≡ old.faults → n.disk ≡ new.faults → JobDone told kind rules answers status left left_now before now b n
+    old new → kind ≡ Run → (Rose old.faults new.faults → ⊥) → (Rose b.source n.source → ⊥)
     → (Rose b.sink n.sink → ⊥) → IfSome left (λ l. IsWellFormed l → (status ≡ 0) ⊎ (status ≡ 4))
-completes_if one told kind rules answers status None left_now before now b n old new old_is new_is done is disk source sink = tt
-completes_if one told kind rules answers status (Some left) left_now before now b n old new old_is new_is done is disk source sink = λ formed.
+completes_if one told kind rules answers status None left_now before now b n old new old_is new_is done is disk source
+    sink = tt
+completes_if one told kind rules answers status (Some left) left_now before now b n old new old_is new_is done is disk
+    source sink = λ formed.
     completes one told rules answers status left left_now before now b.source n.source b.sink n.sink old new
-    (subst (λ (k : JobKind). JobDone told k rules answers status (Some left) left_now before now b n old new) is done) disk source sink formed
+    (subst (λ (k : JobKind). JobDone told k rules answers status (Some left) left_now before now b n old new) is done)
+    disk source sink formed
 
 -- ---- numbers are in their ranges
 
@@ -199,14 +239,16 @@ flagged_safe : (kind : JobKind) (b : Bool) → IsInRange kind → AreSafe (flagg
 flagged_safe kind true within = (some_safe kind within, tt)
 flagged_safe kind false within = tt
 
-valued_safe : (mode : List ℕ → Option JobKind) (value : Option (List ℕ)) → ((v : List ℕ) → IsSafe (mode v)) → AreSafe (valued mode value)
+valued_safe : (mode : List ℕ → Option JobKind) (value : Option (List ℕ)) → ((v : List ℕ) → IsSafe (mode v))
+    → AreSafe (valued mode value)
 valued_safe mode (Some v) safe = (safe v, tt)
 valued_safe mode None safe = tt
 
 modes_safe : (formats : Bool) (number : Option (List ℕ)) (audits : Bool) → AreSafe (modes formats number audits)
 modes_safe formats number audits =
     both_safe (flagged Format formats ++ valued generate_of number) (flagged Audit audits)
-    (both_safe (flagged Format formats) (valued generate_of number) (flagged_safe Format formats tt) (valued_safe generate_of number generate_safe))
+    (both_safe (flagged Format formats) (valued generate_of number) (flagged_safe Format formats tt)
+    (valued_safe generate_of number generate_safe))
     (flagged_safe Audit audits tt)
 
 only_safe : (ms : List (Option JobKind)) → AreSafe ms → IsSafe (only_mode ms)
@@ -215,12 +257,14 @@ only_safe (mode ∷ []) safe = safe.0
 only_safe (mode ∷ other ∷ others) safe = none_safe
 
 kind_of_job : (kind : Option JobKind) (flash : Option (Option ℕ)) (dir : Option (List ℕ)) (job : Job)
-    → (kind >>= λ k. flash >>= λ f. dir >>= λ d. Some (record { dir = d; kind = k; flash = f })) ≡ Some job → kind ≡ Some job.kind
+    → (kind >>= λ k. flash >>= λ f. dir >>= λ d. Some (record { dir = d; kind = k; flash = f })) ≡ Some job
+    → kind ≡ Some job.kind
 kind_of_job None flash dir job is = let bad : ◌≡◌ {A = Option Job} None (Some job) = is in cc
 kind_of_job (Some k) None dir job is = let bad : ◌≡◌ {A = Option Job} None (Some job) = is in cc
 kind_of_job (Some k) (Some f) None job is = let bad : ◌≡◌ {A = Option Job} None (Some job) = is in cc
 kind_of_job (Some k) (Some f) (Some d) job is =
-    let same : record { dir = d; kind = k; flash = f } ≡ job = job_some (record { dir = d; kind = k; flash = f }) job is in
+    let same : record { dir = d; kind = k; flash = f } ≡ job =
+    job_some (record { dir = d; kind = k; flash = f }) job is in
     ap (λ (j : Job). Some j.kind) same
   where
     job_some : (a c : Job) → ◌≡◌ {A = Option Job} (Some a) (Some c) → a ≡ c
@@ -234,6 +278,8 @@ job_within ws job is = go (has_matches ws) is
     rows = matches_of command ws
 
     go : (b : Bool) → (if b then job_in rows else None) ≡ Some job → IsInRange job.kind
-    go true says = only_safe _ (modes_safe (is_set (first_of (codes "format") rows)) (first_of (codes "generate") rows) (is_set (first_of (codes "audit") rows))) job.kind
-        (kind_of_job (kind_in rows) (flash_of (first_of (codes "flash") rows)) (dir_of (first_of (codes "dir") rows)) job says)
+    go true says = only_safe _ (modes_safe (is_set (first_of (codes "format") rows)) (first_of (codes "generate") rows)
+        (is_set (first_of (codes "audit") rows))) job.kind
+        (kind_of_job (kind_in rows) (flash_of (first_of (codes "flash") rows)) (dir_of (first_of (codes "dir") rows))
+        job says)
     go false says = let bad : ◌≡◌ {A = Option Job} None (Some job) = says in cc

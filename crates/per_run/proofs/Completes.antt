@@ -1,5 +1,7 @@
 -- A run over lines that are all in the grammar handles them all, where nothing fails.
-use Rattle.std.proofs.Common.{ℕ, List, [], ◌∷◌, ◌++◌, length, ◌≡◌, ◌≤◌, ◌<◌, ◌⊎◌, ◌==◌, inl, inr, refl, sym, ◌∙◌, ap, subst, arith, Option, Some, None, Bool, true, false, IsTrue, codes, append_assoc, append-nil, length-append, if◌then◌else◌}
+use Rattle.std.proofs.Common.{ℕ, List, [], ◌∷◌, ◌++◌, length, ◌≡◌, ◌≤◌, ◌<◌, ◌⊎◌, ◌==◌, inl, inr, refl, sym, ◌∙◌, ap}
+use Rattle.std.proofs.Common.{subst, arith, Option, Some, None, Bool, true, false, IsTrue, codes, append_assoc}
+use Rattle.std.proofs.Common.{append-nil, length-append, if◌then◌else◌}
 use Rattle.std.specs.List.{AllByRecursion}
 use Rattle.std.specs.Io.KnownBytes.{Consumes, IsAtEnd}
 use Rattle.per_base.specs.Causes.{Rose}
@@ -11,7 +13,8 @@ use Rattle.command_text.specs.declared.lines.Line.TheVariants as line
 use Rattle.command_text.specs.Grammar.{IsLine}
 use Rattle.run_model.specs.Endings.{Ending, Failed, HasCauseOf, EndsBy, IsInput, status_of}
 use Rattle.run_model.specs.Endings as endings
-use Rattle.run_model.specs.Lines.{Give, IsBad, IsWellFormed, all_read, end_last, end_line, last_line, lines_of, onto_first, split_lines}
+use Rattle.run_model.specs.Lines.{Give, IsBad, IsWellFormed, all_read, end_last, end_line, last_line, lines_of}
+use Rattle.run_model.specs.Lines.{onto_first, split_lines}
 use Rattle.run_model.specs.Runs.{Run}
 use Rattle.run_model.specs.Turns.{Turn, events_of}
 
@@ -38,9 +41,11 @@ the_end = record { short = omega arith; spelled = refl }
 -- the end is none of them
 not_end : OneLine → (text : List ℕ) → codes "end" ≡ text → IsFine text → ⊥
 not_end one text is (inl nothing) =
-    let bad : line.Nothing ≡ line.End = one text line.Nothing line.End nothing (subst (λ (t : List ℕ). IsLine t line.End) is the_end) in cc
+    let bad : line.Nothing ≡ line.End = one text line.Nothing line.End nothing
+    (subst (λ (t : List ℕ). IsLine t line.End) is the_end) in cc
 not_end one text is (inr command) =
-    let bad : line.Event command.0 ≡ line.End = one text (line.Event command.0) line.End command.1 (subst (λ (t : List ℕ). IsLine t line.End) is the_end) in cc
+    let bad : line.Event command.0 ≡ line.End = one text (line.Event command.0) line.End command.1
+    (subst (λ (t : List ℕ). IsLine t line.End) is the_end) in cc
 
 bad_fine : (text : List ℕ) → IsBad text → IsFine text → ⊥
 bad_fine text bad (inl nothing) = bad line.Nothing nothing
@@ -67,7 +72,8 @@ no_end one (l ∷ ls) others fine = no_end one ls others fine.1
 abbrev stepped : Bool → ℕ → List (List ℕ) × List ℕ → List (List ℕ) × List ℕ
 stepped b x p = if b then ([] ∷ p.0, p.1) else onto_first x p
 
-onto_more : (x : ℕ) (p q : List (List ℕ) × List ℕ) → ((more : List (List ℕ)) × (q.0 ≡ p.0 ++ more)) → (more : List (List ℕ)) × ((onto_first x q).0 ≡ (onto_first x p).0 ++ more)
+onto_more : (x : ℕ) (p q : List (List ℕ) × List ℕ) → ((more : List (List ℕ)) × (q.0 ≡ p.0 ++ more))
+    → (more : List (List ℕ)) × ((onto_first x q).0 ≡ (onto_first x p).0 ++ more)
 onto_more x ([], r) q is = ((onto_first x q).0, refl)
 onto_more x ((l ∷ ls), r) ([], s) is = absurd (none_some l (ls ++ is.0) is.1)
 onto_more x ((l ∷ ls), r) ((k ∷ ks), s) is =
@@ -75,7 +81,8 @@ onto_more x ((l ∷ ls), r) ((k ∷ ks), s) is =
     let others : ks ≡ ls ++ is.0 = tail_is k l ks (ls ++ is.0) is.1 in
     (is.0, ap (λ (t : List ℕ). (x ∷ t) ∷ ks) same ∙ ap (λ (ts : List (List ℕ)). (x ∷ l) ∷ ts) others)
 
-step_more : (b : Bool) (x : ℕ) (p q : List (List ℕ) × List ℕ) → ((more : List (List ℕ)) × (q.0 ≡ p.0 ++ more)) → (more : List (List ℕ)) × ((stepped b x q).0 ≡ (stepped b x p).0 ++ more)
+step_more : (b : Bool) (x : ℕ) (p q : List (List ℕ) × List ℕ) → ((more : List (List ℕ)) × (q.0 ≡ p.0 ++ more))
+    → (more : List (List ℕ)) × ((stepped b x q).0 ≡ (stepped b x p).0 ++ more)
 step_more true x p q is = (is.0, ap (λ (ls : List (List ℕ)). [] ∷ ls) is.1)
 step_more false x p q is = onto_more x p q is
 
@@ -83,13 +90,21 @@ split_more : (a b : List ℕ) → (more : List (List ℕ)) × ((split_lines (a +
 split_more [] b = ((split_lines b).0, refl)
 split_more (x ∷ a) b = step_more (x == 10) x (split_lines a) (split_lines (a ++ b)) (split_more a b)
 
-front_lines : (ended : Bool) (given rest : List ℕ) → (ended ≡ true → rest ≡ []) → (more : List (List ℕ)) × (lines_of true (given ++ rest) ≡ lines_of ended given ++ more)
-front_lines true given rest over = ([], ap (lines_of true) (ap (λ (r : List ℕ). given ++ r) (over refl) ∙ append-nil given) ∙ sym (append-nil (lines_of true given)))
+front_lines : (ended : Bool) (given rest : List ℕ) → (ended ≡ true → rest ≡ [])
+    → (more : List (List ℕ)) × (lines_of true (given ++ rest) ≡ lines_of ended given ++ more)
+front_lines true given rest over = (
+  [],
+  ap (lines_of true)
+      (ap (λ (r : List ℕ). given ++ r) (over refl) ∙ append-nil given) ∙ sym (append-nil (lines_of true given)),
+)
 front_lines false given rest over =
-    let m : (more : List (List ℕ)) × ((split_lines (given ++ rest)).0 ≡ (split_lines given).0 ++ more) = split_more given rest in (
+    let m : (more : List (List ℕ)) × ((split_lines (given ++ rest)).0 ≡ (split_lines given).0 ++ more) =
+    split_more given rest in (
       m.0 ++ last_line (split_lines (given ++ rest)).1,
-      ap (λ (ls : List (List ℕ)). ls ++ last_line (split_lines (given ++ rest)).1) m.1 ∙ append_assoc (split_lines given).0 m.0 (last_line (split_lines (given ++ rest)).1)
-          ∙ ap (λ (ls : List (List ℕ)). ls ++ (m.0 ++ last_line (split_lines (given ++ rest)).1)) (sym (append-nil (split_lines given).0)),
+      ap (λ (ls : List (List ℕ)). ls ++ last_line (split_lines (given ++ rest)).1) m.1
+          ∙ append_assoc (split_lines given).0 m.0 (last_line (split_lines (given ++ rest)).1)
+          ∙ ap (λ (ls : List (List ℕ)). ls ++ (m.0 ++ last_line (split_lines (given ++ rest)).1))
+          (sym (append-nil (split_lines given).0)),
     )
 
 first_is : (x y : ℕ) (xs ys : List ℕ) → x ∷ xs ≡ y ∷ ys → x ≡ y
@@ -99,13 +114,15 @@ others_are : (x y : ℕ) (xs ys : List ℕ) → x ∷ xs ≡ y ∷ ys → xs ≡
 others_are x y xs ys is = cc
 
 -- of two fronts the longer one begins with the shorter
-longer : (front rest given others : List ℕ) → front ++ rest ≡ given ++ others → length front ≤ length given → (middle : List ℕ) × (given ≡ front ++ middle)
+longer : (front rest given others : List ℕ) → front ++ rest ≡ given ++ others → length front ≤ length given
+    → (middle : List ℕ) × (given ≡ front ++ middle)
 longer [] rest given others is le = (given, refl)
 longer (x ∷ front) rest [] others is le = absurd (omega arith)
 longer (x ∷ front) rest (y ∷ given) others is le =
     let same : x ≡ y = first_is x y (front ++ rest) (given ++ others) is in
     let less : length front ≤ length given = omega (arith, le) in
-    let m : (middle : List ℕ) × (given ≡ front ++ middle) = longer front rest given others (others_are x y (front ++ rest) (given ++ others) is) less in
+    let m : (middle : List ℕ) × (given ≡ front ++ middle) =
+    longer front rest given others (others_are x y (front ++ rest) (given ++ others) is) less in
     (m.0, ap (λ (l : List ℕ). y ∷ l) m.1 ∙ ap (λ (z : ℕ). z ∷ (front ++ m.0)) (sym same))
 
 -- ---- an input that is all in the grammar
@@ -123,27 +140,47 @@ never is = let bad : ⊥ = cc in absurd bad
 
 good_of : (left : List ℕ) → IsWellFormed left → IsGood left
 good_of left (all_read events bound gives) =
-    record { lines = lines_of true left; fine = fine_each (lines_of true left) events gives; rest = []; all = sym (append-nil (lines_of true left)); ends = inl refl }
+    record {
+      lines = lines_of true left;
+      fine = fine_each (lines_of true left) events gives;
+      rest = [];
+      all =
+          sym (append-nil (lines_of true left));
+      ends = inl refl;
+    }
 good_of left (end_last lines events bound is gives) =
-    record { lines = lines; fine = fine_each lines events gives; rest = codes "end" ∷ []; all = is; ends = inr ([], refl) }
+    record {
+      lines = lines;
+      fine = fine_each lines events gives;
+      rest = codes "end" ∷ [];
+      all = is;
+      ends =
+          inr ([], refl);
+    }
 good_of left (end_line front rest lines others events is few is_lines gives) =
-    let m : (more : List (List ℕ)) × (lines_of true (front ++ rest) ≡ lines_of false front ++ more) = front_lines false front rest never in
+    let m : (more : List (List ℕ)) × (lines_of true (front ++ rest) ≡ lines_of false front ++ more) =
+    front_lines false front rest never in
     record {
       lines = lines;
       fine = fine_each lines events gives;
       rest = codes "end" ∷ (others ++ m.0);
-      all = ap (lines_of true) is ∙ m.1 ∙ ap (λ (ls : List (List ℕ)). ls ++ m.0) is_lines ∙ append_assoc lines (codes "end" ∷ others) m.0;
+      all = ap (lines_of true) is ∙ m.1 ∙ ap (λ (ls : List (List ℕ)). ls ++ m.0) is_lines
+          ∙ append_assoc lines (codes "end" ∷ others) m.0;
       ends = inr (others ++ m.0, refl);
     }
 
-no_bad : OneLine → (good lines rest others : List (List ℕ)) (text : List ℕ) → good ++ rest ≡ lines ++ text ∷ others → AllByRecursion IsFine good → AllByRecursion IsFine lines → IsBad text
+no_bad : OneLine → (good lines rest others : List (List ℕ)) (text : List ℕ) → good ++ rest ≡ lines ++ text ∷ others
+    → AllByRecursion IsFine good → AllByRecursion IsFine lines → IsBad text
     → (rest ≡ []) ⊎ ((more : List (List ℕ)) × (rest ≡ codes "end" ∷ more)) → ⊥
 no_bad one [] [] rest others text is good fine bad (inl none) = none_some text others (sym none ∙ is)
 no_bad one [] [] rest others text is good fine bad (inr over) = bad_end text bad (head_is _ _ _ _ (sym over.1 ∙ is))
 no_bad one [] (l ∷ ls) rest others text is good fine bad (inl none) = none_some l (ls ++ text ∷ others) (sym none ∙ is)
-no_bad one [] (l ∷ ls) rest others text is good fine bad (inr over) = not_end one l (head_is _ _ _ _ (sym over.1 ∙ is)) fine.0
-no_bad one (g ∷ gs) [] rest others text is good fine bad ends = bad_fine text bad (subst IsFine (head_is _ _ _ _ is) good.0)
-no_bad one (g ∷ gs) (l ∷ ls) rest others text is good fine bad ends = no_bad one gs ls rest others text (tail_is _ _ _ _ is) good.1 fine.1 bad ends
+no_bad one [] (l ∷ ls) rest others text is good fine bad (inr over) =
+    not_end one l (head_is _ _ _ _ (sym over.1 ∙ is)) fine.0
+no_bad one (g ∷ gs) [] rest others text is good fine bad ends =
+    bad_fine text bad (subst IsFine (head_is _ _ _ _ is) good.0)
+no_bad one (g ∷ gs) (l ∷ ls) rest others text is good fine bad ends =
+    no_bad one gs ls rest others text (tail_is _ _ _ _ is) good.1 fine.1 bad ends
 
 -- ---- what is left of the endings
 
@@ -151,50 +188,82 @@ no_bad one (g ∷ gs) (l ∷ ls) rest others text is good fine bad ends = no_bad
 abbrev IsFrontOf : (ended : Bool) → (given left : List ℕ) → Type 0
 IsFrontOf ended given left = (rest : List ℕ) × (left ≡ given ++ rest) × (ended ≡ true → rest ≡ [])
 
-front_of : (ended : Bool) (given left : List ℕ) (now : Option (List ℕ)) → Consumes (Some left) now given → (IsTrue ended → IsAtEnd now × (length given < 67108864)) → IsFrontOf ended given left
+front_of : (ended : Bool) (given left : List ℕ) (now : Option (List ℕ)) → Consumes (Some left) now given
+    → (IsTrue ended → IsAtEnd now × (length given < 67108864)) → IsFrontOf ended given left
 front_of ended given left None takes seen = absurd takes
 front_of ended given left (Some rest) takes seen = (rest, takes, λ over. (seen over).0)
 
-bad_never : OneLine → (left : List ℕ) → IsWellFormed left → (ended : Bool) (given : List ℕ) → IsFrontOf ended given left → (lines others : List (List ℕ)) (text : List ℕ) (events : List Event)
+bad_never : OneLine → (left : List ℕ) → IsWellFormed left → (ended : Bool) (given : List ℕ) → IsFrontOf ended given left
+    → (lines others : List (List ℕ)) (text : List ℕ) (events : List Event)
     → Give lines events → lines_of ended given ≡ lines ++ text ∷ others → IsBad text → ⊥
 bad_never one left formed ended given front lines others text events gives next bad =
     let good : IsGood left = good_of left formed in
-    let m : (more : List (List ℕ)) × (lines_of true (given ++ front.0) ≡ lines_of ended given ++ more) = front_lines ended given front.0 front.2 in
+    let m : (more : List (List ℕ)) × (lines_of true (given ++ front.0) ≡ lines_of ended given ++ more) =
+    front_lines ended given front.0 front.2 in
     let whole : good.lines ++ good.rest ≡ lines ++ text ∷ (others ++ m.0) =
-    sym good.all ∙ ap (lines_of true) front.1 ∙ m.1 ∙ ap (λ (ls : List (List ℕ)). ls ++ m.0) next ∙ append_assoc lines (text ∷ others) m.0 in
-    no_bad one good.lines lines good.rest (others ++ m.0) text whole good.fine (fine_each lines events gives) bad good.ends
+    sym good.all ∙ ap (lines_of true) front.1 ∙ m.1 ∙ ap (λ (ls : List (List ℕ)). ls ++ m.0) next
+    ∙ append_assoc lines (text ∷ others) m.0 in
+    no_bad one good.lines lines good.rest (others ++ m.0) text whole good.fine (fine_each lines events gives) bad
+    good.ends
 
-long_never : OneLine → (left : List ℕ) → IsWellFormed left → (given rest : List ℕ) → left ≡ given ++ rest → length given ≡ 67108864 → (lines : List (List ℕ)) (events : List Event)
+long_never : OneLine → (left : List ℕ) → IsWellFormed left → (given rest : List ℕ) → left ≡ given ++ rest
+    → length given ≡ 67108864 → (lines : List (List ℕ)) (events : List Event)
     → Give lines events → lines_of false given ≡ lines → ⊥
-long_never one left (all_read events bound gives') given rest is long lines es gives next = omega (arith, bound, ap length is, length-append given rest, long)
-long_never one left (end_last lines' events bound is_lines gives') given rest is long lines es gives next = omega (arith, bound, ap length is, length-append given rest, long)
-long_never one left (end_line front others lines' more events is_left few is_lines gives') given rest is long lines es gives next =
+long_never one left (all_read events bound gives') given rest is long lines es gives next =
+    omega (arith, bound, ap length is, length-append given rest, long)
+long_never one left (end_last lines' events bound is_lines gives') given rest is long lines es gives next =
+    omega (arith, bound, ap length is, length-append given rest, long)
+long_never one left (end_line front others lines' more events is_left few is_lines gives') given rest is long lines es
+    gives next =
     let le : length front ≤ length given = omega (arith, few, long) in
     let m : (middle : List ℕ) × (given ≡ front ++ middle) = longer front others given rest (sym is_left ∙ is) le in
-    let s : (after : List (List ℕ)) × ((split_lines (front ++ m.0)).0 ≡ (split_lines front).0 ++ after) = split_more front m.0 in
-    let begun : (split_lines front).0 ≡ lines' ++ codes "end" ∷ more = sym (append-nil (split_lines front).0) ∙ is_lines in
+    let s : (after : List (List ℕ)) × ((split_lines (front ++ m.0)).0 ≡ (split_lines front).0 ++ after) =
+    split_more front m.0 in
+    let begun : (split_lines front).0 ≡ lines' ++ codes "end" ∷ more =
+    sym (append-nil (split_lines front).0) ∙ is_lines in
     let whole : lines ≡ lines' ++ codes "end" ∷ (more ++ s.0) =
-    sym next ∙ append-nil (split_lines given).0 ∙ ap (λ (l : List ℕ). (split_lines l).0) m.1 ∙ s.1 ∙ ap (λ (ls : List (List ℕ)). ls ++ s.0) begun ∙ append_assoc lines' (codes "end" ∷ more) s.0 in
+    sym next ∙ append-nil (split_lines given).0 ∙ ap (λ (l : List ℕ). (split_lines l).0) m.1 ∙ s.1
+    ∙ ap (λ (ls : List (List ℕ)). ls ++ s.0) begun ∙ append_assoc lines' (codes "end" ∷ more) s.0 in
     no_end one lines' (more ++ s.0) (subst (AllByRecursion IsFine) whole (fine_each lines es gives))
 
-by_ending : OneLine → (left : List ℕ) → IsWellFormed left → (ending : Ending) (status : ℕ) (ended : Bool) (given : List ℕ) (lines : List (List ℕ)) (turns : List Turn) (before now : Option (List ℕ))
-    (b n : Failed) → status ≡ status_of ending → IsFrontOf ended given left → Give lines (events_of turns) → EndsBy ending lines (lines_of ended given) turns before now
-    → IsInput ending ended (length given) → HasCauseOf ending b n → (Rose b.disk n.disk → ⊥) → (Rose b.source n.source → ⊥) → (Rose b.sink n.sink → ⊥) → (status ≡ 0) ⊎ (status ≡ 4)
-by_ending one left formed endings.all_read status ended given lines turns before now b n is front gives ends input cause disk source sink = inl is
-by_ending one left formed endings.end_line status ended given lines turns before now b n is front gives ends input cause disk source sink = inl is
-by_ending one left formed endings.bad_line status ended given lines turns before now b n is front gives ends input cause disk source sink =
-    absurd (bad_never one left formed ended given front lines ends.others ends.text (events_of turns) gives ends.next ends.bad)
-by_ending one left formed endings.device status ended given lines turns before now b n is front gives ends input cause disk source sink = absurd (disk cause)
-by_ending one left formed endings.start_memory status ended given lines turns before now b n is front gives ends input cause disk source sink = inr is
-by_ending one left formed endings.memory status ended given lines turns before now b n is front gives ends input cause disk source sink = inr is
-by_ending one left formed endings.source status ended given lines turns before now b n is front gives ends input cause disk source sink = absurd (source cause)
-by_ending one left formed endings.sink status ended given lines turns before now b n is front gives ends input cause disk source sink = absurd (sink cause)
-by_ending one left formed endings.too_long status ended given lines turns before now b n is front gives ends input cause disk source sink =
-    absurd (long_never one left formed given front.0 front.1 input.1 lines (events_of turns) gives (subst (λ (e : Bool). lines_of e given ≡ lines) input.0 ends.next))
+by_ending : OneLine → (left : List ℕ) → IsWellFormed left
+    → (ending : Ending) (status : ℕ) (ended : Bool) (given : List ℕ) (lines : List (List ℕ)) (turns : List Turn)
+    (before now : Option (List ℕ))
+    (b n : Failed) → status ≡ status_of ending → IsFrontOf ended given left → Give lines (events_of turns)
+    → EndsBy ending lines (lines_of ended given) turns before now
+    → IsInput ending ended (length given) → HasCauseOf ending b n → (Rose b.disk n.disk → ⊥)
+    → (Rose b.source n.source → ⊥) → (Rose b.sink n.sink → ⊥) → (status ≡ 0) ⊎ (status ≡ 4)
+by_ending one left formed endings.all_read status ended given lines turns before now b n is front gives ends input cause
+    disk source sink = inl is
+by_ending one left formed endings.end_line status ended given lines turns before now b n is front gives ends input cause
+    disk source sink = inl is
+by_ending one left formed endings.bad_line status ended given lines turns before now b n is front gives ends input cause
+    disk source sink =
+    absurd (bad_never one left formed ended given front lines ends.others ends.text (events_of turns) gives ends.next
+    ends.bad)
+by_ending one left formed endings.device status ended given lines turns before now b n is front gives ends input cause
+    disk source sink = absurd (disk cause)
+by_ending one left formed endings.start_memory status ended given lines turns before now b n is front gives ends input
+    cause disk source sink = inr is
+by_ending one left formed endings.memory status ended given lines turns before now b n is front gives ends input cause
+    disk source sink = inr is
+by_ending one left formed endings.source status ended given lines turns before now b n is front gives ends input cause
+    disk source sink = absurd (source cause)
+by_ending one left formed endings.sink status ended given lines turns before now b n is front gives ends input cause
+    disk source sink = absurd (sink cause)
+by_ending one left formed endings.too_long status ended given lines turns before now b n is front gives ends input cause
+    disk source sink =
+    absurd (long_never one left formed given front.0 front.1 input.1 lines (events_of turns) gives
+    (subst (λ (e : Bool). lines_of e given ≡ lines) input.0 ends.next))
 
-pub completes : OneLine → (told : Bool) (rules : List Rule) (answers : Answers) (status : ℕ) (left : List ℕ) (left_now before now : Option (List ℕ))
+pub completes : OneLine → (told : Bool) (rules : List Rule) (answers : Answers) (status : ℕ) (left : List ℕ)
+    (left_now before now : Option (List ℕ))
     (source_before source_now sink_before sink_now : ℕ) (old new : Medium)
-    → Run told rules answers status (Some left) left_now before now source_before source_now sink_before sink_now old new → (Rose old.faults new.faults → ⊥)
-    → (Rose source_before source_now → ⊥) → (Rose sink_before sink_now → ⊥) → IsWellFormed left → (status ≡ 0) ⊎ (status ≡ 4)
-completes one told rules answers status left left_now before now source_before source_now sink_before sink_now old new r disk source sink formed =
-    by_ending one left formed r.ending status r.ended r.given r.lines r.turns before now _ _ r.status_is (front_of r.ended r.given left left_now r.taken r.end_seen) r.gives r.ends r.input r.cause disk source sink
+    → Run told rules answers status (Some left) left_now before now source_before source_now sink_before sink_now old
+    new → (Rose old.faults new.faults → ⊥)
+    → (Rose source_before source_now → ⊥) → (Rose sink_before sink_now → ⊥) → IsWellFormed left
+    → (status ≡ 0) ⊎ (status ≡ 4)
+completes one told rules answers status left left_now before now source_before source_now sink_before sink_now old new r
+    disk source sink formed =
+    by_ending one left formed r.ending status r.ended r.given r.lines r.turns before now _ _ r.status_is
+    (front_of r.ended r.given left left_now r.taken r.end_seen) r.gives r.ends r.input r.cause disk source sink

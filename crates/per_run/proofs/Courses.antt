@@ -1,5 +1,6 @@
 -- What was handled stays handled, and how a run ends behind it.
-use Rattle.std.proofs.Common.{ℕ, List, [], ◌∷◌, ◌++◌, length, take, ◌≡◌, ◌≤◌, ◌<◌, ◌+◌, ◌⊎◌, inl, inr, refl, sym, ap, subst, le_trans, Option, Bool, IsTrue, Err, append-nil, append_assoc, codes}
+use Rattle.std.proofs.Common.{ℕ, List, [], ◌∷◌, ◌++◌, length, take, ◌≡◌, ◌≤◌, ◌<◌, ◌+◌, ◌⊎◌, inl, inr, refl, sym, ap}
+use Rattle.std.proofs.Common.{subst, le_trans, Option, Bool, IsTrue, Err, append-nil, append_assoc, codes}
 use Rattle.std.proofs.KnownBytes.{Appends-nil, Appends-trans}
 use Rattle.std.specs.Io.KnownBytes.{Appends}
 use Rattle.disk_model.specs.Medium.{Medium, IsLawful, Elapses}
@@ -18,15 +19,18 @@ use Rattle.run_model.specs.Runtimes.{Memory}
 use Rattle.run_model.specs.Turns.{Turn, events_of, AreBlamed}
 use Rattle.run_model.specs.Worlds.{World}
 use Rattle.per_run.specs.declared.endings.Ending.{Ending}
-use Rattle.per_run.specs.declared.endings.Ending.TheVariants.{AllRead, EndLine, BadLine, OutOfMemory, Source, Sink, TooLong}
+use Rattle.per_run.specs.declared.endings.Ending.TheVariants.{AllRead, EndLine, BadLine, OutOfMemory, Source, Sink}
+use Rattle.per_run.specs.declared.endings.Ending.TheVariants.{TooLong}
 use Rattle.per_run.specs.Jobs.{IsFront}
 use Rattle.per_run.specs.Steps.{Goes, IsGoing, Handled, Course, IsAnswered, IsStopped, Puts, Refuses, ending_of}
 use Rattle.per_run.proofs.Gives.{front_says, give_nothing, give_turn, has_end, text_on}
 use Rattle.per_run.proofs.Goes.{goes_on, turn}
 
 -- what the front of a line gave is what the line gave
-pub answered_front : {told : Bool} {rules : List Rule} {answers : Answers} {text : List ℕ} {memory after : Memory} {reply : Reply} {old new : Medium} (whole : List ℕ)
-    → text ≡ take 262145 whole → IsAnswered told rules answers text memory after reply old new → IsAnswered told rules answers whole memory after reply old new
+pub answered_front : {told : Bool} {rules : List Rule} {answers : Answers} {text : List ℕ} {memory after : Memory}
+    {reply : Reply} {old new : Medium} (whole : List ℕ)
+    → text ≡ take 262145 whole → IsAnswered told rules answers text memory after reply old new
+    → IsAnswered told rules answers whole memory after reply old new
 answered_front whole front a = record {
   event = a.event;
   spelled = front_says _ whole (line.Event a.event) front a.spelled;
@@ -35,68 +39,93 @@ answered_front whole front a = record {
   stepped = a.stepped;
 }
 
-pub stopped_front : {told : Bool} {rules : List Rule} {answers : Answers} {text : List ℕ} {memory : Memory} {old new : Medium} (whole : List ℕ)
-    → text ≡ take 262145 whole → IsStopped told rules answers text memory old new → IsStopped told rules answers whole memory old new
-stopped_front whole front s = record { event = s.event; spelled = front_says _ whole (line.Event s.event) front s.spelled; stopped = s.stopped }
+pub stopped_front : {told : Bool} {rules : List Rule} {answers : Answers} {text : List ℕ} {memory : Memory}
+    {old new : Medium} (whole : List ℕ)
+    → text ≡ take 262145 whole → IsStopped told rules answers text memory old new
+    → IsStopped told rules answers whole memory old new
+stopped_front whole front s = record {
+  event = s.event;
+  spelled =
+      front_says _ whole (line.Event s.event) front s.spelled;
+  stopped = s.stopped;
+}
 
 -- causes stay causes while the count goes on
-pub blamed_later : (before : ℕ) (ts : List Turn) (after later : ℕ) → after ≤ later → AreBlamed before ts after → AreBlamed before ts later
+pub blamed_later : (before : ℕ) (ts : List Turn) (after later : ℕ) → after ≤ later → AreBlamed before ts after
+    → AreBlamed before ts later
 blamed_later before [] after later le blamed = le_trans blamed le
 blamed_later before (t ∷ ts) after later le blamed = (blamed.0, blamed_later t.faults ts after later le blamed.1)
 
 module _ (told : Bool) (rules : List Rule) (answers : Answers) (start : Medium) (before : Option (List ℕ)) where
   -- ---- one more line is handled
 
-  pub handled_nothing : {D : Type 0} (medium : D → Medium) (lines : List (List ℕ)) (now : Option (List ℕ)) (memory later : Memory) (old new : D) (text : List ℕ)
-      → Handled told rules answers start before lines now memory (medium old) → IsLine text line.Nothing → later ≡ memory → new ≡ old
+  pub handled_nothing : {D : Type 0} (medium : D → Medium) (lines : List (List ℕ)) (now : Option (List ℕ))
+      (memory later : Memory) (old new : D) (text : List ℕ)
+      → Handled told rules answers start before lines now memory (medium old) → IsLine text line.Nothing
+      → later ≡ memory → new ≡ old
       → Handled told rules answers start before (lines ++ text ∷ []) now later (medium new)
   handled_nothing {D} medium lines now memory later old new text handled is same_memory same_disk =
-      subst (λ (d : D). Handled told rules answers start before (lines ++ text ∷ []) now later (medium d)) (sym same_disk)
-      (subst (λ (m : Memory). Handled told rules answers start before (lines ++ text ∷ []) now m (medium old)) (sym same_memory) (record {
+      subst (λ (d : D). Handled told rules answers start before (lines ++ text ∷ []) now later (medium d))
+      (sym same_disk)
+      (subst (λ (m : Memory). Handled told rules answers start before (lines ++ text ∷ []) now m (medium old))
+      (sym same_memory) (record {
         turns = handled.turns;
         gives = give_nothing lines (events_of handled.turns) text handled.gives is;
         wrote = handled.wrote;
         goes = handled.goes;
       }))
 
-  pub handled_reply : (lines : List (List ℕ)) (now later : Option (List ℕ)) (memory after : Memory) (old new : Medium) (text : List ℕ) (reply : Reply) → IsLawful told new → Elapses old new
-      → Handled told rules answers start before lines now memory old → IsAnswered told rules answers text memory after reply old new → Appends now later (reply_text reply)
+  pub handled_reply : (lines : List (List ℕ)) (now later : Option (List ℕ)) (memory after : Memory) (old new : Medium)
+      (text : List ℕ) (reply : Reply) → IsLawful told new → Elapses old new
+      → Handled told rules answers start before lines now memory old
+      → IsAnswered told rules answers text memory after reply old new → Appends now later (reply_text reply)
       → Handled told rules answers start before (lines ++ text ∷ []) later after new
   handled_reply lines now later memory after old new text reply lawful time handled a wrote =
-      let more : (w : World) × Goes told rules answers start (handled.turns ++ turn a.event reply new.faults w ∷ []) after new =
-      goes_on rules answers start told handled.turns a.event reply memory after old new lawful time handled.goes a.blamed a.stepped in
+      let more : (w : World) × Goes told rules answers start (handled.turns ++ turn a.event reply new.faults w ∷ [])
+      after new =
+      goes_on rules answers start told handled.turns a.event reply memory after old new lawful time handled.goes
+      a.blamed a.stepped in
       let t : Turn = turn a.event reply new.faults more.0 in
       record {
         turns = handled.turns ++ t ∷ [];
         gives = give_turn lines handled.turns text t handled.gives a.spelled;
-        wrote = subst (Appends before later) (sym (text_on handled.turns t)) (Appends-trans before now later _ _ handled.wrote wrote);
+        wrote = subst (Appends before later) (sym (text_on handled.turns t))
+            (Appends-trans before now later _ _ handled.wrote wrote);
         goes = more.1;
       }
 
   -- ---- what is promised of the disk where every command has ended
 
-  pub rests : AppLaws → (ending : endings.Ending) → HasStarted ending → (lines all : List (List ℕ)) (turns : List Turn) (later : Option (List ℕ)) (memory : Memory) (now : Medium)
-      → Goes told rules answers start turns memory now → IsTrue told → DiskSide rules answers ending lines all turns before later start now
+  pub rests : AppLaws → (ending : endings.Ending) → HasStarted ending
+      → (lines all : List (List ℕ)) (turns : List Turn) (later : Option (List ℕ)) (memory : Memory) (now : Medium)
+      → Goes told rules answers start turns memory now → IsTrue told
+      → DiskSide rules answers ending lines all turns before later start now
   rests laws ending begun lines all turns later memory now goes tells =
       let g : IsGoing rules answers start turns memory now = goes.disk tells in
       ends_disk laws rules answers ending lines all turns before later memory g.0 start now begun g.2
 
   -- ---- how a run ends at a line
 
-  pub course_end : {D : Type 0} (medium : D → Medium) → AppLaws → (lines others : List (List ℕ)) (now : Option (List ℕ)) (memory : Memory) (old new : D) (text : List ℕ)
+  pub course_end : {D : Type 0} (medium : D → Medium) → AppLaws
+      → (lines others : List (List ℕ)) (now : Option (List ℕ)) (memory : Memory) (old new : D) (text : List ℕ)
       → Handled told rules answers start before lines now memory (medium old) → text ≡ codes "end" → new ≡ old
       → Course told rules answers endings.end_line start before (lines ++ text ∷ others) now (medium new)
-  course_end {D} medium laws lines others now memory old new text handled is same = subst (λ (d : D). Course told rules answers endings.end_line start before (lines ++ text ∷ others) now (medium d)) (sym same) (record {
-    lines = lines;
-    turns = handled.turns;
-    gives = handled.gives;
-    ends = record { others = others; next = ap (λ (t : List ℕ). lines ++ t ∷ others) is; wrote = handled.wrote };
-    blamed = handled.goes.blamed;
-    disk = rests laws endings.end_line tt lines (lines ++ text ∷ others) handled.turns now memory (medium old) handled.goes;
-  })
+  course_end {D} medium laws lines others now memory old new text handled is same =
+      subst (λ (d : D). Course told rules answers endings.end_line start before (lines ++ text ∷ others) now (medium d))
+      (sym same) (record {
+        lines = lines;
+        turns = handled.turns;
+        gives = handled.gives;
+        ends = record { others = others; next = ap (λ (t : List ℕ). lines ++ t ∷ others) is; wrote = handled.wrote };
+        blamed = handled.goes.blamed;
+        disk = rests laws endings.end_line tt lines (lines ++ text ∷ others) handled.turns now memory (medium old)
+            handled.goes;
+      })
 
-  course_bad : AppLaws → (lines others : List (List ℕ)) (now later : Option (List ℕ)) (memory : Memory) (medium : Medium) (text : List ℕ) (number : ℕ)
-      → Handled told rules answers start before lines now memory medium → IsBad text → number ≡ length lines + 1 → Appends now later (bad_line_text number)
+  course_bad : AppLaws → (lines others : List (List ℕ)) (now later : Option (List ℕ)) (memory : Memory)
+      (medium : Medium) (text : List ℕ) (number : ℕ)
+      → Handled told rules answers start before lines now memory medium → IsBad text → number ≡ length lines + 1
+      → Appends now later (bad_line_text number)
       → Course told rules answers endings.bad_line start before (lines ++ text ∷ others) later medium
   course_bad laws lines others now later memory medium text number handled bad is wrote = record {
     lines = lines;
@@ -107,47 +136,73 @@ module _ (told : Bool) (rules : List Rule) (answers : Answers) (start : Medium) 
       others = others;
       next = refl;
       bad = bad;
-      wrote = Appends-trans before now later _ _ handled.wrote (subst (λ (n : ℕ). Appends now later (bad_line_text n)) is wrote);
+      wrote = Appends-trans before now later _ _ handled.wrote
+          (subst (λ (n : ℕ). Appends now later (bad_line_text n)) is wrote);
     };
     blamed = handled.goes.blamed;
     disk = rests laws endings.bad_line tt lines (lines ++ text ∷ others) handled.turns later memory medium handled.goes;
   }
 
-  course_in_bad : AppLaws → (lines others : List (List ℕ)) (now later : Option (List ℕ)) (memory : Memory) (medium : Medium) (text : List ℕ) (number : ℕ)
-      → Handled told rules answers start before lines now memory medium → IsBad text → number ≡ length lines + 1 → IsFront now later (bad_line_text number)
+  course_in_bad : AppLaws → (lines others : List (List ℕ)) (now later : Option (List ℕ)) (memory : Memory)
+      (medium : Medium) (text : List ℕ) (number : ℕ)
+      → Handled told rules answers start before lines now memory medium → IsBad text → number ≡ length lines + 1
+      → IsFront now later (bad_line_text number)
       → Course told rules answers endings.sink start before (lines ++ text ∷ others) later medium
   course_in_bad laws lines others now later memory medium text number handled bad is cut =
-      let here : IsFront now later (bad_line_text (length lines + 1)) = subst (λ (n : ℕ). IsFront now later (bad_line_text n)) is cut in
+      let here : IsFront now later (bad_line_text (length lines + 1)) =
+      subst (λ (n : ℕ). IsFront now later (bad_line_text n)) is cut in
       record {
         lines = lines;
         turns = handled.turns;
         gives = handled.gives;
-        ends = (here.0, inr (record { text = text; others = others; next = refl; bad = bad; short = here.1; wrote = Appends-trans before now later _ _ handled.wrote here.2 }));
+        ends = (
+          here.0,
+          inr (record {
+            text = text;
+            others = others;
+            next = refl;
+            bad = bad;
+            short = here.1;
+            wrote =
+                Appends-trans before now later _ _ handled.wrote here.2;
+          }),
+        );
         blamed = handled.goes.blamed;
         disk = rests laws endings.sink tt lines (lines ++ text ∷ others) handled.turns later memory medium handled.goes;
       }
 
   -- memory ran out between commands
-  pub course_memory : AppLaws → (lines others : List (List ℕ)) (now later : Option (List ℕ)) (memory : Memory) (medium : Medium)
+  pub course_memory : AppLaws → (lines others : List (List ℕ)) (now later : Option (List ℕ)) (memory : Memory)
+      (medium : Medium)
       → Handled told rules answers start before lines now memory medium → Appends now later []
       → Course told rules answers endings.memory start before (lines ++ others) later medium
   course_memory laws lines others now later memory medium handled same = record {
     lines = lines;
     turns = handled.turns;
     gives = handled.gives;
-    ends = inl (record { others = others; next = refl; wrote = subst (Appends before later) (append-nil _) (Appends-trans before now later _ _ handled.wrote same) });
+    ends = inl (record {
+      others = others;
+      next = refl;
+      wrote =
+          subst (Appends before later) (append-nil _) (Appends-trans before now later _ _ handled.wrote same);
+    });
     blamed = handled.goes.blamed;
     disk = rests laws endings.memory tt lines (lines ++ others) handled.turns later memory medium handled.goes;
   }
 
   -- a line outside the grammar is answered, as far as the sink takes the answer
-  pub course_refused : {D : Type 0} (medium : D → Medium) → AppLaws → (ending : Ending) (lines others : List (List ℕ)) (now later : Option (List ℕ)) (memory : Memory) (old new : D)
-      (text : List ℕ) (number : ℕ) → Handled told rules answers start before lines now memory (medium old) → IsBad text → number ≡ length lines + 1
-      → Refuses (bad_line_text number) now later ending → new ≡ old → Course told rules answers (ending_of ending) start before (lines ++ text ∷ others) later (medium new)
+  pub course_refused : {D : Type 0} (medium : D → Medium) → AppLaws
+      → (ending : Ending) (lines others : List (List ℕ)) (now later : Option (List ℕ)) (memory : Memory) (old new : D)
+      (text : List ℕ) (number : ℕ) → Handled told rules answers start before lines now memory (medium old) → IsBad text
+      → number ≡ length lines + 1
+      → Refuses (bad_line_text number) now later ending → new ≡ old
+      → Course told rules answers (ending_of ending) start before (lines ++ text ∷ others) later (medium new)
   course_refused {D} medium laws ending lines others now later memory old new text number handled bad is refuses same =
-      subst (λ (d : D). Course told rules answers (ending_of ending) start before (lines ++ text ∷ others) later (medium d)) (sym same) (go ending refuses)
+      subst (λ (d : D). Course told rules answers (ending_of ending) start before (lines ++ text ∷ others) later
+      (medium d)) (sym same) (go ending refuses)
     where
-      go : (e : Ending) → Refuses (bad_line_text number) now later e → Course told rules answers (ending_of e) start before (lines ++ text ∷ others) later (medium old)
+      go : (e : Ending) → Refuses (bad_line_text number) now later e
+          → Course told rules answers (ending_of e) start before (lines ++ text ∷ others) later (medium old)
       go AllRead r = absurd r
       go EndLine r = absurd r
       go BadLine r = course_bad laws lines others now later memory (medium old) text number handled bad is r
@@ -157,7 +212,8 @@ module _ (told : Bool) (rules : List Rule) (answers : Answers) (start : Medium) 
       go TooLong r = absurd r
 
   -- memory ran out in a command
-  pub course_stopped : (lines others : List (List ℕ)) (now : Option (List ℕ)) (memory : Memory) (old new : Medium) (text : List ℕ) → IsLawful told new → Elapses old new
+  pub course_stopped : (lines others : List (List ℕ)) (now : Option (List ℕ)) (memory : Memory) (old new : Medium)
+      (text : List ℕ) → IsLawful told new → Elapses old new
       → Handled told rules answers start before lines now memory old → IsStopped told rules answers text memory old new
       → Course told rules answers endings.memory start before (lines ++ text ∷ others) now new
   course_stopped lines others now memory old new text lawful time handled s = record {
@@ -168,17 +224,21 @@ module _ (told : Bool) (rules : List Rule) (answers : Answers) (start : Medium) 
     blamed = blamed_later start.faults handled.turns old.faults new.faults time.faults handled.goes.blamed;
     disk = λ tells.
         let g : IsGoing rules answers start handled.turns memory old = handled.goes.disk tells in
-        stops_disk rules answers endings.memory lines (lines ++ text ∷ others) others text handled.turns before now s.event memory g.0 told start old new lawful time tt (λ over. over)
+        stops_disk rules answers endings.memory lines (lines ++ text ∷ others) others text handled.turns before now
+        s.event memory g.0 told start old new lawful time tt (λ over. over)
         handled.wrote refl s.spelled g.2 (s.stopped tells g.0 g.1);
   }
 
   -- memory ran out at a line: in reading it, or in its command
-  pub course_short : {D : Type 0} (medium : D → Medium) → AppLaws → (lines others : List (List ℕ)) (now : Option (List ℕ)) (memory : Memory) (old new : D) (text : List ℕ)
-      → IsLawful told (medium new) → Elapses (medium old) (medium new) → Handled told rules answers start before lines now memory (medium old)
+  pub course_short : {D : Type 0} (medium : D → Medium) → AppLaws
+      → (lines others : List (List ℕ)) (now : Option (List ℕ)) (memory : Memory) (old new : D) (text : List ℕ)
+      → IsLawful told (medium new) → Elapses (medium old) (medium new)
+      → Handled told rules answers start before lines now memory (medium old)
       → (new ≡ old) ⊎ IsStopped told rules answers text memory (medium old) (medium new)
       → Course told rules answers endings.memory start before (lines ++ text ∷ others) now (medium new)
   course_short {D} medium laws lines others now memory old new text lawful time handled (inl same) =
-      subst (λ (d : D). Course told rules answers endings.memory start before (lines ++ text ∷ others) now (medium d)) (sym same)
+      subst (λ (d : D). Course told rules answers endings.memory start before (lines ++ text ∷ others) now (medium d))
+      (sym same)
       (course_memory laws lines (text ∷ others) now now memory (medium old) handled (Appends-nil now))
   course_short {D} medium laws lines others now memory old new text lawful time handled (inr stopped) =
       course_stopped lines others now memory (medium old) (medium new) text lawful time handled stopped
@@ -186,8 +246,10 @@ module _ (told : Bool) (rules : List Rule) (answers : Answers) (start : Medium) 
   -- ---- how a run ends in a reply
 
   -- so many bytes of the reply were written
-  in_reply : (count : ℕ) (lines others : List (List ℕ)) (now later : Option (List ℕ)) (memory : Memory) (medium : Medium) (text : List ℕ) (t : Turn)
-      → (handled : Handled told rules answers start before lines now memory medium) → count < length (reply_text t.reply) → Appends now later (take count (reply_text t.reply))
+  in_reply : (count : ℕ) (lines others : List (List ℕ)) (now later : Option (List ℕ)) (memory : Memory)
+      (medium : Medium) (text : List ℕ) (t : Turn)
+      → (handled : Handled told rules answers start before lines now memory medium)
+      → count < length (reply_text t.reply) → Appends now later (take count (reply_text t.reply))
       → InReply count (lines ++ text ∷ []) (lines ++ text ∷ others) (handled.turns ++ t ∷ []) before later
   in_reply count lines others now later memory medium text t handled short wrote = record {
     others = others;
@@ -199,18 +261,25 @@ module _ (told : Bool) (rules : List Rule) (answers : Answers) (start : Medium) 
     wrote = Appends-trans before now later _ _ handled.wrote wrote;
   }
 
-  pub course_in_reply : AppLaws → (ending : Ending) (lines others : List (List ℕ)) (now later : Option (List ℕ)) (memory after : Memory) (old new : Medium) (text : List ℕ) (reply : Reply)
-      → IsLawful told new → Elapses old new → Handled told rules answers start before lines now memory old → IsAnswered told rules answers text memory after reply old new
-      → Puts {T = Unit {0}} (reply_text reply) now later (Err ending) → Course told rules answers (ending_of ending) start before (lines ++ text ∷ others) later new
-  course_in_reply laws ending lines others now later memory after old new text reply lawful time handled a puts = go ending puts
+  pub course_in_reply : AppLaws → (ending : Ending) (lines others : List (List ℕ)) (now later : Option (List ℕ))
+      (memory after : Memory) (old new : Medium) (text : List ℕ) (reply : Reply)
+      → IsLawful told new → Elapses old new → Handled told rules answers start before lines now memory old
+      → IsAnswered told rules answers text memory after reply old new
+      → Puts {T = Unit {0}} (reply_text reply) now later (Err ending)
+      → Course told rules answers (ending_of ending) start before (lines ++ text ∷ others) later new
+  course_in_reply laws ending lines others now later memory after old new text reply lawful time handled a puts =
+      go ending puts
     where
-      more : (w : World) × Goes told rules answers start (handled.turns ++ turn a.event reply new.faults w ∷ []) after new
-      more = goes_on rules answers start told handled.turns a.event reply memory after old new lawful time handled.goes a.blamed a.stepped
+      more : (w : World) × Goes told rules answers start (handled.turns ++ turn a.event reply new.faults w ∷ []) after
+          new
+      more = goes_on rules answers start told handled.turns a.event reply memory after old new lawful time handled.goes
+          a.blamed a.stepped
 
       t : Turn
       t = turn a.event reply new.faults more.0
 
-      go : (e : Ending) → Puts {T = Unit {0}} (reply_text reply) now later (Err e) → Course told rules answers (ending_of e) start before (lines ++ text ∷ others) later new
+      go : (e : Ending) → Puts {T = Unit {0}} (reply_text reply) now later (Err e)
+          → Course told rules answers (ending_of e) start before (lines ++ text ∷ others) later new
       go AllRead p = absurd p
       go EndLine p = absurd p
       go BadLine p = absurd p
@@ -220,7 +289,8 @@ module _ (told : Bool) (rules : List Rule) (answers : Answers) (start : Medium) 
         gives = give_turn lines handled.turns text t handled.gives a.spelled;
         ends = inr (in_reply 0 lines others now later memory old text t handled (has_end reply) p);
         blamed = more.1.blamed;
-        disk = rests laws endings.memory tt (lines ++ text ∷ []) (lines ++ text ∷ others) (handled.turns ++ t ∷ []) later after new more.1;
+        disk = rests laws endings.memory tt (lines ++ text ∷ []) (lines ++ text ∷ others) (handled.turns ++ t ∷ [])
+            later after new more.1;
       }
       go Source p = absurd p
       go Sink p = record {
@@ -229,13 +299,15 @@ module _ (told : Bool) (rules : List Rule) (answers : Answers) (start : Medium) 
         gives = give_turn lines handled.turns text t handled.gives a.spelled;
         ends = (p.0, inl (in_reply p.0 lines others now later memory old text t handled p.1 p.2));
         blamed = more.1.blamed;
-        disk = rests laws endings.sink tt (lines ++ text ∷ []) (lines ++ text ∷ others) (handled.turns ++ t ∷ []) later after new more.1;
+        disk = rests laws endings.sink tt (lines ++ text ∷ []) (lines ++ text ∷ others) (handled.turns ++ t ∷ []) later
+            after new more.1;
       }
       go TooLong p = absurd p
 
   -- ---- how a run ends behind all lines
 
-  pub course_read : AppLaws → (lines all : List (List ℕ)) (now : Option (List ℕ)) (memory : Memory) (medium : Medium) → Handled told rules answers start before lines now memory medium → all ≡ lines
+  pub course_read : AppLaws → (lines all : List (List ℕ)) (now : Option (List ℕ)) (memory : Memory) (medium : Medium)
+      → Handled told rules answers start before lines now memory medium → all ≡ lines
       → Course told rules answers endings.all_read start before all now medium
   course_read laws lines all now memory medium handled is = record {
     lines = lines;
@@ -246,7 +318,8 @@ module _ (told : Bool) (rules : List Rule) (answers : Answers) (start : Medium) 
     disk = rests laws endings.all_read tt lines all handled.turns now memory medium handled.goes;
   }
 
-  pub course_source : AppLaws → (lines all : List (List ℕ)) (now : Option (List ℕ)) (memory : Memory) (medium : Medium) → Handled told rules answers start before lines now memory medium → all ≡ lines
+  pub course_source : AppLaws → (lines all : List (List ℕ)) (now : Option (List ℕ)) (memory : Memory) (medium : Medium)
+      → Handled told rules answers start before lines now memory medium → all ≡ lines
       → Course told rules answers endings.source start before all now medium
   course_source laws lines all now memory medium handled is = record {
     lines = lines;
@@ -257,7 +330,8 @@ module _ (told : Bool) (rules : List Rule) (answers : Answers) (start : Medium) 
     disk = rests laws endings.source tt lines all handled.turns now memory medium handled.goes;
   }
 
-  pub course_long : AppLaws → (lines all : List (List ℕ)) (now : Option (List ℕ)) (memory : Memory) (medium : Medium) → Handled told rules answers start before lines now memory medium → all ≡ lines
+  pub course_long : AppLaws → (lines all : List (List ℕ)) (now : Option (List ℕ)) (memory : Memory) (medium : Medium)
+      → Handled told rules answers start before lines now memory medium → all ≡ lines
       → Course told rules answers endings.too_long start before all now medium
   course_long laws lines all now memory medium handled is = record {
     lines = lines;
@@ -269,6 +343,9 @@ module _ (told : Bool) (rules : List Rule) (answers : Answers) (start : Medium) 
   }
 
   -- the same lines under another name
-  pub course_along : (ending : endings.Ending) (all same : List (List ℕ)) (now : Option (List ℕ)) (medium : Medium) → same ≡ all
-      → Course told rules answers ending start before all now medium → Course told rules answers ending start before same now medium
-  course_along ending all same now medium is course = subst (λ (l : List (List ℕ)). Course told rules answers ending start before l now medium) (sym is) course
+  pub course_along : (ending : endings.Ending) (all same : List (List ℕ)) (now : Option (List ℕ)) (medium : Medium)
+      → same ≡ all
+      → Course told rules answers ending start before all now medium
+      → Course told rules answers ending start before same now medium
+  course_along ending all same now medium is course = subst
+      (λ (l : List (List ℕ)). Course told rules answers ending start before l now medium) (sym is) course

@@ -1,5 +1,6 @@
 -- Disks that were formatted, and jobs that did not come to their output.
-use Rattle.std.proofs.Common.{ℕ, zero, suc, List, [], ◌∷◌, replicate, ◌≡◌, ◌≤◌, ◌<◌, ◌+◌, ◌⊎◌, inl, inr, refl, sym, ◌∙◌, ap, ap₂, subst, le_trans, arith, Option, None, Bool, IsTrue}
+use Rattle.std.proofs.Common.{ℕ, zero, suc, List, [], ◌∷◌, replicate, ◌≡◌, ◌≤◌, ◌<◌, ◌+◌, ◌⊎◌, inl, inr, refl, sym, ◌∙◌}
+use Rattle.std.proofs.Common.{ap, ap₂, subst, le_trans, arith, Option, None, Bool, IsTrue}
 use Rattle.disk_model.specs.Image.{Image}
 use Rattle.disk_model.specs.Laws.{rose_before}
 use Rattle.disk_model.specs.Medium.{Medium}
@@ -22,18 +23,22 @@ use Rattle.per_run.proofs.Tallied.{length_all}
 
 -- ---- the world of a disk that was formatted
 
-resting_all : (f : ℕ → App) (a : App) (app n : ℕ) → ((i : ℕ) → app ≤ i → i < app + n → f i ≡ a) → all_resting f app n ≡ replicate n (resting a)
+resting_all : (f : ℕ → App) (a : App) (app n : ℕ) → ((i : ℕ) → app ≤ i → i < app + n → f i ≡ a)
+    → all_resting f app n ≡ replicate n (resting a)
 resting_all f a app zero is = refl
-resting_all f a app (suc n) is = ap₂ (λ (x : App) (xs : List Application). resting x ∷ xs) (is app (omega arith) (omega arith))
+resting_all f a app (suc n) is = ap₂ (λ (x : App) (xs : List Application). resting x ∷ xs)
+    (is app (omega arith) (omega arith))
     (resting_all f a (app + 1) n (λ i least most. is i (omega (arith, least)) (omega (arith, most))))
 
 pub is_formatted : (image : Image) → ((app : ℕ) → app < 8 → app_at image app ≡ empty_app 1) → world_at image ≡ formatted
 unfolding world_at
-is_formatted image each = ap (λ (apps : List Application). record formatted { apps = apps }) (resting_all (app_at image) (empty_app 1) 0 8 (λ i least most. each i most))
+is_formatted image each = ap (λ (apps : List Application). record formatted { apps = apps })
+    (resting_all (app_at image) (empty_app 1) 0 8 (λ i least most. each i most))
 
 -- ---- jobs that did not come to their output
 
-pub formats_none : (told : Bool) (status : ℕ) (now : Option (List ℕ)) (new : Medium) → (status ≡ 3) ⊎ (status ≡ 4) → Formats told status now now new
+pub formats_none : (told : Bool) (status : ℕ) (now : Option (List ℕ)) (new : Medium) → (status ≡ 3) ⊎ (status ≡ 4)
+    → Formats told status now now new
 formats_none told status now new is = record {
   output = writes_none status now _ is;
   world = λ tells done. absurd (not_done status is done);
@@ -41,7 +46,8 @@ formats_none told status now new is = record {
   quiet = λ done. absurd (not_done status is done);
 }
 
-pub generates_none : (told : Bool) (rules : List Rule) (answers : Answers) (n status : ℕ) (now : Option (List ℕ)) (old new : Medium) → (status ≡ 3) ⊎ (status ≡ 4) → old.faults ≤ new.faults
+pub generates_none : (told : Bool) (rules : List Rule) (answers : Answers) (n status : ℕ) (now : Option (List ℕ))
+    (old new : Medium) → (status ≡ 3) ⊎ (status ≡ 4) → old.faults ≤ new.faults
     → Generates told rules answers n status now now old new
 generates_none told rules answers n status now old new is later = record {
   turns = [];
@@ -55,9 +61,16 @@ generates_none told rules answers n status now old new is later = record {
 -- ---- a made input that was handled
 
 -- causes since a later moment are causes since an earlier one
-blamed_before : (before after : ℕ) (ts : List Turn) (now : ℕ) → before ≤ after → AreBlamed after ts now → AreBlamed before ts now
+blamed_before : (before after : ℕ) (ts : List Turn) (now : ℕ) → before ≤ after → AreBlamed after ts now
+    → AreBlamed before ts now
 blamed_before before after [] now le blamed = le_trans le blamed
-blamed_before before after (t ∷ ts) now le blamed = ((le_trans le blamed.0.0, λ failed. rose_before before after t.faults le (blamed.0.1 failed)), blamed.1)
+blamed_before before after (t ∷ ts) now le blamed = (
+  (
+    le_trans le blamed.0.0,
+    λ failed. rose_before before after t.faults le (blamed.0.1 failed),
+  ),
+  blamed.1,
+)
 
 begins_calm : (image : Image) → (started (world_at image)).doubt ≡ None
 unfolding world_at
@@ -66,7 +79,8 @@ begins_calm image = refl
 start_formatted : started formatted ≡ formatted
 start_formatted = refl
 
-pub counted_none : (told : Bool) (rules : List Rule) (answers : Answers) (memory : Memory) (tally : Tally) (old middle new : Medium) → IsBegun told memory old middle new → Tallies [] tally
+pub counted_none : (told : Bool) (rules : List Rule) (answers : Answers) (memory : Memory) (tally : Tally)
+    (old middle new : Medium) → IsBegun told memory old middle new → Tallies [] tally
     → Counted told rules answers middle [] memory tally new
 counted_none told rules answers memory tally old middle new begun none = record {
   turns = [];
@@ -76,16 +90,20 @@ counted_none told rules answers memory tally old middle new begun none = record 
   tallies = none;
 }
 
-follow_from : (rules : List Rule) (answers : Answers) (w v : World) (ts : List Turn) → w ≡ v → Follow rules answers w ts → Follow rules answers v ts
+follow_from : (rules : List Rule) (answers : Answers) (w v : World) (ts : List Turn) → w ≡ v → Follow rules answers w ts
+    → Follow rules answers v ts
 follow_from rules answers w v ts is follow = subst (λ (x : World). Follow rules answers x ts) is follow
 
-pub generates_all : (told : Bool) (rules : List Rule) (answers : Answers) (n status : ℕ) (before now : Option (List ℕ)) (memory after : Memory) (tally : Tally) (old middle begun new : Medium)
+pub generates_all : (told : Bool) (rules : List Rule) (answers : Answers) (n status : ℕ) (before now : Option (List ℕ))
+    (memory after : Memory) (tally : Tally) (old middle begun new : Medium)
     → IsBegun told memory old middle begun → (counted : Counted told rules answers middle (generated n) after tally new)
-    → Writes status before now (summary (n + 5) (replies_of counted.turns)) → Generates told rules answers n status before now old new
+    → Writes status before now (summary (n + 5) (replies_of counted.turns))
+    → Generates told rules answers n status before now old new
 generates_all told rules answers n status before now memory after tally old middle begun new b counted writes = record {
   turns = counted.turns;
   gives = λ done. counted.gives;
-  output = subst (λ (k : ℕ). Writes status before now (summary k (replies_of counted.turns))) (sym (length_all n)) writes;
+  output = subst (λ (k : ℕ). Writes status before now (summary k (replies_of counted.turns))) (sym (length_all n))
+      writes;
   blamed = blamed_before old.faults middle.faults counted.turns new.faults b.earlier counted.goes.blamed;
   follow = λ tells.
       let g : IsGoing rules answers middle counted.turns after new = counted.goes.disk tells in
@@ -93,7 +111,8 @@ generates_all told rules answers n status before now memory after tally old midd
   settled = λ tells done.
       let g : IsGoing rules answers middle counted.turns after new = counted.goes.disk tells in
       subst (λ (w : World). IsSettled (last_of w (worlds_of counted.turns)) new) (here tells)
-      (ends_settled rules answers (world_at middle.image) (started (world_at middle.image)) (begins_calm middle.image) counted.turns after g.0 middle new g.2);
+      (ends_settled rules answers (world_at middle.image) (started (world_at middle.image)) (begins_calm middle.image)
+      counted.turns after g.0 middle new g.2);
 }
   where
     here : IsTrue told → started (world_at middle.image) ≡ formatted

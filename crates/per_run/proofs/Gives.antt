@@ -1,5 +1,6 @@
 -- Lines and their commands: one more line, one more command, and a line of which only a front is kept.
-use Rattle.std.proofs.Common.{ℕ, List, [], ◌∷◌, ◌++◌, length, take, ◌≡◌, ◌<◌, inl, inr, refl, sym, ◌∙◌, ap, subst, arith, append_assoc, append-nil, length-append, ◌+◌, codes}
+use Rattle.std.proofs.Common.{ℕ, List, [], ◌∷◌, ◌++◌, length, take, ◌≡◌, ◌<◌, inl, inr, refl, sym, ◌∙◌, ap, subst}
+use Rattle.std.proofs.Common.{arith, append_assoc, append-nil, length-append, ◌+◌, codes}
 use Rattle.std.specs.List.{flat_map}
 use Rattle.std.proofs.lemmas.List.{take_all, length-take}
 use Rattle.command_text.specs.declared.calls.Event.{Event}
@@ -13,17 +14,31 @@ use Rattle.run_model.specs.Turns.{Turn, events_of, replies_of, text_of}
 
 -- ---- one more line
 
-pub give_nothing : (lines : List (List ℕ)) (events : List Event) (text : List ℕ) → Give lines events → IsLine text line.Nothing → Give (lines ++ text ∷ []) events
+pub give_nothing : (lines : List (List ℕ)) (events : List Event) (text : List ℕ) → Give lines events
+    → IsLine text line.Nothing → Give (lines ++ text ∷ []) events
 give_nothing [] events text gives is = inl (is, gives)
 give_nothing (l ∷ ls) events text (inl nothing) is = inl (nothing.0, give_nothing ls events text nothing.1 is)
-give_nothing (l ∷ ls) events text (inr next) is = inr (next.0, next.1, next.2, next.3, give_nothing ls next.1 text next.4 is)
+give_nothing (l ∷ ls) events text (inr next) is = inr (
+  next.0,
+  next.1,
+  next.2,
+  next.3,
+  give_nothing ls next.1 text next.4 is,
+)
 
-pub give_event : (lines : List (List ℕ)) (events : List Event) (text : List ℕ) (e : Event) → Give lines events → IsLine text (line.Event e)
+pub give_event : (lines : List (List ℕ)) (events : List Event) (text : List ℕ) (e : Event) → Give lines events
+    → IsLine text (line.Event e)
     → Give (lines ++ text ∷ []) (events ++ e ∷ [])
 give_event [] events text e gives is = inr (e, [], is, ap (λ (es : List Event). es ++ e ∷ []) gives, refl)
 give_event (l ∷ ls) events text e (inl nothing) is = inl (nothing.0, give_event ls events text e nothing.1 is)
 give_event (l ∷ ls) events text e (inr next) is =
-    inr (next.0, next.1 ++ e ∷ [], next.2, ap (λ (es : List Event). es ++ e ∷ []) next.3, give_event ls next.1 text e next.4 is)
+    inr (
+      next.0,
+      next.1 ++ e ∷ [],
+      next.2,
+      ap (λ (es : List Event). es ++ e ∷ []) next.3,
+      give_event ls next.1 text e next.4 is,
+    )
 
 -- ---- one more turn
 
@@ -37,12 +52,15 @@ replies_on (u ∷ us) t = ap (λ (rs : List Reply). u.reply ∷ rs) (replies_on 
 
 pub text_on : (turns : List Turn) (t : Turn) → text_of (turns ++ t ∷ []) ≡ text_of turns ++ reply_text t.reply
 text_on [] t = append-nil (reply_text t.reply)
-text_on (u ∷ us) t = ap (λ (l : List ℕ). reply_text u.reply ++ l) (text_on us t) ∙ sym (append_assoc (reply_text u.reply) (text_of us) (reply_text t.reply))
+text_on (u ∷ us) t = ap (λ (l : List ℕ). reply_text u.reply ++ l) (text_on us t)
+    ∙ sym (append_assoc (reply_text u.reply) (text_of us) (reply_text t.reply))
 
-pub give_turn : (lines : List (List ℕ)) (turns : List Turn) (text : List ℕ) (t : Turn) → Give lines (events_of turns) → IsLine text (line.Event t.event)
+pub give_turn : (lines : List (List ℕ)) (turns : List Turn) (text : List ℕ) (t : Turn) → Give lines (events_of turns)
+    → IsLine text (line.Event t.event)
     → Give (lines ++ text ∷ []) (events_of (turns ++ t ∷ []))
 give_turn lines turns text t gives is =
-    subst (λ (es : List Event). Give (lines ++ text ∷ []) es) (sym (events_on turns t)) (give_event lines (events_of turns) text t.event gives is)
+    subst (λ (es : List Event). Give (lines ++ text ∷ []) es) (sym (events_on turns t))
+    (give_event lines (events_of turns) text t.event gives is)
 
 -- ---- a line of which only a front is kept
 
@@ -69,6 +87,7 @@ front_bad text whole front bad = bad_whole whole (subst IsBad front bad)
 -- the text of a reply ends with a line feed
 pub has_end : (reply : Reply) → 0 < length (reply_text reply)
 has_end reply =
-    let split : length (reply_text reply) ≡ length (flat_map report_line reply.reports ++ answer_text reply.answer) + 1 =
+    let split : length (reply_text reply) ≡ length (flat_map report_line reply.reports ++ answer_text reply.answer)
+    + 1 =
     length-append (flat_map report_line reply.reports ++ answer_text reply.answer) (codes "\n") in
     omega (arith, split)

@@ -16,16 +16,25 @@ turn e reply faults w = record { event = e; reply = reply; faults = faults; worl
 
 module _ (rules : List Rule) (answers : Answers) (start : Medium) where
   -- the doubt after a command whose disk tells its bytes
-  told_on : (turns : List Turn) (e : Event) (reply : Reply) (before after : Memory) (now new : Medium) → IsLawful true new → Elapses now new
-      → (g : IsGoing rules answers start turns before now) → (s : Stepped rules answers e reply before after g.0 now new)
-      → IsGoing rules answers start (turns ++ turn e reply new.faults (world_of new.image after s.doubt') ∷ []) after new
-  told_on turns e reply before after now new lawful time g s =
-      (s.doubt', s.is_doubt, steps_going rules answers turns e reply before after g.0 true start now new refl lawful time g.2 s)
+  told_on : (turns : List Turn) (e : Event) (reply : Reply) (before after : Memory) (now new : Medium)
+      → IsLawful true new → Elapses now new
+      → (g : IsGoing rules answers start turns before now)
+      → (s : Stepped rules answers e reply before after g.0 now new)
+      → IsGoing rules answers start (turns ++ turn e reply new.faults (world_of new.image after s.doubt') ∷ []) after
+      new
+  told_on turns e reply before after now new lawful time g s = (
+    s.doubt',
+    s.is_doubt,
+    steps_going rules answers turns e reply before after g.0 true start now new refl lawful
+        time g.2 s,
+  )
 
   -- one command more
-  pub goes_on : (told : Bool) (turns : List Turn) (e : Event) (reply : Reply) (before after : Memory) (now new : Medium) → IsLawful told new → Elapses now new
+  pub goes_on : (told : Bool) (turns : List Turn) (e : Event) (reply : Reply) (before after : Memory) (now new : Medium)
+      → IsLawful told new → Elapses now new
       → Goes told rules answers start turns before now → IsBlamed now.faults new.faults reply
-      → (IsTrue told → (doubt : Option Doubt) → IsDoubt before doubt → Stepped rules answers e reply before after doubt now new)
+      → (IsTrue told → (doubt : Option Doubt) → IsDoubt before doubt
+      → Stepped rules answers e reply before after doubt now new)
       → (w : World) × Goes told rules answers start (turns ++ turn e reply new.faults w ∷ []) after new
   goes_on false turns e reply before after now new lawful time goes blamed stepped = (
     formatted,
@@ -46,9 +55,11 @@ module _ (rules : List Rule) (answers : Answers) (start : Medium) where
       )
 
 -- a runtime that started is a run without a command
-pub goes_none : (told : Bool) (rules : List Rule) (answers : Answers) (memory : Memory) (old new : Medium) → Elapses old new → (IsTrue told → Starts memory old new)
+pub goes_none : (told : Bool) (rules : List Rule) (answers : Answers) (memory : Memory) (old new : Medium)
+    → Elapses old new → (IsTrue told → Starts memory old new)
     → Goes told rules answers old [] memory new
 goes_none told rules answers memory old new time starts = record {
   blamed = time.faults;
-  disk = λ tells. let s : Starts memory old new = starts tells in (None, sym s.sure, starts_going rules answers memory old new time s);
+  disk = λ tells. let s : Starts memory old new = starts tells in
+      (None, sym s.sure, starts_going rules answers memory old new time s);
 }

@@ -1,5 +1,6 @@
 -- The input as a whole: what was taken of it, and what came of it.
-use Rattle.std.proofs.Common.{ℕ, List, [], ◌++◌, length, take, ◌≡◌, ◌≤◌, ◌<◌, ◌+◌, ◌^◌, ◌⊎◌, inl, inr, refl, ◌∙◌, ap, subst, arith, Option, Bool, true, false, append-nil, length-append}
+use Rattle.std.proofs.Common.{ℕ, List, [], ◌++◌, length, take, ◌≡◌, ◌≤◌, ◌<◌, ◌+◌, ◌^◌, ◌⊎◌, inl, inr, refl, ◌∙◌, ap}
+use Rattle.std.proofs.Common.{subst, arith, Option, Bool, true, false, append-nil, length-append}
 use Rattle.std.proofs.KnownBytes.{Consumes-trans, Consumes-kept, Consumes-nil, Appends-nil}
 use Rattle.std.proofs.lemmas.List.{length-take-le}
 use Rattle.std.specs.Io.KnownBytes.{Consumes, IsAtEnd, Keeps}
@@ -10,7 +11,8 @@ use Rattle.run_model.specs.Endings.{IsInput}
 use Rattle.run_model.specs.Lines.{lines_of}
 use Rattle.run_model.specs.Runtimes.{Memory}
 use Rattle.per_run.specs.declared.endings.Ending.{Ending}
-use Rattle.per_run.specs.declared.endings.Ending.TheVariants.{AllRead, EndLine, BadLine, OutOfMemory, Source, Sink, TooLong}
+use Rattle.per_run.specs.declared.endings.Ending.TheVariants.{AllRead, EndLine, BadLine, OutOfMemory, Source, Sink}
+use Rattle.per_run.specs.declared.endings.Ending.TheVariants.{TooLong}
 use Rattle.per_run.specs.Steps.{Course, Handled, IsBroken, Ran, Reached, ending_of}
 use Rattle.per_run.proofs.Courses.{course_source, course_long, course_memory}
 use Rattle.per_run.proofs.Splits.{lines_whole}
@@ -21,7 +23,8 @@ source_apart is = cc
 long_apart : TooLong ≡ AllRead → ⊥
 long_apart is = cc
 
-input_true : (ending : Ending) (count : ℕ) → (ending ≡ AllRead) ⊎ IsBroken ending → IsInput (ending_of ending) true count
+input_true : (ending : Ending) (count : ℕ) → (ending ≡ AllRead) ⊎ IsBroken ending
+    → IsInput (ending_of ending) true count
 input_true AllRead count inner = refl
 input_true EndLine count inner = tt
 input_true BadLine count inner = tt
@@ -48,28 +51,43 @@ pub not_seen : {P : Type 0} → false ≡ true → P
 not_seen is = absurd (unseen is)
 
 -- so many bytes were taken and handled
-pub record Taken (told : Bool) (rules : List Rule) (answers : Answers) (start : Medium) (left_before left_now before now : Option (List ℕ)) (memory : Memory) (medium : Medium)
+pub record Taken (told : Bool) (rules : List Rule) (answers : Answers) (start : Medium)
+    (left_before left_now before now : Option (List ℕ)) (memory : Memory) (medium : Medium)
     (kept : List ℕ) (number taken : ℕ) : Type 0 where
   pub given : List ℕ
   pub takes : Consumes left_before left_now given
   pub count_is : length given ≡ taken
   pub reached : Reached told rules answers start before given now memory medium kept number
 
-module _ (told : Bool) (rules : List Rule) (answers : Answers) (start : Medium) (left_before : Option (List ℕ)) (before : Option (List ℕ)) where
-  pub taken_none : (now : Option (List ℕ)) (memory : Memory) (medium : Medium) (kept : List ℕ) (number : ℕ) → Reached told rules answers start before [] now memory medium kept number
+module _ (told : Bool) (rules : List Rule) (answers : Answers) (start : Medium) (left_before : Option (List ℕ))
+    (before : Option (List ℕ)) where
+  pub taken_none : (now : Option (List ℕ)) (memory : Memory) (medium : Medium) (kept : List ℕ) (number : ℕ)
+      → Reached told rules answers start before [] now memory medium kept number
       → Taken told rules answers start left_before left_before before now memory medium kept number 0
-  taken_none now memory medium kept number reached = record { given = []; takes = Consumes-nil left_before; count_is = refl; reached = reached }
+  taken_none now memory medium kept number reached = record {
+    given = [];
+    takes = Consumes-nil left_before;
+    count_is =
+        refl;
+    reached = reached;
+  }
 
-  pub taken_more : (left_now left_later now later : Option (List ℕ)) (memory after : Memory) (old new : Medium) (kept kept_later : List ℕ) (number number_later taken count : ℕ) (buffer : List ℕ)
-      → Taken told rules answers start left_before left_now before now memory old kept number taken → taken ≤ 67108864 → count ≤ length buffer → taken + count ≤ 67108864
+  pub taken_more : (left_now left_later now later : Option (List ℕ)) (memory after : Memory) (old new : Medium)
+      (kept kept_later : List ℕ) (number number_later taken count : ℕ) (buffer : List ℕ)
+      → Taken told rules answers start left_before left_now before now memory old kept number taken → taken ≤ 67108864
+      → count ≤ length buffer → taken + count ≤ 67108864
       → Consumes left_now left_later (take count buffer)
-      → ((given : List ℕ) → length (given ++ take count buffer) < 2 ^ 63 → Reached told rules answers start before given now memory old kept number
+      → ((given : List ℕ) → length (given ++ take count buffer) < 2 ^ 63
+      → Reached told rules answers start before given now memory old kept number
       → Reached told rules answers start before (given ++ take count buffer) later after new kept_later number_later)
-      → Taken told rules answers start left_before left_later before later after new kept_later number_later (taken + count)
-  taken_more left_now left_later now later memory after old new kept kept_later number number_later taken count buffer so_far within fits limit takes goes_on =
+      → Taken told rules answers start left_before left_later before later after new kept_later number_later
+      (taken + count)
+  taken_more left_now left_later now later memory after old new kept kept_later number number_later taken count buffer
+      so_far within fits limit takes goes_on =
       let piece : length (take count buffer) ≡ count = length-take-le count buffer fits in
       let whole : length (so_far.given ++ take count buffer) ≡ taken + count =
-      length-append so_far.given (take count buffer) ∙ ap (λ (n : ℕ). n + length (take count buffer)) so_far.count_is ∙ ap (λ (n : ℕ). taken + n) piece in
+      length-append so_far.given (take count buffer) ∙ ap (λ (n : ℕ). n + length (take count buffer)) so_far.count_is
+      ∙ ap (λ (n : ℕ). taken + n) piece in
       record {
         given = so_far.given ++ take count buffer;
         takes = Consumes-trans left_before left_now left_later _ _ so_far.takes takes;
@@ -78,17 +96,23 @@ module _ (told : Bool) (rules : List Rule) (answers : Answers) (start : Medium) 
       }
 
   -- the end of the input was seen
-  pub ran_read : (ending : Ending) (left_now left_later now later : Option (List ℕ)) (memory : Memory) (old new : Medium) (kept : List ℕ) (number taken count : ℕ) (buffer : List ℕ)
-      → Taken told rules answers start left_before left_now before now memory old kept number taken → taken < 67108864 → count ≡ 0 → Consumes left_now left_later (take count buffer)
+  pub ran_read : (ending : Ending) (left_now left_later now later : Option (List ℕ)) (memory : Memory)
+      (old new : Medium) (kept : List ℕ) (number taken count : ℕ) (buffer : List ℕ)
+      → Taken told rules answers start left_before left_now before now memory old kept number taken → taken < 67108864
+      → count ≡ 0 → Consumes left_now left_later (take count buffer)
       → IsAtEnd left_later → (ending ≡ AllRead) ⊎ IsBroken ending
-      → ((given : List ℕ) → length given < 2 ^ 63 → Reached told rules answers start before given now memory old kept number
+      → ((given : List ℕ) → length given < 2 ^ 63 → Reached told rules answers start before given now memory old kept
+      number
       → Course told rules answers (ending_of ending) start before (lines_of true given) later new)
       → Ran told rules answers ending start left_before left_later before later new
-  ran_read ending left_now left_later now later memory old new kept number taken count buffer so_far within none takes at_end inner ends =
-      let nothing : Consumes left_now left_later [] = subst (λ (n : ℕ). Consumes left_now left_later (take n buffer)) none takes in
+  ran_read ending left_now left_later now later memory old new kept number taken count buffer so_far within none takes
+      at_end inner ends =
+      let nothing : Consumes left_now left_later [] = subst (λ (n : ℕ). Consumes left_now left_later (take n buffer))
+      none takes in
       record {
         given = so_far.given;
-        taken = subst (Consumes left_before left_later) (append-nil so_far.given) (Consumes-trans left_before left_now left_later _ _ so_far.takes nothing);
+        taken = subst (Consumes left_before left_later) (append-nil so_far.given)
+            (Consumes-trans left_before left_now left_later _ _ so_far.takes nothing);
         bound = omega (arith, so_far.count_is, within);
         ended = true;
         end_seen = λ _. (at_end, omega (arith, so_far.count_is, within));
@@ -97,16 +121,22 @@ module _ (told : Bool) (rules : List Rule) (answers : Answers) (start : Medium) 
       }
 
   -- a piece of the input ended the run
-  pub ran_fed : (ending : Ending) (left_now left_later now later : Option (List ℕ)) (memory : Memory) (old new : Medium) (kept : List ℕ) (number taken count : ℕ) (buffer : List ℕ)
-      → Taken told rules answers start left_before left_now before now memory old kept number taken → taken ≤ 67108864 → count ≤ length buffer → taken + count ≤ 67108864
+  pub ran_fed : (ending : Ending) (left_now left_later now later : Option (List ℕ)) (memory : Memory) (old new : Medium)
+      (kept : List ℕ) (number taken count : ℕ) (buffer : List ℕ)
+      → Taken told rules answers start left_before left_now before now memory old kept number taken → taken ≤ 67108864
+      → count ≤ length buffer → taken + count ≤ 67108864
       → Consumes left_now left_later (take count buffer) → IsBroken ending
-      → ((given : List ℕ) → length (given ++ take count buffer) < 2 ^ 63 → Reached told rules answers start before given now memory old kept number
-      → Course told rules answers (ending_of ending) start before (lines_of false (given ++ take count buffer)) later new)
+      → ((given : List ℕ) → length (given ++ take count buffer) < 2 ^ 63
+      → Reached told rules answers start before given now memory old kept number
+      → Course told rules answers (ending_of ending) start before (lines_of false (given ++ take count buffer)) later
+      new)
       → Ran told rules answers ending start left_before left_later before later new
-  ran_fed ending left_now left_later now later memory old new kept number taken count buffer so_far within fits limit takes broken ends =
+  ran_fed ending left_now left_later now later memory old new kept number taken count buffer so_far within fits limit
+      takes broken ends =
       let piece : length (take count buffer) ≡ count = length-take-le count buffer fits in
       let whole : length (so_far.given ++ take count buffer) ≡ taken + count =
-      length-append so_far.given (take count buffer) ∙ ap (λ (n : ℕ). n + length (take count buffer)) so_far.count_is ∙ ap (λ (n : ℕ). taken + n) piece in
+      length-append so_far.given (take count buffer) ∙ ap (λ (n : ℕ). n + length (take count buffer)) so_far.count_is
+      ∙ ap (λ (n : ℕ). taken + n) piece in
       record {
         given = so_far.given ++ take count buffer;
         taken = Consumes-trans left_before left_now left_later _ _ so_far.takes takes;
@@ -118,13 +148,18 @@ module _ (told : Bool) (rules : List Rule) (answers : Answers) (start : Medium) 
       }
 
   -- all whole lines of what was taken are handled
-  whole_lines : (given : List ℕ) (now : Option (List ℕ)) (memory : Memory) (medium : Medium) (kept : List ℕ) (number : ℕ)
-      → (reached : Reached told rules answers start before given now memory medium kept number) → lines_of false given ≡ reached.lines
-  whole_lines given now memory medium kept number reached = ap (lines_of false) reached.split ∙ lines_whole reached.lines reached.rest reached.clean reached.clean_rest
+  whole_lines : (given : List ℕ) (now : Option (List ℕ)) (memory : Memory) (medium : Medium) (kept : List ℕ)
+      (number : ℕ)
+      → (reached : Reached told rules answers start before given now memory medium kept number)
+      → lines_of false given ≡ reached.lines
+  whole_lines given now memory medium kept number reached =
+      ap (lines_of false) reached.split ∙ lines_whole reached.lines reached.rest reached.clean reached.clean_rest
 
   -- the source failed
-  pub ran_source : AppLaws → (left_now left_later now : Option (List ℕ)) (memory : Memory) (medium : Medium) (kept : List ℕ) (number taken : ℕ)
-      → Taken told rules answers start left_before left_now before now memory medium kept number taken → taken < 67108864 → Keeps left_now left_later
+  pub ran_source : AppLaws → (left_now left_later now : Option (List ℕ)) (memory : Memory) (medium : Medium)
+      (kept : List ℕ) (number taken : ℕ)
+      → Taken told rules answers start left_before left_now before now memory medium kept number taken
+      → taken < 67108864 → Keeps left_now left_later
       → Ran told rules answers Source start left_before left_later before now medium
   ran_source laws left_now left_later now memory medium kept number taken so_far within keeps = record {
     given = so_far.given;
@@ -133,13 +168,16 @@ module _ (told : Bool) (rules : List Rule) (answers : Answers) (start : Medium) 
     ended = false;
     end_seen = not_seen;
     input = (refl, omega (arith, so_far.count_is, within));
-    course = course_source told rules answers start before laws so_far.reached.lines _ now memory medium so_far.reached.handled
+    course = course_source told rules answers start before laws so_far.reached.lines _ now memory medium
+        so_far.reached.handled
         (whole_lines so_far.given now memory medium kept number so_far.reached);
   }
 
   -- the limit was reached
-  pub ran_long : AppLaws → (left_now now : Option (List ℕ)) (memory : Memory) (medium : Medium) (kept : List ℕ) (number taken : ℕ)
-      → Taken told rules answers start left_before left_now before now memory medium kept number taken → taken ≤ 67108864 → 67108864 ≤ taken
+  pub ran_long : AppLaws → (left_now now : Option (List ℕ)) (memory : Memory) (medium : Medium) (kept : List ℕ)
+      (number taken : ℕ)
+      → Taken told rules answers start left_before left_now before now memory medium kept number taken
+      → taken ≤ 67108864 → 67108864 ≤ taken
       → Ran told rules answers TooLong start left_before left_now before now medium
   ran_long laws left_now now memory medium kept number taken so_far within least = record {
     given = so_far.given;
@@ -148,12 +186,14 @@ module _ (told : Bool) (rules : List Rule) (answers : Answers) (start : Medium) 
     ended = false;
     end_seen = not_seen;
     input = (refl, omega (arith, so_far.count_is, within, least));
-    course = course_long told rules answers start before laws so_far.reached.lines _ now memory medium so_far.reached.handled
+    course = course_long told rules answers start before laws so_far.reached.lines _ now memory medium
+        so_far.reached.handled
         (whole_lines so_far.given now memory medium kept number so_far.reached);
   }
 
   -- memory ran out before anything was taken
-  pub ran_memory : AppLaws → (now : Option (List ℕ)) (memory : Memory) (medium : Medium) → Handled told rules answers start before [] now memory medium
+  pub ran_memory : AppLaws → (now : Option (List ℕ)) (memory : Memory) (medium : Medium)
+      → Handled told rules answers start before [] now memory medium
       → Ran told rules answers OutOfMemory start left_before left_before before now medium
   ran_memory laws now memory medium handled = record {
     given = [];

@@ -1,5 +1,7 @@
 -- What the matches of the words say, and that the words have matches.
-use Rattle.std.proofs.Common.{ℕ, List, [], ◌∷◌, length, Bool, true, false, Option, Some, None, Result, Ok, Err, IfOk, IsErrAnd, ◌∙◌, ◌≡◌, ◌≢◌, ◌⊎◌, ◌≤◌, ◌<◌, ◌^◌, ◌==◌, refl, sym, ap, subst, arith, inl, inr, ⊎_elim, if◌then◌else◌}
+use Rattle.std.proofs.Common.{ℕ, List, [], ◌∷◌, length, Bool, true, false, Option, Some, None, Result, Ok, Err, IfOk}
+use Rattle.std.proofs.Common.{IsErrAnd, ◌∙◌, ◌≡◌, ◌≢◌, ◌⊎◌, ◌≤◌, ◌<◌, ◌^◌, ◌==◌, refl, sym, ap, subst, arith, inl, inr}
+use Rattle.std.proofs.Common.{⊎_elim, if◌then◌else◌}
 use Rattle.std.proofs.lemmas.Bool.{cases_Bool, ne_eqb}
 use Rattle.std.specs.Str.Parse.{IsNumeral, digits_value, without_leading_plus}
 use Rattle.clap.proofs.OnLiterals.{clap_on_literals}
@@ -31,7 +33,8 @@ is_free_one = refl
 
 -- ---- the job of the words is that of their matches
 
-by_matches : (rows : List Row) (ws : List (List ℕ)) (b : Bool) → rows ≡ matches_of command ws → b ≡ true → (if b then job_in (matches_of command ws) else None) ≡ job_in rows
+by_matches : (rows : List Row) (ws : List (List ℕ)) (b : Bool) → rows ≡ matches_of command ws → b ≡ true
+    → (if b then job_in (matches_of command ws) else None) ≡ job_in rows
 by_matches rows ws true same yes_is = ap job_in (sym same)
 by_matches rows ws false same yes_is = let bad : false ≡ true = yes_is in cc
 
@@ -39,12 +42,15 @@ none_left : (kinds : Kinds) → kinds ≡ [] → (length kinds == 0) ≡ true
 none_left [] is = refl
 none_left (k ∷ kinds) is = cc
 
-pub job_says : {Sub : Type 0} (app : App) (rows : List Row) (ws : List (List ℕ)) → app ≡ command → (is_simple app ≡ true → (rows ≡ matches_of app ws) × Sub)
+pub job_says : {Sub : Type 0} (app : App) (rows : List Row) (ws : List (List ℕ)) → app ≡ command
+    → (is_simple app ≡ true → (rows ≡ matches_of app ws) × Sub)
     → (is_simple_and_free app ≡ true → fault_of app ws ≡ []) → job_of ws ≡ job_in rows
 unfolding job_of
 job_says {Sub} app rows ws is matches faults =
-    let here : (is_simple command ≡ true → (rows ≡ matches_of command ws) × Sub) = subst (λ (a : App). is_simple a ≡ true → (rows ≡ matches_of a ws) × Sub) is matches in
-    let fine : (is_simple_and_free command ≡ true → fault_of command ws ≡ []) = subst (λ (a : App). is_simple_and_free a ≡ true → fault_of a ws ≡ []) is faults in
+    let here : (is_simple command ≡ true → (rows ≡ matches_of command ws) × Sub) =
+    subst (λ (a : App). is_simple a ≡ true → (rows ≡ matches_of a ws) × Sub) is matches in
+    let fine : (is_simple_and_free command ≡ true → fault_of command ws ≡ []) =
+    subst (λ (a : App). is_simple_and_free a ≡ true → fault_of a ws ≡ []) is faults in
     by_matches rows ws (has_matches ws) (here is_simple_one).0 (none_left (fault_of command ws) (fine is_free_one))
 
 -- ---- and there is none where they have no matches
@@ -57,25 +63,34 @@ no_job : (ws : List (List ℕ)) (b : Bool) → b ≡ false → (if b then job_in
 no_job ws true none = let bad : true ≡ false = none in cc
 no_job ws false none = refl
 
-pub job_none : (app : App) (ws : List (List ℕ)) (k memory : ErrorKind) → app ≡ command → (is_simple_and_free app ≡ true → (k ≡ memory) ⊎ IsAmong k (fault_of app ws)) → k ≢ memory → job_of ws ≡ None
+pub job_none : (app : App) (ws : List (List ℕ)) (k memory : ErrorKind) → app ≡ command
+    → (is_simple_and_free app ≡ true → (k ≡ memory) ⊎ IsAmong k (fault_of app ws)) → k ≢ memory → job_of ws ≡ None
 unfolding job_of
 job_none app ws k memory is fails other =
     let here : (is_simple_and_free command ≡ true → (k ≡ memory) ⊎ IsAmong k (fault_of command ws)) =
     subst (λ (a : App). is_simple_and_free a ≡ true → (k ≡ memory) ⊎ IsAmong k (fault_of a ws)) is fails in
-    no_job ws (has_matches ws) (⊎_elim (λ same. absurd (other same)) (λ among. some_left (fault_of command ws) k among) (here is_free_one))
+    no_job ws (has_matches ws) (⊎_elim (λ same. absurd (other same)) (λ among. some_left (fault_of command ws) k among)
+    (here is_free_one))
 
 -- ---- numbers
 
 -- a number that was read and is in the range
-pub number_says : (least most : ℕ) (text : List ℕ) (n : ℕ) → n ≡ digits_value 10 (without_leading_plus text) → IsNumeral 10 (without_leading_plus text)
+pub number_says : (least most : ℕ) (text : List ℕ) (n : ℕ) → n ≡ digits_value 10 (without_leading_plus text)
+    → IsNumeral 10 (without_leading_plus text)
     → digits_value 10 (without_leading_plus text) < 2 ^ 32 → least ≤ n → n ≤ most → number_in least most text ≡ Some n
 number_says least most text n is numeral small above below =
     let yes_is : is_unsigned_in least most text ≡ true =
-    Accepts-accepts false (vp.Unsigned least most) text (numeral, omega (arith, small), omega (arith, is, above), omega (arith, is, below)) in
+    Accepts-accepts false (vp.Unsigned least most) text (
+      numeral,
+      omega (arith, small),
+      omega (arith, is, above),
+      omega (arith, is, below),
+    ) in
     rw (yes_is, sym is) refl
 
 -- a text that is no number
-pub number_none : (least most : ℕ) (text : List ℕ) → most < 2 ^ 32 → (IsNumeral 10 (without_leading_plus text) × (digits_value 10 (without_leading_plus text) < 2 ^ 32) → ⊥)
+pub number_none : (least most : ℕ) (text : List ℕ) → most < 2 ^ 32
+    → (IsNumeral 10 (without_leading_plus text) × (digits_value 10 (without_leading_plus text) < 2 ^ 32) → ⊥)
     → number_in least most text ≡ None
 number_none least most text small none = ⊎_elim
     (λ (yes_is : is_unsigned_in least most text ≡ true).
@@ -85,7 +100,8 @@ number_none least most text small none = ⊎_elim
     (cases_Bool (is_unsigned_in least most text))
 
 -- what was read, by other names for what is said
-pub reads_as : {T : Type 0} (result : Result T WordsError) (said same : Option T) → said ≡ same → Reads result said → Reads result same
+pub reads_as : {T : Type 0} (result : Result T WordsError) (said same : Option T) → said ≡ same → Reads result said
+    → Reads result same
 reads_as result said same is reads = subst (Reads result) is reads
 
 -- ---- the parts of a job
@@ -93,45 +109,60 @@ reads_as result said same is reads = subst (Reads result) is reads
 abbrev pub job_from : Option JobKind → Option (Option ℕ) → Option (List ℕ) → Option Job
 job_from kind flash dir = kind >>= λ k. flash >>= λ f. dir >>= λ d. Some (record { dir = d; kind = k; flash = f })
 
-no_flash : (kind : Option JobKind) (flash : Option (Option ℕ)) (dir : Option (List ℕ)) → flash ≡ None → job_from kind flash dir ≡ None
+no_flash : (kind : Option JobKind) (flash : Option (Option ℕ)) (dir : Option (List ℕ)) → flash ≡ None
+    → job_from kind flash dir ≡ None
 no_flash None flash dir none = refl
 no_flash (Some k) flash dir none = ap (λ (f : Option (Option ℕ)). job_from (Some k) f dir) none
 
-no_dir : (kind : Option JobKind) (flash : Option (Option ℕ)) (dir : Option (List ℕ)) → dir ≡ None → job_from kind flash dir ≡ None
+no_dir : (kind : Option JobKind) (flash : Option (Option ℕ)) (dir : Option (List ℕ)) → dir ≡ None
+    → job_from kind flash dir ≡ None
 no_dir None flash dir none = refl
 no_dir (Some k) None dir none = refl
 no_dir (Some k) (Some f) dir none = ap (λ (d : Option (List ℕ)). job_from (Some k) (Some f) d) none
 
 -- a part that was refused, or that there was no memory for
-failed_as : {A B : Type 0} (e : WordsError) (part : Option A) (whole : Option B) → (part ≡ None → whole ≡ None) → Reads {T = A} (Err e) part → Reads {T = B} (Err e) whole
+failed_as : {A B : Type 0} (e : WordsError) (part : Option A) (whole : Option B) → (part ≡ None → whole ≡ None)
+    → Reads {T = A} (Err e) part → Reads {T = B} (Err e) whole
 failed_as words_error.Refused part whole none reads = none reads
 failed_as words_error.OutOfMemory part whole none reads = tt
 
-handed_on : {A : Type 0} (result : Result Job WordsError) (e : WordsError) (part : Option A) (whole : Option Job) → IsErrAnd result (λ x. x ≡ e) → (part ≡ None → whole ≡ None)
+handed_on : {A : Type 0} (result : Result Job WordsError) (e : WordsError) (part : Option A) (whole : Option Job)
+    → IsErrAnd result (λ x. x ≡ e) → (part ≡ None → whole ≡ None)
     → Reads {T = A} (Err e) part → Reads result whole
 handed_on (Ok job) e part whole is none reads = absurd is
-handed_on (Err x) e part whole is none reads = failed_as x part whole none (subst (λ (y : WordsError). Reads (Err y) part) (sym is) reads)
+handed_on (Err x) e part whole is none reads = failed_as x part whole none
+    (subst (λ (y : WordsError). Reads (Err y) part) (sym is) reads)
 
-pub flash_fails : (result : Result Job WordsError) (e : WordsError) (kind : Option JobKind) (flash same : Option (Option ℕ)) (dir : Option (List ℕ)) → IsErrAnd result (λ x. x ≡ e)
+pub flash_fails : (result : Result Job WordsError) (e : WordsError) (kind : Option JobKind)
+    (flash same : Option (Option ℕ)) (dir : Option (List ℕ)) → IsErrAnd result (λ x. x ≡ e)
     → flash ≡ same → Reads {T = Option ℕ} (Err e) flash → Reads result (job_from kind same dir)
-flash_fails result e kind flash same dir is same_is reads = handed_on result e same (job_from kind same dir) is (no_flash kind same dir) (reads_as (Err e) flash same same_is reads)
+flash_fails result e kind flash same dir is same_is reads =
+    handed_on result e same (job_from kind same dir) is (no_flash kind same dir)
+    (reads_as (Err e) flash same same_is reads)
 
-pub dir_fails : (result : Result Job WordsError) (e : WordsError) (kind : Option JobKind) (flash : Option (Option ℕ)) (dir same : Option (List ℕ)) → IsErrAnd result (λ x. x ≡ e)
+pub dir_fails : (result : Result Job WordsError) (e : WordsError) (kind : Option JobKind) (flash : Option (Option ℕ))
+    (dir same : Option (List ℕ)) → IsErrAnd result (λ x. x ≡ e)
     → dir ≡ same → Reads {T = List ℕ} (Err e) dir → Reads result (job_from kind flash same)
-dir_fails result e kind flash dir same is same_is reads = handed_on result e same (job_from kind flash same) is (no_dir kind flash same) (reads_as (Err e) dir same same_is reads)
+dir_fails result e kind flash dir same is same_is reads =
+    handed_on result e same (job_from kind flash same) is (no_dir kind flash same)
+    (reads_as (Err e) dir same same_is reads)
 
-pub job_is : (k : JobKind) (f : Option ℕ) (d : List ℕ) (kind : Option JobKind) (flash : Option (Option ℕ)) (dir : Option (List ℕ)) → kind ≡ Some k → flash ≡ Some f → dir ≡ Some d
+pub job_is : (k : JobKind) (f : Option ℕ) (d : List ℕ) (kind : Option JobKind) (flash : Option (Option ℕ))
+    (dir : Option (List ℕ)) → kind ≡ Some k → flash ≡ Some f → dir ≡ Some d
     → job_from kind flash dir ≡ Some (record { dir = d; kind = k; flash = f })
 job_is k f d kind flash dir kind_is flash_is dir_is = rw (kind_is, flash_is, dir_is) refl
 
 -- ---- what was read of the matches is what the words say
 
-pub job_read : (result : Result Job WordsError) (said same : Option Job) → same ≡ said → Reads result said → IfOk result (λ job. same ≡ Some job)
+pub job_read : (result : Result Job WordsError) (said same : Option Job) → same ≡ said → Reads result said
+    → IfOk result (λ job. same ≡ Some job)
 job_read (Ok job) said same is reads = is ∙ reads
 job_read (Err e) said same is reads = tt
 
-pub job_refused : (result : Result Job WordsError) (said same : Option Job) → same ≡ said → Reads result said → result ≡ Err words_error.Refused → same ≡ None
+pub job_refused : (result : Result Job WordsError) (said same : Option Job) → same ≡ said → Reads result said
+    → result ≡ Err words_error.Refused → same ≡ None
 job_refused result said same is reads refused = is ∙ subst (λ (r : Result Job WordsError). Reads r said) refused reads
 
-pub modes_as : {f g a b : Bool} {n m : Option (List ℕ)} → f ≡ g → n ≡ m → a ≡ b → only_mode (modes f n a) ≡ only_mode (modes g m b)
+pub modes_as : {f g a b : Bool} {n m : Option (List ℕ)} → f ≡ g → n ≡ m → a ≡ b
+    → only_mode (modes f n a) ≡ only_mode (modes g m b)
 modes_as formats number audits = rw (formats, number, audits) refl

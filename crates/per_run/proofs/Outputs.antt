@@ -23,14 +23,16 @@ not_cut status (inr eight) six = omega (arith, eight, six)
 
 -- ---- the output
 
-pub writes_none : (status : ℕ) (now : Option (List ℕ)) (text : List ℕ) → (status ≡ 3) ⊎ (status ≡ 4) → Writes status now now text
+pub writes_none : (status : ℕ) (now : Option (List ℕ)) (text : List ℕ) → (status ≡ 3) ⊎ (status ≡ 4)
+    → Writes status now now text
 writes_none status now text is = record {
   whole = λ written. absurd (not_done status is (inl written));
   front = λ six. absurd (not_done status is (inr six));
   none = λ undone. Keeps-refl now;
 }
 
-pub writes_whole : (status : ℕ) (before now : Option (List ℕ)) (text : List ℕ) → IsWritten status → Appends before now text → Writes status before now text
+pub writes_whole : (status : ℕ) (before now : Option (List ℕ)) (text : List ℕ) → IsWritten status
+    → Appends before now text → Writes status before now text
 writes_whole status before now text written took = record {
   whole = λ again. took;
   front = λ six. absurd (not_cut status written six);
@@ -44,7 +46,8 @@ writes_front before now text front = record {
   none = λ undone. absurd (undone (inr refl));
 }
 
-pub writes_as : (status : ℕ) (before now : Option (List ℕ)) (text same : List ℕ) → text ≡ same → Writes status before now text → Writes status before now same
+pub writes_as : (status : ℕ) (before now : Option (List ℕ)) (text same : List ℕ) → text ≡ same
+    → Writes status before now text → Writes status before now same
 writes_as status before now text same is writes = subst (Writes status before now) is writes
 
 -- ---- a disk that was not touched

@@ -1,5 +1,7 @@
 -- How far the input is handled: byte by byte, and to its end.
-use Rattle.std.proofs.Common.{ℕ, List, [], ◌∷◌, ◌++◌, length, take, ◌≡◌, ◌≤◌, ◌<◌, ◌+◌, ◌-◌, ◌^◌, min, get_or, drop, add-one, refl, sym, ◌∙◌, ap, subst, arith, Option, Bool, true, false, nat_eq, append_assoc, append-nil, length-append}
+use Rattle.std.proofs.Common.{ℕ, List, [], ◌∷◌, ◌++◌, length, take, ◌≡◌, ◌≤◌, ◌<◌, ◌+◌, ◌-◌, ◌^◌, min, get_or, drop}
+use Rattle.std.proofs.Common.{add-one, refl, sym, ◌∙◌, ap, subst, arith, Option, Bool, true, false, nat_eq}
+use Rattle.std.proofs.Common.{append_assoc, append-nil, length-append}
 use Rattle.std.specs.List.{flat_map}
 use Rattle.std.proofs.Math.Seq.{drop-cons, take-suc}
 use Rattle.std.proofs.lemmas.List.{length-take, take-append-drop, take_all}
@@ -14,60 +16,82 @@ use Rattle.per_run.specs.declared.endings.Ending.{Ending}
 use Rattle.per_run.specs.declared.endings.Ending.TheVariants.{OutOfMemory}
 use Rattle.per_run.specs.Steps.{Course, Handled, Reached, ending_of, with_feed}
 use Rattle.per_run.proofs.Courses.{course_along, course_memory, course_read}
-use Rattle.per_run.proofs.Splits.{all_clean_more, clean_more, lines_false, lines_next, lines_short, lines_true, with_line}
+use Rattle.per_run.proofs.Splits.{all_clean_more, clean_more, lines_false, lines_next, lines_short, lines_true}
+use Rattle.per_run.proofs.Splits.{with_line}
 
 module _ (told : Bool) (rules : List Rule) (answers : Answers) (start : Medium) (before : Option (List ℕ)) where
   -- one line more is handled
-  abbrev HandlesOne : (now later : Option (List ℕ)) (memory after : Memory) (old new : Medium) → (kept : List ℕ) → Type 0
+  abbrev HandlesOne : (now later : Option (List ℕ)) (memory after : Memory) (old new : Medium) → (kept : List ℕ)
+      → Type 0
   HandlesOne now later memory after old new kept = (lines : List (List ℕ)) (text : List ℕ) → kept ≡ take 262145 text
-      → Handled told rules answers start before lines now memory old → Handled told rules answers start before (lines ++ text ∷ []) later after new
+      → Handled told rules answers start before lines now memory old
+      → Handled told rules answers start before (lines ++ text ∷ []) later after new
 
   -- the handling ends at the next line
-  abbrev EndsAt : endings.Ending → (now later : Option (List ℕ)) (memory : Memory) (old new : Medium) → (kept : List ℕ) → (number : ℕ) → Type 0
-  EndsAt ending now later memory old new kept number = (lines more : List (List ℕ)) (text : List ℕ) → kept ≡ take 262145 text → number ≡ length lines → length lines < 2 ^ 63
-      → Handled told rules answers start before lines now memory old → Course told rules answers ending start before (lines ++ text ∷ more) later new
+  abbrev EndsAt : endings.Ending → (now later : Option (List ℕ)) (memory : Memory) (old new : Medium) → (kept : List ℕ)
+      → (number : ℕ) → Type 0
+  EndsAt ending now later memory old new kept number = (lines more : List (List ℕ)) (text : List ℕ)
+      → kept ≡ take 262145 text → number ≡ length lines → length lines < 2 ^ 63
+      → Handled told rules answers start before lines now memory old
+      → Course told rules answers ending start before (lines ++ text ∷ more) later new
 
   few_lines : (given : List ℕ) (now : Option (List ℕ)) (memory : Memory) (medium : Medium) (kept : List ℕ) (number : ℕ)
-      → (reached : Reached told rules answers start before given now memory medium kept number) → length reached.lines ≤ length given
+      → (reached : Reached told rules answers start before given now memory medium kept number)
+      → length reached.lines ≤ length given
   few_lines given now memory medium kept number reached =
-      subst (λ (bytes : List ℕ). length reached.lines ≤ length bytes) (sym reached.split) (lines_short reached.lines reached.rest)
+      subst (λ (bytes : List ℕ). length reached.lines ≤ length bytes) (sym reached.split)
+      (lines_short reached.lines reached.rest)
 
   -- ---- one more byte
 
   -- a line feed, behind a line that is handled
-  reached_feed : (given : List ℕ) (now later : Option (List ℕ)) (memory after : Memory) (old new : Medium) (kept kept_later : List ℕ) (number number_later : ℕ)
-      → length given < 2 ^ 63 → Reached told rules answers start before given now memory old kept number → HandlesOne now later memory after old new kept
-      → number_later ≡ min (number + 1) (2 ^ 64 - 1) → kept_later ≡ [] → Reached told rules answers start before (given ++ 10 ∷ []) later after new kept_later number_later
-  reached_feed given now later memory after old new kept kept_later number number_later small reached goes_on counts clears = record {
-    lines = reached.lines ++ reached.rest ∷ [];
-    rest = [];
-    split = ap (λ (bytes : List ℕ). bytes ++ 10 ∷ []) reached.split ∙ append_assoc (flat_map with_feed reached.lines) reached.rest (10 ∷ [])
-        ∙ sym (with_line reached.lines reached.rest) ∙ sym (append-nil (flat_map with_feed (reached.lines ++ reached.rest ∷ [])));
-    clean = all_clean_more reached.lines reached.rest reached.clean reached.clean_rest;
-    clean_rest = refl;
-    kept_is = clears;
-    number_is =
-        let few : length reached.lines ≤ length given = few_lines given now memory old kept number reached in
-        omega (arith, counts, reached.number_is, length-append reached.lines (reached.rest ∷ []));
-    handled = goes_on reached.lines reached.rest reached.kept_is reached.handled;
-  }
+  reached_feed : (given : List ℕ) (now later : Option (List ℕ)) (memory after : Memory) (old new : Medium)
+      (kept kept_later : List ℕ) (number number_later : ℕ)
+      → length given < 2 ^ 63 → Reached told rules answers start before given now memory old kept number
+      → HandlesOne now later memory after old new kept
+      → number_later ≡ min (number + 1) (2 ^ 64 - 1) → kept_later ≡ []
+      → Reached told rules answers start before (given ++ 10 ∷ []) later after new kept_later number_later
+  reached_feed given now later memory after old new kept kept_later number number_later small reached goes_on counts
+      clears = record {
+        lines = reached.lines ++ reached.rest ∷ [];
+        rest = [];
+        split = ap (λ (bytes : List ℕ). bytes ++ 10 ∷ []) reached.split
+            ∙ append_assoc (flat_map with_feed reached.lines) reached.rest (10 ∷ [])
+            ∙ sym (with_line reached.lines reached.rest) ∙ sym
+            (append-nil (flat_map with_feed (reached.lines ++ reached.rest ∷ [])));
+        clean = all_clean_more reached.lines reached.rest reached.clean reached.clean_rest;
+        clean_rest = refl;
+        kept_is = clears;
+        number_is =
+            let few : length reached.lines ≤ length given = few_lines given now memory old kept number reached in
+            omega (arith, counts, reached.number_is, length-append reached.lines (reached.rest ∷ []));
+        handled = goes_on reached.lines reached.rest reached.kept_is reached.handled;
+      }
 
-  pub reached_at_feed : (given : List ℕ) (now later : Option (List ℕ)) (memory after : Memory) (old new : Medium) (kept kept_later : List ℕ) (number number_later byte : ℕ)
-      → byte ≡ 10 → length given < 2 ^ 63 → Reached told rules answers start before given now memory old kept number → HandlesOne now later memory after old new kept
-      → number_later ≡ min (number + 1) (2 ^ 64 - 1) → kept_later ≡ [] → Reached told rules answers start before (given ++ byte ∷ []) later after new kept_later number_later
-  reached_at_feed given now later memory after old new kept kept_later number number_later byte is small reached goes_on counts clears =
-      subst (λ (b : ℕ). Reached told rules answers start before (given ++ b ∷ []) later after new kept_later number_later) (sym is)
-      (reached_feed given now later memory after old new kept kept_later number number_later small reached goes_on counts clears)
+  pub reached_at_feed : (given : List ℕ) (now later : Option (List ℕ)) (memory after : Memory) (old new : Medium)
+      (kept kept_later : List ℕ) (number number_later byte : ℕ)
+      → byte ≡ 10 → length given < 2 ^ 63 → Reached told rules answers start before given now memory old kept number
+      → HandlesOne now later memory after old new kept
+      → number_later ≡ min (number + 1) (2 ^ 64 - 1) → kept_later ≡ []
+      → Reached told rules answers start before (given ++ byte ∷ []) later after new kept_later number_later
+  reached_at_feed given now later memory after old new kept kept_later number number_later byte is small reached goes_on
+      counts clears =
+      subst (λ (b : ℕ). Reached told rules answers start before (given ++ b ∷ []) later after new kept_later
+      number_later) (sym is)
+      (reached_feed given now later memory after old new kept kept_later number number_later small reached goes_on
+      counts clears)
 
   -- another byte
-  pub reached_byte : (given : List ℕ) (now : Option (List ℕ)) (memory : Memory) (medium : Medium) (kept kept_later : List ℕ) (number byte : ℕ)
+  pub reached_byte : (given : List ℕ) (now : Option (List ℕ)) (memory : Memory) (medium : Medium)
+      (kept kept_later : List ℕ) (number byte : ℕ)
       → Reached told rules answers start before given now memory medium kept number → nat_eq byte 10 ≡ false
       → ((rest : List ℕ) → kept ≡ take 262145 rest → kept_later ≡ take 262145 (rest ++ byte ∷ []))
       → Reached told rules answers start before (given ++ byte ∷ []) now memory medium kept_later number
   reached_byte given now memory medium kept kept_later number byte reached apart keeps = record {
     lines = reached.lines;
     rest = reached.rest ++ byte ∷ [];
-    split = ap (λ (bytes : List ℕ). bytes ++ byte ∷ []) reached.split ∙ append_assoc (flat_map with_feed reached.lines) reached.rest (byte ∷ []);
+    split = ap (λ (bytes : List ℕ). bytes ++ byte ∷ []) reached.split
+        ∙ append_assoc (flat_map with_feed reached.lines) reached.rest (byte ∷ []);
     clean = reached.clean;
     clean_rest = clean_more reached.rest byte reached.clean_rest apart;
     kept_is = keeps reached.rest reached.kept_is;
@@ -78,8 +102,10 @@ module _ (told : Bool) (rules : List Rule) (answers : Answers) (start : Medium) 
   -- ---- endings within the input
 
   -- at a line feed
-  ends_feed : (ending : endings.Ending) (given others : List ℕ) (now later : Option (List ℕ)) (memory : Memory) (old new : Medium) (kept : List ℕ) (number : ℕ)
-      → length given < 2 ^ 63 → Reached told rules answers start before given now memory old kept number → EndsAt ending now later memory old new kept number
+  ends_feed : (ending : endings.Ending) (given others : List ℕ) (now later : Option (List ℕ)) (memory : Memory)
+      (old new : Medium) (kept : List ℕ) (number : ℕ)
+      → length given < 2 ^ 63 → Reached told rules answers start before given now memory old kept number
+      → EndsAt ending now later memory old new kept number
       → Course told rules answers ending start before (lines_of false (given ++ 10 ∷ others)) later new
   ends_feed ending given others now later memory old new kept number small reached ends =
       let few : length reached.lines ≤ length given = few_lines given now memory old kept number reached in
@@ -87,27 +113,36 @@ module _ (told : Bool) (rules : List Rule) (answers : Answers) (start : Medium) 
       ap (λ (bytes : List ℕ). lines_of false (bytes ++ 10 ∷ others)) reached.split
       ∙ ap (lines_of false) (append_assoc (flat_map with_feed reached.lines) reached.rest (10 ∷ others))
       ∙ lines_next reached.lines reached.rest others reached.clean reached.clean_rest in
-      course_along told rules answers start before ending _ _ later new is (ends reached.lines (split_lines others).0 reached.rest reached.kept_is reached.number_is (omega (arith, few, small)) reached.handled)
+      course_along told rules answers start before ending _ _ later new is
+      (ends reached.lines (split_lines others).0 reached.rest reached.kept_is reached.number_is
+      (omega (arith, few, small)) reached.handled)
 
-  pub ends_at_feed : (ending : endings.Ending) (given others : List ℕ) (now later : Option (List ℕ)) (memory : Memory) (old new : Medium) (kept : List ℕ) (number byte : ℕ)
-      → byte ≡ 10 → length given < 2 ^ 63 → Reached told rules answers start before given now memory old kept number → EndsAt ending now later memory old new kept number
+  pub ends_at_feed : (ending : endings.Ending) (given others : List ℕ) (now later : Option (List ℕ)) (memory : Memory)
+      (old new : Medium) (kept : List ℕ) (number byte : ℕ)
+      → byte ≡ 10 → length given < 2 ^ 63 → Reached told rules answers start before given now memory old kept number
+      → EndsAt ending now later memory old new kept number
       → Course told rules answers ending start before (lines_of false (given ++ byte ∷ others)) later new
   ends_at_feed ending given others now later memory old new kept number byte is small reached ends =
-      subst (λ (b : ℕ). Course told rules answers ending start before (lines_of false (given ++ b ∷ others)) later new) (sym is)
+      subst (λ (b : ℕ). Course told rules answers ending start before (lines_of false (given ++ b ∷ others)) later new)
+      (sym is)
       (ends_feed ending given others now later memory old new kept number small reached ends)
 
   -- at another byte, for which there is no memory
-  pub ends_byte : AppLaws → (ending : Ending) (given others : List ℕ) (now : Option (List ℕ)) (memory : Memory) (medium : Medium) (kept : List ℕ) (number byte : ℕ) → ending ≡ OutOfMemory
+  pub ends_byte : AppLaws → (ending : Ending) (given others : List ℕ) (now : Option (List ℕ)) (memory : Memory)
+      (medium : Medium) (kept : List ℕ) (number byte : ℕ) → ending ≡ OutOfMemory
       → Reached told rules answers start before given now memory medium kept number
       → Course told rules answers (ending_of ending) start before (lines_of false (given ++ byte ∷ others)) now medium
   ends_byte laws way given others now memory medium kept number byte short reached =
-      let is : lines_of false (given ++ byte ∷ others) ≡ reached.lines ++ (split_lines (reached.rest ++ byte ∷ others)).0 =
+      let is : lines_of false (given ++ byte ∷ others) ≡ reached.lines
+      ++ (split_lines (reached.rest ++ byte ∷ others)).0 =
       ap (λ (bytes : List ℕ). lines_of false (bytes ++ byte ∷ others)) reached.split
       ∙ ap (lines_of false) (append_assoc (flat_map with_feed reached.lines) reached.rest (byte ∷ others))
       ∙ lines_false reached.lines (reached.rest ++ byte ∷ others) reached.clean in
-      subst (λ (e : Ending). Course told rules answers (ending_of e) start before (lines_of false (given ++ byte ∷ others)) now medium) (sym short)
+      subst (λ (e : Ending). Course told rules answers (ending_of e) start before
+      (lines_of false (given ++ byte ∷ others)) now medium) (sym short)
       (course_along told rules answers start before endings.memory _ _ now medium is
-      (course_memory told rules answers start before laws reached.lines _ now now memory medium reached.handled (Appends-nil now)))
+      (course_memory told rules answers start before laws reached.lines _ now now memory medium reached.handled
+      (Appends-nil now)))
 
   -- ---- the end of the input
 
@@ -120,68 +155,100 @@ module _ (told : Bool) (rules : List Rule) (answers : Answers) (start : Medium) 
   last_of (b ∷ rest) some = refl
 
   -- no line is left
-  pub ends_read : AppLaws → (given : List ℕ) (now : Option (List ℕ)) (memory : Memory) (medium : Medium) (kept : List ℕ) (number : ℕ)
+  pub ends_read : AppLaws → (given : List ℕ) (now : Option (List ℕ)) (memory : Memory) (medium : Medium) (kept : List ℕ)
+      (number : ℕ)
       → Reached told rules answers start before given now memory medium kept number → kept ≡ []
       → Course told rules answers endings.all_read start before (lines_of true given) now medium
   ends_read laws given now memory medium kept number reached empty =
       let none : reached.rest ≡ [] = no_rest reached.rest (sym reached.kept_is ∙ empty) in
-      let is : lines_of true given ≡ reached.lines = ap (lines_of true) reached.split ∙ lines_true reached.lines reached.rest reached.clean reached.clean_rest
+      let is : lines_of true given ≡ reached.lines = ap (lines_of true) reached.split
+      ∙ lines_true reached.lines reached.rest reached.clean reached.clean_rest
       ∙ ap (λ (rest : List ℕ). reached.lines ++ last_line rest) none ∙ append-nil reached.lines in
       course_read told rules answers start before laws reached.lines _ now memory medium reached.handled is
 
   last_lines : (given : List ℕ) (now : Option (List ℕ)) (memory : Memory) (medium : Medium) (kept : List ℕ) (number : ℕ)
-      → (reached : Reached told rules answers start before given now memory medium kept number) → (kept ≡ [] → ⊥) → lines_of true given ≡ reached.lines ++ reached.rest ∷ []
+      → (reached : Reached told rules answers start before given now memory medium kept number) → (kept ≡ [] → ⊥)
+      → lines_of true given ≡ reached.lines ++ reached.rest ∷ []
   last_lines given now memory medium kept number reached some =
       ap (lines_of true) reached.split ∙ lines_true reached.lines reached.rest reached.clean reached.clean_rest
-      ∙ ap (λ (l : List (List ℕ)). reached.lines ++ l) (last_of reached.rest (λ empty. some (reached.kept_is ∙ ap (take 262145) empty)))
+      ∙ ap (λ (l : List (List ℕ)). reached.lines ++ l) (last_of reached.rest
+      (λ empty. some (reached.kept_is ∙ ap (take 262145) empty)))
 
   -- the last line was handled
-  pub ends_last : AppLaws → (given : List ℕ) (now later : Option (List ℕ)) (memory after : Memory) (old new : Medium) (kept : List ℕ) (number : ℕ)
-      → Reached told rules answers start before given now memory old kept number → (kept ≡ [] → ⊥) → HandlesOne now later memory after old new kept
+  pub ends_last : AppLaws → (given : List ℕ) (now later : Option (List ℕ)) (memory after : Memory) (old new : Medium)
+      (kept : List ℕ) (number : ℕ)
+      → Reached told rules answers start before given now memory old kept number → (kept ≡ [] → ⊥)
+      → HandlesOne now later memory after old new kept
       → Course told rules answers endings.all_read start before (lines_of true given) later new
   ends_last laws given now later memory after old new kept number reached some goes_on =
-      course_read told rules answers start before laws _ _ later after new (goes_on reached.lines reached.rest reached.kept_is reached.handled)
+      course_read told rules answers start before laws _ _ later after new
+      (goes_on reached.lines reached.rest reached.kept_is reached.handled)
       (last_lines given now memory old kept number reached some)
 
   -- the last line ended the run
-  pub ends_at_last : (ending : endings.Ending) (given : List ℕ) (now later : Option (List ℕ)) (memory : Memory) (old new : Medium) (kept : List ℕ) (number : ℕ)
-      → length given < 2 ^ 63 → Reached told rules answers start before given now memory old kept number → (kept ≡ [] → ⊥) → EndsAt ending now later memory old new kept number
+  pub ends_at_last : (ending : endings.Ending) (given : List ℕ) (now later : Option (List ℕ)) (memory : Memory)
+      (old new : Medium) (kept : List ℕ) (number : ℕ)
+      → length given < 2 ^ 63 → Reached told rules answers start before given now memory old kept number
+      → (kept ≡ [] → ⊥) → EndsAt ending now later memory old new kept number
       → Course told rules answers ending start before (lines_of true given) later new
   ends_at_last ending given now later memory old new kept number small reached some ends =
       let few : length reached.lines ≤ length given = few_lines given now memory old kept number reached in
-      course_along told rules answers start before ending _ _ later new (last_lines given now memory old kept number reached some)
+      course_along told rules answers start before ending _ _ later new
+      (last_lines given now memory old kept number reached some)
       (ends reached.lines [] reached.rest reached.kept_is reached.number_is (omega (arith, few, small)) reached.handled)
 
 -- ---- a piece of the input
 
 -- the next byte of a piece
-pub piece_more : (piece : List ℕ) (i : ℕ) → i < length piece → take (i + 1) piece ≡ take i piece ++ get_or piece i 0 ∷ []
+pub piece_more : (piece : List ℕ) (i : ℕ) → i < length piece
+    → take (i + 1) piece ≡ take i piece ++ get_or piece i 0 ∷ []
 piece_more piece i within = ap (λ (n : ℕ). take n piece) (add-one i) ∙ take-suc piece i 0 within
 
-pub piece_is : (piece : List ℕ) (i : ℕ) → i < length piece → take i piece ++ get_or piece i 0 ∷ drop (i + 1) piece ≡ piece
+pub piece_is : (piece : List ℕ) (i : ℕ) → i < length piece
+    → take i piece ++ get_or piece i 0 ∷ drop (i + 1) piece ≡ piece
 piece_is piece i within =
-    ap (λ (l : List ℕ). take i piece ++ l) (ap (λ (n : ℕ). get_or piece i 0 ∷ drop n piece) (add-one i) ∙ sym (drop-cons piece i 0 within)) ∙ take-append-drop i piece
+    ap (λ (l : List ℕ). take i piece ++ l) (ap (λ (n : ℕ). get_or piece i 0 ∷ drop n piece) (add-one i)
+    ∙ sym (drop-cons piece i 0 within)) ∙ take-append-drop i piece
 
-pub piece_whole : (given piece : List ℕ) (i : ℕ) → i < length piece → (given ++ take i piece) ++ get_or piece i 0 ∷ drop (i + 1) piece ≡ given ++ piece
-piece_whole given piece i within = append_assoc given (take i piece) (get_or piece i 0 ∷ drop (i + 1) piece) ∙ ap (λ (l : List ℕ). given ++ l) (piece_is piece i within)
+pub piece_whole : (given piece : List ℕ) (i : ℕ) → i < length piece
+    → (given ++ take i piece) ++ get_or piece i 0 ∷ drop (i + 1) piece ≡ given ++ piece
+piece_whole given piece i within = append_assoc given (take i piece) (get_or piece i 0 ∷ drop (i + 1) piece)
+    ∙ ap (λ (l : List ℕ). given ++ l) (piece_is piece i within)
 
-pub piece_small : (given piece : List ℕ) (i limit : ℕ) → length (given ++ piece) < limit → length (given ++ take i piece) < limit
-piece_small given piece i limit small = omega (arith, length-append given piece, length-append given (take i piece), length-take i piece)
+pub piece_small : (given piece : List ℕ) (i limit : ℕ) → length (given ++ piece) < limit
+    → length (given ++ take i piece) < limit
+piece_small given piece i limit small = omega (
+  arith,
+  length-append given piece,
+  length-append given (take i piece),
+  length-take i piece,
+)
 
 module _ (told : Bool) (rules : List Rule) (answers : Answers) (start : Medium) (before : Option (List ℕ)) where
-  reached_along : (given same : List ℕ) (now : Option (List ℕ)) (memory : Memory) (medium : Medium) (kept : List ℕ) (number : ℕ) → same ≡ given
-      → Reached told rules answers start before given now memory medium kept number → Reached told rules answers start before same now memory medium kept number
-  reached_along given same now memory medium kept number is reached = subst (λ (bytes : List ℕ). Reached told rules answers start before bytes now memory medium kept number) (sym is) reached
+  reached_along : (given same : List ℕ) (now : Option (List ℕ)) (memory : Memory) (medium : Medium) (kept : List ℕ)
+      (number : ℕ) → same ≡ given
+      → Reached told rules answers start before given now memory medium kept number
+      → Reached told rules answers start before same now memory medium kept number
+  reached_along given same now memory medium kept number is reached =
+      subst (λ (bytes : List ℕ). Reached told rules answers start before bytes now memory medium kept number) (sym is)
+      reached
 
   -- one byte more of a piece
-  pub reached_more : (given piece : List ℕ) (i : ℕ) (now : Option (List ℕ)) (memory : Memory) (medium : Medium) (kept : List ℕ) (number : ℕ) → i < length piece
-      → Reached told rules answers start before ((given ++ take i piece) ++ get_or piece i 0 ∷ []) now memory medium kept number
+  pub reached_more : (given piece : List ℕ) (i : ℕ) (now : Option (List ℕ)) (memory : Memory) (medium : Medium)
+      (kept : List ℕ) (number : ℕ) → i < length piece
+      → Reached told rules answers start before ((given ++ take i piece) ++ get_or piece i 0 ∷ []) now memory medium
+      kept number
       → Reached told rules answers start before (given ++ take (i + 1) piece) now memory medium kept number
-  reached_more given piece i now memory medium kept number within reached = reached_along _ _ now memory medium kept number
-      (ap (λ (l : List ℕ). given ++ l) (piece_more piece i within) ∙ sym (append_assoc given (take i piece) (get_or piece i 0 ∷ []))) reached
+  reached_more given piece i now memory medium kept number within reached =
+      reached_along _ _ now memory medium kept number
+      (ap (λ (l : List ℕ). given ++ l) (piece_more piece i within)
+      ∙ sym (append_assoc given (take i piece) (get_or piece i 0 ∷ []))) reached
 
   -- all of it
-  pub reached_whole : (given piece : List ℕ) (i : ℕ) (now : Option (List ℕ)) (memory : Memory) (medium : Medium) (kept : List ℕ) (number : ℕ) → length piece ≤ i
-      → Reached told rules answers start before (given ++ take i piece) now memory medium kept number → Reached told rules answers start before (given ++ piece) now memory medium kept number
+  pub reached_whole : (given piece : List ℕ) (i : ℕ) (now : Option (List ℕ)) (memory : Memory) (medium : Medium)
+      (kept : List ℕ) (number : ℕ) → length piece ≤ i
+      → Reached told rules answers start before (given ++ take i piece) now memory medium kept number
+      → Reached told rules answers start before (given ++ piece) now memory medium kept number
   reached_whole given piece i now memory medium kept number all reached =
-      reached_along _ _ now memory medium kept number (ap (λ (l : List ℕ). given ++ l) (sym (take_all i piece all))) reached
+      reached_along _ _ now memory medium kept number (ap (λ (l : List ℕ). given ++ l) (sym (take_all i piece all)))
+      reached

@@ -23,42 +23,56 @@ usable_since old new keeps = record {
   during = λ c past plain. subst (λ (b : ℕ). IsUsable c.left b) (sym keeps.blocks) (keeps.during c past plain);
 }
 
-agreed_since : (old new : FlashMedium) → new.blocks ≡ old.blocks → KeepsAgreed old new → IsAgreed old.state.pages (places old.blocks) → AgreedSince new old.moment
+agreed_since : (old new : FlashMedium) → new.blocks ≡ old.blocks → KeepsAgreed old new
+    → IsAgreed old.state.pages (places old.blocks) → AgreedSince new old.moment
 agreed_since old new blocks keeps agreed = record {
   now = subst (λ (b : ℕ). IsAgreed new.state.pages (places b)) (sym blocks) (keeps.now agreed);
-  during = λ c past plain. subst (λ (b : ℕ). IsAgreed c.left (places b)) (sym blocks) (keeps.during c past plain agreed);
+  during = λ c past plain. subst (λ (b : ℕ). IsAgreed c.left (places b)) (sym blocks)
+      (keeps.during c past plain agreed);
 }
 
 -- the files of a disk that was just opened
-pub opened_files : {F : Type 0} (told : Bool) (medium : F → FlashMedium) (flash : F) (opened : FlashView F) → (medium opened.flash).blocks ≡ (medium flash).blocks
+pub opened_files : {F : Type 0} (told : Bool) (medium : F → FlashMedium) (flash : F) (opened : FlashView F)
+    → (medium opened.flash).blocks ≡ (medium flash).blocks
     → (IsTrue told → (medium opened.flash).state ≡ settle_pages (medium flash).state)
     → IsTrue told → (disk_seen told medium opened).image ≡ flash_files (medium flash).state.pages (medium flash).blocks
 opened_files told medium flash opened blocks state tells =
-    told_files told (medium opened.flash) tells ∙ (ap (λ (p : Pages). flash_files p (medium opened.flash).blocks) (ap (λ s. s.pages) (state tells))
+    told_files told (medium opened.flash) tells ∙ (ap (λ (p : Pages). flash_files p (medium opened.flash).blocks)
+    (ap (λ s. s.pages) (state tells))
     ∙ ap (λ (b : ℕ). flash_files (medium flash).state.pages b) blocks)
 
-module _ {F : Type 0} (told : Bool) (medium : F → FlashMedium) (flash : F) (opened disk : FlashView F) (tells : IsTrue told)
-    (blocks : (medium opened.flash).blocks ≡ (medium flash).blocks) (meanwhile : Opens told (medium flash) (medium opened.flash))
+module _ {F : Type 0} (told : Bool) (medium : F → FlashMedium) (flash : F) (opened disk : FlashView F)
+    (tells : IsTrue told)
+    (blocks : (medium opened.flash).blocks ≡ (medium flash).blocks)
+    (meanwhile : Opens told (medium flash) (medium opened.flash))
     (time : Elapses (disk_seen told medium opened) (disk_seen told medium disk)) where
   earlier : (medium flash).moment ≤ (disk_seen told medium opened).moment
-  earlier = subst (λ (m : ℕ). (medium flash).moment ≤ m) (sym (told_moment told (medium opened.flash).moment tells)) (meanwhile.time tells).later
+  earlier = subst (λ (m : ℕ). (medium flash).moment ≤ m) (sym (told_moment told (medium opened.flash).moment tells))
+      (meanwhile.time tells).later
 
   -- a crash during the opening leaves the files of the flash
   files_then : (f : FlashCase) → (medium opened.flash).since (medium flash).moment f
       → flash_files f.left (medium opened.flash).blocks ≡ flash_files (medium flash).state.pages (medium flash).blocks
   files_then f past =
-      let same : f.left ≡ (medium flash).state.pages = ⊎_elim (λ still. still.left) (λ settled. settled.left) (meanwhile.during tells f past) in
-      ap (λ (p : Pages). flash_files p (medium opened.flash).blocks) same ∙ ap (λ (b : ℕ). flash_files (medium flash).state.pages b) blocks
+      let same : f.left ≡ (medium flash).state.pages = ⊎_elim (λ still. still.left) (λ settled. settled.left)
+      (meanwhile.during tells f past) in
+      ap (λ (p : Pages). flash_files p (medium opened.flash).blocks) same
+      ∙ ap (λ (b : ℕ). flash_files (medium flash).state.pages b) blocks
 
-  files : (c : FlashCase) → (medium disk.flash).since (medium flash).moment c → IsPlain c.before c.whole c.left → LeavesFiles told medium flash opened disk c
+  files : (c : FlashCase) → (medium disk.flash).since (medium flash).moment c → IsPlain c.before c.whole c.left
+      → LeavesFiles told medium flash opened disk c
   files c past plain = ⊎_elim
       (λ was. inl (ap (λ (d : Case). d.left) was.1.2.1 ∙ files_then was.1.0 was.1.1))
       (λ since. inr since)
-      (time.nothing_else (medium flash).moment (disk_case (medium disk.flash).blocks c) earlier (tells, (c, past, (plain, refl))))
+      (time.nothing_else (medium flash).moment (disk_case (medium disk.flash).blocks c) earlier
+      (tells, (c, past, (plain, refl))))
 
-  pub opens_again : KeepsUsable (medium flash) (medium opened.flash) → KeepsAgreed (medium flash) (medium opened.flash) → OpensAgain told medium flash opened disk
+  pub opens_again : KeepsUsable (medium flash) (medium opened.flash) → KeepsAgreed (medium flash) (medium opened.flash)
+      → OpensAgain told medium flash opened disk
   opens_again usable agreed = record {
-    usable = time.opens (medium flash).moment earlier (λ _. usable_since (medium flash) (medium opened.flash) usable) tells;
-    agreed = λ agrees. time.agrees (medium flash).moment earlier (λ _. agreed_since (medium flash) (medium opened.flash) blocks agreed agrees) tells;
+    usable = time.opens (medium flash).moment earlier (λ _. usable_since (medium flash) (medium opened.flash) usable)
+        tells;
+    agreed = λ agrees. time.agrees (medium flash).moment earlier
+        (λ _. agreed_since (medium flash) (medium opened.flash) blocks agreed agrees) tells;
     files = files;
   }

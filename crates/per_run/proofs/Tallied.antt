@@ -1,5 +1,7 @@
 -- One reply more is counted; and the lines of a number, one after the other.
-use Rattle.std.proofs.Common.{ℕ, zero, suc, List, [], ◌∷◌, ◌++◌, length, map, ◌≡◌, ◌≤◌, ◌<◌, ◌+◌, ◌-◌, ◌^◌, ◌&&◌, not, min, cond, refl, sym, ◌∙◌, ap, ap₂, subst, arith, Option, Some, None, Bool, true, false, count_by, append_assoc, length-append, get_or, take, add-one, Bor}
+use Rattle.std.proofs.Common.{ℕ, zero, suc, List, [], ◌∷◌, ◌++◌, length, map, ◌≡◌, ◌≤◌, ◌<◌, ◌+◌, ◌-◌, ◌^◌, ◌&&◌, not}
+use Rattle.std.proofs.Common.{min, cond, refl, sym, ◌∙◌, ap, ap₂, subst, arith, Option, Some, None, Bool, true, false}
+use Rattle.std.proofs.Common.{count_by, append_assoc, length-append, get_or, take, add-one, Bor}
 use Rattle.std.specs.Option.{option_or}
 use Rattle.std.proofs.lemmas.List.Sums.{sum_by_push, count_by-le-length}
 use Rattle.std.proofs.Math.Seq.{take-suc}
@@ -9,27 +11,33 @@ use Rattle.migrate_fns.specs.Rules.{Rule, Answers}
 use Rattle.command_text.specs.declared.replies.Answer.{Answer}
 use Rattle.command_text.specs.declared.replies.Answer.TheVariants as answer
 use Rattle.command_text.specs.declared.replies.Reply.{Reply}
-use Rattle.command_text.specs.Generated.{first_lines, generated, generated_line, generated_lines, last_lines, next_number}
+use Rattle.command_text.specs.Generated.{first_lines, generated, generated_line, generated_lines, last_lines}
+use Rattle.command_text.specs.Generated.{next_number}
 use Rattle.run_model.specs.Runtimes.{Memory}
 use Rattle.run_model.specs.Turns.{Turn, replies_of}
 use Rattle.run_model.specs.Worlds.{World}
 use Rattle.per_run.specs.declared.tally.Tally.{Tally}
-use Rattle.per_run.specs.Jobs.{done_in, error_in, number_in, is_done, is_error, is_other, size_given, summary, summary_text}
+use Rattle.per_run.specs.Jobs.{done_in, error_in, number_in, is_done, is_error, is_other, size_given, summary}
+use Rattle.per_run.specs.Jobs.{summary_text}
 use Rattle.per_run.specs.Steps.{Counted, Goes, IsAnswered, Tallies}
 use Rattle.per_run.proofs.Gives.{give_turn, replies_on}
 use Rattle.per_run.proofs.Goes.{goes_on, turn}
 
 -- ---- one reply more
 
-count_yes : (p : Reply → Bool) (rs : List Reply) (r : Reply) (n : ℕ) → length rs < 2 ^ 32 → n ≡ count_by p rs → p r ≡ true → min (n + 1) (2 ^ 64 - 1) ≡ count_by p (rs ++ r ∷ [])
+count_yes : (p : Reply → Bool) (rs : List Reply) (r : Reply) (n : ℕ) → length rs < 2 ^ 32 → n ≡ count_by p rs
+    → p r ≡ true → min (n + 1) (2 ^ 64 - 1) ≡ count_by p (rs ++ r ∷ [])
 count_yes p rs r n few is one =
-    let more : count_by p (rs ++ r ∷ []) ≡ count_by p rs + 1 = sum_by_push (λ x. cond (p x) 1 0) rs r ∙ ap (λ (b : Bool). count_by p rs + cond b 1 0) one in
+    let more : count_by p (rs ++ r ∷ []) ≡ count_by p rs + 1 =
+    sum_by_push (λ x. cond (p x) 1 0) rs r ∙ ap (λ (b : Bool). count_by p rs + cond b 1 0) one in
     let least : count_by p rs ≤ length rs = count_by-le-length p rs in
     omega (arith, more, least, is, few)
 
-count_no : (p : Reply → Bool) (rs : List Reply) (r : Reply) (n : ℕ) → n ≡ count_by p rs → p r ≡ false → n ≡ count_by p (rs ++ r ∷ [])
+count_no : (p : Reply → Bool) (rs : List Reply) (r : Reply) (n : ℕ) → n ≡ count_by p rs → p r ≡ false
+    → n ≡ count_by p (rs ++ r ∷ [])
 count_no p rs r n is none =
-    let more : count_by p (rs ++ r ∷ []) ≡ count_by p rs + 0 = sum_by_push (λ x. cond (p x) 1 0) rs r ∙ ap (λ (b : Bool). count_by p rs + cond b 1 0) none in
+    let more : count_by p (rs ++ r ∷ []) ≡ count_by p rs + 0 =
+    sum_by_push (λ x. cond (p x) 1 0) rs r ∙ ap (λ (b : Bool). count_by p rs + cond b 1 0) none in
     omega (arith, more, is)
 
 or_none : (size : Option ℕ) → option_or size None ≡ size
@@ -42,9 +50,11 @@ or_on (Some n) b c = refl
 
 size_on : (rs : List Reply) (r : Reply) → size_given (rs ++ r ∷ []) ≡ option_or (size_given rs) (number_in r.answer)
 size_on [] r = or_none (number_in r.answer)
-size_on (x ∷ rs) r = ap (option_or (number_in x.answer)) (size_on rs r) ∙ or_on (number_in x.answer) (size_given rs) (number_in r.answer)
+size_on (x ∷ rs) r = ap (option_or (number_in x.answer)) (size_on rs r)
+    ∙ or_on (number_in x.answer) (size_given rs) (number_in r.answer)
 
-sized : (rs : List Reply) (r : Reply) (old new : Option ℕ) → old ≡ size_given rs → new ≡ option_or old (number_in r.answer) → new ≡ size_given (rs ++ r ∷ [])
+sized : (rs : List Reply) (r : Reply) (old new : Option ℕ) → old ≡ size_given rs
+    → new ≡ option_or old (number_in r.answer) → new ≡ size_given (rs ++ r ∷ [])
 sized rs r old new is more = more ∙ ap (λ (o : Option ℕ). option_or o (number_in r.answer)) is ∙ sym (size_on rs r)
 
 both_no : (a b : Bool) → a ≡ true → not a && not b ≡ false
@@ -61,8 +71,10 @@ neither true b no_a no_b = let bad : true ≡ false = no_a in cc
 neither false true no_a no_b = let bad : true ≡ false = no_b in cc
 neither false false no_a no_b = refl
 
-pub tallied_done : (rs : List Reply) (r : Reply) (t : Tally) (n : ℕ) (size : Option ℕ) → length rs < 2 ^ 32 → Tallies rs t → done_in r.answer ≡ true → error_in r.answer ≡ false
-    → n ≡ min (t.done + 1) (2 ^ 64 - 1) → size ≡ option_or t.size (number_in r.answer) → Tallies (rs ++ r ∷ []) (record t { done = n; size = size })
+pub tallied_done : (rs : List Reply) (r : Reply) (t : Tally) (n : ℕ) (size : Option ℕ) → length rs < 2 ^ 32
+    → Tallies rs t → done_in r.answer ≡ true → error_in r.answer ≡ false
+    → n ≡ min (t.done + 1) (2 ^ 64 - 1) → size ≡ option_or t.size (number_in r.answer)
+    → Tallies (rs ++ r ∷ []) (record t { done = n; size = size })
 tallied_done rs r t n size few was is none more sizes = record {
   done = more ∙ count_yes is_done rs r t.done few was.done is;
   other = count_no is_other rs r t.other was.other (both_no (done_in r.answer) (error_in r.answer) is);
@@ -70,8 +82,10 @@ tallied_done rs r t n size few was is none more sizes = record {
   size = sized rs r t.size size was.size sizes;
 }
 
-pub tallied_error : (rs : List Reply) (r : Reply) (t : Tally) (n : ℕ) (size : Option ℕ) → length rs < 2 ^ 32 → Tallies rs t → done_in r.answer ≡ false → error_in r.answer ≡ true
-    → n ≡ min (t.errors + 1) (2 ^ 64 - 1) → size ≡ option_or t.size (number_in r.answer) → Tallies (rs ++ r ∷ []) (record t { errors = n; size = size })
+pub tallied_error : (rs : List Reply) (r : Reply) (t : Tally) (n : ℕ) (size : Option ℕ) → length rs < 2 ^ 32
+    → Tallies rs t → done_in r.answer ≡ false → error_in r.answer ≡ true
+    → n ≡ min (t.errors + 1) (2 ^ 64 - 1) → size ≡ option_or t.size (number_in r.answer)
+    → Tallies (rs ++ r ∷ []) (record t { errors = n; size = size })
 tallied_error rs r t n size few was none is more sizes = record {
   done = count_no is_done rs r t.done was.done none;
   other = count_no is_other rs r t.other was.other (second_no (done_in r.answer) (error_in r.answer) none is);
@@ -79,11 +93,14 @@ tallied_error rs r t n size few was none is more sizes = record {
   size = sized rs r t.size size was.size sizes;
 }
 
-pub tallied_other : (rs : List Reply) (r : Reply) (t : Tally) (n : ℕ) (size : Option ℕ) → length rs < 2 ^ 32 → Tallies rs t → done_in r.answer ≡ false → error_in r.answer ≡ false
-    → n ≡ min (t.other + 1) (2 ^ 64 - 1) → size ≡ option_or t.size (number_in r.answer) → Tallies (rs ++ r ∷ []) (record t { other = n; size = size })
+pub tallied_other : (rs : List Reply) (r : Reply) (t : Tally) (n : ℕ) (size : Option ℕ) → length rs < 2 ^ 32
+    → Tallies rs t → done_in r.answer ≡ false → error_in r.answer ≡ false
+    → n ≡ min (t.other + 1) (2 ^ 64 - 1) → size ≡ option_or t.size (number_in r.answer)
+    → Tallies (rs ++ r ∷ []) (record t { other = n; size = size })
 tallied_other rs r t n size few was not_done not_error more sizes = record {
   done = count_no is_done rs r t.done was.done not_done;
-  other = more ∙ count_yes is_other rs r t.other few was.other (neither (done_in r.answer) (error_in r.answer) not_done not_error);
+  other = more ∙ count_yes is_other rs r t.other few was.other
+      (neither (done_in r.answer) (error_in r.answer) not_done not_error);
   errors = count_no is_error rs r t.errors was.errors not_error;
   size = sized rs r t.size size was.size sizes;
 }
@@ -106,9 +123,11 @@ pub done_only : (r : Reply) → done_in r.answer ≡ true → error_in r.answer 
 done_only r is = done_or_error r.answer is
 
 -- the text of the counts is that of the replies
-pub summary_is : (lines : ℕ) (rs : List Reply) (t : Tally) → Tallies rs t → summary_text lines t.done t.other t.errors t.size ≡ summary lines rs
+pub summary_is : (lines : ℕ) (rs : List Reply) (t : Tally) → Tallies rs t
+    → summary_text lines t.done t.other t.errors t.size ≡ summary lines rs
 summary_is lines rs t is = ap₂ (λ (d o : ℕ). summary_text lines d o t.errors t.size) is.done is.other
-    ∙ ap₂ (λ (e : ℕ) (size : Option ℕ). summary_text lines (count_by is_done rs) (count_by is_other rs) e size) is.errors is.size
+    ∙ ap₂ (λ (e : ℕ) (size : Option ℕ). summary_text lines (count_by is_done rs) (count_by is_other rs) e size)
+    is.errors is.size
 
 -- ---- one line more
 
@@ -117,26 +136,35 @@ length_replies [] = refl
 length_replies (t ∷ ts) = ap suc (length_replies ts)
 
 module _ (told : Bool) (rules : List Rule) (answers : Answers) (start : Medium) where
-  pub counted_more : (lines : List (List ℕ)) (text : List ℕ) (reply : Reply) (memory after : Memory) (tally tally' : Tally) (old new : Medium) → IsLawful told new → Elapses old new
-      → length lines < 2 ^ 32 → Counted told rules answers start lines memory tally old → IsAnswered told rules answers text memory after reply old new
-      → ((replies : List Reply) → length replies < 2 ^ 32 → Tallies replies tally → Tallies (replies ++ reply ∷ []) tally')
+  pub counted_more : (lines : List (List ℕ)) (text : List ℕ) (reply : Reply) (memory after : Memory)
+      (tally tally' : Tally) (old new : Medium) → IsLawful told new → Elapses old new
+      → length lines < 2 ^ 32 → Counted told rules answers start lines memory tally old
+      → IsAnswered told rules answers text memory after reply old new
+      → ((replies : List Reply) → length replies < 2 ^ 32 → Tallies replies tally
+      → Tallies (replies ++ reply ∷ []) tally')
       → Counted told rules answers start (lines ++ text ∷ []) after tally' new
   counted_more lines text reply memory after tally tally' old new lawful time few counted a tallies =
-      let more : (w : World) × Goes told rules answers start (counted.turns ++ turn a.event reply new.faults w ∷ []) after new =
-      goes_on rules answers start told counted.turns a.event reply memory after old new lawful time counted.goes a.blamed a.stepped in
+      let more : (w : World) × Goes told rules answers start (counted.turns ++ turn a.event reply new.faults w ∷ [])
+      after new =
+      goes_on rules answers start told counted.turns a.event reply memory after old new lawful time counted.goes
+      a.blamed a.stepped in
       let t : Turn = turn a.event reply new.faults more.0 in
       record {
         turns = counted.turns ++ t ∷ [];
         gives = give_turn lines counted.turns text t counted.gives a.spelled;
-        each = length-append counted.turns (t ∷ []) ∙ ap (λ (n : ℕ). n + 1) counted.each ∙ sym (length-append lines (text ∷ []));
+        each = length-append counted.turns (t ∷ []) ∙ ap (λ (n : ℕ). n + 1) counted.each
+            ∙ sym (length-append lines (text ∷ []));
         goes = more.1;
         tallies = subst (λ (rs : List Reply). Tallies rs tally') (sym (replies_on counted.turns t))
-            (tallies (replies_of counted.turns) (subst (λ (n : ℕ). n < 2 ^ 32) (sym (length_replies counted.turns ∙ counted.each)) few) counted.tallies);
+            (tallies (replies_of counted.turns) (subst (λ (n : ℕ). n < 2 ^ 32)
+            (sym (length_replies counted.turns ∙ counted.each)) few) counted.tallies);
       }
 
-  pub counted_along : (lines same : List (List ℕ)) (memory : Memory) (tally : Tally) (medium : Medium) → same ≡ lines → Counted told rules answers start lines memory tally medium
+  pub counted_along : (lines same : List (List ℕ)) (memory : Memory) (tally : Tally) (medium : Medium) → same ≡ lines
+      → Counted told rules answers start lines memory tally medium
       → Counted told rules answers start same memory tally medium
-  counted_along lines same memory tally medium is counted = subst (λ (l : List (List ℕ)). Counted told rules answers start l memory tally medium) (sym is) counted
+  counted_along lines same memory tally medium is counted =
+      subst (λ (l : List (List ℕ)). Counted told rules answers start l memory tally medium) (sym is) counted
 
 -- ---- the lines of a number
 
@@ -161,7 +189,8 @@ place_more i n = omega arith
 
 pub lines_more : (n i x : ℕ) → generated_lines (suc n) i x ≡ with_line n i x (i + n)
 lines_more zero i x = ap (λ (k : ℕ). generated_line (next_number x) k ∷ []) (place_none i)
-lines_more (suc n) i x = ap (λ (ls : List (List ℕ)). generated_line (next_number x) i ∷ ls) (lines_more n (i + 1) (next_number x))
+lines_more (suc n) i x = ap (λ (ls : List (List ℕ)). generated_line (next_number x) i ∷ ls)
+    (lines_more n (i + 1) (next_number x))
     ∙ ap (λ (k : ℕ). generated_line (next_number x) i ∷ with_line n (i + 1) (next_number x) k) (place_more i n)
 
 length_lines : (n i x : ℕ) → length (generated_lines n i x) ≡ n
@@ -169,43 +198,69 @@ length_lines zero i x = refl
 length_lines (suc n) i x = ap suc (length_lines n (i + 1) (next_number x))
 
 pub length_all : (n : ℕ) → length (generated n) ≡ n + 5
-length_all n = length-append (first_lines ++ generated_lines n 1 n) last_lines ∙ ap (λ (k : ℕ). k + 3) (length-append first_lines (generated_lines n 1 n) ∙ ap (λ (k : ℕ). 2 + k) (length_lines n 1 n)) ∙ omega arith
+length_all n = length-append (first_lines ++ generated_lines n 1 n) last_lines
+    ∙ ap (λ (k : ℕ). k + 3) (length-append first_lines (generated_lines n 1 n)
+    ∙ ap (λ (k : ℕ). 2 + k) (length_lines n 1 n)) ∙ omega arith
 
-pub generated_on : (before : List (List ℕ)) (n i x : ℕ) (text : List ℕ) → x ≡ number_behind n i → text ≡ generated_line (next_number x) (i + 1)
+pub generated_on : (before : List (List ℕ)) (n i x : ℕ) (text : List ℕ) → x ≡ number_behind n i
+    → text ≡ generated_line (next_number x) (i + 1)
     → before ++ generated_lines (i + 1) 1 n ≡ (before ++ generated_lines i 1 n) ++ text ∷ []
 generated_on before n i x text behind is =
-    ap (λ (k : ℕ). before ++ generated_lines k 1 n) (add-one i) ∙ ap (λ (ls : List (List ℕ)). before ++ ls) (lines_more i 1 n)
-    ∙ ap (λ (t : List ℕ). before ++ (generated_lines i 1 n ++ t ∷ [])) (sym (is ∙ ap₂ (λ (y k : ℕ). generated_line (next_number y) k) behind (turned i)))
+    ap (λ (k : ℕ). before ++ generated_lines k 1 n) (add-one i)
+    ∙ ap (λ (ls : List (List ℕ)). before ++ ls) (lines_more i 1 n)
+    ∙ ap (λ (t : List ℕ). before ++ (generated_lines i 1 n ++ t ∷ []))
+    (sym (is ∙ ap₂ (λ (y k : ℕ). generated_line (next_number y) k) behind (turned i)))
     ∙ sym (append_assoc before (generated_lines i 1 n) (text ∷ []))
   where
     turned : (k : ℕ) → k + 1 ≡ 1 + k
     turned k = omega arith
 
 pub number_on : (n i x next : ℕ) → x ≡ number_behind n i → next ≡ next_number x → next ≡ number_behind n (i + 1)
-number_on n i x next behind is = is ∙ ap next_number behind ∙ sym (next_behind n i) ∙ ap (number_behind n) (sym (add-one i))
+number_on n i x next behind is = is ∙ ap next_number behind ∙ sym (next_behind n i)
+    ∙ ap (number_behind n) (sym (add-one i))
 
-pub few_generated : (before : List (List ℕ)) (n i : ℕ) → length before + n < 2 ^ 32 → i < n → length (before ++ generated_lines i 1 n) < 2 ^ 32
-few_generated before n i few lt = omega (arith, few, lt, length-append before (generated_lines i 1 n), length_lines i 1 n)
+pub few_generated : (before : List (List ℕ)) (n i : ℕ) → length before + n < 2 ^ 32 → i < n
+    → length (before ++ generated_lines i 1 n) < 2 ^ 32
+few_generated before n i few lt = omega (
+  arith,
+  few,
+  lt,
+  length-append before (generated_lines i 1 n),
+  length_lines i 1 n,
+)
 
 -- ---- lines that are borrowed
 
 abbrev pub texts_of : List (Bor (List ℕ)) → List (List ℕ)
 texts_of lines = map (λ (l : Bor (List ℕ)). l.now) lines
 
-pub each_on : (before : List (List ℕ)) (lines : List (Bor (List ℕ))) (i : ℕ) (d : Bor (List ℕ)) (text : List ℕ) → i < length lines → text ≡ (get_or lines i d).now
+pub each_on : (before : List (List ℕ)) (lines : List (Bor (List ℕ))) (i : ℕ) (d : Bor (List ℕ)) (text : List ℕ)
+    → i < length lines → text ≡ (get_or lines i d).now
     → before ++ texts_of (take (i + 1) lines) ≡ (before ++ texts_of (take i lines)) ++ text ∷ []
 each_on before lines i d text lt is =
-    ap (λ (ls : List (Bor (List ℕ))). before ++ texts_of ls) (ap (λ (k : ℕ). take k lines) (add-one i) ∙ take-suc lines i d lt)
-    ∙ ap (λ (ls : List (List ℕ)). before ++ ls) (map-append (λ (l : Bor (List ℕ)). l.now) (take i lines) (get_or lines i d ∷ []))
+    ap (λ (ls : List (Bor (List ℕ))). before ++ texts_of ls)
+    (ap (λ (k : ℕ). take k lines) (add-one i) ∙ take-suc lines i d lt)
+    ∙ ap (λ (ls : List (List ℕ)). before ++ ls) (map-append (λ (l : Bor (List ℕ)). l.now) (take i lines)
+    (get_or lines i d ∷ []))
     ∙ ap (λ (t : List ℕ). before ++ (texts_of (take i lines) ++ t ∷ [])) (sym is)
     ∙ sym (append_assoc before (texts_of (take i lines)) (text ∷ []))
 
-pub few_each : (before : List (List ℕ)) (lines : List (Bor (List ℕ))) (i : ℕ) → length (before ++ texts_of lines) < 2 ^ 32 → length (before ++ texts_of (take i lines)) < 2 ^ 32
-few_each before lines i few = omega (arith, few, length-append before (texts_of lines), length-append before (texts_of (take i lines)), length_texts lines, length_texts (take i lines), length-take i lines)
+pub few_each : (before : List (List ℕ)) (lines : List (Bor (List ℕ))) (i : ℕ)
+    → length (before ++ texts_of lines) < 2 ^ 32 → length (before ++ texts_of (take i lines)) < 2 ^ 32
+few_each before lines i few = omega (
+  arith,
+  few,
+  length-append before (texts_of lines),
+  length-append before (texts_of (take i lines)),
+  length_texts lines,
+  length_texts (take i lines),
+  length-take i lines,
+)
   where
     length_texts : (ls : List (Bor (List ℕ))) → length (texts_of ls) ≡ length ls
     length_texts [] = refl
     length_texts (l ∷ ls) = ap suc (length_texts ls)
 
-pub each_whole : (before : List (List ℕ)) (lines : List (Bor (List ℕ))) (i : ℕ) → length lines ≤ i → before ++ texts_of lines ≡ before ++ texts_of (take i lines)
+pub each_whole : (before : List (List ℕ)) (lines : List (Bor (List ℕ))) (i : ℕ) → length lines ≤ i
+    → before ++ texts_of lines ≡ before ++ texts_of (take i lines)
 each_whole before lines i all = ap (λ (ls : List (Bor (List ℕ))). before ++ texts_of ls) (sym (take_all i lines all))

@@ -1,4 +1,5 @@
--- What a run over raw flash promises: how the flash was opened as a disk, the job on that disk, and what a stop leaves of the flash.
+-- What a run over raw flash promises: how the flash was opened as a disk, the job on that disk, and what a stop leaves
+-- of the flash.
 use Rattle.std.specs.Prelude.{◌≡◌, ◌⊎◌, ◌<◌, ◌≤◌, ℕ, List, Option, None, Some, Bool, IsTrue, ⊤}
 use Rattle.per_base.specs.Causes.{Rose}
 use Rattle.disk_model.specs.Medium.{Quiet, Elapses}
@@ -27,27 +28,31 @@ abbrev pub IsWrongSize : (blocks : ℕ) → Type 0
 IsWrongSize blocks = (blocks < 4) ⊎ (4096 < blocks)
 
 -- A flash that can be a disk was opened as one: no page changed, what it held is settled, and the disk has its files.
-pub record IsOpened {F : Type 0} (told : Bool) (medium : F → FlashMedium) (flash : F) (opened : FlashView F) : Type 0 where
-  pub many : 4 ≤ (medium flash).blocks
-  pub few : (medium flash).blocks ≤ 4096
-  pub usable : IsTrue told → IsUsable (medium flash).state.pages (medium flash).blocks
-  pub blocks : (medium opened.flash).blocks ≡ (medium flash).blocks
-  pub state : IsTrue told → (medium opened.flash).state ≡ settle_pages (medium flash).state
-  pub files : IsTrue told → (disk_seen told medium opened).image ≡ flash_files (medium flash).state.pages (medium flash).blocks
-  pub top : IsTrue told → IsTop (medium flash).state.pages (places (medium flash).blocks) opened.sequence
-  pub own : opened.own ≡ 0
-  pub written : opened.written ≡ 0
-  pub faults : (medium opened.flash).faults ≡ (medium flash).faults
-  pub quiet : Quiet (disk_seen told medium opened)
-  pub begins : Begins told (medium flash) (disk_seen told medium opened)
-  -- a stop meanwhile leaves what the flash held
-  pub meanwhile : Opens told (medium flash) (medium opened.flash)
+pub record IsOpened {F : Type 0} (told : Bool) (medium : F → FlashMedium) (flash : F) (opened : FlashView F) : Type 0
+  where
+    pub many : 4 ≤ (medium flash).blocks
+    pub few : (medium flash).blocks ≤ 4096
+    pub usable : IsTrue told → IsUsable (medium flash).state.pages (medium flash).blocks
+    pub blocks : (medium opened.flash).blocks ≡ (medium flash).blocks
+    pub state : IsTrue told → (medium opened.flash).state ≡ settle_pages (medium flash).state
+    pub files : IsTrue told → (disk_seen told medium opened).image
+        ≡ flash_files (medium flash).state.pages (medium flash).blocks
+    pub top : IsTrue told → IsTop (medium flash).state.pages (places (medium flash).blocks) opened.sequence
+    pub own : opened.own ≡ 0
+    pub written : opened.written ≡ 0
+    pub faults : (medium opened.flash).faults ≡ (medium flash).faults
+    pub quiet : Quiet (disk_seen told medium opened)
+    pub begins : Begins told (medium flash) (disk_seen told medium opened)
+    -- a stop meanwhile leaves what the flash held
+    pub meanwhile : Opens told (medium flash) (medium opened.flash)
 
 -- Why a flash was not opened, and the status that says so; back is what is handed back.
 pub data IsRefused (told : Bool) (status : ℕ) (flash back : FlashMedium) : Type 0 where
   wrong_size : IsWrongSize flash.blocks → status ≡ 11 → IsRefused told status flash back
-  unusable : (IsWrongSize flash.blocks → ⊥) → (IsTrue told → IsUnusable flash.state.pages flash.blocks) → status ≡ 10 → IsRefused told status flash back
-  failed : (IsWrongSize flash.blocks → ⊥) → Rose flash.faults back.faults → status ≡ 3 → IsRefused told status flash back
+  unusable : (IsWrongSize flash.blocks → ⊥) → (IsTrue told → IsUnusable flash.state.pages flash.blocks) → status ≡ 10
+      → IsRefused told status flash back
+  failed : (IsWrongSize flash.blocks → ⊥) → Rose flash.faults back.faults → status ≡ 3
+      → IsRefused told status flash back
   memory : (IsWrongSize flash.blocks → ⊥) → status ≡ 4 → IsRefused told status flash back
 
 -- no page of what is handed back changed, also at no moment, and no count fell
@@ -58,24 +63,32 @@ pub record IsHandedBack (told : Bool) (flash back : FlashMedium) : Type 0 where
 
 -- ---- what a stop leaves
 
--- the files that a crash of the flash leaves are those of the flash that was handed in, or those that a case of the disk since its opening leaves
-abbrev pub LeavesFiles : {F : Type 0} → (told : Bool) → (medium : F → FlashMedium) → (flash : F) → (opened disk : FlashView F) → FlashCase → Type 0
+-- the files that a crash of the flash leaves are those of the flash that was handed in, or those that a case of the
+-- disk since its opening leaves
+abbrev pub LeavesFiles : {F : Type 0} → (told : Bool) → (medium : F → FlashMedium) → (flash : F)
+    → (opened disk : FlashView F) → FlashCase → Type 0
 LeavesFiles told medium flash opened disk c =
     (flash_files c.left (medium disk.flash).blocks ≡ flash_files (medium flash).state.pages (medium flash).blocks)
     ⊎ (disk_seen told medium disk).since (disk_seen told medium opened).moment (disk_case (medium disk.flash).blocks c)
 
--- After a stop at any moment since the flash was handed in it can be opened again, and has the files that the job's promise speaks of, as far as
--- no page passes its hash by chance. If it had no rivals it goes on taking writes.
-pub record OpensAgain {F : Type 0} (told : Bool) (medium : F → FlashMedium) (flash : F) (opened disk : FlashView F) : Type 0 where
+-- After a stop at any moment since the flash was handed in it can be opened again, and has the files that the job's
+-- promise speaks of, as far as no page passes its hash by chance. If it had no rivals it goes on taking writes.
+pub record OpensAgain {F : Type 0} (told : Bool) (medium : F → FlashMedium) (flash : F)
+    (opened disk : FlashView F) : Type 0 where
   pub usable : UsableSince (medium disk.flash) (medium flash).moment
-  pub agreed : IsAgreed (medium flash).state.pages (places (medium flash).blocks) → AgreedSince (medium disk.flash) (medium flash).moment
-  pub files : (c : FlashCase) → (medium disk.flash).since (medium flash).moment c → IsPlain c.before c.whole c.left → LeavesFiles told medium flash opened disk c
+  pub agreed : IsAgreed (medium flash).state.pages (places (medium flash).blocks)
+      → AgreedSince (medium disk.flash) (medium flash).moment
+  pub files : (c : FlashCase) → (medium disk.flash).since (medium flash).moment c → IsPlain c.before c.whole c.left
+      → LeavesFiles told medium flash opened disk c
 
 -- ---- the run
 
--- The job was done on the disk that the flash was opened as. The counts of failures are those of the source and of the sink.
-pub record FlashRan {F : Type 0} (told : Bool) (medium : F → FlashMedium) (kind : JobKind) (rules : List Rule) (answers : Answers) (status : ℕ)
-    (left_before left_now before now : Option (List ℕ)) (source_before source_now sink_before sink_now : ℕ) (flash : F) (disk : FlashView F) : Type 0 where
+-- The job was done on the disk that the flash was opened as. The counts of failures are those of the source and of the
+-- sink.
+pub record FlashRan {F : Type 0} (told : Bool) (medium : F → FlashMedium) (kind : JobKind) (rules : List Rule)
+    (answers : Answers) (status : ℕ)
+    (left_before left_now before now : Option (List ℕ)) (source_before source_now sink_before sink_now : ℕ) (flash : F)
+    (disk : FlashView F) : Type 0 where
   pub opened : FlashView F
   pub is_opened : IsOpened told medium flash opened
   pub done : JobDone told kind rules answers status left_before left_now before now

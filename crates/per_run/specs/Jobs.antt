@@ -1,5 +1,6 @@
 -- What each job promises, and by which statuses it ends.
-use Rattle.std.specs.Prelude.{◌≡◌, ◌≢◌, ◌⊎◌, ◌<◌, ℕ, List, [], ◌∷◌, ◌++◌, length, take, Option, Some, None, Bool, true, false, codes, count_by, not, ◌&&◌, IsTrue}
+use Rattle.std.specs.Prelude.{◌≡◌, ◌≢◌, ◌⊎◌, ◌<◌, ℕ, List, [], ◌∷◌, ◌++◌, length, take, Option, Some, None, Bool, true}
+use Rattle.std.specs.Prelude.{false, codes, count_by, not, ◌&&◌, IsTrue}
 use Rattle.std.specs.List.{Contains}
 use Rattle.std.specs.Option.{option_or}
 use Rattle.std.specs.Fmt.{decimal}
@@ -42,7 +43,8 @@ IsWritten status = (status ≡ 0) ⊎ (status ≡ 8)
 abbrev pub IsDone : ℕ → Type 0
 IsDone status = IsWritten status ⊎ (status ≡ 6)
 
--- all of the text; where the sink failed a front of it that is not all; and nothing where the job did not come to its output
+-- all of the text; where the sink failed a front of it that is not all; and nothing where the job did not come to its
+-- output
 pub record Writes (status : ℕ) (before now : Option (List ℕ)) (text : List ℕ) : Type 0 where
   pub whole : IsWritten status → Appends before now text
   pub front : status ≡ 6 → IsFront before now text
@@ -94,15 +96,18 @@ size_text None = codes "-"
 size_text (Some n) = decimal n
 
 abbrev pub summary_text : (lines done other errors : ℕ) → (size : Option ℕ) → List ℕ
-summary_text lines done other errors size = codes "lines " ++ (decimal lines ++ (codes " ok " ++ (decimal done ++ (codes " other " ++ (decimal other
+summary_text lines done other errors size = codes "lines "
+    ++ (decimal lines ++ (codes " ok " ++ (decimal done ++ (codes " other " ++ (decimal other
     ++ (codes " errors " ++ (decimal errors ++ (codes " size " ++ (size_text size ++ codes "\n")))))))))
 
 -- how many lines there were, how many replies of each sort, and the size
 abbrev pub summary : (lines : ℕ) → List Reply → List ℕ
-summary lines rs = summary_text lines (count_by is_done rs) (count_by is_other rs) (count_by is_error rs) (size_given rs)
+summary lines rs = summary_text lines (count_by is_done rs) (count_by is_other rs) (count_by is_error rs)
+    (size_given rs)
 
 -- the lines that the number gives, each with its reply and its world from the formatted one on
-pub record Generates (told : Bool) (rules : List Rule) (answers : Answers) (n status : ℕ) (before now : Option (List ℕ)) (old new : Medium) : Type 0 where
+pub record Generates (told : Bool) (rules : List Rule) (answers : Answers) (n status : ℕ) (before now : Option (List ℕ))
+    (old new : Medium) : Type 0 where
   pub turns : List Turn
   pub gives : IsDone status → Give (generated n) (events_of turns)
   pub output : Writes status before now (summary (length (generated n)) (replies_of turns))
@@ -112,7 +117,8 @@ pub record Generates (told : Bool) (rules : List Rule) (answers : Answers) (n st
 
 -- ---- an audit
 
--- what lies on the disk is listed, and what is found of it; over a disk that tells nothing the text is that of some lists
+-- what lies on the disk is listed, and what is found of it; over a disk that tells nothing the text is that of some
+-- lists
 pub record Audits (told : Bool) (status : ℕ) (before now : Option (List ℕ)) (old new : Medium) : Type 0 where
   pub elements : List Listed
   pub findings : List Finding
@@ -128,13 +134,18 @@ pub record Audits (told : Bool) (status : ℕ) (before now : Option (List ℕ)) 
 
 -- ---- all jobs
 
-abbrev pub JobDone : (told : Bool) → JobKind → List Rule → Answers → (status : ℕ) → (left_before left_now before now : Option (List ℕ))
+abbrev pub JobDone : (told : Bool) → JobKind → List Rule → Answers → (status : ℕ)
+    → (left_before left_now before now : Option (List ℕ))
     → (old_counts new_counts : Failed) → (old new : Medium) → Type 0
 JobDone told Run rules answers status left_before left_now before now old_counts new_counts old new =
-    runs.Run told rules answers status left_before left_now before now old_counts.source new_counts.source old_counts.sink new_counts.sink old new
-JobDone told Format rules answers status left_before left_now before now old_counts new_counts old new = Formats told status before now new
-JobDone told (Generate n) rules answers status left_before left_now before now old_counts new_counts old new = Generates told rules answers n status before now old new
-JobDone told Audit rules answers status left_before left_now before now old_counts new_counts old new = Audits told status before now old new
+    runs.Run told rules answers status left_before left_now before now old_counts.source new_counts.source
+    old_counts.sink new_counts.sink old new
+JobDone told Format rules answers status left_before left_now before now old_counts new_counts old new =
+    Formats told status before now new
+JobDone told (Generate n) rules answers status left_before left_now before now old_counts new_counts old new =
+    Generates told rules answers n status before now old new
+JobDone told Audit rules answers status left_before left_now before now old_counts new_counts old new =
+    Audits told status before now old new
 
 -- the statuses that no failure brings
 abbrev pub statuses_of : JobKind → List ℕ

@@ -104,12 +104,14 @@ abbrev reply : Answer → Reply
 reply a = record { reports = []; answer = a }
 
 -- its storage was installed and opened, a number set and all synchronised, measured and closed
-one : summary 6 (reply answer.Done ∷ reply answer.Done ∷ reply answer.Done ∷ reply answer.Done ∷ reply (answer.Number 11) ∷ reply answer.Done ∷ [])
+one : summary 6 (reply answer.Done ∷ reply answer.Done ∷ reply answer.Done ∷ reply answer.Done
+    ∷ reply (answer.Number 11) ∷ reply answer.Done ∷ [])
     ≡ codes "lines 6 ok 5 other 1 errors 0 size 11\n"
 unfolding digits
 one = refl
 
 -- every command was refused
-refused : summary 2 (reply (answer.Error error.NotInstalled) ∷ reply (answer.Error error.NotOpen) ∷ []) ≡ codes "lines 2 ok 0 other 0 errors 2 size -\n"
+refused : summary 2 (reply (answer.Error error.NotInstalled) ∷ reply (answer.Error error.NotOpen) ∷ [])
+    ≡ codes "lines 2 ok 0 other 0 errors 2 size -\n"
 unfolding digits
 refused = refl

@@ -1,5 +1,6 @@
 -- What the parts of a run keep, from line to line and from byte to byte.
-use Rattle.std.specs.Prelude.{◌≡◌, ◌⊎◌, ◌≤◌, ◌<◌, ℕ, List, [], ◌∷◌, ◌++◌, length, take, Option, Bool, false, IsTrue, Result, Ok, Err, IsErrOf, IfErr, nat_eq, count_by, ⊤}
+use Rattle.std.specs.Prelude.{◌≡◌, ◌⊎◌, ◌≤◌, ◌<◌, ℕ, List, [], ◌∷◌, ◌++◌, length, take, Option, Bool, false, IsTrue}
+use Rattle.std.specs.Prelude.{Result, Ok, Err, IsErrOf, IfErr, nat_eq, count_by, ⊤}
 use Rattle.std.specs.List.{AllByRecursion, flat_map, list_any}
 use Rattle.std.specs.Io.KnownBytes.{Appends, Consumes, IsAtEnd}
 use Rattle.per_base.specs.Causes.{Rose}
@@ -21,7 +22,8 @@ use Rattle.run_model.specs.Worlds.{Doubt, world_at, started, formatted}
 use Rattle.per_run.specs.declared.answering.Outcome.{Outcome}
 use Rattle.per_run.specs.declared.answering.Outcome.TheVariants as outcome
 use Rattle.per_run.specs.declared.endings.Ending.{Ending}
-use Rattle.per_run.specs.declared.endings.Ending.TheVariants.{AllRead, EndLine, BadLine, OutOfMemory, Source, Sink, TooLong}
+use Rattle.per_run.specs.declared.endings.Ending.TheVariants.{AllRead, EndLine, BadLine, OutOfMemory, Source, Sink}
+use Rattle.per_run.specs.declared.endings.Ending.TheVariants.{TooLong}
 use Rattle.per_run.specs.declared.tally.Tally.{Tally}
 use Rattle.per_run.specs.declared.words.JobKind.{JobKind}
 use Rattle.per_run.specs.declared.words.JobKind.TheVariants.{Generate}
@@ -75,25 +77,32 @@ Refuses text before now other = ⊥
 -- ---- one line
 
 -- the command of the line was answered
-pub record IsAnswered (told : Bool) (rules : List Rule) (answers : Answers) (text : List ℕ) (before after : Memory) (reply : Reply) (old new : Medium) : Type 0 where
+pub record IsAnswered (told : Bool) (rules : List Rule) (answers : Answers) (text : List ℕ) (before after : Memory)
+    (reply : Reply) (old new : Medium) : Type 0 where
   pub event : Event
   pub spelled : IsLine text (line.Event event)
   pub has_text : HasText reply.answer
   pub blamed : IsBlamed old.faults new.faults reply
-  pub stepped : IsTrue told → (doubt : Option Doubt) → IsDoubt before doubt → Stepped rules answers event reply before after doubt old new
+  pub stepped : IsTrue told → (doubt : Option Doubt) → IsDoubt before doubt
+      → Stepped rules answers event reply before after doubt old new
 
 -- memory ran out in the command of the line
-pub record IsStopped (told : Bool) (rules : List Rule) (answers : Answers) (text : List ℕ) (before : Memory) (old new : Medium) : Type 0 where
+pub record IsStopped (told : Bool) (rules : List Rule) (answers : Answers) (text : List ℕ) (before : Memory)
+    (old new : Medium) : Type 0 where
   pub event : Event
   pub spelled : IsLine text (line.Event event)
-  pub stopped : IsTrue told → (doubt : Option Doubt) → IsDoubt before doubt → Stopped rules answers event before doubt old new
+  pub stopped : IsTrue told → (doubt : Option Doubt) → IsDoubt before doubt
+      → Stopped rules answers event before doubt old new
 
 -- what came of a line, from the memory and the disk before it to those after it
-abbrev pub Came : {D : Type 0} → (told : Bool) → (medium : D → Medium) → List Rule → Answers → (text : List ℕ) → (before after : Memory) → (old new : D) → Outcome → Type 0
-Came told medium rules answers text before after old new outcome.Nothing = IsLine text line.Nothing × (after ≡ before) × (new ≡ old)
+abbrev pub Came : {D : Type 0} → (told : Bool) → (medium : D → Medium) → List Rule → Answers → (text : List ℕ)
+    → (before after : Memory) → (old new : D) → Outcome → Type 0
+Came told medium rules answers text before after old new outcome.Nothing =
+    IsLine text line.Nothing × (after ≡ before) × (new ≡ old)
 Came told medium rules answers text before after old new outcome.End = IsLine text line.End × (new ≡ old)
 Came told medium rules answers text before after old new outcome.Bad = IsBad text × (new ≡ old)
-Came told medium rules answers text before after old new (outcome.Answered reply) = IsAnswered told rules answers text before after reply (medium old) (medium new)
+Came told medium rules answers text before after old new (outcome.Answered reply) =
+    IsAnswered told rules answers text before after reply (medium old) (medium new)
 Came told medium rules answers text before after old new outcome.OutOfMemory =
     (new ≡ old) ⊎ IsStopped told rules answers text before (medium old) (medium new)
 
@@ -105,12 +114,14 @@ IsGoing rules answers start turns memory now = (doubt : Option Doubt) × IsDoubt
     × Going rules answers (world_at start.image) (started (world_at start.image)) turns memory doubt start now
 
 -- The commands were answered since the start of the run, each with its cause.
-pub record Goes (told : Bool) (rules : List Rule) (answers : Answers) (start : Medium) (turns : List Turn) (memory : Memory) (now : Medium) : Type 0 where
+pub record Goes (told : Bool) (rules : List Rule) (answers : Answers) (start : Medium) (turns : List Turn)
+    (memory : Memory) (now : Medium) : Type 0 where
   pub blamed : AreBlamed start.faults turns now.faults
   pub disk : IsTrue told → IsGoing rules answers start turns memory now
 
 -- These lines were handled since the start of the run: their commands are answered, and the replies written.
-pub record Handled (told : Bool) (rules : List Rule) (answers : Answers) (start : Medium) (before : Option (List ℕ)) (lines : List (List ℕ)) (now : Option (List ℕ))
+pub record Handled (told : Bool) (rules : List Rule) (answers : Answers) (start : Medium) (before : Option (List ℕ))
+    (lines : List (List ℕ)) (now : Option (List ℕ))
     (memory : Memory) (medium : Medium) : Type 0 where
   pub turns : List Turn
   pub gives : Give lines (events_of turns)
@@ -118,7 +129,8 @@ pub record Handled (told : Bool) (rules : List Rule) (answers : Answers) (start 
   pub goes : Goes told rules answers start turns memory medium
 
 -- How the handling of lines ended, of the lines `all`.
-pub record Course (told : Bool) (rules : List Rule) (answers : Answers) (ending : endings.Ending) (start : Medium) (before : Option (List ℕ)) (all : List (List ℕ))
+pub record Course (told : Bool) (rules : List Rule) (answers : Answers) (ending : endings.Ending) (start : Medium)
+    (before : Option (List ℕ)) (all : List (List ℕ))
     (now : Option (List ℕ)) (medium : Medium) : Type 0 where
   pub lines : List (List ℕ)
   pub turns : List Turn
@@ -141,7 +153,8 @@ abbrev pub IsClean : List ℕ → Type 0
 IsClean bytes = has_feed bytes ≡ false
 
 -- These bytes were taken: all their whole lines are handled, and of the rest the front is kept.
-pub record Reached (told : Bool) (rules : List Rule) (answers : Answers) (start : Medium) (before : Option (List ℕ)) (given : List ℕ) (now : Option (List ℕ))
+pub record Reached (told : Bool) (rules : List Rule) (answers : Answers) (start : Medium) (before : Option (List ℕ))
+    (given : List ℕ) (now : Option (List ℕ))
     (memory : Memory) (medium : Medium) (kept : List ℕ) (number : ℕ) : Type 0 where
   pub lines : List (List ℕ)
   pub rest : List ℕ
@@ -153,7 +166,8 @@ pub record Reached (told : Bool) (rules : List Rule) (answers : Answers) (start 
   pub handled : Handled told rules answers start before lines now memory medium
 
 -- The input that was read, and what came of it.
-pub record Ran (told : Bool) (rules : List Rule) (answers : Answers) (ending : Ending) (start : Medium) (left_before left_now before now : Option (List ℕ)) (medium : Medium) : Type 0 where
+pub record Ran (told : Bool) (rules : List Rule) (answers : Answers) (ending : Ending) (start : Medium)
+    (left_before left_now before now : Option (List ℕ)) (medium : Medium) : Type 0 where
   pub given : List ℕ
   pub taken : Consumes left_before left_now given
   pub bound : length given ≤ 67108864
@@ -172,7 +186,8 @@ pub record Tallies (replies : List Reply) (tally : Tally) : Type 0 where
   pub size : tally.size ≡ size_given replies
 
 -- These lines were handled since the start: each gave a command, and the replies are counted.
-pub record Counted (told : Bool) (rules : List Rule) (answers : Answers) (start : Medium) (lines : List (List ℕ)) (memory : Memory) (tally : Tally) (medium : Medium) : Type 0 where
+pub record Counted (told : Bool) (rules : List Rule) (answers : Answers) (start : Medium) (lines : List (List ℕ))
+    (memory : Memory) (tally : Tally) (medium : Medium) : Type 0 where
   pub turns : List Turn
   pub gives : Give lines (events_of turns)
   pub each : length turns ≡ length lines

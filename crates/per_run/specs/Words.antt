@@ -1,5 +1,6 @@
 -- The words of the command line that are accepted, and the job that they say.
-use Rattle.std.specs.Prelude.{◌≡◌, ◌==◌, ℕ, List, [], ◌∷◌, ◌++◌, length, ⊤, Bool, true, false, Option, Some, None, option_map, Result, Ok, Err, codes, if◌then◌else◌}
+use Rattle.std.specs.Prelude.{◌≡◌, ◌==◌, ℕ, List, [], ◌∷◌, ◌++◌, length, ⊤, Bool, true, false, Option, Some, None}
+use Rattle.std.specs.Prelude.{option_map, Result, Ok, Err, codes, if◌then◌else◌}
 use Rattle.std.specs.Str.{bytes_eq}
 use Rattle.std.specs.Str.Parse.{digits_value, without_leading_plus}
 use Rattle.clap.specs.Faults.{fault_of}
@@ -20,12 +21,13 @@ use Rattle.per_run.specs.declared.words.WordsError.TheVariants as words_error
 abbrev pub named_rule : List ℕ → ArgAction → Rule
 named_rule name action = record (new_rule name) { long = Some name; action = Some action }
 
--- a required option `--dir`, the flags `--format` and `--audit`, and the options `--generate` and `--flash`; the words come without the
--- program's name
+-- a required option `--dir`, the flags `--format` and `--audit`, and the options `--generate` and `--flash`; the words
+-- come without the program's name
 abbrev pub command : App
 command = with_rule (with_rule (with_rule (with_rule (with_rule
     (record (new_app (codes "per")) { top = record (new_app (codes "per")).top { no_binary_name = true } })
-    (record (named_rule (codes "dir") Set) { required = true })) (named_rule (codes "flash") Set)) (named_rule (codes "format") SetTrue))
+    (record (named_rule (codes "dir") Set) { required = true })) (named_rule (codes "flash") Set))
+    (named_rule (codes "format") SetTrue))
     (named_rule (codes "generate") Set)) (named_rule (codes "audit") SetTrue)
 
 -- it has matches for the words
@@ -69,7 +71,8 @@ only_mode (mode ∷ []) = mode
 only_mode (mode ∷ other ∷ others) = None
 
 abbrev pub kind_in : List Row → Option JobKind
-kind_in rows = only_mode (modes (is_set (first_of (codes "format") rows)) (first_of (codes "generate") rows) (is_set (first_of (codes "audit") rows)))
+kind_in rows = only_mode (modes (is_set (first_of (codes "format") rows)) (first_of (codes "generate") rows)
+    (is_set (first_of (codes "audit") rows)))
 
 -- the number of blocks of the flash, where one is named
 abbrev pub flash_of : Option (List ℕ) → Option (Option ℕ)

@@ -39,7 +39,8 @@ pub fn answer_line<D: Disk>(
     text: &[u8],
 ) -> Outcome
     requires { IsRuntime D.told (D.medium disk.old) runtime.old }
-    ensures came { Came D.told D.medium (rules_of migrations.now) (answers_of migrations.now) text.now (memory_of runtime.old) (memory_of runtime.new)
+    ensures came { Came D.told D.medium (rules_of migrations.now) (answers_of migrations.now) text.now
+        (memory_of runtime.old) (memory_of runtime.new)
         disk.old disk.new result }
     ensures memory { (result ≡ Outcome.OutOfMemory → ⊥) → IsRuntime D.told (D.medium disk.new) runtime.new }
     ensures time { Elapses (D.medium disk.old) (D.medium disk.new) }
@@ -63,7 +64,8 @@ fn answer<D: Disk>(
     requires event { IsEvent event.now }
     requires memory { IsRuntime D.told (D.medium disk.old) runtime.old }
     ensures came { (text : List ℕ) → IsLine text (Line.Event event.now)
-        → Came D.told D.medium (rules_of migrations.now) (answers_of migrations.now) text (memory_of runtime.old) (memory_of runtime.new)
+        → Came D.told D.medium (rules_of migrations.now) (answers_of migrations.now) text (memory_of runtime.old)
+        (memory_of runtime.new)
         disk.old disk.new result }
     ensures memory { (result ≡ Outcome.OutOfMemory → ⊥) → IsRuntime D.told (D.medium disk.new) runtime.new }
     ensures time { Elapses (D.medium disk.old) (D.medium disk.new) }

@@ -17,7 +17,8 @@ use std::alloc::Global;
 
 /// Audits the disk, which changes nothing of it, and writes what is listed and found.
 pub fn audit_disk<D: Disk, K: Sink>(alloc: Global, sink: &mut K, disk: &mut D) -> u8
-    ensures job { Audits D.told result (K.written sink.old) (K.written sink.new) (D.medium disk.old) (D.medium disk.new) }
+    ensures job { Audits D.told result (K.written sink.old) (K.written sink.new) (D.medium disk.old)
+        (D.medium disk.new) }
     ensures caused { (source : ℕ) → IsCaused JobKind.Audit result
         (record { disk = (D.medium disk.old).faults; source = source; sink = K.faults sink.old })
         (record { disk = (D.medium disk.new).faults; source = source; sink = K.faults sink.new }) }
@@ -32,10 +33,12 @@ pub fn audit_disk<D: Disk, K: Sink>(alloc: Global, sink: &mut K, disk: &mut D) -
 
 /// Writes what is listed and found.
 fn write_audit<K: Sink>(alloc: Global, sink: &mut K, audit: &Audit) -> u8
-    ensures output { Writes result (K.written sink.old) (K.written sink.new) (audit_text audit.now.elements audit.now.findings) }
+    ensures output { Writes result (K.written sink.old) (K.written sink.new)
+        (audit_text audit.now.elements audit.now.findings) }
     ensures sound { result ≡ 0 → audit.now.findings ≡ [] }
     ensures found { result ≡ 8 → audit.now.findings ≢ [] }
-    ensures status { ((result ≡ 0) ⊎ (result ≡ 8)) ⊎ ((result ≡ 4) ⊎ ((result ≡ 6) × Rose (K.faults sink.old) (K.faults sink.new))) }
+    ensures status { ((result ≡ 0) ⊎ (result ≡ 8)) ⊎ ((result ≡ 4)
+        ⊎ ((result ≡ 6) × Rose (K.faults sink.old) (K.faults sink.new))) }
 {
     write_made_output(sink, audit.text(alloc), verdict(audit))
 }

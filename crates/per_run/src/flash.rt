@@ -24,11 +24,13 @@ use std::alloc::Global;
 pub enum FlashRun<F: Flash> {
     /// The job of the words was begun on the flash as a disk, which is handed back.
     Ran(u8, FlashDisk<F>),
-    /// The words were refused, or the flash cannot be opened as a disk, or memory ran out before. The flash is as it was.
+    /// The words were refused, or the flash cannot be opened as a disk, or memory ran out before. The flash is as it
+    /// was.
     Unopened(u8, F),
 }
 
-/// Reads the words, opens the flash as a disk, and does the job that the words say on that disk, as [`crate::per_run`] does it on any.
+/// Reads the words, opens the flash as a disk, and does the job that the words say on that disk, as [`crate::per_run`]
+/// does it on any.
 ///
 /// Where the job was begun the status is one that `per_run` gives to a job. Where the flash was not opened it is:
 ///
@@ -51,18 +53,24 @@ pub fn per_flash<F: Flash, S: Source, K: Sink>(
 ) -> FlashRun<F>
     // What the job promises, over the flash as a disk; and at every moment a stop leaves a flash that opens again.
     ensures ran { IfRan result (λ status disk. IsSomeAnd (job_of (map string_bytes words.now)) (λ job.
-        FlashRan F.told F.medium job.kind (rules_of migrations.now) (answers_of migrations.now) status (S.left source.old) (S.left source.new)
-        (K.written sink.old) (K.written sink.new) (S.faults source.old) (S.faults source.new) (K.faults sink.old) (K.faults sink.new) flash disk)) }
+        FlashRan F.told F.medium job.kind (rules_of migrations.now) (answers_of migrations.now) status
+        (S.left source.old) (S.left source.new)
+        (K.written sink.old) (K.written sink.new) (S.faults source.old) (S.faults source.new) (K.faults sink.old)
+        (K.faults sink.new) flash disk)) }
     ensures unread { IfRan result (λ status disk. IfSome (job_of (map string_bytes words.now)) (λ job.
         reads_input job.kind ≡ false → source.new ≡ source.old)) }
 
     // A run over lines that are all in the grammar, with no failure, handles them all, unless memory ran out.
-    ensures complete { IfRan result (λ status disk. IfSome (job_of (map string_bytes words.now)) (λ job. job.kind ≡ JobKind.Run
-        → (Rose (F.medium flash).faults ((F.medium disk.flash).faults + disk.own) → ⊥) → (Rose (S.faults source.old) (S.faults source.new) → ⊥)
-        → (Rose (K.faults sink.old) (K.faults sink.new) → ⊥) → IfSome (S.left source.old) (λ left. IsWellFormed left → (status ≡ 0) ⊎ (status ≡ 4)))) }
+    ensures complete { IfRan result (λ status disk. IfSome (job_of (map string_bytes words.now))
+        (λ job. job.kind ≡ JobKind.Run
+        → (Rose (F.medium flash).faults ((F.medium disk.flash).faults + disk.own) → ⊥)
+        → (Rose (S.faults source.old) (S.faults source.new) → ⊥)
+        → (Rose (K.faults sink.old) (K.faults sink.new) → ⊥)
+        → IfSome (S.left source.old) (λ left. IsWellFormed left → (status ≡ 0) ⊎ (status ≡ 4)))) }
 
     // Why there was no run; then nothing was read or written, and no page of the flash changed.
-    ensures unopened { IfUnopened result (λ status back. HasNotRun F.told (job_of (map string_bytes words.now)) status (F.medium flash) (F.medium back)) }
+    ensures unopened { IfUnopened result (λ status back.
+        HasNotRun F.told (job_of (map string_bytes words.now)) status (F.medium flash) (F.medium back)) }
     ensures back { IfUnopened result (λ status back. IsHandedBack F.told (F.medium flash) (F.medium back)) }
     ensures untouched { IfUnopened result (λ status back. (source.new ≡ source.old) × (sink.new ≡ sink.old)) }
     ensures same { IfUnopened result (λ status back. (status ≡ 1) ⊎ ((status ≡ 4) ⊎ (status ≡ 11)) → back ≡ flash) }
@@ -85,7 +93,8 @@ fn run_over<F: Flash, S: Source, K: Sink>(
     flash: F,
 ) -> FlashRun<F>
     requires { IsInRange kind }
-    ensures ran { IfRan result (λ status disk. FlashRan F.told F.medium kind (rules_of migrations.now) (answers_of migrations.now) status
+    ensures ran { IfRan result (λ status disk. FlashRan F.told F.medium kind (rules_of migrations.now)
+        (answers_of migrations.now) status
         (S.left source.old) (S.left source.new) (K.written sink.old) (K.written sink.new)
         (S.faults source.old) (S.faults source.new) (K.faults sink.old) (K.faults sink.new) flash disk) }
     ensures unread { IfRan result (λ status disk. reads_input kind ≡ false → source.new ≡ source.old) }

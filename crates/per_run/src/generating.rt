@@ -1,6 +1,7 @@
 //! The job that handles an input which is made of a number.
 
-ghost use Rattle.std.specs.Prelude.{◌≡◌, ◌⊎◌, ◌≤◌, ◌<◌, ◌+◌, ◌++◌, ◌^◌, ℕ, List, [], ◌∷◌, IfOk, OnOk, IsErrOf, length, map};
+ghost use Rattle.std.specs.Prelude.{◌≡◌, ◌⊎◌, ◌≤◌, ◌<◌, ◌+◌, ◌++◌, ◌^◌, ℕ, List, [], ◌∷◌, IfOk, OnOk, IsErrOf, length};
+ghost use Rattle.std.specs.Prelude.{map};
 ghost use Rattle.disk_model.specs.Medium.{Elapses};
 ghost use Rattle.migrate_fns.specs.Stored.{answers_of, rules_of};
 ghost use Rattle.per_base.specs.Causes.{Rose};
@@ -31,8 +32,10 @@ pub fn generate<D: Disk, K: Sink>(
     disk: &mut D,
 ) -> u8
     requires { number ≤ 100000 }
-    ensures job { Generates D.told (rules_of migrations.now) (answers_of migrations.now) number result (K.written sink.old) (K.written sink.new) (D.medium disk.old) (D.medium disk.new) }
-    ensures status { (result ≡ 0) ⊎ ((result ≡ 4) ⊎ (((result ≡ 3) × Rose (D.medium disk.old).faults (D.medium disk.new).faults)
+    ensures job { Generates D.told (rules_of migrations.now) (answers_of migrations.now) number result
+        (K.written sink.old) (K.written sink.new) (D.medium disk.old) (D.medium disk.new) }
+    ensures status { (result ≡ 0) ⊎ ((result ≡ 4) ⊎ (((result ≡ 3)
+        × Rose (D.medium disk.old).faults (D.medium disk.new).faults)
         ⊎ ((result ≡ 6) × Rose (K.faults sink.old) (K.faults sink.new)))) }
     ensures time { Elapses (D.medium disk.old) (D.medium disk.new) }
 {
@@ -46,7 +49,8 @@ pub fn generate<D: Disk, K: Sink>(
 /// The runtime on a disk that is formatted.
 fn start_formatted<D: Disk>(alloc: Global, disk: &mut D) -> Result<Runtime, Stop>
     ensures memory { IfOk result (IsRuntime D.told (D.medium disk.new)) }
-    ensures begun { IfOk result (λ r. (middle : D) × IsBegun D.told (memory_of r) (D.medium disk.old) (D.medium middle) (D.medium disk.new)) }
+    ensures begun { IfOk result (λ r. (middle : D) × IsBegun D.told (memory_of r) (D.medium disk.old) (D.medium middle)
+        (D.medium disk.new)) }
     ensures cause { IsErrOf result Stop.Device → Rose (D.medium disk.old).faults (D.medium disk.new).faults }
     ensures time { Elapses (D.medium disk.old) (D.medium disk.new) }
 {
@@ -67,8 +71,10 @@ fn generate_on<D: Disk, K: Sink>(
 ) -> u8
     requires number { number ≤ 100000 }
     requires memory { IsRuntime D.told (D.medium disk.old) runtime }
-    ensures job { (old middle : D) → IsBegun D.told (memory_of runtime) (D.medium old) (D.medium middle) (D.medium disk.old)
-        → Generates D.told (rules_of migrations.now) (answers_of migrations.now) number result (K.written sink.old) (K.written sink.new) (D.medium old) (D.medium disk.new) }
+    ensures job { (old middle : D) → IsBegun D.told (memory_of runtime) (D.medium old) (D.medium middle)
+        (D.medium disk.old)
+        → Generates D.told (rules_of migrations.now) (answers_of migrations.now) number result (K.written sink.old)
+        (K.written sink.new) (D.medium old) (D.medium disk.new) }
     ensures status { (result ≡ 0) ⊎ ((result ≡ 4) ⊎ ((result ≡ 6) × Rose (K.faults sink.old) (K.faults sink.new))) }
     ensures time { Elapses (D.medium disk.old) (D.medium disk.new) }
 {
@@ -84,7 +90,8 @@ fn generate_on<D: Disk, K: Sink>(
 
 /// Writes what came of the lines that the number gives.
 fn write_summary<K: Sink>(alloc: Global, number: u32, tally: &Tally, sink: &mut K) -> u8
-    ensures output { (replies : List Reply) → Tallies replies tally.now → Writes result (K.written sink.old) (K.written sink.new) (summary (number + 5) replies) }
+    ensures output { (replies : List Reply) → Tallies replies tally.now
+        → Writes result (K.written sink.old) (K.written sink.new) (summary (number + 5) replies) }
     ensures status { (result ≡ 0) ⊎ ((result ≡ 4) ⊎ ((result ≡ 6) × Rose (K.faults sink.old) (K.faults sink.new))) }
 {
     match tally.summary(alloc, u64::from(number) + 5) {
@@ -110,8 +117,10 @@ fn handle_all<D: Disk>(
 ) -> Result<(), AllocError>
     requires number { number ≤ 100000 }
     requires memory { IsRuntime D.told (D.medium disk.old) batch.old.runtime }
-    ensures counted { OnOk result ((start : D) → Counted D.told (rules_of migrations.now) (answers_of migrations.now) (D.medium start) [] (memory_of batch.old.runtime) batch.old.tally (D.medium disk.old)
-        → Counted D.told (rules_of migrations.now) (answers_of migrations.now) (D.medium start) (generated number) (memory_of batch.new.runtime) batch.new.tally (D.medium disk.new)) }
+    ensures counted { OnOk result ((start : D) → Counted D.told (rules_of migrations.now) (answers_of migrations.now)
+        (D.medium start) [] (memory_of batch.old.runtime) batch.old.tally (D.medium disk.old)
+        → Counted D.told (rules_of migrations.now) (answers_of migrations.now) (D.medium start) (generated number)
+        (memory_of batch.new.runtime) batch.new.tally (D.medium disk.new)) }
     ensures time { Elapses (D.medium disk.old) (D.medium disk.new) }
 {
     handle_each(alloc, batch, migrations, disk, first_lines().as_slice())?;
@@ -128,8 +137,13 @@ fn handle_each<D: Disk>(
     lines: &[&str],
 ) -> Result<(), AllocError>
     requires { IsRuntime D.told (D.medium disk.old) batch.old.runtime }
-    ensures counted { OnOk result ((start : D) (before : List (List ℕ)) → length (before ++ map (λ line. line.now) lines.now) < 2 ^ 32 → Counted D.told (rules_of migrations.now) (answers_of migrations.now) (D.medium start) before (memory_of batch.old.runtime) batch.old.tally (D.medium disk.old)
-        → Counted D.told (rules_of migrations.now) (answers_of migrations.now) (D.medium start) (before ++ map (λ line. line.now) lines.now) (memory_of batch.new.runtime) batch.new.tally (D.medium disk.new)) }
+    ensures counted { OnOk result ((start : D) (before : List (List ℕ))
+        → length (before ++ map (λ line. line.now) lines.now) < 2 ^ 32
+        → Counted D.told (rules_of migrations.now) (answers_of migrations.now) (D.medium start) before
+        (memory_of batch.old.runtime) batch.old.tally (D.medium disk.old)
+        → Counted D.told (rules_of migrations.now) (answers_of migrations.now) (D.medium start)
+        (before ++ map (λ line. line.now) lines.now) (memory_of batch.new.runtime) batch.new.tally
+        (D.medium disk.new)) }
     ensures memory { OnOk result (IsRuntime D.told (D.medium disk.new) batch.new.runtime) }
     ensures time { Elapses (D.medium disk.old) (D.medium disk.new) }
 {
@@ -149,8 +163,12 @@ fn handle_generated<D: Disk>(
 ) -> Result<(), AllocError>
     requires number { number ≤ 100000 }
     requires memory { IsRuntime D.told (D.medium disk.old) batch.old.runtime }
-    ensures counted { OnOk result ((start : D) (before : List (List ℕ)) → length before + number < 2 ^ 32 → Counted D.told (rules_of migrations.now) (answers_of migrations.now) (D.medium start) before (memory_of batch.old.runtime) batch.old.tally (D.medium disk.old)
-        → Counted D.told (rules_of migrations.now) (answers_of migrations.now) (D.medium start) (before ++ generated_lines number 1 number) (memory_of batch.new.runtime) batch.new.tally (D.medium disk.new)) }
+    ensures counted { OnOk result ((start : D) (before : List (List ℕ)) → length before + number < 2 ^ 32
+        → Counted D.told (rules_of migrations.now) (answers_of migrations.now) (D.medium start) before
+        (memory_of batch.old.runtime) batch.old.tally (D.medium disk.old)
+        → Counted D.told (rules_of migrations.now) (answers_of migrations.now) (D.medium start)
+        (before ++ generated_lines number 1 number) (memory_of batch.new.runtime) batch.new.tally
+        (D.medium disk.new)) }
     ensures memory { OnOk result (IsRuntime D.told (D.medium disk.new) batch.new.runtime) }
     ensures time { Elapses (D.medium disk.old) (D.medium disk.new) }
 {
@@ -172,8 +190,11 @@ fn handle_one<D: Disk>(
     line: &[u8],
 ) -> Result<(), AllocError>
     requires { IsRuntime D.told (D.medium disk.old) batch.old.runtime }
-    ensures counted { OnOk result ((start : D) (before : List (List ℕ)) → length before < 2 ^ 32 → Counted D.told (rules_of migrations.now) (answers_of migrations.now) (D.medium start) before (memory_of batch.old.runtime) batch.old.tally (D.medium disk.old)
-        → Counted D.told (rules_of migrations.now) (answers_of migrations.now) (D.medium start) (before ++ line.now ∷ []) (memory_of batch.new.runtime) batch.new.tally (D.medium disk.new)) }
+    ensures counted { OnOk result ((start : D) (before : List (List ℕ)) → length before < 2 ^ 32
+        → Counted D.told (rules_of migrations.now) (answers_of migrations.now) (D.medium start) before
+        (memory_of batch.old.runtime) batch.old.tally (D.medium disk.old)
+        → Counted D.told (rules_of migrations.now) (answers_of migrations.now) (D.medium start)
+        (before ++ line.now ∷ []) (memory_of batch.new.runtime) batch.new.tally (D.medium disk.new)) }
     ensures memory { OnOk result (IsRuntime D.told (D.medium disk.new) batch.new.runtime) }
     ensures time { Elapses (D.medium disk.old) (D.medium disk.new) }
 {

@@ -22,7 +22,8 @@ pub fn read_piece<S: Source>(
     requires some { 0 < room }
     requires within { room ≤ length buffer.old }
     ensures bound { IfOk result (λ count. count ≤ room) }
-    ensures bytes { MatchResult result (λ count. Consumes (S.left source.old) (S.left source.new) (take count buffer.new)
+    ensures bytes { MatchResult result (λ count. Consumes (S.left source.old) (S.left source.new)
+        (take count buffer.new)
         × (count ≡ 0 → IsAtEnd (S.left source.new))) (λ _. Keeps (S.left source.old) (S.left source.new)) }
     ensures cause { HasCause (S.faults source.old) (S.faults source.new) result }
 {

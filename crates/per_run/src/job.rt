@@ -27,7 +27,7 @@ use std::alloc::Global;
 ///
 /// | status | comes |
 /// |---|---|
-/// | 0 | the job is done: the input was read to its end or to the line `end`, the disk is formatted, the made input is handled, or nothing was found; and all output is written |
+/// | 0 | the job is done, and all output is written: the input was read to its end or to the line `end`, the disk is formatted, the made input is handled, or nothing was found |
 /// | 1 | only where the words are refused; nothing was read or written |
 /// | 2 | the line `bad-line N` says is outside the grammar; all lines before it were handled and answered |
 /// | 3 | the disk failed while the runtime started, or in a job that handles no lines |
@@ -47,10 +47,12 @@ pub fn per_run<D: Disk, S: Source, K: Sink>(
     // Refused words, and only they, give 1, unless memory ran out; and then nothing happened.
     ensures refused { result ≡ 1 → job_of (map string_bytes words.now) ≡ None }
     ensures words { job_of (map string_bytes words.now) ≡ None → (result ≡ 1) ⊎ (result ≡ 4) }
-    ensures untouched { job_of (map string_bytes words.now) ≡ None → (source.new ≡ source.old) × (sink.new ≡ sink.old) × (disk.new ≡ disk.old) }
+    ensures untouched { job_of (map string_bytes words.now) ≡ None
+        → (source.new ≡ source.old) × (sink.new ≡ sink.old) × (disk.new ≡ disk.old) }
 
     // What the job promises, and why it ended so.
-    ensures job { IfSome (job_of (map string_bytes words.now)) (λ job. JobDone D.told job.kind (rules_of migrations.now) (answers_of migrations.now) result
+    ensures job { IfSome (job_of (map string_bytes words.now))
+        (λ job. JobDone D.told job.kind (rules_of migrations.now) (answers_of migrations.now) result
         (S.left source.old) (S.left source.new) (K.written sink.old) (K.written sink.new)
         (record { disk = (D.medium disk.old).faults; source = S.faults source.old; sink = K.faults sink.old })
         (record { disk = (D.medium disk.new).faults; source = S.faults source.new; sink = K.faults sink.new })
@@ -58,12 +60,15 @@ pub fn per_run<D: Disk, S: Source, K: Sink>(
     ensures caused { IfSome (job_of (map string_bytes words.now)) (λ job. IsCaused job.kind result
         (record { disk = (D.medium disk.old).faults; source = S.faults source.old; sink = K.faults sink.old })
         (record { disk = (D.medium disk.new).faults; source = S.faults source.new; sink = K.faults sink.new })) }
-    ensures unread { IfSome (job_of (map string_bytes words.now)) (λ job. reads_input job.kind ≡ false → source.new ≡ source.old) }
+    ensures unread { IfSome (job_of (map string_bytes words.now))
+        (λ job. reads_input job.kind ≡ false → source.new ≡ source.old) }
 
     // A run over lines that are all in the grammar, with no failure, handles them all, unless memory ran out.
     ensures complete { IfSome (job_of (map string_bytes words.now)) (λ job. job.kind ≡ JobKind.Run
-        → (Rose (D.medium disk.old).faults (D.medium disk.new).faults → ⊥) → (Rose (S.faults source.old) (S.faults source.new) → ⊥)
-        → (Rose (K.faults sink.old) (K.faults sink.new) → ⊥) → IfSome (S.left source.old) (λ left. IsWellFormed left → (result ≡ 0) ⊎ (result ≡ 4))) }
+        → (Rose (D.medium disk.old).faults (D.medium disk.new).faults → ⊥)
+        → (Rose (S.faults source.old) (S.faults source.new) → ⊥)
+        → (Rose (K.faults sink.old) (K.faults sink.new) → ⊥)
+        → IfSome (S.left source.old) (λ left. IsWellFormed left → (result ≡ 0) ⊎ (result ≡ 4))) }
     ensures time { Elapses (D.medium disk.old) (D.medium disk.new) }
 {
     applications_stand();

@@ -1,14 +1,16 @@
 //! The top call of `per`: words and lines in, replies out, eight applications on a disk.
 //!
-//! [`per_run`] reads the words of the command line and does the job that they say. The job of plain words starts the runtime and
-//! handles the lines of a source one by one, each with its reply to a sink, until the input ends, a line is outside the grammar, or
-//! something fails. `--format` formats the disk, and `--generate N` does that and then handles a large input that is made of a number.
-//! `--audit` lists what lies on the disk and finds what is damaged or lost, and mends nothing.
-//! The contract says what every status means: which lines were handled, what was written, what the disk then stands for, what a stop
-//! at any moment leaves, and that a failure of the disk, the source or the sink ends the program only where its count of faults rose.
+//! [`per_run`] reads the words of the command line and does the job that they say. The job of plain words starts the
+//! runtime and handles the lines of a source one by one, each with its reply to a sink, until the input ends, a line is
+//! outside the grammar, or something fails. `--format` formats the disk, and `--generate N` does that and then handles
+//! a large input that is made of a number. `--audit` lists what lies on the disk and finds what is damaged or lost, and
+//! mends nothing. The contract says what every status means: which lines were handled, what was written, what the disk
+//! then stands for, what a stop at any moment leaves, and that a failure of the disk, the source or the sink ends the
+//! program only where its count of faults rose.
 //!
-//! [`read_words`] gives the job of the words. Limits: lines of 262,144 bytes, and an input of 67,108,864 bytes. The text of a reply is
-//! handed to the sink before the next line is looked at. What is not promised is that memory is there.
+//! [`read_words`] gives the job of the words. Limits: lines of 262,144 bytes, and an input of 67,108,864 bytes. The
+//! text of a reply is handed to the sink before the next line is looked at. What is not promised is that memory is
+//! there.
 #![tactic(auto)]
 
 mod answering;

@@ -1,6 +1,7 @@
 //! From bytes to lines, and from lines to replies.
 
-ghost use Rattle.std.specs.Prelude.{◌≡◌, ◌⊎◌, ◌<◌, ◌+◌, ◌-◌, ◌^◌, ◌++◌, ℕ, List, [], ◌∷◌, true, false, Option, IfOk, IfErr, OnOk, length, min, take};
+ghost use Rattle.std.specs.Prelude.{◌≡◌, ◌⊎◌, ◌<◌, ◌+◌, ◌-◌, ◌^◌, ◌++◌, ℕ, List, [], ◌∷◌, true, false, Option, IfOk};
+ghost use Rattle.std.specs.Prelude.{IfErr, OnOk, length, min, take};
 ghost use Rattle.disk_model.specs.Medium.{Elapses};
 ghost use Rattle.migrate_fns.specs.Stored.{answers_of, rules_of};
 ghost use Rattle.command_text.specs.Replies.{HasText, reply_text};
@@ -54,12 +55,21 @@ pub fn feed<D: Disk, K: Sink>(
     piece: &[u8],
 ) -> Result<(), Ending>
     requires { IsRuntime D.told (D.medium disk.old) reader.old.runtime }
-    ensures goes_on { OnOk result ((start : D) (before : Option (List ℕ)) (given : List ℕ) → length (given ++ piece.now) < 2 ^ 63
-        → Reached D.told (rules_of migrations.now) (answers_of migrations.now) (D.medium start) before given (K.written sink.old) (memory_of reader.old.runtime) (D.medium disk.old) reader.old.kept.items reader.old.number
-        → Reached D.told (rules_of migrations.now) (answers_of migrations.now) (D.medium start) before (given ++ piece.now) (K.written sink.new) (memory_of reader.new.runtime) (D.medium disk.new) reader.new.kept.items reader.new.number) }
-    ensures ends { IfErr result (λ ending. AppLaws → (start : D) (before : Option (List ℕ)) (given : List ℕ) → length (given ++ piece.now) < 2 ^ 63
-        → Reached D.told (rules_of migrations.now) (answers_of migrations.now) (D.medium start) before given (K.written sink.old) (memory_of reader.old.runtime) (D.medium disk.old) reader.old.kept.items reader.old.number
-        → Course D.told (rules_of migrations.now) (answers_of migrations.now) (ending_of ending) (D.medium start) before (lines_of false (given ++ piece.now)) (K.written sink.new) (D.medium disk.new)) }
+    ensures goes_on { OnOk result ((start : D) (before : Option (List ℕ)) (given : List ℕ)
+        → length (given ++ piece.now) < 2 ^ 63
+        → Reached D.told (rules_of migrations.now) (answers_of migrations.now) (D.medium start) before given
+        (K.written sink.old) (memory_of reader.old.runtime) (D.medium disk.old) reader.old.kept.items
+        reader.old.number
+        → Reached D.told (rules_of migrations.now) (answers_of migrations.now) (D.medium start) before
+        (given ++ piece.now) (K.written sink.new) (memory_of reader.new.runtime) (D.medium disk.new)
+        reader.new.kept.items reader.new.number) }
+    ensures ends { IfErr result (λ ending. AppLaws → (start : D) (before : Option (List ℕ)) (given : List ℕ)
+        → length (given ++ piece.now) < 2 ^ 63
+        → Reached D.told (rules_of migrations.now) (answers_of migrations.now) (D.medium start) before given
+        (K.written sink.old) (memory_of reader.old.runtime) (D.medium disk.old) reader.old.kept.items
+        reader.old.number
+        → Course D.told (rules_of migrations.now) (answers_of migrations.now) (ending_of ending) (D.medium start) before
+        (lines_of false (given ++ piece.now)) (K.written sink.new) (D.medium disk.new)) }
     ensures memory { OnOk result (IsRuntime D.told (D.medium disk.new) reader.new.runtime) }
     ensures blames { Blames (K.faults sink.old) (K.faults sink.new) result }
     ensures time { Elapses (D.medium disk.old) (D.medium disk.new) }
@@ -82,8 +92,11 @@ pub fn finish<D: Disk, K: Sink>(
 ) -> Ending
     requires { IsRuntime D.told (D.medium disk.old) reader.old.runtime }
     ensures ends { AppLaws → (start : D) (before : Option (List ℕ)) (given : List ℕ) → length given < 2 ^ 63
-        → Reached D.told (rules_of migrations.now) (answers_of migrations.now) (D.medium start) before given (K.written sink.old) (memory_of reader.old.runtime) (D.medium disk.old) reader.old.kept.items reader.old.number
-        → Course D.told (rules_of migrations.now) (answers_of migrations.now) (ending_of result) (D.medium start) before (lines_of true given) (K.written sink.new) (D.medium disk.new) }
+        → Reached D.told (rules_of migrations.now) (answers_of migrations.now) (D.medium start) before given
+        (K.written sink.old) (memory_of reader.old.runtime) (D.medium disk.old) reader.old.kept.items
+        reader.old.number
+        → Course D.told (rules_of migrations.now) (answers_of migrations.now) (ending_of result) (D.medium start) before
+        (lines_of true given) (K.written sink.new) (D.medium disk.new) }
     ensures inner { (result ≡ Ending.AllRead) ⊎ IsBroken result }
     ensures blamed { Blamed result (K.faults sink.old) (K.faults sink.new) }
     ensures time { Elapses (D.medium disk.old) (D.medium disk.new) }
@@ -107,11 +120,19 @@ fn feed_byte<D: Disk, K: Sink>(
 ) -> Result<(), Ending>
     requires { IsRuntime D.told (D.medium disk.old) reader.old.runtime }
     ensures goes_on { OnOk result ((start : D) (before : Option (List ℕ)) (given : List ℕ) → length given < 2 ^ 63
-        → Reached D.told (rules_of migrations.now) (answers_of migrations.now) (D.medium start) before given (K.written sink.old) (memory_of reader.old.runtime) (D.medium disk.old) reader.old.kept.items reader.old.number
-        → Reached D.told (rules_of migrations.now) (answers_of migrations.now) (D.medium start) before (given ++ byte ∷ []) (K.written sink.new) (memory_of reader.new.runtime) (D.medium disk.new) reader.new.kept.items reader.new.number) }
-    ensures ends { IfErr result (λ ending. AppLaws → (start : D) (before : Option (List ℕ)) (given others : List ℕ) → length given < 2 ^ 63
-        → Reached D.told (rules_of migrations.now) (answers_of migrations.now) (D.medium start) before given (K.written sink.old) (memory_of reader.old.runtime) (D.medium disk.old) reader.old.kept.items reader.old.number
-        → Course D.told (rules_of migrations.now) (answers_of migrations.now) (ending_of ending) (D.medium start) before (lines_of false (given ++ byte ∷ others)) (K.written sink.new) (D.medium disk.new)) }
+        → Reached D.told (rules_of migrations.now) (answers_of migrations.now) (D.medium start) before given
+        (K.written sink.old) (memory_of reader.old.runtime) (D.medium disk.old) reader.old.kept.items
+        reader.old.number
+        → Reached D.told (rules_of migrations.now) (answers_of migrations.now) (D.medium start) before
+        (given ++ byte ∷ []) (K.written sink.new) (memory_of reader.new.runtime) (D.medium disk.new)
+        reader.new.kept.items reader.new.number) }
+    ensures ends { IfErr result (λ ending. AppLaws → (start : D) (before : Option (List ℕ)) (given others : List ℕ)
+        → length given < 2 ^ 63
+        → Reached D.told (rules_of migrations.now) (answers_of migrations.now) (D.medium start) before given
+        (K.written sink.old) (memory_of reader.old.runtime) (D.medium disk.old) reader.old.kept.items
+        reader.old.number
+        → Course D.told (rules_of migrations.now) (answers_of migrations.now) (ending_of ending) (D.medium start) before
+        (lines_of false (given ++ byte ∷ others)) (K.written sink.new) (D.medium disk.new)) }
     ensures memory { OnOk result (IsRuntime D.told (D.medium disk.new) reader.new.runtime) }
     ensures blames { Blames (K.faults sink.old) (K.faults sink.new) result }
     ensures time { Elapses (D.medium disk.old) (D.medium disk.new) }
@@ -131,7 +152,8 @@ fn feed_byte<D: Disk, K: Sink>(
 
 /// Puts a byte behind the front of the line that is kept, as long as the line may still be one.
 fn keep(kept: &mut Vec<u8>, byte: u8) -> Result<(), Ending>
-    ensures kept { OnOk result ((rest : List ℕ) → kept.old.items ≡ take 262145 rest → kept.new.items ≡ take 262145 (rest ++ byte ∷ [])) }
+    ensures kept { OnOk result ((rest : List ℕ) → kept.old.items ≡ take 262145 rest
+        → kept.new.items ≡ take 262145 (rest ++ byte ∷ [])) }
     ensures memory { IfErr result (λ ending. ending ≡ Ending.OutOfMemory) }
 {
     if kept.len() > LINE_BYTES {
@@ -151,15 +173,21 @@ fn handle_line<D: Disk, K: Sink>(
     disk: &mut D,
 ) -> Result<(), Ending>
     requires { IsRuntime D.told (D.medium disk.old) reader.old.runtime }
-    ensures goes_on { OnOk result ((start : D) (before : Option (List ℕ)) (lines : List (List ℕ)) (text : List ℕ) → reader.old.kept.items ≡ take 262145 text
-        → Handled D.told (rules_of migrations.now) (answers_of migrations.now) (D.medium start) before lines (K.written sink.old) (memory_of reader.old.runtime) (D.medium disk.old)
-        → Handled D.told (rules_of migrations.now) (answers_of migrations.now) (D.medium start) before (lines ++ text ∷ []) (K.written sink.new) (memory_of reader.new.runtime) (D.medium disk.new)) }
+    ensures goes_on { OnOk result ((start : D) (before : Option (List ℕ)) (lines : List (List ℕ)) (text : List ℕ)
+        → reader.old.kept.items ≡ take 262145 text
+        → Handled D.told (rules_of migrations.now) (answers_of migrations.now) (D.medium start) before lines
+        (K.written sink.old) (memory_of reader.old.runtime) (D.medium disk.old)
+        → Handled D.told (rules_of migrations.now) (answers_of migrations.now) (D.medium start) before
+        (lines ++ text ∷ []) (K.written sink.new) (memory_of reader.new.runtime) (D.medium disk.new)) }
     ensures counts { OnOk result (reader.new.number ≡ min (reader.old.number + 1) (2 ^ 64 - 1)) }
     ensures clears { OnOk result (reader.new.kept.items ≡ []) }
-    ensures ends { IfErr result (λ ending. AppLaws → (start : D) (before : Option (List ℕ)) (lines others : List (List ℕ)) (text : List ℕ)
+    ensures ends { IfErr result (λ ending. AppLaws → (start : D) (before : Option (List ℕ))
+        (lines others : List (List ℕ)) (text : List ℕ)
         → reader.old.kept.items ≡ take 262145 text → reader.old.number ≡ length lines → length lines < 2 ^ 63
-        → Handled D.told (rules_of migrations.now) (answers_of migrations.now) (D.medium start) before lines (K.written sink.old) (memory_of reader.old.runtime) (D.medium disk.old)
-        → Course D.told (rules_of migrations.now) (answers_of migrations.now) (ending_of ending) (D.medium start) before (lines ++ text ∷ others) (K.written sink.new) (D.medium disk.new)) }
+        → Handled D.told (rules_of migrations.now) (answers_of migrations.now) (D.medium start) before lines
+        (K.written sink.old) (memory_of reader.old.runtime) (D.medium disk.old)
+        → Course D.told (rules_of migrations.now) (answers_of migrations.now) (ending_of ending) (D.medium start) before
+        (lines ++ text ∷ others) (K.written sink.new) (D.medium disk.new)) }
     ensures memory { OnOk result (IsRuntime D.told (D.medium disk.new) reader.new.runtime) }
     ensures blames { Blames (K.faults sink.old) (K.faults sink.new) result }
     ensures time { Elapses (D.medium disk.old) (D.medium disk.new) }
@@ -194,13 +222,19 @@ fn handle_text<D: Disk, K: Sink>(
     number: u64,
 ) -> Result<(), Ending>
     requires { IsRuntime D.told (D.medium disk.old) runtime.old }
-    ensures goes_on { OnOk result ((start : D) (before : Option (List ℕ)) (lines : List (List ℕ)) (whole : List ℕ) → text.now ≡ take 262145 whole
-        → Handled D.told (rules_of migrations.now) (answers_of migrations.now) (D.medium start) before lines (K.written sink.old) (memory_of runtime.old) (D.medium disk.old)
-        → Handled D.told (rules_of migrations.now) (answers_of migrations.now) (D.medium start) before (lines ++ whole ∷ []) (K.written sink.new) (memory_of runtime.new) (D.medium disk.new)) }
-    ensures ends { IfErr result (λ ending. AppLaws → (start : D) (before : Option (List ℕ)) (lines others : List (List ℕ)) (whole : List ℕ)
+    ensures goes_on { OnOk result ((start : D) (before : Option (List ℕ)) (lines : List (List ℕ)) (whole : List ℕ)
+        → text.now ≡ take 262145 whole
+        → Handled D.told (rules_of migrations.now) (answers_of migrations.now) (D.medium start) before lines
+        (K.written sink.old) (memory_of runtime.old) (D.medium disk.old)
+        → Handled D.told (rules_of migrations.now) (answers_of migrations.now) (D.medium start) before
+        (lines ++ whole ∷ []) (K.written sink.new) (memory_of runtime.new) (D.medium disk.new)) }
+    ensures ends { IfErr result (λ ending. AppLaws → (start : D) (before : Option (List ℕ))
+        (lines others : List (List ℕ)) (whole : List ℕ)
         → text.now ≡ take 262145 whole → number ≡ length lines + 1
-        → Handled D.told (rules_of migrations.now) (answers_of migrations.now) (D.medium start) before lines (K.written sink.old) (memory_of runtime.old) (D.medium disk.old)
-        → Course D.told (rules_of migrations.now) (answers_of migrations.now) (ending_of ending) (D.medium start) before (lines ++ whole ∷ others) (K.written sink.new) (D.medium disk.new)) }
+        → Handled D.told (rules_of migrations.now) (answers_of migrations.now) (D.medium start) before lines
+        (K.written sink.old) (memory_of runtime.old) (D.medium disk.old)
+        → Course D.told (rules_of migrations.now) (answers_of migrations.now) (ending_of ending) (D.medium start) before
+        (lines ++ whole ∷ others) (K.written sink.new) (D.medium disk.new)) }
     ensures memory { OnOk result (IsRuntime D.told (D.medium disk.new) runtime.new) }
     ensures blames { Blames (K.faults sink.old) (K.faults sink.new) result }
     ensures time { Elapses (D.medium disk.old) (D.medium disk.new) }

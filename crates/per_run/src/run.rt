@@ -28,8 +28,10 @@ pub fn run<D: Disk, S: Source, K: Sink>(
     sink: &mut K,
     disk: &mut D,
 ) -> u8
-    ensures run { Run D.told (rules_of migrations.now) (answers_of migrations.now) result (S.left source.old) (S.left source.new) (K.written sink.old) (K.written sink.new)
-        (S.faults source.old) (S.faults source.new) (K.faults sink.old) (K.faults sink.new) (D.medium disk.old) (D.medium disk.new) }
+    ensures run { Run D.told (rules_of migrations.now) (answers_of migrations.now) result (S.left source.old)
+        (S.left source.new) (K.written sink.old) (K.written sink.new)
+        (S.faults source.old) (S.faults source.new) (K.faults sink.old) (K.faults sink.new) (D.medium disk.old)
+        (D.medium disk.new) }
     ensures time { Elapses (D.medium disk.old) (D.medium disk.new) }
 {
     applications_stand();
@@ -51,8 +53,10 @@ fn handle_input<D: Disk, S: Source, K: Sink>(
 ) -> Ending
     requires { IsRuntime D.told (D.medium disk.old) runtime }
     ensures ran { AppLaws → (start : D)
-        → Handled D.told (rules_of migrations.now) (answers_of migrations.now) (D.medium start) (K.written sink.old) [] (K.written sink.old) (memory_of runtime) (D.medium disk.old)
-        → Ran D.told (rules_of migrations.now) (answers_of migrations.now) result (D.medium start) (S.left source.old) (S.left source.new) (K.written sink.old) (K.written sink.new) (D.medium disk.new) }
+        → Handled D.told (rules_of migrations.now) (answers_of migrations.now) (D.medium start) (K.written sink.old) []
+        (K.written sink.old) (memory_of runtime) (D.medium disk.old)
+        → Ran D.told (rules_of migrations.now) (answers_of migrations.now) result (D.medium start) (S.left source.old)
+        (S.left source.new) (K.written sink.old) (K.written sink.new) (D.medium disk.new) }
     ensures blamed { Blamed result (K.faults sink.old) (K.faults sink.new) }
     ensures source_failed { result ≡ Ending.Source → Rose (S.faults source.old) (S.faults source.new) }
     ensures time { Elapses (D.medium disk.old) (D.medium disk.new) }
@@ -85,8 +89,11 @@ fn read_all<D: Disk, S: Source, K: Sink>(
     requires room { 0 < length buffer.old }
     requires memory { IsRuntime D.told (D.medium disk.old) reader.old.runtime }
     ensures ran { AppLaws → (start : D) (before : Option (List ℕ))
-        → Reached D.told (rules_of migrations.now) (answers_of migrations.now) (D.medium start) before [] (K.written sink.old) (memory_of reader.old.runtime) (D.medium disk.old) reader.old.kept.items reader.old.number
-        → Ran D.told (rules_of migrations.now) (answers_of migrations.now) result (D.medium start) (S.left source.old) (S.left source.new) before (K.written sink.new) (D.medium disk.new) }
+        → Reached D.told (rules_of migrations.now) (answers_of migrations.now) (D.medium start) before []
+        (K.written sink.old) (memory_of reader.old.runtime) (D.medium disk.old) reader.old.kept.items
+        reader.old.number
+        → Ran D.told (rules_of migrations.now) (answers_of migrations.now) result (D.medium start) (S.left source.old)
+        (S.left source.new) before (K.written sink.new) (D.medium disk.new) }
     ensures blamed { Blamed result (K.faults sink.old) (K.faults sink.new) }
     ensures source_failed { result ≡ Ending.Source → Rose (S.faults source.old) (S.faults source.new) }
     ensures time { Elapses (D.medium disk.old) (D.medium disk.new) }

@@ -32,7 +32,8 @@ impl Tally {
 
     /// Counts one reply more.
     pub fn count(&mut self, reply: &Reply)
-        ensures { (replies : List Reply) → length replies < 2 ^ 32 → Tallies replies self.old → Tallies (replies ++ reply.now ∷ []) self.new }
+        ensures { (replies : List Reply) → length replies < 2 ^ 32 → Tallies replies self.old
+            → Tallies (replies ++ reply.now ∷ []) self.new }
     {
         let answer = &reply.answer;
         self.size = self.size.or(number_in(answer));
@@ -47,7 +48,8 @@ impl Tally {
 
     /// The text of what so many lines came to.
     pub fn summary(&self, alloc: Global, lines: u64) -> Result<String, AllocError>
-        ensures { IfOk result (λ text. string_bytes text ≡ summary_text lines self.now.done self.now.other self.now.errors self.now.size) }
+        ensures { IfOk result (λ text. string_bytes text ≡ summary_text lines self.now.done self.now.other
+            self.now.errors self.now.size) }
     {
         let size = print_size(alloc, self.size)?;
         let done = self.done;

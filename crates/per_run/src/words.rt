@@ -4,7 +4,8 @@ ghost use Rattle.std.specs.Prelude.{◌≡◌, ◌≢◌, Some, None, IfOk, fals
 ghost use Rattle.clap.specs.Words.{app_of, found_of, kind_of, rows_of, rule_of};
 ghost use Rattle.clap.specs.declared.error.kind.ErrorKind.{ErrorKind};
 ghost use Rattle.clap.specs.declared.builder.action.ArgAction.TheVariants.{Set, SetTrue};
-ghost use Rattle.per_run.specs.Words.{Reads, command, dir_of, flash_of, generate_of, is_set, job_in, job_of, kind_in, modes, named_rule, number_in, only_mode};
+ghost use Rattle.per_run.specs.Words.{Reads, command, dir_of, flash_of, generate_of, is_set, job_in, job_of, kind_in};
+ghost use Rattle.per_run.specs.Words.{modes, named_rule, number_in, only_mode};
 
 use clap::error::ErrorKind;
 use clap::{Arg, ArgAction, ArgMatches, Command, Error};
@@ -57,7 +58,9 @@ impl From<AllocError> for WordsError {
 
 /// The job that the words after the program's name say.
 ///
-/// Errors: `Refused` only where they say none; `OutOfMemory`.
+/// # Errors
+///
+/// `Refused` only where they say none; `OutOfMemory`.
 pub fn read_words(alloc: Global, words: &[String]) -> Result<Job, WordsError>
     ensures job { IfOk result (λ job. job_of (map string_bytes words.now) ≡ Some job) }
     ensures refused { result ≡ Err WordsError.Refused → job_of (map string_bytes words.now) ≡ None }

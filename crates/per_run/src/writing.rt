@@ -29,7 +29,8 @@ pub fn write_all<K: Sink>(sink: &mut K, text: &[u8]) -> Result<(), Failed>
 
 /// Hands a text that was made to the sink, where there was memory for it.
 pub fn write_made<K: Sink>(sink: &mut K, made: Result<Vec<u8>, AllocError>) -> Result<(), Ending>
-    ensures puts { (text : List ℕ) → IfOk made (λ bytes. bytes.items ≡ text) → Puts text (K.written sink.old) (K.written sink.new) result }
+    ensures puts { (text : List ℕ) → IfOk made (λ bytes. bytes.items ≡ text)
+        → Puts text (K.written sink.old) (K.written sink.new) result }
     ensures blames { Blames (K.faults sink.old) (K.faults sink.new) result }
 {
     match made {
@@ -41,7 +42,8 @@ pub fn write_made<K: Sink>(sink: &mut K, made: Result<Vec<u8>, AllocError>) -> R
     }
 }
 
-/// Hands the whole output of a job to the sink, and gives the status of the program, which is `done` where the sink took all.
+/// Hands the whole output of a job to the sink, and gives the status of the program, which is `done` where the sink
+/// took all.
 pub fn write_output<K: Sink>(sink: &mut K, text: &[u8], done: u8) -> u8
     requires { IsWritten done }
     ensures output { Writes result (K.written sink.old) (K.written sink.new) text.now }
@@ -57,7 +59,8 @@ pub fn write_output<K: Sink>(sink: &mut K, text: &[u8], done: u8) -> u8
 /// The same of an output that was made, where there was memory for it.
 pub fn write_made_output<K: Sink>(sink: &mut K, made: Result<Vec<u8>, AllocError>, done: u8) -> u8
     requires { IsWritten done }
-    ensures output { (text : List ℕ) → IfOk made (λ bytes. bytes.items ≡ text) → Writes result (K.written sink.old) (K.written sink.new) text }
+    ensures output { (text : List ℕ) → IfOk made (λ bytes. bytes.items ≡ text)
+        → Writes result (K.written sink.old) (K.written sink.new) text }
     ensures status { (result ≡ done) ⊎ ((result ≡ 4) ⊎ ((result ≡ 6) × Rose (K.faults sink.old) (K.faults sink.new))) }
 {
     match made {

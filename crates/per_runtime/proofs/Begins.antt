@@ -1,5 +1,6 @@
 -- The start: the roots are opened one after another, wherever it ends.
-use Rattle.std.specs.Prelude.{◌≡◌, ◌≢◌, ◌⊎◌, ◌≤◌, ◌<◌, ◌+◌, ℕ, zero, suc, List, [], ◌∷◌, ◌++◌, length, map, replicate, Bool, false, IsTrue, Some, None, Ok, Err, slice_get, Vec}
+use Rattle.std.specs.Prelude.{◌≡◌, ◌≢◌, ◌⊎◌, ◌≤◌, ◌<◌, ◌+◌, ℕ, zero, suc, List, [], ◌∷◌, ◌++◌, length, map, replicate}
+use Rattle.std.specs.Prelude.{Bool, false, IsTrue, Some, None, Ok, Err, slice_get, Vec}
 use Rattle.std.proofs.Common.{refl, sym, ap, ◌∙◌, subst, inl, inr, ⊎_elim, le_refl, arith}
 use Rattle.std.specs.declared.alloc.Global.{Global}
 use Rattle.per_base.specs.Causes.{Rose}
@@ -32,10 +33,12 @@ use Rattle.per_runtime.proofs.Worlds.{StaysInUse, apart}
 
 -- each moment so far stands, for each application, between what it was and itself with its root mended
 abbrev pub Moments : (old new : Medium) → Type 0
-Moments old new = Quiet old → (b : ℕ) → b < 8 → IsCleanApp b old.image → EachCase (StandsCase b (app_at old.image b) (reopened (app_at old.image b))) old new
+Moments old new = Quiet old → (b : ℕ) → b < 8 → IsCleanApp b old.image
+    → EachCase (StandsCase b (app_at old.image b) (reopened (app_at old.image b))) old new
 
 pub moments_keep : (old new : Medium) → Moments old new → StartKeeps old new
-moments_keep old new moments quiet b lt clean c s = subst (λ x. StandsCase b x (disk_at (disks (started (world_at old.image))) b) c) (sym (at_entry old.image b lt))
+moments_keep old new moments quiet b lt clean c s = subst
+    (λ x. StandsCase b x (disk_at (disks (started (world_at old.image))) b) c) (sym (at_entry old.image b lt))
     (subst (λ y. StandsCase b (app_at old.image b) y c) (sym (at_start old.image b lt)) (moments quiet b lt clean c s))
 
 is_reopened : (a : App) → IsLater a (reopened a)
@@ -43,7 +46,8 @@ is_reopened a = same_root refl refl
 
 -- the sync failed
 pub unsynced_moments : AppLaws → (old new : Medium) → OnlyReads old new → Moments old new
-unsynced_moments laws old new reads quiet b lt clean c s = laws.still b old.image (reopened (app_at old.image b)) c lt clean
+unsynced_moments laws old new reads quiet b lt clean c s =
+    laws.still b old.image (reopened (app_at old.image b)) c lt clean
     (settled_on (IsFileOf b) old.image c (quiet c (reads.during c s))) (is_reopened (app_at old.image b))
 
 -- what any opening promises, however it ends
@@ -57,7 +61,8 @@ pub root_at : (k a : ℕ) (old new : Medium) → k ≡ a → OpensRoot k old new
 root_at k a old new is opens = subst (λ (n : ℕ). OpensRoot n old new) is opens
 
 -- the opening of one root failed, or memory ran out in it
-pub stops_at : AppLaws → (a : ℕ) (old now new : Medium) → a < 8 → Opened a old now → Elapses now new → IsOnTheWay a now new → Moments old new
+pub stops_at : AppLaws → (a : ℕ) (old now new : Medium) → a < 8 → Opened a old now → Elapses now new
+    → IsOnTheWay a now new → Moments old new
 stops_at laws a old now new lta o time way quiet b lt clean c s = ⊎_elim
     (λ was. o.moments quiet b lt clean c was)
     (λ at. here b lt clean c at (which a b))
@@ -67,30 +72,40 @@ stops_at laws a old now new lta o time way quiet b lt clean c s = ⊎_elim
     calls = way (reopened (app_at now.image a)) (is_reopened (app_at now.image a))
 
     below_or : (b : ℕ) → a ≢ b → (b < a) ⊎ (a ≤ b)
-    below_or b differs = ⊎_elim (λ (less : a < b). inr (omega (arith, less))) (λ more. inl more) (less_or_more a b differs)
+    below_or b differs = ⊎_elim (λ (less : a < b). inr (omega (arith, less))) (λ more. inl more)
+        (less_or_more a b differs)
 
-    rest : (b : ℕ) → b < 8 → IsCleanApp b now.image → (c : Case) → IsSettledOn (IsFileOf b) now.image c → (b < a) ⊎ (a ≤ b)
+    rest : (b : ℕ) → b < 8 → IsCleanApp b now.image → (c : Case) → IsSettledOn (IsFileOf b) now.image c
+        → (b < a) ⊎ (a ≤ b)
         → StandsCase b (app_at old.image b) (reopened (app_at old.image b)) c
-    rest b lt clean c s (inl below) = λ is_sound damaged image decays. laws.mend b image damaged (app_at old.image b) (reopened (app_at old.image b))
-        ((subst (λ x. StandsCase b x x c) (o.opened b below lt) (laws.still b now.image (app_at now.image b) c lt clean s (same_root refl refl))) is_sound damaged image decays)
+    rest b lt clean c s (inl below) = λ is_sound damaged image decays.
+        laws.mend b image damaged (app_at old.image b) (reopened (app_at old.image b))
+        ((subst (λ x. StandsCase b x x c) (o.opened b below lt)
+        (laws.still b now.image (app_at now.image b) c lt clean s (same_root refl refl))) is_sound damaged image
+        decays)
     rest b lt clean c s (inr above) = subst (λ x. StandsCase b x (reopened x) c) (o.closed b above lt)
         (laws.still b now.image (reopened (app_at now.image b)) c lt clean s (is_reopened (app_at now.image b)))
 
-    here : (b : ℕ) → b < 8 → IsCleanApp b old.image → (c : Case) → new.since now.moment c → (a ≡ b) ⊎ (a ≢ b) → StandsCase b (app_at old.image b) (reopened (app_at old.image b)) c
-    here b lt clean c at (inl e) = subst (λ (n : ℕ). StandsCase n (app_at old.image n) (reopened (app_at old.image n)) c) e
+    here : (b : ℕ) → b < 8 → IsCleanApp b old.image → (c : Case) → new.since now.moment c → (a ≡ b) ⊎ (a ≢ b)
+        → StandsCase b (app_at old.image b) (reopened (app_at old.image b)) c
+    here b lt clean c at (inl e) = subst (λ (n : ℕ). StandsCase n (app_at old.image n) (reopened (app_at old.image n))
+        c) e
         (subst (λ x. StandsCase a x (reopened x) c) (o.closed a (le_refl a) lta)
         (calls.any_moment o.quiet (o.clean a lta (subst (λ (n : ℕ). IsCleanApp n old.image) (sym e) clean)) c at))
-    here b lt clean c at (inr differs) = rest b lt (o.clean b lt clean) c (laws.others_case a b now.image c differs (calls.outside o.quiet c at)) (below_or b differs)
+    here b lt clean c at (inr differs) = rest b lt (o.clean b lt clean) c
+        (laws.others_case a b now.image c differs (calls.outside o.quiet c at)) (below_or b differs)
 
 -- ---- how it ended
 
-pub stopped_by : (told : Bool) (old new : Medium) (stop : Stop) → (stop ≡ Device → Rose old.faults new.faults) → HasBegun told old new (Err stop)
+pub stopped_by : (told : Bool) (old new : Medium) (stop : Stop) → (stop ≡ Device → Rose old.faults new.faults)
+    → HasBegun told old new (Err stop)
 stopped_by told old new Device cause = cause refl
 stopped_by told old new OutOfMemory cause = tt
 
 -- ---- one more
 
-pub none_opened : AppLaws → (told : Bool) (old now : Medium) → Quiet now → WritesNothing old now → Elapses old now → AreOpened told 0 [] old now
+pub none_opened : AppLaws → (told : Bool) (old now : Medium) → Quiet now → WritesNothing old now → Elapses old now
+    → AreOpened told 0 [] old now
 none_opened laws told old now quiet nothing time = record {
   many = refl;
   each = λ k a there. absurd (none_some a there);
@@ -99,7 +114,8 @@ none_opened laws told old now quiet nothing time = record {
   time = time;
 }
 
-at_end : (xs : List Running) (x : Running) (k : ℕ) (y : Running) → slice_get (xs ++ x ∷ []) k ≡ Some y → (slice_get xs k ≡ Some y) ⊎ ((k ≡ length xs) × (x ≡ y))
+at_end : (xs : List Running) (x : Running) (k : ℕ) (y : Running) → slice_get (xs ++ x ∷ []) k ≡ Some y
+    → (slice_get xs k ≡ Some y) ⊎ ((k ≡ length xs) × (x ≡ y))
 at_end [] x zero y e = inr (refl, some_is x y e)
 at_end [] x (suc k) y e = absurd (none_some y e)
 at_end (z ∷ zs) x zero y e = inl e
@@ -109,14 +125,17 @@ length_more : (xs : List Running) (x : Running) → length (xs ++ x ∷ []) ≡ 
 length_more [] x = refl
 length_more (z ∷ zs) x = let more = length_more zs x in omega (arith, more)
 
-pub one_opened : AppLaws → StaysInUse → (told : Bool) (a : ℕ) (apps : List Running) (b : Running) (old now new : Medium) → a < 8 → AreOpened told a apps old now
-    → b.app ≡ a → IsRunning told new.image b → running_in b ≡ idle → (IsTrue told → OpensRoot a now new) → (IsTrue told → IsOnTheWay a now new) → Quiet new → Elapses now new
+pub one_opened : AppLaws → StaysInUse → (told : Bool) (a : ℕ) (apps : List Running) (b : Running) (old now new : Medium)
+    → a < 8 → AreOpened told a apps old now
+    → b.app ≡ a → IsRunning told new.image b → running_in b ≡ idle → (IsTrue told → OpensRoot a now new)
+    → (IsTrue told → IsOnTheWay a now new) → Quiet new → Elapses now new
     → AreOpened told (a + 1) (apps ++ b ∷ []) old new
 one_opened laws stays told a apps b old now new lt are number used rests opens way quiet time = record {
   many = length_more apps b ∙ ap (λ (n : ℕ). n + 1) are.many;
   each = λ k x there. ⊎_elim
       (λ was. before k x was)
-      (λ last. subst (λ (y : Running). (y.app ≡ k) × IsRunning told new.image y × (running_in y ≡ idle)) last.1 (number ∙ sym (last.0 ∙ are.many), used, rests))
+      (λ last. subst (λ (y : Running). (y.app ≡ k) × IsRunning told new.image y × (running_in y ≡ idle)) last.1
+      (number ∙ sym (last.0 ∙ are.many), used, rests))
       (at_end apps b k x there);
   opened = λ tells. open_next laws a old now new lt (are.opened tells) (opens tells);
   quiet = quiet;
@@ -128,37 +147,57 @@ one_opened laws stays told a apps b old now new lt are number used rests opens w
     within (y ∷ ys) zero x e = omega arith
     within (y ∷ ys) (suc k) x e = let less = within ys k x e in omega (arith, less)
 
-    before : (k : ℕ) (x : Running) → slice_get apps k ≡ Some x → (x.app ≡ k) × IsRunning told new.image x × (running_in x ≡ idle)
+    before : (k : ℕ) (x : Running) → slice_get apps k ≡ Some x
+        → (x.app ≡ k) × IsRunning told new.image x × (running_in x ≡ idle)
     before k x there = let was = are.each k x there in let less = within apps k x there in (
       was.0,
-      stays told now.image new.image x (λ tells f inside. (way tells (reopened (app_at now.image a)) (is_reopened (app_at now.image a))).elsewhere f
+      stays told now.image new.image x (λ tells f inside.
+          (way tells (reopened (app_at now.image a)) (is_reopened (app_at now.image a))).elsewhere f
           (apart a k f (λ e. omega (arith, e, less, are.many)) (subst (λ (j : ℕ). IsFileOf j f) was.0 inside))) was.1,
       was.2,
     )
 
 -- ---- all eight
 
-pub all_in_use : (told : Bool) (apps : List Running) (old now : Medium) → AreOpened told 8 apps old now → AreRunning told now.image apps
-all_in_use told apps old now are = record { eight = are.many; each = λ k a there. let is = are.each k a there in (is.0, is.1) }
+pub all_in_use : (told : Bool) (apps : List Running) (old now : Medium) → AreOpened told 8 apps old now
+    → AreRunning told now.image apps
+all_in_use told apps old now are = record {
+  eight = are.many;
+  each = λ k a there. let is =
+      are.each k a there in (is.0, is.1);
+}
 
-all_idle : (apps : List Running) → ((k : ℕ) (a : Running) → slice_get apps k ≡ Some a → running_in a ≡ idle) → map running_in apps ≡ replicate (length apps) idle
+all_idle : (apps : List Running) → ((k : ℕ) (a : Running) → slice_get apps k ≡ Some a → running_in a ≡ idle)
+    → map running_in apps ≡ replicate (length apps) idle
 all_idle [] each = refl
 all_idle (a ∷ apps) each = ap (λ (r : memory.Running). r ∷ map running_in apps) (each 0 a refl)
     ∙ ap (λ (rs : List memory.Running). idle ∷ rs) (all_idle apps (λ k b there. each (suc k) b there))
 
-idle_world : (disk disk' : ℕ → App) (first count : ℕ) → ((b : ℕ) → first ≤ b → b < first + count → disk' b ≡ reopened (disk b))
-    → with_disk disk' first (replicate count idle) ≡ map (λ (a : Application). record a { disk = reopened a.disk }) (all_resting disk first count)
+idle_world : (disk disk' : ℕ → App) (first count : ℕ) → ((b : ℕ) → first ≤ b → b < first + count
+    → disk' b ≡ reopened (disk b))
+    → with_disk disk' first (replicate count idle) ≡ map (λ (a : Application). record a { disk = reopened a.disk })
+    (all_resting disk first count)
 idle_world disk disk' first zero same = refl
-idle_world disk disk' first (suc count) same = ap (λ (d : App). record { disk = d; stage = idle.stage; sessions = idle.sessions } ∷ with_disk disk' (first + 1) (replicate count idle)) (same first (le_refl first) (omega arith))
-    ∙ ap (λ (xs : List Application). record { disk = reopened (disk first); stage = idle.stage; sessions = idle.sessions } ∷ xs)
+idle_world disk disk' first (suc count) same = ap (λ (d : App).
+    record { disk = d; stage = idle.stage; sessions = idle.sessions }
+    ∷ with_disk disk' (first + 1) (replicate count idle)) (same first (le_refl first) (omega arith))
+    ∙ ap (λ (xs : List Application). record {
+      disk = reopened (disk first);
+      stage = idle.stage;
+      sessions =
+          idle.sessions;
+    } ∷ xs)
     (idle_world disk disk' (first + 1) count (λ b le lt. same b (omega (arith, le)) (omega (arith, lt))))
 
-pub idle_apps : (told : Bool) (apps : List Running) (old now : Medium) → AreOpened told 8 apps old now → map running_in apps ≡ replicate 8 idle
-idle_apps told apps old now are = all_idle apps (λ k a there. (are.each k a there).2) ∙ ap (λ (n : ℕ). replicate n idle) are.many
+pub idle_apps : (told : Bool) (apps : List Running) (old now : Medium) → AreOpened told 8 apps old now
+    → map running_in apps ≡ replicate 8 idle
+idle_apps told apps old now are = all_idle apps (λ k a there. (are.each k a there).2)
+    ∙ ap (λ (n : ℕ). replicate n idle) are.many
 
 pub fresh_by : (told : Bool) (apps : List Running) (old now : Medium) → AreOpened told 8 apps old now
     → kept 0 apps false ≡ fresh
-fresh_by told apps old now are = ap (λ (rs : List memory.Running). record { now = 0; apps = rs; in_doubt = false }) (idle_apps told apps old now are)
+fresh_by told apps old now are = ap (λ (rs : List memory.Running). record { now = 0; apps = rs; in_doubt = false })
+    (idle_apps told apps old now are)
 
 pub starts_by : (told : Bool) (apps : List Running) (old now : Medium) → IsTrue told → AreOpened told 8 apps old now
     → Starts (record { now = 0; apps = map running_in apps; in_doubt = false }) old now
@@ -176,9 +215,11 @@ starts_by told apps old now tells are =
       keeps = opened_keeps old now (are.opened tells);
     }
 
-pub all_begun : (told : Bool) (count : ℕ) (apps : Vec Running Global) (old now : Medium) → count ≡ 8 → AreOpened told count apps.items old now → IsBegun told old now (Ok apps)
-all_begun told count apps old now all are = let eight : AreOpened told 8 apps.items old now = subst (λ (n : ℕ). AreOpened told n apps.items old now) all are in record {
-  end = eight;
-  keeps = λ tells. opened_keeps old now (eight.opened tells);
-  time = eight.time;
-}
+pub all_begun : (told : Bool) (count : ℕ) (apps : Vec Running Global) (old now : Medium) → count ≡ 8
+    → AreOpened told count apps.items old now → IsBegun told old now (Ok apps)
+all_begun told count apps old now all are = let eight : AreOpened told 8 apps.items old now =
+    subst (λ (n : ℕ). AreOpened told n apps.items old now) all are in record {
+      end = eight;
+      keeps = λ tells. opened_keeps old now (eight.opened tells);
+      time = eight.time;
+    }

@@ -1,5 +1,6 @@
 -- A call of one application is a command of the world: all others stand as they were.
-use Rattle.std.specs.Prelude.{◌≡◌, ◌≢◌, ◌⊎◌, ◌<◌, ℕ, List, [], length, map, Bool, true, false, not, ◌&&◌, ◌||◌, IsTrue, Option, Some, None, Ok, is_some, is_none, slice_get, slice_set}
+use Rattle.std.specs.Prelude.{◌≡◌, ◌≢◌, ◌⊎◌, ◌<◌, ℕ, List, [], length, map, Bool, true, false, not, ◌&&◌, ◌||◌, IsTrue}
+use Rattle.std.specs.Prelude.{Option, Some, None, Ok, is_some, is_none, slice_get, slice_set}
 use Rattle.std.proofs.Common.{refl, sym, ap, ◌∙◌, subst, inl, inr, ⊎_elim, le_refl, true≢false}
 use Rattle.per_base.specs.declared.errors.PerError.TheVariants as error
 use Rattle.std.proofs.lemmas.List.{length-map}
@@ -19,12 +20,15 @@ use Rattle.run_model.specs.KeepLaws.{call_fails, call_keeps, each_moment, idle_k
 use Rattle.run_model.specs.Later.{set_length}
 use Rattle.run_model.specs.Lasting.{IsWorld}
 use Rattle.run_model.specs.Moments.{IsReady, Keeps}
-use Rattle.run_model.specs.Runtimes.{Memory, IsDoubt, IsUnwritten, StaysAside, Stepped, Stopped, WritesWithin, WrittenBy, calls_none, is_durable, is_refusal, opens_root, writes_none}
+use Rattle.run_model.specs.Runtimes.{Memory, IsDoubt, IsUnwritten, StaysAside, Stepped, Stopped, WritesWithin}
+use Rattle.run_model.specs.Runtimes.{WrittenBy, calls_none, is_durable, is_refusal, opens_root, writes_none}
 use Rattle.run_model.specs.Sessions.{Session}
 use Rattle.run_model.specs.Starting.{which}
-use Rattle.run_model.specs.Steps.{AppStep, FailsAs, Leads, calls_device, doubt_after, failure, found_named, goes_on, root_opened, uses_device}
+use Rattle.run_model.specs.Steps.{AppStep, FailsAs, Leads, calls_device, doubt_after, failure, found_named, goes_on}
+use Rattle.run_model.specs.Steps.{root_opened, uses_device}
 use Rattle.run_model.specs.Turns.{IsBlamed}
-use Rattle.run_model.specs.Worlds.{Application, Disks, Doubt, World, app_of, disk_at, disks, is_to_open, update_in, with_app, world_at}
+use Rattle.run_model.specs.Worlds.{Application, Disks, Doubt, World, app_of, disk_at, disks, is_to_open, update_in}
+use Rattle.run_model.specs.Worlds.{with_app, world_at}
 use Rattle.app_storages.specs.Answers.{CallsTo}
 use Rattle.app_runtime.specs.declared.running.Running.{Running}
 use Rattle.app_runtime.specs.Running.{application, running_in, stage_in}
@@ -32,7 +36,8 @@ use Rattle.per_runtime.specs.Handled.{IsAnswered, IsFailed, IsInProgress, IsLedT
 use Rattle.per_runtime.specs.Memories.{AreRunning}
 use Rattle.per_runtime.proofs.Places.{none_some, set_same, some_is}
 use Rattle.per_runtime.proofs.Single.{not_opened}
-use Rattle.per_runtime.proofs.Worlds.{MakesOne, app_is, closed_is, disk_in, disk_is, disks_length, disks_set, is_world, set_elsewhere, set_here, world, world_is}
+use Rattle.per_runtime.proofs.Worlds.{MakesOne, app_is, closed_is, disk_in, disk_is, disks_length, disks_set, is_world}
+use Rattle.per_runtime.proofs.Worlds.{set_elsewhere, set_here, world, world_is}
 
 -- what is kept in memory
 abbrev pub kept : (now : ℕ) → List Running → (in_doubt : Bool) → Memory
@@ -64,12 +69,16 @@ after_none true = refl
 after_none false = refl
 
 -- a call that calls no device does not fail at it
-pub never_fails : (app now : ℕ) (a : App) (r : Application) (c : Call) (r' : Application) → calls_device r c ≡ false → FailsAs app now a r c r' → ⊥
-never_fails app now a r c r' calm (inl fails) = not_both (is_to_open r.stage) fails.0 (neither (is_to_open r.stage) (uses_device r.disk c) calm).0
+pub never_fails : (app now : ℕ) (a : App) (r : Application) (c : Call) (r' : Application) → calls_device r c ≡ false
+    → FailsAs app now a r c r' → ⊥
+never_fails app now a r c r' calm (inl fails) = not_both (is_to_open r.stage) fails.0
+    (neither (is_to_open r.stage) (uses_device r.disk c) calm).0
 never_fails app now a r c r' calm (inr fails) = not_both (uses_device r.disk c)
-    (subst (λ (x : Application). uses_device x.disk c ≡ true) (not_opened r (neither (is_to_open r.stage) (uses_device r.disk c) calm).0)
+    (subst (λ (x : Application). uses_device x.disk c ≡ true)
+    (not_opened r (neither (is_to_open r.stage) (uses_device r.disk c) calm).0)
     (both (uses_device (root_opened r).disk c) (is_none (beside_update (update_in (root_opened r).stage) c))
-    (both (uses_device (root_opened r).disk c && is_none (beside_update (update_in (root_opened r).stage) c)) (goes_on app (root_opened r) now c) fails.0).0).0)
+    (both (uses_device (root_opened r).disk c && is_none (beside_update (update_in (root_opened r).stage) c))
+    (goes_on app (root_opened r) now c) fails.0).0).0)
     (neither (is_to_open r.stage) (uses_device r.disk c) calm).1
 
 -- ---- the moment is set
@@ -77,16 +86,19 @@ never_fails app now a r c r' calm (inr fails) = not_both (uses_device r.disk c)
 pub not_four : answer.Done ≡ answer.Error error.PhysicalStorageFailure → ⊥
 not_four e = cc
 
-pub now_steps : AppLaws → MakesOne → (rules : List Rule) (answers : Answers) (told : Bool) (m : Medium) (now t : ℕ) (apps : List Running) (b : Bool) → IsTrue told → IsLawful told m
+pub now_steps : AppLaws → MakesOne → (rules : List Rule) (answers : Answers) (told : Bool) (m : Medium) (now t : ℕ)
+    (apps : List Running) (b : Bool) → IsTrue told → IsLawful told m
     → AreRunning told m.image apps → (b ≡ false → Quiet m) → (doubt : Option Doubt) → IsDoubt (kept now apps b) doubt
-    → Stepped rules answers (event.Now t) (record { reports = []; answer = answer.Done }) (kept now apps b) (kept t apps b) doubt m m
+    → Stepped rules answers (event.Now t) (record { reports = []; answer = answer.Done }) (kept now apps b)
+    (kept t apps b) doubt m m
 now_steps laws makes rules answers told m now t apps b tells lawful are quiet doubt is = record {
   eight = length-map apps running_in ∙ are.eight;
   doubt' = doubt;
   is_doubt = is;
   step = inl (refl, refl);
   world = is_world makes told m.image t apps doubt tells are;
-  keeps = λ k lt. idle_keeps laws k lt (world m.image now apps doubt) (world m.image t apps doubt) told m lawful (disk_is m.image now apps doubt are.eight k lt) refl refl;
+  keeps = λ k lt. idle_keeps laws k lt (world m.image now apps doubt) (world m.image t apps doubt) told m lawful
+      (disk_is m.image now apps doubt are.eight k lt) refl refl;
   case = λ d same. inl same;
   quiet = λ none. quiet (sym is ∙ ap is_some none);
   aside = record { elsewhere = λ f inside. refl; elsewhere_always = λ q c s. inl (lawful.only_now c s) };
@@ -97,8 +109,10 @@ now_steps laws makes rules answers told m now t apps b tells lawful are quiet do
 
 -- ---- a call of one application
 
-module _ (laws : AppLaws) (rules : List Rule) (answers : Answers) (told : Bool) (tells : IsTrue told) (old new : Medium) (now n : ℕ) (c : Call) (apps : List Running) (a a' : Running)
-    (below : n < 8) (eight : length apps ≡ 8) (there : slice_get apps n ≡ Some a) (number : a.app ≡ n) (time : Elapses old new)
+module _ (laws : AppLaws) (rules : List Rule) (answers : Answers) (told : Bool) (tells : IsTrue told) (old new : Medium)
+    (now n : ℕ) (c : Call) (apps : List Running) (a a' : Running)
+    (below : n < 8) (eight : length apps ≡ 8) (there : slice_get apps n ≡ Some a) (number : a.app ≡ n)
+    (time : Elapses old new)
     (idle : calls_device (application old.image a) c ≡ false → OnlyReads old new)
     (written : is_durable c ≡ true → (f : Found) (s : Session) → found_named (application old.image a) c ≡ Some (Ok f)
     → session_at (application old.image a) f.number ≡ Some s → WritesWithin a.app f s old new) where
@@ -161,62 +175,85 @@ module _ (laws : AppLaws) (rules : List Rule) (answers : Answers) (told : Bool) 
   -- a call that calls no device only reads
   reads_on : (doubt : Option Doubt) → calls_none (before doubt) e ≡ true → OnlyReads old new
   unfolding e
-  reads_on doubt none = idle (subst (λ (r : Application). calls_device r c ≡ false) (it_is doubt) (is_no (calls_device (app_of (before doubt) n) c) none))
+  reads_on doubt none = idle (subst (λ (r : Application). calls_device r c ≡ false) (it_is doubt)
+      (is_no (calls_device (app_of (before doubt) n) c) none))
 
   unwritten_on : (doubt : Option Doubt) → calls_none (before doubt) e ≡ true → IsUnwritten old new
   unwritten_on doubt none = let reads = reads_on doubt none in (reads.image, reads.written)
 
   refused_on : (doubt : Option Doubt) (reply : Reply)
-      → (is_refusal reply.answer ≡ true → is_to_open (stage_in a.stage) ≡ false → IsUnwritten old new) → writes_none (before doubt) e reply ≡ true → IsUnwritten old new
+      → (is_refusal reply.answer ≡ true → is_to_open (stage_in a.stage) ≡ false → IsUnwritten old new)
+      → writes_none (before doubt) e reply ≡ true → IsUnwritten old new
   unfolding e
   refused_on doubt reply refused none = ⊎_elim
       (λ idle. unwritten_on doubt idle)
       (λ refusal. let two = both (is_refusal reply.answer) (not (opens_root (before doubt) e)) refusal in
-      refused two.0 (subst (λ (r : Application). is_to_open r.stage ≡ false) (it_is doubt) (is_no (opens_root (before doubt) e) two.1)))
+      refused two.0 (subst (λ (r : Application). is_to_open r.stage ≡ false) (it_is doubt)
+      (is_no (opens_root (before doubt) e) two.1)))
       (either (calls_none (before doubt) e) (is_refusal reply.answer && not (opens_root (before doubt) e)) none)
 
   -- ---- where it leads
 
-  leads_on : (next : App) → IsLedTo rules answers n now c (application old.image a) next → (doubt : Option Doubt) → Leads rules answers (before doubt) e (after next)
+  leads_on : (next : App) → IsLedTo rules answers n now c (application old.image a) next → (doubt : Option Doubt)
+      → Leads rules answers (before doubt) e (after next)
   unfolding e after was before
   leads_on next (inl same) doubt = inl (set_same was n next
-      (disk_in old.image now apps None n a there number ∙ ap (λ (x : App). Some x) (sym (same ∙ ap (app_at old.image) number))))
+      (disk_in old.image now apps None n a there number ∙ ap (λ (x : App). Some x)
+      (sym (same ∙ ap (app_at old.image) number))))
   leads_on next (inr led) doubt =
-      let v : World = record (with_app (before None) n led.0.1) { doubt = doubt_after (calls_device (app_of (before None) n) c) None } in
+      let v : World = record (with_app (before None) n led.0.1) {
+        doubt =
+            doubt_after (calls_device (app_of (before None) n) c) None;
+      } in
       inr (
         led.0.0,
         v,
-        (led.0, subst (λ (r : Application). AppStep rules answers n now r c led.0) (sym (it_is None)) led.1, refl, refl),
-        ap (slice_set was n) led.2 ∙ sym (disks_set (before None) n led.0.1 (doubt_after (calls_device (app_of (before None) n) c) None)),
+        (
+          led.0,
+          subst (λ (r : Application). AppStep rules answers n now r c led.0) (sym (it_is None)) led.1,
+          refl,
+          refl,
+        ),
+        ap (slice_set was n) led.2 ∙ sym (disks_set (before None) n led.0.1
+            (doubt_after (calls_device (app_of (before None) n) c) None)),
       )
 
   -- ---- it was answered, without a doubt before it
 
-  done_calls : (reply : Reply) → IsAnswered told rules answers now c a a' old new reply → CallsTo n (app_at new.image n) old new
+  done_calls : (reply : Reply) → IsAnswered told rules answers now c a a' old new reply
+      → CallsTo n (app_at new.image n) old new
   done_calls reply h = subst (λ k. CallsTo k (app_at new.image k) old new) number (h.done tells).calls
 
-  done_step : (reply : Reply) (doubt : Option Doubt) → IsAnswered told rules answers now c a a' old new reply → AppStep rules answers n now (app_of (before doubt) n) c (reply, application new.image a')
-  done_step reply doubt h = subst (λ (r : Application). AppStep rules answers n now r c (reply, application new.image a')) (sym (it_is doubt))
-      (subst (λ k. AppStep rules answers k now (application old.image a) c (reply, application new.image a')) number (h.done tells).step)
+  done_step : (reply : Reply) (doubt : Option Doubt) → IsAnswered told rules answers now c a a' old new reply
+      → AppStep rules answers n now (app_of (before doubt) n) c (reply, application new.image a')
+  done_step reply doubt h = subst (λ (r : Application).
+      AppStep rules answers n now r c (reply, application new.image a')) (sym (it_is doubt))
+      (subst (λ k. AppStep rules answers k now (application old.image a) c (reply, application new.image a')) number
+      (h.done tells).step)
 
-  blamed_on : (reply : Reply) → IsAnswered told rules answers now c a a' old new reply → IsBlamed old.faults new.faults reply
+  blamed_on : (reply : Reply) → IsAnswered told rules answers now c a a' old new reply
+      → IsBlamed old.faults new.faults reply
   blamed_on reply h = (time.faults, λ is. absurd (h.unfailed is))
 
   -- the world after it
   then : Option Doubt → World
   then doubt = world new.image now (slice_set apps n a') doubt
 
-  then_is : a'.app ≡ n → ((b : ℕ) → b < 8 → b ≢ n → app_at new.image b ≡ app_at old.image b) → (doubt doubt' : Option Doubt)
+  then_is : a'.app ≡ n → ((b : ℕ) → b < 8 → b ≢ n → app_at new.image b ≡ app_at old.image b)
+      → (doubt doubt' : Option Doubt)
       → then doubt' ≡ record (with_app (before doubt) n (application new.image a')) { doubt = doubt' }
   unfolding then before
   then_is number' same doubt doubt' = world_is old.image new.image now n apps a' doubt doubt' eight number' same
 
-  then_disks : a'.app ≡ n → ((b : ℕ) → b < 8 → b ≢ n → app_at new.image b ≡ app_at old.image b) → (doubt' : Option Doubt) → disks (then doubt') ≡ after (app_at new.image n)
+  then_disks : a'.app ≡ n → ((b : ℕ) → b < 8 → b ≢ n → app_at new.image b ≡ app_at old.image b)
+      → (doubt' : Option Doubt) → disks (then doubt') ≡ after (app_at new.image n)
   unfolding after was
-  then_disks number' same doubt' = ap disks (then_is number' same None doubt') ∙ disks_set (before None) n (application new.image a') doubt'
+  then_disks number' same doubt' = ap disks (then_is number' same None doubt')
+      ∙ disks_set (before None) n (application new.image a') doubt'
       ∙ ap (λ (k : ℕ). slice_set (disks (before None)) n (app_at new.image k)) number'
 
-  pub answered_sure : (reply : Reply) (b : Bool) → false ≡ b → IsAnswered told rules answers now c a a' old new reply → Quiet old
+  pub answered_sure : (reply : Reply) (b : Bool) → false ≡ b → IsAnswered told rules answers now c a a' old new reply
+      → Quiet old
       → ((doubt : Option Doubt) → IsWorld (world new.image now (slice_set apps n a') doubt))
       → Stepped rules answers (event.App n c) reply (kept now apps b) (kept now (slice_set apps n a') b) None old new
   unfolding then before after was e
@@ -232,14 +269,18 @@ module _ (laws : AppLaws) (rules : List Rule) (answers : Answers) (told : Bool) 
           (reply, application new.image a'),
           done_step reply None h,
           refl,
-          then_is number' same None None ∙ ap (λ (d : Option Doubt). record (with_app (before None) n (application new.image a')) { doubt = d })
+          then_is number' same None None ∙ ap (λ (d : Option Doubt).
+              record (with_app (before None) n (application new.image a')) { doubt = d })
               (sym (after_none (calls_device (app_of (before None) n) c))),
         );
         world = world None;
         keeps = λ k lt. call_keeps laws n (before None) (then None) old new
-            (subst (λ (ds : Disks). Calls n ds old new) (sym (then_disks number' same None)) (world_calls (app_at new.image n) calls))
-            (λ j differs. ap (λ (ds : Disks). disk_at ds j) (then_disks number' same None) ∙ same_after (app_at new.image n) j differs)
-            refl refl (subst (λ j. IsCleanApp j old.image → IsCleanApp j new.image) number (h.done tells).clean) k lt (is_on k lt) (which n k);
+            (subst (λ (ds : Disks). Calls n ds old new) (sym (then_disks number' same None))
+            (world_calls (app_at new.image n) calls))
+            (λ j differs. ap (λ (ds : Disks). disk_at ds j) (then_disks number' same None)
+            ∙ same_after (app_at new.image n) j differs)
+            refl refl (subst (λ j. IsCleanApp j old.image → IsCleanApp j new.image) number (h.done tells).clean) k lt
+            (is_on k lt) (which n k);
         case = λ d is. absurd (none_some d is);
         quiet = λ none. h.quiet quiet;
         aside = aside_on (app_at new.image n) calls;
@@ -250,7 +291,8 @@ module _ (laws : AppLaws) (rules : List Rule) (answers : Answers) (told : Bool) 
 
   -- ---- it was answered in a doubt, and called no device
 
-  keeps_doubt : (d : Doubt) (w' : World) → w'.doubt ≡ Some d → OnlyReads old new → (k : ℕ) → IsReady k (before (Some d)) old → Keeps k (before (Some d)) w' old new
+  keeps_doubt : (d : Doubt) (w' : World) → w'.doubt ≡ Some d → OnlyReads old new → (k : ℕ)
+      → IsReady k (before (Some d)) old → Keeps k (before (Some d)) w' old new
   unfolding before
   keeps_doubt d w' is reads k ready = record {
     any_moment = λ c s. inl (tt, reads.during c s);
@@ -264,14 +306,17 @@ module _ (laws : AppLaws) (rules : List Rule) (answers : Answers) (told : Bool) 
     elsewhere_always = λ quiet c s. inl (reads.during c s);
   }
 
-  pub answered_doubtful : (reply : Reply) (d : Doubt) (b : Bool) → true ≡ b → IsAnswered told rules answers now c a a' old new reply → calls_device (application old.image a) c ≡ false
+  pub answered_doubtful : (reply : Reply) (d : Doubt) (b : Bool) → true ≡ b
+      → IsAnswered told rules answers now c a a' old new reply → calls_device (application old.image a) c ≡ false
       → ((doubt : Option Doubt) → IsWorld (world new.image now (slice_set apps n a') doubt))
-      → Stepped rules answers (event.App n c) reply (kept now apps b) (kept now (slice_set apps n a') b) (Some d) old new
+      → Stepped rules answers (event.App n c) reply (kept now apps b) (kept now (slice_set apps n a') b) (Some d) old
+      new
   unfolding then before e
   answered_doubtful reply d b sure h calm world =
       let reads : OnlyReads old new = idle calm in
       let number' : a'.app ≡ n = h.app ∙ number in
-      let same : (k : ℕ) → k < 8 → k ≢ n → app_at new.image k ≡ app_at old.image k = λ k lt differs. ap (λ i. app_at i k) reads.image in
+      let same : (k : ℕ) → k < 8 → k ≢ n → app_at new.image k ≡ app_at old.image k =
+      λ k lt differs. ap (λ i. app_at i k) reads.image in
       record {
         eight = length-map (slice_set apps n a') running_in ∙ set_length apps n a' ∙ eight;
         doubt' = Some d;
@@ -280,7 +325,8 @@ module _ (laws : AppLaws) (rules : List Rule) (answers : Answers) (told : Bool) 
           (reply, application new.image a'),
           done_step reply (Some d) h,
           refl,
-          then_is number' same (Some d) (Some d) ∙ ap (λ (x : Bool). record (with_app (before (Some d)) n (application new.image a')) { doubt = doubt_after x (Some d) })
+          then_is number' same (Some d) (Some d) ∙ ap (λ (x : Bool).
+              record (with_app (before (Some d)) n (application new.image a')) { doubt = doubt_after x (Some d) })
               (sym (subst (λ (r : Application). calls_device r c ≡ false) (sym (it_is (Some d))) calm)),
         );
         world = world (Some d);
@@ -295,16 +341,22 @@ module _ (laws : AppLaws) (rules : List Rule) (answers : Answers) (told : Bool) 
 
   -- ---- its device failed, without a doubt before it
 
-  failed_is : IsFailed told rules answers now c a a' old new → FailsAs n now (app_at new.image n) (app_of (before None) n) c (application new.image a')
-  failed_is h = subst (λ (r : Application). FailsAs n now (app_at new.image n) r c (application new.image a')) (sym (it_is None))
-      (subst (λ k. FailsAs k now (app_at new.image k) (application old.image a) c (application new.image a')) number (h.fails tells))
+  failed_is : IsFailed told rules answers now c a a' old new
+      → FailsAs n now (app_at new.image n) (app_of (before None) n) c (application new.image a')
+  failed_is h = subst (λ (r : Application). FailsAs n now (app_at new.image n) r c (application new.image a'))
+      (sym (it_is None))
+      (subst (λ k. FailsAs k now (app_at new.image k) (application old.image a) c (application new.image a')) number
+      (h.fails tells))
 
-  led_on : (next : App) → IsLedTo rules answers a.app now c (application old.image a) next → IsLedTo rules answers n now c (application old.image a) next
+  led_on : (next : App) → IsLedTo rules answers a.app now c (application old.image a) next
+      → IsLedTo rules answers n now c (application old.image a) next
   led_on next led = subst (λ k. IsLedTo rules answers k now c (application old.image a) next) number led
 
-  pub failed_sure : (b : Bool) → false ≡ b → IsFailed told rules answers now c a a' old new → IsLawful told new → Quiet old
+  pub failed_sure : (b : Bool) → false ≡ b → IsFailed told rules answers now c a a' old new → IsLawful told new
+      → Quiet old
       → ((doubt : Option Doubt) → IsWorld (world new.image now (slice_set apps n a') doubt))
-      → Stepped rules answers (event.App n c) failure (kept now apps b) (kept now (slice_set apps n a') true) None old new
+      → Stepped rules answers (event.App n c) failure (kept now apps b) (kept now (slice_set apps n a') true) None old
+      new
   unfolding then before after was e
   failed_sure b sure h lawful quiet world =
       let number' : a'.app ≡ n = h.app ∙ number in
@@ -321,26 +373,32 @@ module _ (laws : AppLaws) (rules : List Rule) (answers : Answers) (told : Bool) 
           application new.image a',
           after progress.next,
           read.0,
-          subst (λ i. FailsAs n now (app_at i n) (app_of (before None) n) c (application new.image a')) (sym read.2) (failed_is h),
+          subst (λ i. FailsAs n now (app_at i n) (app_of (before None) n) c (application new.image a')) (sym read.2)
+              (failed_is h),
           leads_on progress.next (led_on progress.next progress.leads) None,
           refl,
           then_is number' same None (Some d),
           ap world_at read.2 ∙ closed_is new.image now (slice_set apps n a') (Some d) (set_length apps n a' ∙ eight),
         ));
         world = world (Some d);
-        keeps = λ k lt. call_fails laws n (before None) (then (Some d)) d told old new lawful time (world_calls progress.next calls)
-            (λ j differs. same_after progress.next j differs) refl refl refl read.1 read.2 k lt (is_on k lt) (which n k);
-        case = λ x is. inr (subst (λ (y : Doubt). new.now y.case × (y.case.left ≡ new.image)) (some_is d x is) (read.1, read.2));
+        keeps = λ k lt. call_fails laws n (before None) (then (Some d)) d told old new lawful time
+            (world_calls progress.next calls)
+            (λ j differs. same_after progress.next j differs) refl refl refl read.1 read.2 k lt (is_on k lt)
+            (which n k);
+        case = λ x is. inr (subst (λ (y : Doubt). new.now y.case × (y.case.left ≡ new.image)) (some_is d x is)
+            (read.1, read.2));
         quiet = λ none. absurd (none_some d (sym none));
         aside = aside_on progress.next calls;
-        unwritten = λ none. unwritten_on None (⊎_elim (λ idle. idle) (λ refusal. absurd (true≢false (sym refusal))) (either (calls_none (before None) e) false none));
+        unwritten = λ none. unwritten_on None (⊎_elim (λ idle. idle) (λ refusal. absurd (true≢false (sym refusal)))
+            (either (calls_none (before None) e) false none));
         written = written_on None;
         blamed = (time.faults, λ is. h.cause);
       }
 
   -- ---- memory ran out
 
-  pub stopped_sure : (b : Bool) → false ≡ b → IsInProgress rules answers a.app now c (application old.image a) old new → Quiet old
+  pub stopped_sure : (b : Bool) → false ≡ b → IsInProgress rules answers a.app now c (application old.image a) old new
+      → Quiet old
       → Stopped rules answers (event.App n c) (kept now apps b) None old new
   unfolding before after was e
   stopped_sure b sure progress quiet =
@@ -348,14 +406,16 @@ module _ (laws : AppLaws) (rules : List Rule) (answers : Answers) (told : Bool) 
       record {
         after = after progress.next;
         leads = leads_on progress.next (led_on progress.next progress.leads) None;
-        keeps = λ k lt ready c s. inr (each_moment laws n (before None) (after progress.next) old new (world_calls progress.next calls)
+        keeps = λ k lt ready c s. inr (each_moment laws n (before None) (after progress.next) old new
+            (world_calls progress.next calls)
             (λ j differs. same_after progress.next j differs) k lt (is_on k lt) quiet ready.clean (which n k) c s);
         aside = aside_on progress.next calls;
         unwritten = unwritten_on None;
         written = written_on None;
       }
 
-  pub stopped_doubtful : (d : Doubt) (b : Bool) → true ≡ b → calls_device (application old.image a) c ≡ false → Stopped rules answers (event.App n c) (kept now apps b) (Some d) old new
+  pub stopped_doubtful : (d : Doubt) (b : Bool) → true ≡ b → calls_device (application old.image a) c ≡ false
+      → Stopped rules answers (event.App n c) (kept now apps b) (Some d) old new
   unfolding before was e
   stopped_doubtful d b sure calm =
       let reads : OnlyReads old new = idle calm in

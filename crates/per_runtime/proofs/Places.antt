@@ -1,5 +1,6 @@
 -- Things that lie under numbers, one of them set; and a result that was tested.
-use Rattle.std.specs.Prelude.{◌≡◌, ◌≢◌, ◌⊎◌, ◌<◌, ℕ, zero, suc, List, [], ◌∷◌, length, true, false, Some, None, Result, Ok, Err, is_err, OnErr, OnOk, slice_get, slice_set}
+use Rattle.std.specs.Prelude.{◌≡◌, ◌≢◌, ◌⊎◌, ◌<◌, ℕ, zero, suc, List, [], ◌∷◌, length, true, false, Some, None, Result}
+use Rattle.std.specs.Prelude.{Ok, Err, is_err, OnErr, OnOk, slice_get, slice_set}
 use Rattle.std.proofs.Common.{refl, sym, ap, inl, inr, ⊎_elim, arith, true≢false}
 
 pub none_some : {A : Type 0} → (x : A) → None ≡ Some x → ⊥
@@ -10,7 +11,8 @@ get_set [] n x less = absurd (omega (arith, less))
 get_set (y ∷ ys) zero x less = refl
 get_set (y ∷ ys) (suc n) x less = get_set ys n x (omega (arith, less))
 
-pub get_set_other : {A : Type 0} → (xs : List A) (n k : ℕ) (x : A) → k ≢ n → slice_get (slice_set xs n x) k ≡ slice_get xs k
+pub get_set_other : {A : Type 0} → (xs : List A) (n k : ℕ) (x : A) → k ≢ n
+    → slice_get (slice_set xs n x) k ≡ slice_get xs k
 get_set_other [] n k x differs = refl
 get_set_other (y ∷ ys) zero zero x differs = absurd (differs refl)
 get_set_other (y ∷ ys) zero (suc k) x differs = refl
@@ -31,7 +33,8 @@ pub less_or_more : (n k : ℕ) → n ≢ k → (n < k) ⊎ (k < n)
 less_or_more zero zero differs = absurd (differs refl)
 less_or_more zero (suc k) differs = inl (omega arith)
 less_or_more (suc n) zero differs = inr (omega arith)
-less_or_more (suc n) (suc k) differs = ⊎_elim (λ less. inl (omega (arith, less))) (λ more. inr (omega (arith, more))) (less_or_more n k (λ e. differs (ap suc e)))
+less_or_more (suc n) (suc k) differs = ⊎_elim (λ less. inl (omega (arith, less))) (λ more. inr (omega (arith, more)))
+    (less_or_more n k (λ e. differs (ap suc e)))
 
 -- ---- a result that was tested
 

@@ -1,5 +1,6 @@
 -- A call of one application: as its row says where its root is in use, and behind the opening of a root that is marked.
-use Rattle.std.specs.Prelude.{◌≡◌, ◌≢◌, ◌⊎◌, ℕ, List, Bool, true, false, cond, ◌||◌, IsTrue, Some, None, Result, Ok, Err, IfOk, IsErrOf, OnOk, slice_get}
+use Rattle.std.specs.Prelude.{◌≡◌, ◌≢◌, ◌⊎◌, ℕ, List, Bool, true, false, cond, ◌||◌, IsTrue, Some, None, Result, Ok}
+use Rattle.std.specs.Prelude.{Err, IfOk, IsErrOf, OnOk, slice_get}
 use Rattle.std.proofs.Common.{refl, sym, ap, ◌∙◌, subst, inl, inr, ⊎_elim, true≢false}
 use Rattle.per_base.specs.Causes.{Rose}
 use Rattle.per_base.specs.declared.errors.PerError.TheVariants as error
@@ -26,7 +27,8 @@ use Rattle.run_model.specs.OneApp.{as_app, none_there}
 use Rattle.run_model.specs.Runtimes.{IsUnwritten, WritesWithin, is_durable, is_refusal}
 use Rattle.run_model.specs.Runtimes as memory
 use Rattle.run_model.specs.Sessions.{Session}
-use Rattle.run_model.specs.Steps.{AppStep, FailsAs, after_failure, calls_device, found_named, reaches_device, root_opened, uses_device}
+use Rattle.run_model.specs.Steps.{AppStep, FailsAs, after_failure, calls_device, found_named, reaches_device}
+use Rattle.run_model.specs.Steps.{root_opened, uses_device}
 use Rattle.run_model.specs.Worlds.{Application, Stage, Sessions, at_rest, is_to_open, none_open, to_open, update_in}
 use Rattle.app_storages.specs.Answers.{CallsTo}
 use Rattle.app_runtime.specs.Answers as calls
@@ -42,14 +44,19 @@ use Rattle.per_runtime.specs.Handled.{IfEnded, IsAnswered, IsFailed, IsInProgres
 pub not_opened : (r : Application) → is_to_open r.stage ≡ false → root_opened r ≡ r
 not_opened r rests = ap (λ (b : Bool). cond b (record r { disk = reopened r.disk; stage = at_rest }) r) rests
 
-row_step : (rules : List Rule) (answers : Answers) (app now : ℕ) (c : Call) (before behind : Application) (outcome : Outcome) → behind ≡ root_opened before
+row_step : (rules : List Rule) (answers : Answers) (app now : ℕ) (c : Call) (before behind : Application)
+    (outcome : Outcome) → behind ≡ root_opened before
     → HasRow rules answers app now c behind outcome → AppStep rules answers app now before c outcome
-row_step rules answers app now c before behind outcome is row = subst (λ (r : Application). StepBeside rules answers app now r c (beside_update (update_in r.stage) c) outcome) is row
+row_step rules answers app now c before behind outcome is row =
+    subst (λ (r : Application). StepBeside rules answers app now r c (beside_update (update_in r.stage) c) outcome) is
+    row
 
-led : (rules : List Rule) (answers : Answers) (app now : ℕ) (c : Call) (before : Application) (next : App) → before ≡ root_opened before
+led : (rules : List Rule) (answers : Answers) (app now : ℕ) (c : Call) (before : Application) (next : App)
+    → before ≡ root_opened before
     → calls.MayLead rules answers app now c before next → IsLedTo rules answers app now c before next
 led rules answers app now c before next is (inl same) = inl same
-led rules answers app now c before next is (inr row) = inr (row.0, row_step rules answers app now c before before row.0 is row.1, row.2)
+led rules answers app now c before next is (inr row) =
+    inr (row.0, row_step rules answers app now c before before row.0 is row.1, row.2)
 
 uses_none : (r : Application) (c : Call) → calls_device r c ≡ false → uses_device r.disk c ≡ false
 uses_none r c none = by (is_to_open r.stage) (uses_device r.disk c) none
@@ -62,12 +69,16 @@ memory_left : IsErrOf {T = Reply} (Err Device) OutOfMemory → ⊥
 memory_left e = cc
 
 -- by how the call ends
-pub called : (told : Bool) (rules : List Rule) (answers : Answers) (now : ℕ) (c : Call) (a a' : Running) (old new : Medium) (result : Result Reply Stop)
+pub called : (told : Bool) (rules : List Rule) (answers : Answers) (now : ℕ) (c : Call) (a a' : Running)
+    (old new : Medium) (result : Result Reply Stop)
     → is_to_open (stage_in a.stage) ≡ false → a'.app ≡ a.app
     → ((IsErrOf result OutOfMemory → ⊥) → IsRunning told new.image a')
-    → (IsTrue told → IfOk result (λ reply. calls.IsAnswered rules answers a.app now c (application old.image a) (application new.image a') reply old new))
-    → (IsTrue told → IsErrOf result Device → calls.HasFailed rules answers a.app now c (application old.image a) (application new.image a') old new)
-    → (IsTrue told → IsErrOf result OutOfMemory → calls.HasStopped rules answers a.app now c (application old.image a) old new)
+    → (IsTrue told → IfOk result (λ reply. calls.IsAnswered rules answers a.app now c (application old.image a)
+    (application new.image a') reply old new))
+    → (IsTrue told → IsErrOf result Device → calls.HasFailed rules answers a.app now c (application old.image a)
+    (application new.image a') old new)
+    → (IsTrue told → IsErrOf result OutOfMemory → calls.HasStopped rules answers a.app now c (application old.image a)
+    old new)
     → (Quiet old → OnOk result (Quiet new))
     → IfOk result (λ reply. is_refusal reply.answer ≡ true → IsUnwritten old new)
     → (IsErrOf result Device → Rose old.faults new.faults)
@@ -75,62 +86,78 @@ pub called : (told : Bool) (rules : List Rule) (answers : Answers) (now : ℕ) (
     → IfOk result (λ reply. HasText reply.answer)
     → IfEnded result (IsAnswered told rules answers now c a a' old new) (IsFailed told rules answers now c a a' old new)
     (IsTrue told → IsInProgress rules answers a.app now c (application old.image a) old new)
-called told rules answers now c a a' old new (Ok reply) rests app memory answered failed stopped quiet unwritten cause unfailed text = record {
-  app = app;
-  memory = memory (λ e. absurd cc);
-  text = text;
-  unfailed = unfailed;
-  quiet = quiet;
-  unwritten = λ refused closed. unwritten refused;
-  done = λ tells. let is = answered tells in record {
-    step = row_step rules answers a.app now c (application old.image a) (application old.image a) (reply, application new.image a')
-        (sym (not_opened (application old.image a) rests)) is.row;
-    later = is.later;
-    calls = subst (λ k. CallsTo a.app (app_at new.image k) old new) app is.calls;
-    clean = is.clean;
-  };
-}
-called told rules answers now c a a' old new (Err Device) rests app memory answered failed stopped quiet unwritten cause unfailed text = record {
-  app = app;
-  memory = memory memory_left;
-  cause = cause refl;
-  fails = λ tells. let is = failed tells refl in
-      let same : application old.image a ≡ root_opened (application old.image a) = sym (not_opened (application old.image a) rests) in
-      subst (λ (r : Application). (IsTrue (is_to_open (application old.image a).stage) × (application new.image a' ≡ after_failure (app_at new.image a.app) (application old.image a) None))
-      ⊎ (IsTrue (reaches_device a.app r now c) × (application new.image a' ≡ after_failure (app_at new.image a.app) r (found_named r c)))) same (inr (is.reaches, is.is_after));
-  progress = λ tells. let is = failed tells refl in record {
-    next = is.next;
-    leads = led rules answers a.app now c (application old.image a) is.next (sym (not_opened (application old.image a) rests)) is.leads;
-    later = is.later;
-    calls = is.calls;
-  };
-}
-called told rules answers now c a a' old new (Err OutOfMemory) rests app memory answered failed stopped quiet unwritten cause unfailed text = λ tells.
+called told rules answers now c a a' old new (Ok reply) rests app memory answered failed stopped quiet unwritten cause
+    unfailed text = record {
+      app = app;
+      memory = memory (λ e. absurd cc);
+      text = text;
+      unfailed = unfailed;
+      quiet = quiet;
+      unwritten = λ refused closed. unwritten refused;
+      done = λ tells. let is = answered tells in record {
+        step = row_step rules answers a.app now c (application old.image a) (application old.image a)
+            (reply, application new.image a')
+            (sym (not_opened (application old.image a) rests)) is.row;
+        later = is.later;
+        calls = subst (λ k. CallsTo a.app (app_at new.image k) old new) app is.calls;
+        clean = is.clean;
+      };
+    }
+called told rules answers now c a a' old new (Err Device) rests app memory answered failed stopped quiet unwritten cause
+    unfailed text = record {
+      app = app;
+      memory = memory memory_left;
+      cause = cause refl;
+      fails = λ tells. let is = failed tells refl in
+          let same : application old.image a ≡ root_opened (application old.image a) =
+          sym (not_opened (application old.image a) rests) in
+          subst (λ (r : Application). (IsTrue (is_to_open (application old.image a).stage)
+          × (application new.image a' ≡ after_failure (app_at new.image a.app) (application old.image a) None))
+          ⊎ (IsTrue (reaches_device a.app r now c) × (application new.image a'
+          ≡ after_failure (app_at new.image a.app) r (found_named r c)))) same (inr (is.reaches, is.is_after));
+      progress = λ tells. let is = failed tells refl in record {
+        next = is.next;
+        leads = led rules answers a.app now c (application old.image a) is.next
+            (sym (not_opened (application old.image a) rests)) is.leads;
+        later = is.later;
+        calls = is.calls;
+      };
+    }
+called told rules answers now c a a' old new (Err OutOfMemory) rests app memory answered failed stopped quiet unwritten
+    cause unfailed text = λ tells.
     let is = stopped tells refl in record {
       next = is.next;
-      leads = led rules answers a.app now c (application old.image a) is.next (sym (not_opened (application old.image a) rests)) is.leads;
+      leads = led rules answers a.app now c (application old.image a) is.next
+          (sym (not_opened (application old.image a) rests)) is.leads;
       later = is.later;
       calls = is.calls;
     }
 
 -- a call that needs no device calls none
-pub none_called : {Untouched : Type 0} (image : Image) (a : Running) (c : Call) → (uses_device (app_at image a.app) c ≡ false → Untouched)
+pub none_called : {Untouched : Type 0} (image : Image) (a : Running) (c : Call)
+    → (uses_device (app_at image a.app) c ≡ false → Untouched)
     → calls_device (application image a) c ≡ false → Untouched
 none_called image a c idle none = idle (uses_none (application image a) c none)
 
 -- and so it only reads
-pub only_reads : {D : Type 0} (medium : D → Medium) (disk disk' : D) (told : Bool) → IsLawful told (medium disk) → disk' ≡ disk → OnlyReads (medium disk) (medium disk')
-only_reads {D} medium disk disk' told lawful same = subst (λ (d : D). OnlyReads (medium disk) (medium d)) (sym same) (reads_none lawful)
+pub only_reads : {D : Type 0} (medium : D → Medium) (disk disk' : D) (told : Bool) → IsLawful told (medium disk)
+    → disk' ≡ disk → OnlyReads (medium disk) (medium disk')
+only_reads {D} medium disk disk' told lawful same = subst (λ (d : D). OnlyReads (medium disk) (medium d)) (sym same)
+    (reads_none lawful)
 
 -- ---- a root that is opened first
 
 -- a mark stands beside no open storage
-marked_is : (image : Image) (a : Running) → stage_in a.stage ≡ to_open → IsApplication (application image a) → running_in a ≡ record { stage = to_open; sessions = none_open }
+marked_is : (image : Image) (a : Running) → stage_in a.stage ≡ to_open → IsApplication (application image a)
+    → running_in a ≡ record { stage = to_open; sessions = none_open }
 marked_is image a marked is =
-    let closed : (running_in a).sessions ≡ none_open = subst (λ (s : Stage). IsStageOn s (app_at image a.app).says (running_in a).sessions) marked is.stage in
-    ap (λ (s : Stage). record { stage = s; sessions = (running_in a).sessions }) marked ∙ ap (λ (ss : Sessions). record { stage = to_open; sessions = ss }) closed
+    let closed : (running_in a).sessions ≡ none_open = subst
+    (λ (s : Stage). IsStageOn s (app_at image a.app).says (running_in a).sessions) marked is.stage in
+    ap (λ (s : Stage). record { stage = s; sessions = (running_in a).sessions }) marked
+    ∙ ap (λ (ss : Sessions). record { stage = to_open; sessions = ss }) closed
 
-pub marked_at : MakesOne → (told : Bool) (image : Image) (a : Running) → stage_in a.stage ≡ to_open → IsRunning told image a → IsTrue told
+pub marked_at : MakesOne → (told : Bool) (image : Image) (a : Running) → stage_in a.stage ≡ to_open
+    → IsRunning told image a → IsTrue told
     → running_in a ≡ record { stage = to_open; sessions = none_open }
 marked_at makes told image a marked used tells = marked_is image a marked (makes told image a tells used)
 
@@ -144,7 +171,16 @@ is_same d = same_root refl refl
 -- the copies that lack a root matter to nothing but what stands before
 lacks_alike : (app : ℕ) (before d : App) (c : Case) → StandsCase app before (reopened d) c → StandsCase app before d c
 lacks_alike app before d c stands sound damaged image decays = let s = stands sound damaged image decays in
-    record { bad = s.bad; root = s.root; same = s.same; old = s.old; new = s.new; clean_root = s.clean_root; clean = s.clean }
+    record {
+      bad = s.bad;
+      root = s.root;
+      same = s.same;
+      old = s.old;
+      new = s.new;
+      clean_root = s.clean_root;
+      clean =
+          s.clean;
+    }
 
 calls_alike : (app : ℕ) (d : App) (old new : Medium) → CallsTo app (reopened d) old new → CallsTo app d old new
 calls_alike app d old new calls = record {
@@ -154,13 +190,16 @@ calls_alike app d old new calls = record {
 }
 
 -- the opening, and then the call
-whole_calls : RootMendLaw → (app : ℕ) (next : App) (old mid new : Medium) → OpensRoot app old mid → Elapses mid new → IsLater (app_at mid.image app) next
+whole_calls : RootMendLaw → (app : ℕ) (next : App) (old mid new : Medium) → OpensRoot app old mid → Elapses mid new
+    → IsLater (app_at mid.image app) next
     → CallsTo app next mid new → CallsTo app next old new
 whole_calls mend app next old mid new opens time later calls = record {
   any_moment = λ quiet clean c s. ⊎_elim
-      (λ was. opens.any_moment quiet clean next (later_before (app_at old.image app) next (subst (λ (x : App). IsLater x next) opens.app later)) c was)
+      (λ was. opens.any_moment quiet clean next (later_before (app_at old.image app) next
+      (subst (λ (x : App). IsLater x next) opens.app later)) c was)
       (λ at. λ is_sound damaged image decays. mend app image damaged (app_at old.image app) next
-      ((subst (λ (x : App). StandsCase app x next c) opens.app (calls.any_moment opens.quiet (opens.clean clean) c at)) is_sound damaged image decays))
+      ((subst (λ (x : App). StandsCase app x next c) opens.app (calls.any_moment opens.quiet (opens.clean clean) c at))
+      is_sound damaged image decays))
       (cases_on opens.time time c s);
   outside = λ quiet c s. ⊎_elim
       (λ was. opens.outside quiet c was)
@@ -173,28 +212,40 @@ whole_calls mend app next old mid new opens time later calls = record {
   elsewhere = λ f inside. calls.elsewhere f inside ∙ opens.elsewhere f inside;
 }
 
-module _ (mend : RootMendLaw) (told : Bool) (rules : List Rule) (answers : Answers) (now : ℕ) (c : Call) (a b : Running) (old mid : Medium)
-    (marked : stage_in a.stage ≡ to_open) (same : b.app ≡ a.app) (closed : IsTrue told → running_in a ≡ record { stage = to_open; sessions = none_open }) where
+module _ (mend : RootMendLaw) (told : Bool) (rules : List Rule) (answers : Answers) (now : ℕ) (c : Call) (a b : Running)
+    (old mid : Medium)
+    (marked : stage_in a.stage ≡ to_open) (same : b.app ≡ a.app)
+    (closed : IsTrue told → running_in a ≡ record { stage = to_open; sessions = none_open }) where
   not_in_use : {A : Type 0} → is_to_open (stage_in a.stage) ≡ false → A
   not_in_use rests = absurd (true≢false (sym (ap is_to_open marked) ∙ rests))
 
   pub none_idle : (Untouched : Type 0) → calls_device (application old.image a) c ≡ false → Untouched
-  none_idle untouched none = absurd (true≢false (sym (ap (λ (s : Stage). is_to_open s || uses_device (app_at old.image a.app) c) marked) ∙ none))
+  none_idle untouched none = absurd (true≢false (sym (ap
+      (λ (s : Stage). is_to_open s || uses_device (app_at old.image a.app) c) marked) ∙ none))
 
-  pub none_written : (new : Medium) → IsTrue told → is_durable c ≡ true → (f : Found) (s : Session) → found_named (application old.image a) c ≡ Some (Ok f)
+  pub none_written : (new : Medium) → IsTrue told → is_durable c ≡ true → (f : Found) (s : Session)
+      → found_named (application old.image a) c ≡ Some (Ok f)
       → session_at (application old.image a) f.number ≡ Some s → WritesWithin a.app f s old new
   none_written new tells durable f s found there = absurd (none_some s (sym (none_there 16 f.number)
       ∙ sym (ap (λ (r : memory.Running). if_open (slice_get r.sessions f.number)) (closed tells)) ∙ there))
 
   -- ---- the opening failed
 
-  unopened : (mid : Medium) → IsTrue told → ((next : App) → IsLater (app_at old.image a.app) next → CallsTo a.app next old mid) → IsInProgress rules answers a.app now c (application old.image a) old mid
-  unopened mid tells way = record { next = app_at old.image a.app; leads = inl refl; later = is_same (app_at old.image a.app); calls = way (app_at old.image a.app) (is_same (app_at old.image a.app)) }
+  unopened : (mid : Medium) → IsTrue told → ((next : App) → IsLater (app_at old.image a.app) next
+      → CallsTo a.app next old mid) → IsInProgress rules answers a.app now c (application old.image a) old mid
+  unopened mid tells way = record {
+    next = app_at old.image a.app;
+    leads = inl refl;
+    later =
+        is_same (app_at old.image a.app);
+    calls = way (app_at old.image a.app) (is_same (app_at old.image a.app));
+  }
 
   pub opening_failed : (stop : Stop) → IsRunning told mid.image b → running_in b ≡ running_in a
       → (IsTrue told → (next : App) → IsLater (app_at old.image a.app) next → CallsTo a.app next old mid)
       → (stop ≡ Device → Rose old.faults mid.faults)
-      → IfEnded (Err stop) (IsAnswered told rules answers now c a b old mid) (IsFailed told rules answers now c a b old mid)
+      → IfEnded (Err stop) (IsAnswered told rules answers now c a b old mid)
+      (IsFailed told rules answers now c a b old mid)
       (IsTrue told → IsInProgress rules answers a.app now c (application old.image a) old mid)
   opening_failed Device memory kept way cause = record {
     app = same;
@@ -211,33 +262,44 @@ module _ (mend : RootMendLaw) (told : Bool) (rules : List Rule) (answers : Answe
 
   -- ---- the root is in use, and the call was made
 
-  module _ (opened : running_in b ≡ record { stage = at_rest; sessions = none_open }) (quiet : Quiet mid) (opens : IsTrue told → OpensRoot a.app old mid) (a' : Running) (new : Medium) (time : Elapses mid new) where
+  module _ (opened : running_in b ≡ record { stage = at_rest; sessions = none_open }) (quiet : Quiet mid)
+      (opens : IsTrue told → OpensRoot a.app old mid) (a' : Running) (new : Medium) (time : Elapses mid new) where
     opened_is : IsTrue told → root_opened (application mid.image b) ≡ root_opened (application old.image a)
     opened_is tells = ap (λ (r : memory.Running). root_opened (as_app (app_at mid.image b.app) r)) opened
-        ∙ ap (λ (x : App). as_app x (record { stage = at_rest; sessions = none_open })) (ap (app_at mid.image) same ∙ (opens tells).app)
+        ∙ ap (λ (x : App). as_app x (record { stage = at_rest; sessions = none_open }))
+        (ap (app_at mid.image) same ∙ (opens tells).app)
         ∙ sym (ap (λ (r : memory.Running). root_opened (as_app (app_at old.image a.app) r)) (closed tells))
 
-    step_on : IsTrue told → (outcome : Outcome) → AppStep rules answers b.app now (application mid.image b) c outcome → AppStep rules answers a.app now (application old.image a) c outcome
-    step_on tells outcome step = subst (λ (k : ℕ). StepBeside rules answers k now (root_opened (application old.image a)) c (beside_update (update_in (root_opened (application old.image a)).stage) c) outcome) same
-        (subst (λ (r : Application). StepBeside rules answers b.app now r c (beside_update (update_in r.stage) c) outcome) (opened_is tells) step)
+    step_on : IsTrue told → (outcome : Outcome) → AppStep rules answers b.app now (application mid.image b) c outcome
+        → AppStep rules answers a.app now (application old.image a) c outcome
+    step_on tells outcome step = subst (λ (k : ℕ). StepBeside rules answers k now
+        (root_opened (application old.image a)) c (beside_update
+        (update_in (root_opened (application old.image a)).stage) c) outcome) same
+        (subst (λ (r : Application). StepBeside rules answers b.app now r c (beside_update (update_in r.stage) c)
+        outcome) (opened_is tells) step)
 
-    later_on : (next : App) → IsTrue told → IsLater (app_at mid.image b.app) next → IsLater (app_at old.image a.app) next
+    later_on : (next : App) → IsTrue told → IsLater (app_at mid.image b.app) next
+        → IsLater (app_at old.image a.app) next
     later_on next tells later = later_before (app_at old.image a.app) next
         (subst (λ (x : App). IsLater x next) (ap (app_at mid.image) same ∙ (opens tells).app) later)
 
-    calls_on : (next : App) → IsTrue told → IsLater (app_at mid.image b.app) next → CallsTo b.app next mid new → CallsTo a.app next old new
-    calls_on next tells later calls = whole_calls mend a.app next old mid new (opens tells) time (subst (λ (k : ℕ). IsLater (app_at mid.image k) next) same later)
+    calls_on : (next : App) → IsTrue told → IsLater (app_at mid.image b.app) next → CallsTo b.app next mid new
+        → CallsTo a.app next old new
+    calls_on next tells later calls = whole_calls mend a.app next old mid new (opens tells) time
+        (subst (λ (k : ℕ). IsLater (app_at mid.image k) next) same later)
         (subst (λ (k : ℕ). CallsTo k next mid new) same calls)
 
     -- what lay there before is what lies there with its root opened, but for the copies that lacked it
-    progress_by : IsTrue told → (next : App) → IsLedTo rules answers b.app now c (application mid.image b) next → IsLater (app_at mid.image b.app) next → CallsTo b.app next mid new
+    progress_by : IsTrue told → (next : App) → IsLedTo rules answers b.app now c (application mid.image b) next
+        → IsLater (app_at mid.image b.app) next → CallsTo b.app next mid new
         → IsInProgress rules answers a.app now c (application old.image a) old new
     progress_by tells next (inl is) later calls = record {
       next = app_at old.image a.app;
       leads = inl refl;
       later = is_same (app_at old.image a.app);
       calls = calls_alike a.app (app_at old.image a.app) old new
-          (subst (λ (x : App). CallsTo a.app x old new) (is ∙ ap (app_at mid.image) same ∙ (opens tells).app) (calls_on next tells later calls));
+          (subst (λ (x : App). CallsTo a.app x old new) (is ∙ ap (app_at mid.image) same ∙ (opens tells).app)
+          (calls_on next tells later calls));
     }
     progress_by tells next (inr row) later calls = record {
       next = next;
@@ -246,19 +308,27 @@ module _ (mend : RootMendLaw) (told : Bool) (rules : List Rule) (answers : Answe
       calls = calls_on next tells later calls;
     }
 
-    progress_on : IsTrue told → IsInProgress rules answers b.app now c (application mid.image b) mid new → IsInProgress rules answers a.app now c (application old.image a) old new
+    progress_on : IsTrue told → IsInProgress rules answers b.app now c (application mid.image b) mid new
+        → IsInProgress rules answers a.app now c (application old.image a) old new
     progress_on tells p = progress_by tells p.next p.leads p.later p.calls
 
-    fails_on : IsTrue told → FailsAs b.app now (app_at new.image b.app) (application mid.image b) c (application new.image a')
+    fails_on : IsTrue told → FailsAs b.app now (app_at new.image b.app) (application mid.image b) c
+        (application new.image a')
         → FailsAs a.app now (app_at new.image a.app) (application old.image a) c (application new.image a')
-    fails_on tells (inl root) = absurd (true≢false (sym root.0 ∙ ap (λ (r : memory.Running). is_to_open r.stage) opened))
-    fails_on tells (inr call) = inr (subst (λ (r : Application). IsTrue (reaches_device a.app r now c) × (application new.image a' ≡ after_failure (app_at new.image a.app) r (found_named r c)))
+    fails_on tells (inl root) = absurd (true≢false (sym root.0
+        ∙ ap (λ (r : memory.Running). is_to_open r.stage) opened))
+    fails_on tells (inr call) = inr (subst (λ (r : Application). IsTrue (reaches_device a.app r now c)
+        × (application new.image a' ≡ after_failure (app_at new.image a.app) r (found_named r c)))
         (opened_is tells) (subst (λ (k : ℕ). IsTrue (reaches_device k (root_opened (application mid.image b)) now c)
-        × (application new.image a' ≡ after_failure (app_at new.image k) (root_opened (application mid.image b)) (found_named (root_opened (application mid.image b)) c))) same call))
+        × (application new.image a' ≡ after_failure (app_at new.image k) (root_opened (application mid.image b))
+        (found_named (root_opened (application mid.image b)) c))) same call))
 
-    pub opened_first : (result : Result Reply Stop) → Elapses old mid → IfEnded result (IsAnswered told rules answers now c b a' mid new) (IsFailed told rules answers now c b a' mid new)
+    pub opened_first : (result : Result Reply Stop) → Elapses old mid
+        → IfEnded result (IsAnswered told rules answers now c b a' mid new)
+        (IsFailed told rules answers now c b a' mid new)
         (IsTrue told → IsInProgress rules answers b.app now c (application mid.image b) mid new)
-        → IfEnded result (IsAnswered told rules answers now c a a' old new) (IsFailed told rules answers now c a a' old new)
+        → IfEnded result (IsAnswered told rules answers now c a a' old new)
+        (IsFailed told rules answers now c a a' old new)
         (IsTrue told → IsInProgress rules answers a.app now c (application old.image a) old new)
     opened_first (Ok reply) first h = record {
       app = h.app ∙ same;
@@ -270,8 +340,11 @@ module _ (mend : RootMendLaw) (told : Bool) (rules : List Rule) (answers : Answe
       done = λ tells. let d = h.done tells in record {
         step = step_on tells (reply, application new.image a') d.step;
         later = later_on (app_at new.image a'.app) tells d.later;
-        calls = subst (λ (k : ℕ). CallsTo a.app (app_at new.image k) old new) same (calls_on (app_at new.image b.app) tells (subst (λ (k : ℕ). IsLater (app_at mid.image b.app) (app_at new.image k)) h.app d.later) d.calls);
-        clean = λ was. subst (λ (k : ℕ). IsCleanApp k mid.image → IsCleanApp k new.image) same d.clean ((opens tells).clean was);
+        calls = subst (λ (k : ℕ). CallsTo a.app (app_at new.image k) old new) same
+            (calls_on (app_at new.image b.app) tells (subst (λ (k : ℕ).
+            IsLater (app_at mid.image b.app) (app_at new.image k)) h.app d.later) d.calls);
+        clean = λ was. subst (λ (k : ℕ). IsCleanApp k mid.image → IsCleanApp k new.image) same d.clean
+            ((opens tells).clean was);
       };
     }
     opened_first (Err Device) first h = record {

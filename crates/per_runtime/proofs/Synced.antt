@@ -1,5 +1,6 @@
 -- A doubt is ended by a sync, and then the command goes on; where the sync fails nothing changes.
-use Rattle.std.specs.Prelude.{◌≡◌, ◌⊎◌, ◌<◌, ◌≤◌, ◌+◌, ◌*◌, ◌&&◌, ℕ, List, length, Bool, true, false, IsTrue, Option, Some, None, Result, Ok, Err}
+use Rattle.std.specs.Prelude.{◌≡◌, ◌⊎◌, ◌<◌, ◌≤◌, ◌+◌, ◌*◌, ◌&&◌, ℕ, List, length, Bool, true, false, IsTrue, Option}
+use Rattle.std.specs.Prelude.{Some, None, Result, Ok, Err}
 use Rattle.std.proofs.Common.{refl, sym, ap, ◌∙◌, subst, inl, inr, ⊎_elim, le_refl, le_trans, arith, true≢false}
 use Rattle.std.proofs.lemmas.List.{length-map}
 use Rattle.disk_model.specs.Case.{Case, IsSettledAt}
@@ -22,7 +23,8 @@ use Rattle.deploy.specs.declared.errors.Stop.TheVariants.{Device, OutOfMemory}
 use Rattle.deploy_laws.specs.Apps.{IsCleanApp}
 use Rattle.run_model.specs.KeepLaws.{after_sync_keeps, failed_sync_keeps, settled_on}
 use Rattle.run_model.specs.Moments.{IsMoment, IsReady, StepKeeps, StopKeeps}
-use Rattle.run_model.specs.Runtimes.{Memory, IsDoubt, IsElsewhere, IsUnwritten, StaysAside, Stepped, StepsOn, Stopped, WrittenBy, WritesWithin, calls_none, world_of, writes_none}
+use Rattle.run_model.specs.Runtimes.{Memory, IsDoubt, IsElsewhere, IsUnwritten, StaysAside, Stepped, StepsOn, Stopped}
+use Rattle.run_model.specs.Runtimes.{WrittenBy, WritesWithin, calls_none, world_of, writes_none}
 use Rattle.run_model.specs.Steps.{Leads, calls_device, doubt_after, failure}
 use Rattle.run_model.specs.Lasting.{IsWorld}
 use Rattle.run_model.specs.Worlds.{Application, Doubt, World, app_of, with_app, without_doubt}
@@ -48,13 +50,18 @@ both_true b is = ap (λ (x : Bool). x && true) is
 
 -- where nothing is written, no bound is passed
 within : (copies contents index before after : ℕ) → after ≡ before → IsWithin copies contents index before after
-within copies contents index before after same = subst (λ (k : ℕ). k ≤ before + copies * (contents + index + 88)) (sym same) (omega arith)
+within copies contents index before after same = subst (λ (k : ℕ). k ≤ before + copies * (contents + index + 88))
+    (sym same) (omega arith)
 
-more : (copies contents index before before' after : ℕ) → before ≡ before' → IsWithin copies contents index before after → IsWithin copies contents index before' after
-more copies contents index before before' after same bound = subst (λ (k : ℕ). after ≤ k + copies * (contents + index + 88)) same bound
+more : (copies contents index before before' after : ℕ) → before ≡ before' → IsWithin copies contents index before after
+    → IsWithin copies contents index before' after
+more copies contents index before before' after same bound =
+    subst (λ (k : ℕ). after ≤ k + copies * (contents + index + 88)) same bound
 
-module _ (rules : List Rule) (answers : Answers) (told : Bool) (n : ℕ) (c : Call) (m : Memory) (d : Doubt) (old mid new : Medium)
-    (calls : calls_device (app_of (world_of old.image m (Some d)) n) c ≡ true) (nothing : WritesNothing old mid) (time : Elapses old mid) where
+module _ (rules : List Rule) (answers : Answers) (told : Bool) (n : ℕ) (c : Call) (m : Memory) (d : Doubt)
+    (old mid new : Medium)
+    (calls : calls_device (app_of (world_of old.image m (Some d)) n) c ≡ true) (nothing : WritesNothing old mid)
+    (time : Elapses old mid) where
   -- the world before
   before : World
   before = world_of old.image m (Some d)
@@ -67,9 +74,11 @@ module _ (rules : List Rule) (answers : Answers) (told : Bool) (n : ℕ) (c : Ca
   module _ (lawful : IsLawful told mid) (quiet : Quiet mid) (later : Elapses mid new) where
     -- a case of the sync, or one behind it: it might have come before the command, or leaves all as it was
     settled_case : (files : ℕ → Type 0) (x : Case) → mid.now x → IsSettledOn files old.image x
-    settled_case files x at = settled_on files old.image x (subst (λ (i : Image). IsSettledAt i x) nothing.image (quiet x at))
+    settled_case files x at = settled_on files old.image x
+        (subst (λ (i : Image). IsSettledAt i x) nothing.image (quiet x at))
 
-    moment_on : (P : Case → Type 0) → ((x : Case) → mid.now x → P x) → EachCase (λ x. P x) mid new → EachCase (λ x. old.now x ⊎ P x) old new
+    moment_on : (P : Case → Type 0) → ((x : Case) → mid.now x → P x) → EachCase (λ x. P x) mid new
+        → EachCase (λ x. old.now x ⊎ P x) old new
     moment_on P here there x s = ⊎_elim
         (λ was. ⊎_elim (λ before. inl before) (λ at. inr (here x at)) (nothing.during x was))
         (λ at. inr (there x at))
@@ -78,7 +87,8 @@ module _ (rules : List Rule) (answers : Answers) (told : Bool) (n : ℕ) (c : Ca
     aside_on : StaysAside (event.App n c) None mid new → StaysAside (event.App n c) (Some d) old new
     aside_on aside = record {
       elsewhere = λ f inside. aside.elsewhere f inside ∙ ap (λ (i : Image). i f) nothing.image;
-      elsewhere_always = λ no_doubt x s. moment_on (IsSettledOn (IsElsewhere (event.App n c)) old.image) (settled_case (IsElsewhere (event.App n c)))
+      elsewhere_always = λ no_doubt x s. moment_on (IsSettledOn (IsElsewhere (event.App n c)) old.image)
+          (settled_case (IsElsewhere (event.App n c)))
           (λ y at. ⊎_elim
           (λ now. settled_case (IsElsewhere (event.App n c)) y now)
           (λ settled. subst (λ (i : Image). IsSettledOn (IsElsewhere (event.App n c)) i y) nothing.image settled)
@@ -88,28 +98,35 @@ module _ (rules : List Rule) (answers : Answers) (told : Bool) (n : ℕ) (c : Ca
     unwritten_on : IsUnwritten mid new → IsUnwritten old new
     unwritten_on none = (none.0 ∙ nothing.image, none.1 ∙ nothing.written)
 
-    written_on : WrittenBy (world_of mid.image (sure m) None) (event.App n c) mid new → WrittenBy before (event.App n c) old new
+    written_on : WrittenBy (world_of mid.image (sure m) None) (event.App n c) mid new
+        → WrittenBy before (event.App n c) old new
     unfolding before
     written_on written durable f s found there =
-        let within : WritesWithin n f s mid new = subst (λ (w : World). WrittenBy w (event.App n c) mid new) synced_is written durable f s found there in
+        let within : WritesWithin n f s mid new = subst (λ (w : World). WrittenBy w (event.App n c) mid new) synced_is
+        written durable f s found there in
         record {
           same = λ same. within.same same ∙ nothing.written;
-          at_most = λ v others opens. more (shape_in n f).place.copies (map_cost f.config.kind (synced_of s) (seen_of s))
-              (index_length f.config.kind (synced_view (shape_in n f) v (synced_of s) (seen_of s)).entries) mid.written old.written new.written nothing.written (within.at_most v others opens);
+          at_most = λ v others opens. more (shape_in n f).place.copies
+              (map_cost f.config.kind (synced_of s) (seen_of s))
+              (index_length f.config.kind (synced_view (shape_in n f) v (synced_of s) (seen_of s)).entries) mid.written
+              old.written new.written nothing.written (within.at_most v others opens);
         }
 
     -- where it leads
-    step_on : (reply : Reply) (w' : World) → StepsOn rules answers (without_doubt before) (event.App n c) reply w' mid new → StepsOn rules answers before (event.App n c) reply w' old new
+    step_on : (reply : Reply) (w' : World) → StepsOn rules answers (without_doubt before) (event.App n c) reply w' mid
+        new → StepsOn rules answers before (event.App n c) reply w' old new
     unfolding before
     step_on reply w' (inl step) = inl (
       step.0,
       step.1,
       step.2,
       step.3
-          ∙ ap (λ (x : Option Doubt). record (with_app before n step.0.1) { doubt = x }) (after_none (calls_device (app_of before n) c)
+          ∙ ap (λ (x : Option Doubt). record (with_app before n step.0.1) { doubt = x })
+          (after_none (calls_device (app_of before n) c)
           ∙ sym (ap (λ (b : Bool). doubt_after b (Some d)) calls)),
     )
-    step_on reply w' (inr (inl fails)) = absurd (true≢false (sym fails.0.0 ∙ and_none (calls_device (app_of before n) c)))
+    step_on reply w' (inr (inl fails)) = absurd (true≢false
+        (sym fails.0.0 ∙ and_none (calls_device (app_of before n) c)))
     step_on reply w' (inr (inr fails)) = inr (inr fails)
 
     pub stepped : (reply : Reply) (m' : Memory) → Stepped rules answers (event.App n c) reply (sure m) m' None mid new
@@ -121,38 +138,56 @@ module _ (rules : List Rule) (answers : Answers) (told : Bool) (n : ℕ) (c : Ca
           eight = s.eight;
           doubt' = s.doubt';
           is_doubt = s.is_doubt;
-          step = step_on reply w' (subst (λ (w : World). StepsOn rules answers w (event.App n c) reply w' mid new) synced_is s.step);
+          step = step_on reply w' (subst (λ (w : World). StepsOn rules answers w (event.App n c) reply w' mid new)
+              synced_is s.step);
           world = s.world;
           keeps = λ k lt. after_sync_keeps k before w' d told old mid new refl lawful time nothing quiet later
               (subst (λ (w : World). StepKeeps k w w' mid new) synced_is (s.keeps k lt));
           case = λ x is. ⊎_elim (λ none. absurd (none_some x none)) (λ new. inr new) (s.case x is);
           quiet = s.quiet;
           aside = aside_on s.aside;
-          unwritten = λ none. unwritten_on (s.unwritten (subst (λ (w : World). writes_none w (event.App n c) reply ≡ true) (sym synced_is) none));
+          unwritten = λ none. unwritten_on (s.unwritten (subst
+              (λ (w : World). writes_none w (event.App n c) reply ≡ true) (sym synced_is) none));
           written = written_on s.written;
-          blamed = (le_trans time.faults s.blamed.0, λ is. rose_before old.faults mid.faults new.faults time.faults (s.blamed.1 is));
+          blamed = (
+            le_trans time.faults s.blamed.0,
+            λ is. rose_before old.faults mid.faults new.faults time.faults
+                (s.blamed.1 is),
+          );
         }
 
-    pub stopped : Stopped rules answers (event.App n c) (sure m) None mid new → Stopped rules answers (event.App n c) m (Some d) old new
+    pub stopped : Stopped rules answers (event.App n c) (sure m) None mid new
+        → Stopped rules answers (event.App n c) m (Some d) old new
     unfolding before
     stopped s = record {
       after = s.after;
       leads = subst (λ (w : World). Leads rules answers w (event.App n c) s.after) synced_is s.leads;
       keeps = λ k lt ready x at.
-          let kept : StopKeeps k (without_doubt before) s.after mid new = subst (λ (w : World). StopKeeps k w s.after mid new) synced_is (s.keeps k lt) in
-          let now_ready : IsReady k (without_doubt before) mid = record { clean = subst (λ (i : Image). IsCleanApp k i) (sym nothing.image) ready.clean; quiet = λ none. quiet } in
-          let behind : EachCase (IsMoment k before s.after None old) mid new = λ y s'. ⊎_elim (λ both. absurd both.0) (λ between. inr between) (kept now_ready y s') in
+          let kept : StopKeeps k (without_doubt before) s.after mid new =
+          subst (λ (w : World). StopKeeps k w s.after mid new) synced_is (s.keeps k lt) in
+          let now_ready : IsReady k (without_doubt before) mid =
+          record {
+            clean = subst (λ (i : Image). IsCleanApp k i) (sym nothing.image) ready.clean;
+            quiet =
+                λ none. quiet;
+          } in
+          let behind : EachCase (IsMoment k before s.after None old) mid new =
+          λ y s'. ⊎_elim (λ both. absurd both.0) (λ between. inr between) (kept now_ready y s') in
           ⊎_elim
-          (λ was. ⊎_elim (λ earlier. inl (tt, earlier)) (λ now. behind x (later.keeps mid.moment x (le_refl mid.moment) (lawful.counts_now mid.moment x (le_refl mid.moment) now))) (nothing.during x was))
+          (λ was. ⊎_elim (λ earlier. inl (tt, earlier)) (λ now.
+          behind x (later.keeps mid.moment x (le_refl mid.moment)
+          (lawful.counts_now mid.moment x (le_refl mid.moment) now))) (nothing.during x was))
           (λ since. behind x since)
           (cases_on time later x at);
       aside = aside_on s.aside;
-      unwritten = λ none. unwritten_on (s.unwritten (subst (λ (w : World). calls_none w (event.App n c) ≡ true) (sym synced_is) none));
+      unwritten = λ none. unwritten_on (s.unwritten (subst (λ (w : World). calls_none w (event.App n c) ≡ true)
+          (sym synced_is) none));
       written = written_on s.written;
     }
 
   -- the sync failed
-  pub unsynced : OnlyReads old mid → Rose old.faults mid.faults → m.in_doubt ≡ true → length m.apps ≡ 8 → IsWorld (world_of old.image m (Some d)) → Stepped rules answers (event.App n c) failure m m (Some d) old mid
+  pub unsynced : OnlyReads old mid → Rose old.faults mid.faults → m.in_doubt ≡ true → length m.apps ≡ 8
+      → IsWorld (world_of old.image m (Some d)) → Stepped rules answers (event.App n c) failure m m (Some d) old mid
   unfolding before
   unsynced reads rose doubt eight world =
       let same : world_of mid.image m (Some d) ≡ before = ap (λ (i : Image). world_of i m (Some d)) reads.image in
@@ -162,15 +197,22 @@ module _ (rules : List Rule) (answers : Answers) (told : Bool) (n : ℕ) (c : Ca
         is_doubt = sym doubt;
         step = inr (inl ((both_true (calls_device (app_of before n) c) calls, refl, same), reads));
         world = subst (λ (w : World). IsWorld w) (sym same) world;
-        keeps = λ k lt. subst (λ (w : World). StepKeeps k before w old mid) (sym same) (failed_sync_keeps k before d old mid refl reads);
+        keeps = λ k lt. subst (λ (w : World). StepKeeps k before w old mid) (sym same)
+            (failed_sync_keeps k before d old mid refl reads);
         case = λ x is. inl is;
         quiet = λ none. absurd (none_some d (sym none));
-        aside = record { elsewhere = λ f inside. ap (λ (i : Image). i f) reads.image; elsewhere_always = λ no_doubt x s. inl (reads.during x s) };
+        aside = record {
+          elsewhere = λ f inside. ap (λ (i : Image). i f) reads.image;
+          elsewhere_always =
+              λ no_doubt x s. inl (reads.during x s);
+        };
         unwritten = λ none. (reads.image, reads.written);
         written = λ durable f s found there. record {
           same = λ same. reads.written;
-          at_most = λ v others opens. within (shape_in n f).place.copies (map_cost f.config.kind (synced_of s) (seen_of s))
-              (index_length f.config.kind (synced_view (shape_in n f) v (synced_of s) (seen_of s)).entries) old.written mid.written reads.written;
+          at_most = λ v others opens. within (shape_in n f).place.copies
+              (map_cost f.config.kind (synced_of s) (seen_of s))
+              (index_length f.config.kind (synced_view (shape_in n f) v (synced_of s) (seen_of s)).entries) old.written
+              mid.written reads.written;
         };
         blamed = (time.faults, λ is. rose);
       }
@@ -178,59 +220,89 @@ module _ (rules : List Rule) (answers : Answers) (told : Bool) (n : ℕ) (c : Ca
 -- ---- the runtime
 
 -- the device is called, whatever the doubt
-calls_in : (told : Bool) (image : Image) (r : Runtime) (n : ℕ) (c : Call) (doubt : Option Doubt) → IsTrue told → n < 8 → AreRunning told image r.apps.items
+calls_in : (told : Bool) (image : Image) (r : Runtime) (n : ℕ) (c : Call) (doubt : Option Doubt) → IsTrue told → n < 8
+    → AreRunning told image r.apps.items
     → CallsDevice told image r n c true → calls_device (app_of (world_of image (memory_of r) doubt) n) c ≡ true
-calls_in told image r n c doubt tells below are calls = let it = found r.apps.items n (omega (arith, below, are.eight)) in
-    subst (λ (a : Application). calls_device a c ≡ true) (sym (app_is image r.now r.apps.items doubt n it.0 it.1 (are.each n it.0 it.1).0)) (calls tells it.0 it.1)
+calls_in told image r n c doubt tells below are calls = let it =
+    found r.apps.items n (omega (arith, below, are.eight)) in
+    subst (λ (a : Application). calls_device a c ≡ true)
+    (sym (app_is image r.now r.apps.items doubt n it.0 it.1 (are.each n it.0 it.1).0)) (calls tells it.0 it.1)
 
-module _ (rules : List Rule) (answers : Answers) (told : Bool) (n : ℕ) (c : Call) (r : Runtime) (old mid : Medium) (below : n < 8) (used : IsRuntime told old r)
-    (calls : CallsDevice told old.image r n c true) (in_doubt : r.in_doubt ≡ true) (nothing : WritesNothing old mid) (time : Elapses old mid) where
+module _ (rules : List Rule) (answers : Answers) (told : Bool) (n : ℕ) (c : Call) (r : Runtime) (old mid : Medium)
+    (below : n < 8) (used : IsRuntime told old r)
+    (calls : CallsDevice told old.image r n c true) (in_doubt : r.in_doubt ≡ true) (nothing : WritesNothing old mid)
+    (time : Elapses old mid) where
   not_idle : IsTrue told → calls_none (world_of old.image (memory_of r) None) (event.App n c) ≡ true → ⊥
-  not_idle tells none = true≢false (sym (calls_in told old.image r n c None tells below used.apps calls) ∙ is_no (calls_device (app_of (world_of old.image (memory_of r) None) n) c) none)
+  not_idle tells none = true≢false (sym (calls_in told old.image r n c None tells below used.apps calls)
+      ∙ is_no (calls_device (app_of (world_of old.image (memory_of r) None) n) c) none)
 
   module _ (r' : Runtime) (new : Medium) (lawful : IsLawful told mid) (quiet : Quiet mid) where
     steps_on : (reply : Reply) → Elapses mid new
         → (IsTrue told → (doubt : Option Doubt) → IsDoubt (memory_of (record r { in_doubt = false })) doubt
-        → Stepped rules answers (event.App n c) reply (memory_of (record r { in_doubt = false })) (memory_of r') doubt mid new)
-        → IsTrue told → (doubt : Option Doubt) → IsDoubt (memory_of r) doubt → Stepped rules answers (event.App n c) reply (memory_of r) (memory_of r') doubt old new
+        → Stepped rules answers (event.App n c) reply (memory_of (record r { in_doubt = false })) (memory_of r') doubt
+        mid new)
+        → IsTrue told → (doubt : Option Doubt) → IsDoubt (memory_of r) doubt
+        → Stepped rules answers (event.App n c) reply (memory_of r) (memory_of r') doubt old new
     steps_on reply later steps tells None is = absurd (true≢false (sym in_doubt ∙ sym is))
-    steps_on reply later steps tells (Some d) is = stepped rules answers told n c (memory_of r) d old mid new (calls_in told old.image r n c (Some d) tells below used.apps calls)
+    steps_on reply later steps tells (Some d) is = stepped rules answers told n c (memory_of r) d old mid new
+        (calls_in told old.image r n c (Some d) tells below used.apps calls)
         nothing time lawful quiet later reply (memory_of r') (steps tells None refl)
 
     stops_on : Elapses mid new
-        → (IsTrue told → (doubt : Option Doubt) → IsDoubt (memory_of (record r { in_doubt = false })) doubt → Stopped rules answers (event.App n c) (memory_of (record r { in_doubt = false })) doubt mid new)
-        → IsTrue told → (doubt : Option Doubt) → IsDoubt (memory_of r) doubt → Stopped rules answers (event.App n c) (memory_of r) doubt old new
+        → (IsTrue told → (doubt : Option Doubt) → IsDoubt (memory_of (record r { in_doubt = false })) doubt
+        → Stopped rules answers (event.App n c) (memory_of (record r { in_doubt = false })) doubt mid new)
+        → IsTrue told → (doubt : Option Doubt) → IsDoubt (memory_of r) doubt
+        → Stopped rules answers (event.App n c) (memory_of r) doubt old new
     stops_on later stops tells None is = absurd (true≢false (sym in_doubt ∙ sym is))
-    stops_on later stops tells (Some d) is = stopped rules answers told n c (memory_of r) d old mid new (calls_in told old.image r n c (Some d) tells below used.apps calls)
+    stops_on later stops tells (Some d) is = stopped rules answers told n c (memory_of r) d old mid new
+        (calls_in told old.image r n c (Some d) tells below used.apps calls)
         nothing time lawful quiet later (stops tells None refl)
 
     -- behind the sync the command went on without a doubt
-    pub resumed : (Behind Whole : Type 0) (result : Result Reply Stop) → IsCommand told rules answers (event.App n c) (record r { in_doubt = false }) r' Behind mid new result
+    pub resumed : (Behind Whole : Type 0) (result : Result Reply Stop)
+        → IsCommand told rules answers (event.App n c) (record r { in_doubt = false }) r' Behind mid new result
         → IsCommand told rules answers (event.App n c) r r' Whole old new result
     resumed behind whole (Ok reply) h = record {
       end = record {
         memory = h.end.memory;
         text = h.end.text;
-        blamed = (le_trans time.faults h.end.blamed.0, λ four. rose_before old.faults mid.faults new.faults time.faults (h.end.blamed.1 four));
+        blamed = (
+          le_trans time.faults h.end.blamed.0,
+          λ four.
+              rose_before old.faults mid.faults new.faults time.faults (h.end.blamed.1 four),
+        );
         stepped = steps_on reply h.time h.end.stepped;
       };
       idle = λ tells none. absurd (not_idle tells none);
       time = elapses_on time h.time;
     }
     resumed behind whole (Err Device) h = absurd h.end
-    resumed behind whole (Err OutOfMemory) h = record { end = stops_on h.time h.end; idle = λ tells none. absurd (not_idle tells none); time = elapses_on time h.time }
+    resumed behind whole (Err OutOfMemory) h = record {
+      end = stops_on h.time h.end;
+      idle =
+          λ tells none. absurd (not_idle tells none);
+      time = elapses_on time h.time;
+    }
 
   -- the sync failed, and nothing changed
-  fails_on : MakesOne → OnlyReads old mid → Rose old.faults mid.faults → IsTrue told → (doubt : Option Doubt) → IsDoubt (memory_of r) doubt
+  fails_on : MakesOne → OnlyReads old mid → Rose old.faults mid.faults → IsTrue told → (doubt : Option Doubt)
+      → IsDoubt (memory_of r) doubt
       → Stepped rules answers (event.App n c) failure (memory_of r) (memory_of r) doubt old mid
   fails_on makes reads rose tells None is = absurd (true≢false (sym in_doubt ∙ sym is))
-  fails_on makes reads rose tells (Some d) is = unsynced rules answers told n c (memory_of r) d old mid mid (calls_in told old.image r n c (Some d) tells below used.apps calls) nothing time
-      reads rose in_doubt (length-map r.apps.items running_in ∙ used.apps.eight) (is_world makes told old.image r.now r.apps.items (Some d) tells used.apps)
+  fails_on makes reads rose tells (Some d) is = unsynced rules answers told n c (memory_of r) d old mid mid
+      (calls_in told old.image r n c (Some d) tells below used.apps calls) nothing time
+      reads rose in_doubt (length-map r.apps.items running_in ∙ used.apps.eight)
+      (is_world makes told old.image r.now r.apps.items (Some d) tells used.apps)
 
-  pub still_doubtful : (Untouched : Type 0) → MakesOne → OnlyReads old mid → Rose old.faults mid.faults → IsCommand told rules answers (event.App n c) r r Untouched old mid (Ok failure)
+  pub still_doubtful : (Untouched : Type 0) → MakesOne → OnlyReads old mid → Rose old.faults mid.faults
+      → IsCommand told rules answers (event.App n c) r r Untouched old mid (Ok failure)
   still_doubtful untouched makes reads rose = record {
     end = record {
-      memory = record { apps = are_same told old.image mid.image r.apps.items reads.image used.apps; quiet = λ sure. absurd (true≢false (sym in_doubt ∙ sure)) };
+      memory = record {
+        apps = are_same told old.image mid.image r.apps.items reads.image used.apps;
+        quiet =
+            λ sure. absurd (true≢false (sym in_doubt ∙ sure));
+      };
       text = refl;
       blamed = (time.faults, λ four. rose);
       stepped = fails_on makes reads rose;

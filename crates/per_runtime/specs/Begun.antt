@@ -1,5 +1,6 @@
 -- The start on its way: the roots below some number are opened.
-use Rattle.std.specs.Prelude.{◌≡◌, ℕ, List, length, replicate, Bool, false, IsTrue, Some, Result, Ok, Err, Vec, slice_get, ⊤}
+use Rattle.std.specs.Prelude.{◌≡◌, ℕ, List, length, replicate, Bool, false, IsTrue, Some, Result, Ok, Err, Vec}
+use Rattle.std.specs.Prelude.{slice_get, ⊤}
 use Rattle.std.specs.declared.alloc.Global.{Global}
 use Rattle.per_base.specs.Causes.{Rose}
 use Rattle.disk_model.specs.Medium.{Medium, Quiet, Elapses}
@@ -22,7 +23,8 @@ fresh = record { now = 0; apps = replicate 8 idle; in_doubt = false }
 
 pub record AreOpened (told : Bool) (count : ℕ) (apps : List Running) (old now : Medium) : Type 0 where
   pub many : length apps ≡ count
-  pub each : (app : ℕ) (a : Running) → slice_get apps app ≡ Some a → (a.app ≡ app) × IsRunning told now.image a × (running_in a ≡ idle)
+  pub each : (app : ℕ) (a : Running) → slice_get apps app ≡ Some a
+      → (a.app ≡ app) × IsRunning told now.image a × (running_in a ≡ idle)
   pub opened : IsTrue told → Opened count old now
   pub quiet : Quiet now
   pub time : Elapses old now

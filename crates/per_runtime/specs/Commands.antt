@@ -20,9 +20,11 @@ use Rattle.per_runtime.specs.Memories.{IsRuntime, memory_of}
 
 -- whether a call of the application with this number calls the device
 abbrev pub CallsDevice : (told : Bool) → Image → Runtime → ℕ → Call → Bool → Type 0
-CallsDevice told image r app c calls = IsTrue told → (a : Running) → slice_get r.apps.items app ≡ Some a → calls_device (application image a) c ≡ calls
+CallsDevice told image r app c calls = IsTrue told → (a : Running) → slice_get r.apps.items app ≡ Some a
+    → calls_device (application image a) c ≡ calls
 
-pub record IsReplied (told : Bool) (rules : List Rule) (answers : Answers) (e : Event) (r r' : Runtime) (old new : Medium) (reply : Reply) : Type 0 where
+pub record IsReplied (told : Bool) (rules : List Rule) (answers : Answers) (e : Event) (r r' : Runtime)
+    (old new : Medium) (reply : Reply) : Type 0 where
   pub memory : IsRuntime told new r'
   pub text : HasText reply.answer
   pub blamed : IsBlamed old.faults new.faults reply
@@ -30,8 +32,10 @@ pub record IsReplied (told : Bool) (rules : List Rule) (answers : Answers) (e : 
       → Stepped rules answers e reply (memory_of r) (memory_of r') doubt old new
 
 -- `Untouched` says that the disk is as it was
-pub record IsCommand (told : Bool) (rules : List Rule) (answers : Answers) (e : Event) (r r' : Runtime) (Untouched : Type 0) (old new : Medium) (result : Result Reply Stop) : Type 0 where
+pub record IsCommand (told : Bool) (rules : List Rule) (answers : Answers) (e : Event) (r r' : Runtime)
+    (Untouched : Type 0) (old new : Medium) (result : Result Reply Stop) : Type 0 where
   pub end : IfEnded result (IsReplied told rules answers e r r' old new) ⊥
-      (IsTrue told → (doubt : Option Doubt) → IsDoubt (memory_of r) doubt → Stopped rules answers e (memory_of r) doubt old new)
+      (IsTrue told → (doubt : Option Doubt) → IsDoubt (memory_of r) doubt
+      → Stopped rules answers e (memory_of r) doubt old new)
   pub idle : IsTrue told → calls_none (world_of old.image (memory_of r) None) e ≡ true → Untouched
   pub time : Elapses old new

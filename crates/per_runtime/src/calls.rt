@@ -22,7 +22,8 @@ pub(crate) fn answer<D: Disk>(
     call: &Call,
 ) -> Result<Reply, Stop>
     requires memory { IsRunning D.told (D.medium disk.old).image running.old }
-    ensures { IsHandled D.told (rules_of migrations.now) (answers_of migrations.now) now call.now running.old running.new
+    ensures { IsHandled D.told (rules_of migrations.now) (answers_of migrations.now) now call.now running.old
+        running.new
         (disk.new ≡ disk.old) (D.medium disk.old) (D.medium disk.new) result }
 {
     if running.is_marked() {
@@ -42,7 +43,8 @@ fn open_and_answer<D: Disk>(
 ) -> Result<Reply, Stop>
     requires memory { IsRunning D.told (D.medium disk.old).image running.old }
     requires marked { stage_in running.old.stage ≡ to_open }
-    ensures { IsHandled D.told (rules_of migrations.now) (answers_of migrations.now) now call.now running.old running.new
+    ensures { IsHandled D.told (rules_of migrations.now) (answers_of migrations.now) now call.now running.old
+        running.new
         (disk.new ≡ disk.old) (D.medium disk.old) (D.medium disk.new) result }
 {
     applications_stand();
@@ -61,7 +63,8 @@ fn answer_opened<D: Disk>(
 ) -> Result<Reply, Stop>
     requires memory { IsRunning D.told (D.medium disk.old).image running.old }
     requires opened { is_to_open (stage_in running.old.stage) ≡ false }
-    ensures { IsHandled D.told (rules_of migrations.now) (answers_of migrations.now) now call.now running.old running.new
+    ensures { IsHandled D.told (rules_of migrations.now) (answers_of migrations.now) now call.now running.old
+        running.new
         (disk.new ≡ disk.old) (D.medium disk.old) (D.medium disk.new) result }
 {
     running.call(disk, migrations, now, call)

@@ -1,11 +1,12 @@
 //! The runtime of eight applications: what is kept of them in memory, its start, and each command.
 //!
-//! [`start`] opens the eight roots. [`Runtime::step`] answers one event: the moment is set, or a call goes to its application. Where the
-//! device failed the runtime is in doubt until the disk is synchronised again: the next call that needs the device begins with that
-//! sync. A root that a failure left half written is opened again before the next call of its application.
+//! [`start`] opens the eight roots. [`Runtime::step`] answers one event: the moment is set, or a call goes to its
+//! application. Where the device failed the runtime is in doubt until the disk is synchronised again: the next call
+//! that needs the device begins with that sync. A root that a failure left half written is opened again before the next
+//! call of its application.
 //!
-//! Every command is a step of the world of `run_model`, and a stop at any moment leaves each application between two worlds that follow
-//! each other. Want of memory ends the run; nothing else does.
+//! Every command is a step of the world of `run_model`, and a stop at any moment leaves each application between two
+//! worlds that follow each other. Want of memory ends the run; nothing else does.
 #![tactic(auto)]
 
 mod calls;

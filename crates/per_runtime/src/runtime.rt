@@ -34,8 +34,8 @@ pub struct Runtime {
 }
 
 impl Runtime {
-    /// Answers one event. Where the device fails, the answer is `PhysicalStorageFailure`, without a report, and the runtime is in doubt
-    /// until the disk is synchronised: the next call that needs the device begins with a sync.
+    /// Answers one event. Where the device fails, the answer is `PhysicalStorageFailure`, without a report, and the
+    /// runtime is in doubt until the disk is synchronised: the next call that needs the device begins with a sync.
     ///
     /// # Errors
     ///
@@ -51,15 +51,18 @@ impl Runtime {
 
         ensures memory { IfOk result (λ reply. IsRuntime D.told (D.medium disk.new) self.new) }
         ensures text { IfOk result (λ reply. HasText reply.answer) }
-        ensures stepped { IsTrue D.told → IfOk result (λ reply. (doubt : Option Doubt) → IsDoubt (memory_of self.old) doubt
-            → Stepped (rules_of migrations.now) (answers_of migrations.now) event.now reply (memory_of self.old) (memory_of self.new) doubt
+        ensures stepped { IsTrue D.told → IfOk result (λ reply. (doubt : Option Doubt)
+            → IsDoubt (memory_of self.old) doubt
+            → Stepped (rules_of migrations.now) (answers_of migrations.now) event.now reply (memory_of self.old)
+            (memory_of self.new) doubt
             (D.medium disk.old) (D.medium disk.new)) }
         ensures stopped { IsTrue D.told → OnErr result ((doubt : Option Doubt) → IsDoubt (memory_of self.old) doubt
             → Stopped (rules_of migrations.now) (answers_of migrations.now) event.now (memory_of self.old) doubt
             (D.medium disk.old) (D.medium disk.new)) }
 
         // A command that calls no device leaves the disk alone.
-        ensures idle { IsTrue D.told → calls_none (world_of (D.medium disk.old).image (memory_of self.old) None) event.now ≡ true → disk.new ≡ disk.old }
+        ensures idle { IsTrue D.told → calls_none (world_of (D.medium disk.old).image (memory_of self.old) None)
+            event.now ≡ true → disk.new ≡ disk.old }
 
         // The device's failure is a reply, and has its cause in this command, whatever the disk tells.
         ensures never { IsErrOf result Stop.Device → ⊥ }
@@ -102,7 +105,8 @@ impl Runtime {
     ) -> Result<Reply, Stop>
         requires app { app < 8 }
         requires memory { IsRuntime D.told (D.medium disk.old) self.old }
-        ensures { IsCommand D.told (rules_of migrations.now) (answers_of migrations.now) (Event.App app call.now) self.old self.new
+        ensures { IsCommand D.told (rules_of migrations.now) (answers_of migrations.now) (Event.App app call.now)
+            self.old self.new
             (disk.new ≡ disk.old) (D.medium disk.old) (D.medium disk.new) result }
     {
         if self.apps[app].calls_device(disk, call) {
@@ -123,7 +127,8 @@ impl Runtime {
         requires app { app < 8 }
         requires memory { IsRuntime D.told (D.medium disk.old) self.old }
         requires device { CallsDevice D.told (D.medium disk.old).image self.old app call.now true }
-        ensures { IsCommand D.told (rules_of migrations.now) (answers_of migrations.now) (Event.App app call.now) self.old self.new
+        ensures { IsCommand D.told (rules_of migrations.now) (answers_of migrations.now) (Event.App app call.now)
+            self.old self.new
             (disk.new ≡ disk.old) (D.medium disk.old) (D.medium disk.new) result }
     {
         if self.in_doubt {
@@ -145,7 +150,8 @@ impl Runtime {
         requires memory { IsRuntime D.told (D.medium disk.old) self.old }
         requires device { CallsDevice D.told (D.medium disk.old).image self.old app call.now true }
         requires doubt { self.old.in_doubt ≡ true }
-        ensures { IsCommand D.told (rules_of migrations.now) (answers_of migrations.now) (Event.App app call.now) self.old self.new
+        ensures { IsCommand D.told (rules_of migrations.now) (answers_of migrations.now) (Event.App app call.now)
+            self.old self.new
             (disk.new ≡ disk.old) (D.medium disk.old) (D.medium disk.new) result }
     {
         running_is_application();
@@ -166,8 +172,10 @@ impl Runtime {
     ) -> Result<Reply, Stop>
         requires app { app < 8 }
         requires memory { IsRuntime D.told (D.medium disk.old) self.old }
-        requires sure { self.old.in_doubt ≡ true → CallsDevice D.told (D.medium disk.old).image self.old app call.now false }
-        ensures { IsCommand D.told (rules_of migrations.now) (answers_of migrations.now) (Event.App app call.now) self.old self.new
+        requires sure { self.old.in_doubt ≡ true → CallsDevice D.told (D.medium disk.old).image self.old app call.now
+            false }
+        ensures { IsCommand D.told (rules_of migrations.now) (answers_of migrations.now) (Event.App app call.now)
+            self.old self.new
             (disk.new ≡ disk.old) (D.medium disk.old) (D.medium disk.new) result }
     {
         applications_stand();

@@ -21,12 +21,13 @@ const BLOCK_BYTES: usize = 32_768;
 /// What a blank byte reads as.
 const BLANK: u8 = 0xff;
 
-/// A flash in the file `flash` of a folder: page `p` of block `b` is its bytes from `(64 * b + p) * 512` on. What is missing of it reads as
-/// blank, and so does all where it is not there; it is made by the first call that changes a page. Where the folder is not there that call fails.
-/// It counts its failures and tells nothing of its pages.
+/// A flash in the file `flash` of a folder: page `p` of block `b` is its bytes from `(64 * b + p) * 512` on. What is
+/// missing of it reads as blank, and so does all where it is not there; it is made by the first call that changes a
+/// page. Where the folder is not there that call fails. It counts its failures and tells nothing of its pages.
 ///
-/// A program is one write of the system and one sync of the file's data, an erase likewise; both are durable before they are answered. Where
-/// a page lies behind the end of the file, what is missing up to it is written as blank before.
+/// A program is one write of the system and one sync of the file's data, an erase likewise; both are durable before
+/// they are answered. Where a page lies behind the end of the file, what is missing up to it is written as blank
+/// before.
 #[derive(Drop)]
 pub struct DirFlash<'a, R: Files<File = File>> {
     store: FlashFile<'a, R>,
@@ -55,7 +56,8 @@ enum Known {
 }
 
 impl<'a, R: Files<File = File>> DirFlash<'a, R> {
-    /// The flash of so many blocks in this folder. Nothing is opened yet. No clause is needed: all that a caller relies on are the laws of the flash.
+    /// The flash of so many blocks in this folder. Nothing is opened yet. No clause is needed: all that a caller relies
+    /// on are the laws of the flash.
     pub fn new(rt: &'a R, alloc: Global, dir: String, blocks: u32) -> DirFlash<'a, R> {
         DirFlash {
             store: FlashFile {

@@ -15,12 +15,12 @@ use std::rt::Files;
 /// How many files are open at once at most; fewer than a system lets a program have.
 const OPEN_FILES: usize = 500;
 
-/// A disk in a folder. A file that is not there reads as empty, and so does each where the folder is not there; then writes fail.
-/// It counts its failures and tells nothing of its bytes.
+/// A disk in a folder. A file that is not there reads as empty, and so does each where the folder is not there; then
+/// writes fail. It counts its failures and tells nothing of its bytes.
 ///
-/// Each file is opened once. Bytes that stand side by side are handed to the system in one write, at the latest with the next sync, and
-/// before anything of their file is read. A sync of the disk syncs each file that was written since the last one, and the folder where a
-/// file was made.
+/// Each file is opened once. Bytes that stand side by side are handed to the system in one write, at the latest with
+/// the next sync, and before anything of their file is read. A sync of the disk syncs each file that was written since
+/// the last one, and the folder where a file was made.
 #[derive(Drop)]
 pub struct DirDisk<'a, R: Files<File = File>> {
     folder: Folder<'a, R>,
@@ -51,7 +51,8 @@ struct OpenFile {
 }
 
 impl<'a, R: Files<File = File>> DirDisk<'a, R> {
-    /// The disk in this folder. Nothing is opened yet. No clause is needed: all that a caller relies on are the laws of the disk.
+    /// The disk in this folder. Nothing is opened yet. No clause is needed: all that a caller relies on are the laws of
+    /// the disk.
     pub fn new(rt: &'a R, alloc: Global, dir: String) -> DirDisk<'a, R> {
         DirDisk {
             folder: Folder {
@@ -205,7 +206,7 @@ impl<'a, R: Files<File = File>> Folder<'a, R> {
         for (number, open) in self.files.iter_mut() {
             if open.is_written {
                 open.file
-                    .sync_all()
+                    .sync_data()
                     .map_err(|error| failed(Asked::Sync, *number, error))?;
                 open.is_written = false;
             }
@@ -225,7 +226,8 @@ impl<'a, R: Files<File = File>> Folder<'a, R> {
         Ok(())
     }
 
-    /// Hands the piece that waits to the system. Where that fails the piece waits on, so that nothing older is read in its place.
+    /// Hands the piece that waits to the system. Where that fails the piece waits on, so that nothing older is read in
+    /// its place.
     fn hand_over(&mut self) -> Result<(), Failure> {
         let Some(piece) = &self.piece else {
             return Ok(());

@@ -12,7 +12,8 @@ pub struct StdSource<T: Read + Drop> {
 }
 
 impl<T: Read + Drop> StdSource<T> {
-    /// The reader as a source that has not failed yet. No clause is needed: all that a caller relies on are the laws of the source.
+    /// The reader as a source that has not failed yet. No clause is needed: all that a caller relies on are the laws of
+    /// the source.
     pub fn new(reader: T) -> StdSource<T> {
         StdSource {
             reader,
@@ -46,8 +47,8 @@ impl<T: Read + Drop> Source for StdSource<T> {
     }
 }
 
-/// A writer as a sink. Each write goes to the system at once, so that what was taken is out. It counts its failures and tells
-/// nothing of what it took.
+/// A writer as a sink. Each write goes to the system at once, so that what was taken is out. It counts its failures and
+/// tells nothing of what it took.
 #[derive(Drop)]
 pub struct StdSink<T: Write + Drop> {
     writer: T,
@@ -56,7 +57,8 @@ pub struct StdSink<T: Write + Drop> {
 }
 
 impl<T: Write + Drop> StdSink<T> {
-    /// The writer as a sink that has not failed yet. No clause is needed: all that a caller relies on are the laws of the sink.
+    /// The writer as a sink that has not failed yet. No clause is needed: all that a caller relies on are the laws of
+    /// the sink.
     pub fn new(writer: T) -> StdSink<T> {
         StdSink {
             writer,

@@ -13,8 +13,8 @@ use value_model::{Node, Value, ValueError, ValueType};
 
 /// A type whose things are values.
 ///
-/// An implementation says which value type it has (`kind`), which tree a thing of it is (`tree`) and when two things are the
-/// same (`same`), and proves the four laws at the end.
+/// An implementation says which value type it has (`kind`), which tree a thing of it is (`tree`) and when two things
+/// are the same (`same`), and proves the four laws at the end.
 pub trait PerValue: Sized {
     /// The value type of all things of this type.
     ghost kind: { Kind };
@@ -42,8 +42,8 @@ pub trait PerValue: Sized {
 
     /// The value that this thing is.
     ///
-    /// Errors, the first that fits: `TooDeep` where its type nests more than 8 deep; `TooLong` where its encoding has more than
-    /// 65,536 bytes; `OutOfMemory`, but for a truth value or a number. It is never `IllTyped`.
+    /// Errors, the first that fits: `TooDeep` where its type nests more than 8 deep; `TooLong` where its encoding has
+    /// more than 65,536 bytes; `OutOfMemory`, but for a truth value or a number. It is never `IllTyped`.
     final fn to_value(&self, alloc: Global) -> Result<Value, ValueError>
         ensures value { IfOk result (λ value. value ≡ tree self.now) }
         ensures of_type { IfOk result (λ value. type_of value ≡ kind) }

@@ -24,7 +24,8 @@ impl PerValue for Favourite {
     // the members, in the order of the fields
     ghost kind = { fields_kind (kinds_of (signed_kind four ∷ signed_kind four ∷ text_kind ∷ [])) };
 
-    ghost tree = { λ f. fields_tree (trees_of (signed_tree four f.lat ∷ signed_tree four f.lon ∷ text_tree f.label ∷ [])) };
+    ghost tree = { λ f. fields_tree (trees_of (signed_tree four f.lat ∷ signed_tree four f.lon ∷ text_tree f.label
+        ∷ [])) };
 
     ghost same = { λ f g. (f.lat ≡ g.lat) × ((f.lon ≡ g.lon) × (f.label ≡ g.label)) };
 

@@ -2,8 +2,10 @@
 
 ghost use Rattle.std.specs.Prelude.{◌≡◌, [], ◌∷◌};
 ghost use Rattle.per_value.specs.Items.{trees_by};
-ghost use Rattle.value_model.specs.Kinds.{bool_kind, bytes_kind, eight, fields_kind, four, list_kind, one, signed_kind, text_kind, two, unsigned_kind};
-ghost use Rattle.value_model.specs.Trees.{bool_tree, bytes_tree, fields_tree, list_tree, signed_tree, text_tree, unsigned_tree};
+ghost use Rattle.value_model.specs.Kinds.{bool_kind, bytes_kind, eight, fields_kind, four, list_kind, one, signed_kind};
+ghost use Rattle.value_model.specs.Kinds.{text_kind, two, unsigned_kind};
+ghost use Rattle.value_model.specs.Trees.{bool_tree, bytes_tree, fields_tree, list_tree, signed_tree, text_tree};
+ghost use Rattle.value_model.specs.Trees.{unsigned_tree};
 ghost use Rattle.value_model.specs.Views.{kinds_of, trees_of};
 
 use crate::conversion::PerValue;

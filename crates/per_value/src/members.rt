@@ -21,7 +21,8 @@ pub fn first_member<T: PerValue>(
     ensures parts { IfOk result (λ x. tree_then (T.tree x.0) (trees_view x.1.now) ≡ trees_view members.now) }
 
     // what is known of the others
-    ensures of_type { IfOk result (λ x. types_of (trees_view x.1.now) ≡ other_kinds (types_of (trees_view members.now))) }
+    ensures of_type { IfOk result (λ x. types_of (trees_view x.1.now)
+        ≡ other_kinds (types_of (trees_view members.now))) }
     ensures typed { IfOk result (λ x. AllTyped (trees_view x.1.now)) }
 {
     match members {

@@ -12,7 +12,9 @@ use value_model::{Value, ValueError};
 
 /// The thing by way of its value: the same thing.
 ///
-/// Errors: `TooDeep` and `TooLong` as [`PerValue::to_value`] gives them; `OutOfMemory`.
+/// # Errors
+///
+/// `TooDeep` and `TooLong` as [`PerValue::to_value`] gives them; `OutOfMemory`.
 pub fn there_and_back<T: PerValue>(alloc: Global, thing: &T) -> Result<T, ValueError>
     ensures same { IfOk result (λ back. T.same thing.now back) }
 

@@ -1,5 +1,6 @@
 -- The text of a root: whether an application is installed, in which bank, and the manifests of its versions.
-use Rattle.std.specs.Prelude.{◌≡◌, ◌≤◌, ℕ, List, [], ◌∷◌, ◌++◌, length, ◌==◌, nat_le, if◌then◌else◌, Option, Some, None, option_map, ⊤}
+use Rattle.std.specs.Prelude.{◌≡◌, ◌≤◌, ℕ, List, [], ◌∷◌, ◌++◌, length, ◌==◌, nat_le, if◌then◌else◌, Option, Some, None}
+use Rattle.std.specs.Prelude.{option_map, ⊤}
 use Rattle.std.specs.Int.{w32, to_le_bytes}
 use Rattle.per_base.specs.Fields.{◌>>=◌, byte_at, bytes_at, number_at, only_if}
 use Rattle.deployment_model.specs.Data.{DeploymentData}
@@ -125,7 +126,8 @@ some_root_in bytes = do
   installed_in parts
 
 unfoldable pub root_in : (kind : ℕ) → List ℕ → Option Root
-root_in kind bytes = if kind == 0 then only_if (length bytes == 0) absent else (if kind == 1 then some_root_in bytes else None)
+root_in kind bytes = if kind == 0 then only_if (length bytes == 0) absent else
+    (if kind == 1 then some_root_in bytes else None)
 
 -- the root that the text says, where it says one
 unfoldable pub root_of : List ℕ → Option Root

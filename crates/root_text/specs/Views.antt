@@ -21,7 +21,12 @@ abbrev pub bytes_behind : Bor (List ℕ) → List ℕ
 bytes_behind bytes = bytes.now
 
 abbrev pub parts_seen : Fields → Parts
-parts_seen fields = record { bank = fields.bank; active = fields.active.now; previous = option_map bytes_behind fields.previous }
+parts_seen fields = record {
+  bank = fields.bank;
+  active = fields.active.now;
+  previous =
+      option_map bytes_behind fields.previous;
+}
 
 -- what a function returned, seen by view, is what reading gives, unless memory ran out
 abbrev pub Refuses : {Y : Type 0} → RootError → Option Y → Type 0

@@ -2,7 +2,9 @@
 
 ghost use Rattle.std.specs.Prelude.{◌≡◌, ◌≢◌, ◌==◌, IfOk, length, option_map};
 ghost use Rattle.per_base.specs.Fields.{only_if};
-ghost use Rattle.root_text.specs.RootText.{IsRoot, Root, absent, installed_in, parts_at, parts_in, previous_at, previous_in, root_in, root_of, root_text, some_root_in, some_text_at, text_at, version_in};
+ghost use Rattle.root_text.specs.RootText.{IsRoot, Root, absent, installed_in, parts_at, parts_in, previous_at};
+ghost use Rattle.root_text.specs.RootText.{previous_in, root_in, root_of, root_text, some_root_in, some_text_at};
+ghost use Rattle.root_text.specs.RootText.{text_at, version_in};
 ghost use Rattle.root_text.specs.Views.{Gives, bytes_behind, parts_seen, root_said, version_said};
 
 use crate::errors::RootError;
@@ -14,7 +16,9 @@ use std::alloc::Global;
 
 /// The root that the bytes say.
 ///
-/// Errors: `NotARoot` exactly where the bytes are the text of no root; `OutOfMemory`.
+/// # Errors
+///
+/// `NotARoot` exactly where the bytes are the text of no root; `OutOfMemory`.
 pub fn read_root(alloc: Global, text: &[u8]) -> Result<RootSays, RootError>
     // What is read lies in its bank, its texts are manifests, and it is spelled so.
     ensures rules { IfOk result (λ says. IsRoot (root_said says)) }
@@ -81,7 +85,8 @@ fn root_by(alloc: Global, fields: Fields) -> Result<RootSays, RootError>
 
 #[tactic(auto, unfolding(crate::specs::RootText::previous_in))]
 fn previous_of(alloc: Global, text: Option<&[u8]>) -> Result<Option<VersionText>, RootError>
-    ensures { Gives (λ previous. option_map version_said previous) result (previous_in (option_map bytes_behind text.entry)) }
+    ensures { Gives (λ previous. option_map version_said previous) result
+        (previous_in (option_map bytes_behind text.entry)) }
 {
     match text {
         None => Ok(None),

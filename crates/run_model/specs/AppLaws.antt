@@ -22,15 +22,16 @@ pub record AppLaws : Type 0 where
 abbrev pub IsDiskOf : ℕ → Disks → Medium → Type 0
 IsDiskOf app ds m = app_at m.image app ≡ disk_at ds app
 
--- What a call on application a promises of the files of all: each moment stands between what was and what the call leads to, and no file of
--- another application changes, at the end and at any moment.
+-- What a call on application a promises of the files of all: each moment stands between what was and what the call
+-- leads to, and no file of another application changes, at the end and at any moment.
 pub record Calls (a : ℕ) (after : Disks) (old new : Medium) : Type 0 where
-  pub any_moment : Quiet old → IsCleanApp a old.image → EachCase (StandsCase a (app_at old.image a) (disk_at after a)) old new
+  pub any_moment : Quiet old → IsCleanApp a old.image → EachCase (StandsCase a (app_at old.image a) (disk_at after a))
+      old new
   pub outside : Quiet old → EachCase (IsSettledOn (IsNoFileOf a) old.image) old new
   pub elsewhere : Spares (IsNoFileOf a) old.image new.image
 
--- What the opening of a root promises: the application is the one with its root mended, and at every moment it stands on its way to whatever
--- may come of it.
+-- What the opening of a root promises: the application is the one with its root mended, and at every moment it stands
+-- on its way to whatever may come of it.
 pub record OpensRoot (a : ℕ) (old new : Medium) : Type 0 where
   pub app : app_at new.image a ≡ reopened (app_at old.image a)
   pub any_moment : Quiet old → IsCleanApp a old.image → (after : App) → IsLater (app_at old.image a) after

@@ -1,5 +1,6 @@
 -- What a call makes of its application where no device fails: the reply, and the application afterwards.
-use Rattle.std.specs.Prelude.{◌≡◌, ℕ, List, [], ◌∷◌, length, Bool, true, false, cond, not, ◌&&◌, Option, Some, None, Result, Ok, Err, option_map, is_some, ⊤, nat_lt, suc, ◌-◌, slice_get, slice_set}
+use Rattle.std.specs.Prelude.{◌≡◌, ℕ, List, [], ◌∷◌, length, Bool, true, false, cond, not, ◌&&◌, Option, Some, None}
+use Rattle.std.specs.Prelude.{Result, Ok, Err, option_map, is_some, ⊤, nat_lt, suc, ◌-◌, slice_get, slice_set}
 use Rattle.per_base.specs.declared.elements.StoreKind.{StoreKind}
 use Rattle.per_base.specs.declared.elements.StoreKind.TheVariants as kinds
 use Rattle.per_base.specs.declared.errors.Holder.TheVariants as holder
@@ -70,14 +71,20 @@ opened_session r f = found_or (session_at r f.number) error.NotOpen
 
 -- ---- opening
 
--- what was seen is reported, what can be mended is mended, and both maps are what was seen; a corrupt storage stays as it is
+-- what was seen is reported, what can be mended is mended, and both maps are what was seen; a corrupt storage stays as
+-- it is
 abbrev pub opened : ℕ → Application → Found → State → Outcome
 opened app r f (Opens v others) = (
   record { reports = reports (is_content f.config.kind) (shape_in app f) v; answer = answer.Done },
-  with_session (record r { disk = with_state r.disk f (Opens (mended_view (shape_in app f) v) []) }) f.number (session_of f.config.kind v),
+  with_session (record r { disk = with_state r.disk f (Opens (mended_view (shape_in app f) v) []) }) f.number
+      (session_of f.config.kind v),
 )
 opened app r f (Corrupt salvage others) = (
-  record { reports = failed_report (shape_in app f) ∷ []; answer = answer.Error (error.IntegrityCorrupted (unit.Whole f.config.name)) },
+  record {
+    reports = failed_report (shape_in app f) ∷ [];
+    answer =
+        answer.Error (error.IntegrityCorrupted (unit.Whole f.config.name));
+  },
   r,
 )
 
@@ -86,26 +93,32 @@ open_step app r name kind = storage_in r.disk name (Some kind) >>= λ f. unless_
 
 -- ---- making a session durable
 
--- The state of an open storage once it holds what the calls see: that of before where nothing differs, and else the next generation's.
+-- The state of an open storage once it holds what the calls see: that of before where nothing differs, and else the
+-- next generation's.
 abbrev pub durable_state : ℕ → Found → State → Session → Result State PerError
-durable_state app f (Opens v others) s = refuse (not (same_map (synced_of s) (seen_of s)) && is_worn v) (error.LimitReached limit.Generations)
+durable_state app f (Opens v others) s = refuse (not (same_map (synced_of s) (seen_of s)) && is_worn v)
+    (error.LimitReached limit.Generations)
     (Ok (Opens (synced_view (shape_in app f) v (synced_of s) (seen_of s)) []))
 -- no open storage is corrupt
 durable_state app f (Corrupt salvage others) s = Ok f.state
 
 unfoldable pub durable : ℕ → Application → Found → Session → Result Application PerError
-durable app r f s = durable_state app f f.state s >>= λ state. Ok (with_session (record r { disk = with_state r.disk f state }) f.number (made_durable s))
+durable app r f s = durable_state app f f.state s >>= λ state.
+    Ok (with_session (record r { disk = with_state r.disk f state }) f.number (made_durable s))
 
 abbrev pub sync_step : ℕ → Application → List ℕ → Result Outcome PerError
-sync_step app r name = storage_in r.disk name (Some kinds.Keys) >>= λ f. opened_session r f >>= λ s. durable app r f s >>= λ after. Ok (answered answer.Done after)
+sync_step app r name = storage_in r.disk name (Some kinds.Keys) >>= λ f. opened_session r f >>= λ s.
+    durable app r f s >>= λ after. Ok (answered answer.Done after)
 
 -- a handle that only reads makes nothing durable
 abbrev pub may_flush : Session → (handle : ℕ) → Result ⊤ PerError
 may_flush (keys s) h = Err error.StorageNotFound
-may_flush (files s) h = at_handle s.working h (λ handle file. refuse (not (writes handle.cursor.kind)) error.IllegalWriteAccess (Ok tt))
+may_flush (files s) h = at_handle s.working h (λ handle file.
+    refuse (not (writes handle.cursor.kind)) error.IllegalWriteAccess (Ok tt))
 
 abbrev pub flush_step : ℕ → Application → List ℕ → (handle : ℕ) → Result Outcome PerError
-flush_step app r name h = storage_in r.disk name (Some kinds.Files) >>= λ f. opened_session r f >>= λ s. may_flush s h >>= λ may. durable app r f s >>= λ after.
+flush_step app r name h = storage_in r.disk name (Some kinds.Files) >>= λ f. opened_session r f >>= λ s.
+    may_flush s h >>= λ may. durable app r f s >>= λ after.
     Ok (answered answer.Done after)
 
 abbrev pub lowest_handle : Session → Option ℕ
@@ -122,7 +135,8 @@ closing app r f (keys s) = Ok r
 closing app r f (files s) = durable app r f (files s)
 
 abbrev pub close_step : ℕ → Application → List ℕ → Result Outcome PerError
-close_step app r name = storage_in r.disk name None >>= λ f. opened_session r f >>= λ s. unless_held (lowest_handle s) (closing app r f s >>= λ after.
+close_step app r name = storage_in r.disk name None >>= λ f. opened_session r f >>= λ s.
+    unless_held (lowest_handle s) (closing app r f s >>= λ after.
     Ok (answered answer.Done (without_session after f.number)))
 
 -- ---- a closed storage is made anew
@@ -174,7 +188,8 @@ local_on other = None
 
 abbrev pub local_step : Application → (now : ℕ) → Option (List ℕ × Option StoreKind) → Call → Result Outcome PerError
 local_step r now None c = Err error.StorageNotFound
-local_step r now (Some on) c = storage_in r.disk on.0 on.1 >>= λ f. opened_session r f >>= λ s. in_session f.config now s c >>= λ a.
+local_step r now (Some on) c = storage_in r.disk on.0 on.1 >>= λ f. opened_session r f >>= λ s.
+    in_session f.config now s c >>= λ a.
     Ok (answered a.0 (with_session r f.number a.1))
 
 -- ---- deployment
@@ -182,7 +197,9 @@ local_step r now (Some on) c = storage_in r.disk on.0 on.1 >>= λ f. opened_sess
 abbrev pub status_step : Application → Says → Result Outcome PerError
 status_step r nothing = Err (error.IntegrityCorrupted unit.Root)
 status_step r (absent g) = Ok (answered (answer.Status status.Absent) r)
-status_step r (installed g active previous) = Ok (answered (answer.Status (status.Active active.deployment.version (option_map (λ (v : Named). v.deployment.version) previous))) r)
+status_step r (installed g active previous) = Ok (answered
+    (answer.Status (status.Active active.deployment.version
+    (option_map (λ (v : Named). v.deployment.version) previous))) r)
 
 -- the open storage with the least name, which is that with the least number
 abbrev pub first_open : Sessions → List StorageData → Option (List ℕ)
@@ -222,10 +239,12 @@ abbrev pub remaining : InProgress → ℕ
 remaining p = length p.contents - p.built
 
 abbrev pub next_step : Application → Result Outcome PerError
-next_step r = progress_of r >>= λ p. Ok (answered (answer.Number (remaining (one_more p))) (record r { stage = updating (one_more p) }))
+next_step r = progress_of r >>= λ p. Ok (answered (answer.Number (remaining (one_more p)))
+    (record r { stage = updating (one_more p) }))
 
 abbrev pub commit_step : Application → Result Outcome PerError
-commit_step r = progress_of r >>= λ p. Ok (answered answer.Done (record r { disk = updated_app p r.disk; stage = at_rest }))
+commit_step r = progress_of r >>= λ p. Ok (answered answer.Done
+    (record r { disk = updated_app p r.disk; stage = at_rest }))
 
 abbrev pub abort_step : Application → Result Outcome PerError
 abort_step r = progress_of r >>= λ p. Ok (answered answer.Done (record r { stage = at_rest }))
@@ -272,8 +291,10 @@ abbrev pub begun : Application → InProgress → Result Outcome PerError
 begun r p = Ok (answered answer.Done (record r { stage = updating p }))
 
 -- an update begins by one plan, or is refused
-abbrev pub BeginsBy : List Rule → Answers → (now : ℕ) → Application → (text : List ℕ) → (InProgress → Result Outcome PerError) → Outcome → Type 0
-BeginsBy rules answers now r text after outcome = (row : Result InProgress PerError) × Begins rules answers now (least_open r) text r.disk row × (outcome ≡ settle r (row >>= after))
+abbrev pub BeginsBy : List Rule → Answers → (now : ℕ) → Application → (text : List ℕ)
+    → (InProgress → Result Outcome PerError) → Outcome → Type 0
+BeginsBy rules answers now r text after outcome = (row : Result InProgress PerError)
+    × Begins rules answers now (least_open r) text r.disk row × (outcome ≡ settle r (row >>= after))
 
 abbrev pub CallStep : List Rule → Answers → (app now : ℕ) → Application → Call → Outcome → Type 0
 CallStep rules answers app now r (call.Update text) outcome = BeginsBy rules answers now r text (updated r) outcome

@@ -24,7 +24,8 @@ none_in : (n : ℕ) → Contains [] n → ⊥
 none_in n c = omega (arith, c.1)
 
 spared : (app : ℕ) (lacking : List ℕ) → lacking ≡ [] → AtLeast (IsRootSpared app [] lacking) 3 2
-spared app lacking none = subst (λ (l : List ℕ). AtLeast (IsRootSpared app [] l) 3 2) (sym none) (inl (one 2, inl (one 1, tt)))
+spared app lacking none = subst (λ (l : List ℕ). AtLeast (IsRootSpared app [] l) 3 2) (sym none)
+    (inl (one 2, inl (one 1, tt)))
   where
     one : (copy : ℕ) → IsRootSpared app [] [] copy
     one copy = (λ k less c. none_in _ c, λ c. none_in _ c)
@@ -34,8 +35,10 @@ stands : (app : ℕ) (before after : Disks) (c : Case) → IsSoundApp app c → 
     → Stands app c.left [] (disk_at before app) (disk_at after app)
 stands app before after c sound between = between sound [] c.left (undamaged app c.left)
 
--- Behind the last command the root says what it said then, or what the command in progress leads to: nothing from further back.
-pub not_further_back : (app : ℕ) (w : World) (next : Disks) (c : Case) → IsSoundApp app c → w.doubt ≡ None → ¬ ((disk_at (disks w) app).says ≡ nothing)
+-- Behind the last command the root says what it said then, or what the command in progress leads to: nothing from
+-- further back.
+pub not_further_back : (app : ℕ) (w : World) (next : Disks) (c : Case) → IsSoundApp app c → w.doubt ≡ None
+    → ¬ ((disk_at (disks w) app).says ≡ nothing)
     → (disk_at (disks w) app).lacking ≡ [] → IsMomentOf app w [] next c
     → (says_at c.left app ≡ (disk_at (disks w) app).says) ⊎ (says_at c.left app ≡ (disk_at next app).says)
 not_further_back app w next c sound calm something whole (inl between) =
@@ -61,7 +64,8 @@ headings : (shape : Shape) (left before : View) (after : State) → StaysAs shap
 headings shape left before after (inl same) = inl same.0
 headings shape left before after (inr next) = inr (next.1, next.2, next.3, next.4)
 
-is_something : (g bank version : ℕ) (s : StorageData) (state : State) → (one_storage g bank version s state).says ≡ nothing → ⊥
+is_something : (g bank version : ℕ) (s : StorageData) (state : State)
+    → (one_storage g bank version s state).says ≡ nothing → ⊥
 unfolding shapes_named
 is_something g bank version s state e = let no : 1 ≡ 0 = ap code e in omega (arith, no)
   where
@@ -70,18 +74,24 @@ is_something g bank version s state e = let no : 1 ≡ 0 = ap code e in omega (a
     code (absent h) = 1
     code (installed h active previous) = 1
 
--- A storage whose command failed at the device opens, by what reads then gave, at the view of before or at that of after: it is not emptied.
-pub opens_as_either : (app g bank version : ℕ) (s : StorageData) (v : View) (others : List View) (after : State) (d : Doubt)
-    → disk_at d.before app ≡ one_storage g bank version s (Opens v others) → disk_at d.after app ≡ one_storage g bank version s after
+-- A storage whose command failed at the device opens, by what reads then gave, at the view of before or at that of
+-- after: it is not emptied.
+pub opens_as_either : (app g bank version : ℕ) (s : StorageData) (v : View) (others : List View) (after : State)
+    (d : Doubt)
+    → disk_at d.before app ≡ one_storage g bank version s (Opens v others)
+    → disk_at d.after app ≡ one_storage g bank version s after
     → IsSoundApp app d.case → HasEnough (shape_of app bank 0 s) [] v.lacking → IsDecided app (Some d)
     → OpensAsEither (store_at d.case.left (shape_of app bank 0 s)) v after
 unfolding shapes_named
 opens_as_either app g bank version s v others after d before_is after_is sound enough decided =
-    let st : Stands app d.case.left [] (one_storage g bank version s (Opens v others)) (one_storage g bank version s after) =
+    let st : Stands app d.case.left [] (one_storage g bank version s (Opens v others))
+    (one_storage g bank version s after) =
     subst (λ (a : App). Stands app d.case.left [] a (one_storage g bank version s after)) before_is
-    (subst (λ (a : App). Stands app d.case.left [] (disk_at d.before app) a) after_is (stands app d.before d.after d.case sound decided)) in
+    (subst (λ (a : App). Stands app d.case.left [] (disk_at d.before app) a) after_is
+    (stands app d.before d.after d.case sound decided)) in
     let says : says_at d.case.left app ≡ (one_storage g bank version s after).says =
     ⊎_elim (λ e. e) (λ e. e) (st.root (is_something g bank version s (Opens v others)) (spared app [] refl)) in
-    let kept : AreKept d.case.left [] (shapes_named app (one_storage g bank version s after).says) (Opens v others ∷ []) (after ∷ []) = st.same says refl in
+    let kept : AreKept d.case.left [] (shapes_named app (one_storage g bank version s after).says) (Opens v others ∷ [])
+    (after ∷ []) = st.same says refl in
     let here = kept.0.stays enough in
     (here.0, here.1, here.2, headings (shape_of app bank 0 s) here.0 v after here.3)

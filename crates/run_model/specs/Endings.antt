@@ -1,5 +1,6 @@
 -- How a run ends, by which status, and what it has then written.
-use Rattle.std.specs.Prelude.{◌≡◌, ◌⊎◌, ◌<◌, ◌+◌, ℕ, List, [], ◌∷◌, ◌++◌, length, take, Option, Bool, IsTrue, IsFalse, codes, ⊤}
+use Rattle.std.specs.Prelude.{◌≡◌, ◌⊎◌, ◌<◌, ◌+◌, ℕ, List, [], ◌∷◌, ◌++◌, length, take, Option, Bool, IsTrue, IsFalse}
+use Rattle.std.specs.Prelude.{codes, ⊤}
 use Rattle.std.specs.Fmt.{decimal}
 use Rattle.std.specs.Io.KnownBytes.{Appends}
 use Rattle.per_base.specs.Causes.{Rose}
@@ -7,8 +8,8 @@ use Rattle.command_text.specs.Replies.{reply_text}
 use Rattle.run_model.specs.Lines.{IsBad}
 use Rattle.run_model.specs.Turns.{Turn, text_of}
 
--- all lines are handled; the next is `end`; the next is outside the grammar; the start failed at the device; memory ran out in the start;
--- memory ran out behind a start that ended; the source failed; the sink failed; the input is too long
+-- all lines are handled; the next is `end`; the next is outside the grammar; the start failed at the device; memory ran
+-- out in the start; memory ran out behind a start that ended; the source failed; the sink failed; the input is too long
 pub data Ending : Type 0 where
   all_read : Ending
   end_line : Ending
@@ -103,23 +104,25 @@ pub record AfterSome (lines all : List (List ℕ)) (turns : List Turn) (before n
   pub wrote : Appends before now (text_of turns)
 
 -- the sink took so many bytes of the last reply, and fewer than all
-pub record InReply (count : ℕ) (lines all : List (List ℕ)) (turns : List Turn) (before now : Option (List ℕ)) : Type 0 where
-  pub others : List (List ℕ)
-  pub next : all ≡ lines ++ others
-  pub earlier : List Turn
-  pub last : Turn
-  pub turns_are : turns ≡ earlier ++ last ∷ []
-  pub short : count < length (reply_text last.reply)
-  pub wrote : Appends before now (text_of earlier ++ take count (reply_text last.reply))
+pub record InReply (count : ℕ) (lines all : List (List ℕ)) (turns : List Turn) (before now : Option (List ℕ)) : Type 0
+  where
+    pub others : List (List ℕ)
+    pub next : all ≡ lines ++ others
+    pub earlier : List Turn
+    pub last : Turn
+    pub turns_are : turns ≡ earlier ++ last ∷ []
+    pub short : count < length (reply_text last.reply)
+    pub wrote : Appends before now (text_of earlier ++ take count (reply_text last.reply))
 
 -- so many of the answer to a line outside the grammar
-pub record InBadLine (count : ℕ) (lines all : List (List ℕ)) (turns : List Turn) (before now : Option (List ℕ)) : Type 0 where
-  pub text : List ℕ
-  pub others : List (List ℕ)
-  pub next : all ≡ lines ++ text ∷ others
-  pub bad : IsBad text
-  pub short : count < length (bad_line_text (length lines + 1))
-  pub wrote : Appends before now (text_of turns ++ take count (bad_line_text (length lines + 1)))
+pub record InBadLine (count : ℕ) (lines all : List (List ℕ)) (turns : List Turn) (before now : Option (List ℕ)) : Type 0
+  where
+    pub text : List ℕ
+    pub others : List (List ℕ)
+    pub next : all ≡ lines ++ text ∷ others
+    pub bad : IsBad text
+    pub short : count < length (bad_line_text (length lines + 1))
+    pub wrote : Appends before now (text_of turns ++ take count (bad_line_text (length lines + 1)))
 
 abbrev pub EndsBy : Ending → (lines all : List (List ℕ)) → List Turn → (before now : Option (List ℕ)) → Type 0
 EndsBy all_read lines all turns before now = AtTheEnd lines all turns before now
@@ -130,7 +133,8 @@ EndsBy start_memory lines all turns before now = AtTheStart lines turns before n
 -- where memory ran out behind the start, all replies are written or all but the last
 EndsBy memory lines all turns before now = AfterSome lines all turns before now ⊎ InReply 0 lines all turns before now
 EndsBy source lines all turns before now = AtTheEnd lines all turns before now
-EndsBy sink lines all turns before now = (count : ℕ) × (InReply count lines all turns before now ⊎ InBadLine count lines all turns before now)
+EndsBy sink lines all turns before now = (count : ℕ) × (InReply count lines all turns before now
+    ⊎ InBadLine count lines all turns before now)
 EndsBy too_long lines all turns before now = AtTheEnd lines all turns before now
 
 -- whether the end of the input was seen, and how many bytes were taken

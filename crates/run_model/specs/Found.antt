@@ -32,14 +32,17 @@ found_with bank number kind None state = Err error.StorageNotFound
 
 abbrev pub found_at : Named → List State → Option StoreKind → Option ℕ → Result Found PerError
 found_at v states kind None = Err error.StorageNotFound
-found_at v states kind (Some number) = found_with v.bank number kind (slice_get v.deployment.storages number) (slice_get states number)
+found_at v states kind (Some number) = found_with v.bank number kind (slice_get v.deployment.storages number)
+    (slice_get states number)
 
 abbrev pub found_in : Says → List State → List ℕ → Option StoreKind → Result Found PerError
 found_in nothing states name kind = Err (error.IntegrityCorrupted unit.Root)
 found_in (absent g) states name kind = Err error.NotInstalled
-found_in (installed g active previous) states name kind = found_at active states kind (storage_number active.deployment name)
+found_in (installed g active previous) states name kind =
+    found_at active states kind (storage_number active.deployment name)
 
--- the storage of this name and kind, or the first refusal: the root is bad, nothing is installed, there is no such storage
+-- the storage of this name and kind, or the first refusal: the root is bad, nothing is installed, there is no such
+-- storage
 abbrev pub storage_in : App → List ℕ → Option StoreKind → Result Found PerError
 storage_in a name kind = found_in a.says a.states name kind
 

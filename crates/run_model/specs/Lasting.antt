@@ -11,9 +11,11 @@ use Rattle.deploy_laws.specs.Apps.{Says, installed, App, app_at}
 use Rattle.deploy_rows.specs.Rows.{reopened}
 use Rattle.run_model.specs.Calls.{active_storages}
 use Rattle.run_model.specs.Sessions.{Session, keys, files, seen_in}
-use Rattle.run_model.specs.Worlds.{Application, Stage, to_open, at_rest, updating, Sessions, none_open, World, resting, all_resting, world_at, started}
+use Rattle.run_model.specs.Worlds.{Application, Stage, to_open, at_rest, updating, Sessions, none_open, World, resting}
+use Rattle.run_model.specs.Worlds.{all_resting, world_at, started}
 
--- Where a storage is open, its synchronised map is what is seen of the state, which opens and beside which no other text is held.
+-- Where a storage is open, its synchronised map is what is seen of the state, which opens and beside which no other
+-- text is held.
 abbrev pub IsSessionOn : Option Session → StoreKind → State → Type 0
 IsSessionOn None kind state = ⊤
 IsSessionOn (Some (keys s)) kinds.Keys (Opens v []) = s.synced ≡ seen_in kinds.Keys v
@@ -27,12 +29,13 @@ AreSessionsOn (s ∷ ss) [] states = (s ≡ None) × AreSessionsOn ss [] states
 AreSessionsOn (s ∷ ss) (c ∷ cs) [] = (s ≡ None) × AreSessionsOn ss cs []
 AreSessionsOn (s ∷ ss) (c ∷ cs) (state ∷ states) = IsSessionOn s c.kind state × AreSessionsOn ss cs states
 
--- An update is in progress only where one version is installed, with contents for each storage of the next one; and neither it nor a root that
--- is to be opened stands beside an open storage.
+-- An update is in progress only where one version is installed, with contents for each storage of the next one; and
+-- neither it nor a root that is to be opened stands beside an open storage.
 abbrev pub IsStageOn : Stage → Says → Sessions → Type 0
 IsStageOn at_rest says ss = ⊤
 IsStageOn to_open says ss = ss ≡ none_open
-IsStageOn (updating p) (installed g active None) ss = (ss ≡ none_open) × (length p.contents ≡ length p.deployment.storages) × (p.built ≤ length p.contents)
+IsStageOn (updating p) (installed g active None) ss = (ss ≡ none_open)
+    × (length p.contents ≡ length p.deployment.storages) × (p.built ≤ length p.contents)
 IsStageOn (updating p) says ss = ⊥
 
 pub record IsApplication (a : Application) : Type 0 where
@@ -47,7 +50,8 @@ pub record IsWorld (w : World) : Type 0 where
 
 -- ---- the world in which a run starts
 
-pub none_on : (count : ℕ) (storages : List StorageData) (states : List State) → AreSessionsOn (replicate {A = Option Session} count None) storages states
+pub none_on : (count : ℕ) (storages : List StorageData) (states : List State)
+    → AreSessionsOn (replicate {A = Option Session} count None) storages states
 none_on zero storages states = tt
 none_on (suc count) [] states = (refl, none_on count [] states)
 none_on (suc count) (c ∷ cs) [] = (refl, none_on count cs [])
@@ -57,7 +61,8 @@ pub rests_so : (a : App) → IsApplication (resting a)
 rests_so a = record { room = refl; sessions = none_on 16 (active_storages a.says) a.states; stage = tt }
 
 all_rest_so : (disk : ℕ → App) (app count : ℕ)
-    → AllByRecursion IsApplication (map (λ (a : Application). record a { disk = reopened a.disk }) (all_resting disk app count))
+    → AllByRecursion IsApplication (map (λ (a : Application). record a { disk = reopened a.disk })
+    (all_resting disk app count))
 all_rest_so disk app zero = tt
 all_rest_so disk app (suc count) = (rests_so (reopened (disk app)), all_rest_so disk (app + 1) count)
 

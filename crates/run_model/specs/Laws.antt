@@ -1,5 +1,6 @@
 -- The statements of the laws.
-use Rattle.std.specs.Prelude.{◌≡◌, ◌≢◌, ◌⊎◌, ◌<◌, ◌+◌, ℕ, List, [], ◌∷◌, ◌++◌, length, true, false, Option, Some, None, Ok}
+use Rattle.std.specs.Prelude.{◌≡◌, ◌≢◌, ◌⊎◌, ◌<◌, ◌+◌, ℕ, List, [], ◌∷◌, ◌++◌, length, true, false, Option, Some, None}
+use Rattle.std.specs.Prelude.{Ok}
 use Rattle.std.specs.Io.KnownBytes.{Appends}
 use Rattle.disk_model.specs.Case.{Case}
 use Rattle.disk_model.specs.Medium.{Medium, Quiet, Elapses, OnlyReads, WritesNothing, IsIdle, EachCase}
@@ -38,25 +39,32 @@ use Rattle.run_model.specs.RunLaws.{Going}
 
 -- ---- single commands
 
--- Two worlds that agree on an application and on the moment answer a command of it alike, where no device fails, and lead it to the same.
+-- Two worlds that agree on an application and on the moment answer a command of it alike, where no device fails, and
+-- lead it to the same.
 abbrev pub AlikeLaw : List Rule → Answers → Type 0
-AlikeLaw rules answers = (v w v' : World) (app : ℕ) (c : Call) (reply : Reply) → app < length v.apps → app < length w.apps → app_of v app ≡ app_of w app
-    → v.now ≡ w.now → Step rules answers v (event.App app c) reply v' → (w' : World) × Step rules answers w (event.App app c) reply w' × (app_of w' app ≡ app_of v' app)
+AlikeLaw rules answers = (v w v' : World) (app : ℕ) (c : Call) (reply : Reply) → app < length v.apps
+    → app < length w.apps → app_of v app ≡ app_of w app
+    → v.now ≡ w.now → Step rules answers v (event.App app c) reply v'
+    → (w' : World) × Step rules answers w (event.App app c) reply w' × (app_of w' app ≡ app_of v' app)
 
 -- A command of one application leaves every other as it was, however it is answered.
 abbrev pub OthersStayLaw : List Rule → Answers → Type 0
-OthersStayLaw rules answers = (w w' : World) (app other : ℕ) (c : Call) (reply : Reply) → other ≢ app → StepsTo rules answers w (event.App app c) reply w'
+OthersStayLaw rules answers = (w w' : World) (app other : ℕ) (c : Call) (reply : Reply) → other ≢ app
+    → StepsTo rules answers w (event.App app c) reply w'
     → app_of w' other ≡ app_of w other
 
 -- A command that calls no device ends no doubt and makes none, also where it is refused: nothing but a sync ends one.
 abbrev pub DoubtStaysLaw : List Rule → Answers → Type 0
-DoubtStaysLaw rules answers = (w w' : World) (app : ℕ) (c : Call) (reply : Reply) → calls_device (app_of w app) c ≡ false
+DoubtStaysLaw rules answers = (w w' : World) (app : ℕ) (c : Call) (reply : Reply)
+    → calls_device (app_of w app) c ≡ false
     → StepsTo rules answers w (event.App app c) reply w' → w'.doubt ≡ w.doubt
 
 -- A command on a storage that failed at the device ends its session.
 abbrev pub SessionEndsLaw : List Rule → Answers → Type 0
-SessionEndsLaw rules answers = (w w' : World) (app : ℕ) (c : Call) (reply : Reply) (name : List ℕ) (f : Found) → app < length w.apps → storage_named c ≡ Some name
-    → storage_in (app_of w app).disk name None ≡ Ok f → Fails rules answers w (event.App app c) reply w' → session_at (app_of w' app) f.number ≡ None
+SessionEndsLaw rules answers = (w w' : World) (app : ℕ) (c : Call) (reply : Reply) (name : List ℕ) (f : Found)
+    → app < length w.apps → storage_named c ≡ Some name
+    → storage_in (app_of w app).disk name None ≡ Ok f → Fails rules answers w (event.App app c) reply w'
+    → session_at (app_of w' app) f.number ≡ None
 
 -- A storage in another state comes later, as each row of a deployment does.
 abbrev pub StorageLaterLaw : Type 0
@@ -66,39 +74,51 @@ StorageLaterLaw = (a : App) (f : Found) (state : State) → IsLater a (with_stat
 
 -- The clock keeps it.
 abbrev pub NowLastsLaw : List Rule → Answers → Type 0
-NowLastsLaw rules answers = (w w' : World) (t : ℕ) (reply : Reply) → IsWorld w → StepsTo rules answers w (event.Now t) reply w' → IsWorld w'
+NowLastsLaw rules answers = (w w' : World) (t : ℕ) (reply : Reply) → IsWorld w
+    → StepsTo rules answers w (event.Now t) reply w' → IsWorld w'
 
--- A command that was answered keeps it. Of one that makes a session durable it takes that the session shows, once it lies on the disk, what it shows now.
+-- A command that was answered keeps it. Of one that makes a session durable it takes that the session shows, once it
+-- lies on the disk, what it shows now.
 abbrev pub AnswersLastLaw : List Rule → Answers → Type 0
-AnswersLastLaw rules answers = (w w' : World) (app : ℕ) (c : Call) (reply : Reply) → (synchronises c ≡ true → AreSeenAgain app (root_opened (app_of w app))) → IsWorld w
+AnswersLastLaw rules answers = (w w' : World) (app : ℕ) (c : Call) (reply : Reply)
+    → (synchronises c ≡ true → AreSeenAgain app (root_opened (app_of w app))) → IsWorld w
     → Step rules answers w (event.App app c) reply w' → IsWorld w'
 
 -- So does a sync of a doubt that failed;
 abbrev pub FailedSyncLastsLaw : Type 0
-FailedSyncLastsLaw = (w w' : World) (app : ℕ) (c : Call) (reply : Reply) → IsWorld w → SyncFails w (event.App app c) reply w' → IsWorld w'
+FailedSyncLastsLaw = (w w' : World) (app : ℕ) (c : Call) (reply : Reply) → IsWorld w
+    → SyncFails w (event.App app c) reply w' → IsWorld w'
 
 -- a command that names no storage and whose device failed, whatever was read then;
 abbrev pub FailureLastsLaw : List Rule → Answers → Type 0
-FailureLastsLaw rules answers = (w w' : World) (app : ℕ) (c : Call) (reply : Reply) → storage_named c ≡ None → IsWorld w → Fails rules answers w (event.App app c) reply w' → IsWorld w'
+FailureLastsLaw rules answers = (w w' : World) (app : ℕ) (c : Call) (reply : Reply) → storage_named c ≡ None → IsWorld w
+    → Fails rules answers w (event.App app c) reply w' → IsWorld w'
 
 -- and one on a storage, where what was read is what lay there but for that storage.
 abbrev pub StorageFailureLastsLaw : List Rule → Answers → Type 0
-StorageFailureLastsLaw rules answers = (w w' : World) (app : ℕ) (c : Call) (reply : Reply) (name : List ℕ) (f : Found) → storage_named c ≡ Some name
-    → storage_in (root_opened (app_of w app)).disk name None ≡ Ok f → (fails : Fails rules answers w (event.App app c) reply w')
+StorageFailureLastsLaw rules answers = (w w' : World) (app : ℕ) (c : Call) (reply : Reply) (name : List ℕ) (f : Found)
+    → storage_named c ≡ Some name
+    → storage_in (root_opened (app_of w app)).disk name None ≡ Ok f
+    → (fails : Fails rules answers w (event.App app c) reply w')
     → IsReadBeside (root_opened (app_of w app)) f (app_at fails.2.left app) → IsWorld w → IsWorld w'
 
 -- ---- moments
 
--- Behind the last command the root says what it said then, or what the command in progress leads to: nothing from further back.
+-- Behind the last command the root says what it said then, or what the command in progress leads to: nothing from
+-- further back.
 abbrev pub NotFurtherBackLaw : Type 0
-NotFurtherBackLaw = (app : ℕ) (w : World) (next : Disks) (c : Case) → IsSoundApp app c → w.doubt ≡ None → ¬ ((disk_at (disks w) app).says ≡ nothing)
+NotFurtherBackLaw = (app : ℕ) (w : World) (next : Disks) (c : Case) → IsSoundApp app c → w.doubt ≡ None
+    → ¬ ((disk_at (disks w) app).says ≡ nothing)
     → (disk_at (disks w) app).lacking ≡ [] → IsMomentOf app w [] next c
     → (says_at c.left app ≡ (disk_at (disks w) app).says) ⊎ (says_at c.left app ≡ (disk_at next app).says)
 
--- A storage whose command failed at the device opens, by what reads then gave, at the view of before or at that of after: it is not emptied.
+-- A storage whose command failed at the device opens, by what reads then gave, at the view of before or at that of
+-- after: it is not emptied.
 abbrev pub OpensAsEitherLaw : Type 0
-OpensAsEitherLaw = (app g bank version : ℕ) (s : StorageData) (v : View) (others : List View) (after : State) (d : Doubt)
-    → disk_at d.before app ≡ one_storage g bank version s (Opens v others) → disk_at d.after app ≡ one_storage g bank version s after
+OpensAsEitherLaw = (app g bank version : ℕ) (s : StorageData) (v : View) (others : List View) (after : State)
+    (d : Doubt)
+    → disk_at d.before app ≡ one_storage g bank version s (Opens v others)
+    → disk_at d.after app ≡ one_storage g bank version s after
     → IsSoundApp app d.case → HasEnough (shape_of app bank 0 s) [] v.lacking → IsDecided app (Some d)
     → OpensAsEither (store_at d.case.left (shape_of app bank 0 s)) v after
 
@@ -106,55 +126,69 @@ OpensAsEitherLaw = (app g bank version : ℕ) (s : StorageData) (v : View) (othe
 
 -- one that calls no disk
 abbrev pub IdleKeepsLaw : Medium → Type 0
-IdleKeepsLaw m = (app : ℕ) (w w' : World) → app < 8 → IsDiskOf app (disks w) m → disks w' ≡ disks w → w'.doubt ≡ w.doubt → StepKeeps app w w' m m
+IdleKeepsLaw m = (app : ℕ) (w w' : World) → app < 8 → IsDiskOf app (disks w) m → disks w' ≡ disks w → w'.doubt ≡ w.doubt
+    → StepKeeps app w w' m m
 
 -- one in a doubt whose sync failed
 abbrev pub FailedSyncKeepsLaw : (old new : Medium) → Type 0
-FailedSyncKeepsLaw old new = (app : ℕ) (w : World) (d : Doubt) → w.doubt ≡ Some d → OnlyReads old new → StepKeeps app w w old new
+FailedSyncKeepsLaw old new = (app : ℕ) (w : World) (d : Doubt) → w.doubt ≡ Some d → OnlyReads old new
+    → StepKeeps app w w old new
 
 -- one in a doubt whose sync succeeded, and then what goes on without a doubt
 abbrev pub SyncedKeepsLaw : (old now new : Medium) → Type 0
-SyncedKeepsLaw old now new = (app : ℕ) (w w' : World) (d : Doubt) → w.doubt ≡ Some d → Elapses old now → WritesNothing old now → Quiet now → Elapses now new
+SyncedKeepsLaw old now new = (app : ℕ) (w w' : World) (d : Doubt) → w.doubt ≡ Some d → Elapses old now
+    → WritesNothing old now → Quiet now → Elapses now new
     → StepKeeps app (without_doubt w) w' now new → StepKeeps app w w' old new
 
 -- the opening of a root, for each application
 abbrev pub OnTheWayLaw : (old new : Medium) → Type 0
-OnTheWayLaw old new = (a app : ℕ) (ds : Disks) → app < 8 → IsDiskOf app ds old → Quiet old → IsCleanApp app old.image → OpensRoot a old new → StandsOnTheWay app ds old new
+OnTheWayLaw old new = (a app : ℕ) (ds : Disks) → app < 8 → IsDiskOf app ds old → Quiet old → IsCleanApp app old.image
+    → OpensRoot a old new → StandsOnTheWay app ds old new
 
 -- one whose application's root was opened first
 abbrev pub RootKeepsLaw : (old now new : Medium) → Type 0
-RootKeepsLaw old now new = (app : ℕ) (w v w' : World) → IsLater (disk_at (disks w) app) (disk_at (disks w') app) → w.doubt ≡ None → v.doubt ≡ None
+RootKeepsLaw old now new = (app : ℕ) (w v w' : World) → IsLater (disk_at (disks w) app) (disk_at (disks w') app)
+    → w.doubt ≡ None → v.doubt ≡ None
     → (disk_at (disks v) app ≡ disk_at (disks w) app) ⊎ (disk_at (disks v) app ≡ reopened (disk_at (disks w) app))
-    → Elapses old now → Elapses now new → StandsOnTheWay app (disks w) old now → IsReady app v now → StepKeeps app v w' now new → w'.doubt ≡ None
+    → Elapses old now → Elapses now new → StandsOnTheWay app (disks w) old now → IsReady app v now
+    → StepKeeps app v w' now new → w'.doubt ≡ None
     → StepKeeps app w w' old new
 
 -- and its moments alone, where the command then fails or stops
 abbrev pub RootThenLaw : (old now new : Medium) → Type 0
 RootThenLaw old now new = (app : ℕ) (before opened after : Disks) → IsLater (disk_at before app) (disk_at after app)
     → (disk_at opened app ≡ disk_at before app) ⊎ (disk_at opened app ≡ reopened (disk_at before app))
-    → Elapses old now → Elapses now new → StandsOnTheWay app before old now → EachCase (Between app opened after) now new → EachCase (Between app before after) old new
+    → Elapses old now → Elapses now new → StandsOnTheWay app before old now
+    → EachCase (Between app opened after) now new → EachCase (Between app before after) old new
 
 -- one on an application that was answered
 abbrev pub CallKeepsLaw : (old new : Medium) → Type 0
-CallKeepsLaw old new = (a app : ℕ) (w w' : World) → app < 8 → Calls a (disks w') old new → ((b : ℕ) → a ≢ b → disk_at (disks w') b ≡ disk_at (disks w) b)
-    → w.doubt ≡ None → w'.doubt ≡ None → (IsCleanApp a old.image → IsCleanApp a new.image) → IsDiskOf app (disks w) old → StepKeeps app w w' old new
+CallKeepsLaw old new = (a app : ℕ) (w w' : World) → app < 8 → Calls a (disks w') old new
+    → ((b : ℕ) → a ≢ b → disk_at (disks w') b ≡ disk_at (disks w) b)
+    → w.doubt ≡ None → w'.doubt ≡ None → (IsCleanApp a old.image → IsCleanApp a new.image) → IsDiskOf app (disks w) old
+    → StepKeeps app w w' old new
 
--- one whose device failed: the world behind it is in doubt between what was and what it leads to, with a case whose image is what reads give
+-- one whose device failed: the world behind it is in doubt between what was and what it leads to, with a case whose
+-- image is what reads give
 abbrev pub CallFailsLaw : (old new : Medium) → Type 0
 CallFailsLaw old new = (a app : ℕ) (w w' : World) (d : Doubt) → app < 8 → Elapses old new → Calls a d.after old new
-    → ((b : ℕ) → a ≢ b → disk_at d.after b ≡ disk_at (disks w) b) → w.doubt ≡ None → w'.doubt ≡ Some d → d.before ≡ disks w → new.now d.case
+    → ((b : ℕ) → a ≢ b → disk_at d.after b ≡ disk_at (disks w) b) → w.doubt ≡ None → w'.doubt ≡ Some d
+    → d.before ≡ disks w → new.now d.case
     → d.case.left ≡ new.image → IsDiskOf app (disks w) old → StepKeeps app w w' old new
 
 -- the same from all of its moments, also those of a root that was opened before it
 abbrev pub FailureKeepsLaw : (old new : Medium) → Type 0
-FailureKeepsLaw old new = (app : ℕ) (w w' : World) (d : Doubt) → w'.doubt ≡ Some d → d.before ≡ disks w → Elapses old new → IsDiskOf app (disks w) old
-    → new.now d.case → d.case.left ≡ new.image → (IsReady app w old → EachCase (Between app (disks w) d.after) old new) → StepKeeps app w w' old new
+FailureKeepsLaw old new = (app : ℕ) (w w' : World) (d : Doubt) → w'.doubt ≡ Some d → d.before ≡ disks w
+    → Elapses old new → IsDiskOf app (disks w) old
+    → new.now d.case → d.case.left ≡ new.image → (IsReady app w old → EachCase (Between app (disks w) d.after) old new)
+    → StepKeeps app w w' old new
 
 -- ---- the start
 
 -- before any root is opened, behind a sync
 abbrev pub NoneOpenedLaw : (old now : Medium) → Type 0
-NoneOpenedLaw old now = Elapses old now → now.image ≡ old.image → Quiet now → (Quiet old → IsIdle old now) → Opened 0 old now
+NoneOpenedLaw old now = Elapses old now → now.image ≡ old.image → Quiet now → (Quiet old → IsIdle old now)
+    → Opened 0 old now
 
 -- one root more
 abbrev pub OneOpenedLaw : (old now new : Medium) → Type 0
@@ -168,7 +202,8 @@ AllOpenedLaw old now = Opened 8 old now → StartKeeps old now
 
 -- causes add up, command by command
 abbrev pub BlamedLaw : Type 0
-BlamedLaw = (before : ℕ) (ts : List Turn) (t : Turn) (after : ℕ) → AreBlamed before ts after → IsBlamed after t.faults t.reply → AreBlamed before (ts ++ t ∷ []) t.faults
+BlamedLaw = (before : ℕ) (ts : List Turn) (t : Turn) (after : ℕ) → AreBlamed before ts after
+    → IsBlamed after t.faults t.reply → AreBlamed before (ts ++ t ∷ []) t.faults
 
 -- a start that ended is a run without a command
 abbrev pub RunBeginsLaw : List Rule → Answers → (old new : Medium) → Type 0
@@ -177,25 +212,34 @@ RunBeginsLaw rules answers old new = (memory : Memory) → Elapses old new → S
 
 -- and one that did not is a run that ended there, before any line was taken
 abbrev pub StartStopsLaw : List Rule → Answers → (old new : Medium) → Type 0
-StartStopsLaw rules answers old new = (ending : Ending) (before after : Option (List ℕ)) → Elapses old new → (HasStarted ending → ⊥) → StartKeeps old new
+StartStopsLaw rules answers old new = (ending : Ending) (before after : Option (List ℕ)) → Elapses old new
+    → (HasStarted ending → ⊥) → StartKeeps old new
     → DiskSide rules answers ending [] [] [] before after old new
 
 -- a command that was answered is one turn more
 abbrev pub RunGoesOnLaw : List Rule → Answers → (old now new : Medium) → Type 0
-RunGoesOnLaw rules answers old now new = (turns : List Turn) (e : Event) (reply : Reply) (memory memory' : Memory) (doubt : Option Doubt) → Elapses now new
-    → Going rules answers (world_at old.image) (started (world_at old.image)) turns memory doubt old now → (s : Stepped rules answers e reply memory memory' doubt now new)
+RunGoesOnLaw rules answers old now new = (turns : List Turn) (e : Event) (reply : Reply) (memory memory' : Memory)
+    (doubt : Option Doubt) → Elapses now new
+    → Going rules answers (world_at old.image) (started (world_at old.image)) turns memory doubt old now
+    → (s : Stepped rules answers e reply memory memory' doubt now new)
     → Going rules answers (world_at old.image) (started (world_at old.image))
-    (turns ++ record { event = e; reply = reply; faults = new.faults; world = world_of new.image memory' s.doubt' } ∷ []) memory' s.doubt' old new
+    (turns ++ record { event = e; reply = reply; faults = new.faults; world = world_of new.image memory' s.doubt' }
+    ∷ []) memory' s.doubt' old new
 
 -- where every command has ended, all that is promised follows
 abbrev pub RunEndsLaw : List Rule → Answers → (old now : Medium) → Type 0
-RunEndsLaw rules answers old now = (ending : Ending) (lines all : List (List ℕ)) (turns : List Turn) (before after : Option (List ℕ)) (memory : Memory) (doubt : Option Doubt)
-    → HasStarted ending → Going rules answers (world_at old.image) (started (world_at old.image)) turns memory doubt old now
+RunEndsLaw rules answers old now = (ending : Ending) (lines all : List (List ℕ)) (turns : List Turn)
+    (before after : Option (List ℕ)) (memory : Memory) (doubt : Option Doubt)
+    → HasStarted ending → Going rules answers (world_at old.image) (started (world_at old.image)) turns memory doubt old
+    now
     → DiskSide rules answers ending lines all turns before after old now
 
 -- and so it does where the command of the next line is in progress, behind the text of every reply
 abbrev pub RunStopsLaw : List Rule → Answers → (old now new : Medium) → Type 0
-RunStopsLaw rules answers old now new = (ending : Ending) (lines all others : List (List ℕ)) (text : List ℕ) (turns : List Turn) (before after : Option (List ℕ)) (e : Event)
-    (memory : Memory) (doubt : Option Doubt) → Elapses now new → HasStarted ending → (HasEnded ending → ⊥) → Appends before after (text_of turns) → all ≡ lines ++ text ∷ others → IsLine text (line.Event e)
-    → Going rules answers (world_at old.image) (started (world_at old.image)) turns memory doubt old now → Stopped rules answers e memory doubt now new
+RunStopsLaw rules answers old now new = (ending : Ending) (lines all others : List (List ℕ)) (text : List ℕ)
+    (turns : List Turn) (before after : Option (List ℕ)) (e : Event)
+    (memory : Memory) (doubt : Option Doubt) → Elapses now new → HasStarted ending → (HasEnded ending → ⊥)
+    → Appends before after (text_of turns) → all ≡ lines ++ text ∷ others → IsLine text (line.Event e)
+    → Going rules answers (world_at old.image) (started (world_at old.image)) turns memory doubt old now
+    → Stopped rules answers e memory doubt now new
     → DiskSide rules answers ending lines all turns before after old new

@@ -10,7 +10,8 @@ use Rattle.run_model.specs.Worlds.{Disks, Doubt, World, disks, disk_at}
 
 -- ---- one moment
 
--- in this case, where it is sound, the application stands after each damage between what lies on the disk before and after
+-- in this case, where it is sound, the application stands after each damage between what lies on the disk before and
+-- after
 abbrev pub Between : ℕ → (before after : Disks) → Case → Type 0
 Between app before after c = StandsCase app (disk_at before app) (disk_at after app) c
 
@@ -40,7 +41,8 @@ pub record IsReady (app : ℕ) (w : World) (m : Medium) : Type 0 where
   pub clean : IsCleanApp app m.image
   pub quiet : w.doubt ≡ None → Quiet m
 
--- a crash at some moment of a command: between what lay there before it and after it; where its device failed, between the sides of the doubt
+-- a crash at some moment of a command: between what lay there before it and after it; where its device failed, between
+-- the sides of the doubt
 abbrev pub AtMoment : ℕ → (before after : Disks) → (doubt : Option Doubt) → Case → Type 0
 AtMoment app before after None c = Between app before after c
 AtMoment app before after (Some d) c = Between app d.before d.after c
@@ -65,8 +67,8 @@ StopKeeps app w after old new = IsReady app w old → EachCase (IsMoment app w a
 
 -- ---- a run
 
--- A crash at some moment of a run through these worlds, from w on, with `next` in progress behind the last: the application stands between
--- two worlds that follow each other, or in the doubt of one of them.
+-- A crash at some moment of a run through these worlds, from w on, with `next` in progress behind the last: the
+-- application stands between two worlds that follow each other, or in the doubt of one of them.
 abbrev pub IsMomentOf : ℕ → (w : World) → List World → (next : Disks) → Case → Type 0
 IsMomentOf app w [] next c = Between app (disks w) next c ⊎ InDoubt app w.doubt c
 IsMomentOf app w (v ∷ vs) next c = AtMoment app (disks w) (disks v) v.doubt c ⊎ IsMomentOf app v vs next c
@@ -86,7 +88,8 @@ AreSoundDoubts app worlds = AllByRecursion (λ (w : World). IsSoundDoubt app w.d
 abbrev pub AreDecided : ℕ → List World → Type 0
 AreDecided app worlds = AllByRecursion (λ (w : World). IsDecided app w.doubt) worlds
 
--- The run so far, from a start that led from one world to another: each moment is one of the start, or one of the commands; and all is well now.
+-- The run so far, from a start that led from one world to another: each moment is one of the start, or one of the
+-- commands; and all is well now.
 pub record Stayed (app : ℕ) (entry w : World) (worlds : List World) (old new : Medium) : Type 0 where
   pub any_moment : EachCase (λ c. Between app (disks entry) (disks w) c ⊎ IsPast app w worlds c) old new
   pub ready : IsReady app (last_of w worlds) new

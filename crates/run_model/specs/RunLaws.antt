@@ -1,5 +1,7 @@
--- A run, command by command: what was said of it before a command is said of it with that command, and at its end all that is promised follows.
-use Rattle.std.specs.Prelude.{◌≡◌, ◌⊎◌, ℕ, zero, suc, ◌+◌, ◌≤◌, ◌<◌, List, [], ◌∷◌, ◌++◌, length, map, Option, Some, None, Bool, IsTrue}
+-- A run, command by command: what was said of it before a command is said of it with that command, and at its end all
+-- that is promised follows.
+use Rattle.std.specs.Prelude.{◌≡◌, ◌⊎◌, ℕ, zero, suc, ◌+◌, ◌≤◌, ◌<◌, List, [], ◌∷◌, ◌++◌, length, map, Option, Some}
+use Rattle.std.specs.Prelude.{None, Bool, IsTrue}
 use Rattle.std.specs.List.{AllByRecursion}
 use Rattle.std.proofs.Common.{refl, sym, ap, ◌∙◌, subst, le_refl, le_trans, inl, inr, ⊎_elim, arith}
 use Rattle.std.specs.Io.KnownBytes.{Appends}
@@ -14,33 +16,47 @@ use Rattle.command_text.specs.declared.lines.Line.TheVariants as line
 use Rattle.command_text.specs.Grammar.{IsLine}
 use Rattle.deploy_laws.specs.Apps.{App, app_at, IsCleanApp}
 use Rattle.run_model.specs.AppLaws.{AppLaws}
-use Rattle.run_model.specs.Worlds.{Application, started, Disks, Doubt, World, disks, disk_at, resting, all_resting, world_at, closed}
+use Rattle.run_model.specs.Worlds.{Application, started, Disks, Doubt, World, disks, disk_at, resting, all_resting}
+use Rattle.run_model.specs.Worlds.{world_at, closed}
 use Rattle.run_model.specs.Lasting.{IsWorld, starts_so}
 use Rattle.run_model.specs.Steps.{StepsTo, Leads}
-use Rattle.run_model.specs.Moments.{AtMoment, Between, InDoubt, IsInDoubt, IsMomentOf, StepKeeps, StopKeeps, Stayed, last_of, AreSoundDoubts, IsDecided}
+use Rattle.run_model.specs.Moments.{AtMoment, Between, InDoubt, IsInDoubt, IsMomentOf, StepKeeps, StopKeeps, Stayed}
+use Rattle.run_model.specs.Moments.{last_of, AreSoundDoubts, IsDecided}
 use Rattle.run_model.specs.MomentLaws.{last_is, start_stays, step_stays, end_stays, stop_stays, sound_front}
 use Rattle.run_model.specs.KeepLaws.{rests}
-use Rattle.run_model.specs.Runtimes.{Running, Memory, with_disk, world_of, StepsOn, Stepped, Stopped, Starts, StartKeeps}
+use Rattle.run_model.specs.Runtimes.{Running, Memory, with_disk, world_of, StepsOn, Stepped, Stopped, Starts}
+use Rattle.run_model.specs.Runtimes.{StartKeeps}
 use Rattle.run_model.specs.Endings.{Ending, HasStarted, HasEnded, has_started}
 use Rattle.run_model.specs.Turns.{Turn, Follow, worlds_of, text_of, IsBlamed, AreBlamed}
-use Rattle.run_model.specs.Runs.{AreCases, IsCaseOfDoubt, IsReadSince, Everywhen, IsSettled, starting, between, within, DiskSide}
+use Rattle.run_model.specs.Runs.{AreCases, IsCaseOfDoubt, IsReadSince, Everywhen, IsSettled, starting, between, within}
+use Rattle.run_model.specs.Runs.{DiskSide}
 
 -- ---- the world of the memory
 
-disk_there : (disk : ℕ → App) (app : ℕ) (rs : List Running) (i : ℕ) → i < length rs → disk_at (map (λ (a : Application). a.disk) (with_disk disk app rs)) i ≡ disk (app + i)
+disk_there : (disk : ℕ → App) (app : ℕ) (rs : List Running) (i : ℕ) → i < length rs
+    → disk_at (map (λ (a : Application). a.disk) (with_disk disk app rs)) i ≡ disk (app + i)
 disk_there disk app [] i lt = absurd (omega (arith, lt))
 disk_there disk app (r ∷ rs) zero lt = ap disk (omega arith)
-disk_there disk app (r ∷ rs) (suc i) lt = let less : i < length rs = omega (arith, lt) in disk_there disk (app + 1) rs i less ∙ ap disk (omega arith)
+disk_there disk app (r ∷ rs) (suc i) lt = let less : i < length rs =
+    omega (arith, lt) in disk_there disk (app + 1) rs i less ∙ ap disk (omega arith)
 
-rest_there : (disk : ℕ → App) (app : ℕ) (rs : List Running) → all_resting disk app (length rs) ≡ map (λ (a : Application). resting a.disk) (with_disk disk app rs)
+rest_there : (disk : ℕ → App) (app : ℕ) (rs : List Running)
+    → all_resting disk app (length rs) ≡ map (λ (a : Application). resting a.disk) (with_disk disk app rs)
 rest_there disk app [] = refl
 rest_there disk app (r ∷ rs) = ap (λ (xs : List Application). resting (disk app) ∷ xs) (rest_there disk (app + 1) rs)
 
 -- ---- causes
 
 -- one command more, with its cause
-pub blamed_on : (before : ℕ) (ts : List Turn) (t : Turn) (after : ℕ) → AreBlamed before ts after → IsBlamed after t.faults t.reply → AreBlamed before (ts ++ t ∷ []) t.faults
-blamed_on before [] t after blamed cause = ((le_trans blamed cause.0, λ failed. le_from before after t.faults blamed (cause.1 failed)), le_refl _)
+pub blamed_on : (before : ℕ) (ts : List Turn) (t : Turn) (after : ℕ) → AreBlamed before ts after
+    → IsBlamed after t.faults t.reply → AreBlamed before (ts ++ t ∷ []) t.faults
+blamed_on before [] t after blamed cause = (
+  (
+    le_trans blamed cause.0,
+    λ failed. le_from before after t.faults blamed (cause.1 failed),
+  ),
+  le_refl _,
+)
   where
     le_from : (a b c : ℕ) → a ≤ b → Rose b c → Rose a c
     le_from a b c earlier rose = omega arith
@@ -48,20 +64,23 @@ blamed_on before (u ∷ us) t after blamed cause = (blamed.0, blamed_on u.faults
 
 -- ---- what is said of a run so far
 
-pub record Going (rules : List Rule) (answers : Answers) (entry start : World) (turns : List Turn) (memory : Memory) (doubt : Option Doubt) (old now : Medium) : Type 0 where
+pub record Going (rules : List Rule) (answers : Answers) (entry start : World) (turns : List Turn) (memory : Memory)
+    (doubt : Option Doubt) (old now : Medium) : Type 0 where
   pub eight : length memory.apps ≡ 8
   pub follow : Follow rules answers start turns
   pub worlds : AllByRecursion IsWorld (start ∷ worlds_of turns)
   pub last : last_of start (worlds_of turns) ≡ world_of now.image memory doubt
   pub cases : AreCases (IsReadSince old now) (worlds_of turns)
   pub quiet : doubt ≡ None → Quiet now
-  pub stayed : Quiet old → (app : ℕ) → app < 8 → IsCleanApp app old.image → AreSoundDoubts app (worlds_of turns) → Stayed app entry start (worlds_of turns) old now
+  pub stayed : Quiet old → (app : ℕ) → app < 8 → IsCleanApp app old.image → AreSoundDoubts app (worlds_of turns)
+      → Stayed app entry start (worlds_of turns) old now
   pub time : Elapses old now
 
 -- ---- one command more
 
 -- whatever else is known of the disk, it is a step
-steps_on : (rules : List Rule) (answers : Answers) (w : World) (e : Event) (reply : Reply) (w' : World) (old new : Medium) → StepsOn rules answers w e reply w' old new
+steps_on : (rules : List Rule) (answers : Answers) (w : World) (e : Event) (reply : Reply) (w' : World)
+    (old new : Medium) → StepsOn rules answers w e reply w' old new
     → StepsTo rules answers w e reply w'
 steps_on rules answers w e reply w' old new (inl step) = inl step
 steps_on rules answers w e reply w' old new (inr (inl fails)) = inr (inl fails.0)
@@ -76,7 +95,8 @@ follow_on : (rules : List Rule) (answers : Answers) (w : World) (ts : List Turn)
 follow_on rules answers w [] t follow step = (step, tt)
 follow_on rules answers w (u ∷ us) t follow step = (follow.0, follow_on rules answers u.world us t follow.1 step)
 
-case_on : (P Q : Case → Type 0) (doubt : Option Doubt) → ((c : Case) → P c → Q c) → IsCaseOfDoubt P doubt → IsCaseOfDoubt Q doubt
+case_on : (P Q : Case → Type 0) (doubt : Option Doubt) → ((c : Case) → P c → Q c) → IsCaseOfDoubt P doubt
+    → IsCaseOfDoubt Q doubt
 case_on P Q None more is = tt
 case_on P Q (Some d) more is = more d.case is
 
@@ -84,61 +104,84 @@ cases_more : (P Q : Case → Type 0) (ws : List World) → ((c : Case) → P c �
 cases_more P Q [] more are = tt
 cases_more P Q (w ∷ ws) more are = (case_on P Q w.doubt more are.0, cases_more P Q ws more are.1)
 
-cases_end : (P : Case → Type 0) (ws : List World) (w : World) → AreCases P ws → IsCaseOfDoubt P w.doubt → AreCases P (ws ++ w ∷ [])
+cases_end : (P : Case → Type 0) (ws : List World) (w : World) → AreCases P ws → IsCaseOfDoubt P w.doubt
+    → AreCases P (ws ++ w ∷ [])
 cases_end P [] w are is = (is, tt)
 cases_end P (u ∷ us) w are is = (are.0, cases_end P us w are.1 is)
 
-worlds_end : (ws : List World) (w : World) → AllByRecursion IsWorld ws → IsWorld w → AllByRecursion IsWorld (ws ++ w ∷ [])
+worlds_end : (ws : List World) (w : World) → AllByRecursion IsWorld ws → IsWorld w
+    → AllByRecursion IsWorld (ws ++ w ∷ [])
 worlds_end [] w are is = (is, tt)
 worlds_end (u ∷ us) w are is = (are.0, worlds_end us w are.1 is)
 
 -- the doubt of the last world is one of the worlds', or that of the first
-case_last : (P : Case → Type 0) (w : World) (ws : List World) → IsCaseOfDoubt P w.doubt → AreCases P ws → IsCaseOfDoubt P (last_of w ws).doubt
+case_last : (P : Case → Type 0) (w : World) (ws : List World) → IsCaseOfDoubt P w.doubt → AreCases P ws
+    → IsCaseOfDoubt P (last_of w ws).doubt
 case_last P w [] is are = is
 case_last P w (u ∷ us) is are = case_last P u us are.0 are.1
 
 new_case : (P Q : Case → Type 0) (doubt doubt' : Option Doubt) → ((c : Case) → P c → Q c) → IsCaseOfDoubt P doubt
     → ((d : Doubt) → doubt' ≡ Some d → (doubt ≡ Some d) ⊎ Q d.case) → IsCaseOfDoubt Q doubt'
 new_case P Q doubt None more is new = tt
-new_case P Q doubt (Some d) more is new = ⊎_elim (λ same. more d.case (subst (λ x. IsCaseOfDoubt P x) same is)) (λ q. q) (new d refl)
+new_case P Q doubt (Some d) more is new = ⊎_elim (λ same. more d.case (subst (λ x. IsCaseOfDoubt P x) same is)) (λ q. q)
+    (new d refl)
 
 -- what was read since an earlier moment stays so
-read_on : (old now new : Medium) → Elapses old now → Elapses now new → (c : Case) → IsReadSince old now c → IsReadSince old new c
+read_on : (old now new : Medium) → Elapses old now → Elapses now new → (c : Case) → IsReadSince old now c
+    → IsReadSince old new c
 read_on old now new time later c was = later.gave.keeps old.moment c time.later was
 
 -- and what is read now counts
-read_now : (told : Bool) (old now new : Medium) → IsTrue told → IsLawful told new → Elapses old now → Elapses now new → (c : Case) → new.now c
+read_now : (told : Bool) (old now new : Medium) → IsTrue told → IsLawful told new → Elapses old now → Elapses now new
+    → (c : Case) → new.now c
     → c.left ≡ new.image → IsReadSince old new c
 read_now told old now new tells lawful time later c at left =
     lawful.gave_counts old.moment c (le_trans time.later later.later) (lawful.gives tells c at left)
 
 module _ (rules : List Rule) (answers : Answers) (entry start : World) (calm : start.doubt ≡ None) where
-  pub goes_on : (turns : List Turn) (e : Event) (reply : Reply) (memory memory' : Memory) (doubt : Option Doubt) (told : Bool) (old now new : Medium) → IsTrue told
+  pub goes_on : (turns : List Turn) (e : Event) (reply : Reply) (memory memory' : Memory) (doubt : Option Doubt)
+      (told : Bool) (old now new : Medium) → IsTrue told
       → IsLawful told new → Elapses now new → Going rules answers entry start turns memory doubt old now
       → (s : Stepped rules answers e reply memory memory' doubt now new)
-      → Going rules answers entry start (turns ++ record { event = e; reply = reply; faults = new.faults; world = world_of new.image memory' s.doubt' } ∷ []) memory' s.doubt' old new
+      → Going rules answers entry start (turns ++ record {
+        event = e;
+        reply = reply;
+        faults = new.faults;
+        world =
+            world_of new.image memory' s.doubt';
+      } ∷ []) memory' s.doubt' old new
   goes_on turns e reply memory memory' doubt told old now new tells lawful time going s =
       let w' : World = world_of new.image memory' s.doubt' in
       let t : Turn = record { event = e; reply = reply; faults = new.faults; world = w' } in
       record {
         eight = s.eight;
-        follow = follow_on rules answers start turns t going.follow (subst (λ w. StepsTo rules answers w e reply w') (sym going.last)
+        follow = follow_on rules answers start turns t going.follow
+            (subst (λ w. StepsTo rules answers w e reply w') (sym going.last)
             (steps_on rules answers (world_of now.image memory doubt) e reply w' now new s.step));
-        worlds = (going.worlds.0, subst (λ ws. AllByRecursion IsWorld ws) (sym (worlds_on turns t)) (worlds_end (worlds_of turns) w' going.worlds.1 s.world));
+        worlds = (
+          going.worlds.0,
+          subst (λ ws. AllByRecursion IsWorld ws) (sym (worlds_on turns t))
+              (worlds_end (worlds_of turns) w' going.worlds.1 s.world),
+        );
         last = subst (λ ws. last_of start ws ≡ w') (sym (worlds_on turns t)) (last_is start (worlds_of turns) w');
         cases = subst (λ ws. AreCases (IsReadSince old new) ws) (sym (worlds_on turns t))
             (cases_end (IsReadSince old new) (worlds_of turns) w'
-            (cases_more (IsReadSince old now) (IsReadSince old new) (worlds_of turns) (read_on old now new going.time time) going.cases)
+            (cases_more (IsReadSince old now) (IsReadSince old new) (worlds_of turns)
+            (read_on old now new going.time time) going.cases)
             (new_case (IsReadSince old now) (IsReadSince old new) doubt s.doubt' (read_on old now new going.time time)
             (subst (λ (w : World). IsCaseOfDoubt (IsReadSince old now) w.doubt) going.last
-            (case_last (IsReadSince old now) start (worlds_of turns) (subst (λ d. IsCaseOfDoubt (IsReadSince old now) d) (sym calm) tt) going.cases))
-            (λ d is. ⊎_elim (λ same. inl same) (λ at. inr (read_now told old now new tells lawful going.time time d.case at.0 at.1)) (s.case d is))));
+            (case_last (IsReadSince old now) start (worlds_of turns)
+            (subst (λ d. IsCaseOfDoubt (IsReadSince old now) d) (sym calm) tt) going.cases))
+            (λ d is. ⊎_elim (λ same. inl same) (λ at. inr (read_now told old now new tells lawful going.time time d.case
+            at.0 at.1)) (s.case d is))));
         quiet = s.quiet;
         stayed = λ quiet app lt clean sound.
-            let sound' : AreSoundDoubts app (worlds_of turns ++ w' ∷ []) = subst (λ ws. AreSoundDoubts app ws) (worlds_on turns t) sound in
+            let sound' : AreSoundDoubts app (worlds_of turns ++ w' ∷ []) =
+            subst (λ ws. AreSoundDoubts app ws) (worlds_on turns t) sound in
             subst (λ ws. Stayed app entry start ws old new) (sym (worlds_on turns t))
             (step_stays app entry start (worlds_of turns) w' old now new calm going.time time s.quiet
-            (λ d is. ⊎_elim (λ same. inl (ap (λ (w : World). w.doubt) going.last ∙ same)) (λ at. inr at.0) (s.case d is)) sound'
+            (λ d is. ⊎_elim (λ same. inl (ap (λ (w : World). w.doubt) going.last ∙ same)) (λ at. inr at.0)
+            (s.case d is)) sound'
             (subst (λ w. StepKeeps app w w' now new) (sym going.last) (s.keeps app lt))
             (going.stayed quiet app lt clean (sound_front app (worlds_of turns) w' sound')));
         time = elapses_on going.time time;
@@ -146,49 +189,64 @@ module _ (rules : List Rule) (answers : Answers) (entry start : World) (calm : s
 
   -- ---- the end of a run in which every command has ended
 
-  disk_of : (turns : List Turn) (memory : Memory) (doubt : Option Doubt) (old now : Medium) → Going rules answers entry start turns memory doubt old now → (app : ℕ) → app < 8
+  disk_of : (turns : List Turn) (memory : Memory) (doubt : Option Doubt) (old now : Medium)
+      → Going rules answers entry start turns memory doubt old now → (app : ℕ) → app < 8
       → app_at now.image app ≡ disk_at (disks (last_of start (worlds_of turns))) app
-  disk_of turns memory doubt old now going app lt = let less : app < length memory.apps = omega (arith, lt, going.eight) in
-      sym (ap (λ (w : World). disk_at (disks w) app) going.last ∙ (disk_there (app_at now.image) 0 memory.apps app less ∙ ap (app_at now.image) (omega arith)))
+  disk_of turns memory doubt old now going app lt = let less : app < length memory.apps =
+      omega (arith, lt, going.eight) in
+      sym (ap (λ (w : World). disk_at (disks w) app) going.last
+      ∙ (disk_there (app_at now.image) 0 memory.apps app less ∙ ap (app_at now.image) (omega arith)))
 
-  exit_moment : AppLaws → (app : ℕ) → app < 8 → (w : World) (d : Option Doubt) (m : Medium) → IsCleanApp app m.image → app_at m.image app ≡ disk_at (disks w) app
-      → (d ≡ None → Quiet m) → (IsInDoubt d → (c : Case) → m.now c → InDoubt app d c) → (c : Case) → m.now c → Between app (disks w) (disks w) c ⊎ InDoubt app d c
-  exit_moment laws app lt w None m clean is quiet calm' c at = inl (rests laws app lt (disks w) m clean is (quiet refl) c at)
+  exit_moment : AppLaws → (app : ℕ) → app < 8 → (w : World) (d : Option Doubt) (m : Medium) → IsCleanApp app m.image
+      → app_at m.image app ≡ disk_at (disks w) app
+      → (d ≡ None → Quiet m) → (IsInDoubt d → (c : Case) → m.now c → InDoubt app d c) → (c : Case) → m.now c
+      → Between app (disks w) (disks w) c ⊎ InDoubt app d c
+  exit_moment laws app lt w None m clean is quiet calm' c at =
+      inl (rests laws app lt (disks w) m clean is (quiet refl) c at)
   exit_moment laws app lt w (Some d) m clean is quiet calm' c at = inr (calm' tt c at)
 
   -- the start is the first stretch of the run
-  from_start : (app : ℕ) (worlds : List World) (next : Disks) (c : Case) → Between app (disks entry) (disks start) c ⊎ IsMomentOf app start worlds next c
+  from_start : (app : ℕ) (worlds : List World) (next : Disks) (c : Case)
+      → Between app (disks entry) (disks start) c ⊎ IsMomentOf app start worlds next c
       → IsMomentOf app entry (start ∷ worlds) next c
-  from_start app worlds next c m = ⊎_elim (λ b. inl (subst (λ d. AtMoment app (disks entry) (disks start) d c) (sym calm) b)) (λ x. inr x) m
+  from_start app worlds next c m = ⊎_elim (λ b. inl (subst (λ d. AtMoment app (disks entry) (disks start) d c)
+      (sym calm) b)) (λ x. inr x) m
 
   decided_start : (app : ℕ) → IsDecided app start.doubt
   decided_start app = subst (λ d. IsDecided app d) (sym calm) tt
 
-  pub ends_everywhen : AppLaws → (turns : List Turn) (memory : Memory) (doubt : Option Doubt) (old now : Medium) → Going rules answers entry start turns memory doubt old now
+  pub ends_everywhen : AppLaws → (turns : List Turn) (memory : Memory) (doubt : Option Doubt) (old now : Medium)
+      → Going rules answers entry start turns memory doubt old now
       → Everywhen entry (start ∷ worlds_of turns) (disks (last_of start (worlds_of turns))) old now
   ends_everywhen laws turns memory doubt old now going = record {
-    always = λ quiet app lt clean sound c s. from_start app (worlds_of turns) (disks (last_of start (worlds_of turns))) c
-        (end_stays app entry start (worlds_of turns) (disks (last_of start (worlds_of turns))) old now (going.stayed quiet app lt clean sound.1) c s);
+    always = λ quiet app lt clean sound c s. from_start app (worlds_of turns) (disks (last_of start (worlds_of turns)))
+        c
+        (end_stays app entry start (worlds_of turns) (disks (last_of start (worlds_of turns))) old now
+        (going.stayed quiet app lt clean sound.1) c s);
     at_exit = λ quiet app lt clean sound c at.
         let stayed : Stayed app entry start (worlds_of turns) old now = going.stayed quiet app lt clean sound.1 in
-        exit_moment laws app lt (last_of start (worlds_of turns)) (last_of start (worlds_of turns)).doubt now stayed.ready.clean
+        exit_moment laws app lt (last_of start (worlds_of turns)) (last_of start (worlds_of turns)).doubt now
+        stayed.ready.clean
         (disk_of turns memory doubt old now going app lt) stayed.ready.quiet stayed.calm c at;
     decided = λ quiet app lt clean sound. (decided_start app, (going.stayed quiet app lt clean sound.1).decided);
   }
 
-  pub ends_settled : (turns : List Turn) (memory : Memory) (doubt : Option Doubt) (old now : Medium) → Going rules answers entry start turns memory doubt old now
+  pub ends_settled : (turns : List Turn) (memory : Memory) (doubt : Option Doubt) (old now : Medium)
+      → Going rules answers entry start turns memory doubt old now
       → IsSettled (last_of start (worlds_of turns)) now
   unfolding world_at
   ends_settled turns memory doubt old now going = record {
     world = ap (λ (apps : List Application). record { now = 0; apps = apps; doubt = None })
-        (subst (λ n. all_resting (app_at now.image) 0 n ≡ map (λ (a : Application). resting a.disk) (with_disk (app_at now.image) 0 memory.apps)) going.eight (rest_there (app_at now.image) 0 memory.apps))
+        (subst (λ n. all_resting (app_at now.image) 0 n ≡ map (λ (a : Application). resting a.disk)
+        (with_disk (app_at now.image) 0 memory.apps)) going.eight (rest_there (app_at now.image) 0 memory.apps))
         ∙ ap closed (sym going.last);
     quiet = λ none. going.quiet (sym (ap (λ (w : World). w.doubt) going.last) ∙ none);
   }
 
   -- ---- the end of a run that stopped in a command
 
-  pub stops_everywhen : (turns : List Turn) (e : Event) (memory : Memory) (doubt : Option Doubt) (told : Bool) (old now new : Medium) → IsLawful told new → Elapses now new
+  pub stops_everywhen : (turns : List Turn) (e : Event) (memory : Memory) (doubt : Option Doubt) (told : Bool)
+      (old now new : Medium) → IsLawful told new → Elapses now new
       → Going rules answers entry start turns memory doubt old now → (s : Stopped rules answers e memory doubt now new)
       → Everywhen entry (start ∷ worlds_of turns) s.after old new
   stops_everywhen turns e memory doubt told old now new lawful time going s = record {
@@ -205,7 +263,8 @@ module _ (rules : List Rule) (answers : Answers) (entry start : World) (calm : s
       keeps : (app : ℕ) → app < 8 → StopKeeps app (last_of start (worlds_of turns)) s.after now new
       keeps app lt = subst (λ w. StopKeeps app w s.after now new) (sym going.last) (s.keeps app lt)
 
-      stayed : Quiet old → (app : ℕ) → app < 8 → IsCleanApp app old.image → AreSoundDoubts app (worlds_of turns) → Stayed app entry start (worlds_of turns) old now
+      stayed : Quiet old → (app : ℕ) → app < 8 → IsCleanApp app old.image → AreSoundDoubts app (worlds_of turns)
+          → Stayed app entry start (worlds_of turns) old now
       stayed quiet app lt clean sound = going.stayed quiet app lt clean sound
 
 -- ---- what a run promises of the disk
@@ -215,7 +274,8 @@ unfolding world_at
 start_calm m = refl
 
 -- the start is a run without a command
-pub starts_going : (rules : List Rule) (answers : Answers) (memory : Memory) (old new : Medium) → Elapses old new → Starts memory old new
+pub starts_going : (rules : List Rule) (answers : Answers) (memory : Memory) (old new : Medium) → Elapses old new
+    → Starts memory old new
     → Going rules answers (world_at old.image) (started (world_at old.image)) [] memory None old new
 starts_going rules answers memory old new time s = record {
   eight = s.eight;
@@ -224,23 +284,28 @@ starts_going rules answers memory old new time s = record {
   last = sym s.world;
   cases = tt;
   quiet = λ none. s.quiet;
-  stayed = λ quiet app lt clean sound. start_stays app (world_at old.image) (started (world_at old.image)) old new (start_calm old) (s.keeps quiet app lt clean)
+  stayed = λ quiet app lt clean sound. start_stays app (world_at old.image) (started (world_at old.image)) old new
+      (start_calm old) (s.keeps quiet app lt clean)
       (record { clean = s.clean app lt clean; quiet = λ none. s.quiet });
   time = time;
 }
 
 -- one command more
-pub steps_going : (rules : List Rule) (answers : Answers) (turns : List Turn) (e : Event) (reply : Reply) (memory memory' : Memory) (doubt : Option Doubt) (told : Bool)
+pub steps_going : (rules : List Rule) (answers : Answers) (turns : List Turn) (e : Event) (reply : Reply)
+    (memory memory' : Memory) (doubt : Option Doubt) (told : Bool)
     (old now new : Medium) → IsTrue told → IsLawful told new → Elapses now new
     → Going rules answers (world_at old.image) (started (world_at old.image)) turns memory doubt old now
     → (s : Stepped rules answers e reply memory memory' doubt now new)
     → Going rules answers (world_at old.image) (started (world_at old.image))
-    (turns ++ record { event = e; reply = reply; faults = new.faults; world = world_of new.image memory' s.doubt' } ∷ []) memory' s.doubt' old new
+    (turns ++ record { event = e; reply = reply; faults = new.faults; world = world_of new.image memory' s.doubt' }
+    ∷ []) memory' s.doubt' old new
 steps_going rules answers turns e reply memory memory' doubt told old now new tells lawful time going s =
-    goes_on rules answers (world_at old.image) (started (world_at old.image)) (start_calm old) turns e reply memory memory' doubt told old now new tells lawful time going s
+    goes_on rules answers (world_at old.image) (started (world_at old.image)) (start_calm old) turns e reply memory
+    memory' doubt told old now new tells lawful time going s
 
 -- a run that ended in its start
-pub start_disk : (rules : List Rule) (answers : Answers) (ending : Ending) (before after : Option (List ℕ)) (told : Bool) (old new : Medium) → IsLawful told new → Elapses old new
+pub start_disk : (rules : List Rule) (answers : Answers) (ending : Ending) (before after : Option (List ℕ))
+    (told : Bool) (old new : Medium) → IsLawful told new → Elapses old new
     → (HasStarted ending → ⊥) → StartKeeps old new → DiskSide rules answers ending [] [] [] before after old new
 start_disk rules answers how before after told old new lawful time open_end keeps = record {
   follow = tt;
@@ -252,45 +317,59 @@ start_disk rules answers how before after told old new lawful time open_end keep
   progress = starting open_end refl refl refl refl refl;
   everywhen = record {
     always = λ quiet app lt clean sound c s. inl (keeps quiet app lt clean c s);
-    at_exit = λ quiet app lt clean sound c at. inl (keeps quiet app lt clean c (lawful.counts_now old.moment c time.later at));
+    at_exit = λ quiet app lt clean sound c at. inl (keeps quiet app lt clean c
+        (lawful.counts_now old.moment c time.later at));
     decided = λ quiet app lt clean sound. tt;
   };
 }
 
 -- one where every command has ended
-pub ends_disk : AppLaws → (rules : List Rule) (answers : Answers) (ending : Ending) (lines all : List (List ℕ)) (turns : List Turn) (before after : Option (List ℕ))
-    (memory : Memory) (doubt : Option Doubt) (old now : Medium) → HasStarted ending → Going rules answers (world_at old.image) (started (world_at old.image)) turns memory doubt old now
+pub ends_disk : AppLaws → (rules : List Rule) (answers : Answers) (ending : Ending) (lines all : List (List ℕ))
+    (turns : List Turn) (before after : Option (List ℕ))
+    (memory : Memory) (doubt : Option Doubt) (old now : Medium) → HasStarted ending
+    → Going rules answers (world_at old.image) (started (world_at old.image)) turns memory doubt old now
     → DiskSide rules answers ending lines all turns before after old now
 ends_disk laws rules answers _ lines all turns before after memory doubt old now started_well going = record {
   follow = going.follow;
   worlds = going.worlds;
   cases = going.cases;
-  settled = λ over. ends_settled rules answers (world_at old.image) (started (world_at old.image)) (start_calm old) turns memory doubt old now going;
+  settled = λ over. ends_settled rules answers (world_at old.image) (started (world_at old.image)) (start_calm old)
+      turns memory doubt old now going;
   reached = started (world_at old.image) ∷ worlds_of turns;
   next = disks (last_of (started (world_at old.image)) (worlds_of turns));
   progress = between started_well refl refl;
-  everywhen = ends_everywhen rules answers (world_at old.image) (started (world_at old.image)) (start_calm old) laws turns memory doubt old now going;
+  everywhen = ends_everywhen rules answers (world_at old.image) (started (world_at old.image)) (start_calm old) laws
+      turns memory doubt old now going;
 }
 
 -- one that stopped in a command
-pub stops_disk : (rules : List Rule) (answers : Answers) (ending : Ending) (lines all others : List (List ℕ)) (text : List ℕ) (turns : List Turn) (before after : Option (List ℕ))
-    (e : Event) (memory : Memory) (doubt : Option Doubt) (told : Bool) (old now new : Medium) → IsLawful told new → Elapses now new → HasStarted ending
-    → (HasEnded ending → ⊥) → Appends before after (text_of turns) → all ≡ lines ++ text ∷ others → IsLine text (line.Event e) → Going rules answers (world_at old.image) (started (world_at old.image)) turns memory doubt old now
+pub stops_disk : (rules : List Rule) (answers : Answers) (ending : Ending) (lines all others : List (List ℕ))
+    (text : List ℕ) (turns : List Turn) (before after : Option (List ℕ))
+    (e : Event) (memory : Memory) (doubt : Option Doubt) (told : Bool) (old now new : Medium) → IsLawful told new
+    → Elapses now new → HasStarted ending
+    → (HasEnded ending → ⊥) → Appends before after (text_of turns) → all ≡ lines ++ text ∷ others
+    → IsLine text (line.Event e) → Going rules answers (world_at old.image) (started (world_at old.image)) turns
+    memory doubt old now
     → Stopped rules answers e memory doubt now new → DiskSide rules answers ending lines all turns before after old new
-stops_disk rules answers _ lines all others text turns before after e memory doubt told old now new lawful time started_well open_end wrote is_next spelled going s = record {
-  follow = going.follow;
-  worlds = going.worlds;
-  cases = cases_more (IsReadSince old now) (IsReadSince old new) (worlds_of turns) (read_on old now new going.time time) going.cases;
-  settled = λ over. absurd (open_end over);
-  reached = started (world_at old.image) ∷ worlds_of turns;
-  next = s.after;
-  progress = within started_well open_end wrote refl (record {
-    text = text;
-    others = others;
-    event = e;
-    is_next = is_next;
-    spelled = spelled;
-    leads = subst (λ w. Leads rules answers w e s.after) (sym going.last) s.leads;
-  });
-  everywhen = stops_everywhen rules answers (world_at old.image) (started (world_at old.image)) (start_calm old) turns e memory doubt told old now new lawful time going s;
-}
+stops_disk rules answers _ lines all others text turns before after e memory doubt told old now new lawful time
+    started_well open_end wrote is_next spelled going s = record {
+      follow = going.follow;
+      worlds = going.worlds;
+      cases = cases_more (IsReadSince old now) (IsReadSince old new) (worlds_of turns)
+          (read_on old now new going.time time)
+          going.cases;
+      settled = λ over. absurd (open_end over);
+      reached = started (world_at old.image) ∷ worlds_of turns;
+      next = s.after;
+      progress = within started_well open_end wrote refl (record {
+        text = text;
+        others = others;
+        event = e;
+        is_next = is_next;
+        spelled = spelled;
+        leads = subst (λ w. Leads rules answers w e s.after) (sym going.last) s.leads;
+      });
+      everywhen = stops_everywhen rules answers (world_at old.image) (started (world_at old.image)) (start_calm old)
+          turns e
+          memory doubt told old now new lawful time going s;
+    }

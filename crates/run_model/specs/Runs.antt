@@ -33,13 +33,15 @@ IsReadSince old new c = new.gave old.moment c
 
 -- ---- every moment
 
--- What a stop leaves of each application, for a run that reached these worlds one after another, with `next` in progress behind the last.
+-- What a stop leaves of each application, for a run that reached these worlds one after another, with `next` in
+-- progress behind the last.
 pub record Everywhen (entry : World) (reached : List World) (next : Disks) (old new : Medium) : Type 0 where
   -- each moment of the run, for each application whose places were clean at the start
   pub always : Quiet old → (app : ℕ) → app < 8 → IsCleanApp app old.image → AreSoundDoubts app reached
       → EachCase (IsMomentOf app entry reached next) old new
   -- what reads gave behind each command that failed stands between what lay there before it and what it leads to
-  pub decided : Quiet old → (app : ℕ) → app < 8 → IsCleanApp app old.image → AreSoundDoubts app reached → AreDecided app reached
+  pub decided : Quiet old → (app : ℕ) → app < 8 → IsCleanApp app old.image → AreSoundDoubts app reached
+      → AreDecided app reached
   -- and the moments of the exit
   pub at_exit : Quiet old → (app : ℕ) → app < 8 → IsCleanApp app old.image → AreSoundDoubts app reached
       → (c : Case) → new.now c → IsMomentOf app (last_of entry reached) [] next c
@@ -52,7 +54,8 @@ pub record IsSettled (w : World) (new : Medium) : Type 0 where
   pub quiet : w.doubt ≡ None → Quiet new
 
 -- a command in progress is that of the next line, and leads there
-pub record IsInProgress (rules : List Rule) (answers : Answers) (w : World) (lines all : List (List ℕ)) (next : Disks) : Type 0 where
+pub record IsInProgress (rules : List Rule) (answers : Answers) (w : World) (lines all : List (List ℕ))
+    (next : Disks) : Type 0 where
   pub text : List ℕ
   pub others : List (List ℕ)
   pub event : Event
@@ -60,22 +63,27 @@ pub record IsInProgress (rules : List Rule) (answers : Answers) (w : World) (lin
   pub spelled : IsLine text (line.Event event)
   pub leads : Leads rules answers w event next
 
--- How far a run came, through the commands that were answered, of the lines `all`: `reached` are the worlds, and `next` is what was in progress;
--- `before` and `now` are the bytes written.
-pub data Progress (rules : List Rule) (answers : Answers) (ending : Ending) (start : World) (lines all : List (List ℕ)) (turns : List Turn) (before now : Option (List ℕ))
+-- How far a run came, through the commands that were answered, of the lines `all`: `reached` are the worlds, and `next`
+-- is what was in progress; `before` and `now` are the bytes written.
+pub data Progress (rules : List Rule) (answers : Answers) (ending : Ending) (start : World) (lines all : List (List ℕ))
+    (turns : List Turn) (before now : Option (List ℕ))
     (reached : List World) (next : Disks) : Type 0 where
   -- the start did not end: no line was taken, and nothing was handled
   starting : (HasStarted ending → ⊥) → lines ≡ [] → all ≡ [] → turns ≡ [] → reached ≡ [] → next ≡ disks start
       → Progress rules answers ending start lines all turns before now reached next
   -- nothing is in progress
-  between : HasStarted ending → reached ≡ start ∷ worlds_of turns → next ≡ disks (last_of start (worlds_of turns)) → Progress rules answers ending start lines all turns before now reached next
+  between : HasStarted ending → reached ≡ start ∷ worlds_of turns → next ≡ disks (last_of start (worlds_of turns))
+      → Progress rules answers ending start lines all turns before now reached next
   -- the command of the next line is, and the text of every reply was written before it was begun
-  within : HasStarted ending → (HasEnded ending → ⊥) → Appends before now (text_of turns) → reached ≡ start ∷ worlds_of turns
-      → IsInProgress rules answers (last_of start (worlds_of turns)) lines all next → Progress rules answers ending start lines all turns before now reached next
+  within : HasStarted ending → (HasEnded ending → ⊥) → Appends before now (text_of turns)
+      → reached ≡ start ∷ worlds_of turns
+      → IsInProgress rules answers (last_of start (worlds_of turns)) lines all next
+      → Progress rules answers ending start lines all turns before now reached next
 
--- What a run promises of a disk that tells its bytes, for the lines that were handled, of the lines `all`, the commands that they gave, and
--- the bytes that were written before and now.
-pub record DiskSide (rules : List Rule) (answers : Answers) (ending : Ending) (lines all : List (List ℕ)) (turns : List Turn) (before now : Option (List ℕ)) (old new : Medium) : Type 0 where
+-- What a run promises of a disk that tells its bytes, for the lines that were handled, of the lines `all`, the commands
+-- that they gave, and the bytes that were written before and now.
+pub record DiskSide (rules : List Rule) (answers : Answers) (ending : Ending) (lines all : List (List ℕ))
+    (turns : List Turn) (before now : Option (List ℕ)) (old new : Medium) : Type 0 where
   -- each reply and each world is the specified one
   pub follow : Follow rules answers (started (world_at old.image)) turns
   pub worlds : AllByRecursion IsWorld (started (world_at old.image) ∷ worlds_of turns)
@@ -91,12 +99,15 @@ pub record DiskSide (rules : List Rule) (answers : Answers) (ending : Ending) (l
 
 -- ---- a run over accepted words
 
--- One course of lines, commands, replies and worlds serves all of it. Of the source and of the sink it takes how many of their calls failed.
-pub record Run (told : Bool) (rules : List Rule) (answers : Answers) (status : ℕ) (left_before left_now before now : Option (List ℕ))
+-- One course of lines, commands, replies and worlds serves all of it. Of the source and of the sink it takes how many
+-- of their calls failed.
+pub record Run (told : Bool) (rules : List Rule) (answers : Answers) (status : ℕ)
+    (left_before left_now before now : Option (List ℕ))
     (source_before source_now sink_before sink_now : ℕ) (old new : Medium) : Type 0 where
   pub ending : Ending
   pub status_is : status ≡ status_of ending
-  -- the bytes that the source gave, and whether its end was seen; behind as many as are allowed nobody looks for the end
+  -- the bytes that the source gave, and whether its end was seen; behind as many as are allowed nobody looks for the
+  -- end
   pub given : List ℕ
   pub taken : Consumes left_before left_now given
   pub bound : length given ≤ 67108864
@@ -108,8 +119,10 @@ pub record Run (told : Bool) (rules : List Rule) (answers : Answers) (status : �
   pub turns : List Turn
   pub gives : Give lines (events_of turns)
   pub ends : EndsBy ending lines (lines_of ended given) turns before now
-  -- also over a disk that tells nothing: what a failure has to do with the status and with each reply, and how time goes on
-  pub cause : HasCauseOf ending (record { disk = old.faults; source = source_before; sink = sink_before }) (record { disk = new.faults; source = source_now; sink = sink_now })
+  -- also over a disk that tells nothing: what a failure has to do with the status and with each reply, and how time
+  -- goes on
+  pub cause : HasCauseOf ending (record { disk = old.faults; source = source_before; sink = sink_before })
+      (record { disk = new.faults; source = source_now; sink = sink_now })
   pub blamed : AreBlamed old.faults turns new.faults
   pub time : Elapses old new
   pub disk : IsTrue told → DiskSide rules answers ending lines (lines_of ended given) turns before now old new

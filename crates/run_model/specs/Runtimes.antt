@@ -1,5 +1,7 @@
--- The runtime in memory, the world that it makes with what lies on the disk, and what its start and each of its commands promise.
-use Rattle.std.specs.Prelude.{◌≡◌, ◌⊎◌, ◌<◌, ◌+◌, ◌||◌, ◌&&◌, ℕ, List, [], ◌∷◌, length, not, Bool, true, false, Option, Some, None, Ok, is_some, ⊤}
+-- The runtime in memory, the world that it makes with what lies on the disk, and what its start and each of its
+-- commands promise.
+use Rattle.std.specs.Prelude.{◌≡◌, ◌⊎◌, ◌<◌, ◌+◌, ◌||◌, ◌&&◌, ℕ, List, [], ◌∷◌, length, not, Bool, true, false, Option}
+use Rattle.std.specs.Prelude.{Some, None, Ok, is_some, ⊤}
 use Rattle.per_base.specs.declared.errors.PerError.TheVariants as error
 use Rattle.disk_model.specs.Frame.{Spares, IsSettledOn}
 use Rattle.disk_model.specs.Image.{Image}
@@ -23,7 +25,8 @@ use Rattle.run_model.specs.Calls.{session_at}
 use Rattle.run_model.specs.Found.{Found, shape_in}
 use Rattle.run_model.specs.Lasting.{IsWorld}
 use Rattle.run_model.specs.Sessions.{Session, synced_of, seen_of}
-use Rattle.run_model.specs.Worlds.{Application, Stage, is_to_open, Sessions, Disks, Doubt, World, app_of, disks, world_at, started}
+use Rattle.run_model.specs.Worlds.{Application, Stage, is_to_open, Sessions, Disks, Doubt, World, app_of, disks}
+use Rattle.run_model.specs.Worlds.{world_at, started}
 use Rattle.run_model.specs.Steps.{Step, SyncFails, Fails, Leads, calls_device, found_named}
 use Rattle.run_model.specs.Moments.{Between, StepKeeps, StopKeeps}
 use Rattle.run_model.specs.Turns.{IsBlamed}
@@ -45,9 +48,11 @@ pub record Memory : Type 0 where
 
 abbrev pub with_disk : (ℕ → App) → ℕ → List Running → List Application
 with_disk disk app [] = []
-with_disk disk app (r ∷ rs) = record { disk = disk app; stage = r.stage; sessions = r.sessions } ∷ with_disk disk (app + 1) rs
+with_disk disk app (r ∷ rs) = record { disk = disk app; stage = r.stage; sessions = r.sessions }
+    ∷ with_disk disk (app + 1) rs
 
--- what lies on the disk is what its image stands for, and all else is in memory; only the sides of a doubt are in neither
+-- what lies on the disk is what its image stands for, and all else is in memory; only the sides of a doubt are in
+-- neither
 abbrev pub world_of : Image → Memory → Option Doubt → World
 world_of image memory doubt = record { now = memory.now; apps = with_disk (app_at image) 0 memory.apps; doubt = doubt }
 
@@ -57,7 +62,8 @@ IsDoubt memory doubt = is_some doubt ≡ memory.in_doubt
 
 -- ---- the start
 
--- at each moment each application stands between what it was and itself with its root mended, also where the start does not end
+-- at each moment each application stands between what it was and itself with its root mended, also where the start does
+-- not end
 abbrev pub StartKeeps : (old new : Medium) → Type 0
 StartKeeps old new = Quiet old → (app : ℕ) → app < 8 → IsCleanApp app old.image
     → EachCase (Between app (disks (world_at old.image)) (disks (started (world_at old.image)))) old new
@@ -78,11 +84,13 @@ abbrev pub IsElsewhere : Event → ℕ → Type 0
 IsElsewhere (event.Now t) file = ⊤
 IsElsewhere (event.App app c) file = IsNoFileOf app file
 
--- No file of another application changes, whatever its places hold: at the end, and in each case since the start, which leaves them as they
--- were. In a doubt, where something may still be pending, a case may also be one that might have come before the command.
+-- No file of another application changes, whatever its places hold: at the end, and in each case since the start, which
+-- leaves them as they were. In a doubt, where something may still be pending, a case may also be one that might have
+-- come before the command.
 pub record StaysAside (e : Event) (doubt : Option Doubt) (old new : Medium) : Type 0 where
   pub elsewhere : Spares (IsElsewhere e) old.image new.image
-  pub elsewhere_always : (doubt ≡ None → Quiet old) → EachCase (λ c. old.now c ⊎ IsSettledOn (IsElsewhere e) old.image c) old new
+  pub elsewhere_always : (doubt ≡ None → Quiet old) → EachCase
+      (λ c. old.now c ⊎ IsSettledOn (IsElsewhere e) old.image c) old new
 
 -- no byte is written, and reads give what they gave
 abbrev pub IsUnwritten : (old new : Medium) → Type 0
@@ -113,34 +121,42 @@ is_durable (call.Flush n h) = true
 is_durable (call.Close n) = true
 is_durable other = false
 
--- nothing where both maps are the same; and never more, in each copy, than the contents that are new or differ and the next index
+-- nothing where both maps are the same; and never more, in each copy, than the contents that are new or differ and the
+-- next index
 pub record WritesWithin (app : ℕ) (f : Found) (s : Session) (old new : Medium) : Type 0 where
   pub same : same_map (synced_of s) (seen_of s) ≡ true → new.written ≡ old.written
   pub at_most : (v : View) (others : List View) → f.state ≡ Opens v others
       → IsWithin (shape_in app f).place.copies (map_cost f.config.kind (synced_of s) (seen_of s))
-      (index_length f.config.kind (synced_view (shape_in app f) v (synced_of s) (seen_of s)).entries) old.written new.written
+      (index_length f.config.kind (synced_view (shape_in app f) v (synced_of s) (seen_of s)).entries) old.written
+      new.written
 
 -- however a call ends that is to make an open storage durable
 abbrev pub WrittenBy : World → Event → (old new : Medium) → Type 0
 WrittenBy w (event.Now t) old new = ⊤
-WrittenBy w (event.App app c) old new = is_durable c ≡ true → (f : Found) (s : Session) → found_named (app_of w app) c ≡ Some (Ok f)
+WrittenBy w (event.App app c) old new = is_durable c ≡ true → (f : Found) (s : Session)
+    → found_named (app_of w app) c ≡ Some (Ok f)
     → session_at (app_of w app) f.number ≡ Some s → WritesWithin app f s old new
 
 -- ---- one command
 
--- A step on this stretch of the disk: in a doubt no byte is written before the sync that is to end it, so one that failed only read.
+-- A step on this stretch of the disk: in a doubt no byte is written before the sync that is to end it, so one that
+-- failed only read.
 abbrev pub StepsOn : List Rule → Answers → World → Event → Reply → World → (old new : Medium) → Type 0
-StepsOn rules answers w e reply w' old new = Step rules answers w e reply w' ⊎ ((SyncFails w e reply w' × OnlyReads old new) ⊎ Fails rules answers w e reply w')
+StepsOn rules answers w e reply w' old new = Step rules answers w e reply w'
+    ⊎ ((SyncFails w e reply w' × OnlyReads old new) ⊎ Fails rules answers w e reply w')
 
--- A command that was answered: it leads from the world before it to one after it, and keeps each application at every moment. A doubt that is
--- new has a case of the disk, whose image is what reads now give.
-pub record Stepped (rules : List Rule) (answers : Answers) (e : Event) (reply : Reply) (old_memory new_memory : Memory) (doubt : Option Doubt) (old new : Medium) : Type 0 where
+-- A command that was answered: it leads from the world before it to one after it, and keeps each application at every
+-- moment. A doubt that is new has a case of the disk, whose image is what reads now give.
+pub record Stepped (rules : List Rule) (answers : Answers) (e : Event) (reply : Reply) (old_memory new_memory : Memory)
+    (doubt : Option Doubt) (old new : Medium) : Type 0 where
   pub eight : length new_memory.apps ≡ 8
   pub doubt' : Option Doubt
   pub is_doubt : IsDoubt new_memory doubt'
-  pub step : StepsOn rules answers (world_of old.image old_memory doubt) e reply (world_of new.image new_memory doubt') old new
+  pub step : StepsOn rules answers (world_of old.image old_memory doubt) e reply (world_of new.image new_memory doubt')
+      old new
   pub world : IsWorld (world_of new.image new_memory doubt')
-  pub keeps : (app : ℕ) → app < 8 → StepKeeps app (world_of old.image old_memory doubt) (world_of new.image new_memory doubt') old new
+  pub keeps : (app : ℕ) → app < 8 → StepKeeps app (world_of old.image old_memory doubt)
+      (world_of new.image new_memory doubt') old new
   pub case : (d : Doubt) → doubt' ≡ Some d → (doubt ≡ Some d) ⊎ (new.now d.case × (d.case.left ≡ new.image))
   pub quiet : doubt' ≡ None → Quiet new
   pub aside : StaysAside e doubt old new
@@ -150,7 +166,8 @@ pub record Stepped (rules : List Rule) (answers : Answers) (e : Event) (reply : 
   pub blamed : IsBlamed old.faults new.faults reply
 
 -- A command for which memory ran out: it is in progress.
-pub record Stopped (rules : List Rule) (answers : Answers) (e : Event) (memory : Memory) (doubt : Option Doubt) (old new : Medium) : Type 0 where
+pub record Stopped (rules : List Rule) (answers : Answers) (e : Event) (memory : Memory) (doubt : Option Doubt)
+    (old new : Medium) : Type 0 where
   pub after : Disks
   pub leads : Leads rules answers (world_of old.image memory doubt) e after
   pub keeps : (app : ℕ) → app < 8 → StopKeeps app (world_of old.image memory doubt) after old new

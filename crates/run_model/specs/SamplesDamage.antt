@@ -10,7 +10,8 @@ use Rattle.element_state.specs.declared.shapes.View.{View}
 use Rattle.element_state.specs.States.{State, Opens, Corrupt}
 use Rattle.command_text.specs.declared.calls.Call.TheVariants as call
 use Rattle.deploy_rows.specs.Rows.{installed_app}
-use Rattle.run_model.specs.Samples.{computed, replies, world_after, on, fav, home, home_key, key_storage, set_home, in_copies, with_installed}
+use Rattle.run_model.specs.Samples.{computed, replies, world_after, on, fav, home, home_key, key_storage, set_home}
+use Rattle.run_model.specs.Samples.{in_copies, with_installed}
 use Rattle.run_model.specs.Worlds.{World, resting, app_of, with_app, formatted, closed, started}
 
 -- a deployment of one storage
@@ -29,7 +30,8 @@ found_so d state = with_app formatted 0 (resting (record (installed_app 1 0 d) {
 
 -- what was recovered and synchronised is there in the next run, and nothing is reported
 salvaged_key_stays : replies (started (closed (world_after (in_copies (Bad (Some (3 ∷ 9 ∷ 0 ∷ []))) (1 ∷ 2 ∷ []))
-    (on (call.OpenKvs fav) ∷ on (call.RecoverKey fav home) ∷ on (call.Sync fav) ∷ [])))) (on (call.OpenKvs fav) ∷ on (call.Get fav home) ∷ [])
+    (on (call.OpenKvs fav) ∷ on (call.RecoverKey fav home) ∷ on (call.Sync fav) ∷ []))))
+    (on (call.OpenKvs fav) ∷ on (call.Get fav home) ∷ [])
     ≡ codes "ok\nvalue u16:9\n"
 unfolding computed
 salvaged_key_stays = refl
@@ -53,13 +55,15 @@ two_keys of_home of_work lacking = Opens (record {
 }) []
 
 -- what a sync leaves
-two_keys_synced : states_in (world_after (with_installed formatted 0 0 in_three) (on (call.OpenKvs fav) ∷ on (call.Set fav work (unsigned_tree one 1)) ∷ on (call.Sync fav) ∷ []))
+two_keys_synced : states_in (world_after (with_installed formatted 0 0 in_three)
+    (on (call.OpenKvs fav) ∷ on (call.Set fav work (unsigned_tree one 1)) ∷ on (call.Sync fav) ∷ []))
     ≡ two_keys (Good (3 ∷ 1 ∷ 2 ∷ [])) (Good (2 ∷ 1 ∷ [])) [] ∷ []
 unfolding computed
 two_keys_synced = refl
 
 -- A key without a copy goes where it has no initial value, and else becomes that.
-no_copy_left : replies (found_so in_three (two_keys (Bad None) (Bad None) (1 ∷ 2 ∷ 3 ∷ []))) (on (call.OpenKvs fav) ∷ on (call.RecoverKey fav work) ∷ on (call.Exists fav work)
+no_copy_left : replies (found_so in_three (two_keys (Bad None) (Bad None) (1 ∷ 2 ∷ 3 ∷ [])))
+    (on (call.OpenKvs fav) ∷ on (call.RecoverKey fav work) ∷ on (call.Exists fav work)
     ∷ on (call.RecoverKey fav home) ∷ on (call.Get fav home) ∷ [])
     ≡ codes "report key-failed fav:home 1,2,3\nreport key-failed fav:work 1,2,3\nok\nok\nno\nok\nvalue u16:513\n"
 unfolding computed
@@ -79,16 +83,20 @@ whole_view content lacking = record {
   entries = record { name = home; info = None; changed = 2; len = 3; content = content; lacking = lacking } ∷ [];
 }
 
-whole_synced : states_in (world_after (with_installed formatted 0 0 as_a_whole) (on (call.OpenKvs fav) ∷ set_home 9 ∷ on (call.Sync fav) ∷ [])) ≡ Opens (whole_view (Good (3 ∷ 9 ∷ 0 ∷ [])) []) [] ∷ []
+whole_synced : states_in (world_after (with_installed formatted 0 0 as_a_whole)
+    (on (call.OpenKvs fav) ∷ set_home 9 ∷ on (call.Sync fav) ∷ []))
+    ≡ Opens (whole_view (Good (3 ∷ 9 ∷ 0 ∷ [])) []) [] ∷ []
 unfolding computed
 whole_synced = refl
 
-one_whole_copy_mended : replies (found_so as_a_whole (Opens (whole_view (Good (3 ∷ 9 ∷ 0 ∷ [])) (1 ∷ [])) [])) (on (call.OpenKvs fav) ∷ []) ≡ codes "report kvs-recovered fav 1\nok\n"
+one_whole_copy_mended : replies (found_so as_a_whole (Opens (whole_view (Good (3 ∷ 9 ∷ 0 ∷ [])) (1 ∷ [])) []))
+    (on (call.OpenKvs fav) ∷ []) ≡ codes "report kvs-recovered fav 1\nok\n"
 unfolding computed
 one_whole_copy_mended = refl
 
 -- with two copies lost the storage is corrupt, and the third is its salvage
-one_whole_copy_left : replies (found_so as_a_whole (Corrupt (Some (whole_view (Bad (Some (3 ∷ 9 ∷ 0 ∷ []))) (1 ∷ 2 ∷ []))) []))
+one_whole_copy_left : replies (found_so as_a_whole (Corrupt
+    (Some (whole_view (Bad (Some (3 ∷ 9 ∷ 0 ∷ []))) (1 ∷ 2 ∷ []))) []))
     (on (call.OpenKvs fav) ∷ on (call.RecoverStorage fav) ∷ on (call.OpenKvs fav) ∷ on (call.Get fav home) ∷ [])
     ≡ codes "report kvs-failed fav 1,2,3\nerror 5 IntegrityCorrupted fav\nok\nok\nvalue u16:9\n"
 unfolding computed

@@ -1,4 +1,5 @@
--- Open storages, and the calls on them that touch no disk: of each the answer, or the refusal, and the session after it.
+-- Open storages, and the calls on them that touch no disk: of each the answer, or the refusal, and the session after
+-- it.
 use Rattle.std.specs.Prelude.{ℕ, [], Result, Ok, Err}
 use Rattle.per_base.specs.declared.elements.StoreKind.{StoreKind}
 use Rattle.per_base.specs.declared.elements.StoreKind.TheVariants as kinds
@@ -47,7 +48,11 @@ seen_in kinds.Files v = map_of v
 -- the session of a storage that was seen so: nothing is pending, and no handle is open
 abbrev pub session_of : StoreKind → View → Session
 session_of kinds.Keys v = keys (record { synced = seen_in kinds.Keys v; visible = seen_in kinds.Keys v })
-session_of kinds.Files v = files (record { synced = seen_in kinds.Files v; working = record { files = seen_in kinds.Files v; handles = [] } })
+session_of kinds.Files v = files (record {
+  synced = seen_in kinds.Files v;
+  working =
+      record { files = seen_in kinds.Files v; handles = [] };
+})
 
 -- an answer, and the session after it
 abbrev pub Answered : Type 0 → Type 0

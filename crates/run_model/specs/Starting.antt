@@ -1,4 +1,5 @@
--- The start: the roots are opened one after another, and at every moment each application stands between what it was and itself with its root mended.
+-- The start: the roots are opened one after another, and at every moment each application stands between what it was
+-- and itself with its root mended.
 use Rattle.std.specs.Prelude.{◌≡◌, ◌≢◌, ◌⊎◌, ◌<◌, ◌≤◌, ◌+◌, ℕ, zero, suc, map, true, false, nat_lt}
 use Rattle.std.proofs.Common.{refl, sym, ap, ◌∙◌, subst, le_refl, inl, inr, ⊎_elim, arith, eq-or-lt_of_le}
 use Rattle.std.proofs.lemmas.Bool.{cases_Bool}
@@ -19,29 +20,35 @@ use Rattle.run_model.specs.Worlds.{Application, disks, disk_at, all_resting, wor
 
 -- ---- the worlds of the start
 
-entry_disk : (f : ℕ → App) (app n i : ℕ) → i < n → disk_at (map (λ (a : Application). a.disk) (all_resting f app n)) i ≡ f (app + i)
+entry_disk : (f : ℕ → App) (app n i : ℕ) → i < n → disk_at (map (λ (a : Application). a.disk) (all_resting f app n)) i
+    ≡ f (app + i)
 entry_disk f app zero i lt = absurd (omega (arith, lt))
 entry_disk f app (suc n) zero lt = ap f (omega arith)
-entry_disk f app (suc n) (suc i) lt = let less : i < n = omega (arith, lt) in entry_disk f (app + 1) n i less ∙ ap f (omega arith)
+entry_disk f app (suc n) (suc i) lt = let less : i < n =
+    omega (arith, lt) in entry_disk f (app + 1) n i less ∙ ap f (omega arith)
 
 start_disk : (f : ℕ → App) (app n i : ℕ) → i < n
-    → disk_at (map (λ (a : Application). a.disk) (map (λ (a : Application). record a { disk = reopened a.disk }) (all_resting f app n))) i ≡ reopened (f (app + i))
+    → disk_at (map (λ (a : Application). a.disk) (map (λ (a : Application). record a { disk = reopened a.disk })
+    (all_resting f app n))) i ≡ reopened (f (app + i))
 start_disk f app zero i lt = absurd (omega (arith, lt))
 start_disk f app (suc n) zero lt = ap (λ (k : ℕ). reopened (f k)) (omega arith)
-start_disk f app (suc n) (suc i) lt = let less : i < n = omega (arith, lt) in start_disk f (app + 1) n i less ∙ ap (λ (k : ℕ). reopened (f k)) (omega arith)
+start_disk f app (suc n) (suc i) lt = let less : i < n =
+    omega (arith, lt) in start_disk f (app + 1) n i less ∙ ap (λ (k : ℕ). reopened (f k)) (omega arith)
 
 pub at_entry : (image : Image) (b : ℕ) → b < 8 → disk_at (disks (world_at image)) b ≡ app_at image b
 unfolding world_at
 at_entry image b lt = entry_disk (app_at image) 0 8 b lt ∙ ap (app_at image) (omega arith)
 
-pub at_start : (image : Image) (b : ℕ) → b < 8 → disk_at (disks (started (world_at image))) b ≡ reopened (app_at image b)
+pub at_start : (image : Image) (b : ℕ) → b < 8 → disk_at (disks (started (world_at image))) b
+    ≡ reopened (app_at image b)
 unfolding world_at
 at_start image b lt = start_disk (app_at image) 0 8 b lt ∙ ap (λ (k : ℕ). reopened (app_at image k)) (omega arith)
 
 -- ---- the roots below this number are opened
 
 pub record Opened (count : ℕ) (old now : Medium) : Type 0 where
-  pub moments : Quiet old → (b : ℕ) → b < 8 → IsCleanApp b old.image → EachCase (StandsCase b (app_at old.image b) (reopened (app_at old.image b))) old now
+  pub moments : Quiet old → (b : ℕ) → b < 8 → IsCleanApp b old.image
+      → EachCase (StandsCase b (app_at old.image b) (reopened (app_at old.image b))) old now
   pub opened : (b : ℕ) → b < count → b < 8 → app_at now.image b ≡ reopened (app_at old.image b)
   pub closed : (b : ℕ) → count ≤ b → b < 8 → app_at now.image b ≡ app_at old.image b
   pub clean : (b : ℕ) → b < 8 → IsCleanApp b old.image → IsCleanApp b now.image
@@ -63,10 +70,12 @@ strictly a b le differs = ⊎_elim (λ (e : b ≡ a). absurd (differs (sym e))) 
 
 pub which : (a b : ℕ) → (a ≡ b) ⊎ (a ≢ b)
 which a b = ⊎_elim (λ less. inr (λ e. omega (arith, less, e)))
-    (λ le. ⊎_elim (λ (e : b ≡ a). inl (sym e)) (λ less. inr (λ e. omega (arith, less, e))) (eq-or-lt_of_le le)) (below_or a b)
+    (λ le. ⊎_elim (λ (e : b ≡ a). inl (sym e)) (λ less. inr (λ e. omega (arith, less, e))) (eq-or-lt_of_le le))
+    (below_or a b)
 
 -- one root more
-pub open_next : AppLaws → (a : ℕ) (old now new : Medium) → a < 8 → Opened a old now → OpensRoot a now new → Opened (a + 1) old new
+pub open_next : AppLaws → (a : ℕ) (old now new : Medium) → a < 8 → Opened a old now → OpensRoot a now new
+    → Opened (a + 1) old new
 open_next laws a old now new lta o r = record {
   moments = λ quiet b lt clean c s. ⊎_elim
       (λ was. o.moments quiet b lt clean c was)
@@ -83,25 +92,37 @@ open_next laws a old now new lta o r = record {
     elsewhere b lt differs = (laws.others a b now.image new.image lt differs r.elsewhere).0
 
     opened : (b : ℕ) → b < a + 1 → b < 8 → (a ≡ b) ⊎ (a ≢ b) → app_at new.image b ≡ reopened (app_at old.image b)
-    opened b below lt (inl e) = subst (λ (n : ℕ). app_at new.image n ≡ reopened (app_at old.image n)) e (r.app ∙ ap reopened (o.closed a (le_refl a) lta))
-    opened b below lt (inr differs) = elsewhere b lt differs ∙ o.opened b (strictly a b (omega (arith, below)) differs) lt
+    opened b below lt (inl e) = subst (λ (n : ℕ). app_at new.image n ≡ reopened (app_at old.image n)) e
+        (r.app ∙ ap reopened (o.closed a (le_refl a) lta))
+    opened b below lt (inr differs) = elsewhere b lt differs
+        ∙ o.opened b (strictly a b (omega (arith, below)) differs) lt
 
     clean_on : (b : ℕ) → b < 8 → IsCleanApp b old.image → (a ≡ b) ⊎ (a ≢ b) → IsCleanApp b new.image
-    clean_on b lt clean (inl e) = subst (λ (n : ℕ). IsCleanApp n new.image) e (r.clean (o.clean a lta (subst (λ (n : ℕ). IsCleanApp n old.image) (sym e) clean)))
-    clean_on b lt clean (inr differs) = (laws.others a b now.image new.image lt differs r.elsewhere).1 (o.clean b lt clean)
+    clean_on b lt clean (inl e) = subst (λ (n : ℕ). IsCleanApp n new.image) e
+        (r.clean (o.clean a lta (subst (λ (n : ℕ). IsCleanApp n old.image) (sym e) clean)))
+    clean_on b lt clean (inr differs) = (laws.others a b now.image new.image lt differs r.elsewhere).1
+        (o.clean b lt clean)
 
     -- before its turn an application is as it was, on its way to its mended root; behind it, it rests so
-    rest : (b : ℕ) → b < 8 → IsCleanApp b now.image → a ≢ b → (c : Case) → IsSettledOn (IsFileOf b) now.image c → (b < a) ⊎ (a ≤ b) → StandsCase b (app_at old.image b) (reopened (app_at old.image b)) c
-    rest b lt clean differs c s (inl below) = λ is_sound damaged image decays. laws.mend b image damaged (app_at old.image b) (reopened (app_at old.image b))
-        ((subst (λ x. StandsCase b x x c) (o.opened b below lt) (laws.still b now.image (app_at now.image b) c lt clean s (is_same (app_at now.image b)))) is_sound damaged image decays)
+    rest : (b : ℕ) → b < 8 → IsCleanApp b now.image → a ≢ b → (c : Case) → IsSettledOn (IsFileOf b) now.image c
+        → (b < a) ⊎ (a ≤ b) → StandsCase b (app_at old.image b) (reopened (app_at old.image b)) c
+    rest b lt clean differs c s (inl below) = λ is_sound damaged image decays.
+        laws.mend b image damaged (app_at old.image b) (reopened (app_at old.image b))
+        ((subst (λ x. StandsCase b x x c) (o.opened b below lt)
+        (laws.still b now.image (app_at now.image b) c lt clean s (is_same (app_at now.image b)))) is_sound
+        damaged image decays)
     rest b lt clean differs c s (inr above) = subst (λ x. StandsCase b x (reopened x) c) (o.closed b above lt)
         (laws.still b now.image (reopened (app_at now.image b)) c lt clean s (is_reopened (app_at now.image b)))
 
-    here : Quiet old → (b : ℕ) → b < 8 → IsCleanApp b old.image → (c : Case) → new.since now.moment c → (a ≡ b) ⊎ (a ≢ b) → StandsCase b (app_at old.image b) (reopened (app_at old.image b)) c
-    here quiet b lt clean c at (inl e) = subst (λ (n : ℕ). StandsCase n (app_at old.image n) (reopened (app_at old.image n)) c) e
+    here : Quiet old → (b : ℕ) → b < 8 → IsCleanApp b old.image → (c : Case) → new.since now.moment c
+        → (a ≡ b) ⊎ (a ≢ b) → StandsCase b (app_at old.image b) (reopened (app_at old.image b)) c
+    here quiet b lt clean c at (inl e) = subst (λ (n : ℕ).
+        StandsCase n (app_at old.image n) (reopened (app_at old.image n)) c) e
         (subst (λ x. StandsCase a x (reopened x) c) (o.closed a (le_refl a) lta)
-        (r.any_moment o.quiet (o.clean a lta (subst (λ (n : ℕ). IsCleanApp n old.image) (sym e) clean)) (reopened (app_at now.image a)) (is_reopened (app_at now.image a)) c at))
-    here quiet b lt clean c at (inr differs) = rest b lt (o.clean b lt clean) differs c (laws.others_case a b now.image c differs (r.outside o.quiet c at)) (below_or b a)
+        (r.any_moment o.quiet (o.clean a lta (subst (λ (n : ℕ). IsCleanApp n old.image) (sym e) clean))
+        (reopened (app_at now.image a)) (is_reopened (app_at now.image a)) c at))
+    here quiet b lt clean c at (inr differs) = rest b lt (o.clean b lt clean) differs c
+        (laws.others_case a b now.image c differs (r.outside o.quiet c at)) (below_or b a)
 
 -- ---- the start as a whole
 
@@ -109,7 +130,8 @@ open_next laws a old now new lta o r = record {
 pub open_none : AppLaws → (old now : Medium) → Elapses old now → now.image ≡ old.image → Quiet now
     → (Quiet old → IsIdle old now) → Opened 0 old now
 open_none laws old now time same quiet idle = record {
-  moments = λ was b lt clean c s. laws.still b old.image (reopened (app_at old.image b)) c lt clean (settled_on (IsFileOf b) old.image c ((idle was).during c s)) (is_reopened (app_at old.image b));
+  moments = λ was b lt clean c s. laws.still b old.image (reopened (app_at old.image b)) c lt clean
+      (settled_on (IsFileOf b) old.image c ((idle was).during c s)) (is_reopened (app_at old.image b));
   opened = λ b below lt. absurd (omega (arith, below));
   closed = λ b above lt. ap (λ (i : Image). app_at i b) same;
   clean = λ b lt clean. subst (λ i. IsCleanApp b i) (sym same) clean;
@@ -120,5 +142,7 @@ open_none laws old now time same quiet idle = record {
 -- with all eight opened, the start is what a run begins with
 pub opened_keeps : (old now : Medium) → Opened 8 old now → Quiet old → (b : ℕ) → b < 8 → IsCleanApp b old.image
     → EachCase (Between b (disks (world_at old.image)) (disks (started (world_at old.image)))) old now
-opened_keeps old now o quiet b lt clean c s = subst (λ x. StandsCase b x (disk_at (disks (started (world_at old.image))) b) c) (sym (at_entry old.image b lt))
-    (subst (λ y. StandsCase b (app_at old.image b) y c) (sym (at_start old.image b lt)) (o.moments quiet b lt clean c s))
+opened_keeps old now o quiet b lt clean c s = subst (λ x.
+    StandsCase b x (disk_at (disks (started (world_at old.image))) b) c) (sym (at_entry old.image b lt))
+    (subst (λ y. StandsCase b (app_at old.image b) y c) (sym (at_start old.image b lt))
+    (o.moments quiet b lt clean c s))

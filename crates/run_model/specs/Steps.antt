@@ -1,5 +1,6 @@
 -- One command: its reply, and the world after it.
-use Rattle.std.specs.Prelude.{◌≡◌, ◌⊎◌, ℕ, List, [], Bool, true, false, cond, ◌&&◌, ◌||◌, Option, Some, None, Result, Ok, Err, option_map, is_some, is_none, is_ok, IsTrue}
+use Rattle.std.specs.Prelude.{◌≡◌, ◌⊎◌, ℕ, List, [], Bool, true, false, cond, ◌&&◌, ◌||◌, Option, Some, None, Result}
+use Rattle.std.specs.Prelude.{Ok, Err, option_map, is_some, is_none, is_ok, IsTrue}
 use Rattle.per_base.specs.declared.elements.StoreKind.TheVariants as kinds
 use Rattle.per_base.specs.declared.errors.PerError.{PerError}
 use Rattle.per_base.specs.declared.errors.PerError.TheVariants as error
@@ -14,8 +15,10 @@ use Rattle.command_text.specs.declared.replies.Reply.{Reply}
 use Rattle.deploy_laws.specs.Apps.{App, app_at}
 use Rattle.deploy_rows.specs.Rows.{◌>>=◌, reopened, offered}
 use Rattle.run_model.specs.Found.{Found, storage_in}
-use Rattle.run_model.specs.Calls.{Outcome, StepBeside, without_session, unless_open, local_on, least_open, beside_update, app_step}
-use Rattle.run_model.specs.Worlds.{Application, none_open, to_open, at_rest, is_to_open, update_in, Disks, Doubt, World, world_at, closed, disks, app_of, with_app, without_doubt}
+use Rattle.run_model.specs.Calls.{Outcome, StepBeside, without_session, unless_open, local_on, least_open}
+use Rattle.run_model.specs.Calls.{beside_update, app_step}
+use Rattle.run_model.specs.Worlds.{Application, none_open, to_open, at_rest, is_to_open, update_in, Disks, Doubt, World}
+use Rattle.run_model.specs.Worlds.{world_at, closed, disks, app_of, with_app, without_doubt}
 
 -- ---- the step of an application whose device does not fail
 
@@ -24,7 +27,8 @@ abbrev pub root_opened : Application → Application
 root_opened r = cond (is_to_open r.stage) (record r { disk = reopened r.disk; stage = at_rest }) r
 
 abbrev pub AppStep : List Rule → Answers → (app now : ℕ) → Application → Call → Outcome → Type 0
-AppStep rules answers app now r c outcome = StepBeside rules answers app now (root_opened r) c (beside_update (update_in (root_opened r).stage) c) outcome
+AppStep rules answers app now r c outcome = StepBeside rules answers app now (root_opened r) c
+    (beside_update (update_in (root_opened r).stage) c) outcome
 
 -- ---- which commands call the device
 
@@ -48,8 +52,10 @@ doubt_after false doubt = doubt
 
 -- The command takes the world w to w' with this reply; all other applications stay.
 abbrev pub Step : List Rule → Answers → World → Event → Reply → World → Type 0
-Step rules answers w (event.Now t) reply w' = (reply ≡ record { reports = []; answer = answer.Done }) × (w' ≡ record w { now = t })
-Step rules answers w (event.App app c) reply w' = (outcome : Outcome) × AppStep rules answers app w.now (app_of w app) c outcome × (reply ≡ outcome.0)
+Step rules answers w (event.Now t) reply w' = (reply ≡ record { reports = []; answer = answer.Done })
+    × (w' ≡ record w { now = t })
+Step rules answers w (event.App app c) reply w' = (outcome : Outcome)
+    × AppStep rules answers app w.now (app_of w app) c outcome × (reply ≡ outcome.0)
     × (w' ≡ record (with_app w app outcome.1) { doubt = doubt_after (calls_device (app_of w app) c) w.doubt })
 
 -- ---- a device that fails
@@ -60,7 +66,8 @@ failure = record { reports = []; answer = answer.Error error.PhysicalStorageFail
 -- it fails in the sync that was to end the doubt: nothing changes
 abbrev pub SyncFails : World → Event → Reply → World → Type 0
 SyncFails w (event.Now t) reply w' = ⊥
-SyncFails w (event.App app c) reply w' = IsTrue (calls_device (app_of w app) c && is_some w.doubt) × (reply ≡ failure) × (w' ≡ w)
+SyncFails w (event.App app c) reply w' = IsTrue (calls_device (app_of w app) c && is_some w.doubt) × (reply ≡ failure)
+    × (w' ≡ w)
 
 -- the storage that a command works on, of those that call the device
 abbrev pub storage_named : Call → Option (List ℕ)
@@ -76,8 +83,8 @@ storage_named other = None
 abbrev pub found_named : Application → Call → Option (Result Found PerError)
 found_named r c = option_map (λ n. storage_in r.disk n None) (storage_named c)
 
--- A failure in a storage that is named ends its session. Any other, and one in opening the root, ends all sessions and the update, and the
--- root is to be opened again. What lies on the disk is what reads then give.
+-- A failure in a storage that is named ends its session. Any other, and one in opening the root, ends all sessions and
+-- the update, and the root is to be opened again. What lies on the disk is what reads then give.
 abbrev pub after_failure : App → Application → Option (Result Found PerError) → Application
 after_failure a r None = record { disk = a; stage = to_open; sessions = none_open }
 after_failure a r (Some (Err e)) = record r { disk = a }
@@ -93,27 +100,33 @@ goes_on app r now other = is_ok (app_step app r now other)
 
 -- it reaches the device by itself
 abbrev pub reaches_device : (app : ℕ) → Application → (now : ℕ) → Call → Bool
-reaches_device app r now c = uses_device r.disk c && is_none (beside_update (update_in r.stage) c) && goes_on app r now c
+reaches_device app r now c = uses_device r.disk c && is_none (beside_update (update_in r.stage) c)
+    && goes_on app r now c
 
 -- it fails in opening the root, or in the call itself
 abbrev pub FailsAs : (app now : ℕ) → App → Application → Call → Application → Type 0
 FailsAs app now a r c r' = (IsTrue (is_to_open r.stage) × (r' ≡ after_failure a r None))
-    ⊎ (IsTrue (reaches_device app (root_opened r) now c) × (r' ≡ after_failure a (root_opened r) (found_named (root_opened r) c)))
+    ⊎ (IsTrue (reaches_device app (root_opened r) now c)
+    × (r' ≡ after_failure a (root_opened r) (found_named (root_opened r) c)))
 
 -- what lies on the disk after a command that is in progress: what it leads to, or what lay there before
 abbrev pub Leads : List Rule → Answers → World → Event → Disks → Type 0
-Leads rules answers w e ds = (ds ≡ disks w) ⊎ ((reply : Reply) × (w' : World) × Step rules answers (without_doubt w) e reply w' × (ds ≡ disks w'))
+Leads rules answers w e ds = (ds ≡ disks w) ⊎ ((reply : Reply) × (w' : World)
+    × Step rules answers (without_doubt w) e reply w' × (ds ≡ disks w'))
 
--- The device failed elsewhere. The doubt is between what lay on the disk before and what the command leads to, with a case of the disk whose
--- image is what reads then give; what lies on the disk is what that image stands for.
+-- The device failed elsewhere. The doubt is between what lay on the disk before and what the command leads to, with a
+-- case of the disk whose image is what reads then give; what lies on the disk is what that image stands for.
 abbrev pub Fails : List Rule → Answers → World → Event → Reply → World → Type 0
 Fails rules answers w (event.Now t) reply w' = ⊥
 Fails rules answers w (event.App app c) reply w' = (r' : Application) × (after : Disks) × (read : Case)
-    × FailsAs app w.now (app_at read.left app) (app_of w app) c r' × Leads rules answers w (event.App app c) after × (reply ≡ failure)
-    × (w' ≡ record (with_app w app r') { doubt = Some (record { before = disks w; after = after; case = read }) }) × (world_at read.left ≡ closed w')
+    × FailsAs app w.now (app_at read.left app) (app_of w app) c r' × Leads rules answers w (event.App app c) after
+    × (reply ≡ failure)
+    × (w' ≡ record (with_app w app r') { doubt = Some (record { before = disks w; after = after; case = read }) })
+    × (world_at read.left ≡ closed w')
 
 -- ---- a step
 
 -- The command is answered so, and leads there: as an ordinary step, or as one whose device failed.
 abbrev pub StepsTo : List Rule → Answers → World → Event → Reply → World → Type 0
-StepsTo rules answers w e reply w' = Step rules answers w e reply w' ⊎ (SyncFails w e reply w' ⊎ Fails rules answers w e reply w')
+StepsTo rules answers w e reply w' = Step rules answers w e reply w'
+    ⊎ (SyncFails w e reply w' ⊎ Fails rules answers w e reply w')

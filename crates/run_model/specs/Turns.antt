@@ -39,7 +39,8 @@ Follow rules answers w (t ∷ ts) = StepsTo rules answers w t.event t.reply t.wo
 
 -- a reply that the device failed has its cause in that very command: the count rose from the command before to it
 abbrev pub IsBlamed : (before now : ℕ) → Reply → Type 0
-IsBlamed before now reply = (before ≤ now) × (reply.answer ≡ answer.Error error.PhysicalStorageFailure → Rose before now)
+IsBlamed before now reply = (before ≤ now) × (reply.answer ≡ answer.Error error.PhysicalStorageFailure
+    → Rose before now)
 
 abbrev pub AreBlamed : (before : ℕ) → List Turn → (after : ℕ) → Type 0
 AreBlamed before [] after = before ≤ after

@@ -1,5 +1,6 @@
 -- The world: the moment, eight applications with their open storages, and a doubt.
-use Rattle.std.specs.Prelude.{ℕ, zero, suc, ◌+◌, List, [], ◌∷◌, map, replicate, Bool, true, false, Option, Some, None, slice_get, slice_set}
+use Rattle.std.specs.Prelude.{ℕ, zero, suc, ◌+◌, List, [], ◌∷◌, map, replicate, Bool, true, false, Option, Some, None}
+use Rattle.std.specs.Prelude.{slice_get, slice_set}
 use Rattle.disk_model.specs.Image.{Image}
 use Rattle.disk_model.specs.Case.{Case}
 use Rattle.deploy_laws.specs.Apps.{App, nothing, app_at}
@@ -39,8 +40,8 @@ pub record Application : Type 0 where
 abbrev pub Disks : Type 0
 Disks = List App
 
--- A command failed at the device, and nobody knows how much of it was done: what lay on the disk before it, what it leads to, and a case
--- of the disk behind it, whose image is what reads then gave.
+-- A command failed at the device, and nobody knows how much of it was done: what lay on the disk before it, what it
+-- leads to, and a case of the disk behind it, whose image is what reads then gave.
 pub record Doubt : Type 0 where
   pub before : Disks
   pub after : Disks

@@ -3,7 +3,13 @@
 ghost use Rattle.std.specs.Prelude.{IsTrue};
 ghost use Rattle.migrate_fns.specs.Stored.{answers_of, rules_of};
 ghost use Rattle.run_model.specs.AppLaws.{AppLaws};
-ghost use Rattle.run_model.specs.Laws.{AlikeLaw, AllOpenedLaw, AnswersLastLaw, BlamedLaw, CallFailsLaw, CallKeepsLaw, DoubtStaysLaw, FailedSyncKeepsLaw, FailedSyncLastsLaw, FailureKeepsLaw, FailureLastsLaw, IdleKeepsLaw, NoneOpenedLaw, NotFurtherBackLaw, NowLastsLaw, OnTheWayLaw, OneOpenedLaw, OpensAsEitherLaw, OthersStayLaw, RootKeepsLaw, RootThenLaw, RunBeginsLaw, RunEndsLaw, RunGoesOnLaw, RunStopsLaw, SessionEndsLaw, StartStopsLaw, StorageFailureLastsLaw, StorageLaterLaw, SyncedKeepsLaw};
+ghost use Rattle.run_model.specs.Laws.{AlikeLaw, AllOpenedLaw, AnswersLastLaw, BlamedLaw, CallFailsLaw, CallKeepsLaw};
+ghost use Rattle.run_model.specs.Laws.{DoubtStaysLaw, FailedSyncKeepsLaw, FailedSyncLastsLaw, FailureKeepsLaw};
+ghost use Rattle.run_model.specs.Laws.{FailureLastsLaw, IdleKeepsLaw, NoneOpenedLaw, NotFurtherBackLaw, NowLastsLaw};
+ghost use Rattle.run_model.specs.Laws.{OnTheWayLaw, OneOpenedLaw, OpensAsEitherLaw, OthersStayLaw, RootKeepsLaw};
+ghost use Rattle.run_model.specs.Laws.{RootThenLaw, RunBeginsLaw, RunEndsLaw, RunGoesOnLaw, RunStopsLaw};
+ghost use Rattle.run_model.specs.Laws.{SessionEndsLaw, StartStopsLaw, StorageFailureLastsLaw, StorageLaterLaw};
+ghost use Rattle.run_model.specs.Laws.{SyncedKeepsLaw};
 
 use deploy_laws::{others_stand, roots_stay, untouched_stands};
 use disk_model::Disk;
@@ -18,8 +24,8 @@ pub fn applications_stand()
     roots_stay();
 }
 
-/// Two worlds that agree on an application and on the moment answer its commands alike where no device fails, and lead it to the same; and
-/// every other application stays as it was, however a command is answered.
+/// Two worlds that agree on an application and on the moment answer its commands alike where no device fails, and lead
+/// it to the same; and every other application stays as it was, however a command is answered.
 pub fn answers_are_alike(migrations: &Migrations)
     ensures alike { AlikeLaw (rules_of migrations.now) (answers_of migrations.now) }
     ensures others { OthersStayLaw (rules_of migrations.now) (answers_of migrations.now) }
@@ -31,14 +37,15 @@ pub fn failures_end_sessions(migrations: &Migrations)
     ensures session { SessionEndsLaw (rules_of migrations.now) (answers_of migrations.now) }
 {}
 
-/// A command that is answered keeps what is so of every world: that sessions hold settled states and stand beside no mark and no update.
+/// A command that is answered keeps what is so of every world: that sessions hold settled states and stand beside no
+/// mark and no update.
 pub fn answers_keep_worlds(migrations: &Migrations)
     ensures now { NowLastsLaw (rules_of migrations.now) (answers_of migrations.now) }
     ensures answered { AnswersLastLaw (rules_of migrations.now) (answers_of migrations.now) }
 {}
 
-/// And so does a command whose device failed: in the sync of a doubt, in a call that names no storage, and in one on a storage where what
-/// was read is what lay there but for that storage.
+/// And so does a command whose device failed: in the sync of a doubt, in a call that names no storage, and in one on a
+/// storage where what was read is what lay there but for that storage.
 pub fn failures_keep_worlds(migrations: &Migrations)
     ensures sync { FailedSyncLastsLaw }
     ensures call { FailureLastsLaw (rules_of migrations.now) (answers_of migrations.now) }
@@ -50,14 +57,15 @@ pub fn storages_lead_on()
     ensures { StorageLaterLaw }
 {}
 
-/// A moment behind the last command has no root from further back, and a storage whose command failed at the device is not emptied.
+/// A moment behind the last command has no root from further back, and a storage whose command failed at the device is
+/// not emptied.
 pub fn moments_are_bounded()
     ensures back { NotFurtherBackLaw }
     ensures either { OpensAsEitherLaw }
 {}
 
-/// How a command keeps each application at every moment: one that calls no disk, one whose sync of a doubt failed, one that was answered,
-/// and one whose device failed.
+/// How a command keeps each application at every moment: one that calls no disk, one whose sync of a doubt failed, one
+/// that was answered, and one whose device failed.
 pub fn a_command_keeps<D: Disk>(old: &D, new: &D)
     ensures idle { IdleKeepsLaw (D.medium new.now) }
     ensures failed_sync { FailedSyncKeepsLaw (D.medium old.now) (D.medium new.now) }
@@ -69,7 +77,8 @@ pub fn a_command_keeps<D: Disk>(old: &D, new: &D)
     applications_stand();
 }
 
-/// The same of two stretches: the sync of a doubt and then the command, and the opening of its application's root and then the command.
+/// The same of two stretches: the sync of a doubt and then the command, and the opening of its application's root and
+/// then the command.
 pub fn a_command_follows<D: Disk>(old: &D, now: &D, new: &D)
     ensures synced { SyncedKeepsLaw (D.medium old.now) (D.medium now.now) (D.medium new.now) }
     ensures root { RootKeepsLaw (D.medium old.now) (D.medium now.now) (D.medium new.now) }
@@ -94,13 +103,16 @@ pub fn causes_add_up()
 
 /// A start that ended is a run without a command, and one that did not is a run that ended there.
 pub fn a_run_begins<D: Disk>(migrations: &Migrations, old: &D, new: &D)
-    ensures begins { RunBeginsLaw (rules_of migrations.now) (answers_of migrations.now) (D.medium old.now) (D.medium new.now) }
-    ensures stops { StartStopsLaw (rules_of migrations.now) (answers_of migrations.now) (D.medium old.now) (D.medium new.now) }
+    ensures begins { RunBeginsLaw (rules_of migrations.now) (answers_of migrations.now) (D.medium old.now)
+        (D.medium new.now) }
+    ensures stops { StartStopsLaw (rules_of migrations.now) (answers_of migrations.now) (D.medium old.now)
+        (D.medium new.now) }
 {}
 
 /// A command that was answered is one turn more of a run, on a disk that tells its bytes.
 pub fn a_run_goes_on<D: Disk>(migrations: &Migrations, old: &D, now: &D, new: &D)
-    ensures { IsTrue D.told → RunGoesOnLaw (rules_of migrations.now) (answers_of migrations.now) (D.medium old.now) (D.medium now.now) (D.medium new.now) }
+    ensures { IsTrue D.told → RunGoesOnLaw (rules_of migrations.now) (answers_of migrations.now) (D.medium old.now)
+        (D.medium now.now) (D.medium new.now) }
 {}
 
 /// Where every command has ended, a run promises of the disk all that it has to.
@@ -112,5 +124,6 @@ pub fn a_run_ends<D: Disk>(migrations: &Migrations, old: &D, now: &D)
 
 /// And so it does where a command is in progress.
 pub fn a_run_stops<D: Disk>(migrations: &Migrations, old: &D, now: &D, new: &D)
-    ensures { RunStopsLaw (rules_of migrations.now) (answers_of migrations.now) (D.medium old.now) (D.medium now.now) (D.medium new.now) }
+    ensures { RunStopsLaw (rules_of migrations.now) (answers_of migrations.now) (D.medium old.now) (D.medium now.now)
+        (D.medium new.now) }
 {}

@@ -95,9 +95,10 @@ impl Script {
         Ok(())
     }
 
-    /// What a look finds after each number of lines; then `= kept` where, after a stop at each call of the disk and each restart, it finds
-    /// what it does after the lines that were answered or after one more, and once it found the latter it stays so. Else the first stop
-    /// after which it does not. Lines count as answered up to the first that failed at the disk.
+    /// What a look finds after each number of lines; then `= kept` where, after a stop at each call of the disk and
+    /// each restart, it finds what it does after the lines that were answered or after one more, and once it found the
+    /// latter it stays so. Else the first stop after which it does not. Lines count as answered up to the first that
+    /// failed at the disk.
     pub(crate) fn stops(&self, migrations: &Migrations) -> Result<String, RowError> {
         let states = self.states(migrations)?;
         let mut shown = String::new(self.alloc);
@@ -115,9 +116,10 @@ impl Script {
         Ok(shown)
     }
 
-    /// `= kept` where for each call of the disk that fails alone all other lines are handled, one is answered error 4, and a look at the end of
-    /// the run finds what one in a new run finds, which is one of the states that the lines lead through. Where the start fails, the
-    /// status is 3, and nothing is written. Else the first call for which it is not so.
+    /// `= kept` where for each call of the disk that fails alone all other lines are handled, one is answered error 4,
+    /// and a look at the end of the run finds what one in a new run finds, which is one of the states that the lines
+    /// lead through. Where the start fails, the status is 3, and nothing is written. Else the first call for which it
+    /// is not so.
     pub(crate) fn failures(&self, migrations: &Migrations) -> Result<String, RowError> {
         let states = self.states(migrations)?;
         let mut input = self.input.clone()?;
@@ -133,8 +135,8 @@ impl Script {
         text(self.alloc, "= kept\n")
     }
 
-    /// `= kept` where a call of the source that fails gives status 5 and the replies to all whole lines before it, and a call of the sink that
-    /// fails status 6 and a front of the output. Else the first call for which it is not so.
+    /// `= kept` where a call of the source that fails gives status 5 and the replies to all whole lines before it, and
+    /// a call of the sink that fails status 6 and a front of the output. Else the first call for which it is not so.
     pub(crate) fn cuts(&self, migrations: &Migrations) -> Result<String, RowError> {
         let mut disk = self.start.disk(self.alloc)?;
         let whole = self.ran(migrations, self.input.as_slice(), &mut disk)?;
@@ -184,8 +186,8 @@ impl Script {
         Ok(answers(self.alloc, ran.output.as_str())?)
     }
 
-    /// After how many calls of the disk the lines are stopped: none, each behind which something was written or synced, and all. What a stop
-    /// behind another call leaves is what one of these leaves.
+    /// After how many calls of the disk the lines are stopped: none, each behind which something was written or synced,
+    /// and all. What a stop behind another call leaves is what one of these leaves.
     fn moments(&self, migrations: &Migrations) -> Result<Vec<u64>, RowError> {
         let disk = self.start.disk(self.alloc)?;
         let mut counting = Counting::new(disk, vec![in self.alloc; 0]?);

@@ -7,8 +7,10 @@ use Rattle.index_text.proofs.Order.{sorted_from_ascends}
 use Rattle.deployment_model.specs.Data.{ElementData, StorageData}
 use Rattle.deployment_model.specs.Conditions.{IsElement, IsStorage, initial_size}
 
-pub one_file : (s : StorageData) (file : ElementData) → s.elements ≡ file ∷ [] → s.kind ≡ Files → s.minimum ≡ 0 → 1 ≤ s.m → s.m ≤ s.n → s.n ≤ 7
-    → IsName s.name → 1 ≤ s.maximum → s.maximum ≤ 4194304 → IsElement Files file → initial_size file ≤ s.maximum → IsStorage s
+pub one_file : (s : StorageData) (file : ElementData) → s.elements ≡ file ∷ [] → s.kind ≡ Files → s.minimum ≡ 0
+    → 1 ≤ s.m → s.m ≤ s.n → s.n ≤ 7
+    → IsName s.name → 1 ≤ s.maximum → s.maximum ≤ 4194304 → IsElement Files file → initial_size file ≤ s.maximum
+    → IsStorage s
 one_file s file one of_files least some enough copies named some_room maximum each fits =
     let sum = sum_by-cons initial_size file [] in
     record {

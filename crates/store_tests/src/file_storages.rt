@@ -85,10 +85,11 @@ fn then(alloc: Global, stage: Stage, answer: &str) -> Result<Step, CaseError>
 
 // ---- with no open storage
 
-/// `new.NAME=HEX` makes the storage with a file of this name and these bytes, installed at moment 3, `large.NAME` with one of 1,048,576
-/// bytes, `worn` a disk with one under the greatest generation; `damage=FILES` damages files, `rebuild` makes the storage anew with the
-/// first file of its salvage, or as it starts; `stop` cuts the power; `open` opens it and answers its reports; `spent=N` answers whether
-/// the last opening wrote at most so many bytes, and `failed-report` what is reported of a storage that is corrupt.
+/// `new.NAME=HEX` makes the storage with a file of this name and these bytes, installed at moment 3, `large.NAME` with
+/// one of 1,048,576 bytes, `worn` a disk with one under the greatest generation; `damage=FILES` damages files,
+/// `rebuild` makes the storage anew with the first file of its salvage, or as it starts; `stop` cuts the power; `open`
+/// opens it and answers its reports; `spent=N` answers whether the last opening wrote at most so many bytes, and
+/// `failed-report` what is reported of a storage that is corrupt.
 fn closed(
     alloc: Global,
     plan: Plan,
@@ -220,9 +221,9 @@ fn rebuilt(alloc: Global, plan: Plan, disk: &mut MemDisk) -> Result<(), CaseErro
 
 // ---- with an open storage
 
-/// `now=N` is the moment of the next calls, which is 7 at first; `sync#HANDLE` makes the files durable by a handle; `spent=N` answers
-/// whether the last opening or sync wrote at most so many bytes; `close-storage` closes the storage; `stop` cuts the power, so that what no sync made
-/// durable is gone. All else is a call on the open storage.
+/// `now=N` is the moment of the next calls, which is 7 at first; `sync#HANDLE` makes the files durable by a handle;
+/// `spent=N` answers whether the last opening or sync wrote at most so many bytes; `close-storage` closes the storage;
+/// `stop` cuts the power, so that what no sync made durable is gone. All else is a call on the open storage.
 fn open(alloc: Global, run: Run, call: &str) -> Result<Step, CaseError>
     requires { IsUsed true (mem_medium run.disk).image run.files.store }
     ensures { IfOk result (λ step. IsInUse step.stage) }

@@ -1,5 +1,5 @@
-//! Damage, and texts written straight into the files of a storage. Each copy of a storage has two slots and an area: files 1024, 1025 and
-//! 1026, and the others four files on.
+//! Damage, and texts written straight into the files of a storage. Each copy of a storage has two slots and an area:
+//! files 1024, 1025 and 1026, and the others four files on.
 
 use crate::answers::CaseError;
 use disk_model::{Disk, DiskFailed, MemDisk};

@@ -31,8 +31,8 @@ pub(crate) fn shown(alloc: Global, setting: &str, calls: &str) -> Result<String,
 
 // ---- what lies on the disk
 
-/// A session of the storage with the key that the setting names, if it names one: `good.NAME=HEX`, on which enough copies agree,
-/// `salvaged.NAME=HEX`, of which one copy is left, and `lost.NAME=LENGTH`, of which none is.
+/// A session of the storage with the key that the setting names, if it names one: `good.NAME=HEX`, on which enough
+/// copies agree, `salvaged.NAME=HEX`, of which one copy is left, and `lost.NAME=LENGTH`, of which none is.
 fn opened(alloc: Global, config: &StorageConfig, setting: &str) -> Result<KeySession, CaseError>
     requires storage { IsStorage (storage_data config.now) }
     requires of_keys { config.now.kind ≡ Keys }

@@ -82,10 +82,10 @@ fn then(alloc: Global, stage: Stage, answer: &str) -> Result<Step, CaseError>
 
 // ---- with no open storage
 
-/// `new=HEX` makes the storage with these bytes under `home`, `worn` a disk with an empty one under the greatest generation,
-/// `damage=FILES` damages files, `rebuild` makes the storage anew with what its salvage has under `home` or the initial value,
-/// `calls=N` lets so many calls of the disk pass, `open` opens it and answers its reports, and `failed-report` answers what is reported
-/// of a storage that is corrupt.
+/// `new=HEX` makes the storage with these bytes under `home`, `worn` a disk with an empty one under the greatest
+/// generation, `damage=FILES` damages files, `rebuild` makes the storage anew with what its salvage has under `home` or
+/// the initial value, `calls=N` lets so many calls of the disk pass, `open` opens it and answers its reports, and
+/// `failed-report` answers what is reported of a storage that is corrupt.
 fn closed(alloc: Global, plan: Plan, mut disk: MemDisk, call: &str) -> Result<Step, CaseError>
     ensures { IfOk result (λ step. IsInUse step.stage) }
 {
@@ -201,8 +201,9 @@ fn rebuilt(alloc: Global, plan: Plan, disk: &mut MemDisk) -> Result<(), CaseErro
 
 // ---- with an open storage
 
-/// `sync`; `calls=N` lets so many calls of the disk pass; `spent=N` answers whether the last sync wrote at most so many bytes; `stop` cuts
-/// the power, so that what no sync made durable is gone; `fill=N` sets the keys k000 and on, so many; all else is a call of a session.
+/// `sync`; `calls=N` lets so many calls of the disk pass; `spent=N` answers whether the last sync wrote at most so many
+/// bytes; `stop` cuts the power, so that what no sync made durable is gone; `fill=N` sets the keys k000 and on, so
+/// many; all else is a call of a session.
 fn open(alloc: Global, disk: MemDisk, kvs: Kvs, spent: u64, call: &str) -> Result<Step, CaseError>
     requires { IsUsed true (mem_medium disk).image kvs.store }
     ensures { IfOk result (λ step. IsInUse step.stage) }

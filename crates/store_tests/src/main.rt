@@ -1,8 +1,9 @@
-//! The rows of sessions and storages: each line of standard input is a case, `SETTING : CALLS`, and gets a line with each call beside its
-//! answer. A case that begins with `session` is a session of keys without a disk, and one that begins with `storage` a storage of keys on
-//! a disk in memory, in three copies of which two must agree. Both are named `fav`, with the configured key `home`, a `u16`. Any other
-//! case is a storage of files on a disk in memory, in one copy, or in three of which two must agree. It is named `cal`; its configured
-//! file `map` starts as `61620a6364`, a line `ab` and then `cd`. A line that begins with `#` says what the next cases show.
+//! The rows of sessions and storages: each line of standard input is a case, `SETTING : CALLS`, and gets a line with
+//! each call beside its answer. A case that begins with `session` is a session of keys without a disk, and one that
+//! begins with `storage` a storage of keys on a disk in memory, in three copies of which two must agree. Both are named
+//! `fav`, with the configured key `home`, a `u16`. Any other case is a storage of files on a disk in memory, in one
+//! copy, or in three of which two must agree. It is named `cal`; its configured file `map` starts as `61620a6364`, a
+//! line `ab` and then `cd`. A line that begins with `#` says what the next cases show.
 #![tactic(auto)]
 
 mod answers;

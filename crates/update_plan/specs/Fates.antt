@@ -1,5 +1,6 @@
 -- What an update makes of one name: what the rows give it, or why its stored element cannot be kept.
-use Rattle.std.specs.Prelude.{◌≡◌, ℕ, List, cond, Option, Some, None, option_and_then, option_map, Result, Ok, Err, IsTrue, ⊤}
+use Rattle.std.specs.Prelude.{◌≡◌, ℕ, List, cond, Option, Some, None, option_and_then, option_map, Result, Ok, Err}
+use Rattle.std.specs.Prelude.{IsTrue, ⊤}
 use Rattle.per_base.specs.declared.elements.Cause.TheVariants.{Update}
 use Rattle.per_base.specs.declared.elements.Content.{Content}
 use Rattle.per_base.specs.declared.elements.Content.TheVariants.{Good, Bad}
@@ -63,7 +64,8 @@ by_chain v to (Some places) = converted v places
 -- a readable key stays where its type is the configured one or none is configured, and else is converted
 abbrev pub of_type : List Rule → Fresh → Tree → Option Kind → Fate
 of_type rules same v None = gets same
-of_type rules same v (Some to) = cond (same_kind (type_of v) to) (gets same) (by_chain v to (chain_of rules same.name (type_of v) to))
+of_type rules same v (Some to) = cond (same_kind (type_of v) to) (gets same)
+    (by_chain v to (chain_of rules same.name (type_of v) to))
 
 -- a key is readable where its bytes encode a value
 abbrev pub of_value : List Rule → List ℕ → Fresh → Option Kind → Option Tree → Fate
@@ -75,17 +77,21 @@ of_bytes rules Keys storage same to = of_value rules storage same to (decoded sa
 of_bytes rules Files storage same to = gets same
 
 abbrev pub of_content : List Rule → StoreKind → List ℕ → List ℕ → Option FileInfo → Option Kind → Content → Fate
-of_content rules kind storage name info to (Good bytes) = of_bytes rules kind storage (record { name = name; info = info; bytes = bytes }) to
+of_content rules kind storage name info to (Good bytes) =
+    of_bytes rules kind storage (record { name = name; info = info; bytes = bytes }) to
 of_content rules kind storage name info to (Bad salvage) = unreadable storage name
 
 abbrev pub by_row : List Rule → ℕ → StorageData → List ℕ → Option ElementData → Option Entry → Row → Fate
 by_row rules now s name configured stored nothing = goes
-by_row rules now s name configured stored (initial bytes) = gets (record { name = name; info = initial_info s.kind (strategy_of configured) stored now; bytes = bytes })
-by_row rules now s name configured stored (kept e) = of_content rules s.kind s.name name e.info (type_in configured) e.content
+by_row rules now s name configured stored (initial bytes) =
+    gets (record { name = name; info = initial_info s.kind (strategy_of configured) stored now; bytes = bytes })
+by_row rules now s name configured stored (kept e) = of_content rules s.kind s.name name e.info (type_in configured)
+    e.content
 
 -- of a name in a storage, by what the storage configures and what is stored
 abbrev pub fate : List Rule → ℕ → StorageData → List ℕ → Option ElementData → Option Entry → Fate
-fate rules now s name configured stored = by_row rules now s name configured stored (row_by (strategy_of configured) s.strategy (initial_in configured) stored)
+fate rules now s name configured stored = by_row rules now s name configured stored
+    (row_by (strategy_of configured) s.strategy (initial_in configured) stored)
 
 abbrev pub refusal : Fate → Option PerError
 refusal goes = None
@@ -97,7 +103,8 @@ refusal (refused e) = Some e
 abbrev pub Becomes : Answers → List ℕ → Fate → Option Fresh → Type 0
 Becomes answers name goes new = new ≡ None
 Becomes answers name (gets x) new = new ≡ Some x
-Becomes answers name (converted v places) new = (w : Tree) × ConvertsTo answers places v w × (new ≡ Some (record { name = name; info = None; bytes = encoding w }))
+Becomes answers name (converted v places) new = (w : Tree) × ConvertsTo answers places v w
+    × (new ≡ Some (record { name = name; info = None; bytes = encoding w }))
 Becomes answers name (refused e) new = ⊥
 
 -- an error is the refusal, or want of memory

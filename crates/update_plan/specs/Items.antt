@@ -10,7 +10,12 @@ use Rattle.update_plan.specs.Merging as plain
 use Rattle.update_plan.specs.Merging.{merged}
 
 abbrev pub item_of : Item → plain.Item
-item_of i = record { name = i.name.now; stored = option_map (λ e. e.now) i.stored; configured = option_map (λ c. element_data c.now) i.configured }
+item_of i = record {
+  name = i.name.now;
+  stored = option_map (λ e. e.now) i.stored;
+  configured =
+      option_map (λ c. element_data c.now) i.configured;
+}
 
 abbrev pub items_by : Option FirstItem → List plain.Item
 items_by None = []

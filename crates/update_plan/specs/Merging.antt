@@ -29,7 +29,8 @@ by_order Greater first same behind = behind
 
 abbrev pub with_entry : Entry → (List ElementData → List Item) → List ElementData → List Item
 with_entry e others [] = only_stored e ∷ others []
-with_entry e others (c ∷ cs) = by_order (name_cmp e.name c.name) (only_stored e ∷ others (c ∷ cs)) (both e c ∷ others cs) (only_configured c ∷ with_entry e others cs)
+with_entry e others (c ∷ cs) = by_order (name_cmp e.name c.name) (only_stored e ∷ others (c ∷ cs))
+    (both e c ∷ others cs) (only_configured c ∷ with_entry e others cs)
 
 -- two lists in the order of their names, merged
 abbrev pub merged : List Entry → List ElementData → List Item

@@ -1,6 +1,7 @@
 -- The plan of an update: what each storage of the new version has, or the first refusal.
 use denote.Ref.{Bor}
-use Rattle.std.specs.Prelude.{◌≡◌, ◌≤◌, ℕ, List, [], ◌∷◌, length, map, filter_map, find, cond, nat_lt, Bool, true, false, Option, Some, None, Result, Ok, Err, IsTrue, sum_by, ⊤}
+use Rattle.std.specs.Prelude.{◌≡◌, ◌≤◌, ℕ, List, [], ◌∷◌, length, map, filter_map, find, cond, nat_lt, Bool, true}
+use Rattle.std.specs.Prelude.{false, Option, Some, None, Result, Ok, Err, IsTrue, sum_by, ⊤}
 use Rattle.std.specs.List.{AllByRecursion}
 use Rattle.std.specs.List.Sorted.{IsStrictlySortedBy}
 use Rattle.std.specs.Str.{bytes_eq}
@@ -12,7 +13,8 @@ use Rattle.per_base.specs.declared.elements.StoreKind.{StoreKind}
 use Rattle.per_base.specs.declared.elements.StoreKind.TheVariants.{Keys, Files}
 use Rattle.per_base.specs.declared.errors.Limit.TheVariants as limit
 use Rattle.per_base.specs.declared.errors.PerError.{PerError}
-use Rattle.per_base.specs.declared.errors.PerError.TheVariants.{IntegrityCorrupted, LimitReached, OutOfStorageSpace, OutOfMemory}
+use Rattle.per_base.specs.declared.errors.PerError.TheVariants.{IntegrityCorrupted, LimitReached, OutOfStorageSpace}
+use Rattle.per_base.specs.declared.errors.PerError.TheVariants.{OutOfMemory}
 use Rattle.per_base.specs.declared.errors.Unit.TheVariants.{Whole}
 use Rattle.per_base.specs.Names.{name_cmp}
 use Rattle.index_text.specs.Rules.{has_info, max_len}
@@ -87,10 +89,13 @@ entry_named es name = find (λ (e : Entry). bytes_eq e.name name) es
 abbrev pub fresh_named : List Fresh → List ℕ → Option Fresh
 fresh_named xs name = find (λ (x : Fresh). bytes_eq x.name name) xs
 
--- these are the contents of the storage in the new version: names that ascend, and each name has what the update makes of it
-pub record Updated (rules : List Rule) (answers : Answers) (now : ℕ) (s : StorageData) (old : List Entry) (new : List Fresh) : Type 0 where
+-- these are the contents of the storage in the new version: names that ascend, and each name has what the update makes
+-- of it
+pub record Updated (rules : List Rule) (answers : Answers) (now : ℕ) (s : StorageData) (old : List Entry)
+    (new : List Fresh) : Type 0 where
   pub names_ascend : IsStrictlySortedBy name_cmp (map (λ (x : Fresh). x.name) new)
-  pub each : (name : List ℕ) → Becomes answers name (fate rules now s name (element_named s name) (entry_named old name)) (fresh_named new name)
+  pub each : (name : List ℕ) → Becomes answers name (fate rules now s name (element_named s name)
+      (entry_named old name)) (fresh_named new name)
 
 abbrev pub first_of : {A : Type 0} → List A → Option A
 first_of [] = None
@@ -105,11 +110,14 @@ first_refusal rules now s old = first_of (filter_map (entry_refusal rules now s)
 
 -- too many elements, and then too many bytes
 abbrev pub within_limits : ℕ → List Fresh → Result (List Fresh) PerError
-within_limits maximum new = cond (nat_lt 1024 (length new)) (Err (LimitReached limit.Elements)) (cond (nat_lt maximum (sum_by fresh_size new)) (Err (OutOfStorageSpace (sum_by fresh_size new) maximum)) (Ok new))
+within_limits maximum new = cond (nat_lt 1024 (length new)) (Err (LimitReached limit.Elements))
+    (cond (nat_lt maximum (sum_by fresh_size new)) (Err (OutOfStorageSpace (sum_by fresh_size new) maximum)) (Ok new))
 
-abbrev pub PlansOver : List Rule → Answers → ℕ → StorageData → List Entry → Option PerError → Result (List Fresh) PerError → Type 0
+abbrev pub PlansOver : List Rule → Answers → ℕ → StorageData → List Entry → Option PerError
+    → Result (List Fresh) PerError → Type 0
 PlansOver rules answers now s old (Some e) plan = plan ≡ Err e
-PlansOver rules answers now s old None plan = (new : List Fresh) × Updated rules answers now s old new × (plan ≡ within_limits s.maximum new)
+PlansOver rules answers now s old None plan = (new : List Fresh) × Updated rules answers now s old new
+    × (plan ≡ within_limits s.maximum new)
 
 abbrev pub PlansFor : List Rule → Answers → ℕ → StorageData → StorageContents → Result (List Fresh) PerError → Type 0
 PlansFor rules answers now s Missing plan = PlansOver rules answers now s [] None plan
@@ -123,13 +131,17 @@ with_first x (Ok xs) = Ok (x ∷ xs)
 with_first x (Err e) = Err e
 
 -- the first refusal ends a plan
-abbrev pub Continues : Result (List Fresh) PerError → (Result (List (List Fresh)) PerError → Type 0) → Result (List (List Fresh)) PerError → Type 0
+abbrev pub Continues : Result (List Fresh) PerError → (Result (List (List Fresh)) PerError → Type 0)
+    → Result (List (List Fresh)) PerError → Type 0
 Continues (Err e) others plan = plan ≡ Err e
-Continues (Ok new) others plan = (rest : Result (List (List Fresh)) PerError) × others rest × (plan ≡ with_first new rest)
+Continues (Ok new) others plan = (rest : Result (List (List Fresh)) PerError) × others rest
+    × (plan ≡ with_first new rest)
 
-abbrev pub PlansAll : List Rule → Answers → ℕ → (StorageData → StorageContents) → List StorageData → Result (List (List Fresh)) PerError → Type 0
+abbrev pub PlansAll : List Rule → Answers → ℕ → (StorageData → StorageContents) → List StorageData
+    → Result (List (List Fresh)) PerError → Type 0
 PlansAll rules answers now stored [] plan = plan ≡ Ok []
-PlansAll rules answers now stored (s ∷ ss) plan = (first : Result (List Fresh) PerError) × PlansFor rules answers now s (stored s) first × Continues first (PlansAll rules answers now stored ss) plan
+PlansAll rules answers now stored (s ∷ ss) plan = (first : Result (List Fresh) PerError)
+    × PlansFor rules answers now s (stored s) first × Continues first (PlansAll rules answers now stored ss) plan
 
 -- the contents of each storage can be made a storage
 abbrev pub AllFit : List StorageData → List (List Fresh) → Type 0

@@ -17,7 +17,8 @@ item_fate rules now s p = fate rules now s p.name p.configured p.stored
 -- the list has what each name becomes, in their order
 abbrev pub BecomeAll : List Rule → Answers → ℕ → StorageData → List Item → List Fresh → Type 0
 BecomeAll rules answers now s [] new = new ≡ []
-BecomeAll rules answers now s (p ∷ ps) new = (first : Option Fresh) × (others : List Fresh) × Becomes answers p.name (item_fate rules now s p) first × IfMade s.kind p.name first
+BecomeAll rules answers now s (p ∷ ps) new = (first : Option Fresh) × (others : List Fresh)
+    × Becomes answers p.name (item_fate rules now s p) first × IfMade s.kind p.name first
     × BecomeAll rules answers now s ps others × (new ≡ cons_option first others)
 
 abbrev pub refusals : List Rule → ℕ → StorageData → List Item → List PerError

@@ -35,8 +35,9 @@ kept_or None keep row = row
 kept_or (Some e) true row = kept e
 kept_or (Some e) false row = row
 
--- by the element's own strategy, the strategy of the collection, the initial content and what is stored: delete gives nothing;
--- overwrite the initial content; what is stored and to be kept stays; else the initial content, if there is one
+-- by the element's own strategy, the strategy of the collection, the initial content and what is stored: delete gives
+-- nothing; overwrite the initial content; what is stored and to be kept stays; else the initial content, if there is
+-- one
 abbrev pub row_by : Option ElementStrategy → CollectionStrategy → Option (List ℕ) → Option Entry → Row
 row_by (Some own.Delete) c bytes stored = nothing
 row_by (Some own.Overwrite) c bytes stored = initial_or bytes
@@ -52,7 +53,12 @@ made_info Files cause now = Some (made now cause)
 
 abbrev pub started : StoreKind → Cause → ℕ → List ℕ → Row → Option Fresh
 started kind cause now name nothing = None
-started kind cause now name (initial bytes) = Some (record { name = name; info = made_info kind cause now; bytes = bytes })
+started kind cause now name (initial bytes) = Some (record {
+  name = name;
+  info = made_info kind cause now;
+  bytes =
+      bytes;
+})
 started kind cause now name (kept e) = None
 
 abbrev pub start_of : StorageData → Cause → ℕ → ElementData → Option Fresh

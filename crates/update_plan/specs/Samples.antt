@@ -52,7 +52,8 @@ unfolding decoded kind_at chain_of
 computed = 0
 
 -- u16:7 becomes what the converter makes of it
-conversion : of_key (Some (key (unsigned_kind four) (Some (4 ∷ 14 ∷ 0 ∷ 0 ∷ 0 ∷ [])) None)) (Some (stored (3 ∷ 7 ∷ 0 ∷ []))) ≡ converted (unsigned_tree two 7) (0 ∷ [])
+conversion : of_key (Some (key (unsigned_kind four) (Some (4 ∷ 14 ∷ 0 ∷ 0 ∷ 0 ∷ [])) None))
+    (Some (stored (3 ∷ 7 ∷ 0 ∷ []))) ≡ converted (unsigned_tree two 7) (0 ∷ [])
 unfolding computed
 conversion = refl
 
@@ -60,20 +61,24 @@ deleted : of_key (Some (key (unsigned_kind one) None (Some own.Delete))) (Some (
 unfolding computed
 deleted = refl
 
-keeping : of_key (Some (key (unsigned_kind one) (Some (2 ∷ 11 ∷ [])) None)) (Some (stored (2 ∷ 5 ∷ []))) ≡ gets (record { name = codes "k"; info = None; bytes = 2 ∷ 5 ∷ [] })
+keeping : of_key (Some (key (unsigned_kind one) (Some (2 ∷ 11 ∷ [])) None)) (Some (stored (2 ∷ 5 ∷ [])))
+    ≡ gets (record { name = codes "k"; info = None; bytes = 2 ∷ 5 ∷ [] })
 unfolding computed
 keeping = refl
 
-added : of_key (Some (key bool_kind (Some (1 ∷ 1 ∷ [])) None)) None ≡ gets (record { name = codes "k"; info = None; bytes = 1 ∷ 1 ∷ [] })
+added : of_key (Some (key bool_kind (Some (1 ∷ 1 ∷ [])) None)) None
+    ≡ gets (record { name = codes "k"; info = None; bytes = 1 ∷ 1 ∷ [] })
 unfolding computed
 added = refl
 
-overwritten : of_key (Some (key (unsigned_kind one) (Some (2 ∷ 12 ∷ [])) (Some own.Overwrite))) (Some (stored (2 ∷ 6 ∷ []))) ≡ gets (record { name = codes "k"; info = None; bytes = 2 ∷ 12 ∷ [] })
+overwritten : of_key (Some (key (unsigned_kind one) (Some (2 ∷ 12 ∷ [])) (Some own.Overwrite)))
+    (Some (stored (2 ∷ 6 ∷ []))) ≡ gets (record { name = codes "k"; info = None; bytes = 2 ∷ 12 ∷ [] })
 unfolding computed
 overwritten = refl
 
 -- no converter leads from i8 to u8
-mismatched : of_key (Some (key (unsigned_kind one) None None)) (Some (stored (6 ∷ 1 ∷ []))) ≡ refused (DataTypeMismatch (codes "i8") (codes "u8"))
+mismatched : of_key (Some (key (unsigned_kind one) None None)) (Some (stored (6 ∷ 1 ∷ [])))
+    ≡ refused (DataTypeMismatch (codes "i8") (codes "u8"))
 unfolding computed
 mismatched = refl
 
@@ -83,11 +88,13 @@ unfolding computed
 unreadable_key = refl
 
 -- what is not configured stays where the collection keeps, and goes where it does not, readable or not
-not_configured : of_key None (Some (stored (2 ∷ 5 ∷ []))) ≡ gets (record { name = codes "k"; info = None; bytes = 2 ∷ 5 ∷ [] })
+not_configured : of_key None (Some (stored (2 ∷ 5 ∷ [])))
+    ≡ gets (record { name = codes "k"; info = None; bytes = 2 ∷ 5 ∷ [] })
 unfolding computed
 not_configured = refl
 
-unread : fate rules 50 (storage Keys collection.Delete) (codes "k") None (Some (record (stored []) { content = Bad None })) ≡ goes
+unread : fate rules 50 (storage Keys collection.Delete) (codes "k") None
+    (Some (record (stored []) { content = Bad None })) ≡ goes
 unread = refl
 
 -- ---- infos of files
@@ -96,20 +103,67 @@ abbrev pub file : Option ElementStrategy → ElementData
 file strategy = record { name = codes "f"; value_type = None; initial = Some (97 ∷ []); strategy = strategy }
 
 abbrev pub stored_file : Entry
-stored_file = record { name = codes "f"; info = Some (record { created = 1; modified = 2; accessed = 3; creation = Installation; modification = Installation }); changed = 1; len = 1; content = Good (98 ∷ []); lacking = [] }
+stored_file = record {
+  name = codes "f";
+  info = Some (record {
+    created = 1;
+    modified = 2;
+    accessed = 3;
+    creation =
+        Installation;
+    modification = Installation;
+  });
+  changed = 1;
+  len = 1;
+  content = Good (98 ∷ []);
+  lacking = [];
+}
 
 abbrev pub of_file : CollectionStrategy → Option ElementStrategy → Option Entry → Fate
 of_file strategy own e = fate [] 50 (storage Files strategy) (codes "f") (Some (file own)) e
 
 kept_file : of_file collection.KeepExisting None (Some stored_file)
-    ≡ gets (record { name = codes "f"; info = Some (record { created = 1; modified = 2; accessed = 3; creation = Installation; modification = Installation }); bytes = 98 ∷ [] })
+    ≡ gets (record {
+      name = codes "f";
+      info = Some (record {
+        created = 1;
+        modified = 2;
+        accessed = 3;
+        creation =
+            Installation;
+        modification = Installation;
+      });
+      bytes = 98 ∷ [];
+    })
 kept_file = refl
 
 overwritten_file : of_file collection.KeepExisting (Some own.Overwrite) (Some stored_file)
-    ≡ gets (record { name = codes "f"; info = Some (record { created = 1; modified = 50; accessed = 3; creation = Installation; modification = Update }); bytes = 97 ∷ [] })
+    ≡ gets (record {
+      name = codes "f";
+      info = Some (record {
+        created = 1;
+        modified = 50;
+        accessed = 3;
+        creation =
+            Installation;
+        modification = Update;
+      });
+      bytes = 97 ∷ [];
+    })
 overwritten_file = refl
 
 -- one that falls to its initial content is a file that the update adds
 added_file : of_file collection.Delete None (Some stored_file)
-    ≡ gets (record { name = codes "f"; info = Some (record { created = 50; modified = 50; accessed = 50; creation = Update; modification = Update }); bytes = 97 ∷ [] })
+    ≡ gets (record {
+      name = codes "f";
+      info = Some (record {
+        created = 50;
+        modified = 50;
+        accessed = 50;
+        creation =
+            Update;
+        modification = Update;
+      });
+      bytes = 97 ∷ [];
+    })
 added_file = refl

@@ -1,17 +1,17 @@
 //! What the storages of an application get at an installation and at an update.
 //!
-//! Each name goes by the first row that fits. `delete`: nothing. `overwrite`: the initial content. Stored and to be kept, by the
-//! element's own strategy or else the storage's: what is stored, converted where its type differs. Else the initial content, if
-//! one is configured, or nothing.
+//! Each name goes by the first row that fits. `delete`: nothing. `overwrite`: the initial content. Stored and to be
+//! kept, by the element's own strategy or else the storage's: what is stored, converted where its type differs. Else
+//! the initial content, if one is configured, or nothing.
 //!
-//! [`plan`] says what each storage of a new version gets, or the first refusal: storage by storage damage, then element by element
-//! what is to be kept and is unreadable or cannot be converted, then too many elements, then too many bytes. It reads the disk
-//! nowhere and writes nothing. A stored file that is overwritten changes now, and every other file that gets its initial content is
-//! made now; what is kept keeps its info.
+//! [`plan`] says what each storage of a new version gets, or the first refusal: storage by storage damage, then element
+//! by element what is to be kept and is unreadable or cannot be converted, then too many elements, then too many bytes.
+//! It reads the disk nowhere and writes nothing. A stored file that is overwritten changes now, and every other file
+//! that gets its initial content is made now; what is kept keeps its info.
 //!
-//! [`initial_of`] is this over empty contents, for an installation and for every storage that is made anew. What
-//! both give can be made a storage as it stands: names ascend, there are at most 1,024, they fit the maximum, and infos stand
-//! exactly at files.
+//! [`initial_of`] is this over empty contents, for an installation and for every storage that is made anew. What both
+//! give can be made a storage as it stands: names ascend, there are at most 1,024, they fit the maximum, and infos
+//! stand exactly at files.
 #![tactic(auto)]
 
 mod contents;

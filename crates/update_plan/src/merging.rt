@@ -31,7 +31,8 @@ pub(crate) fn first_item<'a>(
     configured: &'a [ElementConfig],
 ) -> Option<FirstItem<'a>>
     ensures merged { merged stored.now (map element_data configured.now) ≡ items_by result }
-    ensures fewer { IfSome result (λ first. length first.stored.now + length first.configured.now < length stored.now + length configured.now) }
+    ensures fewer { IfSome result (λ first. length first.stored.now + length first.configured.now
+        < length stored.now + length configured.now) }
 {
     match (stored.split_first(), configured.split_first()) {
         (None, None) => None,

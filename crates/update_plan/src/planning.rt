@@ -7,7 +7,8 @@ ghost use Rattle.deployment_model.specs.Data.{deployment_data, element_data, sto
 ghost use Rattle.migrate_fns.specs.Stored.{answers_of, rules_of};
 ghost use Rattle.index_text.specs.Contents.{AreContents, IsFresh, fresh_size};
 ghost use Rattle.update_plan.specs.Merging.{merged};
-ghost use Rattle.update_plan.specs.Plans.{AllFit, ArePresent, AreStored, IsOf, PlansAll, PlansFor, PlansOver, Told, first_refusal, or_missing};
+ghost use Rattle.update_plan.specs.Plans.{AllFit, ArePresent, AreStored, IsOf, PlansAll, PlansFor, PlansOver, Told};
+ghost use Rattle.update_plan.specs.Plans.{first_refusal, or_missing};
 ghost use Rattle.update_plan.specs.Plans as plans;
 ghost use Rattle.update_plan.specs.Renewed.{RenewAll};
 ghost use Rattle.update_plan.specs.Views.{items_in};
@@ -23,13 +24,13 @@ use std::alloc::Global;
 /// The most elements of a storage.
 const MAX_ELEMENTS: usize = 1024;
 
-/// What each storage of a new version has after an update at this moment, in seconds, in the order of the storages: what it is to
-/// be made of.
+/// What each storage of a new version has after an update at this moment, in seconds, in the order of the storages:
+/// what it is to be made of.
 ///
-/// Errors, storage by storage: `IntegrityCorrupted` with the storage where what is stored is damaged; then element by element
-/// `IntegrityCorrupted` with the element where it is to be kept and is unreadable, or `DataTypeMismatch` where it is to be
-/// converted and no chain of converters does; then `LimitReached` with `Elements` above 1,024; then `OutOfStorageSpace` above the
-/// maximum. `OutOfMemory`.
+/// Errors, storage by storage: `IntegrityCorrupted` with the storage where what is stored is damaged; then element by
+/// element `IntegrityCorrupted` with the element where it is to be kept and is unreadable, or `DataTypeMismatch` where
+/// it is to be converted and no chain of converters does; then `LimitReached` with `Elements` above 1,024; then
+/// `OutOfStorageSpace` above the maximum. `OutOfMemory`.
 pub fn plan(
     alloc: Global,
     old: &Deployment,
@@ -41,7 +42,8 @@ pub fn plan(
     requires old { IsDeployment (deployment_data old.now) }
     requires new { IsDeployment (deployment_data new.now) }
     requires contents { AllByRecursion (IsOf (deployment_data old.now)) contents.now }
-    ensures plan { Told (items_in (λ x. x.items) result) (PlansAll (rules_of migrations.now) (answers_of migrations.now) now
+    ensures plan { Told (items_in (λ x. x.items) result)
+        (PlansAll (rules_of migrations.now) (answers_of migrations.now) now
         (plans.stored_for (deployment_data old.now) contents.now) (map storage_data new.now.storages)) }
     ensures fits { IfOk result (λ made. AllFit (map storage_data new.now.storages) made.items) }
 {
@@ -66,9 +68,11 @@ impl Update<'_> {
     fn plan(&self, stored: Option<&StorageContents>) -> Result<Vec<Fresh>, PerError>
         requires storage { IsStorage (storage_data self.now.storage.now) }
         requires stored { ArePresent self.now.storage.now.kind (or_missing stored) }
-        ensures plan { Told (items_in (λ x. x.items) result) (PlansFor (rules_of self.now.migrations.now) (answers_of self.now.migrations.now)
+        ensures plan { Told (items_in (λ x. x.items) result)
+            (PlansFor (rules_of self.now.migrations.now) (answers_of self.now.migrations.now)
             self.now.moment (storage_data self.now.storage.now) (or_missing stored.entry)) }
-        ensures fits { IfOk result (λ made. AreContents self.now.storage.now.kind self.now.storage.now.maximum made.items) }
+        ensures fits { IfOk result (λ made. AreContents self.now.storage.now.kind self.now.storage.now.maximum
+            made.items) }
     {
         match stored {
             None => self.plan_over(&[]),
@@ -82,10 +86,13 @@ impl Update<'_> {
     fn plan_over(&self, stored: &[Entry]) -> Result<Vec<Fresh>, PerError>
         requires storage { IsStorage (storage_data self.now.storage.now) }
         requires stored { AreStored self.now.storage.now.kind stored.now }
-        ensures plan { Told (items_in (λ x. x.items) result) (PlansOver (rules_of self.now.migrations.now) (answers_of self.now.migrations.now)
+        ensures plan { Told (items_in (λ x. x.items) result)
+            (PlansOver (rules_of self.now.migrations.now) (answers_of self.now.migrations.now)
             self.now.moment (storage_data self.now.storage.now) stored.now
-            (first_refusal (rules_of self.now.migrations.now) self.now.moment (storage_data self.now.storage.now) stored.now)) }
-        ensures fits { IfOk result (λ made. AreContents self.now.storage.now.kind self.now.storage.now.maximum made.items) }
+            (first_refusal (rules_of self.now.migrations.now) self.now.moment (storage_data self.now.storage.now)
+            stored.now)) }
+        ensures fits { IfOk result (λ made. AreContents self.now.storage.now.kind self.now.storage.now.maximum
+            made.items) }
     {
         let contents = self.updated(stored)?;
         within_limits(self.storage.maximum, contents)
@@ -95,7 +102,8 @@ impl Update<'_> {
     fn updated(&self, stored: &[Entry]) -> Result<Vec<Fresh>, PerError>
         requires storage { IsStorage (storage_data self.now.storage.now) }
         requires stored { AreStored self.now.storage.now.kind stored.now }
-        ensures { RenewAll (rules_of self.now.migrations.now) (answers_of self.now.migrations.now) self.now.moment (storage_data self.now.storage.now)
+        ensures { RenewAll (rules_of self.now.migrations.now) (answers_of self.now.migrations.now) self.now.moment
+            (storage_data self.now.storage.now)
             (merged stored.now (map element_data self.now.storage.now.elements)) (items_in (λ x. x.items) result) }
     {
         let mut contents = Vec::new(self.alloc);

@@ -12,7 +12,8 @@ ghost use Rattle.value_model.specs.Encoding.{encoding};
 ghost use Rattle.value_model.specs.Kinds.{kind_fits};
 ghost use Rattle.value_model.specs.Trees.{type_of};
 ghost use Rattle.value_model.specs.Views.{kind_of};
-ghost use Rattle.update_plan.specs.Fates.{FitsType, Keeps, Refuses, Renews, GivesOnly, by_chain, fate, initial_in, of_bytes, of_content, of_type, of_value, strategy_of, type_in, unreadable};
+ghost use Rattle.update_plan.specs.Fates.{FitsType, Keeps, Refuses, Renews, GivesOnly, by_chain, fate, initial_in};
+ghost use Rattle.update_plan.specs.Fates.{of_bytes, of_content, of_type, of_value, strategy_of, type_in, unreadable};
 ghost use Rattle.update_plan.specs.Fates as fates;
 ghost use Rattle.update_plan.specs.Items.{item_of};
 ghost use Rattle.index_text.specs.Contents.{IsFresh};
@@ -43,14 +44,17 @@ pub(crate) struct Update<'a> {
 impl Update<'_> {
     /// What a name gets, or nothing.
     ///
-    /// Errors: `IntegrityCorrupted` where what is to be kept is unreadable; `DataTypeMismatch` where it is to be converted and no
-    /// chain of converters does; `OutOfMemory`.
+    /// # Errors
+    ///
+    /// `IntegrityCorrupted` where what is to be kept is unreadable; `DataTypeMismatch` where it is to be converted and
+    /// no chain of converters does; `OutOfMemory`.
     pub(crate) fn renewed(&self, item: Item) -> Result<Option<Fresh>, PerError>
         requires stored { IfSome (item_of item).stored (IsStored self.now.storage.now.kind) }
         requires configured { IfSome (item_of item).configured (IsElement self.now.storage.now.kind) }
         ensures made { IfOk result (IfMade self.now.storage.now.kind (item_of item.entry).name) }
         ensures renewed { Renews (answers_of self.now.migrations.now) (item_of item.entry).name
-            (fate (rules_of self.now.migrations.now) self.now.moment (storage_data self.now.storage.now) (item_of item.entry).name (item_of item.entry).configured (item_of item.entry).stored) result }
+            (fate (rules_of self.now.migrations.now) self.now.moment (storage_data self.now.storage.now)
+            (item_of item.entry).name (item_of item.entry).configured (item_of item.entry).stored) result }
     {
         let strategy = own_strategy(item);
         match row_by(
@@ -74,7 +78,8 @@ impl Update<'_> {
         requires typed { FitsType (option_map (λ t. kind_of t.now) to) }
         ensures made { IfOk result (IsMade self.now.storage.now.kind name.now) }
         ensures kept { Keeps (answers_of self.now.migrations.now) name.now
-            (of_content (rules_of self.now.migrations.now) self.now.storage.now.kind self.now.storage.now.name name.now entry.now.info (option_map (λ t. kind_of t.now) to.entry) entry.now.content) result }
+            (of_content (rules_of self.now.migrations.now) self.now.storage.now.kind self.now.storage.now.name name.now
+            entry.now.info (option_map (λ t. kind_of t.now) to.entry) entry.now.content) result }
     {
         match &entry.content {
             Content::Bad(_) => Err(self.unreadable(name)),
@@ -94,7 +99,8 @@ impl Update<'_> {
         requires typed { FitsType (option_map (λ t. kind_of t.now) to) }
         ensures made { IfOk result (IsMade StoreKind.Keys same.name) }
         ensures kept { Keeps (answers_of self.now.migrations.now) same.name
-            (of_value (rules_of self.now.migrations.now) self.now.storage.now.name same (option_map (λ t. kind_of t.now) to.entry) (decoded same.bytes)) result }
+            (of_value (rules_of self.now.migrations.now) self.now.storage.now.name same
+            (option_map (λ t. kind_of t.now) to.entry) (decoded same.bytes)) result }
     {
         match decode(self.alloc, same.bytes.as_slice()) {
             Ok(value) => self.kept_value(same, &value, to),
@@ -114,7 +120,8 @@ impl Update<'_> {
         requires typed { FitsType (option_map (λ t. kind_of t.now) to) }
         ensures made { IfOk result (IsMade StoreKind.Keys same.name) }
         ensures kept { Keeps (answers_of self.now.migrations.now) same.name
-            (of_type (rules_of self.now.migrations.now) same value.now (option_map (λ t. kind_of t.now) to.entry)) result }
+            (of_type (rules_of self.now.migrations.now) same value.now (option_map (λ t. kind_of t.now) to.entry))
+            result }
     {
         let Some(to) = to else {
             return Ok(same);
@@ -131,7 +138,8 @@ impl Update<'_> {
         requires { IsTrue (kind_fits (kind_of to.now)) }
         ensures made { IfOk result (IsMade StoreKind.Keys name) }
         ensures kept { Keeps (answers_of self.now.migrations.now) name
-            (by_chain value.now (kind_of to.now) (chain_of (rules_of self.now.migrations.now) name (type_of value.now) (kind_of to.now))) result }
+            (by_chain value.now (kind_of to.now) (chain_of (rules_of self.now.migrations.now) name (type_of value.now)
+            (kind_of to.now))) result }
     {
         let _valid = value.node();
         let Ok(from) = value.value_type(self.alloc) else {

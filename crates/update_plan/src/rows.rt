@@ -28,7 +28,8 @@ pub(crate) fn row_by<'a>(
     initial: Option<&'a Bytes>,
     stored: Option<&'a Entry>,
 ) -> Row<'a>
-    ensures { row_of result ≡ row_by strategy collection (option_map (λ b. b.now) initial.entry) (option_map (λ e. e.now) stored.entry) }
+    ensures { row_of result ≡ row_by strategy collection (option_map (λ b. b.now) initial.entry)
+        (option_map (λ e. e.now) stored.entry) }
 {
     match strategy {
         Some(ElementStrategy::Delete) => Row::Nothing,
@@ -51,7 +52,8 @@ fn initial_or_nothing(initial: Option<&Bytes>) -> Row<'_>
 }
 
 fn kept_or_initial<'a>(stored: Option<&'a Entry>, initial: Option<&'a Bytes>) -> Row<'a>
-    ensures { row_of result ≡ kept_or (option_map (λ e. e.now) stored.entry) true (initial_or (option_map (λ b. b.now) initial.entry)) }
+    ensures { row_of result ≡ kept_or (option_map (λ e. e.now) stored.entry) true
+        (initial_or (option_map (λ b. b.now) initial.entry)) }
 {
     match stored {
         Some(entry) => Row::Kept(entry),
@@ -59,7 +61,8 @@ fn kept_or_initial<'a>(stored: Option<&'a Entry>, initial: Option<&'a Bytes>) ->
     }
 }
 
-/// The info of an element that gets its initial content now: a stored file that is overwritten changes, any other file is made.
+/// The info of an element that gets its initial content now: a stored file that is overwritten changes, any other file
+/// is made.
 pub(crate) fn initial_info(
     kind: StoreKind,
     strategy: Option<ElementStrategy>,

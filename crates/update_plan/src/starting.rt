@@ -11,8 +11,8 @@ use file_core::made;
 use per_base::{Bytes, Cause, FileInfo, Fresh, Name, StoreKind};
 use std::alloc::{AllocError, Global};
 
-/// What a storage has at the start: each element that is not to be deleted and has an initial content, with this cause and this
-/// moment in seconds in the info of a file.
+/// What a storage has at the start: each element that is not to be deleted and has an initial content, with this cause
+/// and this moment in seconds in the info of a file.
 pub fn initial_of(
     alloc: Global,
     config: &StorageConfig,
@@ -59,7 +59,12 @@ fn made_fresh(
     cause: Cause,
     now: u64,
 ) -> Result<Fresh, AllocError>
-    ensures { IfOk result (λ fresh. fresh ≡ record { name = name.now; info = made_info kind cause now; bytes = bytes.now }) }
+    ensures { IfOk result (λ fresh. fresh ≡ record {
+      name = name.now;
+      info = made_info kind cause now;
+      bytes =
+          bytes.now;
+    }) }
 {
     let name = name.copy()?;
     let bytes = bytes.copy()?;

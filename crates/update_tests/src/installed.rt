@@ -62,7 +62,8 @@ pub(crate) fn installed(
 /// The storage of this name.
 fn storage_of<'a>(deployment: &'a Deployment, name: &Name) -> Result<&'a StorageConfig, RowError>
     requires { IsDeployment (deployment_data deployment.now) }
-    ensures named { IfOk result (λ s. storage_named (deployment_data deployment.now) name.now ≡ Some (storage_data s.now)) }
+    ensures named { IfOk result (λ s. storage_named (deployment_data deployment.now) name.now
+        ≡ Some (storage_data s.now)) }
     ensures keeps { IfOk result (λ s. IsStorage (storage_data s.now)) }
 {
     match deployment.storage(name) {

@@ -1,4 +1,5 @@
-//! Updates as a whole, and the converters that they use. Each row of standard input is a case, and what comes of it is printed.
+//! Updates as a whole, and the converters that they use. Each row of standard input is a case, and what comes of it is
+//! printed.
 //!
 //! | row | what is printed |
 //! |---|---|
@@ -9,8 +10,8 @@
 //! | `chain CONVERTERS\|ELEMENT\|VALUE\|TYPE` | the places of the chain, and what it makes of the value |
 //! | any other | the row itself |
 //!
-//! A converter is two types, as `u8>u16`, or the name of its element before them, as `k:u8>u16`; they have a space between them. Damage
-//! is nothing, or `unreadable` or `shortened` and the name of a storage or an element.
+//! A converter is two types, as `u8>u16`, or the name of its element before them, as `k:u8>u16`; they have a space
+//! between them. Damage is nothing, or `unreadable` or `shortened` and the name of a storage or an element.
 #![tactic(auto)]
 
 mod chains;

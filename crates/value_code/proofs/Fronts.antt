@@ -1,10 +1,14 @@
 -- What stands in front of bytes: what is read is what was written, and what was written is read again.
-use Rattle.std.proofs.Common.{◌≡◌, ◌⊎◌, ℕ, suc, ◌+◌, ◌^◌, ◌<◌, ◌≤◌, Bool, true, false, cond, ltb, List, [], ◌∷◌, ◌++◌, length, get_or, take, drop, Option, Some, None, refl, sym, ap, subst, ◌∙◌, append_assoc, arith, inl, inr}
+use Rattle.std.proofs.Common.{◌≡◌, ◌⊎◌, ℕ, suc, ◌+◌, ◌^◌, ◌<◌, ◌≤◌, Bool, true, false, cond, ltb, List, [], ◌∷◌, ◌++◌}
+use Rattle.std.proofs.Common.{length, get_or, take, drop, Option, Some, None, refl, sym, ap, subst, ◌∙◌, append_assoc}
+use Rattle.std.proofs.Common.{arith, inl, inr}
 use Rattle.std.specs.Int.{w8, w32, byte_len, from_le_bytes, to_le_bytes}
 use Rattle.std.specs.Str.{IsUtf8, is_utf8}
 use Rattle.std.proofs.lemmas.Bool.{cases_lt, ltb-false, le-ltb}
-use Rattle.std.proofs.lemmas.List.{take_at, drop_at, take-append-drop, length-append, length-take, get_or-drop, get_or-take, get_or_past}
-use Rattle.std.proofs.lemmas.Nat.{le_bytes_2, le_bytes_4, le_bytes_8, from_le_bytes-to_le_bytes_2, from_le_bytes-to_le_bytes_4, from_le_bytes-to_le_bytes_8}
+use Rattle.std.proofs.lemmas.List.{take_at, drop_at, take-append-drop, length-append, length-take, get_or-drop}
+use Rattle.std.proofs.lemmas.List.{get_or-take, get_or_past}
+use Rattle.std.proofs.lemmas.Nat.{le_bytes_2, le_bytes_4, le_bytes_8, from_le_bytes-to_le_bytes_2}
+use Rattle.std.proofs.lemmas.Nat.{from_le_bytes-to_le_bytes_4, from_le_bytes-to_le_bytes_8}
 use Rattle.std.proofs.lemmas.Str.{IsUtf8-from_is_utf8, is_utf8-from_IsUtf8}
 use Rattle.value_model.specs.Kinds.{Size, one, two, four, eight, width}
 use Rattle.value_model.specs.Validity.{unsigned_limit}
@@ -31,7 +35,8 @@ AreBytes-rest b bytes h i = h (suc i)
 
 -- ---- steps that found something
 
-pub bind_some : {A B : Type 0} (r : Option A) (f : A → Option B) (y : B) → (r >>= f) ≡ Some y → (x : A) × (r ≡ Some x) × (f x ≡ Some y)
+pub bind_some : {A B : Type 0} (r : Option A) (f : A → Option B) (y : B) → (r >>= f) ≡ Some y
+    → (x : A) × (r ≡ Some x) × (f x ≡ Some y)
 bind_some (Some x) f y e = (x, refl, e)
 bind_some None f y e = absurd cc
 
@@ -50,7 +55,8 @@ pub let_pass : {A : Type 0} (b : Bool) (r : Option A) (y : A) → cond b r None 
 let_pass true r y e = (refl, e)
 let_pass false r y e = absurd cc
 
-pub either_way : {A : Type 0} (b : Bool) (p q : Option A) (y : A) → cond b p q ≡ Some y → ((b ≡ true) × (p ≡ Some y)) ⊎ ((b ≡ false) × (q ≡ Some y))
+pub either_way : {A : Type 0} (b : Bool) (p q : Option A) (y : A) → cond b p q ≡ Some y
+    → ((b ≡ true) × (p ≡ Some y)) ⊎ ((b ≡ false) × (q ≡ Some y))
 either_way true p q y e = inl (refl, e)
 either_way false p q y e = inr (refl, e)
 
@@ -61,11 +67,16 @@ pub record Takes (bytes text rest : List ℕ) : Type 0 where
   pub rest_bytes : AreBytes rest
 
 pub Takes-then : (a x b y c : List ℕ) → Takes a x b → Takes b y c → Takes a (x ++ y) c
-Takes-then a x b y c p q = record { parts = p.parts ∙ ap (λ (t : List ℕ). x ++ t) q.parts ∙ sym (append_assoc x y c); rest_bytes = q.rest_bytes }
+Takes-then a x b y c p q = record {
+  parts = p.parts ∙ ap (λ (t : List ℕ). x ++ t) q.parts ∙ sym (append_assoc x y c);
+  rest_bytes = q.rest_bytes;
+}
 
-pub byte_takes : (bytes : List ℕ) (x : ℕ × List ℕ) → AreBytes bytes → byte_at bytes ≡ Some x → Takes bytes (x.0 ∷ []) x.1
+pub byte_takes : (bytes : List ℕ) (x : ℕ × List ℕ) → AreBytes bytes → byte_at bytes ≡ Some x
+    → Takes bytes (x.0 ∷ []) x.1
 byte_takes [] x small e = absurd cc
-byte_takes (b ∷ rest) x small e = subst (λ (y : ℕ × List ℕ). Takes (b ∷ rest) (y.0 ∷ []) y.1) (some_is (b, rest) x e) (record { parts = refl; rest_bytes = AreBytes-rest b rest small })
+byte_takes (b ∷ rest) x small e = subst (λ (y : ℕ × List ℕ). Takes (b ∷ rest) (y.0 ∷ []) y.1) (some_is (b, rest) x e)
+    (record { parts = refl; rest_bytes = AreBytes-rest b rest small })
 
 -- ---- numbers
 
@@ -74,7 +85,8 @@ one_back [] len small = absurd (omega arith)
 one_back (b ∷ []) len small = let h = small 0 in ap (λ (n : ℕ). n ∷ []) (omega arith)
 one_back (b ∷ c ∷ rest) len small = absurd (omega arith)
 
-pub number_back : (s : Size) (bytes : List ℕ) → length bytes ≡ byte_len (width s) → AreBytes bytes → to_le_bytes (width s) (from_le_bytes (width s) bytes) ≡ bytes
+pub number_back : (s : Size) (bytes : List ℕ) → length bytes ≡ byte_len (width s) → AreBytes bytes
+    → to_le_bytes (width s) (from_le_bytes (width s) bytes) ≡ bytes
 number_back one bytes len small = one_back bytes len small
 number_back two bytes len small = le_bytes_2 bytes _ len small refl
 number_back four bytes len small = le_bytes_4 bytes _ len small refl
@@ -92,44 +104,67 @@ number_below two bytes small = omega (arith, small 0, small 1)
 number_below four bytes small = omega (arith, small 0, small 1, small 2, small 3)
 number_below eight bytes small = omega (arith, small 0, small 1, small 2, small 3, small 4, small 5, small 6, small 7)
 
-pub number_takes : (s : Size) (bytes : List ℕ) (x : ℕ × List ℕ) → AreBytes bytes → number_at (width s) bytes ≡ Some x → Takes bytes (to_le_bytes (width s) x.0) x.1 × (x.0 < unsigned_limit s)
+pub number_takes : (s : Size) (bytes : List ℕ) (x : ℕ × List ℕ) → AreBytes bytes → number_at (width s) bytes ≡ Some x
+    → Takes bytes (to_le_bytes (width s) x.0) x.1 × (x.0 < unsigned_limit s)
 number_takes s bytes x small e =
     let w = byte_len (width s) in
     let front = take w bytes in
     let g = not_stopped (ltb (length bytes) w) (Some (from_le_bytes (width s) front, drop w bytes)) x e in
     let long : w ≤ length bytes = ltb-false _ _ g.0 in
     let back = number_back s front (omega (arith, length-take w bytes)) (AreBytes-take w bytes small) in
-    subst (λ (y : ℕ × List ℕ). Takes bytes (to_le_bytes (width s) y.0) y.1 × (y.0 < unsigned_limit s)) (some_is (from_le_bytes (width s) front, drop w bytes) x g.1)
-    (record { parts = rw back (sym (take-append-drop w bytes)); rest_bytes = AreBytes-drop w bytes small }, number_below s front (AreBytes-take w bytes small))
+    subst (λ (y : ℕ × List ℕ). Takes bytes (to_le_bytes (width s) y.0) y.1 × (y.0 < unsigned_limit s))
+    (some_is (from_le_bytes (width s) front, drop w bytes) x g.1) (
+      record { parts = rw back (sym (take-append-drop w bytes)); rest_bytes = AreBytes-drop w bytes small },
+      number_below s front (AreBytes-take w bytes small),
+    )
 
-pub number_again : (s : Size) (n : ℕ) (rest : List ℕ) → n < unsigned_limit s → number_at (width s) (to_le_bytes (width s) n ++ rest) ≡ Some (n, rest)
+pub number_again : (s : Size) (n : ℕ) (rest : List ℕ) → n < unsigned_limit s
+    → number_at (width s) (to_le_bytes (width s) n ++ rest) ≡ Some (n, rest)
 number_again s n rest lt =
     let len = number_length s n in
-    let long : ltb (length (to_le_bytes (width s) n ++ rest)) (byte_len (width s)) ≡ false = le-ltb _ _ (omega (arith, length-append (to_le_bytes (width s) n) rest)) in
-    rw (long, take_at (to_le_bytes (width s) n) rest (byte_len (width s)) len, drop_at (to_le_bytes (width s) n) rest (byte_len (width s)) len, number_same s n lt) refl
+    let long : ltb (length (to_le_bytes (width s) n ++ rest)) (byte_len (width s)) ≡ false =
+    le-ltb _ _ (omega (arith, length-append (to_le_bytes (width s) n) rest)) in
+    rw (
+      long,
+      take_at (to_le_bytes (width s) n) rest (byte_len (width s)) len,
+      drop_at (to_le_bytes (width s) n) rest (byte_len (width s)) len,
+      number_same s n lt,
+    ) refl
 
 -- ---- a length and that many bytes
 
-pub counted_takes : (bytes : List ℕ) (x : List ℕ × List ℕ) → AreBytes bytes → counted_at bytes ≡ Some x → Takes bytes (to_le_bytes w32 (length x.0) ++ x.0) x.1 × AreBytes x.0
+pub counted_takes : (bytes : List ℕ) (x : List ℕ × List ℕ) → AreBytes bytes → counted_at bytes ≡ Some x
+    → Takes bytes (to_le_bytes w32 (length x.0) ++ x.0) x.1 × AreBytes x.0
 unfolding counted_at
 counted_takes bytes x small e =
-    let b = bind_some (number_at w32 bytes) (λ n. cond (ltb (length n.1) n.0) None (Some (take n.0 n.1, drop n.0 n.1))) x e in
+    let b = bind_some (number_at w32 bytes) (λ n. cond (ltb (length n.1) n.0) None (Some (take n.0 n.1, drop n.0 n.1)))
+    x e in
     let n = b.0 in
     let t = number_takes four bytes n small b.1 in
     let g = not_stopped (ltb (length n.1) n.0) (Some (take n.0 n.1, drop n.0 n.1)) x b.2 in
     let long : n.0 ≤ length n.1 = ltb-false _ _ g.0 in
     let len : length (take n.0 n.1) ≡ n.0 = omega (arith, length-take n.0 n.1) in
-    let second : Takes n.1 (take n.0 n.1) (drop n.0 n.1) = record { parts = sym (take-append-drop n.0 n.1); rest_bytes = AreBytes-drop n.0 n.1 t.0.rest_bytes } in
+    let second : Takes n.1 (take n.0 n.1) (drop n.0 n.1) =
+    record { parts = sym (take-append-drop n.0 n.1); rest_bytes = AreBytes-drop n.0 n.1 t.0.rest_bytes } in
     let both = Takes-then bytes (to_le_bytes w32 n.0) n.1 (take n.0 n.1) (drop n.0 n.1) t.0 second in
-    let whole : Takes bytes (to_le_bytes w32 (length (take n.0 n.1)) ++ take n.0 n.1) (drop n.0 n.1) = subst (λ (k : ℕ). Takes bytes (to_le_bytes w32 k ++ take n.0 n.1) (drop n.0 n.1)) (sym len) both in
-    subst (λ (p : List ℕ × List ℕ). Takes bytes (to_le_bytes w32 (length p.0) ++ p.0) p.1 × AreBytes p.0) (some_is (take n.0 n.1, drop n.0 n.1) x g.1) (whole, AreBytes-take n.0 n.1 t.0.rest_bytes)
+    let whole : Takes bytes (to_le_bytes w32 (length (take n.0 n.1)) ++ take n.0 n.1) (drop n.0 n.1) =
+    subst (λ (k : ℕ). Takes bytes (to_le_bytes w32 k ++ take n.0 n.1) (drop n.0 n.1)) (sym len) both in
+    subst (λ (p : List ℕ × List ℕ). Takes bytes (to_le_bytes w32 (length p.0) ++ p.0) p.1 × AreBytes p.0)
+    (some_is (take n.0 n.1, drop n.0 n.1) x g.1) (whole, AreBytes-take n.0 n.1 t.0.rest_bytes)
 
-pub counted_again : (text rest : List ℕ) → length text < 2 ^ 32 → counted_at ((to_le_bytes w32 (length text) ++ text) ++ rest) ≡ Some (text, rest)
+pub counted_again : (text rest : List ℕ) → length text < 2 ^ 32
+    → counted_at ((to_le_bytes w32 (length text) ++ text) ++ rest) ≡ Some (text, rest)
 unfolding counted_at
 counted_again text rest lt =
     let regrouped = append_assoc (to_le_bytes w32 (length text)) text rest in
-    let long : ltb (length (text ++ rest)) (length text) ≡ false = le-ltb _ _ (omega (arith, length-append text rest)) in
-    ap counted_at regrouped ∙ rw (number_again four (length text) (text ++ rest) lt, long, take_at text rest (length text) refl, drop_at text rest (length text) refl) refl
+    let long : ltb (length (text ++ rest)) (length text) ≡ false =
+    le-ltb _ _ (omega (arith, length-append text rest)) in
+    ap counted_at regrouped ∙ rw (
+      number_again four (length text) (text ++ rest) lt,
+      long,
+      take_at text rest (length text) refl,
+      drop_at text rest (length text) refl,
+    ) refl
 
 -- ---- texts
 

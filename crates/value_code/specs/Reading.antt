@@ -1,11 +1,15 @@
--- What bytes say, read from left to right: a kind, a tree of a kind that is known, and the value that all of them encode.
-use Rattle.std.specs.Prelude.{◌≡◌, ℕ, zero, suc, List, [], ◌∷◌, length, take, drop, Bool, true, false, nat_eq, nat_lt, Option, Some, None, is_some, Result, Ok, Err, if◌then◌else◌}
+-- What bytes say, read from left to right: a kind, a tree of a kind that is known, and the value that all of them
+-- encode.
+use Rattle.std.specs.Prelude.{◌≡◌, ℕ, zero, suc, List, [], ◌∷◌, length, take, drop, Bool, true, false, nat_eq, nat_lt}
+use Rattle.std.specs.Prelude.{Option, Some, None, is_some, Result, Ok, Err, if◌then◌else◌}
 use Rattle.std.specs.Int.{Width, w32, byte_len, from_le_bytes, cast_signed}
 use Rattle.std.specs.Str.{is_utf8}
 use Rattle.value_model.specs.declared.errors.DecodeError.{DecodeError}
 use Rattle.value_model.specs.declared.errors.DecodeError.TheVariants.{NotAValue, OutOfMemory}
-use Rattle.value_model.specs.Kinds.{one, two, four, eight, width, is_group, Kind, bool_kind, unsigned_kind, signed_kind, text_kind, bytes_kind, list_kind, fields_kind, Kinds, no_kinds, kind_then}
-use Rattle.value_model.specs.Trees.{Tree, bool_tree, unsigned_tree, signed_tree, text_tree, bytes_tree, list_tree, fields_tree, Trees, no_trees, tree_then}
+use Rattle.value_model.specs.Kinds.{one, two, four, eight, width, is_group, Kind, bool_kind, unsigned_kind, signed_kind}
+use Rattle.value_model.specs.Kinds.{text_kind, bytes_kind, list_kind, fields_kind, Kinds, no_kinds, kind_then}
+use Rattle.value_model.specs.Trees.{Tree, bool_tree, unsigned_tree, signed_tree, text_tree, bytes_tree, list_tree}
+use Rattle.value_model.specs.Trees.{fields_tree, Trees, no_trees, tree_then}
 use Rattle.value_model.specs.Validity.{max_depth, max_length}
 
 infixl 10 ◌>>=◌
@@ -30,7 +34,8 @@ byte_at [] = None
 byte_at (b ∷ rest) = Some (b, rest)
 
 abbrev pub number_at : Width → List ℕ → Option (ℕ × List ℕ)
-number_at w bytes = if nat_lt (length bytes) (byte_len w) then None else Some (from_le_bytes w (take (byte_len w) bytes), drop (byte_len w) bytes)
+number_at w bytes = if nat_lt (length bytes) (byte_len w) then None else Some
+    (from_le_bytes w (take (byte_len w) bytes), drop (byte_len w) bytes)
 
 -- a length, and that many bytes
 unfoldable pub counted_at : List ℕ → Option (List ℕ × List ℕ)
@@ -46,7 +51,8 @@ text_of bytes = if is_utf8 bytes then Some bytes else None
 
 -- the types of one byte
 abbrev pub scalars : List (ℕ × Kind)
-scalars = (1, bool_kind) ∷ (2, unsigned_kind one) ∷ (3, unsigned_kind two) ∷ (4, unsigned_kind four) ∷ (5, unsigned_kind eight)
+scalars = (1, bool_kind) ∷ (2, unsigned_kind one) ∷ (3, unsigned_kind two) ∷ (4, unsigned_kind four)
+    ∷ (5, unsigned_kind eight)
     ∷ (6, signed_kind one) ∷ (7, signed_kind two) ∷ (8, signed_kind four) ∷ (9, signed_kind eight)
     ∷ (10, text_kind) ∷ (11, bytes_kind) ∷ []
 
@@ -85,7 +91,8 @@ unfoldable pub kind_at : ℕ → List ℕ → Option (Kind × List ℕ)
 kind_at zero bytes = None
 kind_at (suc depth) bytes = do
   code ← byte_at bytes
-  if nat_eq code.0 12 then list_kind_by (kind_at depth) code.1 else if nat_eq code.0 13 then group_kind_by (kind_at depth) code.1 else scalar_kind code.0 code.1
+  if nat_eq code.0 12 then list_kind_by (kind_at depth) code.1 else if nat_eq code.0 13 then group_kind_by
+      (kind_at depth) code.1 else scalar_kind code.0 code.1
 
 -- ---- trees
 
@@ -104,15 +111,18 @@ abbrev mutual
   pub tree_at : Kind → List ℕ → Option (Tree × List ℕ)
   tree_at bool_kind bytes = byte_at bytes >>= λ b. truth_of b.0 >>= λ truth. Some (bool_tree truth, b.1)
   tree_at (unsigned_kind s) bytes = number_at (width s) bytes >>= λ n. Some (unsigned_tree s n.0, n.1)
-  tree_at (signed_kind s) bytes = number_at (width s) bytes >>= λ n. Some (signed_tree s (cast_signed (width s) n.0), n.1)
+  tree_at (signed_kind s) bytes = number_at (width s) bytes >>= λ n.
+      Some (signed_tree s (cast_signed (width s) n.0), n.1)
   tree_at text_kind bytes = counted_at bytes >>= λ t. text_of t.0 >>= λ text. Some (text_tree text, t.1)
   tree_at bytes_kind bytes = counted_at bytes >>= λ b. Some (bytes_tree b.0, b.1)
-  tree_at (list_kind k) bytes = number_at w32 bytes >>= λ n. trees_by (tree_at k) n.0 n.1 >>= λ items. Some (list_tree k items.0, items.1)
+  tree_at (list_kind k) bytes = number_at w32 bytes >>= λ n. trees_by (tree_at k) n.0 n.1 >>= λ items.
+      Some (list_tree k items.0, items.1)
   tree_at (fields_kind ks) bytes = trees_at ks bytes >>= λ members. Some (fields_tree members.0, members.1)
 
   pub trees_at : Kinds → List ℕ → Option (Trees × List ℕ)
   trees_at no_kinds bytes = Some (no_trees, bytes)
-  trees_at (kind_then k ks) bytes = tree_at k bytes >>= λ first. trees_at ks first.1 >>= λ others. Some (tree_then first.0 others.0, others.1)
+  trees_at (kind_then k ks) bytes = tree_at k bytes >>= λ first. trees_at ks first.1 >>= λ others.
+      Some (tree_then first.0 others.0, others.1)
 
 -- ---- values
 
@@ -121,7 +131,8 @@ if_whole t = if nat_eq (length t.1) 0 then Some t.0 else None
 
 -- the value that the bytes encode, where there is one
 unfoldable pub decoded : List ℕ → Option Tree
-decoded bytes = if nat_lt max_length (length bytes) then None else (kind_at max_depth bytes >>= λ k. tree_at k.0 k.1 >>= if_whole)
+decoded bytes = if nat_lt max_length (length bytes) then None else
+    (kind_at max_depth bytes >>= λ k. tree_at k.0 k.1 >>= if_whole)
 
 -- whether some value encodes to the bytes
 abbrev pub is_encoding : List ℕ → Bool

@@ -2,7 +2,8 @@
 use Rattle.std.specs.Prelude.{◌≡◌, [], ◌∷◌, true, negsuc, Some, None}
 use Rattle.std.proofs.Common.{refl}
 use Rattle.value_model.specs.Kinds.{one, two, four, unsigned_kind}
-use Rattle.value_model.specs.Trees.{bool_tree, unsigned_tree, signed_tree, bytes_tree, list_tree, fields_tree, no_trees, tree_then}
+use Rattle.value_model.specs.Trees.{bool_tree, unsigned_tree, signed_tree, bytes_tree, list_tree, fields_tree, no_trees}
+use Rattle.value_model.specs.Trees.{tree_then}
 use Rattle.value_code.specs.Reading.{counted_at, kinds_by, list_kind_by, group_kind_by, kind_at, trees_by, decoded}
 
 bool_sample : decoded (1 ∷ 1 ∷ []) ≡ Some (bool_tree true)
@@ -21,7 +22,8 @@ bytes_sample : decoded (11 ∷ 0 ∷ 0 ∷ 0 ∷ 0 ∷ []) ≡ Some (bytes_tree 
 unfolding decoded kind_at counted_at
 bytes_sample = refl
 
-list_sample : decoded (12 ∷ 2 ∷ 2 ∷ 0 ∷ 0 ∷ 0 ∷ 1 ∷ 2 ∷ []) ≡ Some (list_tree (unsigned_kind one) (tree_then (unsigned_tree one 1) (tree_then (unsigned_tree one 2) no_trees)))
+list_sample : decoded (12 ∷ 2 ∷ 2 ∷ 0 ∷ 0 ∷ 0 ∷ 1 ∷ 2 ∷ [])
+    ≡ Some (list_tree (unsigned_kind one) (tree_then (unsigned_tree one 1) (tree_then (unsigned_tree one 2) no_trees)))
 unfolding decoded kind_at list_kind_by trees_by
 list_sample = refl
 

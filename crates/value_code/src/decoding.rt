@@ -14,7 +14,9 @@ use value_model::{DecodeError, MAX_DEPTH, MAX_LENGTH, Node, Value};
 
 /// The value that the bytes encode, all of the bytes.
 ///
-/// Errors: `NotAValue` exactly where no value encodes to the bytes; `OutOfMemory`.
+/// # Errors
+///
+/// `NotAValue` exactly where no value encodes to the bytes; `OutOfMemory`.
 pub fn decode(alloc: Global, bytes: &[u8]) -> Result<Value, DecodeError>
     // what is read is encoded so, and what is encoded so is read
     ensures found { IfOk result (λ v. IsValue v × (bytes.now ≡ encoding v)) }

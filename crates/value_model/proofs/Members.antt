@@ -1,5 +1,6 @@
 -- The kinds and trees of lists: how many there are, and what is left of them in a loop.
-use Rattle.std.proofs.Common.{◌≡◌, ◌≢◌, ◌≤◌, ◌↔◌, ◌++◌, ℕ, suc, true, false, drop, List, [], ◌∷◌, length, map, refl, ap, sym, ◌∙◌, ◌&&◌, Vec, Box, vec_len, Global, rules}
+use Rattle.std.proofs.Common.{◌≡◌, ◌≢◌, ◌≤◌, ◌↔◌, ◌++◌, ℕ, suc, true, false, drop, List, [], ◌∷◌, length, map, refl, ap}
+use Rattle.std.proofs.Common.{sym, ◌∙◌, ◌&&◌, Vec, Box, vec_len, Global, rules}
 use Rattle.value_model.specs.declared.types.ValueType as types
 use Rattle.value_model.specs.declared.types.ValueType.{ValueType}
 use Rattle.value_model.specs.declared.nodes.Node as nodes
@@ -8,7 +9,8 @@ use Rattle.std.proofs.lemmas.List.{drop_all, append-nil}
 use Rattle.std.proofs.lemmas.Bool.{and_parts, and_from, leb-true, le-leb}
 use Rattle.std.specs.Prelude.{nat_le}
 use Rattle.value_model.specs.Validity.{IsTyped, AllTyped}
-use Rattle.value_model.specs.Kinds.{Kind, count_kinds, fields_kind, list_kind, kind_then, kind_fits, kinds_fit, is_group}
+use Rattle.value_model.specs.Kinds.{Kind, count_kinds, fields_kind, list_kind, kind_then, kind_fits, kinds_fit}
+use Rattle.value_model.specs.Kinds.{is_group}
 use Rattle.value_model.specs.Trees.{Trees, no_trees, tree_then, fields_tree, list_tree, count_trees, type_of, types_of}
 use Rattle.value_model.specs.Views.{kind_of, kinds_of, kinds_view, tree_of, trees_view}
 
@@ -28,18 +30,23 @@ pub count_types : (ts : Trees) → count_kinds (types_of ts) ≡ count_trees ts
 count_types no_trees = refl
 count_types (tree_then t ts) = ap suc (count_types ts)
 
-pub members_differ : (ns : List Node) (ts : List ValueType) → length ns ≢ length ts → types_of (trees_view ns) ≢ kinds_view ts
-members_differ ns ts n e = n (sym (count_trees-view ns) ∙ (sym (count_types (trees_view ns)) ∙ (ap count_kinds e ∙ count_kinds-view ts)))
+pub members_differ : (ns : List Node) (ts : List ValueType) → length ns ≢ length ts
+    → types_of (trees_view ns) ≢ kinds_view ts
+members_differ ns ts n e = n (sym (count_trees-view ns)
+    ∙ (sym (count_types (trees_view ns)) ∙ (ap count_kinds e ∙ count_kinds-view ts)))
 
 pub types_view : (ns : List Node) → types_of (trees_view ns) ≡ kinds_of (map (λ n. type_of (tree_of n)) ns)
 types_view [] = refl
 types_view (n ∷ ns) = ap (λ ks. kind_then (type_of (tree_of n)) ks) (types_view ns)
 
 -- the types of all nodes, where none is left
-pub types_done : (front : List Kind) (ns : List Node) (i : ℕ) → length ns ≤ i → front ++ map (λ n. type_of (tree_of n)) (drop i ns) ≡ map (λ n. type_of (tree_of n)) ns → kinds_of front ≡ types_of (trees_view ns)
+pub types_done : (front : List Kind) (ns : List Node) (i : ℕ) → length ns ≤ i
+    → front ++ map (λ n. type_of (tree_of n)) (drop i ns) ≡ map (λ n. type_of (tree_of n)) ns
+    → kinds_of front ≡ types_of (trees_view ns)
 types_done front ns i le e =
     let none : drop i ns ≡ [] = drop_all i ns le in
-    let all : front ≡ map (λ n. type_of (tree_of n)) ns = sym (append-nil front) ∙ (ap (λ (ms : List Node). front ++ map (λ n. type_of (tree_of n)) ms) (sym none) ∙ e) in
+    let all : front ≡ map (λ n. type_of (tree_of n)) ns =
+    sym (append-nil front) ∙ (ap (λ (ms : List Node). front ++ map (λ n. type_of (tree_of n)) ms) (sym none) ∙ e) in
     ap kinds_of all ∙ sym (types_view ns)
 
 pub len-items : {X : Type 0} (v : Vec X Global) → length v.items ≡ vec_len v
@@ -49,13 +56,15 @@ len-items v = sym v.ok.0
 pub kind_of-Fields : (v : Vec ValueType Global) → kind_of (types.Fields v) ≡ fields_kind (kinds_view v.items)
 kind_of-Fields v = search (rules, types.the_lemmas)
 
-pub fits-Fields : (v : Vec ValueType Global) → kind_fits (kind_of (types.Fields v)) ≡ (is_group (vec_len v) && kinds_fit (kinds_view v.items))
+pub fits-Fields : (v : Vec ValueType Global) → kind_fits (kind_of (types.Fields v))
+    ≡ (is_group (vec_len v) && kinds_fit (kinds_view v.items))
 fits-Fields v = rw (kind_of-Fields v, count_kinds-view v.items, len-items v) refl
 
 pub kind_of-List : (b : Box ValueType Global) → kind_of (types.List b) ≡ list_kind (kind_of b.value)
 kind_of-List b = search (rules, types.the_lemmas)
 
-pub tree_of-List : (t : ValueType) (v : Vec Node Global) → tree_of (nodes.List t v) ≡ list_tree (kind_of t) (trees_view v.items)
+pub tree_of-List : (t : ValueType) (v : Vec Node Global)
+    → tree_of (nodes.List t v) ≡ list_tree (kind_of t) (trees_view v.items)
 tree_of-List t v = search (rules, nodes.the_lemmas)
 
 pub tree_of-Fields : (v : Vec Node Global) → tree_of (nodes.Fields v) ≡ fields_tree (trees_view v.items)
@@ -75,7 +84,8 @@ untyped_group ts n same e t =
     let most : n ≤ 32 = rw (← same) t.1.0 in
     cc (e, and_from (nat_le 1 n) (nat_le n 32) (le-leb 1 n least) (le-leb n 32 most))
 
-pub typed-Fields : (v : Vec Node Global) (members : List Node) → members ≡ v.items → is_group (vec_len v) ≡ true → IsTyped (tree_of (nodes.Fields v)) ↔ AllTyped (trees_view members)
+pub typed-Fields : (v : Vec Node Global) (members : List Node) → members ≡ v.items → is_group (vec_len v) ≡ true
+    → IsTyped (tree_of (nodes.Fields v)) ↔ AllTyped (trees_view members)
 typed-Fields v members same e = rw (tree_of-Fields v, same) (typed_group (trees_view v.items) (vec_len v) (counted v) e)
 
 pub untyped-Fields : (v : Vec Node Global) → is_group (vec_len v) ≡ false → ¬ IsTyped (tree_of (nodes.Fields v))

@@ -1,9 +1,12 @@
--- Codes of kinds and of trees, by which a proof tells two of them apart: each is written as a list of tokens, and a stack machine reads it back.
+-- Codes of kinds and of trees, by which a proof tells two of them apart: each is written as a list of tokens, and a
+-- stack machine reads it back.
 use Rattle.std.specs.Prelude.{◌≡◌, ℕ, ℤ, pos, negsuc, List, [], ◌∷◌, Bool, true, false, cond, nat_eq, nat_le, refl}
 use Rattle.std.specs.Coded.{Coded, code_by, coded_ℕ, coded_ℤ, coded_list, coded×, Coded-set}
 use Rattle.std.proofs.Common.{◌∙◌, ap}
-use Rattle.value_model.specs.Kinds.{Size, one, two, four, eight, Kind, bool_kind, unsigned_kind, signed_kind, text_kind, bytes_kind, list_kind, fields_kind, Kinds, no_kinds, kind_then}
-use Rattle.value_model.specs.Trees.{Tree, bool_tree, unsigned_tree, signed_tree, text_tree, bytes_tree, list_tree, fields_tree, Trees, no_trees, tree_then}
+use Rattle.value_model.specs.Kinds.{Size, one, two, four, eight, Kind, bool_kind, unsigned_kind, signed_kind, text_kind}
+use Rattle.value_model.specs.Kinds.{bytes_kind, list_kind, fields_kind, Kinds, no_kinds, kind_then}
+use Rattle.value_model.specs.Trees.{Tree, bool_tree, unsigned_tree, signed_tree, text_tree, bytes_tree, list_tree}
+use Rattle.value_model.specs.Trees.{fields_tree, Trees, no_trees, tree_then}
 
 -- what to build, with a number, an integer and a list to build it from
 abbrev Token : Type 0
@@ -124,7 +127,8 @@ bool_back true = refl
 bool_back false = refl
 
 mutual
-  pub run_kind : (k : Kind) (more : List Token) (below : List Built) → run (kind_tokens k more) below ≡ run more (a_kind k ∷ below)
+  pub run_kind : (k : Kind) (more : List Token) (below : List Built)
+      → run (kind_tokens k more) below ≡ run more (a_kind k ∷ below)
   run_kind bool_kind more below = refl
   run_kind (unsigned_kind s) more below = ap (λ n. run more (a_kind (unsigned_kind n) ∷ below)) (size_back s)
   run_kind (signed_kind s) more below = ap (λ n. run more (a_kind (signed_kind n) ∷ below)) (size_back s)
@@ -133,23 +137,29 @@ mutual
   run_kind (list_kind k) more below = run_kind k (token 6 ∷ more) below
   run_kind (fields_kind ks) more below = run_kinds ks (token 7 ∷ more) below
 
-  pub run_kinds : (ks : Kinds) (more : List Token) (below : List Built) → run (kinds_tokens ks more) below ≡ run more (some_kinds ks ∷ below)
+  pub run_kinds : (ks : Kinds) (more : List Token) (below : List Built)
+      → run (kinds_tokens ks more) below ≡ run more (some_kinds ks ∷ below)
   run_kinds no_kinds more below = refl
-  run_kinds (kind_then k ks) more below = run_kind k (kinds_tokens ks (token 9 ∷ more)) below ∙ run_kinds ks (token 9 ∷ more) (a_kind k ∷ below)
+  run_kinds (kind_then k ks) more below = run_kind k (kinds_tokens ks (token 9 ∷ more)) below
+      ∙ run_kinds ks (token 9 ∷ more) (a_kind k ∷ below)
 
 mutual
-  pub run_tree : (t : Tree) (more : List Token) (below : List Built) → run (tree_tokens t more) below ≡ run more (a_tree t ∷ below)
+  pub run_tree : (t : Tree) (more : List Token) (below : List Built)
+      → run (tree_tokens t more) below ≡ run more (a_tree t ∷ below)
   run_tree (bool_tree b) more below = ap (λ n. run more (a_tree (bool_tree n) ∷ below)) (bool_back b)
   run_tree (unsigned_tree s n) more below = ap (λ m. run more (a_tree (unsigned_tree m n) ∷ below)) (size_back s)
   run_tree (signed_tree s z) more below = ap (λ m. run more (a_tree (signed_tree m z) ∷ below)) (size_back s)
   run_tree (text_tree t) more below = refl
   run_tree (bytes_tree b) more below = refl
-  run_tree (list_tree k ts) more below = run_kind k (trees_tokens ts (token 15 ∷ more)) below ∙ run_trees ts (token 15 ∷ more) (a_kind k ∷ below)
+  run_tree (list_tree k ts) more below = run_kind k (trees_tokens ts (token 15 ∷ more)) below
+      ∙ run_trees ts (token 15 ∷ more) (a_kind k ∷ below)
   run_tree (fields_tree ts) more below = run_trees ts (token 16 ∷ more) below
 
-  pub run_trees : (ts : Trees) (more : List Token) (below : List Built) → run (trees_tokens ts more) below ≡ run more (some_trees ts ∷ below)
+  pub run_trees : (ts : Trees) (more : List Token) (below : List Built)
+      → run (trees_tokens ts more) below ≡ run more (some_trees ts ∷ below)
   run_trees no_trees more below = refl
-  run_trees (tree_then t ts) more below = run_tree t (trees_tokens ts (token 18 ∷ more)) below ∙ run_trees ts (token 18 ∷ more) (a_tree t ∷ below)
+  run_trees (tree_then t ts) more below = run_tree t (trees_tokens ts (token 18 ∷ more)) below
+      ∙ run_trees ts (token 18 ∷ more) (a_tree t ∷ below)
 
 abbrev first_kind : List Built → Kind
 first_kind (a_kind k ∷ below) = k
@@ -163,10 +173,12 @@ abbrev tokens_code : Coded (List Token)
 tokens_code = coded_list (coded× coded_ℕ (coded× coded_ℕ (coded× coded_ℤ (coded_list coded_ℕ))))
 
 abbrev pub kind_code : Coded Kind
-kind_code = code_by (List Token) tokens_code (λ k. kind_tokens k []) (λ ts. first_kind (run ts [])) (λ k. ap first_kind (run_kind k [] []))
+kind_code = code_by (List Token) tokens_code (λ k. kind_tokens k []) (λ ts. first_kind (run ts []))
+    (λ k. ap first_kind (run_kind k [] []))
 
 abbrev pub tree_code : Coded Tree
-tree_code = code_by (List Token) tokens_code (λ t. tree_tokens t []) (λ ts. first_tree (run ts [])) (λ t. ap first_tree (run_tree t [] []))
+tree_code = code_by (List Token) tokens_code (λ t. tree_tokens t []) (λ ts. first_tree (run ts []))
+    (λ t. ap first_tree (run_tree t [] []))
 
 -- there is at most one proof that two kinds are equal
 pub kinds_same-prop : (k l : Kind) → IsProp (k ≡ l)

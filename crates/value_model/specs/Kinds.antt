@@ -1,4 +1,5 @@
--- A kind is the type of a value, as plain data: how deep it nests, whether its groups have members, and its code in bytes.
+-- A kind is the type of a value, as plain data: how deep it nests, whether its groups have members, and its code in
+-- bytes.
 use Rattle.std.specs.Prelude.{ℕ, suc, max, List, [], ◌∷◌, ◌++◌, Bool, true, ◌&&◌, nat_le}
 use Rattle.std.specs.Int.{w8, w16, w32, w64}
 use mir.Syntax.{Width}

@@ -1,6 +1,7 @@
 -- A tree is the content of a value, as plain data, and has the kind of its shape.
 use Rattle.std.specs.Prelude.{ℕ, suc, ℤ, List, Bool}
-use Rattle.value_model.specs.Kinds.{Size, Kind, bool_kind, unsigned_kind, signed_kind, text_kind, bytes_kind, list_kind, fields_kind, Kinds, no_kinds, kind_then}
+use Rattle.value_model.specs.Kinds.{Size, Kind, bool_kind, unsigned_kind, signed_kind, text_kind, bytes_kind, list_kind}
+use Rattle.value_model.specs.Kinds.{fields_kind, Kinds, no_kinds, kind_then}
 
 mutual
   pub data Tree : Type 0 where

@@ -1,9 +1,11 @@
--- When a tree is a value: it is well typed, its numbers, texts and bytes are in range, and it keeps to the limits of depth and length.
+-- When a tree is a value: it is well typed, its numbers, texts and bytes are in range, and it keeps to the limits of
+-- depth and length.
 use Rattle.std.specs.Prelude.{◌≡◌, ℕ, ◌≤◌, ◌<◌, ◌^◌, length, slice_index, IsTrue}
 use Rattle.std.specs.Int.RustNames.{FitsSigned}
 use Rattle.std.specs.Str.{IsUtf8}
 use Rattle.value_model.specs.Kinds.{Size, one, two, four, eight, width, Kind, kind_depth, kind_fits}
-use Rattle.value_model.specs.Trees.{Tree, bool_tree, unsigned_tree, signed_tree, text_tree, bytes_tree, list_tree, fields_tree, Trees, no_trees, tree_then, count_trees, type_of}
+use Rattle.value_model.specs.Trees.{Tree, bool_tree, unsigned_tree, signed_tree, text_tree, bytes_tree, list_tree}
+use Rattle.value_model.specs.Trees.{fields_tree, Trees, no_trees, tree_then, count_trees, type_of}
 use Rattle.value_model.specs.Encoding.{encoding}
 
 -- each of these trees has this kind

@@ -4,8 +4,10 @@ use Rattle.value_model.specs.declared.types.ValueType.{ValueType, fold-ValueType
 use Rattle.value_model.specs.declared.types.ValueType.TheOpen.{ValueType-F}
 use Rattle.value_model.specs.declared.nodes.Node.{Node, fold-Node}
 use Rattle.value_model.specs.declared.nodes.Node.TheOpen.{Node-F}
-use Rattle.value_model.specs.Kinds.{one, two, four, eight, Kind, bool_kind, unsigned_kind, signed_kind, text_kind, bytes_kind, list_kind, fields_kind, Kinds, no_kinds, kind_then}
-use Rattle.value_model.specs.Trees.{Tree, bool_tree, unsigned_tree, signed_tree, text_tree, bytes_tree, list_tree, fields_tree, Trees, no_trees, tree_then}
+use Rattle.value_model.specs.Kinds.{one, two, four, eight, Kind, bool_kind, unsigned_kind, signed_kind, text_kind}
+use Rattle.value_model.specs.Kinds.{bytes_kind, list_kind, fields_kind, Kinds, no_kinds, kind_then}
+use Rattle.value_model.specs.Trees.{Tree, bool_tree, unsigned_tree, signed_tree, text_tree, bytes_tree, list_tree}
+use Rattle.value_model.specs.Trees.{fields_tree, Trees, no_trees, tree_then}
 
 abbrev pub kinds_of : List Kind → Kinds
 kinds_of [] = no_kinds

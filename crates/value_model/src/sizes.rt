@@ -64,8 +64,8 @@ fn deeper(depth: u32) -> u32
     (depth + 1).min(OVER_DEPTH)
 }
 
-/// The length of the node's encoding, at most one more than a value's. What the node's own types say of its numbers, texts and
-/// bytes is learnt on the way.
+/// The length of the node's encoding, at most one more than a value's. What the node's own types say of its numbers,
+/// texts and bytes is learnt on the way.
 pub(crate) fn encoded_length(node: &Node) -> usize
     ensures length { result ≡ min (length (encoding (tree_of node.now))) 65537 }
     ensures range { InRange (tree_of node.now) }

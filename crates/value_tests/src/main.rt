@@ -1,5 +1,5 @@
-//! Values: their texts and encodings both ways, which nodes are values, and Rust types as values. Each row of standard input is a
-//! case, and what comes of it is printed.
+//! Values: their texts and encodings both ways, which nodes are values, and Rust types as values. Each row of standard
+//! input is a case, and what comes of it is printed.
 //!
 //! | row | what is printed |
 //! |---|---|

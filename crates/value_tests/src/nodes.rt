@@ -77,7 +77,8 @@ fn items(alloc: Global, count: u32) -> Result<Vec<Node>, AllocError> {
     Ok(nodes)
 }
 
-/// Of a value its type; whether that fits, is had, is that of a copy, and is `bool`; and the node, borrowed and handed back.
+/// Of a value its type; whether that fits, is had, is that of a copy, and is `bool`; and the node, borrowed and handed
+/// back.
 pub(crate) fn parts(alloc: Global, text: &str) -> Result<String, RowError> {
     let value = parse_value(alloc, text.as_bytes()).map_err(|_| RowError::NotARow)?;
     let parts = parts_of(alloc, &value);

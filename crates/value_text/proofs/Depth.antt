@@ -7,7 +7,8 @@ unfolding kind_at
 kind_at-none zero bytes e = refl
 kind_at-none (suc depth) bytes e = absurd (omega arith)
 
-pub kind_at-more : (depth : ℕ) (bytes : List ℕ) → (depth ≡ 0 → ⊥) → kind_at depth bytes ≡ kind_here (kind_at (depth - 1)) bytes
+pub kind_at-more : (depth : ℕ) (bytes : List ℕ) → (depth ≡ 0 → ⊥)
+    → kind_at depth bytes ≡ kind_here (kind_at (depth - 1)) bytes
 unfolding kind_at
 kind_at-more zero bytes e = absurd (e refl)
 kind_at-more (suc depth) bytes e = let k : suc depth - 1 ≡ depth = omega arith in rw k refl
@@ -17,7 +18,8 @@ unfolding tree_at
 tree_at-none zero bytes e = refl
 tree_at-none (suc depth) bytes e = absurd (omega arith)
 
-pub tree_at-more : (depth : ℕ) (bytes : List ℕ) → (depth ≡ 0 → ⊥) → tree_at depth bytes ≡ tree_here (depth - 1) (tree_at (depth - 1)) bytes
+pub tree_at-more : (depth : ℕ) (bytes : List ℕ) → (depth ≡ 0 → ⊥)
+    → tree_at depth bytes ≡ tree_here (depth - 1) (tree_at (depth - 1)) bytes
 unfolding tree_at
 tree_at-more zero bytes e = absurd (e refl)
 tree_at-more (suc depth) bytes e = let k : suc depth - 1 ≡ depth = omega arith in rw k refl

@@ -1,5 +1,6 @@
 -- Decimal numbers: digits at the front of a text, and what `parse` makes of them.
-use Rattle.std.proofs.Common.{◌≡◌, ℕ, suc, ◌+◌, ◌≤◌, ◌<◌, ◌^◌, true, false, nat_lt, List, [], ◌∷◌, length, take, Some, None, Result, Ok, Err, inl, inr, refl, ap, arith}
+use Rattle.std.proofs.Common.{◌≡◌, ℕ, suc, ◌+◌, ◌≤◌, ◌<◌, ◌^◌, true, false, nat_lt, List, [], ◌∷◌, length, take, Some}
+use Rattle.std.proofs.Common.{None, Result, Ok, Err, inl, inr, refl, ap, arith}
 use Rattle.std.specs.List.{prefix_len}
 use Rattle.std.specs.Char.{is_ascii_digit}
 use Rattle.std.specs.Result.{OkIff, result_ok}
@@ -21,7 +22,9 @@ pub digits_in_front : (bytes : List ℕ) → IsDigits (take (prefix_len is_ascii
 digits_in_front [] = refl
 digits_in_front (b ∷ bytes) =
     elim (cases_Bool (is_ascii_digit b)) [
-      | inl e ↦ rw (e, length_one (prefix_len is_ascii_digit bytes)) (and_from (is_ascii_digit b) (all_ascii_digits (take (prefix_len is_ascii_digit bytes) bytes)) e (digits_in_front bytes))
+      | inl e ↦ rw (e, length_one (prefix_len is_ascii_digit bytes))
+          (and_from (is_ascii_digit b) (all_ascii_digits (take (prefix_len is_ascii_digit bytes) bytes)) e
+          (digits_in_front bytes))
       | inr e ↦ rw e refl
     ]
   where
@@ -35,17 +38,20 @@ canonical_some : (ds : List ℕ) → is_canonical ds ≡ true → 0 < length ds
 canonical_some [] e = absurd cc
 canonical_some (d ∷ ds) e = omega arith
 
-number_is : {E : Type 0} (ds : List ℕ) (r : Result ℕ E) → is_canonical ds ≡ true → OkIff r ((0 < length ds) × (digits_value 10 ds < 2 ^ 64)) (digits_value 10 ds) → result_ok r ≡ number_of ds
+number_is : {E : Type 0} (ds : List ℕ) (r : Result ℕ E) → is_canonical ds ≡ true
+    → OkIff r ((0 < length ds) × (digits_value 10 ds < 2 ^ 64)) (digits_value 10 ds) → result_ok r ≡ number_of ds
 unfolding number_of
 number_is ds (Ok x) can h =
     let fits : nat_lt (digits_value 10 ds) (2 ^ 64) ≡ true = lt-ltb _ _ h.0.1 in
     rw (can, fits) (ap (λ (n : ℕ). Some n) h.1)
 number_is ds (Err e) can h =
-    let le : 2 ^ 64 ≤ digits_value 10 ds = elim (cases_lt (digits_value 10 ds) (2 ^ 64)) [ inl lt ↦ absurd (h (canonical_some ds can, lt)) | inr le ↦ le ] in
+    let le : 2 ^ 64 ≤ digits_value 10 ds = elim (cases_lt (digits_value 10 ds) (2 ^ 64))
+    [ inl lt ↦ absurd (h (canonical_some ds can, lt)) | inr le ↦ le ] in
     let fits : nat_lt (digits_value 10 ds) (2 ^ 64) ≡ false = le-ltb _ _ le in
     rw (can, fits) refl
 
-pub parsed : {E : Type 0} (ds text : List ℕ) (r : Result ℕ E) → text ≡ ds → IsDigits ds → is_canonical ds ≡ true → ParsesUnsigned 64 10 text r → result_ok r ≡ number_of ds
+pub parsed : {E : Type 0} (ds text : List ℕ) (r : Result ℕ E) → text ≡ ds → IsDigits ds → is_canonical ds ≡ true
+    → ParsesUnsigned 64 10 text r → result_ok r ≡ number_of ds
 parsed {E} ds text r e digits can h = number_is ds r can (parse_digits own {E = E} 64 ds r (rw e at h) digits)
 
 pub number_of-none : (ds : List ℕ) → is_canonical ds ≡ false → number_of ds ≡ None

@@ -1,8 +1,12 @@
 -- The tests answer what the definitions of a value say.
 use Rattle.std.proofs.Common.{◌≡◌, ◌<◌, true, false, ◌&&◌, nat_le, length, refl, ap, ◌∙◌}
-use Rattle.std.proofs.lemmas.Bool.{and_parts, and_from, leb-true, le-leb, lt-leb, and_left, and_right, false_from_ne_true}
-use Rattle.value_model.specs.Kinds.{Size, one, two, four, eight, Kind, bool_kind, unsigned_kind, signed_kind, text_kind, bytes_kind, list_kind, fields_kind, Kinds, no_kinds, kind_then, kind_depth, kind_fits}
-use Rattle.value_model.specs.Trees.{Tree, bool_tree, unsigned_tree, signed_tree, text_tree, bytes_tree, list_tree, fields_tree, Trees, no_trees, tree_then, count_trees, type_of}
+use Rattle.std.proofs.lemmas.Bool.{and_parts, and_from, leb-true, le-leb, lt-leb, and_left, and_right}
+use Rattle.std.proofs.lemmas.Bool.{false_from_ne_true}
+use Rattle.value_model.specs.Kinds.{Size, one, two, four, eight, Kind, bool_kind, unsigned_kind, signed_kind, text_kind}
+use Rattle.value_model.specs.Kinds.{bytes_kind, list_kind, fields_kind, Kinds, no_kinds, kind_then, kind_depth}
+use Rattle.value_model.specs.Kinds.{kind_fits}
+use Rattle.value_model.specs.Trees.{Tree, bool_tree, unsigned_tree, signed_tree, text_tree, bytes_tree, list_tree}
+use Rattle.value_model.specs.Trees.{fields_tree, Trees, no_trees, tree_then, count_trees, type_of}
 use Rattle.value_model.specs.Encoding.{encoding}
 use Rattle.value_model.specs.Validity.{AllOf, IsTyped, AllTyped, InRange, IsValue, max_depth, max_length}
 use Rattle.value_text.specs.Limits.{same_size, same_kind, same_kinds, have_kind, is_typed, are_typed, keeps_limits}
@@ -66,9 +70,17 @@ mutual
 pub keeps_limits-true : (t : Tree) → InRange t → keeps_limits t ≡ true → IsValue t
 unfolding keeps_limits
 keeps_limits-true t fits e =
-    let parts = and_parts (is_typed t) (nat_le (kind_depth (type_of t)) max_depth && nat_le (length (encoding t)) max_length) e in
-    let limits = and_parts (nat_le (kind_depth (type_of t)) max_depth) (nat_le (length (encoding t)) max_length) parts.1 in
-    record { typed = is_typed-true t parts.0; in_range = fits; shallow = leb-true _ _ limits.0; short = leb-true _ _ limits.1 }
+    let parts = and_parts (is_typed t) (nat_le (kind_depth (type_of t)) max_depth
+    && nat_le (length (encoding t)) max_length) e in
+    let limits = and_parts (nat_le (kind_depth (type_of t)) max_depth) (nat_le (length (encoding t)) max_length) parts.1
+    in
+    record {
+      typed = is_typed-true t parts.0;
+      in_range = fits;
+      shallow = leb-true _ _ limits.0;
+      short =
+          leb-true _ _ limits.1;
+    }
 
 -- ---- from the definitions
 
@@ -94,7 +106,8 @@ mutual
 
 have_kind-from : (k : Kind) (ts : Trees) → AllOf k ts → have_kind k ts ≡ true
 have_kind-from k no_trees each = refl
-have_kind-from k (tree_then t ts) each = and_from (same_kind (type_of t) k) (have_kind k ts) (ap (λ (j : Kind). same_kind j k) each.0 ∙ same_kind-self k) (have_kind-from k ts each.1)
+have_kind-from k (tree_then t ts) each = and_from (same_kind (type_of t) k) (have_kind k ts)
+    (ap (λ (j : Kind). same_kind j k) each.0 ∙ same_kind-self k) (have_kind-from k ts each.1)
 
 mutual
   is_typed-from : (t : Tree) → IsTyped t → is_typed t ≡ true
@@ -103,16 +116,21 @@ mutual
   is_typed-from (signed_tree s z) typed = refl
   is_typed-from (text_tree t) typed = refl
   is_typed-from (bytes_tree b) typed = refl
-  is_typed-from (list_tree k ts) typed = and_from (kind_fits k) (have_kind k ts && are_typed ts) typed.0 (and_from (have_kind k ts) (are_typed ts) (have_kind-from k ts typed.1.0) (are_typed-from ts typed.1.1))
-  is_typed-from (fields_tree ts) typed = and_from (nat_le 1 (count_trees ts)) (nat_le (count_trees ts) 32 && are_typed ts) (le-leb _ _ typed.0) (and_from (nat_le (count_trees ts) 32) (are_typed ts) (le-leb _ _ typed.1.0) (are_typed-from ts typed.1.1))
+  is_typed-from (list_tree k ts) typed = and_from (kind_fits k) (have_kind k ts && are_typed ts) typed.0
+      (and_from (have_kind k ts) (are_typed ts) (have_kind-from k ts typed.1.0) (are_typed-from ts typed.1.1))
+  is_typed-from (fields_tree ts) typed = and_from (nat_le 1 (count_trees ts))
+      (nat_le (count_trees ts) 32 && are_typed ts) (le-leb _ _ typed.0)
+      (and_from (nat_le (count_trees ts) 32) (are_typed ts) (le-leb _ _ typed.1.0) (are_typed-from ts typed.1.1))
 
   are_typed-from : (ts : Trees) → AllTyped ts → are_typed ts ≡ true
   are_typed-from no_trees typed = refl
-  are_typed-from (tree_then t ts) typed = and_from (is_typed t) (are_typed ts) (is_typed-from t typed.0) (are_typed-from ts typed.1)
+  are_typed-from (tree_then t ts) typed = and_from (is_typed t) (are_typed ts) (is_typed-from t typed.0)
+      (are_typed-from ts typed.1)
 
 pub keeps_limits-from : (t : Tree) → IsValue t → keeps_limits t ≡ true
 unfolding keeps_limits
-keeps_limits-from t value = and_from _ _ (is_typed-from t value.typed) (and_from _ _ (le-leb _ _ value.shallow) (le-leb _ _ value.short))
+keeps_limits-from t value = and_from _ _ (is_typed-from t value.typed)
+    (and_from _ _ (le-leb _ _ value.shallow) (le-leb _ _ value.short))
 
 -- ---- what is refused fails the tests
 

@@ -1,5 +1,6 @@
 -- What the readers of whole texts promise.
-use Rattle.std.proofs.Common.{◌≡◌, ◌≢◌, ℕ, ◌≤◌, ◌<◌, cond, nat_eq, List, [], ◌++◌, length, Some, None, Result, Ok, Err, refl, sym, ap, subst, ◌∙◌}
+use Rattle.std.proofs.Common.{◌≡◌, ◌≢◌, ℕ, ◌≤◌, ◌<◌, cond, nat_eq, List, [], ◌++◌, length, Some, None, Result, Ok, Err}
+use Rattle.std.proofs.Common.{refl, sym, ap, subst, ◌∙◌}
 use Rattle.std.specs.Prelude.{IfOk}
 use Rattle.std.proofs.lemmas.Bool.{eqb-true}
 use Rattle.std.proofs.lemmas.List.{append-nil, nil_from_length}
@@ -32,20 +33,25 @@ kind_in_takes text k e =
     let a = bind_some (kind_at max_depth text) (λ x. cond (nat_eq (length x.1) 0) (Some x.0) None) k e in
     let b = if_some (nat_eq (length a.0.1) 0) (Some a.0.0) k a.2 in
     let read = kind_takes max_depth text a.0 a.1 in
-    let whole : text ≡ type_text a.0.0 = read.0 ∙ ap (λ (t : List ℕ). type_text a.0.0 ++ t) (nil_from_length a.0.1 (eqb-true _ _ b.0)) ∙ append-nil (type_text a.0.0) in
-    subst (λ (x : Kind). IsTypeOf text x) (some_is a.0.0 k b.1) (record { groups = read.1.groups; shallow = read.1.shallow }, whole)
+    let whole : text ≡ type_text a.0.0 = read.0 ∙ ap (λ (t : List ℕ). type_text a.0.0 ++ t)
+    (nil_from_length a.0.1 (eqb-true _ _ b.0)) ∙ append-nil (type_text a.0.0) in
+    subst (λ (x : Kind). IsTypeOf text x) (some_is a.0.0 k b.1)
+    (record { groups = read.1.groups; shallow = read.1.shallow }, whole)
 
 pub kind_in_again : (k : Kind) → IsType k → kind_in (type_text k) ≡ Some k
 unfolding kind_in
 kind_in_again k fits =
-    let read : kind_at max_depth (type_text k) ≡ Some (k, []) = ap (kind_at max_depth) (sym (append-nil (type_text k))) ∙ kind_again max_depth k [] fits.groups fits.shallow in
+    let read : kind_at max_depth (type_text k) ≡ Some (k, []) =
+    ap (kind_at max_depth) (sym (append-nil (type_text k))) ∙ kind_again max_depth k [] fits.groups fits.shallow in
     rw read refl
 
-pub type_found : {T : Type 0} (view : T → Kind) (text : List ℕ) (r : Result T DecodeError) → Gives view r (kind_in text) → IfOk r (λ t. IsTypeOf text (view t))
+pub type_found : {T : Type 0} (view : T → Kind) (text : List ℕ) (r : Result T DecodeError) → Gives view r (kind_in text)
+    → IfOk r (λ t. IsTypeOf text (view t))
 type_found view text (Ok t) given = kind_in_takes text (view t) given
 type_found view text (Err e) given = tt
 
-pub type_only : {T : Type 0} (view : T → Kind) (text : List ℕ) (r : Result T DecodeError) → Gives view r (kind_in text) → r ≡ Err errors.NotAValue → (k : Kind) → IsType k → text ≢ type_text k
+pub type_only : {T : Type 0} (view : T → Kind) (text : List ℕ) (r : Result T DecodeError) → Gives view r (kind_in text)
+    → r ≡ Err errors.NotAValue → (k : Kind) → IsType k → text ≢ type_text k
 type_only view text r given e k fits same =
     let none : kind_in text ≡ None = subst (λ (x : Result _ DecodeError). Gives view x (kind_in text)) e given in
     let found : kind_in text ≡ Some k = ap kind_in same ∙ kind_in_again k fits in
@@ -62,13 +68,16 @@ tree_in_takes text t e =
     let a = bind_some (tree_at max_depth text) (λ x. cond (nat_eq (length x.1) 0) (Some x.0) None) t e in
     let b = if_some (nat_eq (length a.0.1) 0) (Some a.0.0) t a.2 in
     let read = tree_takes max_depth text a.0 a.1 in
-    let whole : text ≡ value_text a.0.0 = read.0 ∙ ap (λ (r : List ℕ). value_text a.0.0 ++ r) (nil_from_length a.0.1 (eqb-true _ _ b.0)) ∙ append-nil (value_text a.0.0) in
+    let whole : text ≡ value_text a.0.0 = read.0 ∙ ap (λ (r : List ℕ). value_text a.0.0 ++ r)
+    (nil_from_length a.0.1 (eqb-true _ _ b.0)) ∙ append-nil (value_text a.0.0) in
     subst (λ (x : Tree). (text ≡ value_text x) × InRange x) (some_is a.0.0 t b.1) (whole, read.1)
 
 tree_in_again : (t : Tree) → IsValue t → tree_in (value_text t) ≡ Some t
 unfolding tree_in
 tree_in_again t value =
-    let read : tree_at max_depth (value_text t) ≡ Some (t, []) = ap (tree_at max_depth) (sym (append-nil (value_text t))) ∙ tree_again max_depth t value.shallow value.typed value.in_range [] refl in
+    let read : tree_at max_depth (value_text t) ≡ Some (t, []) =
+    ap (tree_at max_depth) (sym (append-nil (value_text t)))
+    ∙ tree_again max_depth t value.shallow value.typed value.in_range [] refl in
     rw read refl
 
 pub value_in_takes : (text : List ℕ) (t : Tree) → value_in text ≡ Some t → IsValueOf text t
@@ -83,11 +92,13 @@ pub value_in_again : (t : Tree) → IsValue t → value_in (value_text t) ≡ So
 unfolding value_in
 value_in_again t value = rw (tree_in_again t value, keeps_limits-from t value) refl
 
-pub value_found : {V : Type 0} (view : V → Tree) (text : List ℕ) (r : Result V DecodeError) → Gives view r (value_in text) → IfOk r (λ v. IsValueOf text (view v))
+pub value_found : {V : Type 0} (view : V → Tree) (text : List ℕ) (r : Result V DecodeError)
+    → Gives view r (value_in text) → IfOk r (λ v. IsValueOf text (view v))
 value_found view text (Ok v) given = value_in_takes text (view v) given
 value_found view text (Err e) given = tt
 
-pub value_only : {V : Type 0} (view : V → Tree) (text : List ℕ) (r : Result V DecodeError) → Gives view r (value_in text) → r ≡ Err errors.NotAValue → (t : Tree) → IsValue t → text ≢ value_text t
+pub value_only : {V : Type 0} (view : V → Tree) (text : List ℕ) (r : Result V DecodeError)
+    → Gives view r (value_in text) → r ≡ Err errors.NotAValue → (t : Tree) → IsValue t → text ≢ value_text t
 value_only view text r given e t value same =
     let none : value_in text ≡ None = subst (λ (x : Result _ DecodeError). Gives view x (value_in text)) e given in
     let found : value_in text ≡ Some t = ap value_in same ∙ value_in_again t value in
@@ -95,7 +106,10 @@ value_only view text r given e t value same =
 
 -- a node that is no value does not keep the limits
 pub refused : {V : Type 0} (t : Tree) (r : Result V ValueError) (error : ValueError) → r ≡ Err error
-    → (r ≡ Err value_errors.IllTyped → ¬ IsTyped t) → (r ≡ Err value_errors.TooDeep → IsTyped t × (max_depth < kind_depth (type_of t))) → (r ≡ Err value_errors.TooLong → IsTyped t × ((kind_depth (type_of t) ≤ max_depth) × (max_length < length (encoding t))))
+    → (r ≡ Err value_errors.IllTyped → ¬ IsTyped t) → (r ≡ Err value_errors.TooDeep
+    → IsTyped t × (max_depth < kind_depth (type_of t)))
+    → (r ≡ Err value_errors.TooLong → IsTyped t × ((kind_depth (type_of t) ≤ max_depth)
+    × (max_length < length (encoding t))))
     → (r ≡ Err value_errors.OutOfMemory → ⊥) → kept t ≡ None
 refused t r value_errors.IllTyped is ill deep long memory = rw (ill_typed t (ill is)) refl
 refused t r value_errors.TooDeep is ill deep long memory = rw (too_deep t (deep is).1) refl

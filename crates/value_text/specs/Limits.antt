@@ -1,7 +1,10 @@
 -- Whether a tree that was read is a value, as a test that computes.
 use Rattle.std.specs.Prelude.{Bool, true, false, ◌&&◌, length, nat_le, if◌then◌else◌, Option, Some, None}
-use Rattle.value_model.specs.Kinds.{Size, one, two, four, eight, Kind, bool_kind, unsigned_kind, signed_kind, text_kind, bytes_kind, list_kind, fields_kind, Kinds, no_kinds, kind_then, kind_depth, kind_fits}
-use Rattle.value_model.specs.Trees.{Tree, bool_tree, unsigned_tree, signed_tree, text_tree, bytes_tree, list_tree, fields_tree, Trees, no_trees, tree_then, count_trees, type_of}
+use Rattle.value_model.specs.Kinds.{Size, one, two, four, eight, Kind, bool_kind, unsigned_kind, signed_kind, text_kind}
+use Rattle.value_model.specs.Kinds.{bytes_kind, list_kind, fields_kind, Kinds, no_kinds, kind_then, kind_depth}
+use Rattle.value_model.specs.Kinds.{kind_fits}
+use Rattle.value_model.specs.Trees.{Tree, bool_tree, unsigned_tree, signed_tree, text_tree, bytes_tree, list_tree}
+use Rattle.value_model.specs.Trees.{fields_tree, Trees, no_trees, tree_then, count_trees, type_of}
 use Rattle.value_model.specs.Encoding.{encoding}
 use Rattle.value_model.specs.Validity.{max_depth, max_length}
 

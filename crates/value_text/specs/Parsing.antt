@@ -1,8 +1,11 @@
 -- Reading a type and a value from the front of a text, and from the whole of it.
-use Rattle.std.specs.Prelude.{ℕ, zero, suc, ◌^◌, List, [], ◌∷◌, length, true, false, nat_eq, if◌then◌else◌, Option, Some, None, codes}
+use Rattle.std.specs.Prelude.{ℕ, zero, suc, ◌^◌, List, [], ◌∷◌, length, true, false, nat_eq, if◌then◌else◌, Option}
+use Rattle.std.specs.Prelude.{Some, None, codes}
 use Rattle.std.specs.Str.{is_utf8}
-use Rattle.value_model.specs.Kinds.{Size, one, two, four, eight, Kind, bool_kind, unsigned_kind, signed_kind, text_kind, bytes_kind, list_kind, fields_kind}
-use Rattle.value_model.specs.Trees.{Tree, bool_tree, unsigned_tree, signed_tree, text_tree, bytes_tree, list_tree, fields_tree}
+use Rattle.value_model.specs.Kinds.{Size, one, two, four, eight, Kind, bool_kind, unsigned_kind, signed_kind, text_kind}
+use Rattle.value_model.specs.Kinds.{bytes_kind, list_kind, fields_kind}
+use Rattle.value_model.specs.Trees.{Tree, bool_tree, unsigned_tree, signed_tree, text_tree, bytes_tree, list_tree}
+use Rattle.value_model.specs.Trees.{fields_tree}
 use Rattle.value_model.specs.Validity.{unsigned_limit, max_depth}
 use Rattle.value_model.specs.Views.{kinds_of, trees_of}
 use Rattle.value_text.specs.Limits.{kept}
@@ -11,8 +14,10 @@ use Rattle.value_text.specs.Readers.{◌>>=◌, branch, literal_at, unsigned_at,
 -- the words of the scalar types; none begins another
 abbrev pub words : List (List ℕ × Kind)
 words = (codes "bool", bool_kind)
-    ∷ (codes "u8", unsigned_kind one) ∷ (codes "u16", unsigned_kind two) ∷ (codes "u32", unsigned_kind four) ∷ (codes "u64", unsigned_kind eight)
-    ∷ (codes "i8", signed_kind one) ∷ (codes "i16", signed_kind two) ∷ (codes "i32", signed_kind four) ∷ (codes "i64", signed_kind eight)
+    ∷ (codes "u8", unsigned_kind one) ∷ (codes "u16", unsigned_kind two) ∷ (codes "u32", unsigned_kind four)
+    ∷ (codes "u64", unsigned_kind eight)
+    ∷ (codes "i8", signed_kind one) ∷ (codes "i16", signed_kind two) ∷ (codes "i32", signed_kind four)
+    ∷ (codes "i64", signed_kind eight)
     ∷ (codes "text", text_kind) ∷ (codes "bytes", bytes_kind) ∷ []
 
 -- the row whose word stands at the front
@@ -31,7 +36,8 @@ list_kind_at kind bytes = do
   Some (list_kind item.0, rest)
 
 unfoldable pub fields_kind_at : (List ℕ → Option (Kind × List ℕ)) → List ℕ → Option (Kind × List ℕ)
-fields_kind_at kind bytes = separated kind 125 32 bytes >>= λ members. Some (fields_kind (kinds_of members.0), members.1)
+fields_kind_at kind bytes = separated kind 125 32 bytes >>= λ members.
+    Some (fields_kind (kinds_of members.0), members.1)
 
 -- a list's type, a group's, or a scalar's
 unfoldable pub kind_here : (List ℕ → Option (Kind × List ℕ)) → List ℕ → Option (Kind × List ℕ)
@@ -87,7 +93,8 @@ scalar_tree_at bytes = do
 
 -- a list's items: none before the closing bracket, or as many as there are
 unfoldable pub items_at : (List ℕ → Option (Tree × List ℕ)) → List ℕ → Option (List Tree × List ℕ)
-items_at tree bytes = branch (literal_at (codes "]") bytes) (λ rest. Some ([], rest)) (separated tree 93 (length bytes) bytes)
+items_at tree bytes = branch (literal_at (codes "]") bytes) (λ rest. Some ([], rest))
+    (separated tree 93 (length bytes) bytes)
 
 -- behind `list<`, and behind an opening brace, where the function reads a tree
 unfoldable pub list_tree_at : ℕ → (List ℕ → Option (Tree × List ℕ)) → List ℕ → Option (Tree × List ℕ)
@@ -98,7 +105,8 @@ list_tree_at depth tree bytes = do
   Some (list_tree item.0 (trees_of items.0), items.1)
 
 unfoldable pub fields_tree_at : (List ℕ → Option (Tree × List ℕ)) → List ℕ → Option (Tree × List ℕ)
-fields_tree_at tree bytes = separated tree 125 32 bytes >>= λ members. Some (fields_tree (trees_of members.0), members.1)
+fields_tree_at tree bytes = separated tree 125 32 bytes >>= λ members.
+    Some (fields_tree (trees_of members.0), members.1)
 
 -- a list, a group or a scalar
 unfoldable pub tree_here : ℕ → (List ℕ → Option (Tree × List ℕ)) → List ℕ → Option (Tree × List ℕ)

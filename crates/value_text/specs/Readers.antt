@@ -1,5 +1,7 @@
 -- Readers of words, numbers and lists: each takes what it reads from the front of the bytes, and leaves the rest.
-use Rattle.std.specs.Prelude.{◌≡◌, ℕ, zero, suc, ◌+◌, ◌-◌, ◌*◌, ◌^◌, ℤ, pos, negsuc, List, [], ◌∷◌, ◌++◌, length, take, drop, Bool, true, false, not, ◌&&◌, ◌||◌, nat_lt, nat_le, nat_eq, ◌==◌, if◌then◌else◌, Option, Some, None, option_and_then, Result, Ok, Err, codes}
+use Rattle.std.specs.Prelude.{◌≡◌, ℕ, zero, suc, ◌+◌, ◌-◌, ◌*◌, ◌^◌, ℤ, pos, negsuc, List, [], ◌∷◌, ◌++◌, length, take}
+use Rattle.std.specs.Prelude.{drop, Bool, true, false, not, ◌&&◌, ◌||◌, nat_lt, nat_le, nat_eq, ◌==◌, if◌then◌else◌}
+use Rattle.std.specs.Prelude.{Option, Some, None, option_and_then, Result, Ok, Err, codes}
 use Rattle.std.specs.List.{prefix_len}
 use Rattle.std.specs.Char.{is_ascii_digit}
 use Rattle.std.specs.Str.Parse.{digits_value}
@@ -47,7 +49,8 @@ is_canonical (d ∷ ds) = not (nat_eq d 48) || nat_eq (length ds) 0
 
 -- the number below 2 ^ 64 that the digits write
 unfoldable pub number_of : List ℕ → Option ℕ
-number_of ds = if is_canonical ds then (if nat_lt (digits_value 10 ds) (2 ^ 64) then Some (digits_value 10 ds) else None) else None
+number_of ds = if is_canonical ds then (if nat_lt (digits_value 10 ds) (2 ^ 64) then Some (digits_value 10 ds) else
+    None) else None
 
 -- the number at the front, as far as digits go
 unfoldable pub number_at : List ℕ → Option (ℕ × List ℕ)
@@ -70,7 +73,8 @@ signed_at limit bytes = branch (literal_at (codes "-") bytes)
 
 -- the value of a digit, in lower case
 abbrev pub hex_value : ℕ → Option ℕ
-hex_value b = if nat_le 48 b && nat_le b 57 then Some (b - 48) else (if nat_le 97 b && nat_le b 102 then Some (b - 87) else None)
+hex_value b = if nat_le 48 b && nat_le b 57 then Some (b - 48) else
+    (if nat_le 97 b && nat_le b 102 then Some (b - 87) else None)
 
 -- a byte in two digits
 abbrev pub byte_at : List ℕ → Option (ℕ × List ℕ)
@@ -95,12 +99,14 @@ meant_by b = if b == 34 then Some 34 else (if b == 92 then Some 92 else (if b ==
 unfoldable pub quoted_at : Bool → List ℕ → Option (List ℕ × List ℕ)
 quoted_at behind [] = None
 quoted_at true (b ∷ bytes) = meant_by b >>= λ m. with_front (m ∷ []) (quoted_at false bytes)
-quoted_at false (b ∷ bytes) = if b == 34 then Some ([], bytes) else (if b == 92 then quoted_at true bytes else (if b == 10 then None else with_front (b ∷ []) (quoted_at false bytes)))
+quoted_at false (b ∷ bytes) = if b == 34 then Some ([], bytes) else
+    (if b == 92 then quoted_at true bytes else (if b == 10 then None else with_front (b ∷ []) (quoted_at false bytes)))
 
 -- behind one thing: the closing byte, which makes it the last, or a comma
 abbrev pub punctuation_at : ℕ → List ℕ → Option (Bool × List ℕ)
 punctuation_at close [] = None
-punctuation_at close (b ∷ rest) = if b == close then Some (true, rest) else (if b == 44 then Some (false, rest) else None)
+punctuation_at close (b ∷ rest) = if b == close then Some (true, rest) else
+    (if b == 44 then Some (false, rest) else None)
 
 -- one to n things, each read by the function, separated by commas, up to the closing byte
 unfoldable pub separated : {A : Type 0} → (List ℕ → Option (A × List ℕ)) → ℕ → ℕ → List ℕ → Option (List A × List ℕ)

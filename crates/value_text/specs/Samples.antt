@@ -2,12 +2,15 @@
 use Rattle.std.specs.Prelude.{◌≡◌, [], true, codes, negsuc, Some, None}
 use Rattle.std.specs.Fmt.{digits}
 use Rattle.std.proofs.Common.{refl}
-use Rattle.value_model.specs.Kinds.{one, two, four, unsigned_kind, text_kind, list_kind, fields_kind, no_kinds, kind_then}
-use Rattle.value_model.specs.Trees.{bool_tree, unsigned_tree, signed_tree, text_tree, bytes_tree, list_tree, no_trees, tree_then}
+use Rattle.value_model.specs.Kinds.{one, two, four, unsigned_kind, text_kind, list_kind, fields_kind, no_kinds}
+use Rattle.value_model.specs.Kinds.{kind_then}
+use Rattle.value_model.specs.Trees.{bool_tree, unsigned_tree, signed_tree, text_tree, bytes_tree, list_tree, no_trees}
+use Rattle.value_model.specs.Trees.{tree_then}
 use Rattle.value_text.specs.Texts.{type_text, value_text}
 use Rattle.value_text.specs.Limits.{keeps_limits}
 use Rattle.value_text.specs.Readers.{number_of, number_at, unsigned_at, signed_at, bytes_at, separated}
-use Rattle.value_text.specs.Parsing.{scalar_at, list_kind_at, fields_kind_at, kind_here, kind_at, kind_in, content_at, scalar_tree_at, items_at, list_tree_at, tree_here, tree_at, tree_in, value_in}
+use Rattle.value_text.specs.Parsing.{scalar_at, list_kind_at, fields_kind_at, kind_here, kind_at, kind_in, content_at}
+use Rattle.value_text.specs.Parsing.{scalar_tree_at, items_at, list_tree_at, tree_here, tree_at, tree_in, value_in}
 
 -- ---- texts
 
@@ -22,11 +25,13 @@ i32_text = refl
 quotes_text : value_text (text_tree (codes "a\"\\\n")) ≡ codes "text:\"a\\\"\\\\\\n\""
 quotes_text = refl
 
-list_text : value_text (list_tree (unsigned_kind one) (tree_then (unsigned_tree one 1) (tree_then (unsigned_tree one 2) no_trees))) ≡ codes "list<u8>[u8:1,u8:2]"
+list_text : value_text (list_tree (unsigned_kind one) (tree_then (unsigned_tree one 1)
+    (tree_then (unsigned_tree one 2) no_trees))) ≡ codes "list<u8>[u8:1,u8:2]"
 unfolding digits
 list_text = refl
 
-group_type_text : type_text (fields_kind (kind_then (list_kind text_kind) (kind_then text_kind no_kinds))) ≡ codes "{list<text>,text}"
+group_type_text : type_text (fields_kind (kind_then (list_kind text_kind) (kind_then text_kind no_kinds)))
+    ≡ codes "{list<text>,text}"
 group_type_text = refl
 
 -- ---- types that texts spell
@@ -50,7 +55,8 @@ unfolding value_in tree_in tree_at tree_here scalar_tree_at scalar_at content_at
 bool_value = refl
 
 u16_value : value_in (codes "u16:513") ≡ Some (unsigned_tree two 513)
-unfolding value_in tree_in tree_at tree_here scalar_tree_at scalar_at content_at unsigned_at number_at number_of keeps_limits
+unfolding value_in tree_in tree_at tree_here scalar_tree_at scalar_at content_at unsigned_at number_at number_of
+    keeps_limits
 u16_value = refl
 
 bytes_value : value_in (codes "bytes:") ≡ Some (bytes_tree [])
@@ -62,17 +68,21 @@ unfolding value_in tree_in tree_at tree_here list_tree_at items_at kind_at kind_
 no_items = refl
 
 leading_zero : value_in (codes "u8:07") ≡ None
-unfolding value_in tree_in tree_at tree_here scalar_tree_at scalar_at content_at unsigned_at number_at number_of keeps_limits
+unfolding value_in tree_in tree_at tree_here scalar_tree_at scalar_at content_at unsigned_at number_at number_of
+    keeps_limits
 leading_zero = refl
 
 minus_zero : value_in (codes "i8:-0") ≡ None
-unfolding value_in tree_in tree_at tree_here scalar_tree_at scalar_at content_at signed_at unsigned_at number_at number_of keeps_limits
+unfolding value_in tree_in tree_at tree_here scalar_tree_at scalar_at content_at signed_at unsigned_at number_at
+    number_of keeps_limits
 minus_zero = refl
 
 too_great : value_in (codes "u8:256") ≡ None
-unfolding value_in tree_in tree_at tree_here scalar_tree_at scalar_at content_at unsigned_at number_at number_of keeps_limits
+unfolding value_in tree_in tree_at tree_here scalar_tree_at scalar_at content_at unsigned_at number_at number_of
+    keeps_limits
 too_great = refl
 
 other_item_type : value_in (codes "list<u8>[bool:true]") ≡ None
-unfolding value_in tree_in tree_at tree_here list_tree_at items_at separated kind_at kind_here scalar_tree_at scalar_at content_at keeps_limits
+unfolding value_in tree_in tree_at tree_here list_tree_at items_at separated kind_at kind_here scalar_tree_at scalar_at
+    content_at keeps_limits
 other_item_type = refl

@@ -2,8 +2,10 @@
 use Rattle.std.specs.Prelude.{ℕ, ◌/◌, ◌%◌, ◌+◌, List, [], ◌∷◌, ◌++◌, codes, nat_lt, ◌==◌, if◌then◌else◌}
 use Rattle.std.specs.List.{flat_map}
 use Rattle.std.specs.Fmt.{decimal, signed_decimal}
-use Rattle.value_model.specs.Kinds.{Size, one, two, four, eight, Kind, bool_kind, unsigned_kind, signed_kind, text_kind, bytes_kind, list_kind, fields_kind, Kinds, no_kinds, kind_then}
-use Rattle.value_model.specs.Trees.{Tree, bool_tree, unsigned_tree, signed_tree, text_tree, bytes_tree, list_tree, fields_tree, Trees, no_trees, tree_then}
+use Rattle.value_model.specs.Kinds.{Size, one, two, four, eight, Kind, bool_kind, unsigned_kind, signed_kind, text_kind}
+use Rattle.value_model.specs.Kinds.{bytes_kind, list_kind, fields_kind, Kinds, no_kinds, kind_then}
+use Rattle.value_model.specs.Trees.{Tree, bool_tree, unsigned_tree, signed_tree, text_tree, bytes_tree, list_tree}
+use Rattle.value_model.specs.Trees.{fields_tree, Trees, no_trees, tree_then}
 
 -- how many bits a number has
 abbrev pub size_text : Size → List ℕ
@@ -33,7 +35,8 @@ abbrev mutual
 
 -- a quote, a backslash and a line feed stand behind a backslash; no other byte does
 abbrev pub escaped_byte : ℕ → List ℕ
-escaped_byte b = if b == 34 then codes "\\\"" else (if b == 92 then codes "\\\\" else (if b == 10 then codes "\\n" else (b ∷ [])))
+escaped_byte b = if b == 34 then codes "\\\"" else (if b == 92 then codes "\\\\" else
+    (if b == 10 then codes "\\n" else (b ∷ [])))
 
 abbrev pub escaped : List ℕ → List ℕ
 escaped t = flat_map escaped_byte t

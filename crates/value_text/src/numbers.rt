@@ -1,4 +1,5 @@
-//! Decimal numbers at the front of a text: no plus sign, no leading zero, and a minus only before a number that is not 0.
+//! Decimal numbers at the front of a text: no plus sign, no leading zero, and a minus only before a number that is not
+//! 0.
 
 ghost use Rattle.std.specs.Prelude.{◌≡◌, ◌+◌, ◌^◌, ◌<◌, ◌≤◌, IfOk, true};
 ghost use Rattle.std.specs.List.{prefix_len};

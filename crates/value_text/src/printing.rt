@@ -3,7 +3,8 @@
 ghost use Rattle.std.specs.Prelude.{◌≡◌, ◌++◌, OnOk, IfOk, IsTrue, string_bytes, encode_utf8};
 ghost use Rattle.value_model.specs.Kinds.{kind_fits};
 ghost use Rattle.value_model.specs.Views.{kind_of, kinds_view, tree_of, trees_view};
-ghost use Rattle.value_text.specs.Texts.{type_text, types_text, escaped, hex_byte_text, hex_text, value_text, values_text};
+ghost use Rattle.value_text.specs.Texts.{type_text, types_text, escaped, hex_byte_text, hex_text, value_text};
+ghost use Rattle.value_text.specs.Texts.{values_text};
 
 use std::alloc::{AllocError, Global};
 use std::fmt::Write;

@@ -127,7 +127,9 @@ fn type_in(alloc: Global, text: &[u8]) -> Result<ValueType, DecodeError>
 
 /// The type that the text spells, all of the text.
 ///
-/// Errors: `NotAValue` exactly where the text is that of no type of depth at most 8; `OutOfMemory`.
+/// # Errors
+///
+/// `NotAValue` exactly where the text is that of no type of depth at most 8; `OutOfMemory`.
 pub fn parse_type(alloc: Global, text: &[u8]) -> Result<ValueType, DecodeError>
     // what is read is spelled so, and what is spelled so is read
     ensures found { IfOk result (λ t. IsType (kind_of t) × (text.now ≡ type_text (kind_of t))) }

@@ -7,7 +7,8 @@ ghost use Rattle.value_model.specs.Views.{kind_of, tree_of};
 ghost use Rattle.value_text.specs.Texts.{value_text};
 ghost use Rattle.value_text.specs.Limits.{kept};
 ghost use Rattle.value_text.specs.Readers.{Gives, separated};
-ghost use Rattle.value_text.specs.Parsing.{bool_at, content_at, scalar_tree_at, items_at, list_tree_at, tree_here, tree_at, tree_in, value_in};
+ghost use Rattle.value_text.specs.Parsing.{bool_at, content_at, scalar_tree_at, items_at, list_tree_at, tree_here};
+ghost use Rattle.value_text.specs.Parsing.{tree_at, tree_in, value_in};
 
 use crate::numbers::{signed, unsigned};
 use crate::readers::{after, punctuation};
@@ -210,7 +211,9 @@ fn value_in(alloc: Global, text: &[u8]) -> Result<Value, DecodeError>
 
 /// The value that the text spells, all of the text.
 ///
-/// Errors: `NotAValue` exactly where the text is that of no value; `OutOfMemory`.
+/// # Errors
+///
+/// `NotAValue` exactly where the text is that of no value; `OutOfMemory`.
 pub fn parse_value(alloc: Global, text: &[u8]) -> Result<Value, DecodeError>
     // what is read is spelled so, and what is spelled so is read
     ensures found { IfOk result (λ v. IsValue v × (text.now ≡ value_text v)) }

@@ -27,7 +27,9 @@ fn unsigned_in(max: u64, text: &[u8]) -> Result<u64, DecodeError>
 
 /// The number that the whole text writes in decimal, at most `max`: without a plus sign and without leading zeros.
 ///
-/// Errors: `NotAValue` exactly where the text is that of no such number. It takes no memory.
+/// # Errors
+///
+/// `NotAValue` exactly where the text is that of no such number. It takes no memory.
 pub fn parse_unsigned(max: u64, text: &[u8]) -> Result<u64, DecodeError>
     ensures found { IfOk result (λ n. (n ≤ max) × (text.now ≡ decimal n)) }
     ensures only { result ≡ Err DecodeError.NotAValue → (n : ℕ) → n ≤ max → text.now ≢ decimal n }
@@ -51,9 +53,12 @@ fn signed_in(max: u64, text: &[u8]) -> Result<i64, DecodeError>
     Ok(z)
 }
 
-/// The number that the whole text writes in decimal, from `-max - 1` to `max`: a minus stands only before a number that is not 0.
+/// The number that the whole text writes in decimal, from `-max - 1` to `max`: a minus stands only before a number that
+/// is not 0.
 ///
-/// Errors: `NotAValue` exactly where the text is that of no such number. It takes no memory.
+/// # Errors
+///
+/// `NotAValue` exactly where the text is that of no such number. It takes no memory.
 pub fn parse_signed(max: u64, text: &[u8]) -> Result<i64, DecodeError>
     requires { max < 2 ^ 63 }
     ensures found { IfOk result (λ z. (mag z ≤ max) × (text.now ≡ signed_decimal z)) }
@@ -79,10 +84,13 @@ fn bytes_in(alloc: Global, text: &[u8]) -> Result<Bytes, DecodeError>
 
 /// The bytes that the whole text writes in two lower-case hexadecimal digits each.
 ///
-/// Errors: `NotAValue` exactly where the text is that of no bytes; `OutOfMemory`.
+/// # Errors
+///
+/// `NotAValue` exactly where the text is that of no bytes; `OutOfMemory`.
 pub fn parse_hex(alloc: Global, text: &[u8]) -> Result<Bytes, DecodeError>
     ensures found { IfOk result (λ b. text.now ≡ hex_text b) }
-    ensures only { result ≡ Err DecodeError.NotAValue → (b : List ℕ) → ((i : ℕ) → slice_index b i < 256) → text.now ≢ hex_text b }
+    ensures only { result ≡ Err DecodeError.NotAValue → (b : List ℕ) → ((i : ℕ) → slice_index b i < 256)
+        → text.now ≢ hex_text b }
 
     // the text alone decides
     ensures exact { Gives (λ b. b) result (bytes_in text.now) }

@@ -11,7 +11,8 @@ pub returns-clause-located : goal.returns-clause-located
 returns-clause-located c =
     let i = c.args.installed.now in
     let n = c.in-Some.number in
-    let there = config_there i.active.deployment.storages c.as_slice.result.now n c.index-as_slice-number.result c.as_slice.ensures c.in-Some.ensures.bound c.index-as_slice-number.is in
+    let there = config_there i.active.deployment.storages c.as_slice.result.now n c.index-as_slice-number.result
+    c.as_slice.ensures c.in-Some.ensures.bound c.index-as_slice-number.is in
     let bound = c.in-Some.ensures.bound in
     let few = c.requires.parts.active.keeps.few in
     let long = length-map i.active.deployment.storages storage_data in
@@ -25,7 +26,8 @@ returns-clause-located c =
         below = c.requires.below;
         in_bank = c.requires.parts.in_bank;
         in_slots = omega (arith, bound, few, long);
-        keeps = c.found_is_kept.ensures.storage (deployment_data i.active.deployment) c.args.name.now _ c.requires.parts.active.keeps (sym c.in-Some.ensures.leads ∙ there);
+        keeps = c.found_is_kept.ensures.storage (deployment_data i.active.deployment) c.args.name.now _
+            c.requires.parts.active.keeps (sym c.in-Some.ensures.leads ∙ there);
       };
     }
 
@@ -33,15 +35,19 @@ pub returns-clause-found : goal.returns-clause-found
 returns-clause-found c = λ states state at.
     let i = c.args.installed.now in
     let n = c.in-Some.number in
-    let there = config_there i.active.deployment.storages c.as_slice.result.now n c.index-as_slice-number.result c.as_slice.ensures c.in-Some.ensures.bound c.index-as_slice-number.is in
-    is_asked (named i.bank (version_said i.active)) states c.args.kind _ n _ state (sym c.number.ensures.found ∙ c.in-Some.is) there (sym c.is_of_kind.ensures ∙ c.if-not-is_of_kind.false) at
+    let there = config_there i.active.deployment.storages c.as_slice.result.now n c.index-as_slice-number.result
+    c.as_slice.ensures c.in-Some.ensures.bound c.index-as_slice-number.is in
+    is_asked (named i.bank (version_said i.active)) states c.args.kind _ n _ state
+    (sym c.number.ensures.found ∙ c.in-Some.is) there (sym c.is_of_kind.ensures ∙ c.if-not-is_of_kind.false) at
 
 pub returns-clause-named : goal.returns-clause-named
 returns-clause-named c = λ states state at.
     let i = c.args.installed.now in
     let n = c.in-Some.number in
-    let there = config_there i.active.deployment.storages c.as_slice.result.now n c.index-as_slice-number.result c.as_slice.ensures c.in-Some.ensures.bound c.index-as_slice-number.is in
-    is_asked (named i.bank (version_said i.active)) states None _ n _ state (sym c.number.ensures.found ∙ c.in-Some.is) there refl at
+    let there = config_there i.active.deployment.storages c.as_slice.result.now n c.index-as_slice-number.result
+    c.as_slice.ensures c.in-Some.ensures.bound c.index-as_slice-number.is in
+    is_asked (named i.bank (version_said i.active)) states None _ n _ state (sym c.number.ensures.found ∙ c.in-Some.is)
+    there refl at
 
 pub returns-clause-kind : goal.returns-clause-kind
 returns-clause-kind c = sym c.is_of_kind.ensures ∙ c.if-not-is_of_kind.false

@@ -9,4 +9,5 @@ returns c =
     let fresh : IsFresh c.args.shape.now.kind c.args.fresh = c.is_of_kind.ensures c.if-not-is_of_kind.false in
     let small : length c.args.fresh.name + length c.args.fresh.bytes ≤ c.args.shape.now.allowed =
     let name = ap length c.as_str.ensures.text in omega (arith, name, c.len.ensures) in
-    subst (λ (fs : List Fresh). AreContents c.args.shape.now.kind c.args.shape.now.allowed fs) (sym c.in_ok-vec.ensures.items) (one_content c.args.shape.now c.args.fresh fresh small)
+    subst (λ (fs : List Fresh). AreContents c.args.shape.now.kind c.args.shape.now.allowed fs)
+    (sym c.in_ok-vec.ensures.items) (one_content c.args.shape.now c.args.fresh fresh small)

@@ -7,4 +7,5 @@ pub loop-block-preserved : goal.loop-block-preserved
 loop-block-preserved c =
     let free : holds c.args.used.now c.loop-block.block ≡ false = sym c.contains.ensures ∙ c.if-contains.false in
     rw c.in_ok-push.ensures.items
-    (choosing_more c.args.used.now c.args.count c.loop-block.block c.loop-block.blocks.items (omega arith) free (omega arith) c.loop-block.invariant)
+    (choosing_more c.args.used.now c.args.count c.loop-block.block c.loop-block.blocks.items (omega arith) free
+    (omega arith) c.loop-block.invariant)

@@ -11,12 +11,14 @@ offset_bounds-fresh-next c =
 
 pub bounds-fresh-next : goal.bounds-fresh-next
 bounds-fresh-next c =
-    let differ : is_changed c.args.bytes.now c.args.old_bytes.now c.loop-i.i ≡ true = sym c.differs.ensures ∙ c.if-differs.true in
+    let differ : is_changed c.args.bytes.now c.args.old_bytes.now c.loop-i.i ≡ true =
+    sym c.differs.ensures ∙ c.if-differs.true in
     omega (
       arith,
       c.requires.enough,
       c.loop-i.invariant.next_is,
-      changed_at c.args.bytes.now c.args.old_bytes.now c.loop-i.i (blocks_for (length c.args.bytes.now)) (omega arith) differ,
+      changed_at c.args.bytes.now c.args.old_bytes.now c.loop-i.i (blocks_for (length c.args.bytes.now)) (omega arith)
+          differ,
     )
 
 pub overflow_add-next : goal.overflow_add-next
@@ -25,8 +27,14 @@ overflow_add-next c =
 
 pub bounds-old_blocks-i : goal.bounds-old_blocks-i
 bounds-old_blocks-i c =
-    let same : is_changed c.args.bytes.now c.args.old_bytes.now c.loop-i.i ≡ false = sym c.differs.ensures ∙ c.if-differs.false in
-    omega (arith, c.requires.room, same_inside c.args.bytes.now c.args.old_bytes.now c.loop-i.i 0 same (omega arith) (omega arith))
+    let same : is_changed c.args.bytes.now c.args.old_bytes.now c.loop-i.i ≡ false =
+    sym c.differs.ensures ∙ c.if-differs.false in
+    omega (
+      arith,
+      c.requires.room,
+      same_inside c.args.bytes.now c.args.old_bytes.now c.loop-i.i 0 same (omega arith)
+          (omega arith),
+    )
 
 pub loop-i-preserved : goal.loop-i-preserved
 loop-i-preserved c =
@@ -41,11 +49,13 @@ loop-i-preserved c =
           let items = w.in_ok-push.ensures.items in
           subst (λ (n : ℕ). is_at n c.if-differs.blocks.items) (sym w.next-is)
           (subst (is_at (c.loop-i.next + 1)) (sym (ap (λ v. v.items) w.blocks-is ∙ items))
-          (merging_fresh bytes was old fresh c.loop-i.i c.loop-i.next _ c.loop-i.blocks.items differ refl c.loop-i.invariant)))
+          (merging_fresh bytes was old fresh c.loop-i.i c.loop-i.next _ c.loop-i.blocks.items differ refl
+          c.loop-i.invariant)))
       | else-differs+in_ok-push-2 w ↦ (
           let same : is_changed bytes was c.loop-i.i ≡ false = sym c.differs.ensures ∙ w.if-differs.false in
           let items = w.in_ok-push-2.ensures.items in
           subst (λ (n : ℕ). is_at n c.if-differs.blocks.items) (sym w.next-is)
           (subst (is_at c.loop-i.next) (sym (ap (λ v. v.items) w.blocks-is ∙ items))
-          (merging_old bytes was old fresh c.loop-i.i c.loop-i.next _ c.loop-i.blocks.items same refl c.loop-i.invariant)))
+          (merging_old bytes was old fresh c.loop-i.i c.loop-i.next _ c.loop-i.blocks.items same refl
+          c.loop-i.invariant)))
     ]

@@ -10,24 +10,29 @@ use Rattle.block_files.proofs.getting.get_blob.Goals as goal
 pub returns-clause-lacking : goal.returns-clause-lacking
 returns-clause-lacking g c = λ tells.
     c.in_ok-blob.ensures.lacking
-    ∙ lacking_is c.in_ok-blob.blob.value c.args.place.first c.args.place.copies c.args.blocks.now c.args.len c.args.hash.now
-    (g.D.Disk.medium c.args.disk.now).image (texts_of c.in_ok-looked.looked.texts.items) c.in_ok-looked.looked.inside.items
+    ∙ lacking_is c.in_ok-blob.blob.value c.args.place.first c.args.place.copies c.args.blocks.now c.args.len
+    c.args.hash.now
+    (g.D.Disk.medium c.args.disk.now).image (texts_of c.in_ok-looked.looked.texts.items)
+    c.in_ok-looked.looked.inside.items
     (c.in_ok-looked.ensures.texts tells) (c.in_ok-looked.ensures.inside tells)
 
 pub returns-clause-size : goal.returns-clause-size
 returns-clause-size g c =
-    voted_size (min c.args.len (256 * length c.args.blocks.now)) c.args.m (texts_of c.in_ok-looked.looked.texts.items) c.in_ok-blob.blob.value
+    voted_size (min c.args.len (256 * length c.args.blocks.now)) c.args.m (texts_of c.in_ok-looked.looked.texts.items)
+    c.in_ok-blob.blob.value
     c.requires c.in_ok-blob.ensures.value c.in_ok-looked.ensures.size
 
 pub returns-clause-salvage_size : goal.returns-clause-salvage_size
 returns-clause-salvage_size g c =
-    first_size (min c.args.len (256 * length c.args.blocks.now)) (texts_of c.in_ok-looked.looked.texts.items) c.in_ok-blob.blob.salvage
+    first_size (min c.args.len (256 * length c.args.blocks.now)) (texts_of c.in_ok-looked.looked.texts.items)
+    c.in_ok-blob.blob.salvage
     c.in_ok-blob.ensures.salvage c.in_ok-looked.ensures.size
 
 pub returns-clause-copies : goal.returns-clause-copies
 returns-clause-copies g c =
     let given = texts_of c.in_ok-looked.looked.texts.items in
-    let long = length-map c.in_ok-looked.looked.texts.items (λ copy. option_map (λ t. t.items) copy) ∙ c.in_ok-looked.ensures.copies.0 in
+    let long = length-map c.in_ok-looked.looked.texts.items (λ copy. option_map (λ t. t.items) copy)
+    ∙ c.in_ok-looked.ensures.copies.0 in
     let P : List ℕ → Type 0 = λ xs. AreCopies c.args.place.copies xs in
     subst P (sym c.in_ok-blob.ensures.lacking)
     (lacking_copies c.in_ok-blob.blob.value given c.in_ok-looked.looked.inside.items c.args.place.copies long)
@@ -35,7 +40,8 @@ returns-clause-copies g c =
 pub returns-clause-ascending : goal.returns-clause-ascending
 returns-clause-ascending g c =
     let given = texts_of c.in_ok-looked.looked.texts.items in
-    let long = length-map c.in_ok-looked.looked.texts.items (λ copy. option_map (λ t. t.items) copy) ∙ c.in_ok-looked.ensures.copies.0 in
+    let long = length-map c.in_ok-looked.looked.texts.items (λ copy. option_map (λ t. t.items) copy)
+    ∙ c.in_ok-looked.ensures.copies.0 in
     let P : List ℕ → Type 0 = λ xs. Ascend xs in
     subst P (sym c.in_ok-blob.ensures.lacking)
     (lacking_ascend c.in_ok-blob.blob.value given c.in_ok-looked.looked.inside.items c.args.place.copies long)

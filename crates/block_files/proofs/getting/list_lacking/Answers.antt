@@ -17,7 +17,8 @@ loop-copy-preserved c =
     let in_inside : i < length looked.inside.items = omega (arith, c.requires.0) in
     let text = get_or-map (λ copy. option_map (λ t. t.items) copy) looked.texts.items i c.index.result.now None in_texts
     ∙ ap (λ copy. option_map (λ t. t.items) copy) (sym c.index.ensures) in
-    let inside = get_or_default looked.inside.items i false c.index-in-loop-copy.result.now in_inside ∙ sym c.index-in-loop-copy.ensures in
+    let inside = get_or_default looked.inside.items i false c.index-in-loop-copy.result.now in_inside
+    ∙ sym c.index-in-loop-copy.ensures in
     let test : lacks_at value given looked.inside.items i ≡ c.is_lacking.result =
     ap (λ t. lacks value t (get_or looked.inside.items i false)) text
     ∙ ap (lacks value (option_map (λ t. t.items) c.index.result.now)) inside
@@ -39,5 +40,10 @@ returns c =
     let looked = c.args.looked.now in
     let given = texts_of looked.texts.items in
     let all : c.loop-copy.copy ≡ length given =
-    omega (arith, c.len-copy-end.ensures, looked.texts.ok, length-map looked.texts.items (λ copy. option_map (λ t. t.items) copy)) in
+    omega (
+      arith,
+      c.len-copy-end.ensures,
+      looked.texts.ok,
+      length-map looked.texts.items (λ copy. option_map (λ t. t.items) copy),
+    ) in
     c.new.ensures ∙ c.loop-copy.invariant ∙ ap (lacking_to (option_copied c.args.value) given looked.inside.items) all

@@ -5,4 +5,5 @@ use Rattle.block_files.proofs.Counting.{lacking_to}
 use Rattle.block_files.proofs.getting.list_lacking.Given as goal
 
 abbrev pub invariant-loop-copy : goal.invariant-loop-copy
-invariant-loop-copy l = l.numbers.items ≡ lacking_to (option_copied l.value) (texts_of l.looked.texts.items) l.looked.inside.items l.copy
+invariant-loop-copy l = l.numbers.items ≡ lacking_to (option_copied l.value) (texts_of l.looked.texts.items)
+    l.looked.inside.items l.copy

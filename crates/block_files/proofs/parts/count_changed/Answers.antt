@@ -11,9 +11,11 @@ overflow_add-count c =
 pub loop-i-preserved : goal.loop-i-preserved
 loop-i-preserved c = elim c.if-differs.branch [
   | then-differs w ↦ (
-      let differ : is_changed c.args.bytes.now c.args.was.now c.loop-i.i ≡ true = sym c.differs.ensures ∙ w.if-differs.true in
+      let differ : is_changed c.args.bytes.now c.args.was.now c.loop-i.i ≡ true =
+      sym c.differs.ensures ∙ w.if-differs.true in
       omega (arith, w.count-is, c.loop-i.invariant, changed_more c.args.bytes.now c.args.was.now c.loop-i.i differ))
   | else-differs w ↦ (
-      let same : is_changed c.args.bytes.now c.args.was.now c.loop-i.i ≡ false = sym c.differs.ensures ∙ w.if-differs.false in
+      let same : is_changed c.args.bytes.now c.args.was.now c.loop-i.i ≡ false =
+      sym c.differs.ensures ∙ w.if-differs.false in
       omega (arith, w.count-is, c.loop-i.invariant, changed_same c.args.bytes.now c.args.was.now c.loop-i.i same))
 ]

@@ -28,12 +28,16 @@ returns-in_err-write_shared-clause-failed g c = λ failed.
     let blocks = c.in_ok-blob.blob.blocks in
     let none = IsNoArea c.args.place.first c.args.place.copies in
     let n = c.args.place.copies * (256 * changed c.args.bytes.now c.args.old_bytes.now) in
-    let P : List ℕ → Type 0 = λ xs. (k : ℕ) → IsTaken c.args.used.now k → IsApartFromChanged xs c.args.bytes.now c.args.old_bytes.now k in
-    tore_less g.D.Disk.told none (IsApartFromChanged c.as_slice.result.now c.args.bytes.now c.args.old_bytes.now) none (IsTaken c.args.used.now)
+    let P : List ℕ → Type 0 = λ xs. (k : ℕ) → IsTaken c.args.used.now k
+    → IsApartFromChanged xs c.args.bytes.now c.args.old_bytes.now k in
+    tore_less g.D.Disk.told none (IsApartFromChanged c.as_slice.result.now c.args.bytes.now c.args.old_bytes.now) none
+    (IsTaken c.args.used.now)
     (λ f is. is)
-    (subst P (sym c.as_slice.ensures) (taken_apart_changed blocks c.args.bytes.now c.args.old_blocks.now c.args.old_bytes.now c.args.used.now c.in_ok-blob.ensures.shared))
+    (subst P (sym c.as_slice.ensures) (taken_apart_changed blocks c.args.bytes.now c.args.old_blocks.now
+    c.args.old_bytes.now c.args.used.now c.in_ok-blob.ensures.shared))
     n n (le_refl n) (g.D.Disk.medium c.args.disk.now) (g.D.Disk.medium c.write_shared.new.disk)
     c.in_err-write_shared.ensures.failed
 
 pub returns-in_err-write_shared-clause-reserved : goal.returns-in_err-write_shared-clause-reserved
-returns-in_err-write_shared-clause-reserved g c = λ failed. (c.in_ok-blob.blob.blocks, c.in_ok-blob.ensures.count, c.in_ok-blob.ensures.shared, c.in_ok-blob.ensures.used)
+returns-in_err-write_shared-clause-reserved g c = λ failed.
+    (c.in_ok-blob.blob.blocks, c.in_ok-blob.ensures.count, c.in_ok-blob.ensures.shared, c.in_ok-blob.ensures.used)

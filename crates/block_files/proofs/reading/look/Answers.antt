@@ -27,25 +27,34 @@ loop-copy-preserved g c =
     let size = c.in_ok-size.ensures in
     let i = c.loop-copy.copy in
     let blocks = c.args.blocks.now in
-    let read = read_on old (g.D.Disk.medium c.loop-copy.disk) mid c.loop-copy.invariant.read text.reads text.time text.passes in
+    let read = read_on old (g.D.Disk.medium c.loop-copy.disk) mid c.loop-copy.invariant.read text.reads text.time
+    text.passes in
     record {
       read = read_on old mid (g.D.Disk.medium c.size.new.self) read size.reads size.time size.passes;
       texts = λ tells. (
-          let same = ap (λ im. im c.area-file.result) c.loop-copy.invariant.read.reads.image ∙ ap old.image c.area-file.ensures in
+          let same = ap (λ im. im c.area-file.result) c.loop-copy.invariant.read.reads.image
+          ∙ ap old.image c.area-file.ensures in
           ap texts_of c.in_ok-push.ensures.items
-          ∙ texts_more c.args.place.first i blocks c.args.len c.args.hash.now old.image c.loop-copy.texts.items c.in_ok-text.text
-          (c.loop-copy.invariant.texts tells) (text.text tells ∙ ap (λ file. counting file blocks c.args.len c.args.hash.now) same));
+          ∙ texts_more c.args.place.first i blocks c.args.len c.args.hash.now old.image c.loop-copy.texts.items
+          c.in_ok-text.text
+          (c.loop-copy.invariant.texts tells) (text.text tells
+          ∙ ap (λ file. counting file blocks c.args.len c.args.hash.now) same));
       inside = λ tells. (
           let same = ap (λ im. im c.area-file.result) read.reads.image ∙ ap old.image c.area-file.ensures in
-          let here = c.is_inside.ensures ∙ ap (λ s. is_within s blocks c.args.len) (size.size tells) ∙ ap (λ file. within file blocks c.args.len) same in
+          let here = c.is_inside.ensures ∙ ap (λ s. is_within s blocks c.args.len) (size.size tells)
+          ∙ ap (λ file. within file blocks c.args.len) same in
           c.in_ok-push-2.ensures.items
-          ∙ inside_more c.args.place.first i blocks c.args.len old.image c.loop-copy.inside.items c.is_inside.result (c.loop-copy.invariant.inside tells) here);
+          ∙ inside_more c.args.place.first i blocks c.args.len old.image c.loop-copy.inside.items c.is_inside.result
+          (c.loop-copy.invariant.inside tells) here);
       copies = (
-        ap length c.in_ok-push.ensures.items ∙ length_push c.loop-copy.texts.items c.in_ok-text.text ∙ ap (λ n. n + 1) c.loop-copy.invariant.copies.0,
-        ap length c.in_ok-push-2.ensures.items ∙ length_push c.loop-copy.inside.items c.is_inside.result ∙ ap (λ n. n + 1) c.loop-copy.invariant.copies.1,
+        ap length c.in_ok-push.ensures.items ∙ length_push c.loop-copy.texts.items c.in_ok-text.text
+            ∙ ap (λ n. n + 1) c.loop-copy.invariant.copies.0,
+        ap length c.in_ok-push-2.ensures.items ∙ length_push c.loop-copy.inside.items c.is_inside.result
+            ∙ ap (λ n. n + 1) c.loop-copy.invariant.copies.1,
       );
       size = (
           let n = min c.args.len (256 * length blocks) in
           let P = λ (xs : List (Option (Vec ℕ Global))). HaveSize n (texts_of xs) in
-          subst P (sym c.in_ok-push.ensures.items) (sizes_more n c.loop-copy.texts.items c.in_ok-text.text c.loop-copy.invariant.size text.size));
+          subst P (sym c.in_ok-push.ensures.items) (sizes_more n c.loop-copy.texts.items c.in_ok-text.text
+          c.loop-copy.invariant.size text.size));
     }

@@ -10,9 +10,11 @@ use Rattle.block_files.proofs.reading.look.Given as goal
 abbrev pub invariant-loop-copy : goal.invariant-loop-copy
 invariant-loop-copy g l = record {
   read : IsRead (g.D.Disk.medium l.fn.disk) (g.D.Disk.medium l.disk);
-  texts : IsTrue g.D.Disk.told → texts_of l.texts.items ≡ contents l.place.first l.copy l.blocks l.len l.hash (g.D.Disk.medium l.fn.disk).image;
+  texts : IsTrue g.D.Disk.told → texts_of l.texts.items
+      ≡ contents l.place.first l.copy l.blocks l.len l.hash (g.D.Disk.medium l.fn.disk).image;
   inside : IsTrue g.D.Disk.told → l.inside.items
-      ≡ map (λ c. within ((g.D.Disk.medium l.fn.disk).image (area l.place.first c)) l.blocks l.len) (range_with_len 0 l.copy);
+      ≡ map (λ c. within ((g.D.Disk.medium l.fn.disk).image (area l.place.first c)) l.blocks l.len)
+      (range_with_len 0 l.copy);
   copies : (length l.texts.items ≡ l.copy) × (length l.inside.items ≡ l.copy);
   size : HaveSize (min l.len (256 * length l.blocks)) (texts_of l.texts.items);
 }

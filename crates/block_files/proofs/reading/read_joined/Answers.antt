@@ -19,12 +19,15 @@ loop-number-preserved g c =
     let left : c.min.result ≡ min (c.args.len - length c.loop-number.bytes.items) 256 =
     omega (arith, c.min.ensures, c.saturating_sub-left.ensures, c.len.ensures, c.loop-number.bytes.ok) in
     record {
-      read = read_on old mid (g.D.Disk.medium c.read_block.new.disk) c.loop-number.invariant.read h.reads h.time h.passes;
+      read = read_on old mid (g.D.Disk.medium c.read_block.new.disk) c.loop-number.invariant.read h.reads h.time
+          h.passes;
       bytes = λ tells. (
           let same = ap (λ im. im c.args.file) c.loop-number.invariant.read.reads.image in
-          let content = h.bytes tells ∙ ap (λ xs. block xs (get_or c.args.blocks.now c.loop-number.number-index 0)) same in
+          let content = h.bytes tells ∙ ap (λ xs. block xs (get_or c.args.blocks.now c.loop-number.number-index 0)) same
+          in
           c.in_ok-extend_from_slice.ensures.items
-          ∙ joined_more (old.image c.args.file) c.args.blocks.now c.loop-number.bytes.items c.in_ok-content.content c.args.len c.loop-number.number-index c.min.result
+          ∙ joined_more (old.image c.args.file) c.args.blocks.now c.loop-number.bytes.items c.in_ok-content.content
+          c.args.len c.loop-number.number-index c.min.result
           (omega arith) (c.loop-number.invariant.bytes tells) content left);
       size = omega (
         arith,
@@ -40,7 +43,8 @@ loop-number-preserved g c =
 pub returns-clause-bytes : goal.returns-clause-bytes
 returns-clause-bytes g c = λ tells.
     c.loop-number.invariant.bytes tells
-    ∙ joined_all ((g.D.Disk.medium c.args.disk.now).image c.args.file) c.args.blocks.now c.args.len c.loop-number.number-index (omega arith)
+    ∙ joined_all ((g.D.Disk.medium c.args.disk.now).image c.args.file) c.args.blocks.now c.args.len
+    c.loop-number.number-index (omega arith)
 
 pub returns-clause-size : goal.returns-clause-size
 returns-clause-size g c = omega (arith, c.loop-number.invariant.size)

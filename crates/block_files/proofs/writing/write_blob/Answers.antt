@@ -16,7 +16,8 @@ pub returns-clause-done : goal.returns-clause-done
 returns-clause-done g c =
     let none = IsNoArea c.args.place.first c.args.place.copies in
     on_ok_weaker c.write_shared.result
-    (wrote_less g.D.Disk.told none (IsApartFromChanged c.args.blocks.now c.args.bytes.now []) none (IsApart c.args.blocks.now)
+    (wrote_less g.D.Disk.told none (IsApartFromChanged c.args.blocks.now c.args.bytes.now []) none
+    (IsApart c.args.blocks.now)
     (λ f is. is) (apart_none c.args.blocks.now c.args.bytes.now [])
     (c.args.place.copies * (256 * changed c.args.bytes.now [])) (c.args.place.copies * (256 * length c.args.blocks.now))
     (whole_le c.args.bytes.now c.args.place.copies (length c.args.blocks.now) c.requires.room)
@@ -27,7 +28,8 @@ pub returns-clause-failed : goal.returns-clause-failed
 returns-clause-failed g c =
     let none = IsNoArea c.args.place.first c.args.place.copies in
     on_err_weaker c.write_shared.result
-    (tore_less g.D.Disk.told none (IsApartFromChanged c.args.blocks.now c.args.bytes.now []) none (IsApart c.args.blocks.now)
+    (tore_less g.D.Disk.told none (IsApartFromChanged c.args.blocks.now c.args.bytes.now []) none
+    (IsApart c.args.blocks.now)
     (λ f is. is) (apart_none c.args.blocks.now c.args.bytes.now [])
     (c.args.place.copies * (256 * changed c.args.bytes.now [])) (c.args.place.copies * (256 * length c.args.blocks.now))
     (whole_le c.args.bytes.now c.args.place.copies (length c.args.blocks.now) c.requires.room)

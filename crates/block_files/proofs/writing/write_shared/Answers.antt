@@ -12,13 +12,15 @@ write_copies-requires-clause-copies g c = numbers_named c.args.place.copies c.ar
 
 pub write_copies-requires-clause-shared : goal.write_copies-requires-clause-shared
 write_copies-requires-clause-shared g c = λ tells.
-    shared_named c.args.place.copies c.args.place.few c.args.place.first c.args.blocks.now c.args.bytes.now c.args.was.now
+    shared_named c.args.place.copies c.args.place.few c.args.place.first c.args.blocks.now c.args.bytes.now
+    c.args.was.now
     (g.D.Disk.medium c.args.disk.now).image (c.requires.shared tells)
 
 pub returns-clause-whole : goal.returns-clause-whole
 returns-clause-whole g c = λ tells.
     on_ok_weaker c.write_copies.result
-    (all_full c.args.place.copies c.args.place.few c.args.place.first c.args.blocks.now c.args.bytes.now (g.D.Disk.medium c.write_copies.new.disk).image)
+    (all_full c.args.place.copies c.args.place.few c.args.place.first c.args.blocks.now c.args.bytes.now
+    (g.D.Disk.medium c.write_copies.new.disk).image)
     (c.write_copies.ensures.whole tells)
 
 pub returns-clause-done : goal.returns-clause-done
@@ -26,10 +28,13 @@ returns-clause-done g c =
     let place = c.args.place in
     let apart = IsApartFromChanged c.args.blocks.now c.args.bytes.now c.args.was.now in
     let n = 256 * changed c.args.bytes.now c.args.was.now in
-    let le : length (take place.copies numbers) * n ≤ place.copies * n = omega (arith, ap (λ k. k * n) (length-numbers place.copies place.few)) in
+    let le : length (take place.copies numbers) * n ≤ place.copies * n =
+    omega (arith, ap (λ k. k * n) (length-numbers place.copies place.few)) in
     on_ok_weaker c.write_copies.result
-    (wrote_less g.D.Disk.told (IsNoneOf place.first (take place.copies numbers)) apart (IsNoArea place.first place.copies) apart
-    (none_named place.copies place.few place.first) (λ k is. is) (length (take place.copies numbers) * n) (place.copies * n) le
+    (wrote_less g.D.Disk.told (IsNoneOf place.first (take place.copies numbers)) apart
+    (IsNoArea place.first place.copies) apart
+    (none_named place.copies place.few place.first) (λ k is. is) (length (take place.copies numbers) * n)
+    (place.copies * n) le
     (g.D.Disk.medium c.args.disk.now) (g.D.Disk.medium c.write_copies.new.disk))
     c.write_copies.ensures.done
 
@@ -38,9 +43,12 @@ returns-clause-failed g c =
     let place = c.args.place in
     let apart = IsApartFromChanged c.args.blocks.now c.args.bytes.now c.args.was.now in
     let n = 256 * changed c.args.bytes.now c.args.was.now in
-    let le : length (take place.copies numbers) * n ≤ place.copies * n = omega (arith, ap (λ k. k * n) (length-numbers place.copies place.few)) in
+    let le : length (take place.copies numbers) * n ≤ place.copies * n =
+    omega (arith, ap (λ k. k * n) (length-numbers place.copies place.few)) in
     on_err_weaker c.write_copies.result
-    (tore_less g.D.Disk.told (IsNoneOf place.first (take place.copies numbers)) apart (IsNoArea place.first place.copies) apart
-    (none_named place.copies place.few place.first) (λ k is. is) (length (take place.copies numbers) * n) (place.copies * n) le
+    (tore_less g.D.Disk.told (IsNoneOf place.first (take place.copies numbers)) apart
+    (IsNoArea place.first place.copies) apart
+    (none_named place.copies place.few place.first) (λ k is. is) (length (take place.copies numbers) * n)
+    (place.copies * n) le
     (g.D.Disk.medium c.args.disk.now) (g.D.Disk.medium c.write_copies.new.disk))
     c.write_copies.ensures.failed

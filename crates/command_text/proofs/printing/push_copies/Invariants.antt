@@ -6,4 +6,5 @@ use Rattle.command_text.proofs.printing.push_copies.Given as goal
 
 -- the text so far, and the copies that are left
 abbrev pub invariant-loop-copy : goal.invariant-loop-copy
-invariant-loop-copy l = string_bytes l.out ++ flat_map (λ d. 44 ∷ decimal d) (drop l.copy-index l.others) ≡ string_bytes l.fn.out ++ copies_text l.copies
+invariant-loop-copy l = string_bytes l.out ++ flat_map (λ d. 44 ∷ decimal d) (drop l.copy-index l.others)
+    ≡ string_bytes l.fn.out ++ copies_text l.copies

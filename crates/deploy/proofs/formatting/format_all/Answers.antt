@@ -21,12 +21,14 @@ loop-app-preserved g c =
     let mid = g.D.Disk.medium c.loop-app.disk in
     let new = g.D.Disk.medium c.format_root.new.disk in
     record {
-      empty = λ tells. one_more c.files_lie_apart.ensures.root c.files_lie_apart.ensures.slots c.roots_say.ensures.held app lt mid.image new.image
+      empty = λ tells. one_more c.files_lie_apart.ensures.root c.files_lie_apart.ensures.slots c.roots_say.ensures.held
+          app lt mid.image new.image
           (c.format_root.ensures.elsewhere tells) app refl (it.empty tells)
           (formatted new.image app c.in_ok-_cell._cell c.in_ok-_cell.ensures.cell (c.in_ok-_cell.ensures.held tells));
       quiet = λ some. c.in_ok-_cell.ensures.quiet;
       passes = c.in_ok-_cell.ensures.passes ∙ it.passes;
-      outside = one_left g.D.Disk.told app lt old mid new it.time c.format_root.ensures.time it.outside (λ quiet. it.quiet (inr quiet))
+      outside = one_left g.D.Disk.told app lt old mid new it.time c.format_root.ensures.time it.outside
+          (λ quiet. it.quiet (inr quiet))
           c.format_root.ensures.elsewhere c.format_root.ensures.any_moment;
       time = elapses_on it.time c.format_root.ensures.time;
     }
@@ -36,21 +38,25 @@ returns-in_err-_cell-clause-outside g c =
     let it = c.loop-app.invariant in
     let app = c.loop-app.app in
     let lt : app < 8 = omega arith in
-    one_left g.D.Disk.told app lt (g.D.Disk.medium c.args.disk.now) (g.D.Disk.medium c.loop-app.disk) (g.D.Disk.medium c.format_root.new.disk)
+    one_left g.D.Disk.told app lt (g.D.Disk.medium c.args.disk.now) (g.D.Disk.medium c.loop-app.disk)
+    (g.D.Disk.medium c.format_root.new.disk)
     it.time c.format_root.ensures.time it.outside (λ quiet. it.quiet (inr quiet))
     c.format_root.ensures.elsewhere c.format_root.ensures.any_moment
 
 pub returns-clause-apps : goal.returns-clause-apps
 returns-clause-apps g c = λ tells app lt.
-    empty_is (g.D.Disk.medium c.loop-app.disk).image app (c.loop-app.invariant.empty tells app (omega (arith, lt))) c.one_root.ensures.again c.roots_say.ensures.alone
+    empty_is (g.D.Disk.medium c.loop-app.disk).image app (c.loop-app.invariant.empty tells app (omega (arith, lt)))
+    c.one_root.ensures.again c.roots_say.ensures.alone
 
 pub returns-clause-settled : goal.returns-clause-settled
 returns-clause-settled g c = λ tells app lt.
-    empty_settled (g.D.Disk.medium c.loop-app.disk).image app (c.loop-app.invariant.empty tells app (omega (arith, lt))) c.held_is_lawful.ensures.alone
+    empty_settled (g.D.Disk.medium c.loop-app.disk).image app (c.loop-app.invariant.empty tells app (omega (arith, lt)))
+    c.held_is_lawful.ensures.alone
 
 pub returns-clause-clean : goal.returns-clause-clean
 returns-clause-clean g c = λ tells app lt.
-    empty_clean (g.D.Disk.medium c.loop-app.disk).image app (c.loop-app.invariant.empty tells app (omega (arith, lt))) c.one_root.ensures.again c.roots_say.ensures.clean
+    empty_clean (g.D.Disk.medium c.loop-app.disk).image app (c.loop-app.invariant.empty tells app (omega (arith, lt)))
+    c.one_root.ensures.again c.roots_say.ensures.clean
 
 pub returns-clause-quiet : goal.returns-clause-quiet
 returns-clause-quiet g c = c.loop-app.invariant.quiet (inl (omega arith))

@@ -8,7 +8,8 @@ use Rattle.deploy.proofs.formatting.format_root.Goals as goal
 
 pub returns-in_err-text-clause-any_moment : goal.returns-in_err-text-clause-any_moment
 returns-in_err-text-clause-any_moment g c = λ tells quiet.
-    unformatted c.stops_are_lawful.ensures.untouched (root_place c.args.app).first (root_place c.args.app).copies 1 (root_text absent)
+    unformatted c.stops_are_lawful.ensures.untouched (root_place c.args.app).first (root_place c.args.app).copies 1
+    (root_text absent)
     g.D.Disk.told (g.D.Disk.medium c.args.disk.now) (g.met.D.Disk.lawful c.args.disk.now) quiet
 
 pub format_cell-requires : goal.format_cell-requires
@@ -19,25 +20,32 @@ format_cell-requires g c =
 
 pub returns-in_err-cell-clause-elsewhere : goal.returns-in_err-cell-clause-elsewhere
 returns-in_err-cell-clause-elsewhere g c = λ tells. spares_at c.root_place.result c.args.app c.root_place.ensures
-    (g.D.Disk.medium c.args.disk.now).image (g.D.Disk.medium c.format_cell.new.disk).image (c.format_cell.ensures.elsewhere tells)
+    (g.D.Disk.medium c.args.disk.now).image (g.D.Disk.medium c.format_cell.new.disk).image
+    (c.format_cell.ensures.elsewhere tells)
 
 pub returns-in_err-cell-clause-any_moment : goal.returns-in_err-cell-clause-any_moment
-returns-in_err-cell-clause-any_moment g c = λ tells quiet. formats_at c.root_place.result c.args.app c.root_place.ensures
-    c.deref.result.now (root_text absent) (g.D.Disk.medium c.args.disk.now) (g.D.Disk.medium c.format_cell.new.disk) (c.deref.ensures.value ∙ c.in_ok-text.ensures.text)
+returns-in_err-cell-clause-any_moment g c = λ tells quiet.
+    formats_at c.root_place.result c.args.app c.root_place.ensures
+    c.deref.result.now (root_text absent) (g.D.Disk.medium c.args.disk.now) (g.D.Disk.medium c.format_cell.new.disk)
+    (c.deref.ensures.value ∙ c.in_ok-text.ensures.text)
     (c.format_cell.ensures.any_moment tells quiet)
 
 pub returns-clause-cell : goal.returns-clause-cell
-returns-clause-cell g c = cell_at c.root_place.result c.args.app c.root_place.ensures 1 c.in_ok-cell.cell c.in_ok-cell.ensures.cell
+returns-clause-cell g c = cell_at c.root_place.result c.args.app c.root_place.ensures 1 c.in_ok-cell.cell
+    c.in_ok-cell.ensures.cell
 
 pub returns-clause-held : goal.returns-clause-held
-returns-clause-held g c = λ tells. subst (λ (t : List ℕ). CellAt (g.D.Disk.medium c.format_cell.new.disk).image c.in_ok-cell.cell t)
+returns-clause-held g c = λ tells. subst (λ (t : List ℕ).
+    CellAt (g.D.Disk.medium c.format_cell.new.disk).image c.in_ok-cell.cell t)
     (c.deref.ensures.value ∙ c.in_ok-text.ensures.text) (c.in_ok-cell.ensures.held tells)
 
 pub returns-clause-elsewhere : goal.returns-clause-elsewhere
 returns-clause-elsewhere g c = λ tells. spares_at c.root_place.result c.args.app c.root_place.ensures
-    (g.D.Disk.medium c.args.disk.now).image (g.D.Disk.medium c.format_cell.new.disk).image (c.format_cell.ensures.elsewhere tells)
+    (g.D.Disk.medium c.args.disk.now).image (g.D.Disk.medium c.format_cell.new.disk).image
+    (c.format_cell.ensures.elsewhere tells)
 
 pub returns-clause-any_moment : goal.returns-clause-any_moment
 returns-clause-any_moment g c = λ tells quiet. formats_at c.root_place.result c.args.app c.root_place.ensures
-    c.deref.result.now (root_text absent) (g.D.Disk.medium c.args.disk.now) (g.D.Disk.medium c.format_cell.new.disk) (c.deref.ensures.value ∙ c.in_ok-text.ensures.text)
+    c.deref.result.now (root_text absent) (g.D.Disk.medium c.args.disk.now) (g.D.Disk.medium c.format_cell.new.disk)
+    (c.deref.ensures.value ∙ c.in_ok-text.ensures.text)
     (c.format_cell.ensures.any_moment tells quiet)

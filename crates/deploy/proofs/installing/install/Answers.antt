@@ -12,32 +12,58 @@ use Rattle.deploy.proofs.Unmoved.{answered, app_after, later_after, row_given, s
 use Rattle.deploy.proofs.installing.install.Goals as goal
 
 pub returns-in-Bad-clause-refused : goal.returns-in-Bad-clause-refused
-returns-in-Bad-clause-refused g c = answered (installing c.args.now c.args.manifest.now) (error.IntegrityCorrupted unit.Root) root.Bad c.args.root c.refuses.result c.in-Bad.is c.refuses.ensures (over_bad c.args.now c.args.manifest.now)
+returns-in-Bad-clause-refused g c = answered (installing c.args.now c.args.manifest.now)
+    (error.IntegrityCorrupted unit.Root) root.Bad c.args.root c.refuses.result c.in-Bad.is c.refuses.ensures
+    (over_bad c.args.now c.args.manifest.now)
 
 pub returns-in-Bad-clause-says : goal.returns-in-Bad-clause-says
-returns-in-Bad-clause-says g c = says_still (installing c.args.now c.args.manifest.now) (error.IntegrityCorrupted unit.Root) root.Bad c.args.root c.refuses.result c.in-Bad.is c.refuses.ensures (over_bad c.args.now c.args.manifest.now)
+returns-in-Bad-clause-says g c = says_still (installing c.args.now c.args.manifest.now)
+    (error.IntegrityCorrupted unit.Root) root.Bad c.args.root c.refuses.result c.in-Bad.is c.refuses.ensures
+    (over_bad c.args.now c.args.manifest.now)
 
 pub returns-in-Bad-clause-app : goal.returns-in-Bad-clause-app
-returns-in-Bad-clause-app g c = app_after (installing c.args.now c.args.manifest.now) (error.IntegrityCorrupted unit.Root) c.one_root.ensures.again c.roots_say.ensures.alone (c.rows_read_the_root.ensures.install c.args.now c.args.manifest.now) g.D.Disk.told (g.D.Disk.medium c.args.disk.now).image c.args.app c.args.root c.requires.root (row_given (installing c.args.now c.args.manifest.now) (error.IntegrityCorrupted unit.Root) root.Bad c.args.root c.refuses.result c.in-Bad.is c.refuses.ensures (over_bad c.args.now c.args.manifest.now))
+returns-in-Bad-clause-app g c = app_after (installing c.args.now c.args.manifest.now)
+    (error.IntegrityCorrupted unit.Root) c.one_root.ensures.again c.roots_say.ensures.alone
+    (c.rows_read_the_root.ensures.install c.args.now c.args.manifest.now) g.D.Disk.told
+    (g.D.Disk.medium c.args.disk.now).image c.args.app c.args.root c.requires.root
+    (row_given (installing c.args.now c.args.manifest.now) (error.IntegrityCorrupted unit.Root) root.Bad c.args.root
+    c.refuses.result c.in-Bad.is c.refuses.ensures (over_bad c.args.now c.args.manifest.now))
 
 pub returns-in-Bad-clause-any_moment : goal.returns-in-Bad-clause-any_moment
-returns-in-Bad-clause-any_moment g c = λ tells. stands_still c.untouched_stands.ensures.still g.D.Disk.told c.args.app (g.D.Disk.medium c.args.disk.now) _ (g.met.D.Disk.lawful c.args.disk.now) c.requires.app
-    (later_after (app_at (g.D.Disk.medium c.args.disk.now).image c.args.app) (installing c.args.now c.args.manifest.now (app_at (g.D.Disk.medium c.args.disk.now).image c.args.app))
-    (λ b is. c.rows_lead_on.ensures.install c.args.now c.args.manifest.now (app_at (g.D.Disk.medium c.args.disk.now).image c.args.app) b is))
+returns-in-Bad-clause-any_moment g c = λ tells. stands_still c.untouched_stands.ensures.still g.D.Disk.told c.args.app
+    (g.D.Disk.medium c.args.disk.now) _ (g.met.D.Disk.lawful c.args.disk.now) c.requires.app
+    (later_after (app_at (g.D.Disk.medium c.args.disk.now).image c.args.app)
+    (installing c.args.now c.args.manifest.now (app_at (g.D.Disk.medium c.args.disk.now).image c.args.app))
+    (λ b is. c.rows_lead_on.ensures.install c.args.now c.args.manifest.now
+    (app_at (g.D.Disk.medium c.args.disk.now).image c.args.app) b is))
 
 pub returns-in-Installed-clause-refused : goal.returns-in-Installed-clause-refused
-returns-in-Installed-clause-refused g c = answered (installing c.args.now c.args.manifest.now) error.AlreadyInstalled (root.Installed c.in-Installed.i) c.args.root c.refuses-in-Installed.result c.in-Installed.is c.refuses-in-Installed.ensures (over_installed c.args.now c.args.manifest.now c.in-Installed.i)
+returns-in-Installed-clause-refused g c = answered (installing c.args.now c.args.manifest.now) error.AlreadyInstalled
+    (root.Installed c.in-Installed.i) c.args.root c.refuses-in-Installed.result c.in-Installed.is
+    c.refuses-in-Installed.ensures (over_installed c.args.now c.args.manifest.now c.in-Installed.i)
 
 pub returns-in-Installed-clause-says : goal.returns-in-Installed-clause-says
-returns-in-Installed-clause-says g c = says_still (installing c.args.now c.args.manifest.now) error.AlreadyInstalled (root.Installed c.in-Installed.i) c.args.root c.refuses-in-Installed.result c.in-Installed.is c.refuses-in-Installed.ensures (over_installed c.args.now c.args.manifest.now c.in-Installed.i)
+returns-in-Installed-clause-says g c = says_still (installing c.args.now c.args.manifest.now) error.AlreadyInstalled
+    (root.Installed c.in-Installed.i) c.args.root c.refuses-in-Installed.result c.in-Installed.is
+    c.refuses-in-Installed.ensures (over_installed c.args.now c.args.manifest.now c.in-Installed.i)
 
 pub returns-in-Installed-clause-app : goal.returns-in-Installed-clause-app
-returns-in-Installed-clause-app g c = app_after (installing c.args.now c.args.manifest.now) error.AlreadyInstalled c.one_root.ensures.again c.roots_say.ensures.alone (c.rows_read_the_root.ensures.install c.args.now c.args.manifest.now) g.D.Disk.told (g.D.Disk.medium c.args.disk.now).image c.args.app c.args.root c.requires.root (row_given (installing c.args.now c.args.manifest.now) error.AlreadyInstalled (root.Installed c.in-Installed.i) c.args.root c.refuses-in-Installed.result c.in-Installed.is c.refuses-in-Installed.ensures (over_installed c.args.now c.args.manifest.now c.in-Installed.i))
+returns-in-Installed-clause-app g c = app_after (installing c.args.now c.args.manifest.now) error.AlreadyInstalled
+    c.one_root.ensures.again c.roots_say.ensures.alone (c.rows_read_the_root.ensures.install c.args.now
+    c.args.manifest.now) g.D.Disk.told (g.D.Disk.medium c.args.disk.now).image c.args.app c.args.root c.requires.root
+    (row_given (installing c.args.now c.args.manifest.now) error.AlreadyInstalled (root.Installed c.in-Installed.i)
+    c.args.root c.refuses-in-Installed.result c.in-Installed.is c.refuses-in-Installed.ensures
+    (over_installed c.args.now c.args.manifest.now c.in-Installed.i))
 
 pub returns-in-Installed-clause-any_moment : goal.returns-in-Installed-clause-any_moment
-returns-in-Installed-clause-any_moment g c = λ tells. stands_still c.untouched_stands.ensures.still g.D.Disk.told c.args.app (g.D.Disk.medium c.args.disk.now) _ (g.met.D.Disk.lawful c.args.disk.now) c.requires.app
-    (later_after (app_at (g.D.Disk.medium c.args.disk.now).image c.args.app) (installing c.args.now c.args.manifest.now (app_at (g.D.Disk.medium c.args.disk.now).image c.args.app))
-    (λ b is. c.rows_lead_on.ensures.install c.args.now c.args.manifest.now (app_at (g.D.Disk.medium c.args.disk.now).image c.args.app) b is))
+returns-in-Installed-clause-any_moment g c = λ tells. stands_still c.untouched_stands.ensures.still g.D.Disk.told
+    c.args.app (g.D.Disk.medium c.args.disk.now) _ (g.met.D.Disk.lawful c.args.disk.now) c.requires.app
+    (later_after (app_at (g.D.Disk.medium c.args.disk.now).image c.args.app)
+    (installing c.args.now c.args.manifest.now (app_at (g.D.Disk.medium c.args.disk.now).image c.args.app))
+    (λ b is. c.rows_lead_on.ensures.install c.args.now c.args.manifest.now
+    (app_at (g.D.Disk.medium c.args.disk.now).image c.args.app) b is))
 
 pub returns-in-Absent-clause-due : goal.returns-in-Absent-clause-due
-returns-in-Absent-clause-due g c = λ e refusal none. absurd (install_takes c.args.now (generation_of c.in-Absent.cell) c.args.manifest.now (root_app c.args.root []) (ap root_says c.in-Absent.is) e refusal none)
+returns-in-Absent-clause-due g c = λ e refusal none. absurd
+    (install_takes c.args.now (generation_of c.in-Absent.cell) c.args.manifest.now (root_app c.args.root [])
+    (ap root_says c.in-Absent.is) e refusal none)

@@ -20,29 +20,38 @@ create-requires-clause-contents g c =
 
 pub returns-clause-made : goal.returns-clause-made
 returns-clause-made g c = λ tells.
-    subst (λ (shape : Shape). store_at (g.D.Disk.medium c.create.new.disk).image shape ≡ fresh_state 1 (fresh_map c.args.contents.now)) c.in_ok-shape.ensures.shape
-    (c.in_ok-_store.ensures.opens tells ∙ ap (λ (fs : List Fresh). fresh_state 1 (fresh_map fs)) c.in_ok-contents.ensures)
+    subst (λ (shape : Shape). store_at (g.D.Disk.medium c.create.new.disk).image shape
+    ≡ fresh_state 1 (fresh_map c.args.contents.now)) c.in_ok-shape.ensures.shape
+    (c.in_ok-_store.ensures.opens tells ∙ ap (λ (fs : List Fresh). fresh_state 1 (fresh_map fs))
+    c.in_ok-contents.ensures)
 
 pub returns-clause-clean : goal.returns-clause-clean
 returns-clause-clean g c = λ tells.
-    subst (λ (shape : Shape). IsClean shape (g.D.Disk.medium c.create.new.disk).image) c.in_ok-shape.ensures.shape (c.in_ok-_store.ensures.clean tells)
+    subst (λ (shape : Shape). IsClean shape (g.D.Disk.medium c.create.new.disk).image) c.in_ok-shape.ensures.shape
+    (c.in_ok-_store.ensures.clean tells)
 
 pub returns-clause-outside : goal.returns-clause-outside
 returns-clause-outside g c =
-    storage_outside g.D.Disk.told c.args.app c.args.bank c.args.number (storage_data c.args.config.now) c.in_ok-shape.shape
-    (g.D.Disk.medium c.args.disk.now) (g.D.Disk.medium c.create.new.disk) c.files_lie_apart.ensures.beside c.requires.app c.requires.bank c.requires.number
+    storage_outside g.D.Disk.told c.args.app c.args.bank c.args.number (storage_data c.args.config.now)
+    c.in_ok-shape.shape
+    (g.D.Disk.medium c.args.disk.now) (g.D.Disk.medium c.create.new.disk) c.files_lie_apart.ensures.beside
+    c.requires.app c.requires.bank c.requires.number
     c.in_ok-shape.ensures.shape c.in_ok-_store.ensures.elsewhere c.in_ok-_store.ensures.outside
 
 pub returns-in_err-_store-clause-outside : goal.returns-in_err-_store-clause-outside
 returns-in_err-_store-clause-outside g c =
-    storage_outside g.D.Disk.told c.args.app c.args.bank c.args.number (storage_data c.args.config.now) c.in_ok-shape.shape
-    (g.D.Disk.medium c.args.disk.now) (g.D.Disk.medium c.create.new.disk) c.files_lie_apart.ensures.beside c.requires.app c.requires.bank c.requires.number
+    storage_outside g.D.Disk.told c.args.app c.args.bank c.args.number (storage_data c.args.config.now)
+    c.in_ok-shape.shape
+    (g.D.Disk.medium c.args.disk.now) (g.D.Disk.medium c.create.new.disk) c.files_lie_apart.ensures.beside
+    c.requires.app c.requires.bank c.requires.number
     c.in_ok-shape.ensures.shape c.in_err-_store.ensures.elsewhere c.in_err-_store.ensures.outside
 
 pub returns-in_err-contents-clause-outside : goal.returns-in_err-contents-clause-outside
 returns-in_err-contents-clause-outside g c =
-    leaves_none g.D.Disk.told (IsBeside c.args.app c.args.bank c.args.number) (g.D.Disk.medium c.args.disk.now) (g.met.D.Disk.lawful c.args.disk.now)
+    leaves_none g.D.Disk.told (IsBeside c.args.app c.args.bank c.args.number) (g.D.Disk.medium c.args.disk.now)
+    (g.met.D.Disk.lawful c.args.disk.now)
 
 pub returns-in_err-shape-clause-outside : goal.returns-in_err-shape-clause-outside
 returns-in_err-shape-clause-outside g c =
-    leaves_none g.D.Disk.told (IsBeside c.args.app c.args.bank c.args.number) (g.D.Disk.medium c.args.disk.now) (g.met.D.Disk.lawful c.args.disk.now)
+    leaves_none g.D.Disk.told (IsBeside c.args.app c.args.bank c.args.number) (g.D.Disk.medium c.args.disk.now)
+    (g.met.D.Disk.lawful c.args.disk.now)

@@ -8,6 +8,7 @@ use Rattle.deploy.proofs.making.initial_contents.Given as goal
 
 abbrev pub invariant-loop-storage : goal.invariant-loop-storage
 invariant-loop-storage l = record {
-  contents : l.all.items ≡ map (λ (x : StorageConfig). initial_contents (storage_data x) Installation l.now) (take l.storage-index l.deployment.storages);
+  contents : l.all.items ≡ map (λ (x : StorageConfig). initial_contents (storage_data x) Installation l.now)
+      (take l.storage-index l.deployment.storages);
   fit : AllFit (map storage_data (take l.storage-index l.deployment.storages)) l.all.items;
 }

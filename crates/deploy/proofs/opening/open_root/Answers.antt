@@ -3,29 +3,35 @@ use Rattle.root_text.specs.Views.{root_said}
 use Rattle.deploy.specs.Clauses.{IsNoRootSlot}
 use Rattle.deploy.proofs.Already.{already_then, found_alone}
 use Rattle.deploy.proofs.Found.{found_says, found_stands, is_first, is_spelled, no_first, none_says, texts_at}
-use Rattle.deploy.proofs.Opened.{bad_at, bad_reopened, brought_app, brought_clean, brought_leaves, brought_stands, look_leaves, look_stands, not_bad, still_clean}
+use Rattle.deploy.proofs.Opened.{bad_at, bad_reopened, brought_app, brought_clean, brought_leaves, brought_stands}
+use Rattle.deploy.proofs.Opened.{look_leaves, look_stands, not_bad, still_clean}
 use Rattle.deploy.proofs.opening.open_root.Goals as goal
 
 -- ---- the look failed
 
 pub returns-in_err-standing-clause-outside : goal.returns-in_err-standing-clause-outside
-returns-in_err-standing-clause-outside g c = look_leaves g.D.Disk.told (IsNoRootSlot c.args.app) (g.D.Disk.medium c.args.disk.now) (g.D.Disk.medium c.find_standing.new.disk)
+returns-in_err-standing-clause-outside g c = look_leaves g.D.Disk.told (IsNoRootSlot c.args.app)
+    (g.D.Disk.medium c.args.disk.now) (g.D.Disk.medium c.find_standing.new.disk)
     c.find_standing.ensures.image c.find_standing.ensures.idle
 
 pub returns-in_err-standing-clause-any_moment : goal.returns-in_err-standing-clause-any_moment
-returns-in_err-standing-clause-any_moment g c = λ tells. look_stands c.untouched_stands.ensures.still c.args.app c.requires
+returns-in_err-standing-clause-any_moment g c = λ tells.
+    look_stands c.untouched_stands.ensures.still c.args.app c.requires
     (g.D.Disk.medium c.args.disk.now) (g.D.Disk.medium c.find_standing.new.disk) c.find_standing.ensures.idle
 
 pub returns-in_err-standing-clause-already : goal.returns-in_err-standing-clause-already
-returns-in_err-standing-clause-already g c = λ tells n t alone. (c.find_standing.ensures.image, c.find_standing.ensures.written)
+returns-in_err-standing-clause-already g c = λ tells n t alone.
+    (c.find_standing.ensures.image, c.find_standing.ensures.written)
 
 -- ---- no root stands
 
 pub returns-in_default-clause-already : goal.returns-in_default-clause-already
-returns-in_default-clause-already g c = λ tells n t alone. (c.find_standing.ensures.image, c.find_standing.ensures.written)
+returns-in_default-clause-already g c = λ tells n t alone.
+    (c.find_standing.ensures.image, c.find_standing.ensures.written)
 
 pub returns-in_default-clause-outside : goal.returns-in_default-clause-outside
-returns-in_default-clause-outside g c = look_leaves g.D.Disk.told (IsNoRootSlot c.args.app) (g.D.Disk.medium c.args.disk.now) (g.D.Disk.medium c.find_standing.new.disk)
+returns-in_default-clause-outside g c = look_leaves g.D.Disk.told (IsNoRootSlot c.args.app)
+    (g.D.Disk.medium c.args.disk.now) (g.D.Disk.medium c.find_standing.new.disk)
     c.find_standing.ensures.image c.find_standing.ensures.idle
 
 pub returns-in_default-clause-any_moment : goal.returns-in_default-clause-any_moment
@@ -37,52 +43,62 @@ returns-in_default-clause-root g c =
     let old = (g.D.Disk.medium c.args.disk.now).image in
     bad_at g.D.Disk.told old (g.D.Disk.medium c.find_standing.new.disk).image c.args.app c.find_standing.ensures.image
     (λ tells. none_says c.held_is_lawful.ensures.among old c.args.app
-    (no_first (texts_at old c.args.app) c.in_ok-standing.field-0 c.in_default.is (c.in_ok-standing.ensures.among tells)))
+    (no_first (texts_at old c.args.app) c.in_ok-standing.field-0 c.in_default.is
+    (c.in_ok-standing.ensures.among tells)))
 
 pub returns-in_default-clause-says : goal.returns-in_default-clause-says
 returns-in_default-clause-says g c = λ tells.
     let old = (g.D.Disk.medium c.args.disk.now).image in
     sym (none_says c.held_is_lawful.ensures.among old c.args.app
-    (no_first (texts_at old c.args.app) c.in_ok-standing.field-0 c.in_default.is (c.in_ok-standing.ensures.among tells)))
+    (no_first (texts_at old c.args.app) c.in_ok-standing.field-0 c.in_default.is
+    (c.in_ok-standing.ensures.among tells)))
 
 pub returns-in_default-clause-app : goal.returns-in_default-clause-app
 returns-in_default-clause-app g c = λ tells.
     let old = (g.D.Disk.medium c.args.disk.now).image in
     bad_reopened old (g.D.Disk.medium c.find_standing.new.disk).image c.args.app c.find_standing.ensures.image
     (none_says c.held_is_lawful.ensures.among old c.args.app
-    (no_first (texts_at old c.args.app) c.in_ok-standing.field-0 c.in_default.is (c.in_ok-standing.ensures.among tells)))
+    (no_first (texts_at old c.args.app) c.in_ok-standing.field-0 c.in_default.is
+    (c.in_ok-standing.ensures.among tells)))
 
 pub returns-in_default-clause-clean : goal.returns-in_default-clause-clean
 returns-in_default-clause-clean g c = λ tells.
-    still_clean (g.D.Disk.medium c.args.disk.now).image (g.D.Disk.medium c.find_standing.new.disk).image c.args.app c.find_standing.ensures.image
+    still_clean (g.D.Disk.medium c.args.disk.now).image (g.D.Disk.medium c.find_standing.new.disk).image c.args.app
+    c.find_standing.ensures.image
 
 -- ---- a root stands
 
 pub settle_on-requires-clause-spelled : goal.settle_on-requires-clause-spelled
-settle_on-requires-clause-spelled g c = is_spelled c.in_ok-standing.field-0 c.in-Some.standing c.in-Some.is c.in_ok-standing.ensures.spelled
+settle_on-requires-clause-spelled g c = is_spelled c.in_ok-standing.field-0 c.in-Some.standing c.in-Some.is
+    c.in_ok-standing.ensures.spelled
 
 pub returns-in_err-root-clause-already : goal.returns-in_err-root-clause-already
 returns-in_err-root-clause-already g c = λ tells n t alone.
     let old = g.D.Disk.medium c.args.disk.now in
     let s = c.in-Some.standing in
-    let first = is_first (texts_at old.image c.args.app) c.in_ok-standing.field-0 s c.in-Some.is (c.in_ok-standing.ensures.among tells) in
-    already_then old (g.D.Disk.medium c.find_standing.new.disk) (g.D.Disk.medium c.settle_on.new.disk) c.args.app s.seen.generation s.seen.text
+    let first = is_first (texts_at old.image c.args.app) c.in_ok-standing.field-0 s c.in-Some.is
+    (c.in_ok-standing.ensures.among tells) in
+    already_then old (g.D.Disk.medium c.find_standing.new.disk) (g.D.Disk.medium c.settle_on.new.disk) c.args.app
+    s.seen.generation s.seen.text
     c.find_standing.ensures.image c.find_standing.ensures.written (c.settle_on.ensures.already tells)
     (found_alone c.held_is_lawful.ensures.alone old.image c.args.app n t s first alone)
 
 pub returns-in_err-root-clause-outside : goal.returns-in_err-root-clause-outside
 returns-in_err-root-clause-outside g c = brought_leaves c.args.app c.requires g.D.Disk.told c.in-Some.standing.seen
     (g.D.Disk.medium c.args.disk.now) (g.D.Disk.medium c.find_standing.new.disk) (g.D.Disk.medium c.settle_on.new.disk)
-    c.find_standing.ensures.image c.find_standing.ensures.idle c.find_standing.ensures.time c.settle_on.ensures.time c.settle_on.ensures.any_moment
+    c.find_standing.ensures.image c.find_standing.ensures.idle c.find_standing.ensures.time c.settle_on.ensures.time
+    c.settle_on.ensures.any_moment
     c.settle_on.ensures.elsewhere
 
 pub returns-in_err-root-clause-any_moment : goal.returns-in_err-root-clause-any_moment
 returns-in_err-root-clause-any_moment g c = λ tells.
     let old = g.D.Disk.medium c.args.disk.now in
-    let first = is_first (texts_at old.image c.args.app) c.in_ok-standing.field-0 c.in-Some.standing c.in-Some.is (c.in_ok-standing.ensures.among tells) in
+    let first = is_first (texts_at old.image c.args.app) c.in_ok-standing.field-0 c.in-Some.standing c.in-Some.is
+    (c.in_ok-standing.ensures.among tells) in
     brought_stands c.args.app c.requires g.D.Disk.told c.in-Some.standing.seen
     old (g.D.Disk.medium c.find_standing.new.disk) (g.D.Disk.medium c.settle_on.new.disk)
-    c.find_standing.ensures.image c.find_standing.ensures.idle c.find_standing.ensures.time c.settle_on.ensures.time c.settle_on.ensures.any_moment
+    c.find_standing.ensures.image c.find_standing.ensures.idle c.find_standing.ensures.time c.settle_on.ensures.time
+    c.settle_on.ensures.any_moment
     c.untouched_stands.ensures.still c.deploying_stands.ensures.opening tells
     (found_stands c.held_is_lawful.ensures.among old.image c.args.app c.in-Some.standing first)
 
@@ -90,55 +106,71 @@ pub returns-clause-already : goal.returns-clause-already
 returns-clause-already g c = λ tells n t alone.
     let old = g.D.Disk.medium c.args.disk.now in
     let s = c.in-Some.standing in
-    let first = is_first (texts_at old.image c.args.app) c.in_ok-standing.field-0 s c.in-Some.is (c.in_ok-standing.ensures.among tells) in
-    already_then old (g.D.Disk.medium c.find_standing.new.disk) (g.D.Disk.medium c.settle_on.new.disk) c.args.app s.seen.generation s.seen.text
+    let first = is_first (texts_at old.image c.args.app) c.in_ok-standing.field-0 s c.in-Some.is
+    (c.in_ok-standing.ensures.among tells) in
+    already_then old (g.D.Disk.medium c.find_standing.new.disk) (g.D.Disk.medium c.settle_on.new.disk) c.args.app
+    s.seen.generation s.seen.text
     c.find_standing.ensures.image c.find_standing.ensures.written (c.settle_on.ensures.already tells)
     (found_alone c.held_is_lawful.ensures.alone old.image c.args.app n t s first alone)
 
 pub returns-clause-outside : goal.returns-clause-outside
 returns-clause-outside g c = brought_leaves c.args.app c.requires g.D.Disk.told c.in-Some.standing.seen
     (g.D.Disk.medium c.args.disk.now) (g.D.Disk.medium c.find_standing.new.disk) (g.D.Disk.medium c.settle_on.new.disk)
-    c.find_standing.ensures.image c.find_standing.ensures.idle c.find_standing.ensures.time c.settle_on.ensures.time c.settle_on.ensures.any_moment
+    c.find_standing.ensures.image c.find_standing.ensures.idle c.find_standing.ensures.time c.settle_on.ensures.time
+    c.settle_on.ensures.any_moment
     c.settle_on.ensures.elsewhere
 
 pub returns-clause-any_moment : goal.returns-clause-any_moment
 returns-clause-any_moment g c = λ tells.
     let old = g.D.Disk.medium c.args.disk.now in
-    let first = is_first (texts_at old.image c.args.app) c.in_ok-standing.field-0 c.in-Some.standing c.in-Some.is (c.in_ok-standing.ensures.among tells) in
+    let first = is_first (texts_at old.image c.args.app) c.in_ok-standing.field-0 c.in-Some.standing c.in-Some.is
+    (c.in_ok-standing.ensures.among tells) in
     brought_stands c.args.app c.requires g.D.Disk.told c.in-Some.standing.seen
     old (g.D.Disk.medium c.find_standing.new.disk) (g.D.Disk.medium c.settle_on.new.disk)
-    c.find_standing.ensures.image c.find_standing.ensures.idle c.find_standing.ensures.time c.settle_on.ensures.time c.settle_on.ensures.any_moment
+    c.find_standing.ensures.image c.find_standing.ensures.idle c.find_standing.ensures.time c.settle_on.ensures.time
+    c.settle_on.ensures.any_moment
     c.untouched_stands.ensures.still c.deploying_stands.ensures.opening tells
     (found_stands c.held_is_lawful.ensures.among old.image c.args.app c.in-Some.standing first)
 
 pub returns-clause-says : goal.returns-clause-says
 returns-clause-says g c = λ tells.
     let old = g.D.Disk.medium c.args.disk.now in
-    let first = is_first (texts_at old.image c.args.app) c.in_ok-standing.field-0 c.in-Some.standing c.in-Some.is (c.in_ok-standing.ensures.among tells) in
-    c.in_ok-root.ensures.says ∙ sym (found_says c.held_is_lawful.ensures.among old.image c.args.app c.in-Some.standing first)
+    let first = is_first (texts_at old.image c.args.app) c.in_ok-standing.field-0 c.in-Some.standing c.in-Some.is
+    (c.in_ok-standing.ensures.among tells) in
+    c.in_ok-root.ensures.says ∙ sym (found_says c.held_is_lawful.ensures.among old.image c.args.app c.in-Some.standing
+    first)
 
 pub returns-clause-app : goal.returns-clause-app
 returns-clause-app g c = λ tells.
     let old = g.D.Disk.medium c.args.disk.now in
-    let first = is_first (texts_at old.image c.args.app) c.in_ok-standing.field-0 c.in-Some.standing c.in-Some.is (c.in_ok-standing.ensures.among tells) in
-    let spelled = is_spelled c.in_ok-standing.field-0 c.in-Some.standing c.in-Some.is c.in_ok-standing.ensures.spelled in
-    brought_app c.one_root.ensures.again c.roots_say.ensures.alone c.roots_say.ensures.versions c.files_lie_apart.ensures.slots c.others_stand.ensures.root c.roots_say.ensures.clean
+    let first = is_first (texts_at old.image c.args.app) c.in_ok-standing.field-0 c.in-Some.standing c.in-Some.is
+    (c.in_ok-standing.ensures.among tells) in
+    let spelled = is_spelled c.in_ok-standing.field-0 c.in-Some.standing c.in-Some.is c.in_ok-standing.ensures.spelled
+    in
+    brought_app c.one_root.ensures.again c.roots_say.ensures.alone c.roots_say.ensures.versions
+    c.files_lie_apart.ensures.slots c.others_stand.ensures.root c.roots_say.ensures.clean
     c.args.app c.in-Some.standing.seen.generation (root_said c.in-Some.standing.says)
-    old.image (g.D.Disk.medium c.find_standing.new.disk).image (g.D.Disk.medium c.settle_on.new.disk).image c.requires spelled.rules c.find_standing.ensures.image
+    old.image (g.D.Disk.medium c.find_standing.new.disk).image (g.D.Disk.medium c.settle_on.new.disk).image c.requires
+    spelled.rules c.find_standing.ensures.image
     (c.settle_on.ensures.elsewhere tells) (c.in_ok-root.ensures.alone tells)
     (found_says c.held_is_lawful.ensures.among old.image c.args.app c.in-Some.standing first)
 
 pub returns-clause-clean : goal.returns-clause-clean
 returns-clause-clean g c = λ tells.
     let old = g.D.Disk.medium c.args.disk.now in
-    let first = is_first (texts_at old.image c.args.app) c.in_ok-standing.field-0 c.in-Some.standing c.in-Some.is (c.in_ok-standing.ensures.among tells) in
-    let spelled = is_spelled c.in_ok-standing.field-0 c.in-Some.standing c.in-Some.is c.in_ok-standing.ensures.spelled in
-    brought_clean c.one_root.ensures.again c.roots_say.ensures.alone c.roots_say.ensures.versions c.files_lie_apart.ensures.slots c.others_stand.ensures.root c.roots_say.ensures.clean
+    let first = is_first (texts_at old.image c.args.app) c.in_ok-standing.field-0 c.in-Some.standing c.in-Some.is
+    (c.in_ok-standing.ensures.among tells) in
+    let spelled = is_spelled c.in_ok-standing.field-0 c.in-Some.standing c.in-Some.is c.in_ok-standing.ensures.spelled
+    in
+    brought_clean c.one_root.ensures.again c.roots_say.ensures.alone c.roots_say.ensures.versions
+    c.files_lie_apart.ensures.slots c.others_stand.ensures.root c.roots_say.ensures.clean
     c.args.app c.in-Some.standing.seen.generation (root_said c.in-Some.standing.says)
-    old.image (g.D.Disk.medium c.find_standing.new.disk).image (g.D.Disk.medium c.settle_on.new.disk).image c.requires spelled.rules c.find_standing.ensures.image
+    old.image (g.D.Disk.medium c.find_standing.new.disk).image (g.D.Disk.medium c.settle_on.new.disk).image c.requires
+    spelled.rules c.find_standing.ensures.image
     (c.settle_on.ensures.elsewhere tells) (c.in_ok-root.ensures.alone tells)
     (found_says c.held_is_lawful.ensures.among old.image c.args.app c.in-Some.standing first)
 
 pub returns-clause-untouched : goal.returns-clause-untouched
 returns-clause-untouched g c = λ is_bad.
-    absurd (not_bad c.in_ok-root.root c.in-Some.standing.seen.generation (root_said c.in-Some.standing.says) c.in_ok-root.ensures.says is_bad)
+    absurd (not_bad c.in_ok-root.root c.in-Some.standing.seen.generation (root_said c.in-Some.standing.says)
+    c.in_ok-root.ensures.says is_bad)

@@ -6,51 +6,65 @@ use Rattle.deploy.proofs.opening.settle_on.Goals as goal
 
 pub returns-in_err-cell-clause-elsewhere : goal.returns-in_err-cell-clause-elsewhere
 returns-in_err-cell-clause-elsewhere g c = λ tells. spares_at c.root_place.result c.args.app c.root_place.ensures
-    (g.D.Disk.medium c.args.disk.now).image (g.D.Disk.medium c.adopt.new.disk).image (c.in_err-cell.ensures.elsewhere tells)
+    (g.D.Disk.medium c.args.disk.now).image (g.D.Disk.medium c.adopt.new.disk).image
+    (c.in_err-cell.ensures.elsewhere tells)
 
 pub returns-in_err-cell-clause-any_moment : goal.returns-in_err-cell-clause-any_moment
-returns-in_err-cell-clause-any_moment g c = λ tells quiet. puts_at c.root_place.result c.args.app c.root_place.ensures c.args.standing.seen.generation
-    c.as_slice.result.now c.args.standing.seen.text (g.D.Disk.medium c.args.disk.now) (g.D.Disk.medium c.adopt.new.disk) c.as_slice.ensures
+returns-in_err-cell-clause-any_moment g c = λ tells quiet.
+    puts_at c.root_place.result c.args.app c.root_place.ensures c.args.standing.seen.generation
+    c.as_slice.result.now c.args.standing.seen.text (g.D.Disk.medium c.args.disk.now) (g.D.Disk.medium c.adopt.new.disk)
+    c.as_slice.ensures
     (c.in_err-cell.ensures.any_moment tells quiet)
 
 pub returns-in_err-cell-clause-already : goal.returns-in_err-cell-clause-already
-returns-in_err-cell-clause-already g c = λ tells. already_at c.root_place.result c.args.app c.args.standing.seen.generation c.as_slice.result.now c.args.standing.seen.text
+returns-in_err-cell-clause-already g c = λ tells. already_at c.root_place.result c.args.app
+    c.args.standing.seen.generation c.as_slice.result.now c.args.standing.seen.text
     (g.D.Disk.medium c.args.disk.now) (g.D.Disk.medium c.adopt.new.disk) c.root_place.ensures c.as_slice.ensures
     (c.in_err-cell.ensures.right tells) (c.in_err-cell.ensures.already tells)
 
 pub returns-clause-already : goal.returns-clause-already
-returns-clause-already g c = λ tells. already_at c.root_place.result c.args.app c.args.standing.seen.generation c.as_slice.result.now c.args.standing.seen.text
+returns-clause-already g c = λ tells. already_at c.root_place.result c.args.app c.args.standing.seen.generation
+    c.as_slice.result.now c.args.standing.seen.text
     (g.D.Disk.medium c.args.disk.now) (g.D.Disk.medium c.adopt.new.disk) c.root_place.ensures c.as_slice.ensures
     (c.in_ok-cell.ensures.right tells) (c.in_ok-cell.ensures.already tells)
 
 pub returns-clause-elsewhere : goal.returns-clause-elsewhere
 returns-clause-elsewhere g c = λ tells. spares_at c.root_place.result c.args.app c.root_place.ensures
-    (g.D.Disk.medium c.args.disk.now).image (g.D.Disk.medium c.adopt.new.disk).image (c.in_ok-cell.ensures.elsewhere tells)
+    (g.D.Disk.medium c.args.disk.now).image (g.D.Disk.medium c.adopt.new.disk).image
+    (c.in_ok-cell.ensures.elsewhere tells)
 
 pub returns-clause-any_moment : goal.returns-clause-any_moment
-returns-clause-any_moment g c = λ tells quiet. puts_at c.root_place.result c.args.app c.root_place.ensures c.args.standing.seen.generation
-    c.as_slice.result.now c.args.standing.seen.text (g.D.Disk.medium c.args.disk.now) (g.D.Disk.medium c.adopt.new.disk) c.as_slice.ensures
+returns-clause-any_moment g c = λ tells quiet. puts_at c.root_place.result c.args.app c.root_place.ensures
+    c.args.standing.seen.generation
+    c.as_slice.result.now c.args.standing.seen.text (g.D.Disk.medium c.args.disk.now) (g.D.Disk.medium c.adopt.new.disk)
+    c.as_slice.ensures
     (c.in_ok-cell.ensures.any_moment tells quiet)
 
 pub returns-clause-root : goal.returns-clause-root
 returns-clause-root g c =
     let image = (g.D.Disk.medium c.adopt.new.disk).image in
     let s = c.args.standing in
-    let is = cell_at c.root_place.result c.args.app c.root_place.ensures s.seen.generation c.in_ok-cell.cell c.in_ok-cell.ensures.cell in
-    root_in_use g.D.Disk.told image c.args.app s.seen.generation c.in_ok-cell.cell c.as_slice.result.now (root_said s.says) c.of.result is
+    let is = cell_at c.root_place.result c.args.app c.root_place.ensures s.seen.generation c.in_ok-cell.cell
+    c.in_ok-cell.ensures.cell in
+    root_in_use g.D.Disk.told image c.args.app s.seen.generation c.in_ok-cell.cell c.as_slice.result.now
+    (root_said s.says) c.of.result is
     (c.as_slice.ensures ∙ c.requires.spelled.spelled) c.requires.spelled.sealable.positive c.in_ok-cell.ensures.held
     (λ cell. c.of.ensures.memory c.args.app cell c.requires.spelled.rules) (c.of.ensures.disk image c.args.app)
 
 pub returns-clause-says : goal.returns-clause-says
 returns-clause-says g c =
     let s = c.args.standing in
-    let is = cell_at c.root_place.result c.args.app c.root_place.ensures s.seen.generation c.in_ok-cell.cell c.in_ok-cell.ensures.cell in
-    root_says_so g.D.Disk.told (g.D.Disk.medium c.adopt.new.disk).image c.args.app s.seen.generation c.in_ok-cell.cell c.as_slice.result.now (root_said s.says) c.of.result is
+    let is = cell_at c.root_place.result c.args.app c.root_place.ensures s.seen.generation c.in_ok-cell.cell
+    c.in_ok-cell.ensures.cell in
+    root_says_so g.D.Disk.told (g.D.Disk.medium c.adopt.new.disk).image c.args.app s.seen.generation c.in_ok-cell.cell
+    c.as_slice.result.now (root_said s.says) c.of.result is
     (c.as_slice.ensures ∙ c.requires.spelled.spelled) c.of.ensures.says
 
 pub returns-clause-alone : goal.returns-clause-alone
 returns-clause-alone g c = λ tells.
     let s = c.args.standing in
-    let is = cell_at c.root_place.result c.args.app c.root_place.ensures s.seen.generation c.in_ok-cell.cell c.in_ok-cell.ensures.cell in
-    root_alone (g.D.Disk.medium c.adopt.new.disk).image c.args.app s.seen.generation c.in_ok-cell.cell c.as_slice.result.now (root_said s.says) is
+    let is = cell_at c.root_place.result c.args.app c.root_place.ensures s.seen.generation c.in_ok-cell.cell
+    c.in_ok-cell.ensures.cell in
+    root_alone (g.D.Disk.medium c.adopt.new.disk).image c.args.app s.seen.generation c.in_ok-cell.cell
+    c.as_slice.result.now (root_said s.says) is
     (c.as_slice.ensures ∙ c.requires.spelled.spelled) (c.in_ok-cell.ensures.held tells)

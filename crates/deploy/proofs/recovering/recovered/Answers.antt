@@ -9,13 +9,15 @@ use Rattle.deploy.proofs.recovering.recovered.Goals as goal
 
 pub returns-in-Some-clause-contents : goal.returns-in-Some-clause-contents
 returns-in-Some-clause-contents c = IfOk-weaker c.rescued_all.result _ _
-    (λ made is. is ∙ view_rescued (storage_data c.args.config.now) c.args.now c.args.view.now c.in-Some.view c.as_slice.result.now c.in-Some.is c.as_slice.ensures)
+    (λ made is. is ∙ view_rescued (storage_data c.args.config.now) c.args.now c.args.view.now c.in-Some.view
+    c.as_slice.result.now c.in-Some.is c.as_slice.ensures)
     c.rescued_all.ensures
 
 pub returns-in-Some-clause-limits : goal.returns-in-Some-clause-limits
 returns-in-Some-clause-limits c = IfOk-weaker c.rescued_all.result _ _
     (λ made is shape kind read. subst (λ (fs : List Fresh). AreElements c.args.config.now.kind fs) (sym is)
-    (rescued_are_elements c.found_is_kept.ensures.element (storage_data c.args.config.now) c.args.now c.args.view.now c.in-Some.view c.as_slice.result.now
+    (rescued_are_elements c.found_is_kept.ensures.element (storage_data c.args.config.now) c.args.now c.args.view.now
+    c.in-Some.view c.as_slice.result.now
     c.in-Some.is c.as_slice.ensures c.requires shape kind read))
     c.rescued_all.ensures
 

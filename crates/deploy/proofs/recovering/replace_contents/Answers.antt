@@ -15,99 +15,188 @@ use Rattle.element_state.specs.Clean.{IsClean}
 use Rattle.element_state.specs.Kept.{KeptThroughout}
 use Rattle.element_state.specs.States.{State, salvage_of, store_at}
 use Rattle.deploy_rows.specs.Recovering.{after_state, if_fits}
-use Rattle.deploy.proofs.Recoveries.{answers_large, answers_row, at_shape, elements_within, fits_row, fits_worn, large_row, look_kept, look_leaves, nothing_changes, rebuilt_as, then_kept, then_leaves}
+use Rattle.deploy.proofs.Recoveries.{answers_large, answers_row, at_shape, elements_within, fits_row, fits_worn}
+use Rattle.deploy.proofs.Recoveries.{large_row, look_kept, look_leaves, nothing_changes, rebuilt_as, then_kept}
+use Rattle.deploy.proofs.Recoveries.{then_leaves}
 use Rattle.deploy.proofs.recovering.replace_contents.Goals as goal
 
 pub returns-in_err-view-clause-stays : goal.returns-in_err-view-clause-stays
-returns-in_err-view-clause-stays g c = λ tells err. record { image = c.in_err-view.ensures.image; written = c.in_err-view.ensures.written; idle = c.in_err-view.ensures.idle }
+returns-in_err-view-clause-stays g c = λ tells err. record {
+  image = c.in_err-view.ensures.image;
+  written =
+      c.in_err-view.ensures.written;
+  idle = c.in_err-view.ensures.idle;
+}
 
 pub returns-in_err-view-clause-outside : goal.returns-in_err-view-clause-outside
-returns-in_err-view-clause-outside g c = look_leaves (g.D.Disk.medium c.args.disk.now) (g.D.Disk.medium c.salvage.new.disk) c.in_err-view.ensures.image c.in_err-view.ensures.idle g.D.Disk.told (IsOutside c.args.shape.now.place.first c.args.shape.now.place.copies)
+returns-in_err-view-clause-outside g c = look_leaves (g.D.Disk.medium c.args.disk.now)
+    (g.D.Disk.medium c.salvage.new.disk) c.in_err-view.ensures.image c.in_err-view.ensures.idle g.D.Disk.told
+    (IsOutside c.args.shape.now.place.first c.args.shape.now.place.copies)
 
 pub returns-in_err-view-clause-any_moment : goal.returns-in_err-view-clause-any_moment
-returns-in_err-view-clause-any_moment g c = λ tells. look_kept (g.D.Disk.medium c.args.disk.now) (g.D.Disk.medium c.salvage.new.disk) c.in_err-view.ensures.image c.in_err-view.ensures.idle c.untouched_is_kept.ensures.untouched c.args.shape.now c.requires.shape
-    (after_state (store_at (g.D.Disk.medium c.args.disk.now).image c.args.shape.now) (if_fits (storage_data c.args.config.now) (store_at (g.D.Disk.medium c.args.disk.now).image c.args.shape.now) c.args.contents.items))
+returns-in_err-view-clause-any_moment g c = λ tells. look_kept (g.D.Disk.medium c.args.disk.now)
+    (g.D.Disk.medium c.salvage.new.disk) c.in_err-view.ensures.image c.in_err-view.ensures.idle
+    c.untouched_is_kept.ensures.untouched c.args.shape.now c.requires.shape
+    (after_state (store_at (g.D.Disk.medium c.args.disk.now).image c.args.shape.now)
+    (if_fits (storage_data c.args.config.now) (store_at (g.D.Disk.medium c.args.disk.now).image c.args.shape.now)
+    c.args.contents.items))
 
 -- what does not fit
 
 pub returns-then-needed-config-clause-refused : goal.returns-then-needed-config-clause-refused
 returns-then-needed-config-clause-refused g c =
-    answers_large (λ (state : State). if_fits (storage_data c.args.config.now) state c.args.contents.items) c.in_ok-view.view g.D.Disk.told (store_at (g.D.Disk.medium c.args.disk.now).image c.args.shape.now) c.in_ok-view.ensures.view
-    (error.OutOfStorageSpace (sum_by fresh_size c.args.contents.items) c.args.config.now.maximum) (λ state read. large_row (storage_data c.args.config.now) c.args.contents.items (subst (λ n. c.args.config.now.maximum < n) (c.size_of-needed.ensures ∙ ap (λ (fs : List Fresh). sum_by fresh_size fs) c.as_slice.ensures.value) c.if-needed-config.true) state) (error.OutOfStorageSpace c.size_of-needed.result c.args.config.now.maximum)
-    (ap (λ n. error.OutOfStorageSpace n c.args.config.now.maximum) (sym (c.size_of-needed.ensures ∙ ap (λ (fs : List Fresh). sum_by fresh_size fs) c.as_slice.ensures.value)))
+    answers_large (λ (state : State). if_fits (storage_data c.args.config.now) state c.args.contents.items)
+    c.in_ok-view.view g.D.Disk.told (store_at (g.D.Disk.medium c.args.disk.now).image c.args.shape.now)
+    c.in_ok-view.ensures.view
+    (error.OutOfStorageSpace (sum_by fresh_size c.args.contents.items) c.args.config.now.maximum)
+    (λ state read. large_row (storage_data c.args.config.now) c.args.contents.items
+    (subst (λ n. c.args.config.now.maximum < n) (c.size_of-needed.ensures
+    ∙ ap (λ (fs : List Fresh). sum_by fresh_size fs) c.as_slice.ensures.value) c.if-needed-config.true) state)
+    (error.OutOfStorageSpace c.size_of-needed.result c.args.config.now.maximum)
+    (ap (λ n. error.OutOfStorageSpace n c.args.config.now.maximum)
+    (sym (c.size_of-needed.ensures ∙ ap (λ (fs : List Fresh). sum_by fresh_size fs) c.as_slice.ensures.value)))
 
 pub returns-then-needed-config-clause-state : goal.returns-then-needed-config-clause-state
-returns-then-needed-config-clause-state g c = λ tells. ap (λ (im : Image). store_at im c.args.shape.now) c.in_ok-view.ensures.image
-    ∙ sym (ap (λ (r : Result State PerError). after_state (store_at (g.D.Disk.medium c.args.disk.now).image c.args.shape.now) r) (large_row (storage_data c.args.config.now) c.args.contents.items (subst (λ n. c.args.config.now.maximum < n) (c.size_of-needed.ensures ∙ ap (λ (fs : List Fresh). sum_by fresh_size fs) c.as_slice.ensures.value) c.if-needed-config.true) (store_at (g.D.Disk.medium c.args.disk.now).image c.args.shape.now)))
+returns-then-needed-config-clause-state g c = λ tells.
+    ap (λ (im : Image). store_at im c.args.shape.now) c.in_ok-view.ensures.image
+    ∙ sym (ap (λ (r : Result State PerError). after_state
+    (store_at (g.D.Disk.medium c.args.disk.now).image c.args.shape.now) r)
+    (large_row (storage_data c.args.config.now) c.args.contents.items
+    (subst (λ n. c.args.config.now.maximum < n) (c.size_of-needed.ensures
+    ∙ ap (λ (fs : List Fresh). sum_by fresh_size fs) c.as_slice.ensures.value) c.if-needed-config.true)
+    (store_at (g.D.Disk.medium c.args.disk.now).image c.args.shape.now)))
 
 pub returns-then-needed-config-clause-unchanged : goal.returns-then-needed-config-clause-unchanged
-returns-then-needed-config-clause-unchanged g c = λ some. record { image = c.in_ok-view.ensures.image; written = c.in_ok-view.ensures.written; idle = c.in_ok-view.ensures.idle }
+returns-then-needed-config-clause-unchanged g c = λ some.
+    record {
+      image = c.in_ok-view.ensures.image;
+      written = c.in_ok-view.ensures.written;
+      idle =
+          c.in_ok-view.ensures.idle;
+    }
 
 pub returns-then-needed-config-clause-stays : goal.returns-then-needed-config-clause-stays
-returns-then-needed-config-clause-stays g c = λ tells err. record { image = c.in_ok-view.ensures.image; written = c.in_ok-view.ensures.written; idle = c.in_ok-view.ensures.idle }
+returns-then-needed-config-clause-stays g c = λ tells err.
+    record {
+      image = c.in_ok-view.ensures.image;
+      written = c.in_ok-view.ensures.written;
+      idle =
+          c.in_ok-view.ensures.idle;
+    }
 
 pub returns-then-needed-config-clause-clean : goal.returns-then-needed-config-clause-clean
-returns-then-needed-config-clause-clean g c = λ tells. ⊎_elim (λ none. absurd (none-some _ (sym none))) (λ was. subst (λ (im : Image). IsClean c.args.shape.now im) (sym c.in_ok-view.ensures.image) was)
+returns-then-needed-config-clause-clean g c = λ tells.
+    ⊎_elim (λ none. absurd (none-some _ (sym none))) (λ was.
+    subst (λ (im : Image). IsClean c.args.shape.now im) (sym c.in_ok-view.ensures.image) was)
 
 pub returns-then-needed-config-clause-outside : goal.returns-then-needed-config-clause-outside
-returns-then-needed-config-clause-outside g c = look_leaves (g.D.Disk.medium c.args.disk.now) (g.D.Disk.medium c.salvage.new.disk) c.in_ok-view.ensures.image c.in_ok-view.ensures.idle g.D.Disk.told (IsOutside c.args.shape.now.place.first c.args.shape.now.place.copies)
+returns-then-needed-config-clause-outside g c = look_leaves (g.D.Disk.medium c.args.disk.now)
+    (g.D.Disk.medium c.salvage.new.disk) c.in_ok-view.ensures.image c.in_ok-view.ensures.idle g.D.Disk.told
+    (IsOutside c.args.shape.now.place.first c.args.shape.now.place.copies)
 
 pub returns-then-needed-config-clause-any_moment : goal.returns-then-needed-config-clause-any_moment
-returns-then-needed-config-clause-any_moment g c = λ tells. look_kept (g.D.Disk.medium c.args.disk.now) (g.D.Disk.medium c.salvage.new.disk) c.in_ok-view.ensures.image c.in_ok-view.ensures.idle c.untouched_is_kept.ensures.untouched c.args.shape.now c.requires.shape
-    (after_state (store_at (g.D.Disk.medium c.args.disk.now).image c.args.shape.now) (if_fits (storage_data c.args.config.now) (store_at (g.D.Disk.medium c.args.disk.now).image c.args.shape.now) c.args.contents.items))
+returns-then-needed-config-clause-any_moment g c = λ tells.
+    look_kept (g.D.Disk.medium c.args.disk.now) (g.D.Disk.medium c.salvage.new.disk) c.in_ok-view.ensures.image
+    c.in_ok-view.ensures.idle c.untouched_is_kept.ensures.untouched c.args.shape.now c.requires.shape
+    (after_state (store_at (g.D.Disk.medium c.args.disk.now).image c.args.shape.now)
+    (if_fits (storage_data c.args.config.now) (store_at (g.D.Disk.medium c.args.disk.now).image c.args.shape.now)
+    c.args.contents.items))
 
 -- where it is made anew
 
 pub rebuild_over-requires-clause-contents : goal.rebuild_over-requires-clause-contents
 rebuild_over-requires-clause-contents g c =
     at_shape c.args.shape.now (storage_data c.args.config.now) c.args.contents.items c.requires.configured
-    (elements_within c.args.config.now.kind c.args.config.now.maximum c.args.contents.items c.requires.contents (subst (λ n. n ≤ c.args.config.now.maximum) (c.size_of-needed.ensures ∙ ap (λ (fs : List Fresh). sum_by fresh_size fs) c.as_slice.ensures.value) c.if-needed-config.false))
+    (elements_within c.args.config.now.kind c.args.config.now.maximum c.args.contents.items c.requires.contents
+    (subst (λ n. n ≤ c.args.config.now.maximum) (c.size_of-needed.ensures
+    ∙ ap (λ (fs : List Fresh). sum_by fresh_size fs) c.as_slice.ensures.value) c.if-needed-config.false))
 
 pub rebuild_over-requires-clause-read : goal.rebuild_over-requires-clause-read
-rebuild_over-requires-clause-read g c = λ tells. c.in_ok-view.ensures.view tells ∙ ap (λ (im : Image). salvage_of (store_at im c.args.shape.now)) (sym c.in_ok-view.ensures.image)
+rebuild_over-requires-clause-read g c = λ tells. c.in_ok-view.ensures.view tells
+    ∙ ap (λ (im : Image). salvage_of (store_at im c.args.shape.now)) (sym c.in_ok-view.ensures.image)
 
 pub returns-clause-refused : goal.returns-clause-refused
 returns-clause-refused g c = IfOk-weaker c.rebuild_over.result _ _
-    (answers_row (λ (state : State). if_fits (storage_data c.args.config.now) state c.args.contents.items) c.in_ok-view.view g.D.Disk.told (store_at (g.D.Disk.medium c.args.disk.now).image c.args.shape.now) c.in_ok-view.ensures.view c.args.contents.items (λ state read. fits_row (storage_data c.args.config.now) c.args.contents.items (subst (λ n. n ≤ c.args.config.now.maximum) (c.size_of-needed.ensures ∙ ap (λ (fs : List Fresh). sum_by fresh_size fs) c.as_slice.ensures.value) c.if-needed-config.false) state))
+    (answers_row (λ (state : State). if_fits (storage_data c.args.config.now) state c.args.contents.items)
+    c.in_ok-view.view g.D.Disk.told (store_at (g.D.Disk.medium c.args.disk.now).image c.args.shape.now)
+    c.in_ok-view.ensures.view c.args.contents.items (λ state read.
+    fits_row (storage_data c.args.config.now) c.args.contents.items
+    (subst (λ n. n ≤ c.args.config.now.maximum) (c.size_of-needed.ensures
+    ∙ ap (λ (fs : List Fresh). sum_by fresh_size fs) c.as_slice.ensures.value) c.if-needed-config.false)
+    state))
     c.rebuild_over.ensures.refused
 
 pub returns-clause-state : goal.returns-clause-state
-returns-clause-state g c = λ tells. on_ok_weaker c.rebuild_over.result (λ is. is ∙ (rebuilt_as (λ (state : State). if_fits (storage_data c.args.config.now) state c.args.contents.items) c.in_ok-view.view c.args.contents.items (λ state read. fits_row (storage_data c.args.config.now) c.args.contents.items (subst (λ n. n ≤ c.args.config.now.maximum) (c.size_of-needed.ensures ∙ ap (λ (fs : List Fresh). sum_by fresh_size fs) c.as_slice.ensures.value) c.if-needed-config.false) state) (g.D.Disk.medium c.args.disk.now).image (g.D.Disk.medium c.salvage.new.disk).image c.args.shape.now c.in_ok-view.ensures.image (c.in_ok-view.ensures.view tells))) (c.rebuild_over.ensures.state tells)
+returns-clause-state g c = λ tells. on_ok_weaker c.rebuild_over.result
+    (λ is. is ∙ (rebuilt_as (λ (state : State). if_fits (storage_data c.args.config.now) state c.args.contents.items)
+    c.in_ok-view.view c.args.contents.items (λ state read.
+    fits_row (storage_data c.args.config.now) c.args.contents.items
+    (subst (λ n. n ≤ c.args.config.now.maximum) (c.size_of-needed.ensures
+    ∙ ap (λ (fs : List Fresh). sum_by fresh_size fs) c.as_slice.ensures.value) c.if-needed-config.false)
+    state) (g.D.Disk.medium c.args.disk.now).image (g.D.Disk.medium c.salvage.new.disk).image c.args.shape.now
+    c.in_ok-view.ensures.image (c.in_ok-view.ensures.view tells))) (c.rebuild_over.ensures.state tells)
 
 pub returns-clause-unchanged : goal.returns-clause-unchanged
 returns-clause-unchanged g c = IfOk-weaker c.rebuild_over.result _ _
-    (λ refused same some. nothing_changes (g.D.Disk.medium c.args.disk.now) (g.D.Disk.medium c.salvage.new.disk) (g.D.Disk.medium c.rebuild_over.new.disk) c.in_ok-view.ensures.image c.in_ok-view.ensures.written c.in_ok-view.ensures.idle
+    (λ refused same some. nothing_changes (g.D.Disk.medium c.args.disk.now) (g.D.Disk.medium c.salvage.new.disk)
+    (g.D.Disk.medium c.rebuild_over.new.disk) c.in_ok-view.ensures.image c.in_ok-view.ensures.written
+    c.in_ok-view.ensures.idle
     (ap g.D.Disk.medium (same (λ none. true≢false (sym (subst (λ (o : Option PerError). IsSome o) none some))))))
     c.rebuild_over.ensures.untouched
 
 pub returns-clause-stays : goal.returns-clause-stays
-returns-clause-stays g c = λ tells err. nothing_changes (g.D.Disk.medium c.args.disk.now) (g.D.Disk.medium c.salvage.new.disk) (g.D.Disk.medium c.rebuild_over.new.disk) c.in_ok-view.ensures.image c.in_ok-view.ensures.written c.in_ok-view.ensures.idle
-    (ap g.D.Disk.medium (c.rebuild_over.ensures.worn (fits_worn (storage_data c.args.config.now) c.args.contents.items (subst (λ n. n ≤ c.args.config.now.maximum) (c.size_of-needed.ensures ∙ ap (λ (fs : List Fresh). sum_by fresh_size fs) c.as_slice.ensures.value) c.if-needed-config.false) (store_at (g.D.Disk.medium c.args.disk.now).image c.args.shape.now) c.in_ok-view.view (c.in_ok-view.ensures.view tells) err)))
+returns-clause-stays g c = λ tells err. nothing_changes (g.D.Disk.medium c.args.disk.now)
+    (g.D.Disk.medium c.salvage.new.disk) (g.D.Disk.medium c.rebuild_over.new.disk) c.in_ok-view.ensures.image
+    c.in_ok-view.ensures.written c.in_ok-view.ensures.idle
+    (ap g.D.Disk.medium (c.rebuild_over.ensures.worn (fits_worn (storage_data c.args.config.now) c.args.contents.items
+    (subst (λ n. n ≤ c.args.config.now.maximum) (c.size_of-needed.ensures
+    ∙ ap (λ (fs : List Fresh). sum_by fresh_size fs) c.as_slice.ensures.value) c.if-needed-config.false)
+    (store_at (g.D.Disk.medium c.args.disk.now).image c.args.shape.now) c.in_ok-view.view
+    (c.in_ok-view.ensures.view tells) err)))
 
 pub returns-clause-clean : goal.returns-clause-clean
 returns-clause-clean g c = λ tells. IfOk-weaker c.rebuild_over.result _ _
-    (λ refused clean was. clean (⊎_elim (λ none. inl none) (λ there. inr (subst (λ (im : Image). IsClean c.args.shape.now im) (sym c.in_ok-view.ensures.image) there)) was))
+    (λ refused clean was. clean (⊎_elim (λ none. inl none)
+    (λ there. inr (subst (λ (im : Image). IsClean c.args.shape.now im) (sym c.in_ok-view.ensures.image) there))
+    was))
     (c.rebuild_over.ensures.clean tells)
 
 pub returns-clause-quiet : goal.returns-clause-quiet
 returns-clause-quiet g c = c.rebuild_over.ensures.quiet c.in_ok-view.ensures.quiet
 
 pub returns-clause-cause : goal.returns-clause-cause
-returns-clause-cause g c = λ failed. subst (λ n. Rose n (g.D.Disk.medium c.rebuild_over.new.disk).faults) c.in_ok-view.ensures.passes (c.rebuild_over.ensures.cause failed)
+returns-clause-cause g c = λ failed. subst (λ n. Rose n (g.D.Disk.medium c.rebuild_over.new.disk).faults)
+    c.in_ok-view.ensures.passes (c.rebuild_over.ensures.cause failed)
 
 pub returns-clause-passes : goal.returns-clause-passes
-returns-clause-passes g c = on_ok_weaker c.rebuild_over.result (λ passes. passes ∙ c.in_ok-view.ensures.passes) c.rebuild_over.ensures.passes
+returns-clause-passes g c = on_ok_weaker c.rebuild_over.result (λ passes. passes ∙ c.in_ok-view.ensures.passes)
+    c.rebuild_over.ensures.passes
 
 pub returns-clause-fed : goal.returns-clause-fed
 returns-clause-fed g c = λ failed. c.rebuild_over.ensures.fed failed ∙ c.in_ok-view.ensures.passes
 
 pub returns-clause-outside : goal.returns-clause-outside
-returns-clause-outside g c = then_leaves (g.D.Disk.medium c.args.disk.now) (g.D.Disk.medium c.salvage.new.disk) c.in_ok-view.ensures.image c.in_ok-view.ensures.idle (g.D.Disk.medium c.rebuild_over.new.disk) c.in_ok-view.ensures.time c.rebuild_over.ensures.time g.D.Disk.told (IsOutside c.args.shape.now.place.first c.args.shape.now.place.copies) c.rebuild_over.ensures.outside
+returns-clause-outside g c = then_leaves (g.D.Disk.medium c.args.disk.now) (g.D.Disk.medium c.salvage.new.disk)
+    c.in_ok-view.ensures.image c.in_ok-view.ensures.idle (g.D.Disk.medium c.rebuild_over.new.disk)
+    c.in_ok-view.ensures.time c.rebuild_over.ensures.time g.D.Disk.told
+    (IsOutside c.args.shape.now.place.first c.args.shape.now.place.copies) c.rebuild_over.ensures.outside
 
 pub returns-clause-any_moment : goal.returns-clause-any_moment
-returns-clause-any_moment g c = λ tells. then_kept (g.D.Disk.medium c.args.disk.now) (g.D.Disk.medium c.salvage.new.disk) c.in_ok-view.ensures.image c.in_ok-view.ensures.idle (g.D.Disk.medium c.rebuild_over.new.disk) c.in_ok-view.ensures.time c.rebuild_over.ensures.time c.untouched_is_kept.ensures.untouched c.args.shape.now c.requires.shape
-    (after_state (store_at (g.D.Disk.medium c.args.disk.now).image c.args.shape.now) (if_fits (storage_data c.args.config.now) (store_at (g.D.Disk.medium c.args.disk.now).image c.args.shape.now) c.args.contents.items))
-    (subst (λ (s : State). KeptThroughout c.args.shape.now s (g.D.Disk.medium c.salvage.new.disk) (g.D.Disk.medium c.rebuild_over.new.disk)) (rebuilt_as (λ (state : State). if_fits (storage_data c.args.config.now) state c.args.contents.items) c.in_ok-view.view c.args.contents.items (λ state read. fits_row (storage_data c.args.config.now) c.args.contents.items (subst (λ n. n ≤ c.args.config.now.maximum) (c.size_of-needed.ensures ∙ ap (λ (fs : List Fresh). sum_by fresh_size fs) c.as_slice.ensures.value) c.if-needed-config.false) state) (g.D.Disk.medium c.args.disk.now).image (g.D.Disk.medium c.salvage.new.disk).image c.args.shape.now c.in_ok-view.ensures.image (c.in_ok-view.ensures.view tells)) (c.rebuild_over.ensures.any_moment tells))
+returns-clause-any_moment g c = λ tells. then_kept (g.D.Disk.medium c.args.disk.now)
+    (g.D.Disk.medium c.salvage.new.disk) c.in_ok-view.ensures.image c.in_ok-view.ensures.idle
+    (g.D.Disk.medium c.rebuild_over.new.disk) c.in_ok-view.ensures.time c.rebuild_over.ensures.time
+    c.untouched_is_kept.ensures.untouched c.args.shape.now c.requires.shape
+    (after_state (store_at (g.D.Disk.medium c.args.disk.now).image c.args.shape.now)
+    (if_fits (storage_data c.args.config.now) (store_at (g.D.Disk.medium c.args.disk.now).image c.args.shape.now)
+    c.args.contents.items))
+    (subst (λ (s : State). KeptThroughout c.args.shape.now s (g.D.Disk.medium c.salvage.new.disk)
+    (g.D.Disk.medium c.rebuild_over.new.disk)) (rebuilt_as
+    (λ (state : State). if_fits (storage_data c.args.config.now) state c.args.contents.items) c.in_ok-view.view
+    c.args.contents.items (λ state read. fits_row (storage_data c.args.config.now) c.args.contents.items
+    (subst (λ n. n ≤ c.args.config.now.maximum) (c.size_of-needed.ensures
+    ∙ ap (λ (fs : List Fresh). sum_by fresh_size fs) c.as_slice.ensures.value) c.if-needed-config.false)
+    state) (g.D.Disk.medium c.args.disk.now).image (g.D.Disk.medium c.salvage.new.disk).image c.args.shape.now
+    c.in_ok-view.ensures.image (c.in_ok-view.ensures.view tells)) (c.rebuild_over.ensures.any_moment tells))
 
 pub returns-clause-time : goal.returns-clause-time
 returns-clause-time g c = elapses_on c.in_ok-view.ensures.time c.rebuild_over.ensures.time

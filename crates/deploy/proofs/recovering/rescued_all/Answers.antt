@@ -15,7 +15,11 @@ loop-entry-preserved c =
     c.loop-entry.contents.items c.match-branch-2.contents.items (filter_map f c.args.entries.now)
     (item_at c.args.entries.now c.loop-entry.entry-index c.entry-item.result within c.entry-item.is)
     (elim c.match-branch-2.branch [
-      | in-Some+in_ok-push w ↦ inl (w.in-Some.fresh, sym made ∙ w.in-Some.is, ap (λ v. v.items) w.contents-is ∙ w.in_ok-push.ensures.items)
+      | in-Some+in_ok-push w ↦ inl (
+        w.in-Some.fresh,
+        sym made ∙ w.in-Some.is,
+        ap (λ v. v.items) w.contents-is ∙ w.in_ok-push.ensures.items,
+      )
       | in_default w ↦ inr (sym made ∙ w.in_default.is, ap (λ v. v.items) w.contents-is)
     ])
     c.loop-entry.invariant
@@ -24,4 +28,5 @@ pub returns : goal.returns
 returns c =
     let f = rescued_entry (storage_data c.args.config.now) c.args.now in
     let past : length c.args.entries.now ≤ c.loop-entry.entry-index = search rules in
-    filter_done f c.args.entries.now c.loop-entry.entry-index c.loop-entry.contents.items (filter_map f c.args.entries.now) past c.loop-entry.invariant
+    filter_done f c.args.entries.now c.loop-entry.entry-index c.loop-entry.contents.items
+    (filter_map f c.args.entries.now) past c.loop-entry.invariant

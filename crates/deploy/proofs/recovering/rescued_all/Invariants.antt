@@ -6,5 +6,6 @@ use Rattle.deploy.proofs.recovering.rescued_all.Given as goal
 
 -- what was rescued, and behind it what can be of the rest
 abbrev pub invariant-loop-entry : goal.invariant-loop-entry
-invariant-loop-entry l = l.contents.items ++ filter_map (rescued_entry (storage_data l.config) l.now) (drop l.entry-index l.entries)
+invariant-loop-entry l = l.contents.items ++ filter_map (rescued_entry (storage_data l.config) l.now)
+    (drop l.entry-index l.entries)
     ≡ filter_map (rescued_entry (storage_data l.config) l.now) l.entries

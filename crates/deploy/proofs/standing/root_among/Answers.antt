@@ -13,7 +13,8 @@ returns-in_default-clause-among c = ap says_in (sym c.standing_among.ensures ∙
 
 pub returns-in-Err-NotARoot-clause-among : goal.returns-in-Err-NotARoot-clause-among
 returns-in-Err-NotARoot-clause-among c =
-    let none = subst (λ (e : RootError). Refuses e (root_of c.as_slice.result.now)) c.in-Err-NotARoot.field-0-is c.in-Err-NotARoot.ensures.read in
+    let none = subst (λ (e : RootError). Refuses e (root_of c.as_slice.result.now)) c.in-Err-NotARoot.field-0-is
+    c.in-Err-NotARoot.ensures.read in
     ap says_in (sym c.standing_among.ensures ∙ c.in-Some.is)
     ∙ ap (λ (r : Option Root). says_by c.in-Some.seen.generation r) (ap root_of (sym c.as_slice.ensures) ∙ none)
 
@@ -28,7 +29,8 @@ pub returns-in-Ok-clause-spelled : goal.returns-in-Ok-clause-spelled
 returns-in-Ok-clause-spelled c =
     let enough : Seen → Bool = λ seen. nat_le 2 (length seen.copies) in
     record {
-      sealable = found_is IsSealable enough c.args.seens.items c.in-Some.seen (sym c.standing_among.ensures ∙ c.in-Some.is) c.requires;
+      sealable = found_is IsSealable enough c.args.seens.items c.in-Some.seen
+          (sym c.standing_among.ensures ∙ c.in-Some.is) c.requires;
       rules = c.in-Ok.ensures.rules;
       spelled = sym c.as_slice.ensures ∙ c.in-Ok.ensures.spelled;
     }

@@ -14,23 +14,32 @@ use Rattle.deploy.proofs.ReadsAlone.{begins_not, offered_absent, offered_bad, st
 use Rattle.deploy.proofs.updating.begin_update.Goals as goal
 
 pub returns-in-Bad-clause-begins : goal.returns-in-Bad-clause-begins
-returns-in-Bad-clause-begins g c = begins_not (rules_of c.args.migrations.now) (answers_of c.args.migrations.now) c.args.now
+returns-in-Bad-clause-begins g c = begins_not (rules_of c.args.migrations.now) (answers_of c.args.migrations.now)
+    c.args.now
     (option_map (λ (n : Bor Name). n.now) c.args.busy) c.args.manifest.now c.args.root
-    (λ (states : List State). IsTrue g.D.Disk.told → (app_at (g.D.Disk.medium c.args.disk.now).image c.args.app).states ≡ states)
+    (λ (states : List State). IsTrue g.D.Disk.told → (app_at (g.D.Disk.medium c.args.disk.now).image c.args.app).states
+    ≡ states)
     (error.IntegrityCorrupted unit.Root)
-    (ap (λ (r : Root). offered (option_map (λ (n : Bor Name). n.now) c.args.busy) c.args.manifest.now (root_app r [])) c.in-Bad.is ∙ offered_bad (option_map (λ (n : Bor Name). n.now) c.args.busy) c.args.manifest.now)
+    (ap (λ (r : Root). offered (option_map (λ (n : Bor Name). n.now) c.args.busy) c.args.manifest.now (root_app r []))
+    c.in-Bad.is ∙ offered_bad (option_map (λ (n : Bor Name). n.now) c.args.busy) c.args.manifest.now)
     (app_at (g.D.Disk.medium c.args.disk.now).image c.args.app).states (λ _. refl)
 
 pub returns-in-Bad-clause-any_moment : goal.returns-in-Bad-clause-any_moment
-returns-in-Bad-clause-any_moment g c = λ tells. stands_unread c.untouched_stands.ensures.untouched g.D.Disk.told c.args.app (g.D.Disk.medium c.args.disk.now) (g.met.D.Disk.lawful c.args.disk.now) c.requires.app
+returns-in-Bad-clause-any_moment g c = λ tells. stands_unread c.untouched_stands.ensures.untouched g.D.Disk.told
+    c.args.app (g.D.Disk.medium c.args.disk.now) (g.met.D.Disk.lawful c.args.disk.now) c.requires.app
 
 pub returns-in-Absent-clause-begins : goal.returns-in-Absent-clause-begins
-returns-in-Absent-clause-begins g c = begins_not (rules_of c.args.migrations.now) (answers_of c.args.migrations.now) c.args.now
+returns-in-Absent-clause-begins g c = begins_not (rules_of c.args.migrations.now) (answers_of c.args.migrations.now)
+    c.args.now
     (option_map (λ (n : Bor Name). n.now) c.args.busy) c.args.manifest.now c.args.root
-    (λ (states : List State). IsTrue g.D.Disk.told → (app_at (g.D.Disk.medium c.args.disk.now).image c.args.app).states ≡ states)
+    (λ (states : List State). IsTrue g.D.Disk.told → (app_at (g.D.Disk.medium c.args.disk.now).image c.args.app).states
+    ≡ states)
     error.NotInstalled
-    (ap (λ (r : Root). offered (option_map (λ (n : Bor Name). n.now) c.args.busy) c.args.manifest.now (root_app r [])) c.in-Absent.is ∙ offered_absent (option_map (λ (n : Bor Name). n.now) c.args.busy) c.args.manifest.now c.in-Absent.cell)
+    (ap (λ (r : Root). offered (option_map (λ (n : Bor Name). n.now) c.args.busy) c.args.manifest.now (root_app r []))
+    c.in-Absent.is ∙ offered_absent (option_map (λ (n : Bor Name). n.now) c.args.busy) c.args.manifest.now
+    c.in-Absent.cell)
     (app_at (g.D.Disk.medium c.args.disk.now).image c.args.app).states (λ _. refl)
 
 pub returns-in-Absent-clause-any_moment : goal.returns-in-Absent-clause-any_moment
-returns-in-Absent-clause-any_moment g c = λ tells. stands_unread c.untouched_stands.ensures.untouched g.D.Disk.told c.args.app (g.D.Disk.medium c.args.disk.now) (g.met.D.Disk.lawful c.args.disk.now) c.requires.app
+returns-in-Absent-clause-any_moment g c = λ tells. stands_unread c.untouched_stands.ensures.untouched g.D.Disk.told
+    c.args.app (g.D.Disk.medium c.args.disk.now) (g.met.D.Disk.lawful c.args.disk.now) c.requires.app

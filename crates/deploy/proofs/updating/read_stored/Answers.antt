@@ -21,7 +21,9 @@ pub returns-clause-present : goal.returns-clause-present
 returns-clause-present g c = elim c.match-inspect.branch [
   | in-Ok w ↦ subst (λ (x : StorageContents). ArePresent c.args.config.now.kind x) (sym w.contents-is)
       (view_stored c.in_ok-shape.shape w.in-Ok.view c.args.config.now.kind
-      (shape_kind c.args.app c.args.bank c.args.number (storage_data c.args.config.now) c.in_ok-shape.shape c.in_ok-shape.ensures.shape)
-      (subst (λ (r : Result View StoreError). IfOk r (λ (v : View). IsView c.in_ok-shape.shape v)) w.in-Ok.is c.inspect.ensures.read))
+      (shape_kind c.args.app c.args.bank c.args.number (storage_data c.args.config.now) c.in_ok-shape.shape
+      c.in_ok-shape.ensures.shape)
+      (subst (λ (r : Result View StoreError). IfOk r (λ (v : View). IsView c.in_ok-shape.shape v)) w.in-Ok.is
+      c.inspect.ensures.read))
   | in-Err-Corrupt w ↦ subst (λ (x : StorageContents). ArePresent c.args.config.now.kind x) (sym w.contents-is) tt
 ]

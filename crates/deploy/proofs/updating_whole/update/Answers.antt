@@ -10,53 +10,70 @@ use Rattle.disk_model.specs.Image.{Image}
 use Rattle.deploy.specs.declared.roots.Root.{Root}
 use Rattle.deploy.specs.Roots.{RootAt, texts_in}
 use Rattle.deploy.specs.Building.{root_in}
-use Rattle.deploy.proofs.OneUpdate.{clause_from, clause_of, is_refused, leads_led, leads_nowhere, leaves_led, leaves_read, never, never_ok, none_ok, not_ok, over_root, root_refused, same_error, same_refused, staged_at, updated_not, updated_so, was_offered}
+use Rattle.deploy.proofs.OneUpdate.{clause_from, clause_of, is_refused, leads_led, leads_nowhere, leaves_led}
+use Rattle.deploy.proofs.OneUpdate.{leaves_read, never, never_ok, none_ok, not_ok, over_root, root_refused, same_error}
+use Rattle.deploy.proofs.OneUpdate.{same_refused, staged_at, updated_not, updated_so, was_offered}
 use Rattle.deploy.proofs.updating_whole.update.Goals as goal
 
 -- ---- it does not begin
 
 pub returns-in_err-begun-clause-outside : goal.returns-in_err-begun-clause-outside
-returns-in_err-begun-clause-outside g c = leaves_read g.D.Disk.told _ (g.D.Disk.medium c.args.disk.now) (g.D.Disk.medium c.begin_update.new.disk) c.in_err-begun.ensures.idle c.in_err-begun.ensures.image
+returns-in_err-begun-clause-outside g c = leaves_read g.D.Disk.told _ (g.D.Disk.medium c.args.disk.now)
+    (g.D.Disk.medium c.begin_update.new.disk) c.in_err-begun.ensures.idle c.in_err-begun.ensures.image
 
 pub returns-in_err-begun-clause-any_moment : goal.returns-in_err-begun-clause-any_moment
-returns-in_err-begun-clause-any_moment g c = λ tells. leads_nowhere (rules_of c.args.migrations.now) (answers_of c.args.migrations.now) c.args.now (option_map (λ (n : Bor Name). n.now) c.args.busy) c.args.manifest.now c.args.app
-    _ (g.D.Disk.medium c.args.disk.now) (g.D.Disk.medium c.begin_update.new.disk) c.in_err-begun.ensures.image (c.in_err-begun.ensures.any_moment tells)
+returns-in_err-begun-clause-any_moment g c = λ tells. leads_nowhere (rules_of c.args.migrations.now)
+    (answers_of c.args.migrations.now) c.args.now (option_map (λ (n : Bor Name). n.now) c.args.busy) c.args.manifest.now
+    c.args.app
+    _ (g.D.Disk.medium c.args.disk.now) (g.D.Disk.medium c.begin_update.new.disk) c.in_err-begun.ensures.image
+    (c.in_err-begun.ensures.any_moment tells)
 
 pub returns-in_err-begun-clause-root : goal.returns-in_err-begun-clause-root
-returns-in_err-begun-clause-root g c = none_ok c.from_residual.result c.in_err-begun.field-0.0 c.from_residual.ensures.1 _
+returns-in_err-begun-clause-root g c = none_ok c.from_residual.result c.in_err-begun.field-0.0 c.from_residual.ensures.1
+    _
 
 pub returns-in_err-begun-clause-updates : goal.returns-in_err-begun-clause-updates
-returns-in_err-begun-clause-updates g c = none_ok c.from_residual.result c.in_err-begun.field-0.0 c.from_residual.ensures.1 _
+returns-in_err-begun-clause-updates g c = none_ok c.from_residual.result c.in_err-begun.field-0.0
+    c.from_residual.ensures.1 _
 
 pub returns-in_err-begun-clause-text : goal.returns-in_err-begun-clause-text
-returns-in_err-begun-clause-text g c = none_ok c.from_residual.result c.in_err-begun.field-0.0 c.from_residual.ensures.1 _
+returns-in_err-begun-clause-text g c = none_ok c.from_residual.result c.in_err-begun.field-0.0 c.from_residual.ensures.1
+    _
 
 pub returns-in_err-begun-clause-clean : goal.returns-in_err-begun-clause-clean
-returns-in_err-begun-clause-clean g c = λ tells clean. not_ok c.from_residual.result c.in_err-begun.field-0.0 c.from_residual.ensures.1 _
+returns-in_err-begun-clause-clean g c = λ tells clean.
+    not_ok c.from_residual.result c.in_err-begun.field-0.0 c.from_residual.ensures.1 _
 
 pub returns-in_err-begun-clause-quiet : goal.returns-in_err-begun-clause-quiet
-returns-in_err-begun-clause-quiet g c = λ quiet. not_ok c.from_residual.result c.in_err-begun.field-0.0 c.from_residual.ensures.1 _
+returns-in_err-begun-clause-quiet g c = λ quiet. not_ok c.from_residual.result c.in_err-begun.field-0.0
+    c.from_residual.ensures.1 _
 
 pub returns-in_err-begun-clause-unchanged : goal.returns-in_err-begun-clause-unchanged
-returns-in_err-begun-clause-unchanged g c = none_ok c.from_residual.result c.in_err-begun.field-0.0 c.from_residual.ensures.1 _
+returns-in_err-begun-clause-unchanged g c = none_ok c.from_residual.result c.in_err-begun.field-0.0
+    c.from_residual.ensures.1 _
 
 pub returns-in_err-begun-clause-early : goal.returns-in_err-begun-clause-early
 returns-in_err-begun-clause-early g c = c.in_err-begun.ensures.early
 
 pub returns-in_err-begun-clause-due : goal.returns-in_err-begun-clause-due
-returns-in_err-begun-clause-due g c = λ e refusal at_once. let ok = c.in_err-begun.ensures.due e refusal at_once in absurd cc
+returns-in_err-begun-clause-due g c = λ e refusal at_once. let ok =
+    c.in_err-begun.ensures.due e refusal at_once in absurd cc
 
 pub returns-in_err-begun-clause-cause : goal.returns-in_err-begun-clause-cause
-returns-in_err-begun-clause-cause g c = λ err. c.in_err-begun.ensures.cause (same_error c.from_residual.result c.in_err-begun.field-0.0 c.from_residual.ensures.1 _ err)
+returns-in_err-begun-clause-cause g c = λ err. c.in_err-begun.ensures.cause
+    (same_error c.from_residual.result c.in_err-begun.field-0.0 c.from_residual.ensures.1 _ err)
 
 pub returns-in_err-begun-clause-device_only : goal.returns-in_err-begun-clause-device_only
-returns-in_err-begun-clause-device_only g c = λ err. c.in_err-begun.ensures.device_only (same_error c.from_residual.result c.in_err-begun.field-0.0 c.from_residual.ensures.1 _ err)
+returns-in_err-begun-clause-device_only g c = λ err. c.in_err-begun.ensures.device_only
+    (same_error c.from_residual.result c.in_err-begun.field-0.0 c.from_residual.ensures.1 _ err)
 
 pub returns-in_err-begun-clause-passes : goal.returns-in_err-begun-clause-passes
-returns-in_err-begun-clause-passes g c = not_ok c.from_residual.result c.in_err-begun.field-0.0 c.from_residual.ensures.1 _
+returns-in_err-begun-clause-passes g c = not_ok c.from_residual.result c.in_err-begun.field-0.0
+    c.from_residual.ensures.1 _
 
 pub returns-in_err-begun-clause-fed : goal.returns-in_err-begun-clause-fed
-returns-in_err-begun-clause-fed g c = λ err. c.in_err-begun.ensures.fed (same_error c.from_residual.result c.in_err-begun.field-0.0 c.from_residual.ensures.1 _ err)
+returns-in_err-begun-clause-fed g c = λ err. c.in_err-begun.ensures.fed
+    (same_error c.from_residual.result c.in_err-begun.field-0.0 c.from_residual.ensures.1 _ err)
 
 pub returns-in_err-begun-clause-time : goal.returns-in_err-begun-clause-time
 returns-in_err-begun-clause-time g c = c.in_err-begun.ensures.time
@@ -64,38 +81,52 @@ returns-in_err-begun-clause-time g c = c.in_err-begun.ensures.time
 -- ---- it is refused
 
 pub returns-in-Refused-clause-root : goal.returns-in-Refused-clause-root
-returns-in-Refused-clause-root g c = root_refused (rules_of c.args.migrations.now) (answers_of c.args.migrations.now) c.args.now (option_map (λ (n : Bor Name). n.now) c.args.busy) c.args.manifest.now c.args.app
-    g.D.Disk.told (g.D.Disk.medium c.args.disk.now) (g.D.Disk.medium c.begin_update.new.disk) c.args.root c.in_ok-begun.begun c.in_ok-begun.ensures.begins c.in_ok-begun.ensures.staged c.in_ok-begun.ensures.image
+returns-in-Refused-clause-root g c = root_refused (rules_of c.args.migrations.now) (answers_of c.args.migrations.now)
+    c.args.now (option_map (λ (n : Bor Name). n.now) c.args.busy) c.args.manifest.now c.args.app
+    g.D.Disk.told (g.D.Disk.medium c.args.disk.now) (g.D.Disk.medium c.begin_update.new.disk) c.args.root
+    c.in_ok-begun.begun c.in_ok-begun.ensures.begins c.in_ok-begun.ensures.staged c.in_ok-begun.ensures.image
     c.in-Refused.same c.in-Refused.refused c.in-Refused.is c.refuses.result c.refuses.ensures
 
 pub returns-in-Refused-clause-updates : goal.returns-in-Refused-clause-updates
-returns-in-Refused-clause-updates g c = updated_not (rules_of c.args.migrations.now) (answers_of c.args.migrations.now) c.args.now (option_map (λ (n : Bor Name). n.now) c.args.busy) c.args.manifest.now c.args.app
-    g.D.Disk.told (g.D.Disk.medium c.args.disk.now) (g.D.Disk.medium c.begin_update.new.disk) c.args.root c.in_ok-begun.begun c.in_ok-begun.ensures.begins c.in_ok-begun.ensures.staged c.in_ok-begun.ensures.image
+returns-in-Refused-clause-updates g c = updated_not (rules_of c.args.migrations.now) (answers_of c.args.migrations.now)
+    c.args.now (option_map (λ (n : Bor Name). n.now) c.args.busy) c.args.manifest.now c.args.app
+    g.D.Disk.told (g.D.Disk.medium c.args.disk.now) (g.D.Disk.medium c.begin_update.new.disk) c.args.root
+    c.in_ok-begun.begun c.in_ok-begun.ensures.begins c.in_ok-begun.ensures.staged c.in_ok-begun.ensures.image
     c.in-Refused.same c.in-Refused.refused c.in-Refused.is c.refuses.result c.refuses.ensures
 
 pub returns-in-Refused-clause-text : goal.returns-in-Refused-clause-text
-returns-in-Refused-clause-text g c = λ none. absurd (is_refused (rules_of c.args.migrations.now) (answers_of c.args.migrations.now) c.args.now (option_map (λ (n : Bor Name). n.now) c.args.busy) c.args.manifest.now c.args.app
-    g.D.Disk.told (g.D.Disk.medium c.args.disk.now) (g.D.Disk.medium c.begin_update.new.disk) c.args.root c.in_ok-begun.begun c.in_ok-begun.ensures.begins c.in_ok-begun.ensures.staged c.in_ok-begun.ensures.image
+returns-in-Refused-clause-text g c = λ none. absurd (is_refused (rules_of c.args.migrations.now)
+    (answers_of c.args.migrations.now) c.args.now (option_map (λ (n : Bor Name). n.now) c.args.busy)
+    c.args.manifest.now c.args.app
+    g.D.Disk.told (g.D.Disk.medium c.args.disk.now) (g.D.Disk.medium c.begin_update.new.disk) c.args.root
+    c.in_ok-begun.begun c.in_ok-begun.ensures.begins c.in_ok-begun.ensures.staged c.in_ok-begun.ensures.image
     c.in-Refused.same c.in-Refused.refused c.in-Refused.is c.refuses.result c.refuses.ensures none)
 
 pub returns-in-Refused-clause-unchanged : goal.returns-in-Refused-clause-unchanged
 returns-in-Refused-clause-unchanged g c = λ some. (
   c.in_ok-begun.ensures.image,
   c.in_ok-begun.ensures.written,
-  same_refused (rules_of c.args.migrations.now) (answers_of c.args.migrations.now) c.args.now (option_map (λ (n : Bor Name). n.now) c.args.busy) c.args.manifest.now c.args.app
-      g.D.Disk.told (g.D.Disk.medium c.args.disk.now) (g.D.Disk.medium c.begin_update.new.disk) c.args.root c.in_ok-begun.begun c.in_ok-begun.ensures.begins c.in_ok-begun.ensures.staged c.in_ok-begun.ensures.image
+  same_refused (rules_of c.args.migrations.now) (answers_of c.args.migrations.now) c.args.now
+      (option_map (λ (n : Bor Name). n.now) c.args.busy) c.args.manifest.now c.args.app
+      g.D.Disk.told (g.D.Disk.medium c.args.disk.now) (g.D.Disk.medium c.begin_update.new.disk) c.args.root
+      c.in_ok-begun.begun c.in_ok-begun.ensures.begins c.in_ok-begun.ensures.staged c.in_ok-begun.ensures.image
       c.in-Refused.same c.in-Refused.refused c.in-Refused.is c.refuses.result c.refuses.ensures,
 )
 
 pub returns-in-Refused-clause-outside : goal.returns-in-Refused-clause-outside
-returns-in-Refused-clause-outside g c = leaves_read g.D.Disk.told _ (g.D.Disk.medium c.args.disk.now) (g.D.Disk.medium c.begin_update.new.disk) c.in_ok-begun.ensures.idle c.in_ok-begun.ensures.image
+returns-in-Refused-clause-outside g c = leaves_read g.D.Disk.told _ (g.D.Disk.medium c.args.disk.now)
+    (g.D.Disk.medium c.begin_update.new.disk) c.in_ok-begun.ensures.idle c.in_ok-begun.ensures.image
 
 pub returns-in-Refused-clause-any_moment : goal.returns-in-Refused-clause-any_moment
-returns-in-Refused-clause-any_moment g c = λ tells. leads_nowhere (rules_of c.args.migrations.now) (answers_of c.args.migrations.now) c.args.now (option_map (λ (n : Bor Name). n.now) c.args.busy) c.args.manifest.now c.args.app
-    _ (g.D.Disk.medium c.args.disk.now) (g.D.Disk.medium c.begin_update.new.disk) c.in_ok-begun.ensures.image (c.in_ok-begun.ensures.any_moment tells)
+returns-in-Refused-clause-any_moment g c = λ tells. leads_nowhere (rules_of c.args.migrations.now)
+    (answers_of c.args.migrations.now) c.args.now (option_map (λ (n : Bor Name). n.now) c.args.busy) c.args.manifest.now
+    c.args.app
+    _ (g.D.Disk.medium c.args.disk.now) (g.D.Disk.medium c.begin_update.new.disk) c.in_ok-begun.ensures.image
+    (c.in_ok-begun.ensures.any_moment tells)
 
 pub returns-in-Refused-clause-clean : goal.returns-in-Refused-clause-clean
-returns-in-Refused-clause-clean g c = λ tells clean. subst (λ (i : Image). IsCleanApp c.args.app i) (sym c.in_ok-begun.ensures.image) clean
+returns-in-Refused-clause-clean g c = λ tells clean. subst (λ (i : Image). IsCleanApp c.args.app i)
+    (sym c.in_ok-begun.ensures.image) clean
 
 pub returns-in-Refused-clause-quiet : goal.returns-in-Refused-clause-quiet
 returns-in-Refused-clause-quiet g c = λ quiet. (c.in_ok-begun.ensures.idle quiet).quiet
@@ -125,112 +156,178 @@ returns-in-Refused-clause-time g c = c.in_ok-begun.ensures.time
 
 pub commit_update-requires : goal.commit_update-requires
 commit_update-requires g c = record {
-  staged = staged_at (rules_of c.args.migrations.now) (answers_of c.args.migrations.now) c.args.now (option_map (λ (n : Bor Name). n.now) c.args.busy) c.args.manifest.now c.args.app
-      g.D.Disk.told (g.D.Disk.medium c.args.disk.now) (g.D.Disk.medium c.begin_update.new.disk) c.args.root c.in_ok-begun.begun c.in_ok-begun.ensures.begins c.in_ok-begun.ensures.staged c.in_ok-begun.ensures.image
+  staged = staged_at (rules_of c.args.migrations.now) (answers_of c.args.migrations.now) c.args.now
+      (option_map (λ (n : Bor Name). n.now) c.args.busy) c.args.manifest.now c.args.app
+      g.D.Disk.told (g.D.Disk.medium c.args.disk.now) (g.D.Disk.medium c.begin_update.new.disk) c.args.root
+      c.in_ok-begun.begun c.in_ok-begun.ensures.begins c.in_ok-begun.ensures.staged c.in_ok-begun.ensures.image
       c.in-Ready.staged c.in-Ready.is;
 }
 
 pub returns-in_err-next-in-Ready-clause-early : goal.returns-in_err-next-in-Ready-clause-early
-returns-in_err-next-in-Ready-clause-early g c = λ e refusal. absurd (never _ e (was_offered (rules_of c.args.migrations.now) (answers_of c.args.migrations.now) c.args.now (option_map (λ (n : Bor Name). n.now) c.args.busy) c.args.manifest.now c.args.app
-    g.D.Disk.told (g.D.Disk.medium c.args.disk.now) (g.D.Disk.medium c.begin_update.new.disk) c.args.root c.in_ok-begun.begun c.in_ok-begun.ensures.begins c.in_ok-begun.ensures.staged c.in_ok-begun.ensures.image
+returns-in_err-next-in-Ready-clause-early g c = λ e refusal.
+    absurd (never _ e (was_offered (rules_of c.args.migrations.now) (answers_of c.args.migrations.now) c.args.now
+    (option_map (λ (n : Bor Name). n.now) c.args.busy) c.args.manifest.now c.args.app
+    g.D.Disk.told (g.D.Disk.medium c.args.disk.now) (g.D.Disk.medium c.begin_update.new.disk) c.args.root
+    c.in_ok-begun.begun c.in_ok-begun.ensures.begins c.in_ok-begun.ensures.staged c.in_ok-begun.ensures.image
     c.in-Ready.staged c.in-Ready.is) refusal)
 
 pub returns-in_err-next-in-Ready-clause-outside : goal.returns-in_err-next-in-Ready-clause-outside
-returns-in_err-next-in-Ready-clause-outside g c = leaves_led (rules_of c.args.migrations.now) (answers_of c.args.migrations.now) c.args.now (option_map (λ (n : Bor Name). n.now) c.args.busy) c.args.manifest.now c.args.app
-    g.D.Disk.told (g.D.Disk.medium c.args.disk.now) (g.D.Disk.medium c.begin_update.new.disk) c.args.root c.in_ok-begun.begun c.in_ok-begun.ensures.begins c.in_ok-begun.ensures.staged c.in_ok-begun.ensures.image
+returns-in_err-next-in-Ready-clause-outside g c = leaves_led (rules_of c.args.migrations.now)
+    (answers_of c.args.migrations.now) c.args.now (option_map (λ (n : Bor Name). n.now) c.args.busy) c.args.manifest.now
+    c.args.app
+    g.D.Disk.told (g.D.Disk.medium c.args.disk.now) (g.D.Disk.medium c.begin_update.new.disk) c.args.root
+    c.in_ok-begun.begun c.in_ok-begun.ensures.begins c.in_ok-begun.ensures.staged c.in_ok-begun.ensures.image
     c.in-Ready.staged c.in-Ready.is
-    (g.D.Disk.medium c.commit_update.new.disk) c.in_ok-begun.ensures.time c.in_err-next-in-Ready.ensures.time c.in_ok-begun.ensures.idle c.in_err-next-in-Ready.ensures.outside
+    (g.D.Disk.medium c.commit_update.new.disk) c.in_ok-begun.ensures.time c.in_err-next-in-Ready.ensures.time
+    c.in_ok-begun.ensures.idle c.in_err-next-in-Ready.ensures.outside
 
 pub returns-in_err-next-in-Ready-clause-any_moment : goal.returns-in_err-next-in-Ready-clause-any_moment
-returns-in_err-next-in-Ready-clause-any_moment g c = λ tells. leads_led (rules_of c.args.migrations.now) (answers_of c.args.migrations.now) c.args.now (option_map (λ (n : Bor Name). n.now) c.args.busy) c.args.manifest.now c.args.app
-    g.D.Disk.told (g.D.Disk.medium c.args.disk.now) (g.D.Disk.medium c.begin_update.new.disk) c.args.root c.in_ok-begun.begun c.in_ok-begun.ensures.begins c.in_ok-begun.ensures.staged c.in_ok-begun.ensures.image
+returns-in_err-next-in-Ready-clause-any_moment g c = λ tells.
+    leads_led (rules_of c.args.migrations.now) (answers_of c.args.migrations.now) c.args.now
+    (option_map (λ (n : Bor Name). n.now) c.args.busy) c.args.manifest.now c.args.app
+    g.D.Disk.told (g.D.Disk.medium c.args.disk.now) (g.D.Disk.medium c.begin_update.new.disk) c.args.root
+    c.in_ok-begun.begun c.in_ok-begun.ensures.begins c.in_ok-begun.ensures.staged c.in_ok-begun.ensures.image
     c.in-Ready.staged c.in-Ready.is
-    (g.D.Disk.medium c.commit_update.new.disk) c.in_ok-begun.ensures.time c.in_err-next-in-Ready.ensures.time c.in_ok-begun.ensures.idle
-    c.roots_in_use.ensures.app c.rows_lead_on.ensures.update c.untouched_stands.ensures.still c.requires.app c.requires.root tells (c.in_err-next-in-Ready.ensures.any_moment tells)
+    (g.D.Disk.medium c.commit_update.new.disk) c.in_ok-begun.ensures.time c.in_err-next-in-Ready.ensures.time
+    c.in_ok-begun.ensures.idle
+    c.roots_in_use.ensures.app c.rows_lead_on.ensures.update c.untouched_stands.ensures.still c.requires.app
+    c.requires.root tells (c.in_err-next-in-Ready.ensures.any_moment tells)
     _ (never_ok _ _ c.from_residual-in_err-next-in-Ready.ensures.0)
 
 pub returns-in_err-next-in-Ready-clause-device_only : goal.returns-in_err-next-in-Ready-clause-device_only
-returns-in_err-next-in-Ready-clause-device_only g c = λ err. was_offered (rules_of c.args.migrations.now) (answers_of c.args.migrations.now) c.args.now (option_map (λ (n : Bor Name). n.now) c.args.busy) c.args.manifest.now c.args.app
-    g.D.Disk.told (g.D.Disk.medium c.args.disk.now) (g.D.Disk.medium c.begin_update.new.disk) c.args.root c.in_ok-begun.begun c.in_ok-begun.ensures.begins c.in_ok-begun.ensures.staged c.in_ok-begun.ensures.image
+returns-in_err-next-in-Ready-clause-device_only g c = λ err.
+    was_offered (rules_of c.args.migrations.now) (answers_of c.args.migrations.now) c.args.now
+    (option_map (λ (n : Bor Name). n.now) c.args.busy) c.args.manifest.now c.args.app
+    g.D.Disk.told (g.D.Disk.medium c.args.disk.now) (g.D.Disk.medium c.begin_update.new.disk) c.args.root
+    c.in_ok-begun.begun c.in_ok-begun.ensures.begins c.in_ok-begun.ensures.staged c.in_ok-begun.ensures.image
     c.in-Ready.staged c.in-Ready.is
 
 pub returns-in_ok-next-in-Ready-clause-early : goal.returns-in_ok-next-in-Ready-clause-early
-returns-in_ok-next-in-Ready-clause-early g c = λ e refusal. absurd (never _ e (was_offered (rules_of c.args.migrations.now) (answers_of c.args.migrations.now) c.args.now (option_map (λ (n : Bor Name). n.now) c.args.busy) c.args.manifest.now c.args.app
-    g.D.Disk.told (g.D.Disk.medium c.args.disk.now) (g.D.Disk.medium c.begin_update.new.disk) c.args.root c.in_ok-begun.begun c.in_ok-begun.ensures.begins c.in_ok-begun.ensures.staged c.in_ok-begun.ensures.image
+returns-in_ok-next-in-Ready-clause-early g c = λ e refusal.
+    absurd (never _ e (was_offered (rules_of c.args.migrations.now) (answers_of c.args.migrations.now) c.args.now
+    (option_map (λ (n : Bor Name). n.now) c.args.busy) c.args.manifest.now c.args.app
+    g.D.Disk.told (g.D.Disk.medium c.args.disk.now) (g.D.Disk.medium c.begin_update.new.disk) c.args.root
+    c.in_ok-begun.begun c.in_ok-begun.ensures.begins c.in_ok-begun.ensures.staged c.in_ok-begun.ensures.image
     c.in-Ready.staged c.in-Ready.is) refusal)
 
 pub returns-in_ok-next-in-Ready-clause-outside : goal.returns-in_ok-next-in-Ready-clause-outside
-returns-in_ok-next-in-Ready-clause-outside g c = leaves_led (rules_of c.args.migrations.now) (answers_of c.args.migrations.now) c.args.now (option_map (λ (n : Bor Name). n.now) c.args.busy) c.args.manifest.now c.args.app
-    g.D.Disk.told (g.D.Disk.medium c.args.disk.now) (g.D.Disk.medium c.begin_update.new.disk) c.args.root c.in_ok-begun.begun c.in_ok-begun.ensures.begins c.in_ok-begun.ensures.staged c.in_ok-begun.ensures.image
+returns-in_ok-next-in-Ready-clause-outside g c = leaves_led (rules_of c.args.migrations.now)
+    (answers_of c.args.migrations.now) c.args.now (option_map (λ (n : Bor Name). n.now) c.args.busy) c.args.manifest.now
+    c.args.app
+    g.D.Disk.told (g.D.Disk.medium c.args.disk.now) (g.D.Disk.medium c.begin_update.new.disk) c.args.root
+    c.in_ok-begun.begun c.in_ok-begun.ensures.begins c.in_ok-begun.ensures.staged c.in_ok-begun.ensures.image
     c.in-Ready.staged c.in-Ready.is
-    (g.D.Disk.medium c.commit_update.new.disk) c.in_ok-begun.ensures.time c.in_ok-next-in-Ready.ensures.time c.in_ok-begun.ensures.idle c.in_ok-next-in-Ready.ensures.outside
+    (g.D.Disk.medium c.commit_update.new.disk) c.in_ok-begun.ensures.time c.in_ok-next-in-Ready.ensures.time
+    c.in_ok-begun.ensures.idle c.in_ok-next-in-Ready.ensures.outside
 
 pub returns-in_ok-next-in-Ready-clause-any_moment : goal.returns-in_ok-next-in-Ready-clause-any_moment
-returns-in_ok-next-in-Ready-clause-any_moment g c = λ tells. leads_led (rules_of c.args.migrations.now) (answers_of c.args.migrations.now) c.args.now (option_map (λ (n : Bor Name). n.now) c.args.busy) c.args.manifest.now c.args.app
-    g.D.Disk.told (g.D.Disk.medium c.args.disk.now) (g.D.Disk.medium c.begin_update.new.disk) c.args.root c.in_ok-begun.begun c.in_ok-begun.ensures.begins c.in_ok-begun.ensures.staged c.in_ok-begun.ensures.image
+returns-in_ok-next-in-Ready-clause-any_moment g c = λ tells.
+    leads_led (rules_of c.args.migrations.now) (answers_of c.args.migrations.now) c.args.now
+    (option_map (λ (n : Bor Name). n.now) c.args.busy) c.args.manifest.now c.args.app
+    g.D.Disk.told (g.D.Disk.medium c.args.disk.now) (g.D.Disk.medium c.begin_update.new.disk) c.args.root
+    c.in_ok-begun.begun c.in_ok-begun.ensures.begins c.in_ok-begun.ensures.staged c.in_ok-begun.ensures.image
     c.in-Ready.staged c.in-Ready.is
-    (g.D.Disk.medium c.commit_update.new.disk) c.in_ok-begun.ensures.time c.in_ok-next-in-Ready.ensures.time c.in_ok-begun.ensures.idle
-    c.roots_in_use.ensures.app c.rows_lead_on.ensures.update c.untouched_stands.ensures.still c.requires.app c.requires.root tells (c.in_ok-next-in-Ready.ensures.any_moment tells)
+    (g.D.Disk.medium c.commit_update.new.disk) c.in_ok-begun.ensures.time c.in_ok-next-in-Ready.ensures.time
+    c.in_ok-begun.ensures.idle
+    c.roots_in_use.ensures.app c.rows_lead_on.ensures.update c.untouched_stands.ensures.still c.requires.app
+    c.requires.root tells (c.in_ok-next-in-Ready.ensures.any_moment tells)
     _ (c.in_ok-next-in-Ready.ensures.app tells)
 
 pub returns-in_ok-next-in-Ready-clause-root : goal.returns-in_ok-next-in-Ready-clause-root
-returns-in_ok-next-in-Ready-clause-root g c = clause_of (rules_of c.args.migrations.now) (answers_of c.args.migrations.now) c.args.now (option_map (λ (n : Bor Name). n.now) c.args.busy) c.args.manifest.now c.args.app
-    g.D.Disk.told (g.D.Disk.medium c.args.disk.now) (g.D.Disk.medium c.begin_update.new.disk) c.args.root c.in_ok-begun.begun c.in_ok-begun.ensures.begins c.in_ok-begun.ensures.staged c.in_ok-begun.ensures.image
-    c.in-Ready.staged c.in-Ready.is (g.D.Disk.medium c.commit_update.new.disk) (λ (n : ℕ). RootAt g.D.Disk.told (g.D.Disk.medium c.commit_update.new.disk).image n c.in_ok-next-in-Ready.next) c.in_ok-next-in-Ready.ensures.root
+returns-in_ok-next-in-Ready-clause-root g c = clause_of (rules_of c.args.migrations.now)
+    (answers_of c.args.migrations.now) c.args.now (option_map (λ (n : Bor Name). n.now) c.args.busy) c.args.manifest.now
+    c.args.app
+    g.D.Disk.told (g.D.Disk.medium c.args.disk.now) (g.D.Disk.medium c.begin_update.new.disk) c.args.root
+    c.in_ok-begun.begun c.in_ok-begun.ensures.begins c.in_ok-begun.ensures.staged c.in_ok-begun.ensures.image
+    c.in-Ready.staged c.in-Ready.is (g.D.Disk.medium c.commit_update.new.disk)
+    (λ (n : ℕ). RootAt g.D.Disk.told (g.D.Disk.medium c.commit_update.new.disk).image n c.in_ok-next-in-Ready.next)
+    c.in_ok-next-in-Ready.ensures.root
 
 pub returns-in_ok-next-in-Ready-clause-updates : goal.returns-in_ok-next-in-Ready-clause-updates
-returns-in_ok-next-in-Ready-clause-updates g c = updated_so (rules_of c.args.migrations.now) (answers_of c.args.migrations.now) c.args.now (option_map (λ (n : Bor Name). n.now) c.args.busy) c.args.manifest.now c.args.app
-    g.D.Disk.told (g.D.Disk.medium c.args.disk.now) (g.D.Disk.medium c.begin_update.new.disk) c.args.root c.in_ok-begun.begun c.in_ok-begun.ensures.begins c.in_ok-begun.ensures.staged c.in_ok-begun.ensures.image
+returns-in_ok-next-in-Ready-clause-updates g c = updated_so (rules_of c.args.migrations.now)
+    (answers_of c.args.migrations.now) c.args.now (option_map (λ (n : Bor Name). n.now) c.args.busy) c.args.manifest.now
+    c.args.app
+    g.D.Disk.told (g.D.Disk.medium c.args.disk.now) (g.D.Disk.medium c.begin_update.new.disk) c.args.root
+    c.in_ok-begun.begun c.in_ok-begun.ensures.begins c.in_ok-begun.ensures.staged c.in_ok-begun.ensures.image
     c.in-Ready.staged c.in-Ready.is
-    (g.D.Disk.medium c.commit_update.new.disk) c.in_ok-next-in-Ready.next c.in_ok-next-in-Ready.ensures.says c.in_ok-next-in-Ready.ensures.app
+    (g.D.Disk.medium c.commit_update.new.disk) c.in_ok-next-in-Ready.next c.in_ok-next-in-Ready.ensures.says
+    c.in_ok-next-in-Ready.ensures.app
 
 pub returns-in_ok-next-in-Ready-clause-text : goal.returns-in_ok-next-in-Ready-clause-text
 returns-in_ok-next-in-Ready-clause-text g c = λ none. c.in_ok-next-in-Ready.ensures.text
-    ∙ ap (λ (t : List ℕ). t ∷ texts_in (root_in c.in-Ready.staged)) (c.in_ok-begun.ensures.text c.in-Ready.staged (ap Ok c.in-Ready.is))
-    ∙ ap (λ (r : Root). c.args.manifest.now ∷ texts_in r) (over_root (rules_of c.args.migrations.now) (answers_of c.args.migrations.now) c.args.now (option_map (λ (n : Bor Name). n.now) c.args.busy) c.args.manifest.now c.args.app
-    g.D.Disk.told (g.D.Disk.medium c.args.disk.now) (g.D.Disk.medium c.begin_update.new.disk) c.args.root c.in_ok-begun.begun c.in_ok-begun.ensures.begins c.in_ok-begun.ensures.staged c.in_ok-begun.ensures.image
+    ∙ ap (λ (t : List ℕ). t ∷ texts_in (root_in c.in-Ready.staged))
+    (c.in_ok-begun.ensures.text c.in-Ready.staged (ap Ok c.in-Ready.is))
+    ∙ ap (λ (r : Root). c.args.manifest.now ∷ texts_in r)
+    (over_root (rules_of c.args.migrations.now) (answers_of c.args.migrations.now) c.args.now
+    (option_map (λ (n : Bor Name). n.now) c.args.busy) c.args.manifest.now c.args.app
+    g.D.Disk.told (g.D.Disk.medium c.args.disk.now) (g.D.Disk.medium c.begin_update.new.disk) c.args.root
+    c.in_ok-begun.begun c.in_ok-begun.ensures.begins c.in_ok-begun.ensures.staged c.in_ok-begun.ensures.image
     c.in-Ready.staged c.in-Ready.is)
 
 pub returns-in_ok-next-in-Ready-clause-clean : goal.returns-in_ok-next-in-Ready-clause-clean
-returns-in_ok-next-in-Ready-clause-clean g c = λ tells clean. clause_of (rules_of c.args.migrations.now) (answers_of c.args.migrations.now) c.args.now (option_map (λ (n : Bor Name). n.now) c.args.busy) c.args.manifest.now c.args.app
-    g.D.Disk.told (g.D.Disk.medium c.args.disk.now) (g.D.Disk.medium c.begin_update.new.disk) c.args.root c.in_ok-begun.begun c.in_ok-begun.ensures.begins c.in_ok-begun.ensures.staged c.in_ok-begun.ensures.image
-    c.in-Ready.staged c.in-Ready.is (g.D.Disk.medium c.commit_update.new.disk) (λ (n : ℕ). IsCleanApp n (g.D.Disk.medium c.commit_update.new.disk).image)
-    (c.in_ok-next-in-Ready.ensures.clean tells (clause_from (rules_of c.args.migrations.now) (answers_of c.args.migrations.now) c.args.now (option_map (λ (n : Bor Name). n.now) c.args.busy) c.args.manifest.now c.args.app
-    g.D.Disk.told (g.D.Disk.medium c.args.disk.now) (g.D.Disk.medium c.begin_update.new.disk) c.args.root c.in_ok-begun.begun c.in_ok-begun.ensures.begins c.in_ok-begun.ensures.staged c.in_ok-begun.ensures.image
-    c.in-Ready.staged c.in-Ready.is (λ (n : ℕ). IsCleanApp n (g.D.Disk.medium c.begin_update.new.disk).image) (subst (λ (i : Image). IsCleanApp c.args.app i) (sym c.in_ok-begun.ensures.image) clean)))
+returns-in_ok-next-in-Ready-clause-clean g c = λ tells clean.
+    clause_of (rules_of c.args.migrations.now) (answers_of c.args.migrations.now) c.args.now
+    (option_map (λ (n : Bor Name). n.now) c.args.busy) c.args.manifest.now c.args.app
+    g.D.Disk.told (g.D.Disk.medium c.args.disk.now) (g.D.Disk.medium c.begin_update.new.disk) c.args.root
+    c.in_ok-begun.begun c.in_ok-begun.ensures.begins c.in_ok-begun.ensures.staged c.in_ok-begun.ensures.image
+    c.in-Ready.staged c.in-Ready.is (g.D.Disk.medium c.commit_update.new.disk)
+    (λ (n : ℕ). IsCleanApp n (g.D.Disk.medium c.commit_update.new.disk).image)
+    (c.in_ok-next-in-Ready.ensures.clean tells (clause_from (rules_of c.args.migrations.now)
+    (answers_of c.args.migrations.now) c.args.now (option_map (λ (n : Bor Name). n.now) c.args.busy)
+    c.args.manifest.now c.args.app
+    g.D.Disk.told (g.D.Disk.medium c.args.disk.now) (g.D.Disk.medium c.begin_update.new.disk) c.args.root
+    c.in_ok-begun.begun c.in_ok-begun.ensures.begins c.in_ok-begun.ensures.staged c.in_ok-begun.ensures.image
+    c.in-Ready.staged c.in-Ready.is (λ (n : ℕ). IsCleanApp n (g.D.Disk.medium c.begin_update.new.disk).image)
+    (subst (λ (i : Image). IsCleanApp c.args.app i) (sym c.in_ok-begun.ensures.image) clean)))
 
 pub returns-in_err-next-in-Ready-clause-root : goal.returns-in_err-next-in-Ready-clause-root
-returns-in_err-next-in-Ready-clause-root g c = none_ok c.from_residual-in_err-next-in-Ready.result c.in_err-next-in-Ready.field-0.0 c.from_residual-in_err-next-in-Ready.ensures.1 _
+returns-in_err-next-in-Ready-clause-root g c = none_ok c.from_residual-in_err-next-in-Ready.result
+    c.in_err-next-in-Ready.field-0.0 c.from_residual-in_err-next-in-Ready.ensures.1 _
 
 pub returns-in_err-next-in-Ready-clause-updates : goal.returns-in_err-next-in-Ready-clause-updates
-returns-in_err-next-in-Ready-clause-updates g c = none_ok c.from_residual-in_err-next-in-Ready.result c.in_err-next-in-Ready.field-0.0 c.from_residual-in_err-next-in-Ready.ensures.1 _
+returns-in_err-next-in-Ready-clause-updates g c = none_ok c.from_residual-in_err-next-in-Ready.result
+    c.in_err-next-in-Ready.field-0.0 c.from_residual-in_err-next-in-Ready.ensures.1 _
 
 pub returns-in_err-next-in-Ready-clause-text : goal.returns-in_err-next-in-Ready-clause-text
-returns-in_err-next-in-Ready-clause-text g c = none_ok c.from_residual-in_err-next-in-Ready.result c.in_err-next-in-Ready.field-0.0 c.from_residual-in_err-next-in-Ready.ensures.1 _
+returns-in_err-next-in-Ready-clause-text g c = none_ok c.from_residual-in_err-next-in-Ready.result
+    c.in_err-next-in-Ready.field-0.0 c.from_residual-in_err-next-in-Ready.ensures.1 _
 
 pub returns-in_err-next-in-Ready-clause-clean : goal.returns-in_err-next-in-Ready-clause-clean
-returns-in_err-next-in-Ready-clause-clean g c = λ tells clean. not_ok c.from_residual-in_err-next-in-Ready.result c.in_err-next-in-Ready.field-0.0 c.from_residual-in_err-next-in-Ready.ensures.1 _
+returns-in_err-next-in-Ready-clause-clean g c = λ tells clean.
+    not_ok c.from_residual-in_err-next-in-Ready.result c.in_err-next-in-Ready.field-0.0
+    c.from_residual-in_err-next-in-Ready.ensures.1 _
 
 pub returns-in_err-next-in-Ready-clause-quiet : goal.returns-in_err-next-in-Ready-clause-quiet
-returns-in_err-next-in-Ready-clause-quiet g c = λ quiet. not_ok c.from_residual-in_err-next-in-Ready.result c.in_err-next-in-Ready.field-0.0 c.from_residual-in_err-next-in-Ready.ensures.1 _
+returns-in_err-next-in-Ready-clause-quiet g c = λ quiet.
+    not_ok c.from_residual-in_err-next-in-Ready.result c.in_err-next-in-Ready.field-0.0
+    c.from_residual-in_err-next-in-Ready.ensures.1 _
 
 pub returns-in_err-next-in-Ready-clause-unchanged : goal.returns-in_err-next-in-Ready-clause-unchanged
-returns-in_err-next-in-Ready-clause-unchanged g c = none_ok c.from_residual-in_err-next-in-Ready.result c.in_err-next-in-Ready.field-0.0 c.from_residual-in_err-next-in-Ready.ensures.1 _
+returns-in_err-next-in-Ready-clause-unchanged g c = none_ok c.from_residual-in_err-next-in-Ready.result
+    c.in_err-next-in-Ready.field-0.0 c.from_residual-in_err-next-in-Ready.ensures.1 _
 
 pub returns-in_err-next-in-Ready-clause-due : goal.returns-in_err-next-in-Ready-clause-due
-returns-in_err-next-in-Ready-clause-due g c = λ e refusal none. absurd (never _ e (was_offered (rules_of c.args.migrations.now) (answers_of c.args.migrations.now) c.args.now (option_map (λ (n : Bor Name). n.now) c.args.busy) c.args.manifest.now c.args.app
-    g.D.Disk.told (g.D.Disk.medium c.args.disk.now) (g.D.Disk.medium c.begin_update.new.disk) c.args.root c.in_ok-begun.begun c.in_ok-begun.ensures.begins c.in_ok-begun.ensures.staged c.in_ok-begun.ensures.image
+returns-in_err-next-in-Ready-clause-due g c = λ e refusal none.
+    absurd (never _ e (was_offered (rules_of c.args.migrations.now) (answers_of c.args.migrations.now) c.args.now
+    (option_map (λ (n : Bor Name). n.now) c.args.busy) c.args.manifest.now c.args.app
+    g.D.Disk.told (g.D.Disk.medium c.args.disk.now) (g.D.Disk.medium c.begin_update.new.disk) c.args.root
+    c.in_ok-begun.begun c.in_ok-begun.ensures.begins c.in_ok-begun.ensures.staged c.in_ok-begun.ensures.image
     c.in-Ready.staged c.in-Ready.is) refusal)
 
 pub returns-in_err-next-in-Ready-clause-cause : goal.returns-in_err-next-in-Ready-clause-cause
-returns-in_err-next-in-Ready-clause-cause g c = λ err. subst (λ (n : ℕ). Rose n (g.D.Disk.medium c.commit_update.new.disk).faults) c.in_ok-begun.ensures.passes
-    (c.in_err-next-in-Ready.ensures.cause (same_error c.from_residual-in_err-next-in-Ready.result c.in_err-next-in-Ready.field-0.0 c.from_residual-in_err-next-in-Ready.ensures.1 _ err))
+returns-in_err-next-in-Ready-clause-cause g c = λ err.
+    subst (λ (n : ℕ). Rose n (g.D.Disk.medium c.commit_update.new.disk).faults) c.in_ok-begun.ensures.passes
+    (c.in_err-next-in-Ready.ensures.cause (same_error c.from_residual-in_err-next-in-Ready.result
+    c.in_err-next-in-Ready.field-0.0 c.from_residual-in_err-next-in-Ready.ensures.1 _ err))
 
 pub returns-in_err-next-in-Ready-clause-passes : goal.returns-in_err-next-in-Ready-clause-passes
-returns-in_err-next-in-Ready-clause-passes g c = not_ok c.from_residual-in_err-next-in-Ready.result c.in_err-next-in-Ready.field-0.0 c.from_residual-in_err-next-in-Ready.ensures.1 _
+returns-in_err-next-in-Ready-clause-passes g c = not_ok c.from_residual-in_err-next-in-Ready.result
+    c.in_err-next-in-Ready.field-0.0 c.from_residual-in_err-next-in-Ready.ensures.1 _
 
 pub returns-in_err-next-in-Ready-clause-fed : goal.returns-in_err-next-in-Ready-clause-fed
-returns-in_err-next-in-Ready-clause-fed g c = λ err. c.in_err-next-in-Ready.ensures.fed (same_error c.from_residual-in_err-next-in-Ready.result c.in_err-next-in-Ready.field-0.0 c.from_residual-in_err-next-in-Ready.ensures.1 _ err) ∙ c.in_ok-begun.ensures.passes
+returns-in_err-next-in-Ready-clause-fed g c = λ err. c.in_err-next-in-Ready.ensures.fed
+    (same_error c.from_residual-in_err-next-in-Ready.result c.in_err-next-in-Ready.field-0.0
+    c.from_residual-in_err-next-in-Ready.ensures.1 _ err) ∙ c.in_ok-begun.ensures.passes
 
 pub returns-in_err-next-in-Ready-clause-time : goal.returns-in_err-next-in-Ready-clause-time
 returns-in_err-next-in-Ready-clause-time g c = elapses_on c.in_ok-begun.ensures.time c.in_err-next-in-Ready.ensures.time

@@ -7,7 +7,8 @@ use Rattle.deploy.proofs.writing.read_version.Goals as goal
 
 pub returns-in-Err-Rejected-clause-told : goal.returns-in-Err-Rejected-clause-told
 returns-in-Err-Rejected-clause-told c =
-    told_refused c.args.manifest.now c.in-Err-Rejected.field-0 c.in-Err-Rejected.rule c.in-Err-Rejected.field-0-is c.in-Err-Rejected.ensures.rejected c.in-Err-Rejected.ensures.unsaid
+    told_refused c.args.manifest.now c.in-Err-Rejected.field-0 c.in-Err-Rejected.rule c.in-Err-Rejected.field-0-is
+    c.in-Err-Rejected.ensures.rejected c.in-Err-Rejected.ensures.unsaid
     ∙ ap (λ (n : ℕ). Err (ManifestRejected n)) (sym c.in-Err-Rejected.rule-is)
 
 pub returns-clause-told : goal.returns-clause-told

@@ -1,4 +1,5 @@
-use Rattle.deploy_laws.proofs.Refusals.{old_bank_touched, old_version_lost, other_root, root_gone, root_raised, root_too_early, storage_strays}
+use Rattle.deploy_laws.proofs.Refusals.{old_bank_touched, old_version_lost, other_root, root_gone, root_raised}
+use Rattle.deploy_laws.proofs.Refusals.{root_too_early, storage_strays}
 use Rattle.deploy_laws.proofs.laws.outcomes_are_refused.Goals as goal
 
 pub returns-clause-root_gone : goal.returns-clause-root_gone

@@ -1,4 +1,5 @@
-use Rattle.deploy_rows.proofs.Later.{later_finish, later_install, later_reopened, later_rollback, later_update, later_wipe}
+use Rattle.deploy_rows.proofs.Later.{later_finish, later_install, later_reopened, later_rollback, later_update}
+use Rattle.deploy_rows.proofs.Later.{later_wipe}
 use Rattle.deploy_rows.proofs.laws.rows_lead_on.Goals as goal
 
 pub returns-clause-install : goal.returns-clause-install

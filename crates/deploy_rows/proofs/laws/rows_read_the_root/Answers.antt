@@ -1,4 +1,5 @@
-use Rattle.deploy_rows.proofs.Alike.{finish_refuses, finish_says, install_refuses, install_says, offer_refuses, rollback_refuses, rollback_says, wipe_refuses, wipe_says}
+use Rattle.deploy_rows.proofs.Alike.{finish_refuses, finish_says, install_refuses, install_says, offer_refuses}
+use Rattle.deploy_rows.proofs.Alike.{rollback_refuses, rollback_says, wipe_refuses, wipe_says}
 use Rattle.deploy_rows.proofs.laws.rows_read_the_root.Goals as goal
 
 pub returns-clause-install : goal.returns-clause-install

@@ -9,19 +9,29 @@ use Rattle.deploy_tests.proofs.storages.stored.Goals as goal
 pub shape_of-requires-then-eq-clause-config : goal.shape_of-requires-then-eq-clause-config
 shape_of-requires-then-eq-clause-config c =
     let within : c.loop-config.config-index < length c.in-Installed.root.active.deployment.storages =
-    subst (λ (ds : List StorageConfig). c.loop-config.config-index < length ds) c.as_slice-config-items.ensures c.loop-config-test.true in
-    let here : c.config-item.result ≡ get_or c.in-Installed.root.active.deployment.storages c.loop-config.config-index c.config-item.result =
-    subst (λ (ds : List StorageConfig). c.config-item.result ≡ get_or ds c.loop-config.config-index c.config-item.result) c.as_slice-config-items.ensures c.config-item.is in
-    let kept : IsRootOf c.args.app (Installed c.in-Installed.root) = subst (λ (r : Root). IsRootOf c.args.app r) c.in-Installed.is c.in_ok-root.ensures.root.memory in
+    subst (λ (ds : List StorageConfig). c.loop-config.config-index < length ds) c.as_slice-config-items.ensures
+    c.loop-config-test.true in
+    let here : c.config-item.result ≡ get_or c.in-Installed.root.active.deployment.storages c.loop-config.config-index
+    c.config-item.result =
+    subst (λ (ds : List StorageConfig). c.config-item.result
+    ≡ get_or ds c.loop-config.config-index c.config-item.result) c.as_slice-config-items.ensures c.config-item.is
+    in
+    let kept : IsRootOf c.args.app (Installed c.in-Installed.root) =
+    subst (λ (r : Root). IsRootOf c.args.app r) c.in-Installed.is c.in_ok-root.ensures.root.memory in
     storage_of c.in-Installed.root.active.deployment c.loop-config.config-index c.config-item.result
     kept.1.active.keeps within here
 
 pub worded-requires-clause-config : goal.worded-requires-clause-config
 worded-requires-clause-config c =
     let within : c.loop-config.config-index < length c.in-Installed.root.active.deployment.storages =
-    subst (λ (ds : List StorageConfig). c.loop-config.config-index < length ds) c.as_slice-config-items.ensures c.loop-config-test.true in
-    let here : c.config-item.result ≡ get_or c.in-Installed.root.active.deployment.storages c.loop-config.config-index c.config-item.result =
-    subst (λ (ds : List StorageConfig). c.config-item.result ≡ get_or ds c.loop-config.config-index c.config-item.result) c.as_slice-config-items.ensures c.config-item.is in
-    let kept : IsRootOf c.args.app (Installed c.in-Installed.root) = subst (λ (r : Root). IsRootOf c.args.app r) c.in-Installed.is c.in_ok-root.ensures.root.memory in
+    subst (λ (ds : List StorageConfig). c.loop-config.config-index < length ds) c.as_slice-config-items.ensures
+    c.loop-config-test.true in
+    let here : c.config-item.result ≡ get_or c.in-Installed.root.active.deployment.storages c.loop-config.config-index
+    c.config-item.result =
+    subst (λ (ds : List StorageConfig). c.config-item.result
+    ≡ get_or ds c.loop-config.config-index c.config-item.result) c.as_slice-config-items.ensures c.config-item.is
+    in
+    let kept : IsRootOf c.args.app (Installed c.in-Installed.root) =
+    subst (λ (r : Root). IsRootOf c.args.app r) c.in-Installed.is c.in_ok-root.ensures.root.memory in
     storage_of c.in-Installed.root.active.deployment c.loop-config.config-index c.config-item.result
     kept.1.active.keeps within here

@@ -5,4 +5,5 @@ use Rattle.disk_model.proofs.history.replay_torn.Given as goal
 abbrev pub invariant-loop-call : goal.invariant-loop-call
 invariant-loop-call l =
     (l.i ≤ l.call-index)
-    × (torn_after l.pattern l.i (drop l.call-index l.calls) (image_of l.files) ≡ torn_after l.pattern 0 l.calls (image_of l.initial.files))
+    × (torn_after l.pattern l.i (drop l.call-index l.calls) (image_of l.files)
+    ≡ torn_after l.pattern 0 l.calls (image_of l.initial.files))

@@ -10,10 +10,13 @@ loop-i-preserved c =
     let more = one_more calls c.loop-i.i c.index-calls-i.result c.loop-i-test.true c.index-calls-i.is in
     elim c.match-call.branch [
       | in-Sync w ↦
-          let len : length (take (c.loop-i.i + 1) calls) ≡ c.match-call.count = length-take-le (c.loop-i.i + 1) calls (omega arith) ∙ sym w.count-is in
+          let len : length (take (c.loop-i.i + 1) calls) ≡ c.match-call.count =
+          length-take-le (c.loop-i.i + 1) calls (omega arith) ∙ sym w.count-is in
           subst (λ n. IsSynced (take (c.loop-i.i + 1) calls) n) len
-          (closed (take c.loop-i.i calls) (take (c.loop-i.i + 1) calls) (more ∙ ap (λ call. take c.loop-i.i calls ++ (call ∷ [])) w.in-Sync.is))
+          (closed (take c.loop-i.i calls) (take (c.loop-i.i + 1) calls)
+          (more ∙ ap (λ call. take c.loop-i.i calls ++ (call ∷ [])) w.in-Sync.is))
       | in_default w ↦
           subst (λ n. IsSynced (take (c.loop-i.i + 1) calls) n) (sym w.count-is)
-          (stays_open (take c.loop-i.i calls) c.loop-i.count c.index-calls-i.result (take (c.loop-i.i + 1) calls) w.in_default.not-Sync more c.loop-i.invariant)
+          (stays_open (take c.loop-i.i calls) c.loop-i.count c.index-calls-i.result (take (c.loop-i.i + 1) calls)
+          w.in_default.not-Sync more c.loop-i.invariant)
     ]

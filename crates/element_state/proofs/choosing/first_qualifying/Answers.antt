@@ -15,7 +15,8 @@ use Rattle.element_state.proofs.choosing.first_qualifying.Goals as goal
 pub try_text-requires-clause-fit : goal.try_text-requires-clause-fit
 try_text-requires-clause-fit g c =
     let x = c.index-texts-at.result in
-    subst (IsFit c.args.shape.now) (sym c.index-texts-at.is) (all_at (IsFit c.args.shape.now) c.args.texts.now c.loop-at.at x c.requires.fit c.loop-at-test.true)
+    subst (IsFit c.args.shape.now) (sym c.index-texts-at.is)
+    (all_at (IsFit c.args.shape.now) c.args.texts.now c.loop-at.at x c.requires.fit c.loop-at-test.true)
 
 pub try_text-requires-clause-held : goal.try_text-requires-clause-held
 try_text-requires-clause-held g c = λ tells.
@@ -23,7 +24,8 @@ try_text-requires-clause-held g c = λ tells.
     let old = (g.D.Disk.medium c.args.disk.now).image in
     let x = c.index-texts-at.result in
     subst (λ (image : Image). IsHeldOn image shape x) (sym c.loop-at.invariant.disk.reads.image)
-    (subst (IsHeldOn old shape) (sym c.index-texts-at.is) (all_at (IsHeldOn old shape) c.args.texts.now c.loop-at.at x (c.requires.held tells) c.loop-at-test.true))
+    (subst (IsHeldOn old shape) (sym c.index-texts-at.is)
+    (all_at (IsHeldOn old shape) c.args.texts.now c.loop-at.at x (c.requires.held tells) c.loop-at-test.true))
 
 pub returns-in-Some-clause-first : goal.returns-in-Some-clause-first
 returns-in-Some-clause-first g c = λ tells d.
@@ -32,10 +34,17 @@ returns-in-Some-clause-first g c = λ tells d.
     let mid = (g.D.Disk.medium c.loop-at.disk).image in
     let x = c.index-texts-at.result in
     let is = c.index-texts-at.is ∙ get_or_default c.args.texts.now c.loop-at.at x d c.loop-at-test.true in
-    let some = subst (λ (o : Option (Sequence Entry)). IsTried mid shape x o) c.in-Some.is (c.in_ok-tried.ensures.tried tells) in
-    let tried = subst (λ (image : Image). IsTried image shape x (Some c.in-Some.entries)) c.loop-at.invariant.disk.reads.image some in
-    let here = subst (λ (t : FitText). (qualifies old shape t ≡ true) × (c.in-Some.entries ≡ entries_of old shape t)) is tried in
-    (found_at (qualifies old shape) c.args.texts.now c.loop-at.at d c.loop-at-test.true (c.loop-at.invariant.none tells) here.0, here.1)
+    let some = subst (λ (o : Option (Sequence Entry)). IsTried mid shape x o) c.in-Some.is
+    (c.in_ok-tried.ensures.tried tells) in
+    let tried = subst (λ (image : Image). IsTried image shape x (Some c.in-Some.entries))
+    c.loop-at.invariant.disk.reads.image some in
+    let here = subst (λ (t : FitText). (qualifies old shape t ≡ true) × (c.in-Some.entries ≡ entries_of old shape t)) is
+    tried in (
+      found_at (qualifies old shape) c.args.texts.now c.loop-at.at d c.loop-at-test.true
+          (c.loop-at.invariant.none tells)
+          here.0,
+      here.1,
+    )
 
 pub returns-in-Some-clause-among : goal.returns-in-Some-clause-among
 returns-in-Some-clause-among g c =
@@ -45,7 +54,8 @@ returns-in-Some-clause-among g c =
       λ d. (
           let is = c.index-texts-at.is ∙ get_or_default c.args.texts.now c.loop-at.at x d c.loop-at-test.true in
           subst (λ (t : FitText). AllZip (IsReadBy n) t.1.entries c.in-Some.entries) is
-          (subst (λ (o : Option (Sequence Entry)). IfSome o (λ es. AllZip (IsReadBy n) x.1.entries es)) c.in-Some.is c.in_ok-tried.ensures.read)),
+          (subst (λ (o : Option (Sequence Entry)). IfSome o (λ es. AllZip (IsReadBy n) x.1.entries es)) c.in-Some.is
+          c.in_ok-tried.ensures.read)),
     )
 
 pub loop-at-preserved : goal.loop-at-preserved
@@ -55,10 +65,13 @@ loop-at-preserved g c =
     let mid = (g.D.Disk.medium c.loop-at.disk).image in
     let x = c.index-texts-at.result in
     record {
-      disk = read_on c.loop-at.invariant.disk c.try_text.ensures.reads c.try_text.ensures.time c.in_ok-tried.ensures.passes;
+      disk = read_on c.loop-at.invariant.disk c.try_text.ensures.reads c.try_text.ensures.time
+          c.in_ok-tried.ensures.passes;
       none = λ tells. (
-          let none = subst (λ (o : Option (Sequence Entry)). IsTried mid shape x o) c.in_default.is (c.in_ok-tried.ensures.tried tells) in
+          let none = subst (λ (o : Option (Sequence Entry)). IsTried mid shape x o) c.in_default.is
+          (c.in_ok-tried.ensures.tried tells) in
           let fails = subst (λ (image : Image). IsTried image shape x None) c.loop-at.invariant.disk.reads.image none in
-          none_more (qualifies old shape) c.args.texts.now c.loop-at.at x c.loop-at-test.true (c.loop-at.invariant.none tells)
+          none_more (qualifies old shape) c.args.texts.now c.loop-at.at x c.loop-at-test.true
+          (c.loop-at.invariant.none tells)
           (ap (qualifies old shape) (sym c.index-texts-at.is) ∙ fails));
     }

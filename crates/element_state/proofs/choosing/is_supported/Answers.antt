@@ -17,7 +17,8 @@ count_whole-requires-clause-vouched g c = λ tells.
     let shape = c.args.shape.now in
     let entries = c.args.index.now.entries in
     subst (λ (l : List IndexEntry). AllZip (Vouches image shape.place) l c.args.entries.now) (sym c.as_slice.ensures)
-    (subst (λ (v : List Entry). AllZip (Vouches image shape.place) entries v) (sym (c.requires.views tells)) (all_vouched image shape.place shape.m entries))
+    (subst (λ (v : List Entry). AllZip (Vouches image shape.place) entries v) (sym (c.requires.views tells))
+    (all_vouched image shape.place shape.m entries))
 
 pub returns-in_ok-whole-in-Storage-clause-qualifies : goal.returns-in_ok-whole-in-Storage-clause-qualifies
 returns-in_ok-whole-in-Storage-clause-qualifies g c = λ tells.
@@ -26,6 +27,7 @@ returns-in_ok-whole-in-Storage-clause-qualifies g c = λ tells.
     let text : FitText = (c.args.seen.now, c.args.index.now) in
     ap (λ (n : ℕ). nat_le shape.m n)
     (c.in_ok-whole-in-Storage.ensures.count tells
-    ∙ ap (λ (es : List IndexEntry). length (copies_that (is_whole_of image shape.place c.args.seen.now.copies es) shape.place.copies)) c.as_slice.ensures
+    ∙ ap (λ (es : List IndexEntry). length (copies_that (is_whole_of image shape.place c.args.seen.now.copies es)
+    shape.place.copies)) c.as_slice.ensures
     ∙ ap length (all_alike image shape.place text (c.requires.held tells)))
     ∙ ap (λ (s : Scope). nat_le shape.m (length (supporters s image shape.place text))) (sym c.in-Storage.is)

@@ -15,10 +15,12 @@ pub read_entries-requires-clause-blocks : goal.read_entries-requires-clause-bloc
 read_entries-requires-clause-blocks g c =
     let index = c.args.text.now.1 in
     subst (AllByRecursion HasBlocks) (sym c.as_slice-2.ensures)
-    (all_less (IsEntry index.format index.kind) HasBlocks (λ e is. is.blocks) index.entries c.requires.fit.index.rules.each)
+    (all_less (IsEntry index.format index.kind) HasBlocks (λ e is. is.blocks) index.entries
+    c.requires.fit.index.rules.each)
 
 pub is_supported-requires-clause-length : goal.is_supported-requires-clause-length
 is_supported-requires-clause-length g c =
     ap length c.deref.ensures.value
-    ∙ length_zip (IsReadBy c.args.shape.now.place.copies) c.as_slice-2.result.now c.in_ok-entries.entries.items c.in_ok-entries.ensures.read
+    ∙ length_zip (IsReadBy c.args.shape.now.place.copies) c.as_slice-2.result.now c.in_ok-entries.entries.items
+    c.in_ok-entries.ensures.read
     ∙ ap length c.as_slice-2.ensures

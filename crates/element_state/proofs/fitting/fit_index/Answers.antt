@@ -7,7 +7,8 @@ pub returns-then-fits-clause-index : goal.returns-then-fits-clause-index
 returns-then-fits-clause-index c =
     let shape = c.args.shape.now in
     let i = c.in-Ok.index in
-    sym (fit_index_by shape c.args.text.now (Some i) c.in-Ok.ensures.read ∙ if_fits_yes shape i (sym c.fits.ensures ∙ c.if-fits.true))
+    sym (fit_index_by shape c.args.text.now (Some i) c.in-Ok.ensures.read
+    ∙ if_fits_yes shape i (sym c.fits.ensures ∙ c.if-fits.true))
 
 pub returns-then-fits-clause-spelled : goal.returns-then-fits-clause-spelled
 returns-then-fits-clause-spelled c =
@@ -18,14 +19,18 @@ returns-then-fits-clause-spelled c =
       rules = c.in-Ok.ensures.rules.0;
       in_range = c.in-Ok.ensures.rules.1;
       fits = sym c.fits.ensures ∙ c.if-fits.true;
-      fit = fit_index_by shape c.args.text.now (Some i) c.in-Ok.ensures.read ∙ if_fits_yes shape i (sym c.fits.ensures ∙ c.if-fits.true);
+      fit = fit_index_by shape c.args.text.now (Some i) c.in-Ok.ensures.read
+          ∙ if_fits_yes shape i (sym c.fits.ensures ∙ c.if-fits.true);
     }
 
 pub returns-else-fits-clause-index : goal.returns-else-fits-clause-index
 returns-else-fits-clause-index c =
     let shape = c.args.shape.now in
     let i = c.in-Ok.index in
-    sym (fit_index_by shape c.args.text.now (Some i) c.in-Ok.ensures.read ∙ if_fits_no shape i (sym c.fits.ensures ∙ c.if-fits.false))
+    sym (fit_index_by shape c.args.text.now (Some i) c.in-Ok.ensures.read
+    ∙ if_fits_no shape i (sym c.fits.ensures ∙ c.if-fits.false))
 
 pub returns-in-Err-NotAnIndex-clause-index : goal.returns-in-Err-NotAnIndex-clause-index
-returns-in-Err-NotAnIndex-clause-index c = sym (fit_index_by c.args.shape.now c.args.text.now None (subst (λ e. Refuses e (index_of c.args.text.now)) c.in-Err-NotAnIndex.field-0-is c.in-Err-NotAnIndex.ensures.read))
+returns-in-Err-NotAnIndex-clause-index c = sym (fit_index_by c.args.shape.now c.args.text.now None
+    (subst (λ e. Refuses e (index_of c.args.text.now)) c.in-Err-NotAnIndex.field-0-is
+    c.in-Err-NotAnIndex.ensures.read))

@@ -1,4 +1,5 @@
-use Rattle.std.proofs.Common.{◌≡◌, ℕ, List, Option, IfSome, [], ◌∷◌, ◌++◌, Some, None, sym, ap, subst, ◌∙◌, append_assoc, append-nil, arith}
+use Rattle.std.proofs.Common.{◌≡◌, ℕ, List, Option, IfSome, [], ◌∷◌, ◌++◌, Some, None, sym, ap, subst, ◌∙◌}
+use Rattle.std.proofs.Common.{append_assoc, append-nil, arith}
 use Rattle.std.specs.List.{AllByRecursion}
 use Rattle.std.proofs.lemmas.List.{nil_from_length}
 use Rattle.guarded_cell.specs.declared.looking.Seen.{Seen}
@@ -13,7 +14,8 @@ loop-seen-init c =
     let shape = c.args.shape.now in
     record {
       texts = ap (fit_among shape) (sym c.into_iter-seen-iterator.ensures.into_iter_gives.0)
-          ∙ ap (λ (l : List FitText). l ++ fit_among shape c.into_iter-seen-iterator.result.rest.items) (sym c.new-texts.ensures.items);
+          ∙ ap (λ (l : List FitText). l ++ fit_among shape c.into_iter-seen-iterator.result.rest.items)
+          (sym c.new-texts.ensures.items);
       fit = subst (AllByRecursion (λ (t : FitText). IsFitIndex shape t.0.text t.1)) (sym c.new-texts.ensures.items) tt;
     }
 
@@ -24,7 +26,8 @@ loop-seen-preserved-in-Continue-branch-3 c =
     let index = c.in-Some-2.index in
     let rest = c.next.new.self.rest.items in
     let texts = c.loop-seen.texts.items in
-    let fit : fit_index shape seen.text ≡ Some index = ap (fit_index shape) (sym c.as_slice.ensures) ∙ sym c.in_ok-index.ensures.index ∙ c.in-Some-2.is in
+    let fit : fit_index shape seen.text ≡ Some index = ap (fit_index shape) (sym c.as_slice.ensures)
+    ∙ sym c.in_ok-index.ensures.index ∙ c.in-Some-2.is in
     let new : FitText = (seen, index) in
     record {
       texts = c.loop-seen.invariant.texts
@@ -35,7 +38,8 @@ loop-seen-preserved-in-Continue-branch-3 c =
       fit = subst (AllByRecursion (λ (t : FitText). IsFitIndex shape t.0.text t.1)) (sym c.in_ok-push.ensures.items)
           (all_push (λ (t : FitText). IsFitIndex shape t.0.text t.1) texts new c.loop-seen.invariant.fit
           (subst (λ (text : List ℕ). IsFitIndex shape text index) c.as_slice.ensures
-          (subst (λ (o : Option Index). IfSome o (λ i. IsFitIndex shape c.as_slice.result.now i)) c.in-Some-2.is c.in_ok-index.ensures.spelled)));
+          (subst (λ (o : Option Index). IfSome o (λ i. IsFitIndex shape c.as_slice.result.now i)) c.in-Some-2.is
+          c.in_ok-index.ensures.spelled)));
     }
 
 pub loop-seen-preserved : goal.loop-seen-preserved
@@ -43,7 +47,8 @@ loop-seen-preserved c =
     let shape = c.args.shape.now in
     let seen = c.in-Some.seen in
     let texts = c.loop-seen.texts.items in
-    let none : fit_index shape seen.text ≡ None = ap (fit_index shape) (sym c.as_slice.ensures) ∙ sym c.in_ok-index.ensures.index ∙ c.in_default.is in
+    let none : fit_index shape seen.text ≡ None = ap (fit_index shape) (sym c.as_slice.ensures)
+    ∙ sym c.in_ok-index.ensures.index ∙ c.in_default.is in
     record {
       texts = c.loop-seen.invariant.texts
           ∙ ap (λ (l : List Seen). texts ++ fit_among shape l) c.in-Some.ensures.steps.0

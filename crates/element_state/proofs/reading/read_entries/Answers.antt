@@ -14,13 +14,15 @@ loop-entry-init g c = record {
 }
 
 pub returns-in_err-view-clause-reads : goal.returns-in_err-view-clause-reads
-returns-in_err-view-clause-reads g c = reads_on c.loop-entry.invariant.disk.time c.loop-entry.invariant.disk.reads c.read_entry.ensures.time c.read_entry.ensures.reads
+returns-in_err-view-clause-reads g c = reads_on c.loop-entry.invariant.disk.time c.loop-entry.invariant.disk.reads
+    c.read_entry.ensures.time c.read_entry.ensures.reads
 
 pub returns-in_err-view-clause-time : goal.returns-in_err-view-clause-time
 returns-in_err-view-clause-time g c = elapses_on c.loop-entry.invariant.disk.time c.read_entry.ensures.time
 
 pub returns-in_err-push-clause-reads : goal.returns-in_err-push-clause-reads
-returns-in_err-push-clause-reads g c = reads_on c.loop-entry.invariant.disk.time c.loop-entry.invariant.disk.reads c.read_entry.ensures.time c.read_entry.ensures.reads
+returns-in_err-push-clause-reads g c = reads_on c.loop-entry.invariant.disk.time c.loop-entry.invariant.disk.reads
+    c.read_entry.ensures.time c.read_entry.ensures.reads
 
 pub returns-in_err-push-clause-time : goal.returns-in_err-push-clause-time
 returns-in_err-push-clause-time g c = elapses_on c.loop-entry.invariant.disk.time c.read_entry.ensures.time
@@ -32,17 +34,22 @@ loop-entry-preserved g c =
     let i = c.loop-entry.entry-index in
     let here : i < length entries = omega (arith, c.loop-entry-test.true) in
     record {
-      disk = read_on c.loop-entry.invariant.disk c.read_entry.ensures.reads c.read_entry.ensures.time c.in_ok-view.ensures.passes;
+      disk = read_on c.loop-entry.invariant.disk c.read_entry.ensures.reads c.read_entry.ensures.time
+          c.in_ok-view.ensures.passes;
       views = λ tells.
           c.in_ok-push.ensures.items
-          ∙ map_push (entry_view old.image c.args.place c.args.m) entries c.loop-entry.views.items i c.entry-item.result c.in_ok-view.view here c.entry-item.is
+          ∙ map_push (entry_view old.image c.args.place c.args.m) entries c.loop-entry.views.items i c.entry-item.result
+          c.in_ok-view.view here c.entry-item.is
           (c.loop-entry.invariant.views tells)
-          (c.in_ok-view.ensures.view tells ∙ ap (λ image. entry_view image c.args.place c.args.m c.entry-item.result) c.loop-entry.invariant.disk.reads.image);
+          (c.in_ok-view.ensures.view tells ∙ ap (λ image. entry_view image c.args.place c.args.m c.entry-item.result)
+          c.loop-entry.invariant.disk.reads.image);
       read = subst (AllZip (IsReadBy c.args.place.copies) (take (i + 1) entries)) (sym c.in_ok-push.ensures.items)
-          (zip_more (IsReadBy c.args.place.copies) entries c.loop-entry.views.items i c.entry-item.result c.in_ok-view.view here c.entry-item.is
+          (zip_more (IsReadBy c.args.place.copies) entries c.loop-entry.views.items i c.entry-item.result
+          c.in_ok-view.view here c.entry-item.is
           c.loop-entry.invariant.read c.in_ok-view.ensures.read);
     }
 
 pub read_entry-requires-clause-blocks : goal.read_entry-requires-clause-blocks
 read_entry-requires-clause-blocks g c =
-    subst HasBlocks (sym c.entry-item.is) (all_at HasBlocks c.args.entries.now c.loop-entry.entry-index c.entry-item.result c.requires.blocks c.loop-entry-test.true)
+    subst HasBlocks (sym c.entry-item.is) (all_at HasBlocks c.args.entries.now c.loop-entry.entry-index
+    c.entry-item.result c.requires.blocks c.loop-entry-test.true)

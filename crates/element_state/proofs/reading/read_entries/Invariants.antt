@@ -8,6 +8,7 @@ use Rattle.element_state.proofs.reading.read_entries.Given as goal
 abbrev pub invariant-loop-entry : goal.invariant-loop-entry
 invariant-loop-entry g l = record {
   disk : IsRead (g.D.Disk.medium l.fn.disk) (g.D.Disk.medium l.disk);
-  views : IsTrue g.D.Disk.told → l.views.items ≡ map (entry_view (g.D.Disk.medium l.fn.disk).image l.place l.m) (take l.entry-index l.entries);
+  views : IsTrue g.D.Disk.told → l.views.items ≡ map (entry_view (g.D.Disk.medium l.fn.disk).image l.place l.m)
+      (take l.entry-index l.entries);
   read : AllZip (IsReadBy l.place.copies) (take l.entry-index l.entries) l.views.items;
 }

@@ -7,6 +7,7 @@ use Rattle.element_state.proofs.supporting.count_whole.Given as goal
 abbrev pub invariant-loop-copy : goal.invariant-loop-copy
 invariant-loop-copy g l = record {
   disk : IsRead (g.D.Disk.medium l.fn.disk) (g.D.Disk.medium l.disk);
-  count : IsTrue g.D.Disk.told → l.count ≡ length (copies_that (is_whole_of (g.D.Disk.medium l.fn.disk).image l.place l.holders l.entries) l.copy);
+  count : IsTrue g.D.Disk.told → l.count ≡ length (copies_that
+      (is_whole_of (g.D.Disk.medium l.fn.disk).image l.place l.holders l.entries) l.copy);
   few : l.count ≤ l.copy;
 }

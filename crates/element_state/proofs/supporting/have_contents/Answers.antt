@@ -12,8 +12,10 @@ has_content-requires-clause-vouched g c = λ tells.
     let i = c.loop-i.i in
     let e = c.index-entries-i.result in
     let f = c.index-views-i.result in
-    let there = zip_at (Vouches old c.args.place) c.args.entries.now c.args.views.now i e f (c.requires.vouched tells) c.loop-i-test.true in
+    let there = zip_at (Vouches old c.args.place) c.args.entries.now c.args.views.now i e f (c.requires.vouched tells)
+    c.loop-i-test.true in
     let P : IndexEntry → Type 0 = λ x. Vouches old c.args.place x (get_or c.args.views.now i f) in
     let Q : Entry → Type 0 = λ y. Vouches old c.args.place e y in
     let R : Image → Type 0 = λ image. Vouches image c.args.place e f in
-    subst R (sym c.loop-i.invariant.disk.reads.image) (subst Q (sym c.index-views-i.is) (subst P (sym c.index-entries-i.is) there))
+    subst R (sym c.loop-i.invariant.disk.reads.image) (subst Q (sym c.index-views-i.is)
+    (subst P (sym c.index-entries-i.is) there))

@@ -7,5 +7,6 @@ use Rattle.element_state.proofs.supporting.have_contents.Given as goal
 abbrev pub invariant-loop-i : goal.invariant-loop-i
 invariant-loop-i g l = record {
   disk : IsRead (g.D.Disk.medium l.fn.disk) (g.D.Disk.medium l.disk);
-  all : IsTrue g.D.Disk.told → list_all (λ e. counts (g.D.Disk.medium l.fn.disk).image l.place e l.copy) (take l.i l.entries) ≡ true;
+  all : IsTrue g.D.Disk.told → list_all (λ e. counts (g.D.Disk.medium l.fn.disk).image l.place e l.copy)
+      (take l.i l.entries) ≡ true;
 }

@@ -6,7 +6,8 @@ use Rattle.element_state.specs.Fit.{FitText, fit_texts}
 use Rattle.element_state.specs.States.{store_at, salvage_of}
 use Rattle.element_state.specs.Chosen.{IsFit, IsFitIndex, opened_of}
 use Rattle.element_state.specs.Surveys.{IsHeldOn}
-use Rattle.element_state.proofs.Finding.{all_rec, both_all, fit_all, fit_held, fit_texts_among, survey_opened, survey_salvaged}
+use Rattle.element_state.proofs.Finding.{all_rec, both_all, fit_all, fit_held, fit_texts_among, survey_opened}
+use Rattle.element_state.proofs.Finding.{survey_salvaged}
 use Rattle.element_state.proofs.surveying.survey.Goals as goal
 
 pub choose-requires-clause-fit : goal.choose-requires-clause-fit
@@ -42,11 +43,13 @@ returns-clause-opened g c = λ tells.
     let shape = c.args.shape.now in
     let new = (g.D.Disk.medium c.look.new.disk).image in
     ap (λ (image : Image). opened_of (store_at image shape)) (sym c.look.ensures.image)
-    ∙ survey_opened new shape c.in_ok-found.found (c.in_ok-found.ensures.chosen tells) (c.in_ok-found.ensures.viewed tells)
+    ∙ survey_opened new shape c.in_ok-found.found (c.in_ok-found.ensures.chosen tells)
+    (c.in_ok-found.ensures.viewed tells)
 
 pub returns-clause-salvaged : goal.returns-clause-salvaged
 returns-clause-salvaged g c = λ tells.
     let shape = c.args.shape.now in
     let new = (g.D.Disk.medium c.look.new.disk).image in
     ap (λ (image : Image). salvage_of (store_at image shape)) (sym c.look.ensures.image)
-    ∙ survey_salvaged new shape c.in_ok-found.found (c.in_ok-found.ensures.chosen tells) (c.in_ok-found.ensures.viewed tells)
+    ∙ survey_salvaged new shape c.in_ok-found.found (c.in_ok-found.ensures.chosen tells)
+    (c.in_ok-found.ensures.viewed tells)

@@ -19,21 +19,28 @@ loop-change-init c =
     let index = c.args.standing.index.now in
     let views = c.args.standing.entries.now in
     let start = planned_start c.args.standing.kind index views c.args.used.now c.requires.standing in
-    let one = subst (λ (js : List Job). IsPlanned c.args.standing.kind index views c.args.used.now c.args.used.now index views js) (sym c.new-jobs.ensures.items) start in
-    let two = subst (λ (es : List IndexEntry). IsPlanned c.args.standing.kind index views c.args.used.now c.args.used.now es views c.new-jobs.result.items) (sym c.in_ok-entries.ensures.copies) one in
-    let cost : jobs_cost c.new-jobs.result.items ≤ 0 = subst (λ (js : List Job). jobs_cost js ≤ 0) (sym c.new-jobs.ensures.items) (omega arith) in
+    let one = subst (λ (js : List Job). IsPlanned c.args.standing.kind index views c.args.used.now c.args.used.now index
+    views js) (sym c.new-jobs.ensures.items) start in
+    let two = subst (λ (es : List IndexEntry). IsPlanned c.args.standing.kind index views c.args.used.now
+    c.args.used.now es views c.new-jobs.result.items) (sym c.in_ok-entries.ensures.copies) one in
+    let cost : jobs_cost c.new-jobs.result.items ≤ 0 = subst (λ (js : List Job). jobs_cost js ≤ 0)
+    (sym c.new-jobs.ensures.items) (omega arith) in
     let room = c.in_ok-entries.ensures.room in
-    let traced : IsTraced index c.args.used.now c.args.used.now [] index = record { others = λ name apart. refl; grown = λ b is. inl is } in
+    let traced : IsTraced index c.args.used.now c.args.used.now [] index =
+    record { others = λ name apart. refl; grown = λ b is. inl is } in
     let same : IsTraced index c.args.used.now c.args.used.now [] c.in_ok-entries.entries.items =
-    subst (λ (es : List IndexEntry). IsTraced index c.args.used.now c.args.used.now [] es) (sym c.in_ok-entries.ensures.copies) traced in
+    subst (λ (es : List IndexEntry). IsTraced index c.args.used.now c.args.used.now [] es)
+    (sym c.in_ok-entries.ensures.copies) traced in
     (two, c.requires.standing, omega arith, cost, same, omega (arith, room))
 
-more : (changes : List Change) (i : ℕ) (change : Change) → take (i + 1) changes ≡ take i changes ++ change ∷ [] → (f : Change → ℕ) → sum_by f (take (i + 1) changes) ≡ sum_by f (take i changes) + f change
+more : (changes : List Change) (i : ℕ) (change : Change) → take (i + 1) changes ≡ take i changes ++ change ∷ []
+    → (f : Change → ℕ) → sum_by f (take (i + 1) changes) ≡ sum_by f (take i changes) + f change
 more changes i change is f = ap (sum_by f) is ∙ sum_push f (take i changes) change
 
 pub plan_change-requires-clause-free : goal.plan_change-requires-clause-free
 plan_change-requires-clause-free c =
-    let is = take_more c.args.changes.now c.loop-change.change-index c.change-item.result (omega arith) ∙ ap (λ (x : Change). take c.loop-change.change-index c.args.changes.now ++ x ∷ []) (sym c.change-item.is) in
+    let is = take_more c.args.changes.now c.loop-change.change-index c.change-item.result (omega arith)
+    ∙ ap (λ (x : Change). take c.loop-change.change-index c.args.changes.now ++ x ∷ []) (sym c.change-item.is) in
     let next = more c.args.changes.now c.loop-change.change-index c.change-item.result is change_blocks in
     let all = sum_take change_blocks (c.loop-change.change-index + 1) c.args.changes.now in
     let free = c.requires.free in
@@ -47,10 +54,13 @@ loop-change-preserved c =
     let views = c.args.standing.entries.now in
     let generation = c.args.standing.generation in
     let before = take c.loop-change.change-index c.args.changes.now in
-    let is = take_more c.args.changes.now c.loop-change.change-index c.change-item.result (omega arith) ∙ ap (λ (x : Change). take c.loop-change.change-index c.args.changes.now ++ x ∷ []) (sym c.change-item.is) in
-    let after : after_changes generation views (take (c.loop-change.change-index + 1) c.args.changes.now) ≡ after_change generation (after_changes generation views before) c.change-item.result =
+    let is = take_more c.args.changes.now c.loop-change.change-index c.change-item.result (omega arith)
+    ∙ ap (λ (x : Change). take c.loop-change.change-index c.args.changes.now ++ x ∷ []) (sym c.change-item.is) in
+    let after : after_changes generation views (take (c.loop-change.change-index + 1) c.args.changes.now)
+    ≡ after_change generation (after_changes generation views before) c.change-item.result =
     ap (after_changes generation views) is ∙ fold_push (after_change generation) views before c.change-item.result in
-    let planned = c.in_ok-plan_change.ensures.planned c.args.used.now (after_changes generation views before) c.loop-change.invariant.0 in
+    let planned = c.in_ok-plan_change.ensures.planned c.args.used.now (after_changes generation views before)
+    c.loop-change.invariant.0 in
     let blocks = more c.args.changes.now c.loop-change.change-index c.change-item.result is change_blocks in
     let costs = more c.args.changes.now c.loop-change.change-index c.change-item.result is (change_cost kind views) in
     let free = c.in_ok-plan_change.ensures.free in
@@ -59,14 +69,19 @@ loop-change-preserved c =
     let one_more = c.in_ok-plan_change.ensures.one_more in
     let left = c.loop-change.invariant.2 in
     let spent = c.loop-change.invariant.3 in
-    let apart = names_apart c.args.changes.now c.loop-change.change-index c.change-item.result c.requires.apart (omega arith) c.change-item.is in
-    let traced = traced_more index c.loop-change.plan.entries.items c.plan_change.new.plan.entries.items c.args.used.now c.loop-change.used c.plan_change.new.used before c.change-item.result
-    apart c.loop-change.invariant.0.ascend c.loop-change.invariant.0.taken c.loop-change.invariant.4 c.in_ok-plan_change.ensures.others c.in_ok-plan_change.ensures.grown in
+    let apart = names_apart c.args.changes.now c.loop-change.change-index c.change-item.result c.requires.apart
+    (omega arith) c.change-item.is in
+    let traced = traced_more index c.loop-change.plan.entries.items c.plan_change.new.plan.entries.items c.args.used.now
+    c.loop-change.used c.plan_change.new.used before c.change-item.result
+    apart c.loop-change.invariant.0.ascend c.loop-change.invariant.0.taken c.loop-change.invariant.4
+    c.in_ok-plan_change.ensures.others c.in_ok-plan_change.ensures.grown in
     let room = c.loop-change.invariant.5 in (
-      subst (λ (fs : List Entry). IsPlanned kind index views c.args.used.now c.plan_change.new.used c.plan_change.new.plan.entries.items fs c.plan_change.new.plan.jobs.items) (sym after) planned,
+      subst (λ (fs : List Entry). IsPlanned kind index views c.args.used.now c.plan_change.new.used
+          c.plan_change.new.plan.entries.items fs c.plan_change.new.plan.jobs.items) (sym after) planned,
       c.in_ok-plan_change.ensures.standing,
       omega (arith, blocks, free, left),
       omega (arith, costs, cost, spent),
-      subst (λ (done : List Change). IsTraced index c.args.used.now c.plan_change.new.used done c.plan_change.new.plan.entries.items) (sym is) traced,
+      subst (λ (done : List Change). IsTraced index c.args.used.now c.plan_change.new.used done
+          c.plan_change.new.plan.entries.items) (sym is) traced,
       omega (arith, capacity, one_more, room),
     )

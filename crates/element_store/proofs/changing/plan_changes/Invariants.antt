@@ -13,6 +13,7 @@ invariant-loop-change l =
     (after_changes l.standing.generation l.standing.entries.now (take l.change-index l.changes)) l.plan.jobs.items
     × IsStanding l.standing.kind l.used l.standing.index.now l.standing.entries.now
     × (free_of l.fn.used ≤ free_of l.used + blocks_of_changes (take l.change-index l.changes))
-    × (jobs_cost l.plan.jobs.items ≤ sum_by (change_cost l.standing.kind l.standing.entries.now) (take l.change-index l.changes))
+    × (jobs_cost l.plan.jobs.items ≤ sum_by (change_cost l.standing.kind l.standing.entries.now)
+    (take l.change-index l.changes))
     × IsTraced l.standing.index.now l.fn.used l.used (take l.change-index l.changes) l.plan.entries.items
     × (vec_len l.plan.entries + length l.changes ≤ vec_capacity l.plan.entries + l.change-index)

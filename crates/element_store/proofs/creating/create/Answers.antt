@@ -12,7 +12,9 @@ use Rattle.element_store.specs.Plans.{IsMade, blocks_of_all}
 use Rattle.element_store.specs.Spelled.{IsTextOf, ShowsFresh}
 use Rattle.element_store.proofs.Ruled.{blocks_enough}
 use Rattle.element_store.proofs.RebuiltKept.{anew_opens, contents_elsewhere, index_elsewhere}
-use Rattle.element_store.proofs.GivenUp.{kept_names_nothing, untorn_sound, still_untorn, given_up_outside, given_up_untorn, put_elsewhere, put_outside, put_untorn, made_outside, made_untorn, most_kept, most_put, made_written, most_made}
+use Rattle.element_store.proofs.GivenUp.{kept_names_nothing, untorn_sound, still_untorn, given_up_outside}
+use Rattle.element_store.proofs.GivenUp.{given_up_untorn, put_elsewhere, put_outside, put_untorn, made_outside}
+use Rattle.element_store.proofs.GivenUp.{made_untorn, most_kept, most_put, made_written, most_made}
 use Rattle.element_store.proofs.Taken.{taken_below, taken_area}
 use Rattle.element_store.proofs.Created.{created_clean, created_used, created_shows}
 use Rattle.element_store.proofs.creating.create.Goals as goal
@@ -20,38 +22,54 @@ use Rattle.element_store.proofs.creating.create.Goals as goal
 pub put_contents-requires-clause-free : goal.put_contents-requires-clause-free
 put_contents-requires-clause-free g c =
     let enough = blocks_enough c.args.shape c.args.contents.items c.requires.contents in
-    let e : blocks_of_all c.deref.result.now ≡ blocks_of_all c.args.contents.items = ap (λ (fs : List Fresh). blocks_of_all fs) c.deref.ensures.value in
+    let e : blocks_of_all c.deref.result.now ≡ blocks_of_all c.args.contents.items =
+    ap (λ (fs : List Fresh). blocks_of_all fs) c.deref.ensures.value in
     let free = c.in_ok-used.ensures.free in
     let many = c.blocks_in_area.ensures in
     omega (arith, enough, e, free, many)
 
 pub blocks_taken_by-requires : goal.blocks_taken_by-requires
 blocks_taken_by-requires g c =
-    taken_below c.args.shape c.in_ok-spelled.spelled.text c.in_ok-spelled.spelled.index c.as_slice.result.now c.blocks_in_area-2.result c.in_ok-spelled.ensures.fit c.as_slice.ensures c.blocks_in_area-2.ensures
+    taken_below c.args.shape c.in_ok-spelled.spelled.text c.in_ok-spelled.spelled.index c.as_slice.result.now
+    c.blocks_in_area-2.result c.in_ok-spelled.ensures.fit c.as_slice.ensures c.blocks_in_area-2.ensures
 
 pub format_cell-requires : goal.format_cell-requires
 format_cell-requires g c =
     let fit = c.in_ok-spelled.ensures.fit in
-    let short = text_is_short c.args.shape.kind c.args.shape.allowed c.in_ok-spelled.spelled.index fit.rules fit.fits c.requires.shape.small in
+    let short = text_is_short c.args.shape.kind c.args.shape.allowed c.in_ok-spelled.spelled.index fit.rules fit.fits
+    c.requires.shape.small in
     let a = ap length c.as_slice-2.ensures in
     let b = ap length fit.spelled in
     omega (arith, short, a, b)
 
 pub returns-clause-clean : goal.returns-clause-clean
-returns-clause-clean g c = λ tells. created_clean g.D.Disk.told (g.D.Disk.medium c.put_contents.new.disk).image (g.D.Disk.medium c.format_cell.new.disk).image
-    c.args.shape 1 c.deref.result.now c.in_ok-cell.cell c.in_ok-spelled.spelled.index c.as_slice-2.result.now c.requires.shape c.in_ok-cell.ensures.cell
-    (subst (λ (t : List ℕ). IsTextOf c.args.shape t c.in_ok-spelled.spelled.index) (sym c.as_slice-2.ensures) c.in_ok-spelled.ensures.fit)
+returns-clause-clean g c = λ tells. created_clean g.D.Disk.told (g.D.Disk.medium c.put_contents.new.disk).image
+    (g.D.Disk.medium c.format_cell.new.disk).image
+    c.args.shape 1 c.deref.result.now c.in_ok-cell.cell c.in_ok-spelled.spelled.index c.as_slice-2.result.now
+    c.requires.shape c.in_ok-cell.ensures.cell
+    (subst (λ (t : List ℕ). IsTextOf c.args.shape t c.in_ok-spelled.spelled.index) (sym c.as_slice-2.ensures)
+    c.in_ok-spelled.ensures.fit)
     c.in_ok-cell.ensures.held c.in_ok-cell.ensures.elsewhere c.in_ok-spelled.ensures.shown tells
 
 pub returns-clause-used : goal.returns-clause-used
 returns-clause-used g c =
     let P : List Fresh → Type 0 = λ fs. AllZip (IsMade 1) fs c.in_ok-spelled.spelled.index.entries in
-    let Q : List Fresh → Type 0 = λ fs. IsTrue g.D.Disk.told → ShowsFresh (g.D.Disk.medium c.put_contents.new.disk).image c.args.shape.place c.args.shape.m 1 fs c.in_ok-spelled.spelled.index.entries in
-    created_used g.D.Disk.told (g.D.Disk.medium c.put_contents.new.disk).image (g.D.Disk.medium c.format_cell.new.disk).image
-    c.args.shape 1 c.args.contents.items c.in_ok-cell.cell c.in_ok-spelled.spelled.index c.as_slice-2.result.now c.requires.shape c.in_ok-cell.ensures.cell
-    (subst (λ (t : List ℕ). IsTextOf c.args.shape t c.in_ok-spelled.spelled.index) (sym c.as_slice-2.ensures) c.in_ok-spelled.ensures.fit)
-    c.in_ok-cell.ensures.held c.in_ok-cell.ensures.elsewhere (subst Q c.deref.ensures.value c.in_ok-spelled.ensures.shown)
-    c.args.alloc c.in_ok-entries.entries c.in_ok-taken.taken (taken_area c.args.shape c.in_ok-spelled.spelled.index c.as_slice.result.now c.blocks_in_area-2.result c.in_ok-taken.taken c.as_slice.ensures c.blocks_in_area-2.ensures c.in_ok-taken.ensures) (subst P c.deref.ensures.value c.in_ok-spelled.ensures.made) c.in_ok-entries.ensures (omega arith) c.new-2.result c.new-2.ensures
+    let Q : List Fresh → Type 0 = λ fs. IsTrue g.D.Disk.told
+    → ShowsFresh (g.D.Disk.medium c.put_contents.new.disk).image c.args.shape.place c.args.shape.m 1 fs
+    c.in_ok-spelled.spelled.index.entries in
+    created_used g.D.Disk.told (g.D.Disk.medium c.put_contents.new.disk).image
+    (g.D.Disk.medium c.format_cell.new.disk).image
+    c.args.shape 1 c.args.contents.items c.in_ok-cell.cell c.in_ok-spelled.spelled.index c.as_slice-2.result.now
+    c.requires.shape c.in_ok-cell.ensures.cell
+    (subst (λ (t : List ℕ). IsTextOf c.args.shape t c.in_ok-spelled.spelled.index) (sym c.as_slice-2.ensures)
+    c.in_ok-spelled.ensures.fit)
+    c.in_ok-cell.ensures.held c.in_ok-cell.ensures.elsewhere
+    (subst Q c.deref.ensures.value c.in_ok-spelled.ensures.shown)
+    c.args.alloc c.in_ok-entries.entries c.in_ok-taken.taken
+    (taken_area c.args.shape c.in_ok-spelled.spelled.index c.as_slice.result.now c.blocks_in_area-2.result
+    c.in_ok-taken.taken c.as_slice.ensures c.blocks_in_area-2.ensures c.in_ok-taken.ensures)
+    (subst P c.deref.ensures.value c.in_ok-spelled.ensures.made) c.in_ok-entries.ensures (omega arith)
+    c.new-2.result c.new-2.ensures
 
 pub returns-clause-format : goal.returns-clause-format
 returns-clause-format g c = ap (λ (s : Store). s.index.format) c.new-2.ensures ∙ c.in_ok-spelled.ensures.format
@@ -59,169 +77,291 @@ returns-clause-format g c = ap (λ (s : Store). s.index.format) c.new-2.ensures 
 pub returns-clause-view : goal.returns-clause-view
 returns-clause-view g c =
     let P : List Fresh → Type 0 = λ fs. AllZip (IsMade 1) fs c.in_ok-spelled.spelled.index.entries in
-    let Q : List Fresh → Type 0 = λ fs. IsTrue g.D.Disk.told → ShowsFresh (g.D.Disk.medium c.put_contents.new.disk).image c.args.shape.place c.args.shape.m 1 fs c.in_ok-spelled.spelled.index.entries in
-    created_shows g.D.Disk.told (g.D.Disk.medium c.put_contents.new.disk).image (g.D.Disk.medium c.format_cell.new.disk).image
-    c.args.shape 1 c.args.contents.items c.in_ok-cell.cell c.in_ok-spelled.spelled.index c.as_slice-2.result.now c.requires.shape c.in_ok-cell.ensures.cell
-    (subst (λ (t : List ℕ). IsTextOf c.args.shape t c.in_ok-spelled.spelled.index) (sym c.as_slice-2.ensures) c.in_ok-spelled.ensures.fit)
-    c.in_ok-cell.ensures.held c.in_ok-cell.ensures.elsewhere (subst Q c.deref.ensures.value c.in_ok-spelled.ensures.shown)
-    c.args.alloc c.in_ok-entries.entries c.in_ok-taken.taken (taken_area c.args.shape c.in_ok-spelled.spelled.index c.as_slice.result.now c.blocks_in_area-2.result c.in_ok-taken.taken c.as_slice.ensures c.blocks_in_area-2.ensures c.in_ok-taken.ensures) (subst P c.deref.ensures.value c.in_ok-spelled.ensures.made) c.in_ok-entries.ensures (omega arith) c.new-2.result c.new-2.ensures
+    let Q : List Fresh → Type 0 = λ fs. IsTrue g.D.Disk.told
+    → ShowsFresh (g.D.Disk.medium c.put_contents.new.disk).image c.args.shape.place c.args.shape.m 1 fs
+    c.in_ok-spelled.spelled.index.entries in
+    created_shows g.D.Disk.told (g.D.Disk.medium c.put_contents.new.disk).image
+    (g.D.Disk.medium c.format_cell.new.disk).image
+    c.args.shape 1 c.args.contents.items c.in_ok-cell.cell c.in_ok-spelled.spelled.index c.as_slice-2.result.now
+    c.requires.shape c.in_ok-cell.ensures.cell
+    (subst (λ (t : List ℕ). IsTextOf c.args.shape t c.in_ok-spelled.spelled.index) (sym c.as_slice-2.ensures)
+    c.in_ok-spelled.ensures.fit)
+    c.in_ok-cell.ensures.held c.in_ok-cell.ensures.elsewhere
+    (subst Q c.deref.ensures.value c.in_ok-spelled.ensures.shown)
+    c.args.alloc c.in_ok-entries.entries c.in_ok-taken.taken
+    (taken_area c.args.shape c.in_ok-spelled.spelled.index c.as_slice.result.now c.blocks_in_area-2.result
+    c.in_ok-taken.taken c.as_slice.ensures c.blocks_in_area-2.ensures c.in_ok-taken.ensures)
+    (subst P c.deref.ensures.value c.in_ok-spelled.ensures.made) c.in_ok-entries.ensures (omega arith)
+    c.new-2.result c.new-2.ensures
 
 pub returns-in_err-keep_only-clause-elsewhere : goal.returns-in_err-keep_only-clause-elsewhere
-returns-in_err-keep_only-clause-elsewhere g c = λ tells f out. c.in_err-keep_only.ensures.elsewhere tells f (outside_no_slot c.args.shape.place.first c.args.shape.place.copies f out)
+returns-in_err-keep_only-clause-elsewhere g c = λ tells f out.
+    c.in_err-keep_only.ensures.elsewhere tells f (outside_no_slot c.args.shape.place.first c.args.shape.place.copies f
+    out)
 
 pub returns-in_err-keep_only-clause-outside : goal.returns-in_err-keep_only-clause-outside
-returns-in_err-keep_only-clause-outside g c = λ tells quiet. given_up_outside c.args.shape.place [] (g.D.Disk.medium c.args.disk.now) (g.D.Disk.medium c.keep_only.new.disk) c.in_err-keep_only.ensures.time (c.in_err-keep_only.ensures.any_moment tells quiet)
+returns-in_err-keep_only-clause-outside g c = λ tells quiet.
+    given_up_outside c.args.shape.place [] (g.D.Disk.medium c.args.disk.now) (g.D.Disk.medium c.keep_only.new.disk)
+    c.in_err-keep_only.ensures.time (c.in_err-keep_only.ensures.any_moment tells quiet)
 
 pub returns-in_err-keep_only-clause-untorn : goal.returns-in_err-keep_only-clause-untorn
-returns-in_err-keep_only-clause-untorn g c = λ tells quiet. given_up_untorn c.args.shape.place [] (g.D.Disk.medium c.args.disk.now) (g.D.Disk.medium c.keep_only.new.disk) c.in_err-keep_only.ensures.time (c.in_err-keep_only.ensures.any_moment tells quiet)
+returns-in_err-keep_only-clause-untorn g c = λ tells quiet.
+    given_up_untorn c.args.shape.place [] (g.D.Disk.medium c.args.disk.now) (g.D.Disk.medium c.keep_only.new.disk)
+    c.in_err-keep_only.ensures.time (c.in_err-keep_only.ensures.any_moment tells quiet)
 
 pub returns-in_err-spelled-clause-elsewhere : goal.returns-in_err-spelled-clause-elsewhere
-returns-in_err-spelled-clause-elsewhere g c = λ tells. contents_elsewhere c.args.shape.place.first c.args.shape.place.copies [] (g.D.Disk.medium c.args.disk.now) (g.D.Disk.medium c.keep_only.new.disk) (g.D.Disk.medium c.put_contents.new.disk) c.in_ok-keep_only.ensures.time c.in_err-spelled.ensures.time
+returns-in_err-spelled-clause-elsewhere g c = λ tells.
+    contents_elsewhere c.args.shape.place.first c.args.shape.place.copies [] (g.D.Disk.medium c.args.disk.now)
+    (g.D.Disk.medium c.keep_only.new.disk) (g.D.Disk.medium c.put_contents.new.disk) c.in_ok-keep_only.ensures.time
+    c.in_err-spelled.ensures.time
     (c.in_ok-keep_only.ensures.elsewhere tells) (c.in_err-spelled.ensures.elsewhere tells)
 
 pub returns-in_err-spelled-clause-outside : goal.returns-in_err-spelled-clause-outside
-returns-in_err-spelled-clause-outside g c = λ tells quiet. put_outside c.args.shape.place _ (g.D.Disk.medium c.args.disk.now) (g.D.Disk.medium c.keep_only.new.disk) c.in_ok-keep_only.ensures.time (c.in_ok-keep_only.ensures.any_moment tells quiet)
-    (c.in_ok-keep_only.ensures.elsewhere tells) c.in_ok-keep_only.ensures.quiet (g.D.Disk.medium c.put_contents.new.disk) c.in_err-spelled.ensures.time (c.in_err-spelled.ensures.elsewhere tells) _ c.in_err-spelled.ensures.during
+returns-in_err-spelled-clause-outside g c = λ tells quiet.
+    put_outside c.args.shape.place _ (g.D.Disk.medium c.args.disk.now) (g.D.Disk.medium c.keep_only.new.disk)
+    c.in_ok-keep_only.ensures.time (c.in_ok-keep_only.ensures.any_moment tells quiet)
+    (c.in_ok-keep_only.ensures.elsewhere tells) c.in_ok-keep_only.ensures.quiet
+    (g.D.Disk.medium c.put_contents.new.disk) c.in_err-spelled.ensures.time
+    (c.in_err-spelled.ensures.elsewhere tells) _ c.in_err-spelled.ensures.during
 
 pub returns-in_err-spelled-clause-untorn : goal.returns-in_err-spelled-clause-untorn
-returns-in_err-spelled-clause-untorn g c = λ tells quiet. put_untorn c.args.shape.place _ (g.D.Disk.medium c.args.disk.now) (g.D.Disk.medium c.keep_only.new.disk) c.in_ok-keep_only.ensures.time (c.in_ok-keep_only.ensures.any_moment tells quiet)
-    (c.in_ok-keep_only.ensures.elsewhere tells) c.in_ok-keep_only.ensures.quiet (g.D.Disk.medium c.put_contents.new.disk) c.in_err-spelled.ensures.time (c.in_err-spelled.ensures.elsewhere tells) _ c.in_err-spelled.ensures.during
+returns-in_err-spelled-clause-untorn g c = λ tells quiet.
+    put_untorn c.args.shape.place _ (g.D.Disk.medium c.args.disk.now) (g.D.Disk.medium c.keep_only.new.disk)
+    c.in_ok-keep_only.ensures.time (c.in_ok-keep_only.ensures.any_moment tells quiet)
+    (c.in_ok-keep_only.ensures.elsewhere tells) c.in_ok-keep_only.ensures.quiet
+    (g.D.Disk.medium c.put_contents.new.disk) c.in_err-spelled.ensures.time
+    (c.in_err-spelled.ensures.elsewhere tells) _ c.in_err-spelled.ensures.during
     (kept_names_nothing c.args.shape.place _ _ (c.in_ok-keep_only.ensures.alone tells))
 
 pub returns-in_err-taken-clause-elsewhere : goal.returns-in_err-taken-clause-elsewhere
-returns-in_err-taken-clause-elsewhere g c = λ tells. contents_elsewhere c.args.shape.place.first c.args.shape.place.copies [] (g.D.Disk.medium c.args.disk.now) (g.D.Disk.medium c.keep_only.new.disk) (g.D.Disk.medium c.put_contents.new.disk) c.in_ok-keep_only.ensures.time c.in_ok-spelled.ensures.time
+returns-in_err-taken-clause-elsewhere g c = λ tells. contents_elsewhere c.args.shape.place.first
+    c.args.shape.place.copies [] (g.D.Disk.medium c.args.disk.now) (g.D.Disk.medium c.keep_only.new.disk)
+    (g.D.Disk.medium c.put_contents.new.disk) c.in_ok-keep_only.ensures.time c.in_ok-spelled.ensures.time
     (c.in_ok-keep_only.ensures.elsewhere tells) (c.in_ok-spelled.ensures.elsewhere tells)
 
 pub returns-in_err-taken-clause-outside : goal.returns-in_err-taken-clause-outside
-returns-in_err-taken-clause-outside g c = λ tells quiet. put_outside c.args.shape.place _ (g.D.Disk.medium c.args.disk.now) (g.D.Disk.medium c.keep_only.new.disk) c.in_ok-keep_only.ensures.time (c.in_ok-keep_only.ensures.any_moment tells quiet)
-    (c.in_ok-keep_only.ensures.elsewhere tells) c.in_ok-keep_only.ensures.quiet (g.D.Disk.medium c.put_contents.new.disk) c.in_ok-spelled.ensures.time (c.in_ok-spelled.ensures.elsewhere tells) _ c.in_ok-spelled.ensures.during
+returns-in_err-taken-clause-outside g c = λ tells quiet.
+    put_outside c.args.shape.place _ (g.D.Disk.medium c.args.disk.now) (g.D.Disk.medium c.keep_only.new.disk)
+    c.in_ok-keep_only.ensures.time (c.in_ok-keep_only.ensures.any_moment tells quiet)
+    (c.in_ok-keep_only.ensures.elsewhere tells) c.in_ok-keep_only.ensures.quiet
+    (g.D.Disk.medium c.put_contents.new.disk) c.in_ok-spelled.ensures.time (c.in_ok-spelled.ensures.elsewhere tells)
+    _ c.in_ok-spelled.ensures.during
 
 pub returns-in_err-taken-clause-untorn : goal.returns-in_err-taken-clause-untorn
-returns-in_err-taken-clause-untorn g c = λ tells quiet. put_untorn c.args.shape.place _ (g.D.Disk.medium c.args.disk.now) (g.D.Disk.medium c.keep_only.new.disk) c.in_ok-keep_only.ensures.time (c.in_ok-keep_only.ensures.any_moment tells quiet)
-    (c.in_ok-keep_only.ensures.elsewhere tells) c.in_ok-keep_only.ensures.quiet (g.D.Disk.medium c.put_contents.new.disk) c.in_ok-spelled.ensures.time (c.in_ok-spelled.ensures.elsewhere tells) _ c.in_ok-spelled.ensures.during
+returns-in_err-taken-clause-untorn g c = λ tells quiet.
+    put_untorn c.args.shape.place _ (g.D.Disk.medium c.args.disk.now) (g.D.Disk.medium c.keep_only.new.disk)
+    c.in_ok-keep_only.ensures.time (c.in_ok-keep_only.ensures.any_moment tells quiet)
+    (c.in_ok-keep_only.ensures.elsewhere tells) c.in_ok-keep_only.ensures.quiet
+    (g.D.Disk.medium c.put_contents.new.disk) c.in_ok-spelled.ensures.time (c.in_ok-spelled.ensures.elsewhere tells)
+    _ c.in_ok-spelled.ensures.during
     (kept_names_nothing c.args.shape.place _ _ (c.in_ok-keep_only.ensures.alone tells))
 
 pub returns-in_err-entries-clause-elsewhere : goal.returns-in_err-entries-clause-elsewhere
-returns-in_err-entries-clause-elsewhere g c = λ tells. contents_elsewhere c.args.shape.place.first c.args.shape.place.copies [] (g.D.Disk.medium c.args.disk.now) (g.D.Disk.medium c.keep_only.new.disk) (g.D.Disk.medium c.put_contents.new.disk) c.in_ok-keep_only.ensures.time c.in_ok-spelled.ensures.time
+returns-in_err-entries-clause-elsewhere g c = λ tells.
+    contents_elsewhere c.args.shape.place.first c.args.shape.place.copies [] (g.D.Disk.medium c.args.disk.now)
+    (g.D.Disk.medium c.keep_only.new.disk) (g.D.Disk.medium c.put_contents.new.disk) c.in_ok-keep_only.ensures.time
+    c.in_ok-spelled.ensures.time
     (c.in_ok-keep_only.ensures.elsewhere tells) (c.in_ok-spelled.ensures.elsewhere tells)
 
 pub returns-in_err-entries-clause-outside : goal.returns-in_err-entries-clause-outside
-returns-in_err-entries-clause-outside g c = λ tells quiet. put_outside c.args.shape.place _ (g.D.Disk.medium c.args.disk.now) (g.D.Disk.medium c.keep_only.new.disk) c.in_ok-keep_only.ensures.time (c.in_ok-keep_only.ensures.any_moment tells quiet)
-    (c.in_ok-keep_only.ensures.elsewhere tells) c.in_ok-keep_only.ensures.quiet (g.D.Disk.medium c.put_contents.new.disk) c.in_ok-spelled.ensures.time (c.in_ok-spelled.ensures.elsewhere tells) _ c.in_ok-spelled.ensures.during
+returns-in_err-entries-clause-outside g c = λ tells quiet.
+    put_outside c.args.shape.place _ (g.D.Disk.medium c.args.disk.now) (g.D.Disk.medium c.keep_only.new.disk)
+    c.in_ok-keep_only.ensures.time (c.in_ok-keep_only.ensures.any_moment tells quiet)
+    (c.in_ok-keep_only.ensures.elsewhere tells) c.in_ok-keep_only.ensures.quiet
+    (g.D.Disk.medium c.put_contents.new.disk) c.in_ok-spelled.ensures.time (c.in_ok-spelled.ensures.elsewhere tells)
+    _ c.in_ok-spelled.ensures.during
 
 pub returns-in_err-entries-clause-untorn : goal.returns-in_err-entries-clause-untorn
-returns-in_err-entries-clause-untorn g c = λ tells quiet. put_untorn c.args.shape.place _ (g.D.Disk.medium c.args.disk.now) (g.D.Disk.medium c.keep_only.new.disk) c.in_ok-keep_only.ensures.time (c.in_ok-keep_only.ensures.any_moment tells quiet)
-    (c.in_ok-keep_only.ensures.elsewhere tells) c.in_ok-keep_only.ensures.quiet (g.D.Disk.medium c.put_contents.new.disk) c.in_ok-spelled.ensures.time (c.in_ok-spelled.ensures.elsewhere tells) _ c.in_ok-spelled.ensures.during
+returns-in_err-entries-clause-untorn g c = λ tells quiet.
+    put_untorn c.args.shape.place _ (g.D.Disk.medium c.args.disk.now) (g.D.Disk.medium c.keep_only.new.disk)
+    c.in_ok-keep_only.ensures.time (c.in_ok-keep_only.ensures.any_moment tells quiet)
+    (c.in_ok-keep_only.ensures.elsewhere tells) c.in_ok-keep_only.ensures.quiet
+    (g.D.Disk.medium c.put_contents.new.disk) c.in_ok-spelled.ensures.time (c.in_ok-spelled.ensures.elsewhere tells)
+    _ c.in_ok-spelled.ensures.during
     (kept_names_nothing c.args.shape.place _ _ (c.in_ok-keep_only.ensures.alone tells))
 
 pub returns-in_err-cell-clause-elsewhere : goal.returns-in_err-cell-clause-elsewhere
-returns-in_err-cell-clause-elsewhere g c = λ tells. index_elsewhere c.args.shape.place.first c.args.shape.place.copies [] (g.D.Disk.medium c.args.disk.now) (g.D.Disk.medium c.keep_only.new.disk) (g.D.Disk.medium c.put_contents.new.disk) c.in_ok-keep_only.ensures.time c.in_ok-spelled.ensures.time
-    (c.in_ok-keep_only.ensures.elsewhere tells) (c.in_ok-spelled.ensures.elsewhere tells) (g.D.Disk.medium c.format_cell.new.disk) (c.in_err-cell.ensures.elsewhere tells)
+returns-in_err-cell-clause-elsewhere g c = λ tells. index_elsewhere c.args.shape.place.first c.args.shape.place.copies
+    [] (g.D.Disk.medium c.args.disk.now) (g.D.Disk.medium c.keep_only.new.disk)
+    (g.D.Disk.medium c.put_contents.new.disk) c.in_ok-keep_only.ensures.time c.in_ok-spelled.ensures.time
+    (c.in_ok-keep_only.ensures.elsewhere tells) (c.in_ok-spelled.ensures.elsewhere tells)
+    (g.D.Disk.medium c.format_cell.new.disk) (c.in_err-cell.ensures.elsewhere tells)
 
 pub returns-in_err-cell-clause-outside : goal.returns-in_err-cell-clause-outside
-returns-in_err-cell-clause-outside g c = λ tells quiet. made_outside c.args.shape.place _ (g.D.Disk.medium c.args.disk.now) (g.D.Disk.medium c.keep_only.new.disk) c.in_ok-keep_only.ensures.time (c.in_ok-keep_only.ensures.any_moment tells quiet)
-    (c.in_ok-keep_only.ensures.elsewhere tells) c.in_ok-keep_only.ensures.quiet (g.D.Disk.medium c.put_contents.new.disk) c.in_ok-spelled.ensures.time (c.in_ok-spelled.ensures.elsewhere tells) _ c.in_ok-spelled.ensures.during
+returns-in_err-cell-clause-outside g c = λ tells quiet.
+    made_outside c.args.shape.place _ (g.D.Disk.medium c.args.disk.now) (g.D.Disk.medium c.keep_only.new.disk)
+    c.in_ok-keep_only.ensures.time (c.in_ok-keep_only.ensures.any_moment tells quiet)
+    (c.in_ok-keep_only.ensures.elsewhere tells) c.in_ok-keep_only.ensures.quiet
+    (g.D.Disk.medium c.put_contents.new.disk) c.in_ok-spelled.ensures.time (c.in_ok-spelled.ensures.elsewhere tells)
+    _ c.in_ok-spelled.ensures.during
     (kept_names_nothing c.args.shape.place _ _ (c.in_ok-keep_only.ensures.alone tells))
-    (g.D.Disk.medium c.format_cell.new.disk) c.in_err-cell.ensures.time c.as_slice-2.result.now (c.in_err-cell.ensures.any_moment tells c.in_ok-spelled.ensures.quiet)
+    (g.D.Disk.medium c.format_cell.new.disk) c.in_err-cell.ensures.time c.as_slice-2.result.now
+    (c.in_err-cell.ensures.any_moment tells c.in_ok-spelled.ensures.quiet)
 
 pub returns-in_err-cell-clause-untorn : goal.returns-in_err-cell-clause-untorn
-returns-in_err-cell-clause-untorn g c = λ tells quiet. made_untorn c.args.shape.place _ (g.D.Disk.medium c.args.disk.now) (g.D.Disk.medium c.keep_only.new.disk) c.in_ok-keep_only.ensures.time (c.in_ok-keep_only.ensures.any_moment tells quiet)
-    (c.in_ok-keep_only.ensures.elsewhere tells) c.in_ok-keep_only.ensures.quiet (g.D.Disk.medium c.put_contents.new.disk) c.in_ok-spelled.ensures.time (c.in_ok-spelled.ensures.elsewhere tells) _ c.in_ok-spelled.ensures.during
+returns-in_err-cell-clause-untorn g c = λ tells quiet.
+    made_untorn c.args.shape.place _ (g.D.Disk.medium c.args.disk.now) (g.D.Disk.medium c.keep_only.new.disk)
+    c.in_ok-keep_only.ensures.time (c.in_ok-keep_only.ensures.any_moment tells quiet)
+    (c.in_ok-keep_only.ensures.elsewhere tells) c.in_ok-keep_only.ensures.quiet
+    (g.D.Disk.medium c.put_contents.new.disk) c.in_ok-spelled.ensures.time (c.in_ok-spelled.ensures.elsewhere tells)
+    _ c.in_ok-spelled.ensures.during
     (kept_names_nothing c.args.shape.place _ _ (c.in_ok-keep_only.ensures.alone tells))
-    (g.D.Disk.medium c.format_cell.new.disk) c.in_err-cell.ensures.time c.as_slice-2.result.now (c.in_err-cell.ensures.any_moment tells c.in_ok-spelled.ensures.quiet)
+    (g.D.Disk.medium c.format_cell.new.disk) c.in_err-cell.ensures.time c.as_slice-2.result.now
+    (c.in_err-cell.ensures.any_moment tells c.in_ok-spelled.ensures.quiet)
 
 pub returns-clause-elsewhere : goal.returns-clause-elsewhere
-returns-clause-elsewhere g c = λ tells. index_elsewhere c.args.shape.place.first c.args.shape.place.copies [] (g.D.Disk.medium c.args.disk.now) (g.D.Disk.medium c.keep_only.new.disk) (g.D.Disk.medium c.put_contents.new.disk) c.in_ok-keep_only.ensures.time c.in_ok-spelled.ensures.time
-    (c.in_ok-keep_only.ensures.elsewhere tells) (c.in_ok-spelled.ensures.elsewhere tells) (g.D.Disk.medium c.format_cell.new.disk) (c.in_ok-cell.ensures.elsewhere tells)
+returns-clause-elsewhere g c = λ tells. index_elsewhere c.args.shape.place.first c.args.shape.place.copies []
+    (g.D.Disk.medium c.args.disk.now) (g.D.Disk.medium c.keep_only.new.disk) (g.D.Disk.medium c.put_contents.new.disk)
+    c.in_ok-keep_only.ensures.time c.in_ok-spelled.ensures.time
+    (c.in_ok-keep_only.ensures.elsewhere tells) (c.in_ok-spelled.ensures.elsewhere tells)
+    (g.D.Disk.medium c.format_cell.new.disk) (c.in_ok-cell.ensures.elsewhere tells)
 
 pub returns-clause-outside : goal.returns-clause-outside
-returns-clause-outside g c = λ tells quiet. made_outside c.args.shape.place _ (g.D.Disk.medium c.args.disk.now) (g.D.Disk.medium c.keep_only.new.disk) c.in_ok-keep_only.ensures.time (c.in_ok-keep_only.ensures.any_moment tells quiet)
-    (c.in_ok-keep_only.ensures.elsewhere tells) c.in_ok-keep_only.ensures.quiet (g.D.Disk.medium c.put_contents.new.disk) c.in_ok-spelled.ensures.time (c.in_ok-spelled.ensures.elsewhere tells) _ c.in_ok-spelled.ensures.during
+returns-clause-outside g c = λ tells quiet. made_outside c.args.shape.place _ (g.D.Disk.medium c.args.disk.now)
+    (g.D.Disk.medium c.keep_only.new.disk) c.in_ok-keep_only.ensures.time
+    (c.in_ok-keep_only.ensures.any_moment tells quiet)
+    (c.in_ok-keep_only.ensures.elsewhere tells) c.in_ok-keep_only.ensures.quiet
+    (g.D.Disk.medium c.put_contents.new.disk) c.in_ok-spelled.ensures.time (c.in_ok-spelled.ensures.elsewhere tells)
+    _ c.in_ok-spelled.ensures.during
     (kept_names_nothing c.args.shape.place _ _ (c.in_ok-keep_only.ensures.alone tells))
-    (g.D.Disk.medium c.format_cell.new.disk) c.in_ok-cell.ensures.time c.as_slice-2.result.now (c.in_ok-cell.ensures.any_moment tells c.in_ok-spelled.ensures.quiet)
+    (g.D.Disk.medium c.format_cell.new.disk) c.in_ok-cell.ensures.time c.as_slice-2.result.now
+    (c.in_ok-cell.ensures.any_moment tells c.in_ok-spelled.ensures.quiet)
 
 pub returns-clause-untorn : goal.returns-clause-untorn
-returns-clause-untorn g c = λ tells quiet. made_untorn c.args.shape.place _ (g.D.Disk.medium c.args.disk.now) (g.D.Disk.medium c.keep_only.new.disk) c.in_ok-keep_only.ensures.time (c.in_ok-keep_only.ensures.any_moment tells quiet)
-    (c.in_ok-keep_only.ensures.elsewhere tells) c.in_ok-keep_only.ensures.quiet (g.D.Disk.medium c.put_contents.new.disk) c.in_ok-spelled.ensures.time (c.in_ok-spelled.ensures.elsewhere tells) _ c.in_ok-spelled.ensures.during
+returns-clause-untorn g c = λ tells quiet. made_untorn c.args.shape.place _ (g.D.Disk.medium c.args.disk.now)
+    (g.D.Disk.medium c.keep_only.new.disk) c.in_ok-keep_only.ensures.time
+    (c.in_ok-keep_only.ensures.any_moment tells quiet)
+    (c.in_ok-keep_only.ensures.elsewhere tells) c.in_ok-keep_only.ensures.quiet
+    (g.D.Disk.medium c.put_contents.new.disk) c.in_ok-spelled.ensures.time (c.in_ok-spelled.ensures.elsewhere tells)
+    _ c.in_ok-spelled.ensures.during
     (kept_names_nothing c.args.shape.place _ _ (c.in_ok-keep_only.ensures.alone tells))
-    (g.D.Disk.medium c.format_cell.new.disk) c.in_ok-cell.ensures.time c.as_slice-2.result.now (c.in_ok-cell.ensures.any_moment tells c.in_ok-spelled.ensures.quiet)
+    (g.D.Disk.medium c.format_cell.new.disk) c.in_ok-cell.ensures.time c.as_slice-2.result.now
+    (c.in_ok-cell.ensures.any_moment tells c.in_ok-spelled.ensures.quiet)
 
 pub returns-in_err-used-clause-untorn : goal.returns-in_err-used-clause-untorn
-returns-in_err-used-clause-untorn g c = λ tells quiet. still_untorn c.args.shape.place g.D.Disk.told (g.D.Disk.medium c.args.disk.now) (g.met.D.Disk.lawful c.args.disk.now) quiet
+returns-in_err-used-clause-untorn g c = λ tells quiet.
+    still_untorn c.args.shape.place g.D.Disk.told (g.D.Disk.medium c.args.disk.now)
+    (g.met.D.Disk.lawful c.args.disk.now) quiet
 
 pub returns-in_err-used-clause-sound : goal.returns-in_err-used-clause-sound
-returns-in_err-used-clause-sound g c = λ tells quiet x past. untorn_sound c.args.shape.place x (returns-in_err-used-clause-untorn g c tells quiet x past)
+returns-in_err-used-clause-sound g c = λ tells quiet x past.
+    untorn_sound c.args.shape.place x (returns-in_err-used-clause-untorn g c tells quiet x past)
 
 pub returns-in_err-keep_only-clause-sound : goal.returns-in_err-keep_only-clause-sound
-returns-in_err-keep_only-clause-sound g c = λ tells quiet x past. untorn_sound c.args.shape.place x (returns-in_err-keep_only-clause-untorn g c tells quiet x past)
+returns-in_err-keep_only-clause-sound g c = λ tells quiet x past.
+    untorn_sound c.args.shape.place x (returns-in_err-keep_only-clause-untorn g c tells quiet x past)
 
 pub returns-in_err-spelled-clause-sound : goal.returns-in_err-spelled-clause-sound
-returns-in_err-spelled-clause-sound g c = λ tells quiet x past. untorn_sound c.args.shape.place x (returns-in_err-spelled-clause-untorn g c tells quiet x past)
+returns-in_err-spelled-clause-sound g c = λ tells quiet x past.
+    untorn_sound c.args.shape.place x (returns-in_err-spelled-clause-untorn g c tells quiet x past)
 
 pub returns-in_err-taken-clause-sound : goal.returns-in_err-taken-clause-sound
-returns-in_err-taken-clause-sound g c = λ tells quiet x past. untorn_sound c.args.shape.place x (returns-in_err-taken-clause-untorn g c tells quiet x past)
+returns-in_err-taken-clause-sound g c = λ tells quiet x past.
+    untorn_sound c.args.shape.place x (returns-in_err-taken-clause-untorn g c tells quiet x past)
 
 pub returns-in_err-entries-clause-sound : goal.returns-in_err-entries-clause-sound
-returns-in_err-entries-clause-sound g c = λ tells quiet x past. untorn_sound c.args.shape.place x (returns-in_err-entries-clause-untorn g c tells quiet x past)
+returns-in_err-entries-clause-sound g c = λ tells quiet x past.
+    untorn_sound c.args.shape.place x (returns-in_err-entries-clause-untorn g c tells quiet x past)
 
 pub returns-in_err-cell-clause-sound : goal.returns-in_err-cell-clause-sound
-returns-in_err-cell-clause-sound g c = λ tells quiet x past. untorn_sound c.args.shape.place x (returns-in_err-cell-clause-untorn g c tells quiet x past)
+returns-in_err-cell-clause-sound g c = λ tells quiet x past.
+    untorn_sound c.args.shape.place x (returns-in_err-cell-clause-untorn g c tells quiet x past)
 
 pub returns-clause-sound : goal.returns-clause-sound
-returns-clause-sound g c = λ tells quiet x past. untorn_sound c.args.shape.place x (returns-clause-untorn g c tells quiet x past)
+returns-clause-sound g c = λ tells quiet x past. untorn_sound c.args.shape.place x
+    (returns-clause-untorn g c tells quiet x past)
 
 pub returns-clause-opens : goal.returns-clause-opens
-returns-clause-opens g c = λ tells. anew_opens (g.D.Disk.medium c.put_contents.new.disk).image (g.D.Disk.medium c.format_cell.new.disk).image c.args.shape 1 c.args.contents.items c.in_ok-cell.cell c.in_ok-spelled.spelled.index c.as_slice-2.result.now
+returns-clause-opens g c = λ tells. anew_opens (g.D.Disk.medium c.put_contents.new.disk).image
+    (g.D.Disk.medium c.format_cell.new.disk).image c.args.shape 1 c.args.contents.items c.in_ok-cell.cell
+    c.in_ok-spelled.spelled.index c.as_slice-2.result.now
     c.requires.shape c.in_ok-cell.ensures.cell
-    (subst (λ (t : List ℕ). IsTextOf c.args.shape t c.in_ok-spelled.spelled.index) (sym c.as_slice-2.ensures) c.in_ok-spelled.ensures.fit)
+    (subst (λ (t : List ℕ). IsTextOf c.args.shape t c.in_ok-spelled.spelled.index) (sym c.as_slice-2.ensures)
+    c.in_ok-spelled.ensures.fit)
     (c.in_ok-cell.ensures.held tells) (c.in_ok-cell.ensures.elsewhere tells)
-    (subst (λ (fs : List Fresh). ShowsFresh (g.D.Disk.medium c.put_contents.new.disk).image c.args.shape.place c.args.shape.m 1 fs c.in_ok-spelled.spelled.index.entries) c.deref.ensures.value (c.in_ok-spelled.ensures.shown tells))
+    (subst (λ (fs : List Fresh). ShowsFresh (g.D.Disk.medium c.put_contents.new.disk).image c.args.shape.place
+    c.args.shape.m 1 fs c.in_ok-spelled.spelled.index.entries) c.deref.ensures.value
+    (c.in_ok-spelled.ensures.shown tells))
     1 refl
 
 pub returns-in_err-keep_only-clause-at_most : goal.returns-in_err-keep_only-clause-at_most
 returns-in_err-keep_only-clause-at_most g c =
-    most_kept c.args.shape.place.copies (blocks_of_all c.args.contents.items) (g.D.Disk.medium c.args.disk.now).written (g.D.Disk.medium c.keep_only.new.disk).written c.in_err-keep_only.ensures.written
+    most_kept c.args.shape.place.copies (blocks_of_all c.args.contents.items) (g.D.Disk.medium c.args.disk.now).written
+    (g.D.Disk.medium c.keep_only.new.disk).written c.in_err-keep_only.ensures.written
 
 pub returns-in_err-spelled-clause-at_most : goal.returns-in_err-spelled-clause-at_most
 returns-in_err-spelled-clause-at_most g c =
-    most_put c.args.shape.place.copies (blocks_of_all c.args.contents.items) (g.D.Disk.medium c.args.disk.now).written (g.D.Disk.medium c.keep_only.new.disk).written c.in_ok-keep_only.ensures.written (g.D.Disk.medium c.put_contents.new.disk).written
-    (subst (λ (fs : List Fresh). (g.D.Disk.medium c.put_contents.new.disk).written ≤ (g.D.Disk.medium c.keep_only.new.disk).written + c.args.shape.place.copies * (256 * blocks_of_all fs)) c.deref.ensures.value c.in_err-spelled.ensures.written)
+    most_put c.args.shape.place.copies (blocks_of_all c.args.contents.items) (g.D.Disk.medium c.args.disk.now).written
+    (g.D.Disk.medium c.keep_only.new.disk).written c.in_ok-keep_only.ensures.written
+    (g.D.Disk.medium c.put_contents.new.disk).written
+    (subst (λ (fs : List Fresh). (g.D.Disk.medium c.put_contents.new.disk).written
+    ≤ (g.D.Disk.medium c.keep_only.new.disk).written + c.args.shape.place.copies * (256 * blocks_of_all fs))
+    c.deref.ensures.value c.in_err-spelled.ensures.written)
 
 pub returns-in_err-taken-clause-at_most : goal.returns-in_err-taken-clause-at_most
 returns-in_err-taken-clause-at_most g c =
-    most_put c.args.shape.place.copies (blocks_of_all c.args.contents.items) (g.D.Disk.medium c.args.disk.now).written (g.D.Disk.medium c.keep_only.new.disk).written c.in_ok-keep_only.ensures.written (g.D.Disk.medium c.put_contents.new.disk).written
-    (subst (λ (fs : List Fresh). (g.D.Disk.medium c.put_contents.new.disk).written ≤ (g.D.Disk.medium c.keep_only.new.disk).written + c.args.shape.place.copies * (256 * blocks_of_all fs)) c.deref.ensures.value c.in_ok-spelled.ensures.written)
+    most_put c.args.shape.place.copies (blocks_of_all c.args.contents.items) (g.D.Disk.medium c.args.disk.now).written
+    (g.D.Disk.medium c.keep_only.new.disk).written c.in_ok-keep_only.ensures.written
+    (g.D.Disk.medium c.put_contents.new.disk).written
+    (subst (λ (fs : List Fresh). (g.D.Disk.medium c.put_contents.new.disk).written
+    ≤ (g.D.Disk.medium c.keep_only.new.disk).written + c.args.shape.place.copies * (256 * blocks_of_all fs))
+    c.deref.ensures.value c.in_ok-spelled.ensures.written)
 
 pub returns-in_err-entries-clause-at_most : goal.returns-in_err-entries-clause-at_most
 returns-in_err-entries-clause-at_most g c =
-    most_put c.args.shape.place.copies (blocks_of_all c.args.contents.items) (g.D.Disk.medium c.args.disk.now).written (g.D.Disk.medium c.keep_only.new.disk).written c.in_ok-keep_only.ensures.written (g.D.Disk.medium c.put_contents.new.disk).written
-    (subst (λ (fs : List Fresh). (g.D.Disk.medium c.put_contents.new.disk).written ≤ (g.D.Disk.medium c.keep_only.new.disk).written + c.args.shape.place.copies * (256 * blocks_of_all fs)) c.deref.ensures.value c.in_ok-spelled.ensures.written)
+    most_put c.args.shape.place.copies (blocks_of_all c.args.contents.items) (g.D.Disk.medium c.args.disk.now).written
+    (g.D.Disk.medium c.keep_only.new.disk).written c.in_ok-keep_only.ensures.written
+    (g.D.Disk.medium c.put_contents.new.disk).written
+    (subst (λ (fs : List Fresh). (g.D.Disk.medium c.put_contents.new.disk).written
+    ≤ (g.D.Disk.medium c.keep_only.new.disk).written + c.args.shape.place.copies * (256 * blocks_of_all fs))
+    c.deref.ensures.value c.in_ok-spelled.ensures.written)
 
 pub returns-in_err-cell-clause-at_most : goal.returns-in_err-cell-clause-at_most
 returns-in_err-cell-clause-at_most g c =
     let fit = c.in_ok-spelled.ensures.fit in
-    let short = text_is_short c.args.shape.kind c.args.shape.allowed c.in_ok-spelled.spelled.index fit.rules fit.fits c.requires.shape.small in
+    let short = text_is_short c.args.shape.kind c.args.shape.allowed c.in_ok-spelled.spelled.index fit.rules fit.fits
+    c.requires.shape.small in
     let a = ap length c.as_slice-2.ensures in
     let b = ap length fit.spelled in
-    most_made c.args.shape.place.copies (blocks_of_all c.args.contents.items) (g.D.Disk.medium c.args.disk.now).written (g.D.Disk.medium c.keep_only.new.disk).written c.in_ok-keep_only.ensures.written (g.D.Disk.medium c.put_contents.new.disk).written
-    (subst (λ (fs : List Fresh). (g.D.Disk.medium c.put_contents.new.disk).written ≤ (g.D.Disk.medium c.keep_only.new.disk).written + c.args.shape.place.copies * (256 * blocks_of_all fs)) c.deref.ensures.value c.in_ok-spelled.ensures.written)
-    (length c.as_slice-2.result.now) (g.D.Disk.medium c.format_cell.new.disk).written c.in_err-cell.ensures.written (omega (arith, short, a, b))
+    most_made c.args.shape.place.copies (blocks_of_all c.args.contents.items) (g.D.Disk.medium c.args.disk.now).written
+    (g.D.Disk.medium c.keep_only.new.disk).written c.in_ok-keep_only.ensures.written
+    (g.D.Disk.medium c.put_contents.new.disk).written
+    (subst (λ (fs : List Fresh). (g.D.Disk.medium c.put_contents.new.disk).written
+    ≤ (g.D.Disk.medium c.keep_only.new.disk).written + c.args.shape.place.copies * (256 * blocks_of_all fs))
+    c.deref.ensures.value c.in_ok-spelled.ensures.written)
+    (length c.as_slice-2.result.now) (g.D.Disk.medium c.format_cell.new.disk).written c.in_err-cell.ensures.written
+    (omega (arith, short, a, b))
 
 pub returns-clause-at_most : goal.returns-clause-at_most
 returns-clause-at_most g c =
     let fit = c.in_ok-spelled.ensures.fit in
-    let short = text_is_short c.args.shape.kind c.args.shape.allowed c.in_ok-spelled.spelled.index fit.rules fit.fits c.requires.shape.small in
+    let short = text_is_short c.args.shape.kind c.args.shape.allowed c.in_ok-spelled.spelled.index fit.rules fit.fits
+    c.requires.shape.small in
     let a = ap length c.as_slice-2.ensures in
     let b = ap length fit.spelled in
-    most_made c.args.shape.place.copies (blocks_of_all c.args.contents.items) (g.D.Disk.medium c.args.disk.now).written (g.D.Disk.medium c.keep_only.new.disk).written c.in_ok-keep_only.ensures.written (g.D.Disk.medium c.put_contents.new.disk).written
-    (subst (λ (fs : List Fresh). (g.D.Disk.medium c.put_contents.new.disk).written ≤ (g.D.Disk.medium c.keep_only.new.disk).written + c.args.shape.place.copies * (256 * blocks_of_all fs)) c.deref.ensures.value c.in_ok-spelled.ensures.written)
-    (length c.as_slice-2.result.now) (g.D.Disk.medium c.format_cell.new.disk).written c.in_ok-cell.ensures.written (omega (arith, short, a, b))
+    most_made c.args.shape.place.copies (blocks_of_all c.args.contents.items) (g.D.Disk.medium c.args.disk.now).written
+    (g.D.Disk.medium c.keep_only.new.disk).written c.in_ok-keep_only.ensures.written
+    (g.D.Disk.medium c.put_contents.new.disk).written
+    (subst (λ (fs : List Fresh). (g.D.Disk.medium c.put_contents.new.disk).written
+    ≤ (g.D.Disk.medium c.keep_only.new.disk).written + c.args.shape.place.copies * (256 * blocks_of_all fs))
+    c.deref.ensures.value c.in_ok-spelled.ensures.written)
+    (length c.as_slice-2.result.now) (g.D.Disk.medium c.format_cell.new.disk).written c.in_ok-cell.ensures.written
+    (omega (arith, short, a, b))
 
 pub returns-clause-written : goal.returns-clause-written
 returns-clause-written g c =
-    let text_is : c.as_slice-2.result.now ≡ index_text c.in_ok-spelled.spelled.index = c.as_slice-2.ensures ∙ c.in_ok-spelled.ensures.fit.spelled in
-    let written = made_written c.args.shape.place.copies (blocks_of_all c.args.contents.items) (g.D.Disk.medium c.args.disk.now).written (g.D.Disk.medium c.keep_only.new.disk).written c.in_ok-keep_only.ensures.written (g.D.Disk.medium c.put_contents.new.disk).written
-    (subst (λ (fs : List Fresh). (g.D.Disk.medium c.put_contents.new.disk).written ≤ (g.D.Disk.medium c.keep_only.new.disk).written + c.args.shape.place.copies * (256 * blocks_of_all fs)) c.deref.ensures.value c.in_ok-spelled.ensures.written)
+    let text_is : c.as_slice-2.result.now ≡ index_text c.in_ok-spelled.spelled.index =
+    c.as_slice-2.ensures ∙ c.in_ok-spelled.ensures.fit.spelled in
+    let written = made_written c.args.shape.place.copies (blocks_of_all c.args.contents.items)
+    (g.D.Disk.medium c.args.disk.now).written (g.D.Disk.medium c.keep_only.new.disk).written
+    c.in_ok-keep_only.ensures.written (g.D.Disk.medium c.put_contents.new.disk).written
+    (subst (λ (fs : List Fresh). (g.D.Disk.medium c.put_contents.new.disk).written
+    ≤ (g.D.Disk.medium c.keep_only.new.disk).written + c.args.shape.place.copies * (256 * blocks_of_all fs))
+    c.deref.ensures.value c.in_ok-spelled.ensures.written)
     (length c.as_slice-2.result.now) (g.D.Disk.medium c.format_cell.new.disk).written c.in_ok-cell.ensures.written in
-    subst (λ (s : Store). (g.D.Disk.medium c.format_cell.new.disk).written ≤ (g.D.Disk.medium c.args.disk.now).written + c.args.shape.place.copies * (256 * (blocks_of_all c.args.contents.items) + length (index_text s.index) + 5 * 44)) (sym c.new-2.ensures)
-    (subst (λ (t : List ℕ). (g.D.Disk.medium c.format_cell.new.disk).written ≤ (g.D.Disk.medium c.args.disk.now).written + c.args.shape.place.copies * (256 * (blocks_of_all c.args.contents.items) + length t + 5 * 44)) text_is written)
+    subst (λ (s : Store). (g.D.Disk.medium c.format_cell.new.disk).written
+    ≤ (g.D.Disk.medium c.args.disk.now).written + c.args.shape.place.copies
+    * (256 * (blocks_of_all c.args.contents.items) + length (index_text s.index) + 5 * 44)) (sym c.new-2.ensures)
+    (subst (λ (t : List ℕ). (g.D.Disk.medium c.format_cell.new.disk).written
+    ≤ (g.D.Disk.medium c.args.disk.now).written + c.args.shape.place.copies
+    * (256 * (blocks_of_all c.args.contents.items) + length t + 5 * 44)) text_is written)

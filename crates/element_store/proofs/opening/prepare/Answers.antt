@@ -7,7 +7,10 @@ returns-clause-found g c = λ tells.
     let chose = c.in_ok-seen.ensures.chosen tells in
     let viewed = c.in_ok-seen.ensures.viewed tells in
     record {
-      first = found_first image c.args.shape.now c.in_ok-seen.field-0 c.in-Some-true.field-0 c.in-Some-true.is (cc) chose viewed;
-      view = found_view image c.args.shape.now c.in_ok-seen.field-0 c.in-Some-true.field-0 c.in-Some-true.is (cc) chose viewed;
-      opens = found_opens image c.args.shape.now c.in_ok-seen.field-0 c.in-Some-true.field-0 c.in-Some-true.is (cc) chose viewed;
+      first = found_first image c.args.shape.now c.in_ok-seen.field-0 c.in-Some-true.field-0 c.in-Some-true.is (cc)
+          chose viewed;
+      view = found_view image c.args.shape.now c.in_ok-seen.field-0 c.in-Some-true.field-0 c.in-Some-true.is (cc) chose
+          viewed;
+      opens = found_opens image c.args.shape.now c.in_ok-seen.field-0 c.in-Some-true.field-0 c.in-Some-true.is (cc)
+          chose viewed;
     }

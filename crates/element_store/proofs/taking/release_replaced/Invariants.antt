@@ -7,9 +7,11 @@ use Rattle.element_store.specs.Taking.{Loses}
 use Rattle.element_store.proofs.taking.release_replaced.Given as goal
 
 abbrev pub invariant-loop-entry : goal.invariant-loop-entry
-invariant-loop-entry l = Loses (blocks_of (take l.entry-index l.earlier)) l.fn.taken l.taken × (length l.taken ≡ length l.fn.taken)
+invariant-loop-entry l = Loses (blocks_of (take l.entry-index l.earlier)) l.fn.taken l.taken
+    × (length l.taken ≡ length l.fn.taken)
 
 abbrev pub invariant-loop-entry-2 : goal.invariant-loop-entry-2
 invariant-loop-entry-2 l =
-    ((b : ℕ) → holds l.taken b ≡ ((holds l.fn.taken b && not (named_in (blocks_of l.fn.earlier) b)) || named_in (blocks_of (take l.entry-index l.later)) b))
+    ((b : ℕ) → holds l.taken b ≡ ((holds l.fn.taken b && not (named_in (blocks_of l.fn.earlier) b))
+    || named_in (blocks_of (take l.entry-index l.later)) b))
     × (length l.taken ≡ length l.fn.taken)

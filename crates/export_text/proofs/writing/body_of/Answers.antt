@@ -7,15 +7,18 @@ use Rattle.export_text.proofs.Whole.{all_written}
 use Rattle.export_text.proofs.writing.body_of.Goals as goal
 
 pub put_element-requires : goal.put_element-requires
-put_element-requires c = short_at c.args.kind c.args.contents.now c.loop-element.element-index c.element-item.result c.requires.each (omega arith) c.element-item.is
+put_element-requires c = short_at c.args.kind c.args.contents.now c.loop-element.element-index c.element-item.result
+    c.requires.each (omega arith) c.element-item.is
 
 pub returns-clause-body : goal.returns-clause-body
 returns-clause-body c =
     let contents = c.args.contents.now in
     c.loop-element.invariant.text
-    ∙ ap (λ (fs : List Fresh). header_text c.args.kind (length contents) ++ flat_map fresh_text fs) (all_written contents c.loop-element.element-index c.loop-element-test.false)
+    ∙ ap (λ (fs : List Fresh). header_text c.args.kind (length contents) ++ flat_map fresh_text fs)
+    (all_written contents c.loop-element.element-index c.loop-element-test.false)
 
 pub returns-clause-elements : goal.returns-clause-elements
 returns-clause-elements c =
     let contents = c.args.contents.now in
-    subst (λ (fs : List Fresh). AllByRecursion IsElement fs) (all_written contents c.loop-element.element-index c.loop-element-test.false) c.loop-element.invariant.elements
+    subst (λ (fs : List Fresh). AllByRecursion IsElement fs)
+    (all_written contents c.loop-element.element-index c.loop-element-test.false) c.loop-element.invariant.elements

@@ -5,6 +5,7 @@ use Rattle.export_text.proofs.writing.body_of.Given as goal
 
 abbrev pub invariant-loop-element : goal.invariant-loop-element
 invariant-loop-element l = record {
-  text : l.body.items ≡ header_text l.fn.kind (length l.contents) ++ flat_map fresh_text (take l.element-index l.contents);
+  text : l.body.items ≡ header_text l.fn.kind (length l.contents)
+      ++ flat_map fresh_text (take l.element-index l.contents);
   elements : AllByRecursion IsElement (take l.element-index l.contents);
 }

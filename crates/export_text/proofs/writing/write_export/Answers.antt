@@ -8,7 +8,8 @@ pub returns-clause-text : goal.returns-clause-text
 unfolding export_text
 returns-clause-text c =
     let x : Export = record { kind = c.args.kind; contents = c.args.contents.now } in
-    under_hash c.extend_from_slice.new.self.items c.in_ok-text.text.items c.as_slice.result.now c.digest-digest.result (export_body x)
+    under_hash c.extend_from_slice.new.self.items c.in_ok-text.text.items c.as_slice.result.now c.digest-digest.result
+    (export_body x)
     c.in_ok-extend_from_slice.ensures.items c.in_ok-text.ensures.body c.as_slice.ensures.value c.digest-digest.ensures
 
 pub returns-clause-is_export : goal.returns-clause-is_export

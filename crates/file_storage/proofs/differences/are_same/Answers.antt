@@ -8,4 +8,5 @@ use Rattle.file_storage.proofs.differences.are_same.Goals as goal
 
 pub returns : goal.returns
 returns c = none_left c.loop-name.rest.now c.is_empty.result c.is_empty.ensures
-    ∙ sym (subst (λ (left : Map). same_map (map element_of c.args.entries.now) c.args.files.now.entries ≡ same_map (map element_of c.loop-name.rest.now) left) c.in-None.ensures.steps.0 c.loop-name.invariant)
+    ∙ sym (subst (λ (left : Map). same_map (map element_of c.args.entries.now) c.args.files.now.entries
+    ≡ same_map (map element_of c.loop-name.rest.now) left) c.in-None.ensures.steps.0 c.loop-name.invariant)

@@ -6,4 +6,5 @@ use Rattle.file_storage.proofs.differences.are_same.Given as goal
 
 -- what is left of both tells it
 abbrev pub invariant-loop-name : goal.invariant-loop-name
-invariant-loop-name l = same_map (map element_of l.entries) l.files.entries ≡ same_map (map element_of l.rest) l.name-iterator
+invariant-loop-name l = same_map (map element_of l.entries) l.files.entries
+    ≡ same_map (map element_of l.rest) l.name-iterator

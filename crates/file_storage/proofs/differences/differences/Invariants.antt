@@ -6,4 +6,5 @@ use Rattle.file_storage.proofs.differences.differences.Given as goal
 
 -- the changes so far, and those of what is left of both
 abbrev pub invariant-loop-name : goal.invariant-loop-name
-invariant-loop-name l = l.list.items ++ walked l.name-iterator (map element_of l.rest) ≡ walked l.files.entries (map element_of l.entries)
+invariant-loop-name l = l.list.items ++ walked l.name-iterator (map element_of l.rest)
+    ≡ walked l.files.entries (map element_of l.entries)

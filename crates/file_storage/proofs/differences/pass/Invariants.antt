@@ -7,7 +7,8 @@ use Rattle.file_storage.proofs.differences.pass.Given as goal
 
 -- the changes so far, and those from the entries that are left on
 abbrev pub invariant-loop-entry : goal.invariant-loop-entry
-invariant-loop-entry l = (files : Map) → l.list.items ++ passing (l.name, l.file) (walked files) (map element_of l.rest) ≡ l.initial.list.items ++ passing (l.name, l.file) (walked files) (map element_of l.entries)
+invariant-loop-entry l = (files : Map) → l.list.items ++ passing (l.name, l.file) (walked files) (map element_of l.rest)
+    ≡ l.initial.list.items ++ passing (l.name, l.file) (walked files) (map element_of l.entries)
 
 abbrev pub decreases-loop-entry : goal.decreases-loop-entry
 decreases-loop-entry l = length l.rest

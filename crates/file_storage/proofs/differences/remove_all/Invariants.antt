@@ -5,4 +5,5 @@ use Rattle.element_state.specs.declared.shapes.Change.TheVariants.{Remove}
 use Rattle.file_storage.proofs.differences.remove_all.Given as goal
 
 abbrev pub invariant-loop-entry : goal.invariant-loop-entry
-invariant-loop-entry l = l.list.items ≡ l.initial.list.items ++ map (λ (e : Entry). Remove e.name) (take l.entry-index l.entries)
+invariant-loop-entry l = l.list.items ≡ l.initial.list.items
+    ++ map (λ (e : Entry). Remove e.name) (take l.entry-index l.entries)

@@ -34,7 +34,8 @@ returns-clause-has c fits key entry is =
 
 pub loop-key-init : goal.loop-key-init
 loop-key-init c =
-    let rest : c.into_iter-key-iterator.result ≡ c.args.newest.now.entries = c.into_iter-key-iterator.ensures.into_iter_gives ∙ c.iter-key-items.ensures.rest in
+    let rest : c.into_iter-key-iterator.result ≡ c.args.newest.now.entries =
+    c.into_iter-key-iterator.ensures.into_iter_gives ∙ c.iter-key-items.ensures.rest in
     let long : length c.into_iter-key-iterator.result ≡ length c.args.newest.now.entries = ap length rest in (
       omega (arith, long),
       (λ fits f. ap (λ es. max (len_in c.args.lens.now f) (longest f es)) rest),
@@ -47,13 +48,16 @@ loop-key-preserved c =
     let key : FilePage = c.in-Some.key.now in
     let entry : Newest = c.in-Some.entry.now in
     let rest = c.next.new.self in
-    let step : c.loop-key.key-iterator ≡ (key, entry) ∷ rest = rest_more deref_pair _ _ _ (c.in-Some.key, c.in-Some.entry) c.in-Some.is c.next.ensures.steps in
+    let step : c.loop-key.key-iterator ≡ (key, entry) ∷ rest =
+    rest_more deref_pair _ _ _ (c.in-Some.key, c.in-Some.entry) c.in-Some.is c.next.ensures.steps in
     let long : length c.loop-key.key-iterator ≡ suc (length rest) = ap length step in
     let before = i.0 in
     let used = c.raise.ensures.spare in
-    let raised : hash_map_len c.args.newest.now ≤ spare c.args.lens.now → IsTrue c.raise.result = λ fits. c.raise.ensures.succeeds (omega (arith, long, before, fits)) in (
+    let raised : hash_map_len c.args.newest.now ≤ spare c.args.lens.now → IsTrue c.raise.result =
+    λ fits. c.raise.ensures.succeeds (omega (arith, long, before, fits)) in (
       omega (arith, long, before, used),
-      (λ fits f. taken f (len_in c.loop-key.lens f) (len_in c.raise.new.lens f) (key, entry) rest (c.raise.ensures.raised (raised fits) f)
+      (λ fits f. taken f (len_in c.loop-key.lens f) (len_in c.raise.new.lens f) (key, entry) rest
+          (c.raise.ensures.raised (raised fits) f)
           ∙ (ap (λ es. max (len_in c.loop-key.lens f) (longest f es)) (sym step) ∙ i.1 fits f)),
       (λ fits k w is. ⊎_elim
           (λ left. ⊎_elim

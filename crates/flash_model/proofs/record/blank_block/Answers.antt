@@ -4,4 +4,5 @@ use Rattle.flash_model.proofs.record.blank_block.Goals as goal
 
 pub returns-clause-pages : goal.returns-clause-pages
 unfolding blank_page
-returns-clause-pages c = block_blank c.args.pages.now.items c.set_from.new.pages.items c.args.block c.set_from.ensures.inside c.set_from.ensures.outside
+returns-clause-pages c = block_blank c.args.pages.now.items c.set_from.new.pages.items c.args.block
+    c.set_from.ensures.inside c.set_from.ensures.outside

@@ -6,4 +6,5 @@ abbrev pub invariant-loop-j : goal.invariant-loop-j
 invariant-loop-j l =
     (length l.pages.items ≡ length l.initial.pages.items)
     × ((k : ℕ) → k < l.j → get_or l.pages.items (l.from + k) blank_page ≡ l.page)
-    × ((i : ℕ) → (i < l.from) ⊎ (l.from + 64 ≤ i) → get_or l.pages.items i blank_page ≡ get_or l.initial.pages.items i blank_page)
+    × ((i : ℕ) → (i < l.from) ⊎ (l.from + 64 ≤ i) → get_or l.pages.items i blank_page
+    ≡ get_or l.initial.pages.items i blank_page)

@@ -8,10 +8,12 @@ pub returns-clause-record : goal.returns-clause-record
 returns-clause-record c =
     let body : List ℕ = c.write_body.new.body in
     let long : length c.args.bytes.now ≡ 256 = search rules in
-    record_in-text (c.seal_into.new.text ++ c.split_at_mut-text.result.1.now) c.args.sequence body (c.seal_into.ensures.verifies c.split_at_mut-text.result.1.now)
+    record_in-text (c.seal_into.new.text ++ c.split_at_mut-text.result.1.now) c.args.sequence body
+    (c.seal_into.ensures.verifies c.split_at_mut-text.result.1.now)
     (ap length c.write_body.ensures ∙ length-record_body c.args.file c.args.page c.args.len c.args.bytes.now long)
     ∙ ap (λ (b : List ℕ). Some (body_record c.args.sequence b)) c.write_body.ensures
-    ∙ ap Some (body_reads_back c.args.sequence c.args.file c.args.page c.args.len c.args.bytes.now c.ranges.file.fits c.ranges.page.fits c.ranges.len.fits)
+    ∙ ap Some (body_reads_back c.args.sequence c.args.file c.args.page c.args.len c.args.bytes.now c.ranges.file.fits
+    c.ranges.page.fits c.ranges.len.fits)
 
 pub returns-clause-behind : goal.returns-clause-behind
 returns-clause-behind c =

@@ -11,7 +11,8 @@ use Rattle.guarded_cell.proofs.formatting.format_in.Goals as goal
 
 pub returns-in_err-write_fronts-clause-elsewhere : goal.returns-in_err-write_fronts-clause-elsewhere
 returns-in_err-write_fronts-clause-elsewhere g c = λ tells.
-    chosen_elsewhere c.args.place.first c.args.place.copies 0 all (g.D.Disk.medium c.args.disk.now).image (g.D.Disk.medium c.write_fronts.new.disk).image (omega arith) (c.write_fronts.ensures.elsewhere tells)
+    chosen_elsewhere c.args.place.first c.args.place.copies 0 all (g.D.Disk.medium c.args.disk.now).image
+    (g.D.Disk.medium c.write_fronts.new.disk).image (omega arith) (c.write_fronts.ensures.elsewhere tells)
 
 pub returns-in_err-write_durably-clause-elsewhere : goal.returns-in_err-write_durably-clause-elsewhere
 returns-in_err-write_durably-clause-elsewhere g c = λ tells.
@@ -19,8 +20,10 @@ returns-in_err-write_durably-clause-elsewhere g c = λ tells.
     let even = (g.D.Disk.medium c.write_fronts.new.disk).image in
     let blank = (g.D.Disk.medium c.write_durably.new.disk).image in
     spares_on (IsNoSlot c.args.place.first c.args.place.copies) old even blank
-    (chosen_elsewhere c.args.place.first c.args.place.copies 0 all old even (omega arith) (c.write_fronts.ensures.elsewhere tells))
-    (chosen_elsewhere c.args.place.first c.args.place.copies 1 all even blank (omega arith) (c.write_durably.ensures.elsewhere tells))
+    (chosen_elsewhere c.args.place.first c.args.place.copies 0 all old even (omega arith)
+    (c.write_fronts.ensures.elsewhere tells))
+    (chosen_elsewhere c.args.place.first c.args.place.copies 1 all even blank (omega arith)
+    (c.write_durably.ensures.elsewhere tells))
 
 pub returns-in_err-write_durably-2-clause-elsewhere : goal.returns-in_err-write_durably-2-clause-elsewhere
 returns-in_err-write_durably-2-clause-elsewhere g c = λ tells.
@@ -30,9 +33,12 @@ returns-in_err-write_durably-2-clause-elsewhere g c = λ tells.
     let new = (g.D.Disk.medium c.write_durably-2.new.disk).image in
     spares_on (IsNoSlot c.args.place.first c.args.place.copies) old blank new
     (spares_on (IsNoSlot c.args.place.first c.args.place.copies) old even blank
-    (chosen_elsewhere c.args.place.first c.args.place.copies 0 all old even (omega arith) (c.write_fronts.ensures.elsewhere tells))
-    (chosen_elsewhere c.args.place.first c.args.place.copies 1 all even blank (omega arith) (c.write_durably.ensures.elsewhere tells)))
-    (chosen_elsewhere c.args.place.first c.args.place.copies 1 all blank new (omega arith) (c.write_durably-2.ensures.elsewhere tells))
+    (chosen_elsewhere c.args.place.first c.args.place.copies 0 all old even (omega arith)
+    (c.write_fronts.ensures.elsewhere tells))
+    (chosen_elsewhere c.args.place.first c.args.place.copies 1 all even blank (omega arith)
+    (c.write_durably.ensures.elsewhere tells)))
+    (chosen_elsewhere c.args.place.first c.args.place.copies 1 all blank new (omega arith)
+    (c.write_durably-2.ensures.elsewhere tells))
 
 pub returns-clause-elsewhere : goal.returns-clause-elsewhere
 returns-clause-elsewhere g c = λ tells.
@@ -42,22 +48,27 @@ returns-clause-elsewhere g c = λ tells.
     let new = (g.D.Disk.medium c.write_durably-2.new.disk).image in
     spares_on (IsNoSlot c.args.place.first c.args.place.copies) old blank new
     (spares_on (IsNoSlot c.args.place.first c.args.place.copies) old even blank
-    (chosen_elsewhere c.args.place.first c.args.place.copies 0 all old even (omega arith) (c.write_fronts.ensures.elsewhere tells))
-    (chosen_elsewhere c.args.place.first c.args.place.copies 1 all even blank (omega arith) (c.write_durably.ensures.elsewhere tells)))
-    (chosen_elsewhere c.args.place.first c.args.place.copies 1 all blank new (omega arith) (c.write_durably-2.ensures.elsewhere tells))
+    (chosen_elsewhere c.args.place.first c.args.place.copies 0 all old even (omega arith)
+    (c.write_fronts.ensures.elsewhere tells))
+    (chosen_elsewhere c.args.place.first c.args.place.copies 1 all even blank (omega arith)
+    (c.write_durably.ensures.elsewhere tells)))
+    (chosen_elsewhere c.args.place.first c.args.place.copies 1 all blank new (omega arith)
+    (c.write_durably-2.ensures.elsewhere tells))
 
 pub returns-in_err-write_fronts-clause-any_moment : goal.returns-in_err-write_fronts-clause-any_moment
 returns-in_err-write_fronts-clause-any_moment g c = λ tells quiet.
     let old = g.D.Disk.medium c.args.disk.now in
     let even = g.D.Disk.medium c.write_fronts.new.disk in
-    format_first c.args.place.first c.args.place.copies c.args.place.few c.args.text.now g.D.Disk.told old even even even quiet c.write_fronts.ensures.during
+    format_first c.args.place.first c.args.place.copies c.args.place.few c.args.text.now g.D.Disk.told old even even
+    even quiet c.write_fronts.ensures.during
 
 pub returns-in_err-write_durably-clause-any_moment : goal.returns-in_err-write_durably-clause-any_moment
 returns-in_err-write_durably-clause-any_moment g c = λ tells quiet.
     let old = g.D.Disk.medium c.args.disk.now in
     let even = g.D.Disk.medium c.write_fronts.new.disk in
     let blank = g.D.Disk.medium c.write_durably.new.disk in
-    format_second c.args.place.first c.args.place.copies c.args.place.few c.args.text.now g.D.Disk.told old even blank blank quiet c.write_fronts.ensures.during
+    format_second c.args.place.first c.args.place.copies c.args.place.few c.args.text.now g.D.Disk.told old even blank
+    blank quiet c.write_fronts.ensures.during
     _ (g.met.D.Disk.lawful c.write_fronts.new.disk) c.write_fronts.ensures.time c.write_durably.ensures.time
     (λ x. absurd (false≢true x)) (λ x. absurd (false≢true x)) c.in_err-write_durably.ensures.during
 
@@ -69,11 +80,14 @@ returns-in_err-write_durably-2-clause-any_moment g c = λ tells quiet.
     let new = g.D.Disk.medium c.write_durably-2.new.disk in
     let put = c.in_ok-write_fronts.ensures.put tells in
     let blanked = c.in_ok-write_durably.ensures.put tells in
-    goes_on (FormatStops c.args.place.first c.args.place.copies 1 c.args.text.now old.image) (elapses_on c.write_fronts.ensures.time c.write_durably.ensures.time) c.write_durably-2.ensures.time
-    (format_second c.args.place.first c.args.place.copies c.args.place.few c.args.text.now g.D.Disk.told old even blank new quiet c.write_fronts.ensures.during
+    goes_on (FormatStops c.args.place.first c.args.place.copies 1 c.args.text.now old.image)
+    (elapses_on c.write_fronts.ensures.time c.write_durably.ensures.time) c.write_durably-2.ensures.time
+    (format_second c.args.place.first c.args.place.copies c.args.place.few c.args.text.now g.D.Disk.told old even blank
+    new quiet c.write_fronts.ensures.during
     _ (g.met.D.Disk.lawful c.write_fronts.new.disk) c.write_fronts.ensures.time c.write_durably.ensures.time
     (λ x. put) (λ x. blanked) c.in_ok-write_durably.ensures.during)
-    (format_third c.args.place.first c.args.place.copies c.args.place.few c.args.text.now g.D.Disk.told old even blank new quiet c.write_fronts.ensures.during
+    (format_third c.args.place.first c.args.place.copies c.args.place.few c.args.text.now g.D.Disk.told old even blank
+    new quiet c.write_fronts.ensures.during
     _ c.requires.short c.args.sealed_text.now c.requires.text c.in_ok-write_durably.ensures.quiet put blanked
     (λ x. absurd (false≢true x)) c.in_err-write_durably-2.ensures.during)
 
@@ -85,29 +99,40 @@ returns-clause-any_moment g c = λ tells quiet.
     let new = g.D.Disk.medium c.write_durably-2.new.disk in
     let put = c.in_ok-write_fronts.ensures.put tells in
     let blanked = c.in_ok-write_durably.ensures.put tells in
-    goes_on (FormatStops c.args.place.first c.args.place.copies 1 c.args.text.now old.image) (elapses_on c.write_fronts.ensures.time c.write_durably.ensures.time) c.write_durably-2.ensures.time
-    (format_second c.args.place.first c.args.place.copies c.args.place.few c.args.text.now g.D.Disk.told old even blank new quiet c.write_fronts.ensures.during
+    goes_on (FormatStops c.args.place.first c.args.place.copies 1 c.args.text.now old.image)
+    (elapses_on c.write_fronts.ensures.time c.write_durably.ensures.time) c.write_durably-2.ensures.time
+    (format_second c.args.place.first c.args.place.copies c.args.place.few c.args.text.now g.D.Disk.told old even blank
+    new quiet c.write_fronts.ensures.during
     _ (g.met.D.Disk.lawful c.write_fronts.new.disk) c.write_fronts.ensures.time c.write_durably.ensures.time
     (λ x. put) (λ x. blanked) c.in_ok-write_durably.ensures.during)
-    (format_third c.args.place.first c.args.place.copies c.args.place.few c.args.text.now g.D.Disk.told old even blank new quiet c.write_fronts.ensures.during
+    (format_third c.args.place.first c.args.place.copies c.args.place.few c.args.text.now g.D.Disk.told old even blank
+    new quiet c.write_fronts.ensures.during
     _ c.requires.short c.args.sealed_text.now c.requires.text c.in_ok-write_durably.ensures.quiet put blanked
     (λ x. c.in_ok-write_durably-2.ensures.put tells) c.in_ok-write_durably-2.ensures.during)
 
 pub returns-clause-alone : goal.returns-clause-alone
 returns-clause-alone g c = λ tells.
-    text_alone c.args.place.first c.args.place.copies c.args.place.few c.args.text.now (g.D.Disk.medium c.args.disk.now).image
+    text_alone c.args.place.first c.args.place.copies c.args.place.few c.args.text.now
+    (g.D.Disk.medium c.args.disk.now).image
     (g.D.Disk.medium c.write_fronts.new.disk).image (g.D.Disk.medium c.write_durably.new.disk).image
-    (c.in_ok-write_fronts.ensures.put tells) (c.in_ok-write_durably.ensures.put tells) c.requires.short c.args.sealed_text.now c.requires.text
+    (c.in_ok-write_fronts.ensures.put tells) (c.in_ok-write_durably.ensures.put tells) c.requires.short
+    c.args.sealed_text.now c.requires.text
     (g.D.Disk.medium c.write_durably-2.new.disk).image (c.in_ok-write_durably-2.ensures.put tells)
 
 pub returns-in_err-write_durably-2-clause-written : goal.returns-in_err-write_durably-2-clause-written
 returns-in_err-write_durably-2-clause-written g c =
-    format_written c.args.place.copies (length c.args.text.now) (length c.args.sealed_text.now) (g.D.Disk.medium c.args.disk.now).written
-    (g.D.Disk.medium c.write_fronts.new.disk).written (g.D.Disk.medium c.write_durably.new.disk).written (g.D.Disk.medium c.write_durably-2.new.disk).written
-    (ap length c.requires.text ∙ length-sealed 1 c.args.text.now) c.write_fronts.ensures.written c.write_durably.ensures.written c.write_durably-2.ensures.written
+    format_written c.args.place.copies (length c.args.text.now) (length c.args.sealed_text.now)
+    (g.D.Disk.medium c.args.disk.now).written
+    (g.D.Disk.medium c.write_fronts.new.disk).written (g.D.Disk.medium c.write_durably.new.disk).written
+    (g.D.Disk.medium c.write_durably-2.new.disk).written
+    (ap length c.requires.text ∙ length-sealed 1 c.args.text.now) c.write_fronts.ensures.written
+    c.write_durably.ensures.written c.write_durably-2.ensures.written
 
 pub returns-clause-written : goal.returns-clause-written
 returns-clause-written g c =
-    format_written c.args.place.copies (length c.args.text.now) (length c.args.sealed_text.now) (g.D.Disk.medium c.args.disk.now).written
-    (g.D.Disk.medium c.write_fronts.new.disk).written (g.D.Disk.medium c.write_durably.new.disk).written (g.D.Disk.medium c.write_durably-2.new.disk).written
-    (ap length c.requires.text ∙ length-sealed 1 c.args.text.now) c.write_fronts.ensures.written c.write_durably.ensures.written c.write_durably-2.ensures.written
+    format_written c.args.place.copies (length c.args.text.now) (length c.args.sealed_text.now)
+    (g.D.Disk.medium c.args.disk.now).written
+    (g.D.Disk.medium c.write_fronts.new.disk).written (g.D.Disk.medium c.write_durably.new.disk).written
+    (g.D.Disk.medium c.write_durably-2.new.disk).written
+    (ap length c.requires.text ∙ length-sealed 1 c.args.text.now) c.write_fronts.ensures.written
+    c.write_durably.ensures.written c.write_durably-2.ensures.written

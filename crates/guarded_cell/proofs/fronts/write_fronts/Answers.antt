@@ -9,8 +9,10 @@ returns-in_err-write_at-clause-during g c =
     let mid = g.D.Disk.medium c.loop-copy.disk in
     let new = g.D.Disk.medium c.write_at.new.self in
     let flag : get_or c.args.chosen.now c.loop-copy.copy false ≡ true = search rules in
-    let write = subst (λ (f : ℕ). Follows (WriteOrNot f 0 c.args.bytes.now) mid.now (new.since mid.moment)) c.slot.ensures c.write_at.ensures.during in
-    cut_during c.args.place.first c.args.parity c.args.place.copies c.args.chosen.now c.args.bytes.now c.loop-copy.copy (omega arith) flag
+    let write = subst (λ (f : ℕ). Follows (WriteOrNot f 0 c.args.bytes.now) mid.now (new.since mid.moment))
+    c.slot.ensures c.write_at.ensures.during in
+    cut_during c.args.place.first c.args.parity c.args.place.copies c.args.chosen.now c.args.bytes.now c.loop-copy.copy
+    (omega arith) flag
     (g.met.D.Disk.lawful c.loop-copy.disk) c.loop-copy.invariant write c.write_at.ensures.time
 
 pub returns-in_err-write_at-clause-none : goal.returns-in_err-write_at-clause-none
@@ -24,8 +26,11 @@ loop-copy-preserved g c =
     let mid = g.D.Disk.medium c.loop-copy.disk in
     let new = g.D.Disk.medium c.write_at.new.self in
     let flag : get_or c.args.chosen.now c.loop-copy.copy false ≡ true = search rules in
-    let write = subst (λ (f : ℕ). Follows (WriteOrNot f 0 c.args.bytes.now) mid.now (new.since mid.moment)) c.slot.ensures c.write_at.ensures.during in
-    writing_writes c.args.place.first c.args.parity c.args.place.copies c.args.chosen.now c.args.bytes.now c.loop-copy.copy (omega arith) flag
+    let write = subst (λ (f : ℕ). Follows (WriteOrNot f 0 c.args.bytes.now) mid.now (new.since mid.moment))
+    c.slot.ensures c.write_at.ensures.during in
+    writing_writes c.args.place.first c.args.parity c.args.place.copies c.args.chosen.now c.args.bytes.now
+    c.loop-copy.copy (omega arith) flag
     (g.met.D.Disk.lawful c.loop-copy.disk) c.loop-copy.invariant
-    (λ tells. c.in_ok-write_at.ensures.image tells ∙ ap (λ (f : ℕ). put_image mid.image f 0 c.args.bytes.now) c.slot.ensures)
+    (λ tells. c.in_ok-write_at.ensures.image tells ∙ ap (λ (f : ℕ). put_image mid.image f 0 c.args.bytes.now)
+    c.slot.ensures)
     write c.write_at.ensures.at_most c.write_at.ensures.time c.in_ok-write_at.ensures.passes

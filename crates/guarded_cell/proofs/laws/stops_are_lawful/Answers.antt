@@ -17,7 +17,8 @@ returns-clause-adopt_stands c = λ first copies m g text next damaged start imag
 
 pub returns-clause-adopt_old_or_new : goal.returns-clause-adopt_old_or_new
 returns-clause-adopt_old_or_new c = λ first copies m g text next damaged start image is.
-    adopt_old_or_new first copies m g text next damaged start image is.positive is.one is.stands is.greatest is.stop is.safe
+    adopt_old_or_new first copies m g text next damaged start image is.positive is.one is.stands is.greatest is.stop
+    is.safe
 
 pub returns-clause-untouched : goal.returns-clause-untouched
 returns-clause-untouched c = untouched_stays

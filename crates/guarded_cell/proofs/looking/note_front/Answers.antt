@@ -6,7 +6,8 @@ use Rattle.guarded_cell.proofs.looking.note_front.Goals as goal
 pub returns-then-found-from-clause-seen : goal.returns-then-found-from-clause-seen
 returns-then-found-from-clause-seen c =
     let differs : c.in-Some.found.generation % 2 ≢ c.args.parity = λ e. omega (arith, e, c.from.ensures) in
-    noted_other (c.args.copy + 1) c.args.parity c.in-Some.found.generation c.args.bytes.now c.in-Some.found.body.now c.args.seens.now.items c.in-Some.ensures.some differs
+    noted_other (c.args.copy + 1) c.args.parity c.in-Some.found.generation c.args.bytes.now c.in-Some.found.body.now
+    c.args.seens.now.items c.in-Some.ensures.some differs
 
 pub returns-in-None-clause-seen : goal.returns-in-None-clause-seen
 returns-in-None-clause-seen c = noted_none (c.args.copy + 1) c.args.parity c.args.bytes.now c.args.seens.now.items
@@ -16,4 +17,5 @@ pub returns-in_ok-note-in-Some-clause-seen : goal.returns-in_ok-note-in-Some-cla
 returns-in_ok-note-in-Some-clause-seen c =
     let same : c.in-Some.found.generation % 2 ≡ c.args.parity = omega (arith, c.from.ensures) in
     c.in_ok-note-in-Some.ensures.seen
-    ∙ noted_same (c.args.copy + 1) c.args.parity c.in-Some.found.generation c.args.bytes.now c.in-Some.found.body.now c.args.seens.now.items c.in-Some.ensures.some same
+    ∙ noted_same (c.args.copy + 1) c.args.parity c.in-Some.found.generation c.args.bytes.now c.in-Some.found.body.now
+    c.args.seens.now.items c.in-Some.ensures.some same

@@ -8,5 +8,6 @@ pub returns-clause-seen : goal.returns-clause-seen
 returns-clause-seen g c = λ tells.
     let image = (g.D.Disk.medium c.args.disk.now).image in
     let shown = λ (w : Option Text). with_slot (c.args.copy + 1) (of_parity c.args.parity w) c.args.seens.now.items in
-    let found = ap verified (c.in_ok-count.ensures.bytes tells) ∙ verified_front (image c.slot.result) ∙ ap (λ (f : ℕ). verified (image f)) c.slot.ensures in
+    let found = ap verified (c.in_ok-count.ensures.bytes tells) ∙ verified_front (image c.slot.result)
+    ∙ ap (λ (f : ℕ). verified (image f)) c.slot.ensures in
     c.in_ok-note_front.ensures.seen ∙ ap shown found

@@ -11,22 +11,30 @@ use Rattle.guarded_cell.proofs.opening.open_text.Goals as goal
 pub returns-in_err-sealed_text-clause-any_moment : goal.returns-in_err-sealed_text-clause-any_moment
 returns-in_err-sealed_text-clause-any_moment g c = λ tells quiet.
     let old = g.D.Disk.medium c.args.disk.now in
-    none_alone (PutStops c.args.place.first c.args.place.copies c.args.generation c.args.text.now old.image) g.D.Disk.told old (g.met.D.Disk.lawful c.args.disk.now) quiet (still_stops c.args.place.first c.args.place.copies c.args.generation c.args.text.now old.image)
+    none_alone (PutStops c.args.place.first c.args.place.copies c.args.generation c.args.text.now old.image)
+    g.D.Disk.told old (g.met.D.Disk.lawful c.args.disk.now) quiet
+    (still_stops c.args.place.first c.args.place.copies c.args.generation c.args.text.now old.image)
 
 pub returns-in_err-room-clause-any_moment : goal.returns-in_err-room-clause-any_moment
 returns-in_err-room-clause-any_moment g c = λ tells quiet.
     let old = g.D.Disk.medium c.args.disk.now in
-    none_alone (PutStops c.args.place.first c.args.place.copies c.args.generation c.args.text.now old.image) g.D.Disk.told old (g.met.D.Disk.lawful c.args.disk.now) quiet (still_stops c.args.place.first c.args.place.copies c.args.generation c.args.text.now old.image)
+    none_alone (PutStops c.args.place.first c.args.place.copies c.args.generation c.args.text.now old.image)
+    g.D.Disk.told old (g.met.D.Disk.lawful c.args.disk.now) quiet
+    (still_stops c.args.place.first c.args.place.copies c.args.generation c.args.text.now old.image)
 
 pub returns-in_err-chosen-clause-any_moment : goal.returns-in_err-chosen-clause-any_moment
 returns-in_err-chosen-clause-any_moment g c = λ tells quiet.
     let old = g.D.Disk.medium c.args.disk.now in
-    reads_alone (PutStops c.args.place.first c.args.place.copies c.args.generation c.args.text.now old.image) old (g.D.Disk.medium c.choose.new.disk) quiet c.choose.ensures.reads (still_stops c.args.place.first c.args.place.copies c.args.generation c.args.text.now old.image)
+    reads_alone (PutStops c.args.place.first c.args.place.copies c.args.generation c.args.text.now old.image) old
+    (g.D.Disk.medium c.choose.new.disk) quiet c.choose.ensures.reads
+    (still_stops c.args.place.first c.args.place.copies c.args.generation c.args.text.now old.image)
 
 pub returns-in_err-lacking-clause-any_moment : goal.returns-in_err-lacking-clause-any_moment
 returns-in_err-lacking-clause-any_moment g c = λ tells quiet.
     let old = g.D.Disk.medium c.args.disk.now in
-    reads_alone (PutStops c.args.place.first c.args.place.copies c.args.generation c.args.text.now old.image) old (g.D.Disk.medium c.choose.new.disk) quiet c.choose.ensures.reads (still_stops c.args.place.first c.args.place.copies c.args.generation c.args.text.now old.image)
+    reads_alone (PutStops c.args.place.first c.args.place.copies c.args.generation c.args.text.now old.image) old
+    (g.D.Disk.medium c.choose.new.disk) quiet c.choose.ensures.reads
+    (still_stops c.args.place.first c.args.place.copies c.args.generation c.args.text.now old.image)
 
 pub returns-in_err-settle_on-clause-any_moment : goal.returns-in_err-settle_on-clause-any_moment
 returns-in_err-settle_on-clause-any_moment g c = λ tells quiet.
@@ -34,8 +42,11 @@ returns-in_err-settle_on-clause-any_moment g c = λ tells quiet.
     let mid = g.D.Disk.medium c.choose.new.disk in
     let new = g.D.Disk.medium c.settle_on.new.disk in
     let reads = c.choose.ensures.reads in
-    reads_then (PutStops c.args.place.first c.args.place.copies c.args.generation c.args.text.now old.image) old mid new quiet c.choose.ensures.time reads c.settle_on.ensures.time (still_stops c.args.place.first c.args.place.copies c.args.generation c.args.text.now old.image)
-    (subst (λ (im : Image). EachCase (PutStops c.args.place.first c.args.place.copies c.args.generation c.args.text.now im) mid new) reads.image (c.settle_on.ensures.any_moment tells (reads_quiet quiet reads)))
+    reads_then (PutStops c.args.place.first c.args.place.copies c.args.generation c.args.text.now old.image) old mid new
+    quiet c.choose.ensures.time reads c.settle_on.ensures.time
+    (still_stops c.args.place.first c.args.place.copies c.args.generation c.args.text.now old.image)
+    (subst (λ (im : Image). EachCase (PutStops c.args.place.first c.args.place.copies c.args.generation c.args.text.now
+    im) mid new) reads.image (c.settle_on.ensures.any_moment tells (reads_quiet quiet reads)))
 
 pub returns-clause-any_moment : goal.returns-clause-any_moment
 returns-clause-any_moment g c = λ tells quiet.
@@ -43,21 +54,28 @@ returns-clause-any_moment g c = λ tells quiet.
     let mid = g.D.Disk.medium c.choose.new.disk in
     let new = g.D.Disk.medium c.settle_on.new.disk in
     let reads = c.choose.ensures.reads in
-    reads_then (PutStops c.args.place.first c.args.place.copies c.args.generation c.args.text.now old.image) old mid new quiet c.choose.ensures.time reads c.settle_on.ensures.time (still_stops c.args.place.first c.args.place.copies c.args.generation c.args.text.now old.image)
-    (subst (λ (im : Image). EachCase (PutStops c.args.place.first c.args.place.copies c.args.generation c.args.text.now im) mid new) reads.image (c.settle_on.ensures.any_moment tells (reads_quiet quiet reads)))
+    reads_then (PutStops c.args.place.first c.args.place.copies c.args.generation c.args.text.now old.image) old mid new
+    quiet c.choose.ensures.time reads c.settle_on.ensures.time
+    (still_stops c.args.place.first c.args.place.copies c.args.generation c.args.text.now old.image)
+    (subst (λ (im : Image). EachCase (PutStops c.args.place.first c.args.place.copies c.args.generation c.args.text.now
+    im) mid new) reads.image (c.settle_on.ensures.any_moment tells (reads_quiet quiet reads)))
 
 pub returns-clause-lacking : goal.returns-clause-lacking
 returns-clause-lacking g c = λ tells.
-    lacking_is (g.D.Disk.medium c.args.disk.now).image c.args.place.first c.args.place.copies c.args.generation c.args.text.now c.in_ok-chosen.chosen c.in_ok-lacking.lacking (c.in_ok-chosen.ensures.picks tells) c.in_ok-lacking.ensures
+    lacking_is (g.D.Disk.medium c.args.disk.now).image c.args.place.first c.args.place.copies c.args.generation
+    c.args.text.now c.in_ok-chosen.chosen c.in_ok-lacking.lacking (c.in_ok-chosen.ensures.picks tells)
+    c.in_ok-lacking.ensures
 
 pub returns-in_err-settle_on-clause-right : goal.returns-in_err-settle_on-clause-right
 returns-in_err-settle_on-clause-right g c = λ tells.
     right_since c.args.place.first c.args.place.copies c.args.generation c.args.text.now
-    (g.D.Disk.medium c.args.disk.now).image (g.D.Disk.medium c.choose.new.disk).image (g.D.Disk.medium c.settle_on.new.disk).image
+    (g.D.Disk.medium c.args.disk.now).image (g.D.Disk.medium c.choose.new.disk).image
+    (g.D.Disk.medium c.settle_on.new.disk).image
     c.choose.ensures.reads.image (c.settle_on.ensures.right tells)
 
 pub returns-clause-right : goal.returns-clause-right
 returns-clause-right g c = λ tells.
     right_since c.args.place.first c.args.place.copies c.args.generation c.args.text.now
-    (g.D.Disk.medium c.args.disk.now).image (g.D.Disk.medium c.choose.new.disk).image (g.D.Disk.medium c.settle_on.new.disk).image
+    (g.D.Disk.medium c.args.disk.now).image (g.D.Disk.medium c.choose.new.disk).image
+    (g.D.Disk.medium c.settle_on.new.disk).image
     c.choose.ensures.reads.image (c.settle_on.ensures.right tells)

@@ -11,4 +11,5 @@ pub returns-clause-verifies : goal.returns-clause-verifies
 returns-clause-verifies c = λ rest.
     let P : List ℕ → Type 0 = λ text. VerifiesAs (text ++ rest) c.args.generation c.args.body.now in
     subst P (sym (returns-clause-text c))
-    (sealed_verifies c.args.generation c.args.body.now rest c.requires.positive c.ranges.generation.fits c.requires.short)
+    (sealed_verifies c.args.generation c.args.body.now rest c.requires.positive c.ranges.generation.fits
+    c.requires.short)

@@ -9,14 +9,19 @@ pub returns-in_err-entry : goal.returns-in_err-entry
 returns-in_err-entry c =
     let read = entry_at c.args.header.format c.args.header.kind in
     let p = err_from_is_err_and c.from_residual.result c.from_residual.ensures.1 in
-    rw (p.1, p.2) (ends read c.in_err-entry.field-0.0 c.loop.entries.items c.args.header.count c.loop.counter c.loop.rest.now (many read c.args.header.count c.args.bytes.now) c.loop-test.true c.in_err-entry.ensures c.loop.invariant)
+    rw (p.1, p.2) (ends read c.in_err-entry.field-0.0 c.loop.entries.items c.args.header.count c.loop.counter
+    c.loop.rest.now (many read c.args.header.count c.args.bytes.now) c.loop-test.true c.in_err-entry.ensures
+    c.loop.invariant)
 
 pub loop-preserved : goal.loop-preserved
 loop-preserved c =
     let read = entry_at c.args.header.format c.args.header.kind in
-    rw c.in_ok-push.ensures.items (goes_on read c.loop.entries.items c.args.header.count c.loop.counter c.loop.rest.now c.in_ok-entry.entry c.in_ok-entry.after.now (many read c.args.header.count c.args.bytes.now) c.loop-test.true c.in_ok-entry.ensures c.loop.invariant)
+    rw c.in_ok-push.ensures.items (goes_on read c.loop.entries.items c.args.header.count c.loop.counter c.loop.rest.now
+    c.in_ok-entry.entry c.in_ok-entry.after.now (many read c.args.header.count c.args.bytes.now) c.loop-test.true
+    c.in_ok-entry.ensures c.loop.invariant)
 
 pub returns : goal.returns
 returns c =
     let read = entry_at c.args.header.format c.args.header.kind in
-    is_done read c.loop.entries.items c.args.header.count c.loop.counter c.loop.rest.now (many read c.args.header.count c.args.bytes.now) c.loop-test.false c.loop.invariant
+    is_done read c.loop.entries.items c.args.header.count c.loop.counter c.loop.rest.now
+    (many read c.args.header.count c.args.bytes.now) c.loop-test.false c.loop.invariant

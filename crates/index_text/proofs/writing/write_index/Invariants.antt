@@ -6,6 +6,7 @@ use Rattle.index_text.proofs.writing.write_index.Given as goal
 
 abbrev pub invariant-loop-entry : goal.invariant-loop-entry
 invariant-loop-entry l = record {
-  text : l.text.items ≡ header_text l.index.format l.index.kind (length l.entries) ++ flat_map (entry_text l.index.format) (take l.entry-index l.entries);
+  text : l.text.items ≡ header_text l.index.format l.index.kind (length l.entries)
+      ++ flat_map (entry_text l.index.format) (take l.entry-index l.entries);
   in_range : AllByRecursion EntryInRange (take l.entry-index l.entries);
 }

@@ -10,5 +10,6 @@ use Rattle.key_maps.proofs.cells.clear.Goals as goal
 pub returns : goal.returns
 returns c =
     along c.args.cells.now.entries (picked emptied c.args.cells.now.entries) c.retain.new.self.entries []
-    (from_retain _ (λ (cell : Cell). is_some cell.synced) (λ (cell : Cell). record cell { pending = Removed }) _ (λ k v b w f' t. search rules) _ _ c.retain.ensures.filtered)
+    (from_retain _ (λ (cell : Cell). is_some cell.synced) (λ (cell : Cell). record cell { pending = Removed }) _
+    (λ k v b w f' t. search rules) _ _ c.retain.ensures.filtered)
     (cleared c.args.cells.now.entries c.requires)

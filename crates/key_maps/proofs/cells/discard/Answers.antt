@@ -10,6 +10,8 @@ use Rattle.key_maps.proofs.cells.discard.Goals as goal
 
 pub returns : goal.returns
 returns c =
-    along c.args.cells.now.entries (picked unchanged c.args.cells.now.entries) c.retain.new.self.entries (synced_map c.args.cells.now.entries)
-    (from_retain _ (λ (cell : Cell). is_some cell.synced) (λ (cell : Cell). record cell { pending = Same }) _ (λ k v b w f' t. search rules) _ _ c.retain.ensures.filtered)
+    along c.args.cells.now.entries (picked unchanged c.args.cells.now.entries) c.retain.new.self.entries
+    (synced_map c.args.cells.now.entries)
+    (from_retain _ (λ (cell : Cell). is_some cell.synced) (λ (cell : Cell). record cell { pending = Same }) _
+    (λ k v b w f' t. search rules) _ _ c.retain.ensures.filtered)
     (discarded c.args.cells.now.entries c.requires)

@@ -10,5 +10,7 @@ use Rattle.key_maps.proofs.cells.settle.Goals as goal
 pub returns : goal.returns
 returns c =
     subst (λ (n : Cells). IsSettled c.args.cells.now.entries n)
-    (sym (from_retain _ (λ (cell : Cell). is_some (visible_of cell)) (λ (cell : Cell). record { synced = visible_of cell; pending = Same }) _ (λ k v b w f' t. search rules) _ _ c.retain.ensures.filtered))
+    (sym (from_retain _ (λ (cell : Cell). is_some (visible_of cell))
+    (λ (cell : Cell). record { synced = visible_of cell; pending = Same }) _ (λ k v b w f' t. search rules) _ _
+    c.retain.ensures.filtered))
     (settles c.args.cells.now.entries c.requires)

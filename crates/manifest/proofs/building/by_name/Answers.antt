@@ -5,4 +5,5 @@ use Rattle.manifest.proofs.NameLaws.{values_viewed}
 use Rattle.manifest.proofs.building.by_name.Goals as goal
 
 pub returns : goal.returns
-returns c = ap listed_views c.in_ok-ordered.ensures ∙ values_viewed c.in_ok-found.found.entries ∙ ap (map (λ (e : List ℕ × Listed). e.1)) c.in_ok-found.ensures
+returns c = ap listed_views c.in_ok-ordered.ensures ∙ values_viewed c.in_ok-found.found.entries
+    ∙ ap (map (λ (e : List ℕ × Listed). e.1)) c.in_ok-found.ensures

@@ -5,4 +5,5 @@ use Rattle.manifest.specs.Views.{listed_views}
 use Rattle.manifest.proofs.building.element_configs.Given as goal
 
 abbrev pub invariant-loop-element : goal.invariant-loop-element
-invariant-loop-element l = map element_data l.configs.items ≡ map element_said (listed_views (take l.element-index l.elements))
+invariant-loop-element l = map element_data l.configs.items
+    ≡ map element_said (listed_views (take l.element-index l.elements))

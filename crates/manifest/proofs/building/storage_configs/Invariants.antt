@@ -5,4 +5,5 @@ use Rattle.manifest.specs.Views.{listed_views}
 use Rattle.manifest.proofs.building.storage_configs.Given as goal
 
 abbrev pub invariant-loop-storage : goal.invariant-loop-storage
-invariant-loop-storage l = map storage_data l.configs.items ≡ map storage_said (listed_views (take l.storage-index l.storages))
+invariant-loop-storage l = map storage_data l.configs.items
+    ≡ map storage_said (listed_views (take l.storage-index l.storages))

@@ -6,4 +6,5 @@ use Rattle.manifest.proofs.element_rules.elements_differ.Given as goal
 
 -- what is left decides
 abbrev pub invariant-loop-storage : goal.invariant-loop-storage
-invariant-loop-storage l = list_all has_different_elements (listed_views l.storages) ≡ list_all has_different_elements (listed_views (drop l.storage-index l.storages))
+invariant-loop-storage l = list_all has_different_elements (listed_views l.storages)
+    ≡ list_all has_different_elements (listed_views (drop l.storage-index l.storages))

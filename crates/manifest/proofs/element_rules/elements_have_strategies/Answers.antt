@@ -9,5 +9,6 @@ use Rattle.manifest.proofs.element_rules.elements_have_strategies.Goals as goal
 pub returns : goal.returns
 unfolding elements_have_strategies
 returns c =
-    all_from_yields_List (λ s. has_strategy (listed_view s)) _ _ c.all.result c.all.ensures.ran (YieldsList-from_slice c.args.elements.now cc) (λ x b q k. search (rules, tests))
+    all_from_yields_List (λ s. has_strategy (listed_view s)) _ _ c.all.result c.all.ensures.ran
+    (YieldsList-from_slice c.args.elements.now cc) (λ x b q k. search (rules, tests))
     ∙ sym (list_all-map has_strategy listed_view c.args.elements.now)

@@ -6,4 +6,5 @@ use Rattle.manifest.proofs.element_rules.initials_fit.Given as goal
 
 -- what is left decides
 abbrev pub invariant-loop-storage : goal.invariant-loop-storage
-invariant-loop-storage l = list_all has_room (listed_views l.storages) ≡ list_all has_room (listed_views (drop l.storage-index l.storages))
+invariant-loop-storage l = list_all has_room (listed_views l.storages)
+    ≡ list_all has_room (listed_views (drop l.storage-index l.storages))

@@ -6,4 +6,5 @@ use Rattle.manifest.proofs.element_rules.keys_have_types.Given as goal
 
 -- what is left decides
 abbrev pub invariant-loop-element : goal.invariant-loop-element
-invariant-loop-element l = list_all has_type (listed_views l.elements) ≡ list_all has_type (listed_views (drop l.element-index l.elements))
+invariant-loop-element l = list_all has_type (listed_views l.elements)
+    ≡ list_all has_type (listed_views (drop l.element-index l.elements))

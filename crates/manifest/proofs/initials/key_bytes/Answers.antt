@@ -5,4 +5,5 @@ use Rattle.manifest.proofs.TypeLaws.{type_said}
 use Rattle.manifest.proofs.initials.key_bytes.Goals as goal
 
 pub encoding_as-requires-clause-typed : goal.encoding_as-requires-clause-typed
-encoding_as-requires-clause-typed c = type_said (view c.args.key.now) _ (sym c.in_ok-value_type.ensures ∙ ap (option_map kind_of) c.in-Some.is)
+encoding_as-requires-clause-typed c = type_said (view c.args.key.now) _
+    (sym c.in_ok-value_type.ensures ∙ ap (option_map kind_of) c.in-Some.is)

@@ -6,4 +6,5 @@ use Rattle.manifest.proofs.names.are_named.Given as goal
 
 -- what is left decides
 abbrev pub invariant-loop-thing : goal.invariant-loop-thing
-invariant-loop-thing l = list_all is_named (listed_views l.things) ≡ list_all is_named (listed_views (drop l.thing-index l.things))
+invariant-loop-thing l = list_all is_named (listed_views l.things)
+    ≡ list_all is_named (listed_views (drop l.thing-index l.things))

@@ -10,4 +10,6 @@ pub returns : goal.returns
 returns c =
     let entries = c.in_ok-found.found.entries in
     let count = c.len.ensures.len ∙ sym (length-named_views entries) ∙ ap length c.in_ok-found.ensures in
-    ap (λ (n : ℕ). nat_eq n (length c.args.things.now)) count ∙ ap (nat_eq (length (named (listed_views c.args.things.now)))) (sym (length-listed_views c.args.things.now)) ∙ counted (listed_views c.args.things.now)
+    ap (λ (n : ℕ). nat_eq n (length c.args.things.now)) count
+    ∙ ap (nat_eq (length (named (listed_views c.args.things.now)))) (sym (length-listed_views c.args.things.now))
+    ∙ counted (listed_views c.args.things.now)

@@ -6,4 +6,5 @@ use Rattle.manifest.proofs.parts.push_listed.Given as goal
 
 -- what was found, and then what is left
 abbrev pub invariant-loop-value : goal.invariant-loop-value
-invariant-loop-value l = listed_views l.found.items ++ of_kind l.kind (map view (drop l.value-index l.things)) ≡ listed_views l.fn.found.items ++ of_kind l.kind (map view l.things)
+invariant-loop-value l = listed_views l.found.items ++ of_kind l.kind (map view (drop l.value-index l.things))
+    ≡ listed_views l.fn.found.items ++ of_kind l.kind (map view l.things)

@@ -6,4 +6,8 @@ pub returns-in-Ok : goal.returns-in-Ok
 returns-in-Ok c = value_read _ _ c.in-Ok.ensures.ok.0 c.in-Ok.ensures.ok.1
 
 pub returns-else-is_memory : goal.returns-else-is_memory
-returns-else-is_memory c = (refl, value_none _ (c.in-Err.ensures.err (λ memory. true≢false (sym (c.is_memory.ensures.1 memory) ∙ c.if-is_memory.false))))
+returns-else-is_memory c = (
+  refl,
+  value_none _ (c.in-Err.ensures.err
+      (λ memory. true≢false (sym (c.is_memory.ensures.1 memory) ∙ c.if-is_memory.false))),
+)

@@ -9,5 +9,6 @@ use Rattle.manifest.proofs.storage_rules.collections_have_strategies.Goals as go
 pub returns : goal.returns
 unfolding collections_have_strategies
 returns c =
-    all_from_yields_List (λ s. has_collection_strategy (listed_view s)) _ _ c.all.result c.all.ensures.ran (YieldsList-from_slice c.args.storages.now cc) (λ x b q k. search (rules, tests))
+    all_from_yields_List (λ s. has_collection_strategy (listed_view s)) _ _ c.all.result c.all.ensures.ran
+    (YieldsList-from_slice c.args.storages.now cc) (λ x b q k. search (rules, tests))
     ∙ sym (list_all-map has_collection_strategy listed_view c.args.storages.now)

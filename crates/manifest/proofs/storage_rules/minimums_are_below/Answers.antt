@@ -9,5 +9,6 @@ use Rattle.manifest.proofs.storage_rules.minimums_are_below.Goals as goal
 pub returns : goal.returns
 unfolding minimums_are_below
 returns c =
-    all_from_yields_List (λ s. has_minimum_below (listed_view s)) _ _ c.all.result c.all.ensures.ran (YieldsList-from_slice c.args.storages.now cc) (λ x b q k. search (rules, tests))
+    all_from_yields_List (λ s. has_minimum_below (listed_view s)) _ _ c.all.result c.all.ensures.ran
+    (YieldsList-from_slice c.args.storages.now cc) (λ x b q k. search (rules, tests))
     ∙ sym (list_all-map has_minimum_below listed_view c.args.storages.now)

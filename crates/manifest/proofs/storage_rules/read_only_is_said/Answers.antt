@@ -9,5 +9,6 @@ use Rattle.manifest.proofs.storage_rules.read_only_is_said.Goals as goal
 pub returns : goal.returns
 unfolding read_only_is_said
 returns c =
-    all_from_yields_List (λ s. says_read_only (listed_view s)) _ _ c.all.result c.all.ensures.ran (YieldsList-from_slice c.args.storages.now cc) (λ x b q k. search (rules, tests))
+    all_from_yields_List (λ s. says_read_only (listed_view s)) _ _ c.all.result c.all.ensures.ran
+    (YieldsList-from_slice c.args.storages.now cc) (λ x b q k. search (rules, tests))
     ∙ sym (list_all-map says_read_only listed_view c.args.storages.now)

@@ -9,5 +9,6 @@ use Rattle.manifest.proofs.storage_rules.storages_have_known_members.Goals as go
 pub returns : goal.returns
 unfolding storages_have_known_members
 returns c =
-    all_from_yields_List (λ s. has_storage_members (listed_view s)) _ _ c.all.result c.all.ensures.ran (YieldsList-from_slice c.args.storages.now cc) (λ x b q k. search (rules, tests))
+    all_from_yields_List (λ s. has_storage_members (listed_view s)) _ _ c.all.result c.all.ensures.ran
+    (YieldsList-from_slice c.args.storages.now cc) (λ x b q k. search (rules, tests))
     ∙ sym (list_all-map has_storage_members listed_view c.args.storages.now)

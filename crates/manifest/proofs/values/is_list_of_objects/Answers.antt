@@ -6,4 +6,5 @@ use Rattle.manifest.proofs.ListLaws.{objects_listed}
 use Rattle.manifest.proofs.values.is_list_of_objects.Goals as goal
 
 pub returns-in-Some : goal.returns-in-Some
-returns-in-Some c = objects_listed _ c.in-Some.list.now.items _ c.in-Some.ensures (c.are_objects.ensures ∙ ap (list_all (λ v. is_object (view v))) c.as_slice.ensures.value)
+returns-in-Some c = objects_listed _ c.in-Some.list.now.items _ c.in-Some.ensures
+    (c.are_objects.ensures ∙ ap (list_all (λ v. is_object (view v))) c.as_slice.ensures.value)

@@ -4,4 +4,5 @@ use Rattle.manifest.proofs.ListLaws.{things_listed}
 use Rattle.manifest.proofs.values.items_of.Goals as goal
 
 pub returns-in-Some : goal.returns-in-Some
-returns-in-Some c = ap (map view) c.as_slice.ensures.value ∙ things_listed (Some (view c.args.value.now)) c.in-Some.list.now.items c.in-Some.ensures
+returns-in-Some c = ap (map view) c.as_slice.ensures.value
+    ∙ things_listed (Some (view c.args.value.now)) c.in-Some.list.now.items c.in-Some.ensures

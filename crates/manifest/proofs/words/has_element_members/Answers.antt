@@ -11,6 +11,9 @@ use Rattle.manifest.proofs.words.has_element_members.Goals as goal
 pub returns-in-Some : goal.returns-in-Some
 unfolding has_element_members
 returns-in-Some c =
-    let of_each : c.all.result ≡ list_all (λ k. one_of (element_words c.args.element.kind) (string_bytes k)) (keys c.in-Some.members.now) =
-    all_from_yields_List (λ k. one_of (element_words c.args.element.kind) (string_bytes k)) _ _ c.all.result c.all.ensures.ran (YieldsList-from_rest (keys c.in-Some.members.now) c.keys.ensures.rest) (λ x b q k. search (rules, tests)) in
+    let of_each : c.all.result ≡ list_all (λ k. one_of (element_words c.args.element.kind) (string_bytes k))
+    (keys c.in-Some.members.now) =
+    all_from_yields_List (λ k. one_of (element_words c.args.element.kind) (string_bytes k)) _ _ c.all.result
+    c.all.ensures.ran (YieldsList-from_rest (keys c.in-Some.members.now) c.keys.ensures.rest)
+    (λ x b q k. search (rules, tests)) in
     members_tested (element_words c.args.element.kind) c.in-Some.members.now.entries _ _ c.in-Some.ensures of_each

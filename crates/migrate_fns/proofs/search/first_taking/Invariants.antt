@@ -6,4 +6,5 @@ use Rattle.migrate_fns.proofs.search.first_taking.Given as goal
 
 -- the rest decides
 abbrev pub invariant-loop-place : goal.invariant-loop-place
-invariant-loop-place g l = first_taking (map rule_of l.list) (kind_of l.from) (drop l.place-index l.places) ≡ first_taking (map rule_of l.list) (kind_of l.from) l.places
+invariant-loop-place g l = first_taking (map rule_of l.list) (kind_of l.from) (drop l.place-index l.places)
+    ≡ first_taking (map rule_of l.list) (kind_of l.from) l.places

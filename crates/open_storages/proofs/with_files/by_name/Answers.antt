@@ -4,12 +4,17 @@ use Rattle.run_model.specs.Sessions.{on_working}
 use Rattle.open_storages.proofs.Rows.{answered_then, handed_on}
 use Rattle.open_storages.proofs.with_files.by_name.Goals as goal
 
-pub returns-in_err-recover_file-in-RecoverFile-clause-answered : goal.returns-in_err-recover_file-in-RecoverFile-clause-answered
+pub returns-in_err-recover_file-in-RecoverFile-clause-answered
+    : goal.returns-in_err-recover_file-in-RecoverFile-clause-answered
 unfolding on_working
 returns-in_err-recover_file-in-RecoverFile-clause-answered c =
-    rw c.in-RecoverFile.is (handed_on _ _ _ _ c.from_residual-in_err-recover_file-in-RecoverFile.result c.in_err-recover_file-in-RecoverFile.field-0.0
-    c.from_residual-in_err-recover_file-in-RecoverFile.ensures c.in_err-recover_file-in-RecoverFile.ensures.refused (ap (λ (f : FileSession). f.session) c.in_err-recover_file-in-RecoverFile.ensures.unchanged))
+    rw c.in-RecoverFile.is (handed_on _ _ _ _ c.from_residual-in_err-recover_file-in-RecoverFile.result
+    c.in_err-recover_file-in-RecoverFile.field-0.0
+    c.from_residual-in_err-recover_file-in-RecoverFile.ensures c.in_err-recover_file-in-RecoverFile.ensures.refused
+    (ap (λ (f : FileSession). f.session) c.in_err-recover_file-in-RecoverFile.ensures.unchanged))
 
-pub returns-in_ok-recover_file-in-RecoverFile-clause-answered : goal.returns-in_ok-recover_file-in-RecoverFile-clause-answered
+pub returns-in_ok-recover_file-in-RecoverFile-clause-answered
+    : goal.returns-in_ok-recover_file-in-RecoverFile-clause-answered
 unfolding on_working
-returns-in_ok-recover_file-in-RecoverFile-clause-answered c = rw c.in-RecoverFile.is (answered_then _ _ _ c.in_ok-recover_file-in-RecoverFile.ensures.ok, tt)
+returns-in_ok-recover_file-in-RecoverFile-clause-answered c =
+    rw c.in-RecoverFile.is (answered_then _ _ _ c.in_ok-recover_file-in-RecoverFile.ensures.ok, tt)

@@ -7,6 +7,10 @@ use Rattle.run_model.specs.Sessions.{storage_of}
 use Rattle.open_storages.proofs.with_files.written.Goals as goal
 
 pub returns-clause-refused : goal.returns-clause-refused
-returns-clause-refused c = subst (λ (f : FileSession). IfErr c.write.result (λ error. IsRefusal (handling.write (storage_of f.config) f.session f.moment c.args.handle c.args.bytes.now) error)) c.set_now.ensures
-    (subst (λ (bytes : List ℕ). IfErr c.write.result (λ error. IsRefusal (handling.write (storage_of c.set_now.new.self.config) c.set_now.new.self.session c.set_now.new.self.moment c.args.handle bytes) error))
+returns-clause-refused c = subst (λ (f : FileSession).
+    IfErr c.write.result (λ error. IsRefusal (handling.write (storage_of f.config) f.session f.moment c.args.handle
+    c.args.bytes.now) error)) c.set_now.ensures
+    (subst (λ (bytes : List ℕ). IfErr c.write.result (λ error.
+    IsRefusal (handling.write (storage_of c.set_now.new.self.config) c.set_now.new.self.session
+    c.set_now.new.self.moment c.args.handle bytes) error))
     c.as_slice.ensures c.write.ensures.refused)

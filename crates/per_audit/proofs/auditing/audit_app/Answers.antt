@@ -14,10 +14,13 @@ returns-clause-adds g c = λ tells.
     let mid = (g.D.Disk.medium c.view_root.new.disk).image in
     let app = c.args.app in
     let seen = root_seen c.in_ok-view.view in
-    adds_as (elements_seen mid app seen) (elements_of app (app_at old app)) (findings_seen mid app seen) (findings_of app (root_settled old app) (app_at old app))
+    adds_as (elements_seen mid app seen) (elements_of app (app_at old app)) (findings_seen mid app seen)
+    (findings_of app (root_settled old app) (app_at old app))
     c.args.notes.now c.audit_view.new.notes
-    (ap (λ (im : Image). elements_seen im app seen) c.in_ok-view.ensures.image ∙ ap (λ (s : RootSeen). elements_seen old app s) (c.in_ok-view.ensures.view tells) ∙ app_elements old app)
-    (ap (λ (im : Image). findings_seen im app seen) c.in_ok-view.ensures.image ∙ ap (λ (s : RootSeen). findings_seen old app s) (c.in_ok-view.ensures.view tells) ∙ app_findings old app)
+    (ap (λ (im : Image). elements_seen im app seen) c.in_ok-view.ensures.image
+    ∙ ap (λ (s : RootSeen). elements_seen old app s) (c.in_ok-view.ensures.view tells) ∙ app_elements old app)
+    (ap (λ (im : Image). findings_seen im app seen) c.in_ok-view.ensures.image
+    ∙ ap (λ (s : RootSeen). findings_seen old app s) (c.in_ok-view.ensures.view tells) ∙ app_findings old app)
     (c.in_ok-audit_view.ensures.adds tells)
 
 pub returns-clause-quiet : goal.returns-clause-quiet

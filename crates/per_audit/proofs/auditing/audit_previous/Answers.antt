@@ -13,7 +13,8 @@ use Rattle.per_audit.proofs.auditing.audit_previous.Goals as goal
 pub returns-in_default-clause-adds : goal.returns-in_default-clause-adds
 returns-in_default-clause-adds g c = λ tells.
     let old = (g.D.Disk.medium c.args.disk.now).image in
-    subst (λ (o : Option Deployment). Adds (of_previous (listed_of c.args.app) old c.args.app (named_in c.args.bank o)) (of_previous (of_storage c.args.app) old c.args.app (named_in c.args.bank o))
+    subst (λ (o : Option Deployment). Adds (of_previous (listed_of c.args.app) old c.args.app (named_in c.args.bank o))
+    (of_previous (of_storage c.args.app) old c.args.app (named_in c.args.bank o))
     c.args.notes.now c.args.notes.now) (sym c.in_default.is) (adds_nothing c.args.notes.now)
 
 pub audit_storages-requires-clause-few : goal.audit_storages-requires-clause-few
@@ -26,12 +27,15 @@ pub audit_storages-requires-clause-each : goal.audit_storages-requires-clause-ea
 audit_storages-requires-clause-each g c =
     let d = c.in-Some.deployment in
     let kept = kept_some c.args.previous.now d c.in-Some.is c.requires.deployment in
-    subst (λ (ds : List StorageConfig). AllByRecursion IsStorage (map storage_data ds)) (sym c.as_slice.ensures) kept.each
+    subst (λ (ds : List StorageConfig). AllByRecursion IsStorage (map storage_data ds)) (sym c.as_slice.ensures)
+    kept.each
 
 pub returns-clause-adds : goal.returns-clause-adds
 returns-clause-adds g c = λ tells.
     let old = (g.D.Disk.medium c.args.disk.now).image in
-    subst (λ (o : Option Deployment). Adds (of_previous (listed_of c.args.app) old c.args.app (named_in c.args.bank o)) (of_previous (of_storage c.args.app) old c.args.app (named_in c.args.bank o))
+    subst (λ (o : Option Deployment). Adds (of_previous (listed_of c.args.app) old c.args.app (named_in c.args.bank o))
+    (of_previous (of_storage c.args.app) old c.args.app (named_in c.args.bank o))
     c.args.notes.now c.audit_storages.new.notes) (sym c.in-Some.is)
-    (subst (λ (ds : List StorageConfig). Adds (within (listed_of c.args.app) old c.args.app c.args.bank 0 (map storage_data ds)) (within (of_storage c.args.app) old c.args.app c.args.bank 0 (map storage_data ds))
+    (subst (λ (ds : List StorageConfig). Adds (within (listed_of c.args.app) old c.args.app c.args.bank 0
+    (map storage_data ds)) (within (of_storage c.args.app) old c.args.app c.args.bank 0 (map storage_data ds))
     c.args.notes.now c.audit_storages.new.notes) c.as_slice.ensures (c.in_ok-audit_storages.ensures.adds tells))

@@ -19,8 +19,11 @@ returns-clause-adds g c = λ tells.
     let found = c.in_ok-found.found in
     let salvaged = c.in_ok-found.ensures.salvaged tells in
     let viewed = c.in_ok-found.ensures.viewed tells in
-    adds_as (elements_found app bank s found) (listed_of app bank s (store_at old there)) (findings_found app bank s found) (of_storage app bank s (store_at old there))
+    adds_as (elements_found app bank s found) (listed_of app bank s (store_at old there))
+    (findings_found app bank s found) (of_storage app bank s (store_at old there))
     c.args.notes.now c.note_storage.new.notes
-    (elements_stand app bank s old shape found salvaged viewed ∙ ap (λ (x : Shape). listed_of app bank s (store_at old x)) c.in_ok-shape.ensures.shape)
-    (findings_stand app bank s old shape found salvaged viewed ∙ ap (λ (x : Shape). of_storage app bank s (store_at old x)) c.in_ok-shape.ensures.shape)
+    (elements_stand app bank s old shape found salvaged viewed
+    ∙ ap (λ (x : Shape). listed_of app bank s (store_at old x)) c.in_ok-shape.ensures.shape)
+    (findings_stand app bank s old shape found salvaged viewed
+    ∙ ap (λ (x : Shape). of_storage app bank s (store_at old x)) c.in_ok-shape.ensures.shape)
     c.in_ok-note_storage.ensures

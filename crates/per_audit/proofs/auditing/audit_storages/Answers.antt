@@ -22,7 +22,8 @@ audit_storage-requires-clause-number g c =
 
 pub audit_storage-requires-clause-config : goal.audit_storage-requires-clause-config
 audit_storage-requires-clause-config g c =
-    storage_keeps c.args.storages.now c.loop-number.number c.index-storages-number.result c.requires.each (search rules) c.index-storages-number.is
+    storage_keeps c.args.storages.now c.loop-number.number c.index-storages-number.result c.requires.each (search rules)
+    c.index-storages-number.is
 
 pub loop-number-preserved : goal.loop-number-preserved
 loop-number-preserved g c =
@@ -34,15 +35,25 @@ loop-number-preserved g c =
     let s = storage_data c.index-storages-number.result in
     let within : number < length c.args.storages.now = search rules in
     record {
-      left = λ tells. are_left_more (g.D.Disk.medium c.args.disk.now).image app bank c.args.storages.now c.args.notes.now number c.index-storages-number.result
+      left = λ tells. are_left_more (g.D.Disk.medium c.args.disk.now).image app bank c.args.storages.now
+          c.args.notes.now number c.index-storages-number.result
           c.loop-number.notes c.audit_storage.new.notes within c.index-storages-number.is (it.left tells)
-          (subst (λ (im : Image). Adds (listed_of app bank s (store_at im (shape_of app bank number s))) (of_storage app bank s (store_at im (shape_of app bank number s)))
+          (subst (λ (im : Image). Adds (listed_of app bank s (store_at im (shape_of app bank number s)))
+          (of_storage app bank s (store_at im (shape_of app bank number s)))
           c.loop-number.notes c.audit_storage.new.notes) it.seen.image (ok.adds tells));
-      seen = seen_on it.seen (record { image = ok.image; idle = ok.idle; written = ok.written; passes = ok.passes; time = ok.time });
+      seen = seen_on it.seen (record {
+        image = ok.image;
+        idle = ok.idle;
+        written = ok.written;
+        passes =
+            ok.passes;
+        time = ok.time;
+      });
     }
 
 pub returns-clause-adds : goal.returns-clause-adds
 returns-clause-adds g c = λ tells.
     let past : length c.args.storages.now ≤ c.loop-number.number = search rules in
-    none_are_left (g.D.Disk.medium c.args.disk.now).image c.args.app c.args.bank c.args.storages.now c.args.notes.now c.loop-number.number c.loop-number.notes past
+    none_are_left (g.D.Disk.medium c.args.disk.now).image c.args.app c.args.bank c.args.storages.now c.args.notes.now
+    c.loop-number.number c.loop-number.notes past
     (c.loop-number.invariant.left tells)

@@ -15,25 +15,31 @@ use Rattle.per_audit.proofs.auditing.audit_versions.Goals as goal
 pub audit_storages-requires-clause-bank : goal.audit_storages-requires-clause-bank
 audit_storages-requires-clause-bank g c =
     let s = c.args.state.now in
-    let placed = shown_active (record { bank = s.bank; deployment = deployment_data s.active }) (named_in (1 - s.bank) s.previous) s.lacking s.settled c.requires.versions in
+    let placed = shown_active (record { bank = s.bank; deployment = deployment_data s.active })
+    (named_in (1 - s.bank) s.previous) s.lacking s.settled c.requires.versions in
     placed.in_bank
 
 pub audit_storages-requires-clause-few : goal.audit_storages-requires-clause-few
 audit_storages-requires-clause-few g c =
     let s = c.args.state.now in
-    let placed = shown_active (record { bank = s.bank; deployment = deployment_data s.active }) (named_in (1 - s.bank) s.previous) s.lacking s.settled c.requires.versions in
-    subst (λ (ds : List StorageConfig). length ds ≤ 16) (sym c.as_slice.ensures) (few_storages s.active.storages placed.keeps.few)
+    let placed = shown_active (record { bank = s.bank; deployment = deployment_data s.active })
+    (named_in (1 - s.bank) s.previous) s.lacking s.settled c.requires.versions in
+    subst (λ (ds : List StorageConfig). length ds ≤ 16) (sym c.as_slice.ensures)
+    (few_storages s.active.storages placed.keeps.few)
 
 pub audit_storages-requires-clause-each : goal.audit_storages-requires-clause-each
 audit_storages-requires-clause-each g c =
     let s = c.args.state.now in
-    let placed = shown_active (record { bank = s.bank; deployment = deployment_data s.active }) (named_in (1 - s.bank) s.previous) s.lacking s.settled c.requires.versions in
-    subst (λ (ds : List StorageConfig). AllByRecursion IsStorage (map storage_data ds)) (sym c.as_slice.ensures) placed.keeps.each
+    let placed = shown_active (record { bank = s.bank; deployment = deployment_data s.active })
+    (named_in (1 - s.bank) s.previous) s.lacking s.settled c.requires.versions in
+    subst (λ (ds : List StorageConfig). AllByRecursion IsStorage (map storage_data ds)) (sym c.as_slice.ensures)
+    placed.keeps.each
 
 pub audit_previous-requires-clause-deployment : goal.audit_previous-requires-clause-deployment
 audit_previous-requires-clause-deployment g c =
     let s = c.args.state.now in
-    shown_previous (record { bank = s.bank; deployment = deployment_data s.active }) (1 - s.bank) s.previous s.lacking s.settled c.requires.versions
+    shown_previous (record { bank = s.bank; deployment = deployment_data s.active }) (1 - s.bank) s.previous s.lacking
+    s.settled c.requires.versions
 
 pub returns-clause-adds : goal.returns-clause-adds
 returns-clause-adds g c = λ tells.
@@ -41,13 +47,20 @@ returns-clause-adds g c = λ tells.
     let app = c.args.app in
     let old = (g.D.Disk.medium c.args.disk.now).image in
     let of_root = damaged_by app None Root s.lacking ++ unless_settled s.settled app None Root in
-    let active = subst (λ (ds : List StorageConfig). Adds (within (listed_of app) old app s.bank 0 (map storage_data ds)) (within (of_storage app) old app s.bank 0 (map storage_data ds))
+    let active = subst (λ (ds : List StorageConfig). Adds
+    (within (listed_of app) old app s.bank 0 (map storage_data ds))
+    (within (of_storage app) old app s.bank 0 (map storage_data ds))
     c.note_root.new.notes c.audit_storages.new.notes) c.as_slice.ensures (c.in_ok-audit_storages.ensures.adds tells) in
-    let previous = subst (λ (im : Image). Adds (of_previous (listed_of app) im app (named_in (1 - s.bank) s.previous)) (of_previous (of_storage app) im app (named_in (1 - s.bank) s.previous))
-    c.audit_storages.new.notes c.audit_previous.new.notes) c.in_ok-audit_storages.ensures.image (c.in_ok-audit_previous.ensures.adds tells) in
-    adds_on (within (listed_of app) old app s.bank 0 (map storage_data s.active.storages)) (of_previous (listed_of app) old app (named_in (1 - s.bank) s.previous))
-    (of_root ++ within (of_storage app) old app s.bank 0 (map storage_data s.active.storages)) (of_previous (of_storage app) old app (named_in (1 - s.bank) s.previous))
+    let previous = subst (λ (im : Image). Adds (of_previous (listed_of app) im app (named_in (1 - s.bank) s.previous))
+    (of_previous (of_storage app) im app (named_in (1 - s.bank) s.previous))
+    c.audit_storages.new.notes c.audit_previous.new.notes) c.in_ok-audit_storages.ensures.image
+    (c.in_ok-audit_previous.ensures.adds tells) in
+    adds_on (within (listed_of app) old app s.bank 0 (map storage_data s.active.storages))
+    (of_previous (listed_of app) old app (named_in (1 - s.bank) s.previous))
+    (of_root ++ within (of_storage app) old app s.bank 0 (map storage_data s.active.storages))
+    (of_previous (of_storage app) old app (named_in (1 - s.bank) s.previous))
     c.args.notes.now c.audit_storages.new.notes c.audit_previous.new.notes
-    (adds_on [] (within (listed_of app) old app s.bank 0 (map storage_data s.active.storages)) of_root (within (of_storage app) old app s.bank 0 (map storage_data s.active.storages))
+    (adds_on [] (within (listed_of app) old app s.bank 0 (map storage_data s.active.storages)) of_root
+    (within (of_storage app) old app s.bank 0 (map storage_data s.active.storages))
     c.args.notes.now c.note_root.new.notes c.audit_storages.new.notes c.in_ok-note_root.ensures active)
     previous

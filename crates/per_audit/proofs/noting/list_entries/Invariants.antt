@@ -5,5 +5,6 @@ use Rattle.per_audit.proofs.noting.list_entries.Given as goal
 
 -- what is listed, and the entries that are left
 abbrev pub invariant-loop-entry : goal.invariant-loop-entry
-invariant-loop-entry l = l.elements.items ++ map (listed l.app l.bank (storage_data l.config)) (drop l.entry-index l.entries)
+invariant-loop-entry l = l.elements.items ++ map (listed l.app l.bank (storage_data l.config))
+    (drop l.entry-index l.entries)
     ≡ l.fn.elements.items ++ map (listed l.app l.bank (storage_data l.config)) l.entries

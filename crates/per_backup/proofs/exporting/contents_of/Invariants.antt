@@ -6,4 +6,5 @@ use Rattle.per_backup.proofs.exporting.contents_of.Given as goal
 
 -- the contents so far, and behind them those of the rest
 abbrev pub invariant-loop-entry : goal.invariant-loop-entry
-invariant-loop-entry l = followed_by l.contents.items (contents_of (storage_data l.config) (drop l.entry-index l.entries)) ≡ contents_of (storage_data l.config) l.entries
+invariant-loop-entry l = followed_by l.contents.items (contents_of (storage_data l.config)
+    (drop l.entry-index l.entries)) ≡ contents_of (storage_data l.config) l.entries

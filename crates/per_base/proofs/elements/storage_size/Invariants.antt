@@ -7,4 +7,5 @@ pub record SumSoFar (total index : ℕ) (sum_is : ℕ) : Type 0 where
   pub bound : total ≤ index * 4294967550
 
 abbrev pub invariant-loop-entry : goal.invariant-loop-entry
-invariant-loop-entry l = SumSoFar l.total l.entry-index (sum_by (λ e. length e.name + e.len) (take l.entry-index l.entries))
+invariant-loop-entry l = SumSoFar l.total l.entry-index
+    (sum_by (λ e. length e.name + e.len) (take l.entry-index l.entries))

@@ -24,14 +24,17 @@ pub returns-in-Ok-clause-caused : goal.returns-in-Ok-clause-caused
 returns-in-Ok-clause-caused g c = λ source. audit_caused _ _ _ c.write_audit.ensures.status
 
 pub returns-in-Err-Device-clause-job : goal.returns-in-Err-Device-clause-job
-returns-in-Err-Device-clause-job g c = audits_none _ _ _ _ _ (inl refl) (record { image = c.audit.ensures.image; written = c.audit.ensures.written; idle = c.audit.ensures.idle })
+returns-in-Err-Device-clause-job g c = audits_none _ _ _ _ _ (inl refl)
+    (record { image = c.audit.ensures.image; written = c.audit.ensures.written; idle = c.audit.ensures.idle })
     (λ unfailed. absurd (unfailed refl))
 
 pub returns-in-Err-Device-clause-caused : goal.returns-in-Err-Device-clause-caused
-returns-in-Err-Device-clause-caused g c = λ source. by_disk refl (c.audit.ensures.cause (c.in-Err-Device.is ∙ ap Err c.in-Err-Device.field-0-is))
+returns-in-Err-Device-clause-caused g c = λ source. by_disk refl
+    (c.audit.ensures.cause (c.in-Err-Device.is ∙ ap Err c.in-Err-Device.field-0-is))
 
 pub returns-in-Err-OutOfMemory-clause-job : goal.returns-in-Err-OutOfMemory-clause-job
-returns-in-Err-OutOfMemory-clause-job g c = audits_none _ _ _ _ _ (inr refl) (record { image = c.audit.ensures.image; written = c.audit.ensures.written; idle = c.audit.ensures.idle })
+returns-in-Err-OutOfMemory-clause-job g c = audits_none _ _ _ _ _ (inr refl)
+    (record { image = c.audit.ensures.image; written = c.audit.ensures.written; idle = c.audit.ensures.idle })
     (λ unfailed. c.audit.ensures.fed (c.in-Err-OutOfMemory.is ∙ ap Err c.in-Err-OutOfMemory.field-0-is))
 
 pub returns-in-Err-OutOfMemory-clause-caused : goal.returns-in-Err-OutOfMemory-clause-caused

@@ -15,4 +15,5 @@ returns-in-Ok-clause-complete g c = ran_then c.run_over.result
 
 pub returns-in-Ok-clause-unopened : goal.returns-in-Ok-clause-unopened
 returns-in-Ok-clause-unopened g c =
-    unopened_then c.run_over.result (λ status back refused. unopened c.in-Ok.job c.in-Ok.ensures.job refused) c.run_over.ensures.unopened
+    unopened_then c.run_over.result (λ status back refused. unopened c.in-Ok.job c.in-Ok.ensures.job refused)
+    c.run_over.ensures.unopened

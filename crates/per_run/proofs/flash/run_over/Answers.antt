@@ -28,5 +28,6 @@ returns-in-Ok-clause-ran g c =
       done = ran.job;
       caused = ran.caused;
       time = ran.time;
-      stops = λ tells. opens_again told medium c.args.flash c.in-Ok.disk c.run_job-status.new.disk tells e.blocks e.opens ran.time (e.throughout tells) (e.agreed tells);
+      stops = λ tells. opens_again told medium c.args.flash c.in-Ok.disk c.run_job-status.new.disk tells e.blocks
+          e.opens ran.time (e.throughout tells) (e.agreed tells);
     }

@@ -18,7 +18,8 @@ pub returns-in-Err-Device-clause-job : goal.returns-in-Err-Device-clause-job
 returns-in-Err-Device-clause-job g c = formats_none _ _ _ _ (inl refl)
 
 pub returns-in-Err-Device-clause-status : goal.returns-in-Err-Device-clause-status
-returns-in-Err-Device-clause-status g c = inr (inr (inl (refl, c.format_all.ensures.cause (c.in-Err-Device.is ∙ ap Err c.in-Err-Device.field-0-is))))
+returns-in-Err-Device-clause-status g c = inr (inr (inl
+    (refl, c.format_all.ensures.cause (c.in-Err-Device.is ∙ ap Err c.in-Err-Device.field-0-is))))
 
 pub returns-in-Err-OutOfMemory-clause-job : goal.returns-in-Err-OutOfMemory-clause-job
 returns-in-Err-OutOfMemory-clause-job g c = formats_none _ _ _ _ (inr refl)

@@ -11,18 +11,29 @@ two = refl
 few_first : (ls : List (List ℕ)) → ls ≡ first_lines → length ls < 2 ^ 32
 few_first ls is = omega (arith, ap length is, two)
 
-few_all : (n : ℕ) (ls : List (List ℕ)) → n ≤ 100000 → ls ≡ last_lines → length ((first_lines ++ generated_lines n 1 n) ++ ls) < 2 ^ 32
-few_all n ls few is = omega (arith, few, length_all n, ap (λ (l : List (List ℕ)). length ((first_lines ++ generated_lines n 1 n) ++ l)) is)
+few_all : (n : ℕ) (ls : List (List ℕ)) → n ≤ 100000 → ls ≡ last_lines
+    → length ((first_lines ++ generated_lines n 1 n) ++ ls) < 2 ^ 32
+few_all n ls few is = omega (
+  arith,
+  few,
+  length_all n,
+  ap (λ (l : List (List ℕ)). length ((first_lines ++ generated_lines n 1 n) ++ l)) is,
+)
 
 few_between : (n : ℕ) → n ≤ 100000 → length first_lines + n < 2 ^ 32
 few_between n few = omega (arith, few, two)
 
 pub returns-clause-counted : goal.returns-clause-counted
 returns-clause-counted g c =
-    let firsts : texts_of c.as_slice.result.now ≡ first_lines = ap texts_of c.as_slice.ensures ∙ c.first_lines.ensures in
-    let lasts : texts_of c.as_slice-2.result.now ≡ last_lines = ap texts_of c.as_slice-2.ensures ∙ c.last_lines.ensures in
+    let firsts : texts_of c.as_slice.result.now ≡ first_lines =
+    ap texts_of c.as_slice.ensures ∙ c.first_lines.ensures in
+    let lasts : texts_of c.as_slice-2.result.now ≡ last_lines =
+    ap texts_of c.as_slice-2.ensures ∙ c.last_lines.ensures in
     on_ok_weaker c.handle_each-2.result (λ more start none.
-    counted_along _ _ _ _ _ _ _ _ _ (ap (λ (ls : List (List ℕ)). (first_lines ++ generated_lines c.args.number 1 c.args.number) ++ ls) (sym lasts))
-    (more start (first_lines ++ generated_lines c.args.number 1 c.args.number) (few_all c.args.number _ c.requires.number lasts)
+    counted_along _ _ _ _ _ _ _ _ _ (ap (λ (ls : List (List ℕ)).
+    (first_lines ++ generated_lines c.args.number 1 c.args.number) ++ ls) (sym lasts))
+    (more start (first_lines ++ generated_lines c.args.number 1 c.args.number)
+    (few_all c.args.number _ c.requires.number lasts)
     (c.in_ok-handle_generated.ensures.counted start first_lines (few_between c.args.number c.requires.number)
-    (counted_along _ _ _ _ _ _ _ _ _ (sym firsts) (c.in_ok-handle_each.ensures.counted start [] (few_first _ firsts) none))))) c.handle_each-2.ensures.counted
+    (counted_along _ _ _ _ _ _ _ _ _ (sym firsts) (c.in_ok-handle_each.ensures.counted start [] (few_first _ firsts)
+    none))))) c.handle_each-2.ensures.counted

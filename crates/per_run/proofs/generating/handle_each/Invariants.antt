@@ -14,8 +14,10 @@ pub record Each (Counts InUse Later : Type 0) : Type 0 where
 abbrev pub invariant-loop-line : goal.invariant-loop-line
 invariant-loop-line g l = Each
     ((start : g.row.D.Denot) (before : List (List ℕ)) → length (before ++ map (λ line. line.now) l.lines) < 2 ^ 32
-    → Counted g.D.Disk.told (rules_of l.migrations) (answers_of l.migrations) (g.D.Disk.medium start) before (memory_of l.initial.batch.runtime) l.initial.batch.tally (g.D.Disk.medium l.initial.disk)
-    → Counted g.D.Disk.told (rules_of l.migrations) (answers_of l.migrations) (g.D.Disk.medium start) (before ++ map (λ line. line.now) (take l.line-index l.lines))
+    → Counted g.D.Disk.told (rules_of l.migrations) (answers_of l.migrations) (g.D.Disk.medium start) before
+    (memory_of l.initial.batch.runtime) l.initial.batch.tally (g.D.Disk.medium l.initial.disk)
+    → Counted g.D.Disk.told (rules_of l.migrations) (answers_of l.migrations) (g.D.Disk.medium start)
+    (before ++ map (λ line. line.now) (take l.line-index l.lines))
     (memory_of l.batch.runtime) l.batch.tally (g.D.Disk.medium l.disk))
     (IsRuntime g.D.Disk.told (g.D.Disk.medium l.disk) l.batch.runtime)
     (Elapses (g.D.Disk.medium l.initial.disk) (g.D.Disk.medium l.disk))

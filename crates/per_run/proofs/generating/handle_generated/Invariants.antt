@@ -18,8 +18,10 @@ pub record Made (Counts InUse Later : Type 0) (x behind : ℕ) : Type 0 where
 abbrev pub invariant-loop-index : goal.invariant-loop-index
 invariant-loop-index g l = Made
     ((start : g.row.D.Denot) (before : List (List ℕ)) → length before + l.number < 2 ^ 32
-    → Counted g.D.Disk.told (rules_of l.migrations) (answers_of l.migrations) (g.D.Disk.medium start) before (memory_of l.initial.batch.runtime) l.initial.batch.tally (g.D.Disk.medium l.initial.disk)
-    → Counted g.D.Disk.told (rules_of l.migrations) (answers_of l.migrations) (g.D.Disk.medium start) (before ++ generated_lines l.index 1 l.number)
+    → Counted g.D.Disk.told (rules_of l.migrations) (answers_of l.migrations) (g.D.Disk.medium start) before
+    (memory_of l.initial.batch.runtime) l.initial.batch.tally (g.D.Disk.medium l.initial.disk)
+    → Counted g.D.Disk.told (rules_of l.migrations) (answers_of l.migrations) (g.D.Disk.medium start)
+    (before ++ generated_lines l.index 1 l.number)
     (memory_of l.batch.runtime) l.batch.tally (g.D.Disk.medium l.disk))
     (IsRuntime g.D.Disk.told (g.D.Disk.medium l.disk) l.batch.runtime)
     (Elapses (g.D.Disk.medium l.initial.disk) (g.D.Disk.medium l.disk))

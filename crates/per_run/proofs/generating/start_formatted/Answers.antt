@@ -11,18 +11,24 @@ use Rattle.per_run.specs.Steps.{IsBegun}
 use Rattle.per_run.proofs.Fresh.{is_formatted}
 use Rattle.per_run.proofs.generating.start_formatted.Goals as goal
 
-begun_ok : {D : Type 0} (medium : D → Medium) (told : Bool) (r : Result Runtime Stop) (old middle new : D) → (medium old).faults ≤ (medium middle).faults
-    → (IsTrue told → world_at (medium middle).image ≡ formatted) → (IsTrue told → IfOk r (λ x. Starts (memory_of x) (medium middle) (medium new))) → Elapses (medium middle) (medium new)
+begun_ok : {D : Type 0} (medium : D → Medium) (told : Bool) (r : Result Runtime Stop) (old middle new : D)
+    → (medium old).faults ≤ (medium middle).faults
+    → (IsTrue told → world_at (medium middle).image ≡ formatted)
+    → (IsTrue told → IfOk r (λ x. Starts (memory_of x) (medium middle) (medium new)))
+    → Elapses (medium middle) (medium new)
     → IfOk r (λ x. (m : D) × IsBegun told (memory_of x) (medium old) (medium m) (medium new))
-begun_ok medium told (Ok x) old middle new earlier world starts time = (middle, record { earlier = earlier; world = world; starts = starts; time = time })
+begun_ok medium told (Ok x) old middle new earlier world starts time =
+    (middle, record { earlier = earlier; world = world; starts = starts; time = time })
 begun_ok medium told (Err e) old middle new earlier world starts time = tt
 
 pub returns-in-Ok-clause-begun : goal.returns-in-Ok-clause-begun
-returns-in-Ok-clause-begun g c = begun_ok g.D.Disk.medium g.D.Disk.told c.start.result c.args.disk.now c.format_all.new.disk c.start.new.disk c.format_all.ensures.time.faults
+returns-in-Ok-clause-begun g c = begun_ok g.D.Disk.medium g.D.Disk.told c.start.result c.args.disk.now
+    c.format_all.new.disk c.start.new.disk c.format_all.ensures.time.faults
     (λ tells. is_formatted _ (c.in-Ok.ensures.apps tells)) c.start.ensures.starts c.start.ensures.time
 
 pub returns-in-Ok-clause-cause : goal.returns-in-Ok-clause-cause
-returns-in-Ok-clause-cause g c = λ failed. rose_before _ _ _ c.format_all.ensures.time.faults (c.start.ensures.cause failed)
+returns-in-Ok-clause-cause g c = λ failed. rose_before _ _ _ c.format_all.ensures.time.faults
+    (c.start.ensures.cause failed)
 
 pub returns-in-Ok-clause-time : goal.returns-in-Ok-clause-time
 returns-in-Ok-clause-time g c = elapses_on c.format_all.ensures.time c.start.ensures.time

@@ -1,7 +1,8 @@
 -- The job of the words is done; or they say none; or there was no memory for them.
 use Rattle.std.proofs.Common.{Err, ap, refl}
 use Rattle.per_run.specs.declared.words.Job.{Job}
-use Rattle.per_run.proofs.Caused.{complete_none, completes_if, done_none, each_is, job_within, none_is, not_one, short_caused, some_is, some_none, unread_none}
+use Rattle.per_run.proofs.Caused.{complete_none, completes_if, done_none, each_is, job_within, none_is, not_one}
+use Rattle.per_run.proofs.Caused.{short_caused, some_is, some_none, unread_none}
 use Rattle.per_run.proofs.job.per_run.Goals as goal
 
 -- ---- the job is done
@@ -29,26 +30,32 @@ returns-in-Ok-clause-unread g c = some_is _ c.in-Ok.job _ c.in-Ok.ensures.job c.
 
 pub returns-in-Ok-clause-complete : goal.returns-in-Ok-clause-complete
 returns-in-Ok-clause-complete g c = some_is _ c.in-Ok.job _ c.in-Ok.ensures.job (λ is disk source sink.
-    completes_if c.one_line.ensures _ c.in-Ok.job.kind _ _ _ _ _ _ _ _ _ _ _ refl refl c.run_job.ensures.job is disk source sink)
+    completes_if c.one_line.ensures _ c.in-Ok.job.kind _ _ _ _ _ _ _ _ _ _ _ refl refl c.run_job.ensures.job is disk
+    source sink)
 
 -- ---- the words say none
 
 pub returns-in-Err-Refused-clause-job : goal.returns-in-Err-Refused-clause-job
-returns-in-Err-Refused-clause-job g c = none_is _ _ (c.in-Err-Refused.ensures.refused (ap Err c.in-Err-Refused.field-0-is))
+returns-in-Err-Refused-clause-job g c = none_is _ _ (c.in-Err-Refused.ensures.refused
+    (ap Err c.in-Err-Refused.field-0-is))
 
 pub returns-in-Err-Refused-clause-caused : goal.returns-in-Err-Refused-clause-caused
-returns-in-Err-Refused-clause-caused g c = none_is _ _ (c.in-Err-Refused.ensures.refused (ap Err c.in-Err-Refused.field-0-is))
+returns-in-Err-Refused-clause-caused g c = none_is _ _
+    (c.in-Err-Refused.ensures.refused (ap Err c.in-Err-Refused.field-0-is))
 
 pub returns-in-Err-Refused-clause-unread : goal.returns-in-Err-Refused-clause-unread
-returns-in-Err-Refused-clause-unread g c = none_is _ _ (c.in-Err-Refused.ensures.refused (ap Err c.in-Err-Refused.field-0-is))
+returns-in-Err-Refused-clause-unread g c = none_is _ _
+    (c.in-Err-Refused.ensures.refused (ap Err c.in-Err-Refused.field-0-is))
 
 pub returns-in-Err-Refused-clause-complete : goal.returns-in-Err-Refused-clause-complete
-returns-in-Err-Refused-clause-complete g c = none_is _ _ (c.in-Err-Refused.ensures.refused (ap Err c.in-Err-Refused.field-0-is))
+returns-in-Err-Refused-clause-complete g c = none_is _ _
+    (c.in-Err-Refused.ensures.refused (ap Err c.in-Err-Refused.field-0-is))
 
 -- ---- there was no memory for them
 
 pub returns-in-Err-OutOfMemory-clause-job : goal.returns-in-Err-OutOfMemory-clause-job
-returns-in-Err-OutOfMemory-clause-job g c = each_is {A = Job} _ _ (λ job. done_none c.applications_stand.ensures _ job.kind _ _ _ _ _ _ _ (g.met.D.Disk.lawful _))
+returns-in-Err-OutOfMemory-clause-job g c = each_is {A = Job} _ _
+    (λ job. done_none c.applications_stand.ensures _ job.kind _ _ _ _ _ _ _ (g.met.D.Disk.lawful _))
 
 pub returns-in-Err-OutOfMemory-clause-caused : goal.returns-in-Err-OutOfMemory-clause-caused
 returns-in-Err-OutOfMemory-clause-caused g c = each_is {A = Job} _ _ (λ job. short_caused job.kind _ _)

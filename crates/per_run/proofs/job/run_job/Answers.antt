@@ -8,19 +8,23 @@ pub returns-in-Run-clause-job : goal.returns-in-Run-clause-job
 returns-in-Run-clause-job g c = done_as _ _ Run _ _ _ _ _ _ _ _ _ _ _ c.in-Run.is c.run.ensures.run
 
 pub returns-in-Run-clause-caused : goal.returns-in-Run-clause-caused
-returns-in-Run-clause-caused g c = caused_as _ Run _ _ _ c.in-Run.is (run_caused _ _ _ _ _ _ _ _ _ _ _ _ _ _ c.run.ensures.run)
+returns-in-Run-clause-caused g c = caused_as _ Run _ _ _ c.in-Run.is
+    (run_caused _ _ _ _ _ _ _ _ _ _ _ _ _ _ c.run.ensures.run)
 
 pub returns-in-Format-clause-job : goal.returns-in-Format-clause-job
 returns-in-Format-clause-job g c = done_as _ _ Format _ _ _ _ _ _ _ _ _ _ _ c.in-Format.is c.format.ensures.job
 
 pub returns-in-Format-clause-caused : goal.returns-in-Format-clause-caused
-returns-in-Format-clause-caused g c = caused_as _ Format _ _ _ c.in-Format.is (written_caused Format _ _ _ refl c.format.ensures.status)
+returns-in-Format-clause-caused g c = caused_as _ Format _ _ _ c.in-Format.is
+    (written_caused Format _ _ _ refl c.format.ensures.status)
 
 pub returns-in-Generate-clause-job : goal.returns-in-Generate-clause-job
-returns-in-Generate-clause-job g c = done_as _ _ (Generate c.in-Generate.number) _ _ _ _ _ _ _ _ _ _ _ c.in-Generate.is c.generate.ensures.job
+returns-in-Generate-clause-job g c = done_as _ _ (Generate c.in-Generate.number) _ _ _ _ _ _ _ _ _ _ _ c.in-Generate.is
+    c.generate.ensures.job
 
 pub returns-in-Generate-clause-caused : goal.returns-in-Generate-clause-caused
-returns-in-Generate-clause-caused g c = caused_as _ (Generate c.in-Generate.number) _ _ _ c.in-Generate.is (written_caused (Generate c.in-Generate.number) _ _ _ refl c.generate.ensures.status)
+returns-in-Generate-clause-caused g c = caused_as _ (Generate c.in-Generate.number) _ _ _ c.in-Generate.is
+    (written_caused (Generate c.in-Generate.number) _ _ _ refl c.generate.ensures.status)
 
 pub returns-in-Audit-clause-job : goal.returns-in-Audit-clause-job
 returns-in-Audit-clause-job g c = done_as _ _ Audit _ _ _ _ _ _ _ _ _ _ _ c.in-Audit.is c.audit_disk.ensures.job

@@ -9,22 +9,27 @@ use Rattle.per_run.proofs.reader.feed.Goals as goal
 
 pub returns-in-Err-clause-ends : goal.returns-in-Err-clause-ends
 returns-in-Err-clause-ends g c = λ laws start before given small reached.
-    course_along _ _ _ _ before (ending_of c.in-Err.ending) _ _ _ _ (ap (lines_of false) (sym (piece_whole given c.args.piece.now c.loop-byte.byte-index c.loop-byte-test.true)))
-    (c.in-Err.ensures.ends laws start before (given ++ take c.loop-byte.byte-index c.args.piece.now) (drop (c.loop-byte.byte-index + 1) c.args.piece.now)
-    (piece_small given c.args.piece.now c.loop-byte.byte-index _ small) (c.loop-byte.invariant.goes_on start before given small reached))
+    course_along _ _ _ _ before (ending_of c.in-Err.ending) _ _ _ _
+    (ap (lines_of false) (sym (piece_whole given c.args.piece.now c.loop-byte.byte-index c.loop-byte-test.true)))
+    (c.in-Err.ensures.ends laws start before (given ++ take c.loop-byte.byte-index c.args.piece.now)
+    (drop (c.loop-byte.byte-index + 1) c.args.piece.now)
+    (piece_small given c.args.piece.now c.loop-byte.byte-index _ small)
+    (c.loop-byte.invariant.goes_on start before given small reached))
 
 pub returns-in-Err-clause-time : goal.returns-in-Err-clause-time
 returns-in-Err-clause-time g c = elapses_on c.loop-byte.invariant.time c.in-Err.ensures.time
 
 pub returns-clause-goes_on : goal.returns-clause-goes_on
 returns-clause-goes_on g c = λ start before given small reached.
-    reached_whole _ _ _ _ before given c.args.piece.now c.loop-byte.byte-index _ _ _ _ _ (omega (arith, c.loop-byte-test.false)) (c.loop-byte.invariant.goes_on start before given small reached)
+    reached_whole _ _ _ _ before given c.args.piece.now c.loop-byte.byte-index _ _ _ _ _
+    (omega (arith, c.loop-byte-test.false)) (c.loop-byte.invariant.goes_on start before given small reached)
 
 pub loop-byte-preserved : goal.loop-byte-preserved
 loop-byte-preserved g c = record {
   goes_on = λ start before given small reached.
       reached_more _ _ _ _ before given c.args.piece.now c.loop-byte.byte-index _ _ _ _ _ c.loop-byte-test.true
-      (c.in-Ok.ensures.goes_on start before (given ++ take c.loop-byte.byte-index c.args.piece.now) (piece_small given c.args.piece.now c.loop-byte.byte-index _ small)
+      (c.in-Ok.ensures.goes_on start before (given ++ take c.loop-byte.byte-index c.args.piece.now)
+      (piece_small given c.args.piece.now c.loop-byte.byte-index _ small)
       (c.loop-byte.invariant.goes_on start before given small reached));
   in_use = c.in-Ok.ensures.memory;
   time = elapses_on c.loop-byte.invariant.time c.feed_byte.ensures.time;

@@ -15,9 +15,12 @@ pub record Fed (GoesOn InUse Later : Type 0) (sink_before sink_now : ℕ) : Type
 abbrev pub invariant-loop-byte : goal.invariant-loop-byte
 invariant-loop-byte g l = Fed
     ((start : g.row.D.Denot) (before : Option (List ℕ)) (given : List ℕ) → length (given ++ l.piece) < 2 ^ 63
-    → Reached g.D.Disk.told (rules_of l.migrations) (answers_of l.migrations) (g.D.Disk.medium start) before given (g.K.Sink.written l.initial.sink)
-    (memory_of l.initial.reader.runtime) (g.D.Disk.medium l.initial.disk) l.initial.reader.kept.items l.initial.reader.number
-    → Reached g.D.Disk.told (rules_of l.migrations) (answers_of l.migrations) (g.D.Disk.medium start) before (given ++ take l.byte-index l.piece) (g.K.Sink.written l.sink)
+    → Reached g.D.Disk.told (rules_of l.migrations) (answers_of l.migrations) (g.D.Disk.medium start) before given
+    (g.K.Sink.written l.initial.sink)
+    (memory_of l.initial.reader.runtime) (g.D.Disk.medium l.initial.disk) l.initial.reader.kept.items
+    l.initial.reader.number
+    → Reached g.D.Disk.told (rules_of l.migrations) (answers_of l.migrations) (g.D.Disk.medium start) before
+    (given ++ take l.byte-index l.piece) (g.K.Sink.written l.sink)
     (memory_of l.reader.runtime) (g.D.Disk.medium l.disk) l.reader.kept.items l.reader.number)
     (IsRuntime g.D.Disk.told (g.D.Disk.medium l.disk) l.reader.runtime)
     (Elapses (g.D.Disk.medium l.initial.disk) (g.D.Disk.medium l.disk))

@@ -15,10 +15,14 @@ needed r = record r { required = true }
 
 pub returns : goal.returns
 returns c =
-    let dir_is : rule_of c.required.result ≡ record (named_rule (codes "dir") Set) { required = true } = ap rule_of c.required.ensures ∙ ap needed c.option.ensures.rule in
-    let begun : app_of c.no_binary_name.result ≡ unnamed (new_app (codes "per")) = ap app_of_fields c.no_binary_name.ensures ∙ ap unnamed c.new.ensures.app in
+    let dir_is : rule_of c.required.result ≡ record (named_rule (codes "dir") Set) { required = true } =
+    ap rule_of c.required.ensures ∙ ap needed c.option.ensures.rule in
+    let begun : app_of c.no_binary_name.result ≡ unnamed (new_app (codes "per")) =
+    ap app_of_fields c.no_binary_name.ensures ∙ ap unnamed c.new.ensures.app in
     let dir = c.in_ok-arg.ensures.shape (search rules) ∙ ap₂ with_rule begun dir_is in
     let flash = c.in_ok-arg-2.ensures.shape c.option-2.ensures.global ∙ ap₂ with_rule dir c.option-2.ensures.rule in
     let format = c.in_ok-arg-3.ensures.shape c.flag.ensures.global ∙ ap₂ with_rule flash c.flag.ensures.rule in
-    let generate = c.in_ok-arg-4.ensures.shape c.option-3.ensures.global ∙ ap₂ with_rule format c.option-3.ensures.rule in
-    IfOk-weaker c.arg-5.result _ _ (λ r adds. adds.shape c.flag-2.ensures.global ∙ ap₂ with_rule generate c.flag-2.ensures.rule) c.arg-5.ensures
+    let generate = c.in_ok-arg-4.ensures.shape c.option-3.ensures.global ∙ ap₂ with_rule format c.option-3.ensures.rule
+    in
+    IfOk-weaker c.arg-5.result _ _ (λ r adds. adds.shape c.flag-2.ensures.global
+    ∙ ap₂ with_rule generate c.flag-2.ensures.rule) c.arg-5.ensures

@@ -8,7 +8,9 @@ use Rattle.per_run.proofs.words.kind_in.Goals as goal
 
 pub returns : goal.returns
 returns c = reads_as c.only_mode.result _ _
-    (modes_as (c.is_set.ensures ∙ ap is_set (c.get_str.ensures ∙ first_value-rows (found_of c.args.matches.now) (codes "format")))
+    (modes_as (c.is_set.ensures ∙ ap is_set (c.get_str.ensures
+    ∙ first_value-rows (found_of c.args.matches.now) (codes "format")))
     (c.get_str-2.ensures ∙ first_value-rows (found_of c.args.matches.now) (codes "generate"))
-    (c.is_set-2.ensures ∙ ap is_set (c.get_str-3.ensures ∙ first_value-rows (found_of c.args.matches.now) (codes "audit"))))
+    (c.is_set-2.ensures ∙ ap is_set (c.get_str-3.ensures
+    ∙ first_value-rows (found_of c.args.matches.now) (codes "audit"))))
     c.only_mode.ensures

@@ -9,7 +9,8 @@ pub record Written (Took : Type 0) (done len before now : ℕ) : Type 0 where
   pub later : before ≤ now
 
 abbrev pub invariant-loop-done : goal.invariant-loop-done
-invariant-loop-done g l = Written (Appends (g.K.Sink.written l.initial.sink) (g.K.Sink.written l.sink) (take l.done l.text)) l.done (length l.text) (g.K.Sink.faults l.initial.sink) (g.K.Sink.faults l.sink)
+invariant-loop-done g l = Written (Appends (g.K.Sink.written l.initial.sink) (g.K.Sink.written l.sink)
+    (take l.done l.text)) l.done (length l.text) (g.K.Sink.faults l.initial.sink) (g.K.Sink.faults l.sink)
 
 abbrev pub decreases-loop-done : goal.decreases-loop-done
 decreases-loop-done g l = length l.text - l.done

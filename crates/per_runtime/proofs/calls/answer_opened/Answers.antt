@@ -6,10 +6,13 @@ pub returns : goal.returns
 returns g c =
     let said = c.call.ensures in
     record {
-      end = called g.D.Disk.told (rules_of c.args.migrations.now) (answers_of c.args.migrations.now) c.args.now c.args.call.now c.args.running.now c.call.new.self
-          (g.D.Disk.medium c.args.disk.now) (g.D.Disk.medium c.call.new.disk) c.call.result c.requires.opened said.app said.memory said.answered said.failed said.stopped
+      end = called g.D.Disk.told (rules_of c.args.migrations.now) (answers_of c.args.migrations.now) c.args.now
+          c.args.call.now c.args.running.now c.call.new.self
+          (g.D.Disk.medium c.args.disk.now) (g.D.Disk.medium c.call.new.disk) c.call.result c.requires.opened said.app
+          said.memory said.answered said.failed said.stopped
           said.quiet said.unwritten said.cause said.unfailed said.text;
-      idle = λ tells. none_called (g.D.Disk.medium c.args.disk.now).image c.args.running.now c.args.call.now (said.idle tells);
+      idle = λ tells. none_called (g.D.Disk.medium c.args.disk.now).image c.args.running.now c.args.call.now
+          (said.idle tells);
       written = said.written;
       time = said.time;
     }

@@ -13,13 +13,19 @@ returns-in_err-open_root g c =
     let said = c.in_err-open_root.ensures in
     let old = g.D.Disk.medium c.args.disk.now in
     let mid = g.D.Disk.medium c.open_root.new.disk in
-    let closed = marked_at c.running_is_application.ensures g.D.Disk.told old.image a c.requires.marked c.requires.memory in
+    let closed = marked_at c.running_is_application.ensures g.D.Disk.told old.image a c.requires.marked
+    c.requires.memory in
     rw (p.1, p.2) (record {
-      end = opening_failed c.applications_stand.ensures.mend g.D.Disk.told (rules_of c.args.migrations.now) (answers_of c.args.migrations.now) c.args.now c.args.call.now a c.open_root.new.self old mid
-          c.requires.marked said.app closed c.in_err-open_root.field-0.0 said.memory (said.failed c.in_err-open_root.field-0.0 refl) said.on_the_way (λ is. said.cause (ap (λ (s : Stop). Err s) is));
-      idle = λ tells. none_idle c.applications_stand.ensures.mend g.D.Disk.told (rules_of c.args.migrations.now) (answers_of c.args.migrations.now) c.args.now c.args.call.now a c.open_root.new.self old mid
+      end = opening_failed c.applications_stand.ensures.mend g.D.Disk.told (rules_of c.args.migrations.now)
+          (answers_of c.args.migrations.now) c.args.now c.args.call.now a c.open_root.new.self old mid
+          c.requires.marked said.app closed c.in_err-open_root.field-0.0 said.memory
+          (said.failed c.in_err-open_root.field-0.0 refl) said.on_the_way
+          (λ is. said.cause (ap (λ (s : Stop). Err s) is));
+      idle = λ tells. none_idle c.applications_stand.ensures.mend g.D.Disk.told (rules_of c.args.migrations.now)
+          (answers_of c.args.migrations.now) c.args.now c.args.call.now a c.open_root.new.self old mid
           c.requires.marked said.app closed _;
-      written = none_written c.applications_stand.ensures.mend g.D.Disk.told (rules_of c.args.migrations.now) (answers_of c.args.migrations.now) c.args.now c.args.call.now a c.open_root.new.self old mid
+      written = none_written c.applications_stand.ensures.mend g.D.Disk.told (rules_of c.args.migrations.now)
+          (answers_of c.args.migrations.now) c.args.now c.args.call.now a c.open_root.new.self old mid
           c.requires.marked said.app closed mid;
       time = said.time;
     })
@@ -31,13 +37,18 @@ returns g c =
     let old = g.D.Disk.medium c.args.disk.now in
     let mid = g.D.Disk.medium c.open_root.new.disk in
     let new = g.D.Disk.medium c.answer_opened.new.disk in
-    let closed = marked_at c.running_is_application.ensures g.D.Disk.told old.image a c.requires.marked c.requires.memory in
+    let closed = marked_at c.running_is_application.ensures g.D.Disk.told old.image a c.requires.marked
+    c.requires.memory in
     record {
-      end = opened_first c.applications_stand.ensures.mend g.D.Disk.told (rules_of c.args.migrations.now) (answers_of c.args.migrations.now) c.args.now c.args.call.now a c.open_root.new.self old mid
-          c.requires.marked said.app closed said.opened said.quiet said.root c.answer_opened.new.running new c.answer_opened.ensures.time c.answer_opened.result said.time c.answer_opened.ensures.end;
-      idle = λ tells. none_idle c.applications_stand.ensures.mend g.D.Disk.told (rules_of c.args.migrations.now) (answers_of c.args.migrations.now) c.args.now c.args.call.now a c.open_root.new.self old mid
+      end = opened_first c.applications_stand.ensures.mend g.D.Disk.told (rules_of c.args.migrations.now)
+          (answers_of c.args.migrations.now) c.args.now c.args.call.now a c.open_root.new.self old mid
+          c.requires.marked said.app closed said.opened said.quiet said.root c.answer_opened.new.running new
+          c.answer_opened.ensures.time c.answer_opened.result said.time c.answer_opened.ensures.end;
+      idle = λ tells. none_idle c.applications_stand.ensures.mend g.D.Disk.told (rules_of c.args.migrations.now)
+          (answers_of c.args.migrations.now) c.args.now c.args.call.now a c.open_root.new.self old mid
           c.requires.marked said.app closed _;
-      written = none_written c.applications_stand.ensures.mend g.D.Disk.told (rules_of c.args.migrations.now) (answers_of c.args.migrations.now) c.args.now c.args.call.now a c.open_root.new.self old mid
+      written = none_written c.applications_stand.ensures.mend g.D.Disk.told (rules_of c.args.migrations.now)
+          (answers_of c.args.migrations.now) c.args.now c.args.call.now a c.open_root.new.self old mid
           c.requires.marked said.app closed new;
       time = elapses_on said.time c.answer_opened.ensures.time;
     }

@@ -2,7 +2,8 @@ use Rattle.std.proofs.Common.{◌≡◌, ◌<◌, Err, sym, ap, ◌∙◌, arith
 use Rattle.std.proofs.lemmas.Result.{err_from_is_err_and}
 use Rattle.disk_model.specs.Laws.{elapses_on, rose_before}
 use Rattle.deploy.specs.declared.errors.Stop.{Stop}
-use Rattle.per_runtime.proofs.Begins.{all_begun, moments_keep, none_opened, one_opened, root_at, stopped_by, stops_at, unsynced_moments, way_at}
+use Rattle.per_runtime.proofs.Begins.{all_begun, moments_keep, none_opened, one_opened, root_at, stopped_by, stops_at}
+use Rattle.per_runtime.proofs.Begins.{unsynced_moments, way_at}
 use Rattle.per_runtime.proofs.Places.{on_err, on_ok}
 use Rattle.per_runtime.proofs.starting.open_all.Goals as goal
 
@@ -13,13 +14,16 @@ returns-then-is_err g c =
     let new = g.D.Disk.medium c.sync.new.self in
     record {
       end = on_err c.sync.result is c.sync.ensures.cause;
-      keeps = λ tells. moments_keep old new (unsynced_moments c.applications_stand.ensures old new (on_err c.sync.result is c.sync.ensures.failed));
+      keeps = λ tells. moments_keep old new (unsynced_moments c.applications_stand.ensures old new
+          (on_err c.sync.result is c.sync.ensures.failed));
       time = c.sync.ensures.time;
     }
 
 pub loop-app-init : goal.loop-app-init
-loop-app-init g c = rw c.new-apps.ensures.items (none_opened c.applications_stand.ensures g.D.Disk.told (g.D.Disk.medium c.args.disk.now) (g.D.Disk.medium c.sync.new.self)
-    (on_ok c.sync.result (sym c.if-is_err.ensures.value) c.sync.ensures.quiet) c.sync.ensures.writes_nothing c.sync.ensures.time)
+loop-app-init g c = rw c.new-apps.ensures.items (none_opened c.applications_stand.ensures g.D.Disk.told
+    (g.D.Disk.medium c.args.disk.now) (g.D.Disk.medium c.sync.new.self)
+    (on_ok c.sync.result (sym c.if-is_err.ensures.value) c.sync.ensures.quiet) c.sync.ensures.writes_nothing
+    c.sync.ensures.time)
 
 pub returns-in_err-running : goal.returns-in_err-running
 returns-in_err-running g c =
@@ -27,7 +31,8 @@ returns-in_err-running g c =
     let it = c.loop-app.invariant in
     rw (p.1, p.2) (record {
       end = tt;
-      keeps = λ tells. moments_keep (g.D.Disk.medium c.args.disk.now) (g.D.Disk.medium c.loop-app.disk) (it.opened tells).moments;
+      keeps = λ tells. moments_keep (g.D.Disk.medium c.args.disk.now) (g.D.Disk.medium c.loop-app.disk)
+          (it.opened tells).moments;
       time = it.time;
     })
 
@@ -41,9 +46,13 @@ returns-in_err-open_root g c =
     let new = g.D.Disk.medium c.open_root.new.disk in
     let said = c.in_err-open_root.ensures in
     rw (p.1, p.2) (record {
-      end = stopped_by g.D.Disk.told old new c.in_err-open_root.field-0.0 (λ is. rose_before old.faults now.faults new.faults it.time.faults (said.cause (ap (λ (s : Stop). Err s) is)));
-      keeps = λ tells. moments_keep old new (stops_at c.applications_stand.ensures c.loop-app.app old now new lt (it.opened tells) said.time
-          (way_at c.in_ok-running.running.app c.loop-app.app now new c.in_ok-running.ensures.app (said.on_the_way tells)));
+      end = stopped_by g.D.Disk.told old new c.in_err-open_root.field-0.0
+          (λ is. rose_before old.faults now.faults new.faults it.time.faults
+          (said.cause (ap (λ (s : Stop). Err s) is)));
+      keeps = λ tells. moments_keep old new (stops_at c.applications_stand.ensures c.loop-app.app old now new lt
+          (it.opened tells) said.time
+          (way_at c.in_ok-running.running.app c.loop-app.app now new c.in_ok-running.ensures.app
+          (said.on_the_way tells)));
       time = elapses_on it.time said.time;
     })
 
@@ -58,8 +67,10 @@ returns-in_err-push g c =
     let said = c.in_ok-open_root.ensures in
     rw (p.1, p.2) (record {
       end = tt;
-      keeps = λ tells. moments_keep old new (stops_at c.applications_stand.ensures c.loop-app.app old now new lt (it.opened tells) said.time
-          (way_at c.in_ok-running.running.app c.loop-app.app now new c.in_ok-running.ensures.app (said.on_the_way tells)));
+      keeps = λ tells. moments_keep old new (stops_at c.applications_stand.ensures c.loop-app.app old now new lt
+          (it.opened tells) said.time
+          (way_at c.in_ok-running.running.app c.loop-app.app now new c.in_ok-running.ensures.app
+          (said.on_the_way tells)));
       time = elapses_on it.time said.time;
     })
 
@@ -70,10 +81,12 @@ loop-app-preserved g c =
     let now = g.D.Disk.medium c.loop-app.disk in
     let new = g.D.Disk.medium c.open_root.new.disk in
     let said = c.in_ok-open_root.ensures in
-    rw c.in_ok-push.ensures.items (one_opened c.applications_stand.ensures c.running_stays.ensures g.D.Disk.told c.loop-app.app c.loop-app.apps.items c.open_root.new.self
+    rw c.in_ok-push.ensures.items (one_opened c.applications_stand.ensures c.running_stays.ensures g.D.Disk.told
+    c.loop-app.app c.loop-app.apps.items c.open_root.new.self
     (g.D.Disk.medium c.args.disk.now) now new lt it (said.app ∙ c.in_ok-running.ensures.app) said.memory said.opened
     (λ tells. root_at c.in_ok-running.running.app c.loop-app.app now new c.in_ok-running.ensures.app (said.root tells))
-    (λ tells. way_at c.in_ok-running.running.app c.loop-app.app now new c.in_ok-running.ensures.app (said.on_the_way tells)) said.quiet said.time)
+    (λ tells. way_at c.in_ok-running.running.app c.loop-app.app now new c.in_ok-running.ensures.app
+    (said.on_the_way tells)) said.quiet said.time)
 
 pub returns : goal.returns
 returns g c =
@@ -84,4 +97,5 @@ returns g c =
     all_begun g.D.Disk.told c.loop-app.app c.loop-app.apps old now all it
 
 pub open_root-requires-clause-memory : goal.open_root-requires-clause-memory
-open_root-requires-clause-memory g c = c.in_ok-running.ensures.memory g.D.Disk.told (g.D.Disk.medium c.loop-app.disk).image
+open_root-requires-clause-memory g c = c.in_ok-running.ensures.memory g.D.Disk.told
+    (g.D.Disk.medium c.loop-app.disk).image

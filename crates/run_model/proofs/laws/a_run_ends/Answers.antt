@@ -3,5 +3,7 @@ use Rattle.run_model.specs.RunLaws.{ends_disk}
 use Rattle.run_model.proofs.laws.a_run_ends.Goals as goal
 
 pub returns : goal.returns
-returns g c how lines all turns before after memory doubt started going = ends_disk c.applications_stand.ensures (rules_of c.args.migrations.now) (answers_of c.args.migrations.now) how lines all turns before after memory doubt
+returns g c how lines all turns before after memory doubt started going =
+    ends_disk c.applications_stand.ensures (rules_of c.args.migrations.now) (answers_of c.args.migrations.now) how lines
+    all turns before after memory doubt
     (g.D.Disk.medium c.args.old.now) (g.D.Disk.medium c.args.now.now) started going

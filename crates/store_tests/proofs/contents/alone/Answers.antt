@@ -16,4 +16,5 @@ returns c =
       few = omega arith;
       small = omega (arith, small, sum);
     } in
-    subst (λ (fs : List Fresh). AreContents c.args.shape.now.kind c.args.shape.now.allowed fs) (sym c.in_ok-only.ensures) one
+    subst (λ (fs : List Fresh). AreContents c.args.shape.now.kind c.args.shape.now.allowed fs)
+    (sym c.in_ok-only.ensures) one

@@ -7,5 +7,6 @@ use Rattle.update_plan.proofs.planning.plan.Given as goal
 
 -- what was planned, and behind it the plans of the rest
 abbrev pub invariant-loop-storage : goal.invariant-loop-storage
-invariant-loop-storage g l = Planning (rules_of l.migrations) (answers_of l.migrations) l.now (stored_for (deployment_data l.old) l.contents)
+invariant-loop-storage g l = Planning (rules_of l.migrations) (answers_of l.migrations) l.now
+    (stored_for (deployment_data l.old) l.contents)
     (map storage_data l.new.storages) (drop l.storage-index (map storage_data l.new.storages)) l.plans.items

@@ -11,7 +11,8 @@ loop-fresh-preserved c =
     let before = c.loop-fresh.entries.items in
     let more : c.push.new.self.items ≡ before ++ c.in_ok-entry.field-0 ∷ [] = c.in_ok-push.ensures.items in
     subst (λ es. AllZip Stores (take (i + 1) made) es) (sym more)
-    (zip_more Stores made i c.fresh-item.result before c.in_ok-entry.field-0 c.loop-fresh.invariant c.loop-fresh-test.true c.fresh-item.is c.in_ok-entry.ensures)
+    (zip_more Stores made i c.fresh-item.result before c.in_ok-entry.field-0 c.loop-fresh.invariant
+    c.loop-fresh-test.true c.fresh-item.is c.in_ok-entry.ensures)
 
 pub returns : goal.returns
 returns c =
@@ -19,5 +20,7 @@ returns c =
     let made = c.in_ok-made.made.items in
     let entries = c.loop-fresh.entries.items in
     let same : c.deref-fresh-items.result.now ≡ made = cc in
-    let zipped = zip_all Stores c.deref-fresh-items.result.now c.loop-fresh.fresh-index entries c.loop-fresh.invariant c.loop-fresh-test.false in
-    are_stored storage.kind storage.maximum made entries (subst (λ ms. AllZip Stores ms entries) same zipped) c.in_ok-made.ensures.limits
+    let zipped = zip_all Stores c.deref-fresh-items.result.now c.loop-fresh.fresh-index entries c.loop-fresh.invariant
+    c.loop-fresh-test.false in
+    are_stored storage.kind storage.maximum made entries (subst (λ ms. AllZip Stores ms entries) same zipped)
+    c.in_ok-made.ensures.limits

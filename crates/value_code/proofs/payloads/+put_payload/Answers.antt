@@ -4,8 +4,16 @@ use Rattle.value_code.proofs.Lengths.{items_few}
 use Rattle.value_code.proofs.payloads.+put_payload.Goals as goal
 
 pub put_payload-put_length-requires : goal.put_payload-put_length-requires
-put_payload-put_length-requires t c = rw c.len.ensures (items_few c.in-List.field-0 c.in-List.items (rw c.in-List.is at c.requires.typed) (rw c.in-List.is at c.requires.short))
+put_payload-put_length-requires t c = rw c.len.ensures
+    (items_few c.in-List.field-0 c.in-List.items (rw c.in-List.is at c.requires.typed)
+    (rw c.in-List.is at c.requires.short))
 
 pub put_payload-returns-in_ok-put_payloads-in-List : goal.put_payload-returns-in_ok-put_payloads-in-List
 put_payload-returns-in_ok-put_payloads-in-List t c =
-    rw (c.in-List.is, tree_of-List c.in-List.field-0 c.in-List.items, count_trees-view c.in-List.items.items, len-items c.in-List.items, ← c.len.ensures) (search (rules, append_assoc))
+    rw (
+      c.in-List.is,
+      tree_of-List c.in-List.field-0 c.in-List.items,
+      count_trees-view c.in-List.items.items,
+      len-items c.in-List.items,
+      ← c.len.ensures,
+    ) (search (rules, append_assoc))

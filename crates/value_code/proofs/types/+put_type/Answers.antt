@@ -5,12 +5,20 @@ use Rattle.value_code.proofs.types.+put_type.Goals as goal
 
 pub put_type-overflow_cast-len : goal.put_type-overflow_cast-len
 put_type-overflow_cast-len t c =
-    let few : c.len.result ≤ 32 = rw c.len.ensures (members_at_most c.in-Fields.members (rw c.in-Fields.is at c.requires.fits)) in
+    let few : c.len.result ≤ 32 = rw c.len.ensures (members_at_most c.in-Fields.members
+    (rw c.in-Fields.is at c.requires.fits)) in
     search rules
 
 pub put_type-returns-in_ok-put_type-in-List : goal.put_type-returns-in_ok-put_type-in-List
-put_type-returns-in_ok-put_type-in-List t c = rw (c.in-List.is, kind_of-List c.in-List.item) (search (rules, append_assoc))
+put_type-returns-in_ok-put_type-in-List t c = rw (c.in-List.is, kind_of-List c.in-List.item)
+    (search (rules, append_assoc))
 
 pub put_type-returns-in_ok-put_types-in-Fields : goal.put_type-returns-in_ok-put_types-in-Fields
 put_type-returns-in_ok-put_types-in-Fields t c =
-    rw (c.in-Fields.is, kind_of-Fields c.in-Fields.members, count_kinds-view c.in-Fields.members.items, len-items c.in-Fields.members, ← c.len.ensures) (search (rules, append_assoc))
+    rw (
+      c.in-Fields.is,
+      kind_of-Fields c.in-Fields.members,
+      count_kinds-view c.in-Fields.members.items,
+      len-items c.in-Fields.members,
+      ← c.len.ensures,
+    ) (search (rules, append_assoc))

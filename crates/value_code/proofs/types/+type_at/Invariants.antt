@@ -18,4 +18,5 @@ decreases-types_at l = 4 * l.depth + 1
 
 -- the types so far, and what is still to read
 abbrev pub invariant-types_at-loop : goal.invariant-types_at-loop
-invariant-types_at-loop l = kinds_with (kinds_view l.types.items) (kinds_by (kind_at l.depth) (l.count - l.counter) l.rest) ≡ kinds_by (kind_at l.depth) l.count l.bytes
+invariant-types_at-loop l = kinds_with (kinds_view l.types.items)
+    (kinds_by (kind_at l.depth) (l.count - l.counter) l.rest) ≡ kinds_by (kind_at l.depth) l.count l.bytes

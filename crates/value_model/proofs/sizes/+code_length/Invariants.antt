@@ -6,4 +6,6 @@ use Rattle.value_model.proofs.sizes.+code_length.Given as goal
 
 -- the length so far, and the nodes that are left
 abbrev pub invariant-codes_length-loop-node : goal.invariant-codes_length-loop-node
-invariant-codes_length-loop-node l = (min (l.total + length (type_codes (types_of (trees_view (drop l.node-index l.nodes))))) 65537 ≡ min (length (type_codes (types_of (trees_view l.nodes)))) 65537) × (l.total ≤ 65537)
+invariant-codes_length-loop-node l = (min (l.total + length
+    (type_codes (types_of (trees_view (drop l.node-index l.nodes))))) 65537
+    ≡ min (length (type_codes (types_of (trees_view l.nodes)))) 65537) × (l.total ≤ 65537)

@@ -6,4 +6,5 @@ use Rattle.value_model.proofs.sizes.+node_depth.Given as goal
 
 -- the deepest so far, and the nodes that are left
 abbrev pub invariant-nodes_depth-loop-node : goal.invariant-nodes_depth-loop-node
-invariant-nodes_depth-loop-node l = max l.deepest (min (kinds_depth (types_of (trees_view (drop l.node-index l.nodes)))) 9) ≡ min (kinds_depth (types_of (trees_view l.nodes))) 9
+invariant-nodes_depth-loop-node l = max l.deepest (min (kinds_depth (types_of (trees_view (drop l.node-index l.nodes))))
+    9) ≡ min (kinds_depth (types_of (trees_view l.nodes))) 9

@@ -5,4 +5,5 @@ use Rattle.value_model.proofs.sizes.+type_depth.Given as goal
 
 -- the deepest so far, and the types that are left
 abbrev pub invariant-types_depth-loop-value_type : goal.invariant-types_depth-loop-value_type
-invariant-types_depth-loop-value_type l = max l.deepest (min (kinds_depth (kinds_view (drop l.value_type-index l.types))) 9) ≡ min (kinds_depth (kinds_view l.types)) 9
+invariant-types_depth-loop-value_type l = max l.deepest
+    (min (kinds_depth (kinds_view (drop l.value_type-index l.types))) 9) ≡ min (kinds_depth (kinds_view l.types)) 9

@@ -5,4 +5,6 @@ use Rattle.value_model.proofs.sizes.+type_length.Given as goal
 
 -- the length so far, and the types that are left
 abbrev pub invariant-types_length-loop-value_type : goal.invariant-types_length-loop-value_type
-invariant-types_length-loop-value_type l = (min (l.total + length (type_codes (kinds_view (drop l.value_type-index l.types)))) 65537 ≡ min (length (type_codes (kinds_view l.types))) 65537) × (l.total ≤ 65537)
+invariant-types_length-loop-value_type l = (min (l.total
+    + length (type_codes (kinds_view (drop l.value_type-index l.types)))) 65537
+    ≡ min (length (type_codes (kinds_view l.types))) 65537) × (l.total ≤ 65537)

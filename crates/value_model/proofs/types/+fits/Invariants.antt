@@ -5,4 +5,5 @@ use Rattle.value_model.proofs.types.+fits.Given as goal
 
 -- the types that are left decide
 abbrev pub invariant-all_fit-loop-value_type : goal.invariant-all_fit-loop-value_type
-invariant-all_fit-loop-value_type l = kinds_fit (kinds_view (drop l.value_type-index l.types)) ≡ kinds_fit (kinds_view l.types)
+invariant-all_fit-loop-value_type l = kinds_fit (kinds_view (drop l.value_type-index l.types))
+    ≡ kinds_fit (kinds_view l.types)

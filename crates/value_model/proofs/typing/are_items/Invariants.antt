@@ -5,4 +5,5 @@ use Rattle.value_model.proofs.typing.are_items.Given as goal
 
 -- the nodes that are left decide
 abbrev pub invariant-loop-node : goal.invariant-loop-node
-invariant-loop-node l = AllOf (kind_of l.item) (trees_view (drop l.node-index l.nodes)) ↔ AllOf (kind_of l.item) (trees_view l.nodes)
+invariant-loop-node l = AllOf (kind_of l.item) (trees_view (drop l.node-index l.nodes)) ↔ AllOf (kind_of l.item)
+    (trees_view l.nodes)

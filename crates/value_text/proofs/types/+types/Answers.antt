@@ -17,24 +17,34 @@ type_at-returns t c = rw (kind_at-more c.args.depth c.args.bytes.now c.if-depth-
 pub members-returns-in_err-member : goal.members-returns-in_err-member
 members-returns-in_err-member t c =
     let p = err_from_is_err_and c.from_residual.result c.from_residual.ensures.1 in
-    rw (p.1, p.2) (thing_fails (kind_at c.args.depth) 125 c.in_err-member.field-0.0 (map kind_of c.loop.members.items) 32 c.loop.counter c.loop.rest.now _ c.loop-test.true c.in_err-member.ensures c.loop.invariant)
+    rw (p.1, p.2) (thing_fails (kind_at c.args.depth) 125 c.in_err-member.field-0.0 (map kind_of c.loop.members.items)
+    32 c.loop.counter c.loop.rest.now _ c.loop-test.true c.in_err-member.ensures c.loop.invariant)
 
 pub members-returns-in_err-is_last : goal.members-returns-in_err-is_last
 members-returns-in_err-is_last t c =
     let p = err_from_is_err_and c.from_residual-in_err-is_last.result c.from_residual-in_err-is_last.ensures.1 in
-    rw (p.1, p.2) (punctuation_fails (kind_at c.args.depth) 125 c.in_err-is_last.field-0.0 (map kind_of c.loop.members.items) 32 c.loop.counter c.loop.rest.now (kind_of c.in_ok-member.member) c.in_ok-member.behind.now _ c.loop-test.true c.in_ok-member.ensures c.in_err-is_last.ensures c.loop.invariant)
+    rw (p.1, p.2) (punctuation_fails (kind_at c.args.depth) 125 c.in_err-is_last.field-0.0
+    (map kind_of c.loop.members.items) 32 c.loop.counter c.loop.rest.now (kind_of c.in_ok-member.member)
+    c.in_ok-member.behind.now _ c.loop-test.true c.in_ok-member.ensures c.in_err-is_last.ensures c.loop.invariant)
 
 pub members-returns-then-is_last : goal.members-returns-then-is_last
 members-returns-then-is_last t c =
-    let cut : punctuation_at 125 c.in_ok-member.behind.now ≡ Some (true, c.in_ok-is_last.others.now) = c.in_ok-is_last.ensures ∙ ap (λ (b : Bool). Some (b, c.in_ok-is_last.others.now)) c.if-is_last.true in
+    let cut : punctuation_at 125 c.in_ok-member.behind.now ≡ Some (true, c.in_ok-is_last.others.now) =
+    c.in_ok-is_last.ensures ∙ ap (λ (b : Bool). Some (b, c.in_ok-is_last.others.now)) c.if-is_last.true in
     rw (c.in_ok-push.ensures.items, map_push kind_of c.loop.members.items c.in_ok-member.member)
-    (closes (kind_at c.args.depth) 125 (map kind_of c.loop.members.items) 32 c.loop.counter c.loop.rest.now (kind_of c.in_ok-member.member) c.in_ok-member.behind.now c.in_ok-is_last.others.now _ c.loop-test.true c.in_ok-member.ensures cut c.loop.invariant)
+    (closes (kind_at c.args.depth) 125 (map kind_of c.loop.members.items) 32 c.loop.counter c.loop.rest.now
+    (kind_of c.in_ok-member.member) c.in_ok-member.behind.now c.in_ok-is_last.others.now _ c.loop-test.true
+    c.in_ok-member.ensures cut c.loop.invariant)
 
 pub members-loop-preserved : goal.members-loop-preserved
 members-loop-preserved t c =
-    let cut : punctuation_at 125 c.in_ok-member.behind.now ≡ Some (false, c.in_ok-is_last.others.now) = c.in_ok-is_last.ensures ∙ ap (λ (b : Bool). Some (b, c.in_ok-is_last.others.now)) c.if-is_last.false in
+    let cut : punctuation_at 125 c.in_ok-member.behind.now ≡ Some (false, c.in_ok-is_last.others.now) =
+    c.in_ok-is_last.ensures ∙ ap (λ (b : Bool). Some (b, c.in_ok-is_last.others.now)) c.if-is_last.false in
     rw (c.in_ok-push.ensures.items, map_push kind_of c.loop.members.items c.in_ok-member.member)
-    (continues (kind_at c.args.depth) 125 (map kind_of c.loop.members.items) 32 c.loop.counter c.loop.rest.now (kind_of c.in_ok-member.member) c.in_ok-member.behind.now c.in_ok-is_last.others.now _ c.loop-test.true c.in_ok-member.ensures cut c.loop.invariant)
+    (continues (kind_at c.args.depth) 125 (map kind_of c.loop.members.items) 32 c.loop.counter c.loop.rest.now
+    (kind_of c.in_ok-member.member) c.in_ok-member.behind.now c.in_ok-is_last.others.now _ c.loop-test.true
+    c.in_ok-member.ensures cut c.loop.invariant)
 
 pub members-returns : goal.members-returns
-members-returns t c = is_full (kind_at c.args.depth) 125 (map kind_of c.loop.members.items) 32 c.loop.counter c.loop.rest.now _ c.loop-test.false c.loop.invariant
+members-returns t c = is_full (kind_at c.args.depth) 125 (map kind_of c.loop.members.items) 32 c.loop.counter
+    c.loop.rest.now _ c.loop-test.false c.loop.invariant

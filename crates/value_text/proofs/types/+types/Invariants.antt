@@ -18,4 +18,5 @@ decreases-type_here l = 3 * l.depth + 2
 
 -- the members so far, and those of what is left
 abbrev pub invariant-members-loop : goal.invariant-members-loop
-invariant-members-loop l = with_front (map kind_of l.members.items) (separated (kind_at l.depth) 125 (32 - l.counter) l.rest) ≡ separated (kind_at l.depth) 125 32 l.bytes
+invariant-members-loop l = with_front (map kind_of l.members.items)
+    (separated (kind_at l.depth) 125 (32 - l.counter) l.rest) ≡ separated (kind_at l.depth) 125 32 l.bytes

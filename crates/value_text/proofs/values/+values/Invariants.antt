@@ -21,4 +21,6 @@ decreases-value_here l = 5 * l.depth + 4
 
 -- the nodes so far, and those of what is left
 abbrev pub invariant-nodes-loop : goal.invariant-nodes-loop
-invariant-nodes-loop l = with_front (map tree_of l.nodes.items) (separated (tree_at l.depth) l.close (l.most - l.counter) l.rest) ≡ separated (tree_at l.depth) l.close l.most l.bytes
+invariant-nodes-loop l = with_front (map tree_of l.nodes.items)
+    (separated (tree_at l.depth) l.close (l.most - l.counter) l.rest)
+    ≡ separated (tree_at l.depth) l.close l.most l.bytes

@@ -13,17 +13,23 @@ use Rattle.app_runtime.proofs.running.Running.begin_update.Goals as goal
 
 pub begin_update-begun-requires : goal.begin_update-begun-requires
 begin_update-begun-requires g c =
-    let resting = resting_in g.D.Disk.told (g.D.Disk.medium c.args.disk.now).image c.args.self.now c.take_root-root.result c.requires.memory c.requires.rests c.take_root-root.ensures.root in
+    let resting = resting_in g.D.Disk.told (g.D.Disk.medium c.args.disk.now).image c.args.self.now
+    c.take_root-root.result c.requires.memory c.requires.rests c.take_root-root.ensures.root in
     let back = sym (ap (λ (x : Running). x.app) c.take_root-root.ensures.left) in
     record {
       app = subst (λ n. n < 8) back resting.below;
-      root = subst (λ n. RootAt g.D.Disk.told (g.D.Disk.medium c.args.disk.now).image n c.take_root-root.result) back resting.root_at;
+      root = subst (λ n. RootAt g.D.Disk.told (g.D.Disk.medium c.args.disk.now).image n c.take_root-root.result) back
+          resting.root_at;
     }
 
 pub returns-in_err-busy : goal.returns-in_err-busy
-returns-in_err-busy g c = starved_promises g.D.Disk.told (rules_of c.args.migrations.now) (answers_of c.args.migrations.now) c.args.now (call.UpdateBegin c.args.manifest.now) c.args.self.now (g.D.Disk.medium c.args.disk.now)
-    (g.met.D.Disk.lawful c.args.disk.now) c.untouched_stands.ensures.untouched (c.args.disk.now ≡ c.args.disk.now) refl c.requires.memory c.take_root-root.new.self
-    (ap (λ (x : Running). x.app) c.take_root-root.ensures.left) c.from_residual.result (starved c.from_residual.result c.from_residual.ensures.1)
+returns-in_err-busy g c = starved_promises g.D.Disk.told (rules_of c.args.migrations.now)
+    (answers_of c.args.migrations.now) c.args.now (call.UpdateBegin c.args.manifest.now) c.args.self.now
+    (g.D.Disk.medium c.args.disk.now)
+    (g.met.D.Disk.lawful c.args.disk.now) c.untouched_stands.ensures.untouched (c.args.disk.now ≡ c.args.disk.now) refl
+    c.requires.memory c.take_root-root.new.self
+    (ap (λ (x : Running). x.app) c.take_root-root.ensures.left) c.from_residual.result
+    (starved c.from_residual.result c.from_residual.ensures.1)
 
 pub returns : goal.returns
 returns g c =
@@ -39,12 +45,16 @@ returns g c =
     let text = c.args.manifest.now in
     let busy = option_map (λ n. n.now) c.as_ref.result in
     let resting = resting_in told old.image s root c.requires.memory c.requires.rests c.take_root-root.ensures.root in
-    let busy_is = busy_here s taken root c.as_ref.result c.in_ok-busy.busy c.take_root-root.ensures.left c.as_ref.ensures.value c.in_ok-busy.ensures in
-    subst (λ (x : Running). Promises told rules answers c.args.now (call.UpdateBegin text) x c.settle_begun.new.self (c.begin_update-begun.new.disk ≡ c.args.disk.now) old new c.settle_begun.result)
+    let busy_is = busy_here s taken root c.as_ref.result c.in_ok-busy.busy c.take_root-root.ensures.left
+    c.as_ref.ensures.value c.in_ok-busy.ensures in
+    subst (λ (x : Running). Promises told rules answers c.args.now (call.UpdateBegin text) x c.settle_begun.new.self
+    (c.begin_update-begun.new.disk ≡ c.args.disk.now) old new c.settle_begun.result)
     (stage_back s root c.requires.rests c.take_root-root.ensures.root)
-    (begun_promises told rules answers c.args.now text s root old new (c.begin_update-begun.new.disk ≡ c.args.disk.now) resting c.roots_in_use.ensures.app c.rows_read_the_root.ensures.offer busy busy_is
+    (begun_promises told rules answers c.args.now text s root old new (c.begin_update-begun.new.disk ≡ c.args.disk.now)
+    resting c.roots_in_use.ensures.app c.rows_read_the_root.ensures.offer busy busy_is
     made
-    (subst (λ n. Beginning told rules answers c.args.now text n root busy old new made) (ap (λ (x : Running). x.app) c.take_root-root.ensures.left) (record {
+    (subst (λ n. Beginning told rules answers c.args.now text n root busy old new made)
+    (ap (λ (x : Running). x.app) c.take_root-root.ensures.left) (record {
       begins = c.begin_update-begun.ensures.begins;
       staged = c.begin_update-begun.ensures.staged;
       image = c.begin_update-begun.ensures.image;
@@ -55,4 +65,6 @@ returns g c =
       any_moment = c.begin_update-begun.ensures.any_moment;
       time = c.begin_update-begun.ensures.time;
     }))
-    c.settle_begun.new.self c.settle_begun.result (subst (λ (x : Running). SettlesBegun made x c.settle_begun.new.self c.settle_begun.result) c.take_root-root.ensures.left c.settle_begun.ensures))
+    c.settle_begun.new.self c.settle_begun.result (subst
+    (λ (x : Running). SettlesBegun made x c.settle_begun.new.self c.settle_begun.result)
+    c.take_root-root.ensures.left c.settle_begun.ensures))

@@ -10,11 +10,13 @@ use Rattle.app_runtime.proofs.StorageCalls.{stored_promises}
 use Rattle.app_runtime.proofs.running.Running.call_on_storage.Goals as goal
 
 pub returns-in_default : goal.returns-in_default
-returns-in_default g c = absurd (c.in_default.not-AtRest (root_of c.args.self.now.stage) (sym (rests c.args.self.now.stage c.requires.rests)))
+returns-in_default g c = absurd (c.in_default.not-AtRest (root_of c.args.self.now.stage)
+    (sym (rests c.args.self.now.stage c.requires.rests)))
 
 pub call-requires : goal.call-requires
 call-requires g c = record {
-  memory = subst (λ (x : Stage). IsStageAt g.D.Disk.told (g.D.Disk.medium c.args.disk.now).image c.args.self.now.app c.args.self.now.slots x) c.in-AtRest.is c.requires.memory.stage_at;
+  memory = subst (λ (x : Stage). IsStageAt g.D.Disk.told (g.D.Disk.medium c.args.disk.now).image c.args.self.now.app
+      c.args.self.now.slots x) c.in-AtRest.is c.requires.memory.stage_at;
   on_storage = c.requires.on_storage;
 }
 
@@ -27,9 +29,12 @@ returns g c =
     let old = g.D.Disk.medium c.args.disk.now in
     let new = g.D.Disk.medium c.call.new.disk in
     let Untouched = c.call.new.disk ≡ c.args.disk.now in
-    subst (λ (x : Stage). Promises told rules answers c.args.now c.args.call.now (record s { stage = x }) (record s { stage = x; slots = c.call.new.self }) Untouched old new c.call.result) (sym c.in-AtRest.is)
-    (stored_promises told rules answers c.args.now c.args.call.now s c.in-AtRest.root c.call.new.self Untouched old new c.call.result c.requires.on_storage
-    (leads_on c.storages_lead_on.ensures c.rows_lead_on.ensures.install c.rows_lead_on.ensures.finish c.rows_lead_on.ensures.rollback c.rows_lead_on.ensures.wipe c.rows_lead_on.ensures.update rules answers)
+    subst (λ (x : Stage). Promises told rules answers c.args.now c.args.call.now (record s { stage = x })
+    (record s { stage = x; slots = c.call.new.self }) Untouched old new c.call.result) (sym c.in-AtRest.is)
+    (stored_promises told rules answers c.args.now c.args.call.now s c.in-AtRest.root c.call.new.self Untouched old new
+    c.call.result c.requires.on_storage
+    (leads_on c.storages_lead_on.ensures c.rows_lead_on.ensures.install c.rows_lead_on.ensures.finish
+    c.rows_lead_on.ensures.rollback c.rows_lead_on.ensures.wipe c.rows_lead_on.ensures.update rules answers)
     (record {
       memory = c.call.ensures.memory;
       answered = c.call.ensures.answered;

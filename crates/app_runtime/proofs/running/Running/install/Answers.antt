@@ -9,11 +9,18 @@ use Rattle.app_runtime.proofs.Steps.{install_refused, not_updating}
 use Rattle.app_runtime.proofs.running.Running.install.Goals as goal
 
 pub returns-in-Updating : goal.returns-in-Updating
-returns-in-Updating g c = install_refused g.D.Disk.told (rules_of c.args.migrations.now) (answers_of c.args.migrations.now) c.args.now c.args.manifest.now c.args.self.now (g.D.Disk.medium c.args.disk.now)
-    (g.met.D.Disk.lawful c.args.disk.now) c.untouched_stands.ensures.untouched (c.args.disk.now ≡ c.args.disk.now) refl c.requires.memory c.roots_in_use.ensures.app c.in-Updating.field-0 c.in-Updating.is c.refuse.result c.refuse.ensures
+returns-in-Updating g c = install_refused g.D.Disk.told (rules_of c.args.migrations.now)
+    (answers_of c.args.migrations.now) c.args.now c.args.manifest.now c.args.self.now (g.D.Disk.medium c.args.disk.now)
+    (g.met.D.Disk.lawful c.args.disk.now) c.untouched_stands.ensures.untouched (c.args.disk.now ≡ c.args.disk.now) refl
+    c.requires.memory c.roots_in_use.ensures.app c.in-Updating.field-0 c.in-Updating.is c.refuse.result
+    c.refuse.ensures
 
 pub install_at_rest-requires : goal.install_at_rest-requires
-install_at_rest-requires g c = record { memory = c.requires.memory; rests = not_updating c.args.self.now.stage c.requires.opened c.in_default.not-Updating }
+install_at_rest-requires g c = record {
+  memory = c.requires.memory;
+  rests =
+      not_updating c.args.self.now.stage c.requires.opened c.in_default.not-Updating;
+}
 
 pub returns : goal.returns
 returns g c = c.install_at_rest.ensures

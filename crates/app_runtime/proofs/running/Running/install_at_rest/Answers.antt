@@ -16,11 +16,13 @@ use Rattle.app_runtime.proofs.running.Running.install_at_rest.Goals as goal
 
 pub install-made-requires : goal.install-made-requires
 install-made-requires g c =
-    let resting = resting_in g.D.Disk.told (g.D.Disk.medium c.args.disk.now).image c.args.self.now c.take_root-root.result c.requires.memory c.requires.rests c.take_root-root.ensures.root in
+    let resting = resting_in g.D.Disk.told (g.D.Disk.medium c.args.disk.now).image c.args.self.now
+    c.take_root-root.result c.requires.memory c.requires.rests c.take_root-root.ensures.root in
     let back = sym (ap (λ (x : Running). x.app) c.take_root-root.ensures.left) in
     record {
       app = subst (λ n. n < 8) back resting.below;
-      root = subst (λ n. RootAt g.D.Disk.told (g.D.Disk.medium c.args.disk.now).image n c.take_root-root.result) back resting.root_at;
+      root = subst (λ n. RootAt g.D.Disk.told (g.D.Disk.medium c.args.disk.now).image n c.take_root-root.result) back
+          resting.root_at;
     }
 
 pub returns : goal.returns
@@ -35,23 +37,33 @@ returns g c =
     let row = installing c.args.now c.args.manifest.now in
     let back = sym (ap (λ (x : Running). x.app) c.take_root-root.ensures.left) in
     let resting = resting_in told old.image s root c.requires.memory c.requires.rests c.take_root-root.ensures.root in
-    word_promises told (rules_of c.args.migrations.now) (answers_of c.args.migrations.now) c.args.now (call.Install c.args.manifest.now) s taken root old new (c.install-made.new.disk ≡ c.args.disk.now)
+    word_promises told (rules_of c.args.migrations.now) (answers_of c.args.migrations.now) c.args.now
+    (call.Install c.args.manifest.now) s taken root old new (c.install-made.new.disk ≡ c.args.disk.now)
     (λ same. (ap (λ d. (g.D.Disk.medium d).image) same, ap (λ d. (g.D.Disk.medium d).written) same))
-    c.requires.memory c.requires.rests c.take_root-root.ensures.root c.take_root-root.ensures.left c.roots_in_use.ensures.app row
-    (install_word told (rules_of c.args.migrations.now) (answers_of c.args.migrations.now) s.app c.args.now old.image s.slots c.args.manifest.now (c.rows_read_the_root.ensures.install c.args.now c.args.manifest.now) c.rows_lead_on.ensures.install)
+    c.requires.memory c.requires.rests c.take_root-root.ensures.root c.take_root-root.ensures.left
+    c.roots_in_use.ensures.app row
+    (install_word told (rules_of c.args.migrations.now) (answers_of c.args.migrations.now) s.app c.args.now old.image
+    s.slots c.args.manifest.now (c.rows_read_the_root.ensures.install c.args.now c.args.manifest.now)
+    c.rows_lead_on.ensures.install)
     made
-    (subst (λ n. Made told row n root (c.install-made.new.disk ≡ c.args.disk.now) old new made) (ap (λ (x : Running). x.app) c.take_root-root.ensures.left) (record {
+    (subst (λ n. Made told row n root (c.install-made.new.disk ≡ c.args.disk.now) old new made)
+    (ap (λ (x : Running). x.app) c.take_root-root.ensures.left) (record {
       root_at = c.install-made.ensures.root;
       refused = c.install-made.ensures.refused;
       leads = c.install-made.ensures.app;
-      clean = λ tells. clean_less (IsCleanApp taken.app old.image) (IsCleanApp taken.app new.image) made (c.install-made.ensures.clean tells);
+      clean = λ tells. clean_less (IsCleanApp taken.app old.image) (IsCleanApp taken.app new.image) made
+          (c.install-made.ensures.clean tells);
       quiet = c.install-made.ensures.quiet;
       unchanged = c.install-made.ensures.unchanged;
       cause = c.install-made.ensures.cause;
       device_only = c.install-made.ensures.device_only;
-      calls = λ tells. calls_to told taken.app (after (app_at old.image taken.app) (row (app_at old.image taken.app))) (IsBesideNext taken.app 0) old new tells (λ f is. beside_next taken.app 0 f (subst (λ n. n < 8) back resting.below) (let low : 0 ≤ 1 = omega arith in low) is) c.install-made.ensures.outside
+      calls = λ tells. calls_to told taken.app (after (app_at old.image taken.app) (row (app_at old.image taken.app)))
+          (IsBesideNext taken.app 0) old new tells (λ f is.
+          beside_next taken.app 0 f (subst (λ n. n < 8) back resting.below) (let low : 0 ≤ 1 = omega arith in low) is)
+          c.install-made.ensures.outside
           (c.install-made.ensures.any_moment tells);
       time = c.install-made.ensures.time;
     }))
-    (install_kept told s.app old.image new.image root s.slots resting c.args.now c.args.manifest.now made c.install-made.ensures.refused)
+    (install_kept told s.app old.image new.image root s.slots resting c.args.now c.args.manifest.now made
+    c.install-made.ensures.refused)
     c.settle.new.self c.settle.result c.settle.ensures

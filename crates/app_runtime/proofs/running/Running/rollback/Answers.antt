@@ -7,7 +7,8 @@ use Rattle.deploy_rows.specs.Rows.{after, rolling_back}
 use Rattle.command_text.specs.declared.calls.Call.TheVariants as call
 use Rattle.migrate_fns.specs.Stored.{answers_of, rules_of}
 use Rattle.app_runtime.specs.declared.running.Running.{Running}
-use Rattle.app_runtime.proofs.Ended.{busy_here, busy_least, clean_less, on_clean, resting_in, starved, starved_promises, word_promises}
+use Rattle.app_runtime.proofs.Ended.{busy_here, busy_least, clean_less, on_clean, resting_in, starved, starved_promises}
+use Rattle.app_runtime.proofs.Ended.{word_promises}
 use Rattle.app_runtime.proofs.Frames.{calls_to, no_root}
 use Rattle.app_runtime.proofs.Kept.{rollback_kept}
 use Rattle.app_runtime.proofs.Rowed.{Made}
@@ -16,13 +17,17 @@ use Rattle.app_runtime.proofs.running.Running.rollback.Goals as goal
 
 pub rollback-made-requires : goal.rollback-made-requires
 rollback-made-requires g c =
-    let resting = resting_in g.D.Disk.told (g.D.Disk.medium c.args.disk.now).image c.args.self.now c.take_root-root.result c.requires.memory c.requires.rests c.take_root-root.ensures.root in
+    let resting = resting_in g.D.Disk.told (g.D.Disk.medium c.args.disk.now).image c.args.self.now
+    c.take_root-root.result c.requires.memory c.requires.rests c.take_root-root.ensures.root in
     record { root = (c.args.self.now.app, resting.below, resting.root_at) }
 
 pub returns-in_err-busy : goal.returns-in_err-busy
-returns-in_err-busy g c = λ now. starved_promises g.D.Disk.told (rules_of c.args.migrations.now) (answers_of c.args.migrations.now) now call.Rollback c.args.self.now (g.D.Disk.medium c.args.disk.now)
-    (g.met.D.Disk.lawful c.args.disk.now) c.untouched_stands.ensures.untouched (c.args.disk.now ≡ c.args.disk.now) refl c.requires.memory c.take_root-root.new.self
-    (ap (λ (x : Running). x.app) c.take_root-root.ensures.left) c.from_residual.result (starved c.from_residual.result c.from_residual.ensures.1)
+returns-in_err-busy g c = λ now. starved_promises g.D.Disk.told (rules_of c.args.migrations.now)
+    (answers_of c.args.migrations.now) now call.Rollback c.args.self.now (g.D.Disk.medium c.args.disk.now)
+    (g.met.D.Disk.lawful c.args.disk.now) c.untouched_stands.ensures.untouched (c.args.disk.now ≡ c.args.disk.now) refl
+    c.requires.memory c.take_root-root.new.self
+    (ap (λ (x : Running). x.app) c.take_root-root.ensures.left) c.from_residual.result
+    (starved c.from_residual.result c.from_residual.ensures.1)
 
 pub returns : goal.returns
 returns g c = λ now.
@@ -36,25 +41,33 @@ returns g c = λ now.
     let busy = option_map (λ n. n.now) c.as_ref.result in
     let row = rolling_back busy in
     let resting = resting_in told old.image s root c.requires.memory c.requires.rests c.take_root-root.ensures.root in
-    let busy_is = busy_here s taken root c.as_ref.result c.in_ok-busy.busy c.take_root-root.ensures.left c.as_ref.ensures.value c.in_ok-busy.ensures in
-    word_promises told (rules_of c.args.migrations.now) (answers_of c.args.migrations.now) now call.Rollback s taken root old new (c.rollback-made.new.disk ≡ c.args.disk.now)
+    let busy_is = busy_here s taken root c.as_ref.result c.in_ok-busy.busy c.take_root-root.ensures.left
+    c.as_ref.ensures.value c.in_ok-busy.ensures in
+    word_promises told (rules_of c.args.migrations.now) (answers_of c.args.migrations.now) now call.Rollback s taken
+    root old new (c.rollback-made.new.disk ≡ c.args.disk.now)
     (λ same. (ap (λ d. (g.D.Disk.medium d).image) same, ap (λ d. (g.D.Disk.medium d).written) same))
-    c.requires.memory c.requires.rests c.take_root-root.ensures.root c.take_root-root.ensures.left c.roots_in_use.ensures.app row
-    (rollback_word told (rules_of c.args.migrations.now) (answers_of c.args.migrations.now) s.app now old.image s.slots busy (busy_least told old.image s.app root s.slots c.roots_in_use.ensures.app resting busy busy_is)
+    c.requires.memory c.requires.rests c.take_root-root.ensures.root c.take_root-root.ensures.left
+    c.roots_in_use.ensures.app row
+    (rollback_word told (rules_of c.args.migrations.now) (answers_of c.args.migrations.now) s.app now old.image s.slots
+    busy (busy_least told old.image s.app root s.slots c.roots_in_use.ensures.app resting busy busy_is)
     (c.rows_read_the_root.ensures.rollback busy) c.rows_lead_on.ensures.rollback)
     made
     (record {
       root_at = c.rollback-made.ensures.root s.app resting.below resting.root_at;
       refused = c.rollback-made.ensures.refused;
       leads = λ tells. c.rollback-made.ensures.app tells s.app resting.below resting.root_at;
-      clean = λ tells. on_clean (IsCleanApp s.app old.image) (IsCleanApp s.app new.image) made (c.rollback-made.ensures.clean tells s.app resting.below resting.root_at);
+      clean = λ tells. on_clean (IsCleanApp s.app old.image) (IsCleanApp s.app new.image) made
+          (c.rollback-made.ensures.clean tells s.app resting.below resting.root_at);
       quiet = c.rollback-made.ensures.quiet;
       unchanged = c.rollback-made.ensures.unchanged;
       cause = c.rollback-made.ensures.cause;
       device_only = c.rollback-made.ensures.device_only;
-      calls = λ tells. calls_to told s.app (after (app_at old.image s.app) (row (app_at old.image s.app))) (IsNoRootSlot s.app) old new tells (λ f is. no_root s.app f resting.below is) (c.rollback-made.ensures.outside s.app resting.below resting.root_at)
+      calls = λ tells. calls_to told s.app (after (app_at old.image s.app) (row (app_at old.image s.app)))
+          (IsNoRootSlot s.app) old new tells (λ f is. no_root s.app f resting.below is)
+          (c.rollback-made.ensures.outside s.app resting.below resting.root_at)
           (c.rollback-made.ensures.any_moment tells s.app resting.below resting.root_at);
       time = c.rollback-made.ensures.time;
     })
-    (rollback_kept told s.app old.image new.image root s.slots resting busy busy_is made c.rollback-made.ensures.refused)
+    (rollback_kept told s.app old.image new.image root s.slots resting busy busy_is made
+    c.rollback-made.ensures.refused)
     c.settle.new.self c.settle.result c.settle.ensures

@@ -14,17 +14,23 @@ use Rattle.app_runtime.proofs.running.Running.update.Goals as goal
 
 pub update-made-requires : goal.update-made-requires
 update-made-requires g c =
-    let resting = resting_in g.D.Disk.told (g.D.Disk.medium c.args.disk.now).image c.args.self.now c.take_root-root.result c.requires.memory c.requires.rests c.take_root-root.ensures.root in
+    let resting = resting_in g.D.Disk.told (g.D.Disk.medium c.args.disk.now).image c.args.self.now
+    c.take_root-root.result c.requires.memory c.requires.rests c.take_root-root.ensures.root in
     let back = sym (ap (λ (x : Running). x.app) c.take_root-root.ensures.left) in
     record {
       app = subst (λ n. n < 8) back resting.below;
-      root = subst (λ n. RootAt g.D.Disk.told (g.D.Disk.medium c.args.disk.now).image n c.take_root-root.result) back resting.root_at;
+      root = subst (λ n. RootAt g.D.Disk.told (g.D.Disk.medium c.args.disk.now).image n c.take_root-root.result) back
+          resting.root_at;
     }
 
 pub returns-in_err-busy : goal.returns-in_err-busy
-returns-in_err-busy g c = starved_promises g.D.Disk.told (rules_of c.args.migrations.now) (answers_of c.args.migrations.now) c.args.now (call.Update c.args.manifest.now) c.args.self.now (g.D.Disk.medium c.args.disk.now)
-    (g.met.D.Disk.lawful c.args.disk.now) c.untouched_stands.ensures.untouched (c.args.disk.now ≡ c.args.disk.now) refl c.requires.memory c.take_root-root.new.self
-    (ap (λ (x : Running). x.app) c.take_root-root.ensures.left) c.from_residual.result (starved c.from_residual.result c.from_residual.ensures.1)
+returns-in_err-busy g c = starved_promises g.D.Disk.told (rules_of c.args.migrations.now)
+    (answers_of c.args.migrations.now) c.args.now (call.Update c.args.manifest.now) c.args.self.now
+    (g.D.Disk.medium c.args.disk.now)
+    (g.met.D.Disk.lawful c.args.disk.now) c.untouched_stands.ensures.untouched (c.args.disk.now ≡ c.args.disk.now) refl
+    c.requires.memory c.take_root-root.new.self
+    (ap (λ (x : Running). x.app) c.take_root-root.ensures.left) c.from_residual.result
+    (starved c.from_residual.result c.from_residual.ensures.1)
 
 pub returns : goal.returns
 returns g c =
@@ -40,15 +46,21 @@ returns g c =
     let text = c.args.manifest.now in
     let busy = option_map (λ n. n.now) c.as_ref.result in
     let resting = resting_in told old.image s root c.requires.memory c.requires.rests c.take_root-root.ensures.root in
-    let busy_is = busy_here s taken root c.as_ref.result c.in_ok-busy.busy c.take_root-root.ensures.left c.as_ref.ensures.value c.in_ok-busy.ensures in
-    subst (λ (x : Running). Promises told rules answers c.args.now (call.Update text) x c.settle.new.self (c.update-made.new.disk ≡ c.args.disk.now) old new c.settle.result)
+    let busy_is = busy_here s taken root c.as_ref.result c.in_ok-busy.busy c.take_root-root.ensures.left
+    c.as_ref.ensures.value c.in_ok-busy.ensures in
+    subst (λ (x : Running). Promises told rules answers c.args.now (call.Update text) x c.settle.new.self
+    (c.update-made.new.disk ≡ c.args.disk.now) old new c.settle.result)
     (stage_back s root c.requires.rests c.take_root-root.ensures.root)
-    (updated_promises told rules answers c.args.now text s root old new (c.update-made.new.disk ≡ c.args.disk.now) resting c.roots_in_use.ensures.app c.rows_read_the_root.ensures.offer busy busy_is c.rows_lead_on.ensures.update
+    (updated_promises told rules answers c.args.now text s root old new (c.update-made.new.disk ≡ c.args.disk.now)
+    resting c.roots_in_use.ensures.app c.rows_read_the_root.ensures.offer busy busy_is
+    c.rows_lead_on.ensures.update
     made
-    (subst (λ n. Updates told rules answers c.args.now text n root busy old new made) (ap (λ (x : Running). x.app) c.take_root-root.ensures.left) (record {
+    (subst (λ n. Updates told rules answers c.args.now text n root busy old new made)
+    (ap (λ (x : Running). x.app) c.take_root-root.ensures.left) (record {
       root_at = c.update-made.ensures.root;
       updates = c.update-made.ensures.updates;
-      clean = λ tells. on_clean (IsCleanApp taken.app old.image) (IsCleanApp taken.app new.image) made (c.update-made.ensures.clean tells);
+      clean = λ tells. on_clean (IsCleanApp taken.app old.image) (IsCleanApp taken.app new.image) made
+          (c.update-made.ensures.clean tells);
       quiet = c.update-made.ensures.quiet;
       unchanged = c.update-made.ensures.unchanged;
       cause = c.update-made.ensures.cause;
@@ -57,4 +69,5 @@ returns g c =
       any_moment = c.update-made.ensures.any_moment;
       time = c.update-made.ensures.time;
     }))
-    c.settle.new.self c.settle.result (subst (λ (x : Running). Settles made x c.settle.new.self c.settle.result) c.take_root-root.ensures.left c.settle.ensures))
+    c.settle.new.self c.settle.result (subst (λ (x : Running). Settles made x c.settle.new.self c.settle.result)
+    c.take_root-root.ensures.left c.settle.ensures))

@@ -7,7 +7,8 @@ use Rattle.deploy_rows.specs.Rows.{after, wiping}
 use Rattle.command_text.specs.declared.calls.Call.TheVariants as call
 use Rattle.migrate_fns.specs.Stored.{answers_of, rules_of}
 use Rattle.app_runtime.specs.declared.running.Running.{Running}
-use Rattle.app_runtime.proofs.Ended.{busy_here, busy_least, clean_less, on_clean, resting_in, starved, starved_promises, word_promises}
+use Rattle.app_runtime.proofs.Ended.{busy_here, busy_least, clean_less, on_clean, resting_in, starved, starved_promises}
+use Rattle.app_runtime.proofs.Ended.{word_promises}
 use Rattle.app_runtime.proofs.Frames.{calls_to, no_root}
 use Rattle.app_runtime.proofs.Kept.{wipe_kept}
 use Rattle.app_runtime.proofs.Rowed.{Made}
@@ -16,17 +17,22 @@ use Rattle.app_runtime.proofs.running.Running.wipe.Goals as goal
 
 pub wipe-made-requires : goal.wipe-made-requires
 wipe-made-requires g c =
-    let resting = resting_in g.D.Disk.told (g.D.Disk.medium c.args.disk.now).image c.args.self.now c.take_root-root.result c.requires.memory c.requires.rests c.take_root-root.ensures.root in
+    let resting = resting_in g.D.Disk.told (g.D.Disk.medium c.args.disk.now).image c.args.self.now
+    c.take_root-root.result c.requires.memory c.requires.rests c.take_root-root.ensures.root in
     let back = sym (ap (λ (x : Running). x.app) c.take_root-root.ensures.left) in
     record {
       app = subst (λ n. n < 8) back resting.below;
-      root = subst (λ n. RootAt g.D.Disk.told (g.D.Disk.medium c.args.disk.now).image n c.take_root-root.result) back resting.root_at;
+      root = subst (λ n. RootAt g.D.Disk.told (g.D.Disk.medium c.args.disk.now).image n c.take_root-root.result) back
+          resting.root_at;
     }
 
 pub returns-in_err-busy : goal.returns-in_err-busy
-returns-in_err-busy g c = λ now. starved_promises g.D.Disk.told (rules_of c.args.migrations.now) (answers_of c.args.migrations.now) now call.Wipe c.args.self.now (g.D.Disk.medium c.args.disk.now)
-    (g.met.D.Disk.lawful c.args.disk.now) c.untouched_stands.ensures.untouched (c.args.disk.now ≡ c.args.disk.now) refl c.requires.memory c.take_root-root.new.self
-    (ap (λ (x : Running). x.app) c.take_root-root.ensures.left) c.from_residual.result (starved c.from_residual.result c.from_residual.ensures.1)
+returns-in_err-busy g c = λ now. starved_promises g.D.Disk.told (rules_of c.args.migrations.now)
+    (answers_of c.args.migrations.now) now call.Wipe c.args.self.now (g.D.Disk.medium c.args.disk.now)
+    (g.met.D.Disk.lawful c.args.disk.now) c.untouched_stands.ensures.untouched (c.args.disk.now ≡ c.args.disk.now) refl
+    c.requires.memory c.take_root-root.new.self
+    (ap (λ (x : Running). x.app) c.take_root-root.ensures.left) c.from_residual.result
+    (starved c.from_residual.result c.from_residual.ensures.1)
 
 pub returns : goal.returns
 returns g c = λ now.
@@ -41,23 +47,31 @@ returns g c = λ now.
     let row = wiping busy in
     let resting = resting_in told old.image s root c.requires.memory c.requires.rests c.take_root-root.ensures.root in
     let back = sym (ap (λ (x : Running). x.app) c.take_root-root.ensures.left) in
-    let busy_is = busy_here s taken root c.as_ref.result c.in_ok-busy.busy c.take_root-root.ensures.left c.as_ref.ensures.value c.in_ok-busy.ensures in
-    word_promises told (rules_of c.args.migrations.now) (answers_of c.args.migrations.now) now call.Wipe s taken root old new (c.wipe-made.new.disk ≡ c.args.disk.now)
+    let busy_is = busy_here s taken root c.as_ref.result c.in_ok-busy.busy c.take_root-root.ensures.left
+    c.as_ref.ensures.value c.in_ok-busy.ensures in
+    word_promises told (rules_of c.args.migrations.now) (answers_of c.args.migrations.now) now call.Wipe s taken root
+    old new (c.wipe-made.new.disk ≡ c.args.disk.now)
     (λ same. (ap (λ d. (g.D.Disk.medium d).image) same, ap (λ d. (g.D.Disk.medium d).written) same))
-    c.requires.memory c.requires.rests c.take_root-root.ensures.root c.take_root-root.ensures.left c.roots_in_use.ensures.app row
-    (wipe_word told (rules_of c.args.migrations.now) (answers_of c.args.migrations.now) s.app now old.image s.slots busy (busy_least told old.image s.app root s.slots c.roots_in_use.ensures.app resting busy busy_is)
+    c.requires.memory c.requires.rests c.take_root-root.ensures.root c.take_root-root.ensures.left
+    c.roots_in_use.ensures.app row
+    (wipe_word told (rules_of c.args.migrations.now) (answers_of c.args.migrations.now) s.app now old.image s.slots busy
+    (busy_least told old.image s.app root s.slots c.roots_in_use.ensures.app resting busy busy_is)
     (c.rows_read_the_root.ensures.wipe busy) c.rows_lead_on.ensures.wipe)
     made
-    (subst (λ n. Made told row n root (c.wipe-made.new.disk ≡ c.args.disk.now) old new made) (ap (λ (x : Running). x.app) c.take_root-root.ensures.left) (record {
+    (subst (λ n. Made told row n root (c.wipe-made.new.disk ≡ c.args.disk.now) old new made)
+    (ap (λ (x : Running). x.app) c.take_root-root.ensures.left) (record {
       root_at = c.wipe-made.ensures.root;
       refused = c.wipe-made.ensures.refused;
       leads = c.wipe-made.ensures.app;
-      clean = λ tells. clean_less (IsCleanApp taken.app old.image) (IsCleanApp taken.app new.image) made (c.wipe-made.ensures.clean tells);
+      clean = λ tells. clean_less (IsCleanApp taken.app old.image) (IsCleanApp taken.app new.image) made
+          (c.wipe-made.ensures.clean tells);
       quiet = c.wipe-made.ensures.quiet;
       unchanged = c.wipe-made.ensures.unchanged;
       cause = c.wipe-made.ensures.cause;
       device_only = c.wipe-made.ensures.device_only;
-      calls = λ tells. calls_to told taken.app (after (app_at old.image taken.app) (row (app_at old.image taken.app))) (IsNoRootSlot taken.app) old new tells (λ f is. no_root taken.app f (subst (λ n. n < 8) back resting.below) is) c.wipe-made.ensures.outside
+      calls = λ tells. calls_to told taken.app (after (app_at old.image taken.app) (row (app_at old.image taken.app)))
+          (IsNoRootSlot taken.app) old new tells (λ f is. no_root taken.app f (subst (λ n. n < 8) back resting.below)
+          is) c.wipe-made.ensures.outside
           (c.wipe-made.ensures.any_moment tells);
       time = c.wipe-made.ensures.time;
     }))

@@ -1,4 +1,5 @@
-use Rattle.app_storages.proofs.Handled.{answered_of, cause_of, failed_of, memory_of, quiet_of, stopped_of, text_of, unfailed_of, unwritten_of}
+use Rattle.app_storages.proofs.Handled.{answered_of, cause_of, failed_of, memory_of, quiet_of, stopped_of, text_of}
+use Rattle.app_storages.proofs.Handled.{unfailed_of, unwritten_of}
 use Rattle.app_storages.proofs.slots.Slots.call.Goals as goal
 
 pub returns : goal.returns

@@ -9,7 +9,8 @@ use Rattle.app_storages.proofs.slots.Slots.closed.Goals as goal
 pub returns-in-Err-clause-refused : goal.returns-in-Err-clause-refused
 returns-in-Err-clause-refused c = record {
   early = c.in-Err.ensures.early;
-  row = λ image on state_of. none_closed (resting_with image c.args.app c.args.self.now) c.args.name.now state_of c.in-Err.error (c.in-Err.ensures.refused image on);
+  row = λ image on state_of. none_closed (resting_with image c.args.app c.args.self.now) c.args.name.now state_of
+      c.in-Err.error (c.in-Err.ensures.refused image on);
 }
 
 pub returns-then-is_open-clause-refused : goal.returns-then-is_open-clause-refused
@@ -17,7 +18,8 @@ returns-then-is_open-clause-refused c =
     let l = c.in-Ok.located in
     record {
       early = busy_early c.in_ok-storage.storage;
-      row = λ image on state_of. busy_closed image c.args.app c.args.self.now c.args.name.now state_of (found_on image l) (c.in-Ok.ensures.named image on) (sym c.is_open.ensures ∙ c.if-is_open.true)
+      row = λ image on state_of. busy_closed image c.args.app c.args.self.now c.args.name.now state_of
+          (found_on image l) (c.in-Ok.ensures.named image on) (sym c.is_open.ensures ∙ c.if-is_open.true)
           ∙ ap (λ n. Err (error.ResourceBusy (holder.Storage n))) (sym c.in_ok-storage.ensures);
     }
 

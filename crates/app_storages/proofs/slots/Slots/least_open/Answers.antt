@@ -7,7 +7,9 @@ use Rattle.app_storages.proofs.SlotLaws.{first_empty}
 use Rattle.app_storages.proofs.slots.Slots.least_open.Goals as goal
 
 pub returns-in-Bad : goal.returns-in-Bad
-returns-in-Bad c = sym (ap (λ (r : Root). first_open (sessions_in c.args.self.now) (active_storages (root_says r))) c.in-Bad.is ∙ first_empty (sessions_in c.args.self.now))
+returns-in-Bad c = sym (ap (λ (r : Root). first_open (sessions_in c.args.self.now) (active_storages (root_says r)))
+    c.in-Bad.is ∙ first_empty (sessions_in c.args.self.now))
 
 pub returns-in-Absent : goal.returns-in-Absent
-returns-in-Absent c = sym (ap (λ (r : Root). first_open (sessions_in c.args.self.now) (active_storages (root_says r))) c.in-Absent.is ∙ first_empty (sessions_in c.args.self.now))
+returns-in-Absent c = sym (ap (λ (r : Root). first_open (sessions_in c.args.self.now) (active_storages (root_says r)))
+    c.in-Absent.is ∙ first_empty (sessions_in c.args.self.now))

@@ -12,30 +12,44 @@ use Rattle.app_storages.proofs.slots.Slots.local.Goals as goal
 
 pub returns-in-Err : goal.returns-in-Err
 returns-in-Err g c =
-    let told = g.D.Disk.told in let m = g.D.Disk.medium c.args.disk.now in let app = c.args.app in let root = c.args.root.now in let was = c.args.self.now in
-    refused_before c.storages_stand.ensures c.errors_have_texts.ensures told app c.args.now root c.args.call.now was was m (c.args.disk.now ≡ c.args.disk.now) refl (g.met.D.Disk.lawful c.args.disk.now) c.requires.memory
+    let told = g.D.Disk.told in let m = g.D.Disk.medium c.args.disk.now in let app = c.args.app in let root =
+    c.args.root.now in let was = c.args.self.now in
+    refused_before c.storages_stand.ensures c.errors_have_texts.ensures told app c.args.now root c.args.call.now was was
+    m (c.args.disk.now ≡ c.args.disk.now) refl (g.met.D.Disk.lawful c.args.disk.now) c.requires.memory
     refl c.in-Err.error c.in-Err.ensures.early c.refusal-in-Err.result c.refusal-in-Err.ensures
-    (λ tells. local_not_found app c.args.now (resting_with m.image app was) c.args.call.now c.in-Some.name.now c.in-Some.kind (sym c.named.ensures ∙ ap (option_map on_of) c.in-Some.is)
+    (λ tells. local_not_found app c.args.now (resting_with m.image app was) c.args.call.now c.in-Some.name.now
+    c.in-Some.kind (sym c.named.ensures ∙ ap (option_map on_of) c.in-Some.is)
     c.in-Err.error (c.in-Err.ensures.refused m.image (c.requires.memory.root_at.disk tells)))
 
 pub returns-in_default-take : goal.returns-in_default-take
 returns-in_default-take g c =
-    let told = g.D.Disk.told in let m = g.D.Disk.medium c.args.disk.now in let app = c.args.app in let root = c.args.root.now in let was = c.args.self.now in
+    let told = g.D.Disk.told in let m = g.D.Disk.medium c.args.disk.now in let app = c.args.app in let root =
+    c.args.root.now in let was = c.args.self.now in
     let l = c.in-Ok.located in
     let none = sym c.take.ensures.taken ∙ c.in_default-take.is in
     let room = c.requires.memory.open_on.room in let within = c.in-Ok.ensures.located.within.in_slots in
-    refused_before c.storages_stand.ensures c.errors_have_texts.ensures told app c.args.now root c.args.call.now was c.take.new.self m (c.args.disk.now ≡ c.args.disk.now) refl (g.met.D.Disk.lawful c.args.disk.now) c.requires.memory
-    (emptied_same was c.take.new.self l.number (omega (arith, room, within)) none c.take.ensures.rest) NotOpen is_early_closed c.refusal-in_default-take.result c.refusal-in_default-take.ensures
-    (λ tells. local_not_open app c.args.now (resting_with m.image app was) c.args.call.now c.in-Some.name.now c.in-Some.kind (sym c.named.ensures ∙ ap (option_map on_of) c.in-Some.is)
-    (found_on m.image l) (c.in-Ok.ensures.found m.image (c.requires.memory.root_at.disk tells)) (session_slot m.image app was l.number ∙ ap (option_map session_in) none))
+    refused_before c.storages_stand.ensures c.errors_have_texts.ensures told app c.args.now root c.args.call.now was
+    c.take.new.self m (c.args.disk.now ≡ c.args.disk.now) refl (g.met.D.Disk.lawful c.args.disk.now)
+    c.requires.memory
+    (emptied_same was c.take.new.self l.number (omega (arith, room, within)) none c.take.ensures.rest) NotOpen
+    is_early_closed c.refusal-in_default-take.result c.refusal-in_default-take.ensures
+    (λ tells. local_not_open app c.args.now (resting_with m.image app was) c.args.call.now c.in-Some.name.now
+    c.in-Some.kind (sym c.named.ensures ∙ ap (option_map on_of) c.in-Some.is)
+    (found_on m.image l) (c.in-Ok.ensures.found m.image (c.requires.memory.root_at.disk tells))
+    (session_slot m.image app was l.number ∙ ap (option_map session_in) none))
 
 pub returns : goal.returns
 returns g c =
-    let told = g.D.Disk.told in let m = g.D.Disk.medium c.args.disk.now in let app = c.args.app in let root = c.args.root.now in let was = c.args.self.now in
+    let told = g.D.Disk.told in let m = g.D.Disk.medium c.args.disk.now in let app = c.args.app in let root =
+    c.args.root.now in let was = c.args.self.now in
     let asked = c.call-answer.ensures in
-    local_handled c.storages_stand.ensures c.errors_have_texts.ensures told app c.args.now root c.args.call.now c.in-Some.name.now c.in-Some.kind was c.put.new.self m
-    (c.args.disk.now ≡ c.args.disk.now) refl (g.met.D.Disk.lawful c.args.disk.now) c.requires.memory (sym c.named.ensures ∙ ap (option_map on_of) c.in-Some.is)
-    c.in-Ok.located c.in-Ok.ensures.located c.in-Ok.ensures.found c.in-Some-take.storage c.call-answer.new.self (sym c.take.ensures.taken ∙ c.in-Some-take.is)
+    local_handled c.storages_stand.ensures c.errors_have_texts.ensures told app c.args.now root c.args.call.now
+    c.in-Some.name.now c.in-Some.kind was c.put.new.self m
+    (c.args.disk.now ≡ c.args.disk.now) refl (g.met.D.Disk.lawful c.args.disk.now) c.requires.memory
+    (sym c.named.ensures ∙ ap (option_map on_of) c.in-Some.is)
+    c.in-Ok.located c.in-Ok.ensures.located c.in-Ok.ensures.found c.in-Some-take.storage c.call-answer.new.self
+    (sym c.take.ensures.taken ∙ c.in-Some-take.is)
     (c.put.ensures ∙ ap (λ xs. slice_set xs c.in-Ok.located.number (Some c.call-answer.new.self)) c.take.ensures.rest)
     asked.config asked.store (record { kind = c.holds.ensures.kind; shows = c.holds.ensures.synced })
-    c.call-answer.result c.settled.result c.settled.ensures asked.ok asked.text asked.refused asked.unfailed asked.unchanged
+    c.call-answer.result c.settled.result c.settled.ensures asked.ok asked.text asked.refused asked.unfailed
+    asked.unchanged

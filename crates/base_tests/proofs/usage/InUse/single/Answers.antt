@@ -18,6 +18,7 @@ returns c =
     let of_shape : IsAddition (shape_of store) (size_of (entries_of store)) c.args.change =
     subst (λ (s : Shape). IsAddition s (size_of (entries_of store)) c.args.change) (sym c.requires.1) of_size in
     let few : length (entries_of store) < 1024 = let same = ap length c.entries.ensures in omega (arith, same) in
-    let not_worn : (view_in store).generation < greatest_generation = omega (arith, c.generation.ensures, c.if-generation.false) in
+    let not_worn : (view_in store).generation < greatest_generation =
+    omega (arith, c.generation.ensures, c.if-generation.false) in
     subst (λ (cs : List Change). AreChanges (shape_of store) (view_in store) cs) (sym c.in_ok-vec.ensures.items)
     (one_change (shape_of store) (view_in store) c.args.change of_shape few not_worn)

@@ -9,7 +9,8 @@ use Rattle.deploy.proofs.leaving.Lone.write.Goals as goal
 pub returns-clause-root : goal.returns-clause-root
 returns-clause-root g c = λ app of. record {
   memory = (
-    next_cell app c.args.self.cell of (generation_of c.args.self.cell + 1) c.in_ok-cell.cell (omega arith) c.in_ok-cell.ensures.next,
+    next_cell app c.args.self.cell of (generation_of c.args.self.cell + 1) c.in_ok-cell.cell (omega arith)
+        c.in_ok-cell.ensures.next,
     record { in_bank = c.requires.bank; active = c.requires.version; previous = tt },
   );
   disk = c.in_ok-cell.ensures.held;
@@ -27,7 +28,8 @@ returns-clause-app g c = λ tells app lt of.
     put_app c.one_root.ensures.again app lt c.args.self.cell of (text.installed c.args.self.bank v None)
     (record { in_bank = c.requires.bank; of_active = c.requires.version.said; of_previous = tt })
     (g.D.Disk.medium c.args.disk.now) (g.D.Disk.medium c.write_version.new.disk)
-    c.roots_say.ensures.alone c.roots_say.ensures.versions c.files_lie_apart.ensures.slots c.others_stand.ensures.root c.roots_say.ensures.clean
+    c.roots_say.ensures.alone c.roots_say.ensures.versions c.files_lie_apart.ensures.slots c.others_stand.ensures.root
+    c.roots_say.ensures.clean
     c.in_ok-cell.cell c.in_ok-cell.ensures.next (c.in_ok-cell.ensures.held tells) (c.in_ok-cell.ensures.elsewhere tells)
 
 pub returns-clause-clean : goal.returns-clause-clean
@@ -36,19 +38,23 @@ returns-clause-clean g c = λ tells app lt of were.
     put_clean c.one_root.ensures.again app lt c.args.self.cell of (text.installed c.args.self.bank v None)
     (record { in_bank = c.requires.bank; of_active = c.requires.version.said; of_previous = tt })
     (g.D.Disk.medium c.args.disk.now) (g.D.Disk.medium c.write_version.new.disk)
-    c.roots_say.ensures.alone c.roots_say.ensures.versions c.files_lie_apart.ensures.slots c.others_stand.ensures.root c.roots_say.ensures.clean
-    c.in_ok-cell.cell c.in_ok-cell.ensures.next (c.in_ok-cell.ensures.held tells) (c.in_ok-cell.ensures.elsewhere tells) were
+    c.roots_say.ensures.alone c.roots_say.ensures.versions c.files_lie_apart.ensures.slots c.others_stand.ensures.root
+    c.roots_say.ensures.clean
+    c.in_ok-cell.cell c.in_ok-cell.ensures.next (c.in_ok-cell.ensures.held tells) (c.in_ok-cell.ensures.elsewhere tells)
+    were
 
 pub returns-clause-outside : goal.returns-clause-outside
 returns-clause-outside g c = λ app lt of.
-    put_outside c.one_root.ensures.again app lt c.args.self.cell of (text.installed c.args.self.bank (version_said c.args.self.version) None)
+    put_outside c.one_root.ensures.again app lt c.args.self.cell of
+    (text.installed c.args.self.bank (version_said c.args.self.version) None)
     (record { in_bank = c.requires.bank; of_active = c.requires.version.said; of_previous = tt })
     (g.D.Disk.medium c.args.disk.now) (g.D.Disk.medium c.write_version.new.disk)
     g.D.Disk.told c.in_ok-cell.ensures.elsewhere c.in_ok-cell.ensures.any_moment
 
 pub returns-in_err-cell-clause-outside : goal.returns-in_err-cell-clause-outside
 returns-in_err-cell-clause-outside g c = λ app lt of.
-    put_outside c.one_root.ensures.again app lt c.args.self.cell of (text.installed c.args.self.bank (version_said c.args.self.version) None)
+    put_outside c.one_root.ensures.again app lt c.args.self.cell of
+    (text.installed c.args.self.bank (version_said c.args.self.version) None)
     (record { in_bank = c.requires.bank; of_active = c.requires.version.said; of_previous = tt })
     (g.D.Disk.medium c.args.disk.now) (g.D.Disk.medium c.write_version.new.disk)
     g.D.Disk.told c.in_err-cell.ensures.elsewhere c.in_err-cell.ensures.any_moment
@@ -56,7 +62,8 @@ returns-in_err-cell-clause-outside g c = λ app lt of.
 pub returns-clause-any_moment : goal.returns-clause-any_moment
 returns-clause-any_moment g c = λ tells app lt of were.
     let held = c.requires.held tells in
-    put_stands c.one_root.ensures.again app lt c.args.self.cell of (text.installed c.args.self.bank (version_said c.args.self.version) None)
+    put_stands c.one_root.ensures.again app lt c.args.self.cell of
+    (text.installed c.args.self.bank (version_said c.args.self.version) None)
     (record { in_bank = c.requires.bank; of_active = c.requires.version.said; of_previous = tt })
     (g.D.Disk.medium c.args.disk.now) (g.D.Disk.medium c.write_version.new.disk)
     c.deploying_stands.ensures.writing held.0 held.1 (c.in_ok-cell.ensures.any_moment tells) were
@@ -64,7 +71,8 @@ returns-clause-any_moment g c = λ tells app lt of were.
 pub returns-in_err-cell-clause-any_moment : goal.returns-in_err-cell-clause-any_moment
 returns-in_err-cell-clause-any_moment g c = λ tells app lt of were.
     let held = c.requires.held tells in
-    put_stands c.one_root.ensures.again app lt c.args.self.cell of (text.installed c.args.self.bank (version_said c.args.self.version) None)
+    put_stands c.one_root.ensures.again app lt c.args.self.cell of
+    (text.installed c.args.self.bank (version_said c.args.self.version) None)
     (record { in_bank = c.requires.bank; of_active = c.requires.version.said; of_previous = tt })
     (g.D.Disk.medium c.args.disk.now) (g.D.Disk.medium c.write_version.new.disk)
     c.deploying_stands.ensures.writing held.0 held.1 (c.in_err-cell.ensures.any_moment tells) were

@@ -3,12 +3,24 @@ use Rattle.deploy.proofs.roots.Root.of.Goals as goal
 
 pub returns-in-Installed-clause-says : goal.returns-in-Installed-clause-says
 returns-in-Installed-clause-says c =
-    parts_said (record { cell = c.args.cell; bank = c.in-Installed.bank; active = c.in-Installed.active; previous = c.in-Installed.previous })
+    parts_said (record {
+      cell = c.args.cell;
+      bank = c.in-Installed.bank;
+      active = c.in-Installed.active;
+      previous =
+          c.in-Installed.previous;
+    })
     c.args.says c.in-Installed.is
 
 pub returns-in-Installed-clause-memory : goal.returns-in-Installed-clause-memory
 returns-in-Installed-clause-memory c = λ app is rules. (
   is,
-  said_kept (record { cell = c.args.cell; bank = c.in-Installed.bank; active = c.in-Installed.active; previous = c.in-Installed.previous })
+  said_kept (record {
+    cell = c.args.cell;
+    bank = c.in-Installed.bank;
+    active = c.in-Installed.active;
+    previous =
+        c.in-Installed.previous;
+  })
       c.args.says c.in-Installed.is c.said_is_kept.ensures.keeps rules,
 )

@@ -11,11 +11,15 @@ use Rattle.deploy.proofs.Unmoved.{stands_still}
 use Rattle.deploy.proofs.updating.Staged.next_storage.Goals as goal
 
 pub returns-then-self-len-clause-any_moment : goal.returns-then-self-len-clause-any_moment
-returns-then-self-len-clause-any_moment g c = λ tells. stands_still c.untouched_stands.ensures.still g.D.Disk.told c.args.self.app (g.D.Disk.medium c.args.disk.now) (app_at (g.D.Disk.medium c.args.disk.now).image c.args.self.app)
+returns-then-self-len-clause-any_moment g c = λ tells.
+    stands_still c.untouched_stands.ensures.still g.D.Disk.told c.args.self.app (g.D.Disk.medium c.args.disk.now)
+    (app_at (g.D.Disk.medium c.args.disk.now).image c.args.self.app)
     (g.met.D.Disk.lawful c.args.disk.now) c.requires.staged.memory.below (same_root refl refl)
 
 pub returns-then-self-len-clause-outside : goal.returns-then-self-len-clause-outside
-returns-then-self-len-clause-outside g c = leaves_none g.D.Disk.told (IsBeside c.args.self.app (1 - c.args.self.root.bank) c.args.self.built) (g.D.Disk.medium c.args.disk.now) (g.met.D.Disk.lawful c.args.disk.now)
+returns-then-self-len-clause-outside g c = leaves_none g.D.Disk.told
+    (IsBeside c.args.self.app (1 - c.args.self.root.bank) c.args.self.built) (g.D.Disk.medium c.args.disk.now)
+    (g.met.D.Disk.lawful c.args.disk.now)
 
 pub bounds-as_slice-self : goal.bounds-as_slice-self
 bounds-as_slice-self g c =
@@ -31,15 +35,20 @@ create_one-requires-clause-number g c =
 pub create_one-requires-clause-config : goal.create_one-requires-clause-config
 create_one-requires-clause-config g c =
     let many = (few_storages c.args.self.app c.args.self c.requires.staged.memory).1 in
-    storage_keeps c.args.self.version.deployment.storages c.args.self.built c.index-as_slice-self.result c.requires.staged.memory.offers.keeps.each (omega (arith, many))
-    (c.index-as_slice-self.is ∙ ap (λ (xs : List StorageConfig). get_or xs c.args.self.built c.index-as_slice-self.result) c.as_slice.ensures)
+    storage_keeps c.args.self.version.deployment.storages c.args.self.built c.index-as_slice-self.result
+    c.requires.staged.memory.offers.keeps.each (omega (arith, many))
+    (c.index-as_slice-self.is ∙ ap (λ (xs : List StorageConfig).
+    get_or xs c.args.self.built c.index-as_slice-self.result) c.as_slice.ensures)
 
 pub create_one-requires-clause-contents : goal.create_one-requires-clause-contents
 create_one-requires-clause-contents g c =
     let many = (few_storages c.args.self.app c.args.self c.requires.staged.memory).1 in
-    storage_fits c.args.self.version.deployment.storages c.args.self.contents.items c.args.self.built c.index-as_slice-self.result c.as_slice-2.result.now c.requires.staged.memory.fit (omega (arith, many))
-    (c.index-as_slice-self.is ∙ ap (λ (xs : List StorageConfig). get_or xs c.args.self.built c.index-as_slice-self.result) c.as_slice.ensures)
-    (c.as_slice-2.ensures ∙ c.index.ensures ∙ ap (λ (d : List Fresh). get_or c.args.self.contents.items c.args.self.built d) (sym c.as_slice-2.ensures))
+    storage_fits c.args.self.version.deployment.storages c.args.self.contents.items c.args.self.built
+    c.index-as_slice-self.result c.as_slice-2.result.now c.requires.staged.memory.fit (omega (arith, many))
+    (c.index-as_slice-self.is ∙ ap (λ (xs : List StorageConfig).
+    get_or xs c.args.self.built c.index-as_slice-self.result) c.as_slice.ensures)
+    (c.as_slice-2.ensures ∙ c.index.ensures ∙ ap (λ (d : List Fresh).
+    get_or c.args.self.contents.items c.args.self.built d) (sym c.as_slice-2.ensures))
 
 pub overflow_add-staged : goal.overflow_add-staged
 overflow_add-staged g c =
@@ -47,32 +56,67 @@ overflow_add-staged g c =
     omega (arith, few)
 
 pub returns-in_err-create_one-clause-app : goal.returns-in_err-create_one-clause-app
-returns-in_err-create_one-clause-app g c = app_same c.args.self.app c.args.self c.requires.staged.memory c.one_root.ensures.again c.roots_say.ensures.alone g.D.Disk.told (g.D.Disk.medium c.args.disk.now).image c.requires.staged.root_on c.others_stand.ensures.free_bank (g.D.Disk.medium c.create_one.new.disk).image
-    (λ tells. (outside_bank g.D.Disk.told c.args.self.app (1 - c.args.self.root.bank) c.args.self.built (g.D.Disk.medium c.args.disk.now) (g.D.Disk.medium c.create_one.new.disk) (let few = (few_storages c.args.self.app c.args.self c.requires.staged.memory).0 in omega (arith, few)) c.in_err-create_one.ensures.outside).at_the_end tells)
+returns-in_err-create_one-clause-app g c = app_same c.args.self.app c.args.self c.requires.staged.memory
+    c.one_root.ensures.again c.roots_say.ensures.alone g.D.Disk.told (g.D.Disk.medium c.args.disk.now).image
+    c.requires.staged.root_on c.others_stand.ensures.free_bank (g.D.Disk.medium c.create_one.new.disk).image
+    (λ tells. (outside_bank g.D.Disk.told c.args.self.app (1 - c.args.self.root.bank) c.args.self.built
+    (g.D.Disk.medium c.args.disk.now) (g.D.Disk.medium c.create_one.new.disk)
+    (let few = (few_storages c.args.self.app c.args.self c.requires.staged.memory).0 in omega (arith, few))
+    c.in_err-create_one.ensures.outside).at_the_end tells)
 
 pub returns-in_err-create_one-clause-clean : goal.returns-in_err-create_one-clause-clean
-returns-in_err-create_one-clause-clean g c = clean_same c.args.self.app c.args.self c.requires.staged.memory c.one_root.ensures.again c.roots_say.ensures.alone g.D.Disk.told (g.D.Disk.medium c.args.disk.now).image c.requires.staged.root_on c.others_stand.ensures.free_bank (g.D.Disk.medium c.create_one.new.disk).image
-    (λ tells. (outside_bank g.D.Disk.told c.args.self.app (1 - c.args.self.root.bank) c.args.self.built (g.D.Disk.medium c.args.disk.now) (g.D.Disk.medium c.create_one.new.disk) (let few = (few_storages c.args.self.app c.args.self c.requires.staged.memory).0 in omega (arith, few)) c.in_err-create_one.ensures.outside).at_the_end tells)
+returns-in_err-create_one-clause-clean g c = clean_same c.args.self.app c.args.self c.requires.staged.memory
+    c.one_root.ensures.again c.roots_say.ensures.alone g.D.Disk.told (g.D.Disk.medium c.args.disk.now).image
+    c.requires.staged.root_on c.others_stand.ensures.free_bank (g.D.Disk.medium c.create_one.new.disk).image
+    (λ tells. (outside_bank g.D.Disk.told c.args.self.app (1 - c.args.self.root.bank) c.args.self.built
+    (g.D.Disk.medium c.args.disk.now) (g.D.Disk.medium c.create_one.new.disk)
+    (let few = (few_storages c.args.self.app c.args.self c.requires.staged.memory).0 in omega (arith, few))
+    c.in_err-create_one.ensures.outside).at_the_end tells)
 
 pub returns-in_err-create_one-clause-any_moment : goal.returns-in_err-create_one-clause-any_moment
-returns-in_err-create_one-clause-any_moment g c = stands_same c.args.self.app c.args.self c.requires.staged.memory c.one_root.ensures.again c.roots_say.ensures.alone c.deploying_stands.ensures.creating g.D.Disk.told (g.D.Disk.medium c.args.disk.now) (g.D.Disk.medium c.create_one.new.disk) c.requires.staged.root_on
-    (outside_bank g.D.Disk.told c.args.self.app (1 - c.args.self.root.bank) c.args.self.built (g.D.Disk.medium c.args.disk.now) (g.D.Disk.medium c.create_one.new.disk) (let few = (few_storages c.args.self.app c.args.self c.requires.staged.memory).0 in omega (arith, few)) c.in_err-create_one.ensures.outside)
+returns-in_err-create_one-clause-any_moment g c = stands_same c.args.self.app c.args.self c.requires.staged.memory
+    c.one_root.ensures.again c.roots_say.ensures.alone c.deploying_stands.ensures.creating g.D.Disk.told
+    (g.D.Disk.medium c.args.disk.now) (g.D.Disk.medium c.create_one.new.disk) c.requires.staged.root_on
+    (outside_bank g.D.Disk.told c.args.self.app (1 - c.args.self.root.bank) c.args.self.built
+    (g.D.Disk.medium c.args.disk.now) (g.D.Disk.medium c.create_one.new.disk)
+    (let few = (few_storages c.args.self.app c.args.self c.requires.staged.memory).0 in omega (arith, few))
+    c.in_err-create_one.ensures.outside)
 
 pub returns-clause-app : goal.returns-clause-app
-returns-clause-app g c = app_same c.args.self.app c.args.self c.requires.staged.memory c.one_root.ensures.again c.roots_say.ensures.alone g.D.Disk.told (g.D.Disk.medium c.args.disk.now).image c.requires.staged.root_on c.others_stand.ensures.free_bank (g.D.Disk.medium c.create_one.new.disk).image
-    (λ tells. (outside_bank g.D.Disk.told c.args.self.app (1 - c.args.self.root.bank) c.args.self.built (g.D.Disk.medium c.args.disk.now) (g.D.Disk.medium c.create_one.new.disk) (let few = (few_storages c.args.self.app c.args.self c.requires.staged.memory).0 in omega (arith, few)) c.in_ok-create_one.ensures.outside).at_the_end tells)
+returns-clause-app g c = app_same c.args.self.app c.args.self c.requires.staged.memory c.one_root.ensures.again
+    c.roots_say.ensures.alone g.D.Disk.told (g.D.Disk.medium c.args.disk.now).image c.requires.staged.root_on
+    c.others_stand.ensures.free_bank (g.D.Disk.medium c.create_one.new.disk).image
+    (λ tells. (outside_bank g.D.Disk.told c.args.self.app (1 - c.args.self.root.bank) c.args.self.built
+    (g.D.Disk.medium c.args.disk.now) (g.D.Disk.medium c.create_one.new.disk)
+    (let few = (few_storages c.args.self.app c.args.self c.requires.staged.memory).0 in omega (arith, few))
+    c.in_ok-create_one.ensures.outside).at_the_end tells)
 
 pub returns-clause-clean : goal.returns-clause-clean
-returns-clause-clean g c = clean_same c.args.self.app c.args.self c.requires.staged.memory c.one_root.ensures.again c.roots_say.ensures.alone g.D.Disk.told (g.D.Disk.medium c.args.disk.now).image c.requires.staged.root_on c.others_stand.ensures.free_bank (g.D.Disk.medium c.create_one.new.disk).image
-    (λ tells. (outside_bank g.D.Disk.told c.args.self.app (1 - c.args.self.root.bank) c.args.self.built (g.D.Disk.medium c.args.disk.now) (g.D.Disk.medium c.create_one.new.disk) (let few = (few_storages c.args.self.app c.args.self c.requires.staged.memory).0 in omega (arith, few)) c.in_ok-create_one.ensures.outside).at_the_end tells)
+returns-clause-clean g c = clean_same c.args.self.app c.args.self c.requires.staged.memory c.one_root.ensures.again
+    c.roots_say.ensures.alone g.D.Disk.told (g.D.Disk.medium c.args.disk.now).image c.requires.staged.root_on
+    c.others_stand.ensures.free_bank (g.D.Disk.medium c.create_one.new.disk).image
+    (λ tells. (outside_bank g.D.Disk.told c.args.self.app (1 - c.args.self.root.bank) c.args.self.built
+    (g.D.Disk.medium c.args.disk.now) (g.D.Disk.medium c.create_one.new.disk)
+    (let few = (few_storages c.args.self.app c.args.self c.requires.staged.memory).0 in omega (arith, few))
+    c.in_ok-create_one.ensures.outside).at_the_end tells)
 
 pub returns-clause-any_moment : goal.returns-clause-any_moment
-returns-clause-any_moment g c = stands_same c.args.self.app c.args.self c.requires.staged.memory c.one_root.ensures.again c.roots_say.ensures.alone c.deploying_stands.ensures.creating g.D.Disk.told (g.D.Disk.medium c.args.disk.now) (g.D.Disk.medium c.create_one.new.disk) c.requires.staged.root_on
-    (outside_bank g.D.Disk.told c.args.self.app (1 - c.args.self.root.bank) c.args.self.built (g.D.Disk.medium c.args.disk.now) (g.D.Disk.medium c.create_one.new.disk) (let few = (few_storages c.args.self.app c.args.self c.requires.staged.memory).0 in omega (arith, few)) c.in_ok-create_one.ensures.outside)
+returns-clause-any_moment g c = stands_same c.args.self.app c.args.self c.requires.staged.memory
+    c.one_root.ensures.again c.roots_say.ensures.alone c.deploying_stands.ensures.creating g.D.Disk.told
+    (g.D.Disk.medium c.args.disk.now) (g.D.Disk.medium c.create_one.new.disk) c.requires.staged.root_on
+    (outside_bank g.D.Disk.told c.args.self.app (1 - c.args.self.root.bank) c.args.self.built
+    (g.D.Disk.medium c.args.disk.now) (g.D.Disk.medium c.create_one.new.disk)
+    (let few = (few_storages c.args.self.app c.args.self c.requires.staged.memory).0 in omega (arith, few))
+    c.in_ok-create_one.ensures.outside)
 
 pub returns-clause-staged : goal.returns-clause-staged
-returns-clause-staged g c = staged_more c.places_stand_apart.ensures.frame c.files_lie_apart.ensures.storage c.roots_say.ensures.held c.files_lie_apart.ensures.root
-    g.D.Disk.told (g.D.Disk.medium c.args.disk.now).image (g.D.Disk.medium c.create_one.new.disk).image c.args.self.app c.args.self _ c.requires.staged (omega arith) refl
+returns-clause-staged g c = staged_more c.places_stand_apart.ensures.frame c.files_lie_apart.ensures.storage
+    c.roots_say.ensures.held c.files_lie_apart.ensures.root
+    g.D.Disk.told (g.D.Disk.medium c.args.disk.now).image (g.D.Disk.medium c.create_one.new.disk).image c.args.self.app
+    c.args.self _ c.requires.staged (omega arith) refl
     (λ tells. c.in_ok-create_one.ensures.outside.at_the_end tells) c.index-as_slice-self.result c.as_slice-2.result.now
-    (c.index-as_slice-self.is ∙ ap (λ (xs : List StorageConfig). get_or xs c.args.self.built c.index-as_slice-self.result) c.as_slice.ensures)
-    (c.as_slice-2.ensures ∙ c.index.ensures ∙ ap (λ (d : List Fresh). get_or c.args.self.contents.items c.args.self.built d) (sym c.as_slice-2.ensures)) c.in_ok-create_one.ensures.made c.in_ok-create_one.ensures.clean
+    (c.index-as_slice-self.is ∙ ap (λ (xs : List StorageConfig).
+    get_or xs c.args.self.built c.index-as_slice-self.result) c.as_slice.ensures)
+    (c.as_slice-2.ensures ∙ c.index.ensures ∙ ap (λ (d : List Fresh).
+    get_or c.args.self.contents.items c.args.self.built d) (sym c.as_slice-2.ensures))
+    c.in_ok-create_one.ensures.made c.in_ok-create_one.ensures.clean

@@ -10,10 +10,12 @@ is_torn c =
     let stable : image_of c.replay.new.files ≡ synced_image c.args.self =
     stable_image calls c.deref-2.result.now c.deref.result.now c.synced-stable.result
     (start_of c.args.self.files c.args.self.start) (image_of c.begun-torn.result) (image_of c.replay.new.files)
-    c.deref-2.ensures.value c.deref.ensures.value c.begun-torn.ensures c.synced-stable.ensures.base c.in_ok-replay.ensures in
+    c.deref-2.ensures.value c.deref.ensures.value c.begun-torn.ensures c.synced-stable.ensures.base
+    c.in_ok-replay.ensures in
     torn_is c.args.pattern calls c.deref.result.now c.deref-3.result.now c.synced-stable.result
     (image_of c.replay.new.files) (synced_image c.args.self) (image_of c.holding.result.files)
-    c.deref.ensures.value c.deref-3.ensures.value stable c.synced-stable.ensures.pending (c.holding.ensures.image ∙ c.in_ok-replay_torn.ensures)
+    c.deref.ensures.value c.deref-3.ensures.value stable c.synced-stable.ensures.pending
+    (c.holding.ensures.image ∙ c.in_ok-replay_torn.ensures)
 
 pub returns-clause-bytes : goal.returns-clause-bytes
 returns-clause-bytes c = is_torn c

@@ -13,8 +13,10 @@ invariant_of-self-in-Ok c =
     let was = c.keep_start.new.self in
     record {
       tied = write_tied was.calls.items c.push.new.self.items (image_of was.files) (image_of c.put.new.files)
-          (start_of was.files was.start) (start_of c.put.new.files was.start) c.args.file c.args.at c.in_ok-from_slice.field-0 c.args.bytes.now
-          c.in_ok-from_slice.ensures.items c.in_ok-push.ensures.items (kept c.put.new.files ∙ sym (kept was.files)) was.tied c.in-Ok.ensures.ok;
+          (start_of was.files was.start) (start_of c.put.new.files was.start) c.args.file c.args.at
+          c.in_ok-from_slice.field-0 c.args.bytes.now
+          c.in_ok-from_slice.ensures.items c.in_ok-push.ensures.items (kept c.put.new.files ∙ sym (kept was.files))
+          was.tied c.in-Ok.ensures.ok;
     }
 
 pub returns-in-Ok-clause-ok : goal.returns-in-Ok-clause-ok
@@ -24,9 +26,11 @@ returns-in-Ok-clause-ok c =
       copy,
       c.in_ok-from_slice.ensures.items,
       record {
-        image_is = c.in-Ok.ensures.ok ∙ ap (λ i. put_image i c.args.file c.args.at c.args.bytes.now) record_same.image_is;
+        image_is = c.in-Ok.ensures.ok ∙ ap (λ i. put_image i c.args.file c.args.at c.args.bytes.now)
+            record_same.image_is;
         start_is = c.in_ok-keep_start.ensures.start c.put.new.files;
-        calls_are = c.in_ok-push.ensures.items ∙ ap (λ cs. cs ++ Write c.args.file c.args.at copy ∷ []) record_same.calls_are;
+        calls_are = c.in_ok-push.ensures.items ∙ ap (λ cs. cs ++ Write c.args.file c.args.at copy ∷ [])
+            record_same.calls_are;
         written_is = grind (arith, common_steps);
       },
     )

@@ -12,7 +12,9 @@ returns-clause-bytes c =
     )
 
 pub returns-clause-reads : goal.returns-clause-reads
-returns-clause-reads c = (read_done c.args.self.now c.enter.new.self c.in_ok-enter.ensures.ok.counts c.in_ok-enter.ensures.record).0
+returns-clause-reads c = (read_done c.args.self.now c.enter.new.self c.in_ok-enter.ensures.ok.counts
+    c.in_ok-enter.ensures.record).0
 
 pub returns-clause-time : goal.returns-clause-time
-returns-clause-time c = (read_done c.args.self.now c.enter.new.self c.in_ok-enter.ensures.ok.counts c.in_ok-enter.ensures.record).1
+returns-clause-time c = (read_done c.args.self.now c.enter.new.self c.in_ok-enter.ensures.ok.counts
+    c.in_ok-enter.ensures.record).1

@@ -16,12 +16,22 @@ pub invariant_of-self : goal.invariant_of-self
 invariant_of-self c =
     let few : length c.self.inside.files.entries ≤ 1024 = c.self.invariant.0.few_files in
     let room : size_of c.self.inside.files.entries ≤ c.self.inside.storage.maximum = c.self.invariant.0.room in (
-      renamed c.self.inside.storage c.self.inside.files.entries c.recover_in.new.files.entries c.self.inside.handles.entries c.args.name.now c.self.invariant.0
-          (busy_by_none (blocking Write c.args.name.now c.self.inside.handles.entries) (subst (λ (t : Table). busy (blocking Write c.args.name.now t.session.handles) ≡ None) (sym c.self.view_is) c.requires.free))
+      renamed c.self.inside.storage c.self.inside.files.entries c.recover_in.new.files.entries
+          c.self.inside.handles.entries c.args.name.now c.self.invariant.0
+          (busy_by_none (blocking Write c.args.name.now c.self.inside.handles.entries)
+          (subst (λ (t : Table). busy (blocking Write c.args.name.now t.session.handles) ≡ None)
+          (sym c.self.view_is) c.requires.free))
           c.recover_in.ensures.beside
-          (whole_beside c.self.inside.files.entries c.recover_in.new.files.entries c.args.name.now c.self.invariant.0.whole c.recover_in.ensures.beside c.recover_in.ensures.file)
+          (whole_beside c.self.inside.files.entries c.recover_in.new.files.entries c.args.name.now
+          c.self.invariant.0.whole c.recover_in.ensures.beside c.recover_in.ensures.file)
           (subst (λ ks. IsStrictlySortedBy name_cmp ks) (sym c.recover_in.ensures.keys) c.self.invariant.0.names)
-          (omega (arith, length-keys_of c.recover_in.new.files.entries, length-keys_of c.self.inside.files.entries, ap length c.recover_in.ensures.keys, few))
+          (omega (
+            arith,
+            length-keys_of c.recover_in.new.files.entries,
+            length-keys_of c.self.inside.files.entries,
+            ap length c.recover_in.ensures.keys,
+            few,
+          ))
           (omega (arith, c.recover_in.ensures.size, room)),
       c.self.invariant.1 ∙ sym c.recover_in.ensures.size,
     )

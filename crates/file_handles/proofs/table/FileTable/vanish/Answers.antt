@@ -9,8 +9,13 @@ use Rattle.file_handles.proofs.table.FileTable.vanish.Goals as goal
 
 pub invariant_of-self : goal.invariant_of-self
 invariant_of-self c =
-    deleted_sound c.self.inside.storage c.self.inside.files.entries c.remove_file.new.files.entries c.self.inside.handles.entries c.args.name.now c.in-Some.file.now c.self.inside.size (c.name_len.result + c.from.result)
+    deleted_sound c.self.inside.storage c.self.inside.files.entries c.remove_file.new.files.entries
+    c.self.inside.handles.entries c.args.name.now c.in-Some.file.now c.self.inside.size
+    (c.name_len.result + c.from.result)
     c.self.invariant.0 c.self.invariant.1
-    (busy_by_none (blocking Write c.args.name.now c.self.inside.handles.entries) (subst (λ (t : Table). busy (blocking Write c.args.name.now t.session.handles) ≡ None) (sym c.self.view_is) c.requires.free))
+    (busy_by_none (blocking Write c.args.name.now c.self.inside.handles.entries)
+    (subst (λ (t : Table). busy (blocking Write c.args.name.now t.session.handles) ≡ None) (sym c.self.view_is)
+    c.requires.free))
     (sym c.in-Some.ensures.value)
-    (omega (arith, c.name_len.ensures.exact, c.from.ensures, c.len.ensures.len)) c.remove_file.ensures.gone c.remove_file.ensures.names c.remove_file.ensures.few
+    (omega (arith, c.name_len.ensures.exact, c.from.ensures, c.len.ensures.len)) c.remove_file.ensures.gone
+    c.remove_file.ensures.names c.remove_file.ensures.few

@@ -9,5 +9,6 @@ pub returns-in-Some-clause-at_most : goal.returns-in-Some-clause-at_most
 returns-in-Some-clause-at_most g c = none_written c.args.self (g.D.Disk.medium c.args.disk.now)
 
 pub returns-in-Some-clause-storing : goal.returns-in-Some-clause-storing
-returns-in-Some-clause-storing g c = none_storing c.untouched_is_kept.ensures.untouched g.D.Disk.told (shape_of c.args.self.store) (Opens (synced_view c.args.self) []) (g.D.Disk.medium c.args.disk.now)
+returns-in-Some-clause-storing g c = none_storing c.untouched_is_kept.ensures.untouched g.D.Disk.told
+    (shape_of c.args.self.store) (Opens (synced_view c.args.self) []) (g.D.Disk.medium c.args.disk.now)
     c.requires.memory.shape (g.met.D.Disk.lawful c.args.disk.now)

@@ -7,4 +7,6 @@ use Rattle.file_storage.specs.FileSessions.{FileSession}
 use Rattle.file_storage.proofs.files.Files.read.Goals as goal
 
 pub returns-clause-memory : goal.returns-clause-memory
-returns-clause-memory c = subst (λ (s : FileSession). IfErr c.read.result (λ error. error ≡ OutOfMemory → IsDue (calls.read s.session c.args.handle c.args.count))) c.self.view_is c.read.ensures.memory
+returns-clause-memory c = subst (λ (s : FileSession). IfErr c.read.result
+    (λ error. error ≡ OutOfMemory → IsDue (calls.read s.session c.args.handle c.args.count))) c.self.view_is
+    c.read.ensures.memory

@@ -7,4 +7,6 @@ use Rattle.file_storage.specs.FileSessions.{FileSession}
 use Rattle.file_storage.proofs.files.Files.read_line.Goals as goal
 
 pub returns-clause-memory : goal.returns-clause-memory
-returns-clause-memory c = subst (λ (s : FileSession). IfErr c.read_line.result (λ error. error ≡ OutOfMemory → IsDue (calls.read_line s.session c.args.handle c.args.delimiter))) c.self.view_is c.read_line.ensures.memory
+returns-clause-memory c = subst (λ (s : FileSession). IfErr c.read_line.result
+    (λ error. error ≡ OutOfMemory → IsDue (calls.read_line s.session c.args.handle c.args.delimiter))) c.self.view_is
+    c.read_line.ensures.memory

@@ -6,5 +6,8 @@ use Rattle.file_storage.proofs.Keeping.{released}
 use Rattle.file_storage.proofs.files.Files.release.Goals as goal
 
 pub returns : goal.returns
-returns c = released c.args.self.now c.close-closed.new.self c.args.handle c.close-closed.result c.close-closed.ensures.ok c.close-closed.ensures.refused c.close-closed.ensures.beside c.close-closed.ensures.unchanged
-    (subst (λ (s : FileSession). (number : ℕ) → open_at s.session number ≡ None → handle_at s.session.handles number ≡ None) c.self.view_is c.holds.ensures.closed c.args.handle)
+returns c = released c.args.self.now c.close-closed.new.self c.args.handle c.close-closed.result
+    c.close-closed.ensures.ok c.close-closed.ensures.refused c.close-closed.ensures.beside
+    c.close-closed.ensures.unchanged
+    (subst (λ (s : FileSession). (number : ℕ) → open_at s.session number ≡ None
+    → handle_at s.session.handles number ≡ None) c.self.view_is c.holds.ensures.closed c.args.handle)

@@ -13,9 +13,15 @@ returns c = (
     same_reference = refl;
     ok = c.in_ok-handle.ensures.ok;
     moment = c.in_ok-handle.ensures.moment;
-    beside = subst (λ m. c.open_file.new.self ≡ record c.args.self.now { session = c.open_file.new.self.session; moment = m }) c.in_ok-handle.ensures.moment c.in_ok-handle.ensures.beside;
-    others = opened_others (storage_of c.args.self.now.config) c.args.self.now.session c.open_file.new.self.session c.args.name.now c.args.kind c.args.mode c.args.now c.in_ok-handle.handle
-        (subst (λ (s : FileSession). handle_at s.session.handles (free_number s.session.handles) ≡ None) c.self.view_is c.holds.ensures.free) c.in_ok-handle.ensures.ok;
+    beside = subst (λ m. c.open_file.new.self ≡ record c.args.self.now {
+      session =
+          c.open_file.new.self.session;
+      moment = m;
+    }) c.in_ok-handle.ensures.moment c.in_ok-handle.ensures.beside;
+    others = opened_others (storage_of c.args.self.now.config) c.args.self.now.session c.open_file.new.self.session
+        c.args.name.now c.args.kind c.args.mode c.args.now c.in_ok-handle.handle
+        (subst (λ (s : FileSession). handle_at s.session.handles (free_number s.session.handles) ≡ None) c.self.view_is
+        c.holds.ensures.free) c.in_ok-handle.ensures.ok;
     refused = tt;
     memory = tt;
   },

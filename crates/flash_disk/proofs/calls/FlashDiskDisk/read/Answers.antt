@@ -13,7 +13,8 @@ returns-in_err-make_sure-clause-usable g c told =
     let m1 = g.F.Flash.medium c.make_sure.new.self.flash in
     let e = c.make_sure.ensures in
     subst (λ v. KeepsUsable (g.F.Flash.medium v.flash) m1) c.self.view_is
-    (look_usable m0 m1 (e.time told) (holds_usable m0 c.self.inside.layer.state (c.self.invariant.holds told)) (e.unchanged told) e.during)
+    (look_usable m0 m1 (e.time told) (holds_usable m0 c.self.inside.layer.state (c.self.invariant.holds told))
+    (e.unchanged told) e.during)
 
 pub returns-clause-usable : goal.returns-clause-usable
 returns-clause-usable g c told =
@@ -24,8 +25,10 @@ returns-clause-usable g c told =
     let r = c.read_file.ensures in
     subst (λ v. KeepsUsable (g.F.Flash.medium v.flash) m2) c.self.view_is
     (usable_then m0 m1 m2 (e.time told) (r.looks.time told)
-    (look_usable m0 m1 (e.time told) (holds_usable m0 c.self.inside.layer.state (c.self.invariant.holds told)) (e.unchanged told) e.during)
-    (look_usable m1 m2 (r.looks.time told) (holds_usable m1 c.make_sure.new.self.state (e.holds told)) (r.looks.state told) (r.looks.during told)))
+    (look_usable m0 m1 (e.time told) (holds_usable m0 c.self.inside.layer.state (c.self.invariant.holds told))
+    (e.unchanged told) e.during)
+    (look_usable m1 m2 (r.looks.time told) (holds_usable m1 c.make_sure.new.self.state (e.holds told))
+    (r.looks.state told) (r.looks.during told)))
 
 pub returns-in_err-make_sure-clause-time : goal.returns-in_err-make_sure-clause-time
 returns-in_err-make_sure-clause-time g c =
@@ -33,8 +36,10 @@ returns-in_err-make_sure-clause-time g c =
     let m0 = g.F.Flash.medium c.self.inside.layer.flash in
     let m1 = g.F.Flash.medium c.make_sure.new.self.flash in
     let e = c.make_sure.ensures in
-    subst (λ v. Elapses (disk_seen told g.F.Flash.medium v) (flash_disk_medium told m1 c.make_sure.new.self.own c.self.inside.written)) c.self.view_is
-    (look_time told m0 m1 c.self.inside.layer.own c.make_sure.new.self.own c.self.inside.written c.self.inside.layer.state c.self.invariant.holds e.time e.accounts.cause.later
+    subst (λ v. Elapses (disk_seen told g.F.Flash.medium v)
+    (flash_disk_medium told m1 c.make_sure.new.self.own c.self.inside.written)) c.self.view_is
+    (look_time told m0 m1 c.self.inside.layer.own c.make_sure.new.self.own c.self.inside.written
+    c.self.inside.layer.state c.self.invariant.holds e.time e.accounts.cause.later
     e.unchanged (λ t. e.during))
 
 pub returns-clause-time : goal.returns-clause-time
@@ -45,8 +50,11 @@ returns-clause-time g c =
     let m2 = g.F.Flash.medium c.read_file.new.self.flash in
     let e = c.make_sure.ensures in
     let r = c.read_file.ensures in
-    subst (λ v. Elapses (disk_seen told g.F.Flash.medium v) (flash_disk_medium told m2 c.read_file.new.self.own c.self.inside.written)) c.self.view_is
+    subst (λ v. Elapses (disk_seen told g.F.Flash.medium v)
+    (flash_disk_medium told m2 c.read_file.new.self.own c.self.inside.written)) c.self.view_is
     (elapses_on
-    (look_time told m0 m1 c.self.inside.layer.own c.make_sure.new.self.own c.self.inside.written c.self.inside.layer.state c.self.invariant.holds e.time e.accounts.cause.later
+    (look_time told m0 m1 c.self.inside.layer.own c.make_sure.new.self.own c.self.inside.written
+    c.self.inside.layer.state c.self.invariant.holds e.time e.accounts.cause.later
     e.unchanged (λ t. e.during))
-    (look_time told m1 m2 c.make_sure.new.self.own c.read_file.new.self.own c.self.inside.written c.make_sure.new.self.state e.holds r.looks.time r.accounts.cause.later r.looks.state r.looks.during))
+    (look_time told m1 m2 c.make_sure.new.self.own c.read_file.new.self.own c.self.inside.written
+    c.make_sure.new.self.state e.holds r.looks.time r.accounts.cause.later r.looks.state r.looks.during))

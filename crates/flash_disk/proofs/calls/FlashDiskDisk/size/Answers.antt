@@ -12,7 +12,8 @@ returns-in_err-make_sure-clause-usable g c told =
     let m1 = g.F.Flash.medium c.make_sure.new.self.flash in
     let e = c.make_sure.ensures in
     subst (λ v. KeepsUsable (g.F.Flash.medium v.flash) m1) c.self.view_is
-    (look_usable m0 m1 (e.time told) (holds_usable m0 c.self.inside.layer.state (c.self.invariant.holds told)) (e.unchanged told) e.during)
+    (look_usable m0 m1 (e.time told) (holds_usable m0 c.self.inside.layer.state (c.self.invariant.holds told))
+    (e.unchanged told) e.during)
 
 pub returns-clause-usable : goal.returns-clause-usable
 returns-clause-usable g c told =
@@ -20,7 +21,8 @@ returns-clause-usable g c told =
     let m1 = g.F.Flash.medium c.make_sure.new.self.flash in
     let e = c.make_sure.ensures in
     subst (λ v. KeepsUsable (g.F.Flash.medium v.flash) m1) c.self.view_is
-    (look_usable m0 m1 (e.time told) (holds_usable m0 c.self.inside.layer.state (c.self.invariant.holds told)) (e.unchanged told) e.during)
+    (look_usable m0 m1 (e.time told) (holds_usable m0 c.self.inside.layer.state (c.self.invariant.holds told))
+    (e.unchanged told) e.during)
 
 pub returns-in_err-make_sure-clause-time : goal.returns-in_err-make_sure-clause-time
 returns-in_err-make_sure-clause-time g c =
@@ -28,8 +30,10 @@ returns-in_err-make_sure-clause-time g c =
     let m0 = g.F.Flash.medium c.self.inside.layer.flash in
     let m1 = g.F.Flash.medium c.make_sure.new.self.flash in
     let e = c.make_sure.ensures in
-    subst (λ v. Elapses (disk_seen told g.F.Flash.medium v) (flash_disk_medium told m1 c.make_sure.new.self.own c.self.inside.written)) c.self.view_is
-    (look_time told m0 m1 c.self.inside.layer.own c.make_sure.new.self.own c.self.inside.written c.self.inside.layer.state c.self.invariant.holds e.time e.accounts.cause.later
+    subst (λ v. Elapses (disk_seen told g.F.Flash.medium v)
+    (flash_disk_medium told m1 c.make_sure.new.self.own c.self.inside.written)) c.self.view_is
+    (look_time told m0 m1 c.self.inside.layer.own c.make_sure.new.self.own c.self.inside.written
+    c.self.inside.layer.state c.self.invariant.holds e.time e.accounts.cause.later
     e.unchanged (λ t. e.during))
 
 pub returns-clause-time : goal.returns-clause-time
@@ -38,6 +42,8 @@ returns-clause-time g c =
     let m0 = g.F.Flash.medium c.self.inside.layer.flash in
     let m1 = g.F.Flash.medium c.make_sure.new.self.flash in
     let e = c.make_sure.ensures in
-    subst (λ v. Elapses (disk_seen told g.F.Flash.medium v) (flash_disk_medium told m1 c.make_sure.new.self.own c.self.inside.written)) c.self.view_is
-    (look_time told m0 m1 c.self.inside.layer.own c.make_sure.new.self.own c.self.inside.written c.self.inside.layer.state c.self.invariant.holds e.time e.accounts.cause.later
+    subst (λ v. Elapses (disk_seen told g.F.Flash.medium v)
+    (flash_disk_medium told m1 c.make_sure.new.self.own c.self.inside.written)) c.self.view_is
+    (look_time told m0 m1 c.self.inside.layer.own c.make_sure.new.self.own c.self.inside.written
+    c.self.inside.layer.state c.self.invariant.holds e.time e.accounts.cause.later
     e.unchanged (λ t. e.during))

@@ -7,12 +7,15 @@ use Rattle.flash_disk.proofs.disk.FlashDisk.open.Goals as goal
 pub returns-in-Ok-false-clause-unusable : goal.returns-in-Ok-false-clause-unusable
 returns-in-Ok-false-clause-unusable g c told same =
     subst (IsUnusable (g.F.Flash.medium c.args.flash).state.pages) c.blocks-blocks.ensures
-    (subst (SaysUsable (g.F.Flash.medium c.args.flash).state.pages c.blocks-blocks.result) c.in-Ok-false.field-0-test (c.in-Ok-false.ensures.usable told))
+    (subst (SaysUsable (g.F.Flash.medium c.args.flash).state.pages c.blocks-blocks.result) c.in-Ok-false.field-0-test
+    (c.in-Ok-false.ensures.usable told))
 
 pub invariant_of-result : goal.invariant_of-result
 invariant_of-result g c = record {
-  holds = λ told. holds_all (g.F.Flash.medium c.learn.new.self.flash) c.learn.new.self.state (g.F.Flash.medium c.args.flash).state.pages
-      (subst (λ b. Sound (g.F.Flash.medium c.args.flash).state.pages b c.learn.new.self.state) (c.blocks-blocks.ensures ∙ sym c.in-Ok-true.ensures.blocks)
+  holds = λ told. holds_all (g.F.Flash.medium c.learn.new.self.flash) c.learn.new.self.state
+      (g.F.Flash.medium c.args.flash).state.pages
+      (subst (λ b. Sound (g.F.Flash.medium c.args.flash).state.pages b c.learn.new.self.state)
+      (c.blocks-blocks.ensures ∙ sym c.in-Ok-true.ensures.blocks)
       (c.in-Ok-true.ensures.sound told c.in-Ok-true.field-0-test))
       (c.in-Ok-true.ensures.pages told) (c.in-Ok-true.ensures.sure c.in-Ok-true.field-0-test);
   counted = omega arith;
@@ -20,7 +23,8 @@ invariant_of-result g c = record {
 
 pub returns-in-Ok-true-clause-quiet : goal.returns-in-Ok-true-clause-quiet
 returns-in-Ok-true-clause-quiet g c =
-    settled_is_quiet g.F.Flash.told (g.F.Flash.medium c.learn.new.self.flash) c.learn.new.self.own 0 (g.F.Flash.medium c.args.flash).state
+    settled_is_quiet g.F.Flash.told (g.F.Flash.medium c.learn.new.self.flash) c.learn.new.self.own 0
+    (g.F.Flash.medium c.args.flash).state
     (λ told. c.in-Ok-true.ensures.settled told c.in-Ok-true.field-0-test)
 
 pub returns-in-Ok-true-clause-throughout : goal.returns-in-Ok-true-clause-throughout
@@ -35,12 +39,14 @@ returns-in-Ok-true-clause-throughout g c told =
 pub returns-in-Ok-true-clause-agreed : goal.returns-in-Ok-true-clause-agreed
 returns-in-Ok-true-clause-agreed g c told =
     let e = c.in-Ok-true.ensures in
-    opens_agreed g.F.Flash.told (g.F.Flash.medium c.args.flash) (g.F.Flash.medium c.learn.new.self.flash) told (e.pages told) e.opens
+    opens_agreed g.F.Flash.told (g.F.Flash.medium c.args.flash) (g.F.Flash.medium c.learn.new.self.flash) told
+    (e.pages told) e.opens
 
 pub returns-in-Ok-true-clause-begins : goal.returns-in-Ok-true-clause-begins
 returns-in-Ok-true-clause-begins g c =
     let old = g.F.Flash.medium c.args.flash in
     let e = c.in-Ok-true.ensures in
-    begins g.F.Flash.told old (g.F.Flash.medium c.learn.new.self.flash) (g.met.F.Flash.lawful c.learn.new.self.flash) e.pages e.blocks c.learn.new.self.own
+    begins g.F.Flash.told old (g.F.Flash.medium c.learn.new.self.flash) (g.met.F.Flash.lawful c.learn.new.self.flash)
+    e.pages e.blocks c.learn.new.self.own
     (λ told. subst (IsUsable old.state.pages) c.blocks-blocks.ensures
     (subst (SaysUsable old.state.pages c.blocks-blocks.result) c.in-Ok-true.field-0-test (e.usable told)))

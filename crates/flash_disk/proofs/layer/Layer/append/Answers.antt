@@ -12,14 +12,16 @@ pub returns-in_err-make_room-clause-does : goal.returns-in_err-make_room-clause-
 returns-in_err-make_room-clause-does g c told =
     let m = g.F.Flash.medium c.args.self.now.flash in
     let mid = g.F.Flash.medium c.make_room.new.self.flash in
-    puts_not m mid mid (c.make_room.ensures.time told) (c.make_room.ensures.does told) c.args.file (256 * c.args.page) c.args.len c.args.bytes.now
+    puts_not m mid mid (c.make_room.ensures.time told) (c.make_room.ensures.does told) c.args.file (256 * c.args.page)
+    c.args.len c.args.bytes.now
 
 pub returns-clause-does : goal.returns-clause-does
 returns-clause-does g c told =
     let m = g.F.Flash.medium c.args.self.now.flash in
     let mid = g.F.Flash.medium c.make_room.new.self.flash in
     let now = g.F.Flash.medium c.add.new.self.flash in
-    puts_then m mid now (c.make_room.ensures.time told) (c.make_room.ensures.does told) c.args.file (256 * c.args.page) c.args.len c.args.bytes.now
+    puts_then m mid now (c.make_room.ensures.time told) (c.make_room.ensures.does told) c.args.file (256 * c.args.page)
+    c.args.len c.args.bytes.now
     (c.add.ensures.time told) (c.add.ensures.does told)
 
 pub returns-clause-shown : goal.returns-clause-shown
@@ -27,7 +29,8 @@ returns-clause-shown g c told =
     let m = g.F.Flash.medium c.args.self.now.flash in
     let mid = g.F.Flash.medium c.make_room.new.self.flash in
     let now = g.F.Flash.medium c.add.new.self.flash in
-    on_ok_weaker c.add.result (shown_after m mid now c.args.file c.args.page c.args.bytes.now (c.in_ok-make_room.ensures.shown told)) (c.add.ensures.shown told)
+    on_ok_weaker c.add.result (shown_after m mid now c.args.file c.args.page c.args.bytes.now
+    (c.in_ok-make_room.ensures.shown told)) (c.add.ensures.shown told)
 
 pub add-requires-clause-fits : goal.add-requires-clause-fits
 add-requires-clause-fits g c told =
@@ -52,12 +55,15 @@ pub returns-clause-entries : goal.returns-clause-entries
 returns-clause-entries g c told =
     let key : FilePage = record { file = c.args.file; page = c.args.page } in
     on_ok_weaker c.add.result
-    (occupies_after c.args.self.now.state.table c.make_room.new.self.state.table c.add.new.self.state.table key (c.in_ok-make_room.ensures.entries told))
+    (occupies_after c.args.self.now.state.table c.make_room.new.self.state.table c.add.new.self.state.table key
+    (c.in_ok-make_room.ensures.entries told))
     (c.add.ensures.entries told)
 
 pub returns-clause-time : goal.returns-clause-time
 returns-clause-time g c told =
-    elapses_then (g.F.Flash.medium c.args.self.now.flash) (g.F.Flash.medium c.make_room.new.self.flash) (g.F.Flash.medium c.add.new.self.flash) (c.make_room.ensures.time told) (c.add.ensures.time told)
+    elapses_then (g.F.Flash.medium c.args.self.now.flash) (g.F.Flash.medium c.make_room.new.self.flash)
+    (g.F.Flash.medium c.add.new.self.flash) (c.make_room.ensures.time told) (c.add.ensures.time told)
 
 pub returns-clause-accounts : goal.returns-clause-accounts
-returns-clause-accounts g c = accounts_on g.F.Flash.medium 0 1 1 (omega arith) c.in_ok-make_room.ensures.accounts c.add.ensures.accounts
+returns-clause-accounts g c = accounts_on g.F.Flash.medium 0 1 1 (omega arith) c.in_ok-make_room.ensures.accounts
+    c.add.ensures.accounts

@@ -14,7 +14,8 @@ use Rattle.flash_disk.proofs.Spreading.{light_enough}
 use Rattle.flash_disk.proofs.Stretches.{does_nothing, elapses_then}
 use Rattle.flash_disk.specs.Entries.{SameEntries}
 use Rattle.flash_disk.proofs.Moved.{all_known, finished, places_stay, entries_stay}
-use Rattle.flash_disk.proofs.Moving.{erase_stands, erase_failed, erase_failed_keeps, erase_keeps_all, moving_none, stands_then, keeps_on, fits_kept, shows_same, stands_now}
+use Rattle.flash_disk.proofs.Moving.{erase_stands, erase_failed, erase_failed_keeps, erase_keeps_all, moving_none}
+use Rattle.flash_disk.proofs.Moving.{stands_then, keeps_on, fits_kept, shows_same, stands_now}
 use Rattle.flash_disk.proofs.layer.Layer.collect.Goals as goal
 
 pub returns-then-self-clause-does : goal.returns-then-self-clause-does
@@ -22,7 +23,8 @@ returns-then-self-clause-does g c told =
     let m = g.F.Flash.medium c.args.self.now.flash in
     let lawful = g.met.F.Flash.lawful c.args.self.now.flash in
     subst (λ f. Does (StandsFor m) m (g.F.Flash.medium f)) (sym c.fault.ensures.flash)
-    (does_nothing m m (StandsFor m) refl (λ x past. lawful.only_now x past) (stands_now m c.args.self.now.state (c.requires.sound told)))
+    (does_nothing m m (StandsFor m) refl (λ x past. lawful.only_now x past)
+    (stands_now m c.args.self.now.state (c.requires.sound told)))
 
 pub returns-in_err-erase_block-clause-sound : goal.returns-in_err-erase_block-clause-sound
 returns-in_err-erase_block-clause-sound g c told =
@@ -32,7 +34,8 @@ returns-in_err-erase_block-clause-sound g c told =
     let e = c.erase_block.ensures in
     let sound : IsSound m s = c.requires.sound told in
     let agreed : IsFalse s.disputed = c.if-self.false in
-    subst (IsSound look) (sym e.state) (erase_failed m look s sound agreed c.requires.full (c.in_err-erase_block.ensures.failed told) (e.time told).blocks)
+    subst (IsSound look) (sym e.state) (erase_failed m look s sound agreed c.requires.full
+    (c.in_err-erase_block.ensures.failed told) (e.time told).blocks)
 
 pub returns-in_err-erase_block-clause-fits : goal.returns-in_err-erase_block-clause-fits
 returns-in_err-erase_block-clause-fits g c told =
@@ -42,7 +45,9 @@ returns-in_err-erase_block-clause-fits g c told =
     let e = c.erase_block.ensures in
     let sound : IsSound m s = c.requires.sound told in
     let agreed : IsFalse s.disputed = c.if-self.false in
-    fits_kept m look s c.erase_block.new.self.state sound agreed (erase_failed_keeps m look s sound agreed c.requires.full (c.in_err-erase_block.ensures.failed told)) (e.time told).blocks
+    fits_kept m look s c.erase_block.new.self.state sound agreed
+    (erase_failed_keeps m look s sound agreed c.requires.full (c.in_err-erase_block.ensures.failed told))
+    (e.time told).blocks
     (λ key has. subst (λ (q : LayerState). HasPlace q.table key) (sym e.state) has)
 
 pub returns-in_err-erase_block-clause-does : goal.returns-in_err-erase_block-clause-does
@@ -53,7 +58,8 @@ returns-in_err-erase_block-clause-does g c told =
     let e = c.erase_block.ensures in
     let sound : IsSound m s = c.requires.sound told in
     let agreed : IsFalse s.disputed = c.if-self.false in
-    erase_stands m look s sound agreed c.requires.full c.erase_block.result (e.done told) (e.failed told) (e.during told)
+    erase_stands m look s sound agreed c.requires.full c.erase_block.result (e.done told) (e.failed told)
+    (e.during told)
 
 pub copy_needed-requires-clause-moving : goal.copy_needed-requires-clause-moving
 copy_needed-requires-clause-moving g c told =
@@ -64,13 +70,16 @@ copy_needed-requires-clause-moving g c told =
     let sound : IsSound m s = c.requires.sound told in
     let agreed : IsFalse s.disputed = c.if-self.false in
     let t : LayerState = record c.erase_block.new.self.state { moved = c.clear.new.self } in
-    let state : t ≡ record s { moved = c.clear.new.self } = ap (λ (q : LayerState). let z : LayerState = record q { moved = c.clear.new.self } in z) e.state in
+    let state : t ≡ record s { moved = c.clear.new.self } =
+    ap (λ (q : LayerState). let z : LayerState = record q { moved = c.clear.new.self } in z) e.state in
     let from = c.lightest_but-victim.result in
-    let light = light_enough m.blocks s.table s.spare from sound.counted c.lightest_but-victim.ensures.within c.lightest_but-victim.ensures.lightest in
+    let light = light_enough m.blocks s.table s.spare from sound.counted c.lightest_but-victim.ensures.within
+    c.lightest_but-victim.ensures.lightest in
     let within : from < m.blocks = light.1 in
     let same = ap (λ (q : LayerState). vec_capacity q.moved) e.state in
     let kept = c.clear.ensures.capacity in
-    moving_none m look s sound agreed c.requires.full (c.in_ok-erase_block.ensures.done told) (e.time told).blocks t state (omega (arith, same, kept)) c.clear.ensures.items
+    moving_none m look s sound agreed c.requires.full (c.in_ok-erase_block.ensures.done told) (e.time told).blocks t
+    state (omega (arith, same, kept)) c.clear.ensures.items
     from s.spare refl within (λ same. c.if-victim-target.false same)
 
 pub returns-in_err-copy_needed-clause-fits : goal.returns-in_err-copy_needed-clause-fits
@@ -86,8 +95,10 @@ returns-in_err-copy_needed-clause-fits g c told =
     let n = c.copy_needed.ensures in
     let blank = c.in_ok-erase_block.ensures.done told in
     let same_blocks : now.blocks ≡ m.blocks = (n.time told).blocks ∙ (e.time told).blocks in
-    let keeps = keeps_on m look s sound agreed (e.time told).blocks (erase_keeps_all m look s sound agreed c.requires.full blank) now.state.pages (n.keeps told) in
-    let same_table : t.table ≡ s.table = ap (λ (q : LayerState). q.table) n.state ∙ ap (λ (q : LayerState). q.table) e.state in
+    let keeps = keeps_on m look s sound agreed (e.time told).blocks
+    (erase_keeps_all m look s sound agreed c.requires.full blank) now.state.pages (n.keeps told) in
+    let same_table : t.table ≡ s.table = ap (λ (q : LayerState). q.table) n.state
+    ∙ ap (λ (q : LayerState). q.table) e.state in
     fits_kept m now s t sound agreed keeps same_blocks (λ key has. subst (λ q. HasPlace q key) (sym same_table) has)
 
 pub returns-in_err-copy_needed-clause-does : goal.returns-in_err-copy_needed-clause-does
@@ -103,9 +114,12 @@ returns-in_err-copy_needed-clause-does g c told =
     let n = c.copy_needed.ensures in
     let blank = c.in_ok-erase_block.ensures.done told in
     let same_blocks : now.blocks ≡ m.blocks = (n.time told).blocks ∙ (e.time told).blocks in
-    let keeps = keeps_on m look s sound agreed (e.time told).blocks (erase_keeps_all m look s sound agreed c.requires.full blank) now.state.pages (n.keeps told) in
-    let same_table : t.table ≡ s.table = ap (λ (q : LayerState). q.table) n.state ∙ ap (λ (q : LayerState). q.table) e.state in
-    stands_then m look now (e.time told) (n.time told) (erase_stands m look s sound agreed c.requires.full c.erase_block.result (e.done told) (e.failed told) (e.during told)) (n.does told)
+    let keeps = keeps_on m look s sound agreed (e.time told).blocks
+    (erase_keeps_all m look s sound agreed c.requires.full blank) now.state.pages (n.keeps told) in
+    let same_table : t.table ≡ s.table = ap (λ (q : LayerState). q.table) n.state
+    ∙ ap (λ (q : LayerState). q.table) e.state in
+    stands_then m look now (e.time told) (n.time told) (erase_stands m look s sound agreed c.requires.full
+    c.erase_block.result (e.done told) (e.failed told) (e.during told)) (n.does told)
 
 pub returns-clause-sound : goal.returns-clause-sound
 returns-clause-sound g c told =
@@ -120,19 +134,24 @@ returns-clause-sound g c told =
     let n = c.copy_needed.ensures in
     let blank = c.in_ok-erase_block.ensures.done told in
     let same_blocks : now.blocks ≡ m.blocks = (n.time told).blocks ∙ (e.time told).blocks in
-    let keeps = keeps_on m look s sound agreed (e.time told).blocks (erase_keeps_all m look s sound agreed c.requires.full blank) now.state.pages (n.keeps told) in
-    let same_table : t.table ≡ s.table = ap (λ (q : LayerState). q.table) n.state ∙ ap (λ (q : LayerState). q.table) e.state in
+    let keeps = keeps_on m look s sound agreed (e.time told).blocks
+    (erase_keeps_all m look s sound agreed c.requires.full blank) now.state.pages (n.keeps told) in
+    let same_table : t.table ≡ s.table = ap (λ (q : LayerState). q.table) n.state
+    ∙ ap (λ (q : LayerState). q.table) e.state in
     let from = c.lightest_but-victim.result in
     let to = s.spare in
     let moving : IsMoving now.state.pages now.blocks t from to 64 = c.in_ok-copy_needed.ensures.moving told in
     let p = c.put_all.ensures in
     let items : c.deref.result.now ≡ t.moved.items = c.deref.ensures.value in
-    let known_all = subst (All (λ (q : FilePage × Newest). IsSome (known t.table q.0))) (sym items) (all_known now t from to moving) in
+    let known_all = subst (All (λ (q : FilePage × Newest). IsSome (known t.table q.0))) (sym items)
+    (all_known now t from to moving) in
     let room = moving.sound.knows.led.room in
     let puts = subst (PutsAll t.table c.put_all.new.self) items (p.put known_all room) in
     let long = t.moved.ok.0 in let count = c.len.ensures in let least = c.min.ensures in
-    finished now t from to moving c.put_all.new.self puts (p.len known_all room) (p.room known_all room) p.limit p.lens (p.stays known_all room) c.min.result (omega (arith, long, count, least))
-    (λ counted inside. p.counted now.blocks (subst (All (λ (q : FilePage × Newest). IsInside now.blocks q.1)) (sym items) inside) counted)
+    finished now t from to moving c.put_all.new.self puts (p.len known_all room) (p.room known_all room) p.limit p.lens
+    (p.stays known_all room) c.min.result (omega (arith, long, count, least))
+    (λ counted inside. p.counted now.blocks (subst (All (λ (q : FilePage × Newest). IsInside now.blocks q.1))
+    (sym items) inside) counted)
 
 pub returns-clause-fits : goal.returns-clause-fits
 returns-clause-fits g c told =
@@ -147,18 +166,23 @@ returns-clause-fits g c told =
     let n = c.copy_needed.ensures in
     let blank = c.in_ok-erase_block.ensures.done told in
     let same_blocks : now.blocks ≡ m.blocks = (n.time told).blocks ∙ (e.time told).blocks in
-    let keeps = keeps_on m look s sound agreed (e.time told).blocks (erase_keeps_all m look s sound agreed c.requires.full blank) now.state.pages (n.keeps told) in
-    let same_table : t.table ≡ s.table = ap (λ (q : LayerState). q.table) n.state ∙ ap (λ (q : LayerState). q.table) e.state in
+    let keeps = keeps_on m look s sound agreed (e.time told).blocks
+    (erase_keeps_all m look s sound agreed c.requires.full blank) now.state.pages (n.keeps told) in
+    let same_table : t.table ≡ s.table = ap (λ (q : LayerState). q.table) n.state
+    ∙ ap (λ (q : LayerState). q.table) e.state in
     let from = c.lightest_but-victim.result in
     let to = s.spare in
     let moving : IsMoving now.state.pages now.blocks t from to 64 = c.in_ok-copy_needed.ensures.moving told in
     let p = c.put_all.ensures in
     let items : c.deref.result.now ≡ t.moved.items = c.deref.ensures.value in
-    let known_all = subst (All (λ (q : FilePage × Newest). IsSome (known t.table q.0))) (sym items) (all_known now t from to moving) in
+    let known_all = subst (All (λ (q : FilePage × Newest). IsSome (known t.table q.0))) (sym items)
+    (all_known now t from to moving) in
     let room = moving.sound.knows.led.room in
     let puts = subst (PutsAll t.table c.put_all.new.self) items (p.put known_all room) in
-    fits_kept m now s (record t { table = c.put_all.new.self; fill = c.min.result; current = to; spare = from }) sound agreed keeps same_blocks
-    (λ key has. places_stay now t from to moving c.put_all.new.self puts (p.len known_all room) (p.room known_all room) p.limit p.lens (p.stays known_all room) key (subst (λ q. HasPlace q key) (sym same_table) has))
+    fits_kept m now s (record t { table = c.put_all.new.self; fill = c.min.result; current = to; spare = from }) sound
+    agreed keeps same_blocks
+    (λ key has. places_stay now t from to moving c.put_all.new.self puts (p.len known_all room) (p.room known_all room)
+    p.limit p.lens (p.stays known_all room) key (subst (λ q. HasPlace q key) (sym same_table) has))
 
 pub returns-clause-shown : goal.returns-clause-shown
 returns-clause-shown g c told =
@@ -173,7 +197,8 @@ returns-clause-shown g c told =
     let n = c.copy_needed.ensures in
     let blank = c.in_ok-erase_block.ensures.done told in
     let same_blocks : now.blocks ≡ m.blocks = (n.time told).blocks ∙ (e.time told).blocks in
-    let keeps = keeps_on m look s sound agreed (e.time told).blocks (erase_keeps_all m look s sound agreed c.requires.full blank) now.state.pages (n.keeps told) in
+    let keeps = keeps_on m look s sound agreed (e.time told).blocks
+    (erase_keeps_all m look s sound agreed c.requires.full blank) now.state.pages (n.keeps told) in
     shows_same m now s sound agreed keeps same_blocks
 
 pub returns-clause-does : goal.returns-clause-does
@@ -189,15 +214,19 @@ returns-clause-does g c told =
     let n = c.copy_needed.ensures in
     let blank = c.in_ok-erase_block.ensures.done told in
     let same_blocks : now.blocks ≡ m.blocks = (n.time told).blocks ∙ (e.time told).blocks in
-    let keeps = keeps_on m look s sound agreed (e.time told).blocks (erase_keeps_all m look s sound agreed c.requires.full blank) now.state.pages (n.keeps told) in
-    let same_table : t.table ≡ s.table = ap (λ (q : LayerState). q.table) n.state ∙ ap (λ (q : LayerState). q.table) e.state in
-    stands_then m look now (e.time told) (n.time told) (erase_stands m look s sound agreed c.requires.full c.erase_block.result (e.done told) (e.failed told) (e.during told)) (n.does told)
+    let keeps = keeps_on m look s sound agreed (e.time told).blocks
+    (erase_keeps_all m look s sound agreed c.requires.full blank) now.state.pages (n.keeps told) in
+    let same_table : t.table ≡ s.table = ap (λ (q : LayerState). q.table) n.state
+    ∙ ap (λ (q : LayerState). q.table) e.state in
+    stands_then m look now (e.time told) (n.time told) (erase_stands m look s sound agreed c.requires.full
+    c.erase_block.result (e.done told) (e.failed told) (e.during told)) (n.does told)
 
 pub returns-then-self-clause-own : goal.returns-then-self-clause-own
 returns-then-self-clause-own g c told calm =
     let s = c.args.self.now.state in
     let sound : IsSound (g.F.Flash.medium c.args.self.now.flash) s = c.requires.sound told in
-    let light = light_enough (g.F.Flash.medium c.args.self.now.flash).blocks s.table s.spare c.lightest_but-victim.result sound.counted
+    let light = light_enough (g.F.Flash.medium c.args.self.now.flash).blocks s.table s.spare
+    c.lightest_but-victim.result sound.counted
     c.lightest_but-victim.ensures.within c.lightest_but-victim.ensures.lightest in
     ⊎_elim
     (λ disputed. absurd (true≢false (sym disputed ∙ calm)))
@@ -219,10 +248,12 @@ returns-clause-light g c told =
     let m = g.F.Flash.medium c.args.self.now.flash in
     let sound : IsSound m s = c.requires.sound told in
     let from = c.lightest_but-victim.result in
-    let light = light_enough m.blocks s.table s.spare from sound.counted c.lightest_but-victim.ensures.within c.lightest_but-victim.ensures.lightest in
+    let light = light_enough m.blocks s.table s.spare from sound.counted c.lightest_but-victim.ensures.within
+    c.lightest_but-victim.ensures.lightest in
     let fewest = light.2 in
     let few = c.copy_needed.ensures.few in
-    let same : entries_in c.erase_block.new.self.state.table from ≡ entries_in s.table from = ap (λ (q : LayerState). entries_in q.table from) c.erase_block.ensures.state in
+    let same : entries_in c.erase_block.new.self.state.table from ≡ entries_in s.table from =
+    ap (λ (q : LayerState). entries_in q.table from) c.erase_block.ensures.state in
     let count = c.len.ensures in let least = c.min.ensures in
     omega (arith, fewest, few, same, count, least)
 
@@ -231,22 +262,29 @@ returns-clause-entries g c told =
     let s = c.args.self.now.state in
     let now = g.F.Flash.medium c.copy_needed.new.self.flash in
     let t = c.copy_needed.new.self.state in
-    let same_table : t.table ≡ s.table = ap (λ (q : LayerState). q.table) c.copy_needed.ensures.state ∙ ap (λ (q : LayerState). q.table) c.erase_block.ensures.state in
+    let same_table : t.table ≡ s.table = ap (λ (q : LayerState). q.table) c.copy_needed.ensures.state
+    ∙ ap (λ (q : LayerState). q.table) c.erase_block.ensures.state in
     let from = c.lightest_but-victim.result in
     let to = s.spare in
     let moving : IsMoving now.state.pages now.blocks t from to 64 = c.in_ok-copy_needed.ensures.moving told in
     let p = c.put_all.ensures in
     let items : c.deref.result.now ≡ t.moved.items = c.deref.ensures.value in
-    let known_all = subst (All (λ (q : FilePage × Newest). IsSome (known t.table q.0))) (sym items) (all_known now t from to moving) in
+    let known_all = subst (All (λ (q : FilePage × Newest). IsSome (known t.table q.0))) (sym items)
+    (all_known now t from to moving) in
     let room = moving.sound.knows.led.room in
     let puts = subst (PutsAll t.table c.put_all.new.self) items (p.put known_all room) in
     subst (λ was. SameEntries was c.put_all.new.self) same_table
-    (entries_stay now t from to moving c.put_all.new.self puts (p.len known_all room) (p.room known_all room) p.limit p.lens (p.stays known_all room))
+    (entries_stay now t from to moving c.put_all.new.self puts (p.len known_all room) (p.room known_all room) p.limit
+    p.lens (p.stays known_all room))
 
 pub returns-in_err-copy_needed-clause-time : goal.returns-in_err-copy_needed-clause-time
 returns-in_err-copy_needed-clause-time g c told =
-    elapses_then (g.F.Flash.medium c.args.self.now.flash) (g.F.Flash.medium c.erase_block.new.self.flash) (g.F.Flash.medium c.copy_needed.new.self.flash) (c.erase_block.ensures.time told) (c.copy_needed.ensures.time told)
+    elapses_then (g.F.Flash.medium c.args.self.now.flash) (g.F.Flash.medium c.erase_block.new.self.flash)
+    (g.F.Flash.medium c.copy_needed.new.self.flash) (c.erase_block.ensures.time told)
+    (c.copy_needed.ensures.time told)
 
 pub returns-clause-time : goal.returns-clause-time
 returns-clause-time g c told =
-    elapses_then (g.F.Flash.medium c.args.self.now.flash) (g.F.Flash.medium c.erase_block.new.self.flash) (g.F.Flash.medium c.copy_needed.new.self.flash) (c.erase_block.ensures.time told) (c.copy_needed.ensures.time told)
+    elapses_then (g.F.Flash.medium c.args.self.now.flash) (g.F.Flash.medium c.erase_block.new.self.flash)
+    (g.F.Flash.medium c.copy_needed.new.self.flash) (c.erase_block.ensures.time told)
+    (c.copy_needed.ensures.time told)

@@ -19,7 +19,8 @@ loop-page-init g c =
       state = refl;
       moving = c.requires.moving;
       keeps = λ told. keeps_refl m.state.pages (places m.blocks);
-      does = λ told. does_nothing m m (StandsFor m) refl (λ x past. lawful.only_now x past) (stands_now m c.args.self.now.state (c.requires.moving told).sound);
+      does = λ told. does_nothing m m (StandsFor m) refl (λ x past. lawful.only_now x past)
+          (stands_now m c.args.self.now.state (c.requires.moving told).sound);
       time = λ told. elapses_refl g.F.Flash.told m lawful told;
     }
 
@@ -30,7 +31,8 @@ returns-in_err-copy_one-clause-keeps g c told =
     let now = g.F.Flash.medium c.copy_one.new.self.flash in
     let i = c.loop-page.invariant in
     let start = c.requires.moving told in
-    keeps_on m mid c.args.self.now.state start.sound start.agreed (i.time told).blocks (i.keeps told) now.state.pages (c.copy_one.ensures.keeps told)
+    keeps_on m mid c.args.self.now.state start.sound start.agreed (i.time told).blocks (i.keeps told) now.state.pages
+    (c.copy_one.ensures.keeps told)
 
 pub returns-in_err-copy_one-clause-does : goal.returns-in_err-copy_one-clause-does
 returns-in_err-copy_one-clause-does g c told =
@@ -48,24 +50,29 @@ loop-page-preserved g c =
     let i = c.loop-page.invariant in
     let e = c.copy_one.ensures in record {
       counts = counted_on g.F.Flash.medium 0 0 0 (omega arith) i.counts c.in_ok-copy_one.ensures.accounts;
-      few = fewer_copied c.args.self.now.state c.loop-page.self.state c.copy_one.new.self.state c.args.from c.loop-page.page (ap (λ (q : LayerState). q.table) i.state) i.few e.few;
+      few = fewer_copied c.args.self.now.state c.loop-page.self.state c.copy_one.new.self.state c.args.from
+          c.loop-page.page (ap (λ (q : LayerState). q.table) i.state) i.few e.few;
       count = (let was = i.count in let one = e.count in omega (arith, was, one));
-      state = e.state ∙ ap (λ (q : LayerState). let z : LayerState = record q { moved = c.copy_one.new.self.state.moved } in z) i.state;
+      state = e.state ∙ ap (λ (q : LayerState). let z : LayerState =
+          record q { moved = c.copy_one.new.self.state.moved } in z) i.state;
       moving = λ told. c.in_ok-copy_one.ensures.moving told;
       keeps = λ told. let start = c.requires.moving told in
-          keeps_on m mid c.args.self.now.state start.sound start.agreed (i.time told).blocks (i.keeps told) now.state.pages (e.keeps told);
+          keeps_on m mid c.args.self.now.state start.sound start.agreed (i.time told).blocks (i.keeps told)
+          now.state.pages (e.keeps told);
       does = λ told. stands_then m mid now (i.time told) (e.time told) (i.does told) (e.does told);
       time = λ told. elapses_then m mid now (i.time told) (e.time told);
     }
 
 pub returns-clause-few : goal.returns-clause-few
 returns-clause-few g c =
-    let few = c.loop-page.invariant.few in let all = copied_in c.args.self.now.state.table c.args.from c.loop-page.page in omega (arith, few, all)
+    let few = c.loop-page.invariant.few in let all = copied_in c.args.self.now.state.table c.args.from c.loop-page.page
+    in omega (arith, few, all)
 
 pub returns-in_err-copy_one-clause-few : goal.returns-in_err-copy_one-clause-few
 returns-in_err-copy_one-clause-few g c =
     let i = c.loop-page.invariant in
-    let few = fewer_copied c.args.self.now.state c.loop-page.self.state c.copy_one.new.self.state c.args.from c.loop-page.page (ap (λ (q : LayerState). q.table) i.state) i.few c.copy_one.ensures.few in
+    let few = fewer_copied c.args.self.now.state c.loop-page.self.state c.copy_one.new.self.state c.args.from
+    c.loop-page.page (ap (λ (q : LayerState). q.table) i.state) i.few c.copy_one.ensures.few in
     let all = copied_in c.args.self.now.state.table c.args.from (c.loop-page.page + 1) in omega (arith, few, all)
 
 pub returns-in_err-copy_one-clause-own : goal.returns-in_err-copy_one-clause-own
@@ -78,4 +85,5 @@ returns-clause-own g c told = c.loop-page.invariant.counts.kept
 
 pub returns-in_err-copy_one-clause-time : goal.returns-in_err-copy_one-clause-time
 returns-in_err-copy_one-clause-time g c told =
-    elapses_then (g.F.Flash.medium c.args.self.now.flash) (g.F.Flash.medium c.loop-page.self.flash) (g.F.Flash.medium c.copy_one.new.self.flash) (c.loop-page.invariant.time told) (c.copy_one.ensures.time told)
+    elapses_then (g.F.Flash.medium c.args.self.now.flash) (g.F.Flash.medium c.loop-page.self.flash)
+    (g.F.Flash.medium c.copy_one.new.self.flash) (c.loop-page.invariant.time told) (c.copy_one.ensures.time told)

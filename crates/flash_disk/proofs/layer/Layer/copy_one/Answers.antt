@@ -12,7 +12,9 @@ use Rattle.flash_disk.specs.Standing.{Keeps, StandsFor}
 use Rattle.flash_disk.specs.Sound.{IsSound}
 use Rattle.flash_disk.proofs.Entering.{as_said}
 use Rattle.flash_disk.specs.Moving.{IsMoving}
-use Rattle.flash_disk.proofs.Moving.{differ, same_places, found_same, on_err, stands_then, looked_up, passed_over, copy_failed_keeps, copy_failed_sound, copy_keeps_all, copy_sound, copy_does, copied, looked, look_keeps, keeps_since, look_stands}
+use Rattle.flash_disk.proofs.Moving.{differ, same_places, found_same, on_err, stands_then, looked_up, passed_over}
+use Rattle.flash_disk.proofs.Moving.{copy_failed_keeps, copy_failed_sound, copy_keeps_all, copy_sound, copy_does}
+use Rattle.flash_disk.proofs.Moving.{copied, looked, look_keeps, keeps_since, look_stands}
 use Rattle.flash_disk.proofs.Stretches.{elapses_then}
 use Rattle.flash_model.specs.FlashMedium.{FlashElapses}
 use Rattle.flash_disk.proofs.Accounting.{accounts_on}
@@ -67,10 +69,13 @@ returns-in_default-clause-moving g c told =
     let e = c.read_page.ensures in
     let s = c.read_page.new.self.state in
     let moving : IsMoving look.state.pages look.blocks s c.args.from.block c.args.to c.args.from.page =
-    looked m look (e.looks.state told) e.blocks c.args.self.now.state s e.state c.args.from.block c.args.to c.args.from.page (c.requires.moving told) in
-    let read = c.in_ok-read_page.ensures.bytes told (c.requires.moving told).within c.requires.page ∙ ap (λ z. z.pages c.args.from.block c.args.from.page) (sym (e.looks.state told)) in
+    looked m look (e.looks.state told) e.blocks c.args.self.now.state s e.state c.args.from.block c.args.to
+    c.args.from.page (c.requires.moving told) in
+    let read = c.in_ok-read_page.ensures.bytes told (c.requires.moving told).within c.requires.page
+    ∙ ap (λ z. z.pages c.args.from.block c.args.from.page) (sym (e.looks.state told)) in
     passed_over look s c.args.from.block c.args.to c.args.from.page moving c.requires.page c.read_page.new.out read
-    (λ key entry is block page. c.in_default.not-Some (key, entry) (looked_up look s c.args.from.block c.args.to c.args.from.page moving c.requires.page c.read_page.new.out read
+    (λ key entry is block page. c.in_default.not-Some (key, entry)
+    (looked_up look s c.args.from.block c.args.to c.args.from.page moving c.requires.page c.read_page.new.out read
     c.newest_in.result c.newest_in.ensures.found key entry is block page))
 
 pub returns-then-ne-clause-moving : goal.returns-then-ne-clause-moving
@@ -80,13 +85,18 @@ returns-then-ne-clause-moving g c told =
     let e = c.read_page.ensures in
     let s = c.read_page.new.self.state in
     let moving : IsMoving look.state.pages look.blocks s c.args.from.block c.args.to c.args.from.page =
-    looked m look (e.looks.state told) e.blocks c.args.self.now.state s e.state c.args.from.block c.args.to c.args.from.page (c.requires.moving told) in
-    let read = c.in_ok-read_page.ensures.bytes told (c.requires.moving told).within c.requires.page ∙ ap (λ z. z.pages c.args.from.block c.args.from.page) (sym (e.looks.state told)) in
+    looked m look (e.looks.state told) e.blocks c.args.self.now.state s e.state c.args.from.block c.args.to
+    c.args.from.page (c.requires.moving told) in
+    let read = c.in_ok-read_page.ensures.bytes told (c.requires.moving told).within c.requires.page
+    ∙ ap (λ z. z.pages c.args.from.block c.args.from.page) (sym (e.looks.state told)) in
     passed_over look s c.args.from.block c.args.to c.args.from.page moving c.requires.page c.read_page.new.out read
-    (λ key entry is block page. let found = looked_up look s c.args.from.block c.args.to c.args.from.page moving c.requires.page c.read_page.new.out read
+    (λ key entry is block page. let found = looked_up look s c.args.from.block c.args.to c.args.from.page moving
+    c.requires.page c.read_page.new.out read
     c.newest_in.result c.newest_in.ensures.found key entry is block page in
-    let same : c.in-Some.old ≡ entry = (found_same c.newest_in.result c.in-Some.key key c.in-Some.old entry c.in-Some.is found).1 in
-    differ c.in-Some.old.place.block c.args.from.block c.in-Some.old.place.page c.args.from.page c.ne.result c.ne.ensures c.if-ne.true
+    let same : c.in-Some.old ≡ entry = (found_same c.newest_in.result c.in-Some.key key c.in-Some.old entry c.in-Some.is
+    found).1 in
+    differ c.in-Some.old.place.block c.args.from.block c.in-Some.old.place.page c.args.from.page c.ne.result
+    c.ne.ensures c.if-ne.true
     (ap (λ (q : Newest). q.place.block) same ∙ block) (ap (λ (q : Newest). q.place.page) same ∙ page))
 
 pub returns-in_err-program_page-clause-keeps : goal.returns-in_err-program_page-clause-keeps
@@ -96,16 +106,22 @@ returns-in_err-program_page-clause-keeps g c told =
     let e = c.read_page.ensures in
     let s = c.read_page.new.self.state in
     let moving : IsMoving look.state.pages look.blocks s c.args.from.block c.args.to c.args.from.page =
-    looked m look (e.looks.state told) e.blocks c.args.self.now.state s e.state c.args.from.block c.args.to c.args.from.page (c.requires.moving told) in
-    let read = c.in_ok-read_page.ensures.bytes told (c.requires.moving told).within c.requires.page ∙ ap (λ z. z.pages c.args.from.block c.args.from.page) (sym (e.looks.state told)) in
+    looked m look (e.looks.state told) e.blocks c.args.self.now.state s e.state c.args.from.block c.args.to
+    c.args.from.page (c.requires.moving told) in
+    let read = c.in_ok-read_page.ensures.bytes told (c.requires.moving told).within c.requires.page
+    ∙ ap (λ z. z.pages c.args.from.block c.args.from.page) (sym (e.looks.state told)) in
     let key = c.in-Some.key in
     let old = c.in-Some.old in
     let is : known s.table key ≡ Some old = c.in-Some.ensures.known in
-    let at = same_places old.place.block c.args.from.block old.place.page c.args.from.page c.ne.result c.ne.ensures c.if-ne.false in
+    let at = same_places old.place.block c.args.from.block old.place.page c.args.from.page c.ne.result c.ne.ensures
+    c.if-ne.false in
     let now = g.F.Flash.medium c.program_page.new.self.flash in
     let long : c.len.result ≡ length s.moved.items = c.len.ensures ∙ s.moved.ok.0 in
     let p = c.program_page.ensures in
-    keeps_since m look (e.looks.state told) e.blocks now.state.pages (copy_failed_keeps look s c.args.from.block c.args.to c.args.from.page moving c.requires.page c.read_page.new.out read key old is at.0 at.1 c.len.result long now (c.in_err-program_page.ensures.failed told))
+    keeps_since m look (e.looks.state told) e.blocks now.state.pages
+    (copy_failed_keeps look s c.args.from.block c.args.to c.args.from.page moving c.requires.page
+    c.read_page.new.out read key old is at.0 at.1 c.len.result long now
+    (c.in_err-program_page.ensures.failed told))
 
 pub returns-in_err-program_page-clause-failed : goal.returns-in_err-program_page-clause-failed
 returns-in_err-program_page-clause-failed g c told =
@@ -114,16 +130,22 @@ returns-in_err-program_page-clause-failed g c told =
     let e = c.read_page.ensures in
     let s = c.read_page.new.self.state in
     let moving : IsMoving look.state.pages look.blocks s c.args.from.block c.args.to c.args.from.page =
-    looked m look (e.looks.state told) e.blocks c.args.self.now.state s e.state c.args.from.block c.args.to c.args.from.page (c.requires.moving told) in
-    let read = c.in_ok-read_page.ensures.bytes told (c.requires.moving told).within c.requires.page ∙ ap (λ z. z.pages c.args.from.block c.args.from.page) (sym (e.looks.state told)) in
+    looked m look (e.looks.state told) e.blocks c.args.self.now.state s e.state c.args.from.block c.args.to
+    c.args.from.page (c.requires.moving told) in
+    let read = c.in_ok-read_page.ensures.bytes told (c.requires.moving told).within c.requires.page
+    ∙ ap (λ z. z.pages c.args.from.block c.args.from.page) (sym (e.looks.state told)) in
     let key = c.in-Some.key in
     let old = c.in-Some.old in
     let is : known s.table key ≡ Some old = c.in-Some.ensures.known in
-    let at = same_places old.place.block c.args.from.block old.place.page c.args.from.page c.ne.result c.ne.ensures c.if-ne.false in
+    let at = same_places old.place.block c.args.from.block old.place.page c.args.from.page c.ne.result c.ne.ensures
+    c.if-ne.false in
     let now = g.F.Flash.medium c.program_page.new.self.flash in
     let long : c.len.result ≡ length s.moved.items = c.len.ensures ∙ s.moved.ok.0 in
     let p = c.program_page.ensures in
-    on_err c.from_residual-in_err-program_page.result (subst (IsSound now) (sym p.state) (copy_failed_sound look s c.args.from.block c.args.to c.args.from.page moving c.requires.page c.read_page.new.out read key old is at.0 at.1 c.len.result long now (c.in_err-program_page.ensures.failed told) (p.time told).blocks))
+    on_err c.from_residual-in_err-program_page.result (subst (IsSound now) (sym p.state)
+    (copy_failed_sound look s c.args.from.block c.args.to c.args.from.page moving c.requires.page
+    c.read_page.new.out read key old is at.0 at.1 c.len.result long now
+    (c.in_err-program_page.ensures.failed told) (p.time told).blocks))
 
 pub returns-in_err-program_page-clause-does : goal.returns-in_err-program_page-clause-does
 returns-in_err-program_page-clause-does g c told =
@@ -132,18 +154,22 @@ returns-in_err-program_page-clause-does g c told =
     let e = c.read_page.ensures in
     let s = c.read_page.new.self.state in
     let moving : IsMoving look.state.pages look.blocks s c.args.from.block c.args.to c.args.from.page =
-    looked m look (e.looks.state told) e.blocks c.args.self.now.state s e.state c.args.from.block c.args.to c.args.from.page (c.requires.moving told) in
-    let read = c.in_ok-read_page.ensures.bytes told (c.requires.moving told).within c.requires.page ∙ ap (λ z. z.pages c.args.from.block c.args.from.page) (sym (e.looks.state told)) in
+    looked m look (e.looks.state told) e.blocks c.args.self.now.state s e.state c.args.from.block c.args.to
+    c.args.from.page (c.requires.moving told) in
+    let read = c.in_ok-read_page.ensures.bytes told (c.requires.moving told).within c.requires.page
+    ∙ ap (λ z. z.pages c.args.from.block c.args.from.page) (sym (e.looks.state told)) in
     let key = c.in-Some.key in
     let old = c.in-Some.old in
     let is : known s.table key ≡ Some old = c.in-Some.ensures.known in
-    let at = same_places old.place.block c.args.from.block old.place.page c.args.from.page c.ne.result c.ne.ensures c.if-ne.false in
+    let at = same_places old.place.block c.args.from.block old.place.page c.args.from.page c.ne.result c.ne.ensures
+    c.if-ne.false in
     let now = g.F.Flash.medium c.program_page.new.self.flash in
     let long : c.len.result ≡ length s.moved.items = c.len.ensures ∙ s.moved.ok.0 in
     let p = c.program_page.ensures in
     stands_then m look now (e.looks.time told) (p.time told)
     (look_stands m look (e.looks.state told) e.blocks e.during c.args.self.now.state (c.requires.moving told).sound)
-    (copy_does look s c.args.from.block c.args.to c.args.from.page moving c.requires.page c.read_page.new.out read key old is at.0 at.1 c.len.result long now c.program_page.result (p.done told) (p.failed told) (p.during told))
+    (copy_does look s c.args.from.block c.args.to c.args.from.page moving c.requires.page c.read_page.new.out read key
+    old is at.0 at.1 c.len.result long now c.program_page.result (p.done told) (p.failed told) (p.during told))
 
 pub returns-then-is_err-clause-does : goal.returns-then-is_err-clause-does
 returns-then-is_err-clause-does g c told =
@@ -152,19 +178,23 @@ returns-then-is_err-clause-does g c told =
     let e = c.read_page.ensures in
     let s = c.read_page.new.self.state in
     let moving : IsMoving look.state.pages look.blocks s c.args.from.block c.args.to c.args.from.page =
-    looked m look (e.looks.state told) e.blocks c.args.self.now.state s e.state c.args.from.block c.args.to c.args.from.page (c.requires.moving told) in
-    let read = c.in_ok-read_page.ensures.bytes told (c.requires.moving told).within c.requires.page ∙ ap (λ z. z.pages c.args.from.block c.args.from.page) (sym (e.looks.state told)) in
+    looked m look (e.looks.state told) e.blocks c.args.self.now.state s e.state c.args.from.block c.args.to
+    c.args.from.page (c.requires.moving told) in
+    let read = c.in_ok-read_page.ensures.bytes told (c.requires.moving told).within c.requires.page
+    ∙ ap (λ z. z.pages c.args.from.block c.args.from.page) (sym (e.looks.state told)) in
     let key = c.in-Some.key in
     let old = c.in-Some.old in
     let is : known s.table key ≡ Some old = c.in-Some.ensures.known in
-    let at = same_places old.place.block c.args.from.block old.place.page c.args.from.page c.ne.result c.ne.ensures c.if-ne.false in
+    let at = same_places old.place.block c.args.from.block old.place.page c.args.from.page c.ne.result c.ne.ensures
+    c.if-ne.false in
     let now = g.F.Flash.medium c.program_page.new.self.flash in
     let long : c.len.result ≡ length s.moved.items = c.len.ensures ∙ s.moved.ok.0 in
     let p = c.program_page.ensures in
     subst (λ f. Does (StandsFor m) m (g.F.Flash.medium f)) (sym c.fault.ensures.flash) (
     stands_then m look now (e.looks.time told) (p.time told)
     (look_stands m look (e.looks.state told) e.blocks e.during c.args.self.now.state (c.requires.moving told).sound)
-    (copy_does look s c.args.from.block c.args.to c.args.from.page moving c.requires.page c.read_page.new.out read key old is at.0 at.1 c.len.result long now c.program_page.result (p.done told) (p.failed told) (p.during told)))
+    (copy_does look s c.args.from.block c.args.to c.args.from.page moving c.requires.page c.read_page.new.out read key
+    old is at.0 at.1 c.len.result long now c.program_page.result (p.done told) (p.failed told) (p.during told)))
 
 pub returns-clause-does : goal.returns-clause-does
 returns-clause-does g c told =
@@ -173,18 +203,22 @@ returns-clause-does g c told =
     let e = c.read_page.ensures in
     let s = c.read_page.new.self.state in
     let moving : IsMoving look.state.pages look.blocks s c.args.from.block c.args.to c.args.from.page =
-    looked m look (e.looks.state told) e.blocks c.args.self.now.state s e.state c.args.from.block c.args.to c.args.from.page (c.requires.moving told) in
-    let read = c.in_ok-read_page.ensures.bytes told (c.requires.moving told).within c.requires.page ∙ ap (λ z. z.pages c.args.from.block c.args.from.page) (sym (e.looks.state told)) in
+    looked m look (e.looks.state told) e.blocks c.args.self.now.state s e.state c.args.from.block c.args.to
+    c.args.from.page (c.requires.moving told) in
+    let read = c.in_ok-read_page.ensures.bytes told (c.requires.moving told).within c.requires.page
+    ∙ ap (λ z. z.pages c.args.from.block c.args.from.page) (sym (e.looks.state told)) in
     let key = c.in-Some.key in
     let old = c.in-Some.old in
     let is : known s.table key ≡ Some old = c.in-Some.ensures.known in
-    let at = same_places old.place.block c.args.from.block old.place.page c.args.from.page c.ne.result c.ne.ensures c.if-ne.false in
+    let at = same_places old.place.block c.args.from.block old.place.page c.args.from.page c.ne.result c.ne.ensures
+    c.if-ne.false in
     let now = g.F.Flash.medium c.program_page.new.self.flash in
     let long : c.len.result ≡ length s.moved.items = c.len.ensures ∙ s.moved.ok.0 in
     let p = c.program_page.ensures in
     stands_then m look now (e.looks.time told) (p.time told)
     (look_stands m look (e.looks.state told) e.blocks e.during c.args.self.now.state (c.requires.moving told).sound)
-    (copy_does look s c.args.from.block c.args.to c.args.from.page moving c.requires.page c.read_page.new.out read key old is at.0 at.1 c.len.result long now c.program_page.result (p.done told) (p.failed told) (p.during told))
+    (copy_does look s c.args.from.block c.args.to c.args.from.page moving c.requires.page c.read_page.new.out read key
+    old is at.0 at.1 c.len.result long now c.program_page.result (p.done told) (p.failed told) (p.during told))
 
 pub returns-clause-keeps : goal.returns-clause-keeps
 returns-clause-keeps g c told =
@@ -193,16 +227,21 @@ returns-clause-keeps g c told =
     let e = c.read_page.ensures in
     let s = c.read_page.new.self.state in
     let moving : IsMoving look.state.pages look.blocks s c.args.from.block c.args.to c.args.from.page =
-    looked m look (e.looks.state told) e.blocks c.args.self.now.state s e.state c.args.from.block c.args.to c.args.from.page (c.requires.moving told) in
-    let read = c.in_ok-read_page.ensures.bytes told (c.requires.moving told).within c.requires.page ∙ ap (λ z. z.pages c.args.from.block c.args.from.page) (sym (e.looks.state told)) in
+    looked m look (e.looks.state told) e.blocks c.args.self.now.state s e.state c.args.from.block c.args.to
+    c.args.from.page (c.requires.moving told) in
+    let read = c.in_ok-read_page.ensures.bytes told (c.requires.moving told).within c.requires.page
+    ∙ ap (λ z. z.pages c.args.from.block c.args.from.page) (sym (e.looks.state told)) in
     let key = c.in-Some.key in
     let old = c.in-Some.old in
     let is : known s.table key ≡ Some old = c.in-Some.ensures.known in
-    let at = same_places old.place.block c.args.from.block old.place.page c.args.from.page c.ne.result c.ne.ensures c.if-ne.false in
+    let at = same_places old.place.block c.args.from.block old.place.page c.args.from.page c.ne.result c.ne.ensures
+    c.if-ne.false in
     let now = g.F.Flash.medium c.program_page.new.self.flash in
     let long : c.len.result ≡ length s.moved.items = c.len.ensures ∙ s.moved.ok.0 in
     let p = c.program_page.ensures in
-    keeps_since m look (e.looks.state told) e.blocks now.state.pages (copy_keeps_all look s c.args.from.block c.args.to c.args.from.page moving c.requires.page c.read_page.new.out read key old is at.0 at.1 c.len.result long now (c.in_ok-program_page.ensures.done told))
+    keeps_since m look (e.looks.state told) e.blocks now.state.pages
+    (copy_keeps_all look s c.args.from.block c.args.to c.args.from.page moving c.requires.page c.read_page.new.out
+    read key old is at.0 at.1 c.len.result long now (c.in_ok-program_page.ensures.done told))
 
 pub returns-then-is_err-clause-keeps : goal.returns-then-is_err-clause-keeps
 returns-then-is_err-clause-keeps g c told =
@@ -211,17 +250,22 @@ returns-then-is_err-clause-keeps g c told =
     let e = c.read_page.ensures in
     let s = c.read_page.new.self.state in
     let moving : IsMoving look.state.pages look.blocks s c.args.from.block c.args.to c.args.from.page =
-    looked m look (e.looks.state told) e.blocks c.args.self.now.state s e.state c.args.from.block c.args.to c.args.from.page (c.requires.moving told) in
-    let read = c.in_ok-read_page.ensures.bytes told (c.requires.moving told).within c.requires.page ∙ ap (λ z. z.pages c.args.from.block c.args.from.page) (sym (e.looks.state told)) in
+    looked m look (e.looks.state told) e.blocks c.args.self.now.state s e.state c.args.from.block c.args.to
+    c.args.from.page (c.requires.moving told) in
+    let read = c.in_ok-read_page.ensures.bytes told (c.requires.moving told).within c.requires.page
+    ∙ ap (λ z. z.pages c.args.from.block c.args.from.page) (sym (e.looks.state told)) in
     let key = c.in-Some.key in
     let old = c.in-Some.old in
     let is : known s.table key ≡ Some old = c.in-Some.ensures.known in
-    let at = same_places old.place.block c.args.from.block old.place.page c.args.from.page c.ne.result c.ne.ensures c.if-ne.false in
+    let at = same_places old.place.block c.args.from.block old.place.page c.args.from.page c.ne.result c.ne.ensures
+    c.if-ne.false in
     let now = g.F.Flash.medium c.program_page.new.self.flash in
     let long : c.len.result ≡ length s.moved.items = c.len.ensures ∙ s.moved.ok.0 in
     let p = c.program_page.ensures in
     subst (λ f. Keeps m.state.pages (g.F.Flash.medium f).state.pages (places m.blocks)) (sym c.fault.ensures.flash)
-    (keeps_since m look (e.looks.state told) e.blocks now.state.pages (copy_keeps_all look s c.args.from.block c.args.to c.args.from.page moving c.requires.page c.read_page.new.out read key old is at.0 at.1 c.len.result long now (c.in_ok-program_page.ensures.done told)))
+    (keeps_since m look (e.looks.state told) e.blocks now.state.pages
+    (copy_keeps_all look s c.args.from.block c.args.to c.args.from.page moving c.requires.page c.read_page.new.out
+    read key old is at.0 at.1 c.len.result long now (c.in_ok-program_page.ensures.done told)))
 
 pub returns-then-is_err-clause-failed : goal.returns-then-is_err-clause-failed
 returns-then-is_err-clause-failed g c told =
@@ -230,22 +274,29 @@ returns-then-is_err-clause-failed g c told =
     let e = c.read_page.ensures in
     let s = c.read_page.new.self.state in
     let moving : IsMoving look.state.pages look.blocks s c.args.from.block c.args.to c.args.from.page =
-    looked m look (e.looks.state told) e.blocks c.args.self.now.state s e.state c.args.from.block c.args.to c.args.from.page (c.requires.moving told) in
-    let read = c.in_ok-read_page.ensures.bytes told (c.requires.moving told).within c.requires.page ∙ ap (λ z. z.pages c.args.from.block c.args.from.page) (sym (e.looks.state told)) in
+    looked m look (e.looks.state told) e.blocks c.args.self.now.state s e.state c.args.from.block c.args.to
+    c.args.from.page (c.requires.moving told) in
+    let read = c.in_ok-read_page.ensures.bytes told (c.requires.moving told).within c.requires.page
+    ∙ ap (λ z. z.pages c.args.from.block c.args.from.page) (sym (e.looks.state told)) in
     let key = c.in-Some.key in
     let old = c.in-Some.old in
     let is : known s.table key ≡ Some old = c.in-Some.ensures.known in
-    let at = same_places old.place.block c.args.from.block old.place.page c.args.from.page c.ne.result c.ne.ensures c.if-ne.false in
+    let at = same_places old.place.block c.args.from.block old.place.page c.args.from.page c.ne.result c.ne.ensures
+    c.if-ne.false in
     let now = g.F.Flash.medium c.program_page.new.self.flash in
     let long : c.len.result ≡ length s.moved.items = c.len.ensures ∙ s.moved.ok.0 in
     let p = c.program_page.ensures in
-    let sound = copy_sound look s c.args.from.block c.args.to c.args.from.page moving c.requires.page c.read_page.new.out read key old is at.0 at.1 c.len.result long now (c.in_ok-program_page.ensures.done told) (p.time told).blocks in
+    let sound = copy_sound look s c.args.from.block c.args.to c.args.from.page moving c.requires.page
+    c.read_page.new.out read key old is at.0 at.1 c.len.result long now (c.in_ok-program_page.ensures.done told)
+    (p.time told).blocks in
     let state : c.fault.new.self.state ≡ record s { moved = c.push.new.self } =
-    c.fault.ensures.state ∙ ap (λ (q : LayerState). let z : LayerState = record q { moved = c.push.new.self } in z) p.state in
+    c.fault.ensures.state ∙ ap (λ (q : LayerState). let z : LayerState = record q { moved = c.push.new.self } in z)
+    p.state in
     subst (IsSound (g.F.Flash.medium c.fault.new.self.flash)) (sym state)
     (subst (λ f. IsSound (g.F.Flash.medium f) (record s { moved = c.push.new.self })) (sym c.fault.ensures.flash)
     (as_said now.state.pages now.blocks s (record s { moved = c.push.new.self }) sound
-    (let same = ap (λ (q : LayerState). vec_capacity q.moved) p.state in let more = c.push.ensures.capacity in omega (arith, same, more))))
+    (let same = ap (λ (q : LayerState). vec_capacity q.moved) p.state in let more =
+    c.push.ensures.capacity in omega (arith, same, more))))
 
 pub returns-clause-moving : goal.returns-clause-moving
 returns-clause-moving g c told =
@@ -254,50 +305,63 @@ returns-clause-moving g c told =
     let e = c.read_page.ensures in
     let s = c.read_page.new.self.state in
     let moving : IsMoving look.state.pages look.blocks s c.args.from.block c.args.to c.args.from.page =
-    looked m look (e.looks.state told) e.blocks c.args.self.now.state s e.state c.args.from.block c.args.to c.args.from.page (c.requires.moving told) in
-    let read = c.in_ok-read_page.ensures.bytes told (c.requires.moving told).within c.requires.page ∙ ap (λ z. z.pages c.args.from.block c.args.from.page) (sym (e.looks.state told)) in
+    looked m look (e.looks.state told) e.blocks c.args.self.now.state s e.state c.args.from.block c.args.to
+    c.args.from.page (c.requires.moving told) in
+    let read = c.in_ok-read_page.ensures.bytes told (c.requires.moving told).within c.requires.page
+    ∙ ap (λ z. z.pages c.args.from.block c.args.from.page) (sym (e.looks.state told)) in
     let key = c.in-Some.key in
     let old = c.in-Some.old in
     let is : known s.table key ≡ Some old = c.in-Some.ensures.known in
-    let at = same_places old.place.block c.args.from.block old.place.page c.args.from.page c.ne.result c.ne.ensures c.if-ne.false in
+    let at = same_places old.place.block c.args.from.block old.place.page c.args.from.page c.ne.result c.ne.ensures
+    c.if-ne.false in
     let now = g.F.Flash.medium c.program_page.new.self.flash in
     let long : c.len.result ≡ length s.moved.items = c.len.ensures ∙ s.moved.ok.0 in
     let p = c.program_page.ensures in
     let t : LayerState = record c.program_page.new.self.state { moved = c.push.new.self } in
-    let state : t ≡ record s { moved = t.moved } = ap (λ (q : LayerState). let z : LayerState = record q { moved = c.push.new.self } in z) p.state in
-    copied look s c.args.from.block c.args.to c.args.from.page moving c.requires.page c.read_page.new.out read key old is at.0 at.1 c.len.result long now (c.in_ok-program_page.ensures.done told) (p.time told).blocks
-    (λ k entry found block page. let up = looked_up look s c.args.from.block c.args.to c.args.from.page moving c.requires.page c.read_page.new.out read
-    c.newest_in.result c.newest_in.ensures.found k entry found block page in (found_same c.newest_in.result key k old entry c.in-Some.is up).0)
+    let state : t ≡ record s { moved = t.moved } = ap (λ (q : LayerState). let z : LayerState =
+    record q { moved = c.push.new.self } in z) p.state in
+    copied look s c.args.from.block c.args.to c.args.from.page moving c.requires.page c.read_page.new.out read key old
+    is at.0 at.1 c.len.result long now (c.in_ok-program_page.ensures.done told) (p.time told).blocks
+    (λ k entry found block page. let up = looked_up look s c.args.from.block c.args.to c.args.from.page moving
+    c.requires.page c.read_page.new.out read
+    c.newest_in.result c.newest_in.ensures.found k entry found block page in
+    (found_same c.newest_in.result key k old entry c.in-Some.is up).0)
     t state
-    (let same = ap (λ (q : LayerState). vec_capacity q.moved) p.state in let more = c.push.ensures.capacity in omega (arith, same, more))
+    (let same = ap (λ (q : LayerState). vec_capacity q.moved) p.state in let more =
+    c.push.ensures.capacity in omega (arith, same, more))
     (
     let u = c.program_page.new.self.state in
     let place : Place = record { block = c.args.to; page = c.len.result } in
     let new : Newest = record old { place = place } in
     let v : FilePage × Newest = (key, new) in
     let ok : is_ok c.push.result ≡ true = c.is_err.ensures.negation ∙ ap not c.if-is_err.false in
-    c.push.ensures.items ∙ (ap (λ b. cond b (u.moved.items ++ v ∷ []) u.moved.items) ok ∙ ap (λ (q : LayerState). q.moved.items ++ v ∷ []) p.state))
+    c.push.ensures.items ∙ (ap (λ b. cond b (u.moved.items ++ v ∷ []) u.moved.items) ok
+    ∙ ap (λ (q : LayerState). q.moved.items ++ v ∷ []) p.state))
 
 pub returns-in_err-read_page-clause-few : goal.returns-in_err-read_page-clause-few
-returns-in_err-read_page-clause-few g c few = few_same c.args.self.now.state c.read_page.new.self.state c.args.from.block c.args.from.page c.read_page.ensures.state few
+returns-in_err-read_page-clause-few g c few = few_same c.args.self.now.state c.read_page.new.self.state
+    c.args.from.block c.args.from.page c.read_page.ensures.state few
 
 pub returns-in_err-read_page-clause-own : goal.returns-in_err-read_page-clause-own
 returns-in_err-read_page-clause-own g c told = c.read_page.ensures.own
 
 pub returns-in_default-clause-few : goal.returns-in_default-clause-few
-returns-in_default-clause-few g c few = few_same c.args.self.now.state c.read_page.new.self.state c.args.from.block c.args.from.page c.read_page.ensures.state few
+returns-in_default-clause-few g c few = few_same c.args.self.now.state c.read_page.new.self.state c.args.from.block
+    c.args.from.page c.read_page.ensures.state few
 
 pub returns-in_default-clause-own : goal.returns-in_default-clause-own
 returns-in_default-clause-own g c told = c.read_page.ensures.own
 
 pub returns-then-ne-clause-few : goal.returns-then-ne-clause-few
-returns-then-ne-clause-few g c few = few_same c.args.self.now.state c.read_page.new.self.state c.args.from.block c.args.from.page c.read_page.ensures.state few
+returns-then-ne-clause-few g c few = few_same c.args.self.now.state c.read_page.new.self.state c.args.from.block
+    c.args.from.page c.read_page.ensures.state few
 
 pub returns-then-ne-clause-own : goal.returns-then-ne-clause-own
 returns-then-ne-clause-own g c told = c.read_page.ensures.own
 
 pub returns-in_err-program_page-clause-few : goal.returns-in_err-program_page-clause-few
-returns-in_err-program_page-clause-few g c few = few_same c.args.self.now.state c.program_page.new.self.state c.args.from.block c.args.from.page (c.program_page.ensures.state ∙ c.read_page.ensures.state) few
+returns-in_err-program_page-clause-few g c few = few_same c.args.self.now.state c.program_page.new.self.state
+    c.args.from.block c.args.from.page (c.program_page.ensures.state ∙ c.read_page.ensures.state) few
 
 pub returns-in_err-program_page-clause-own : goal.returns-in_err-program_page-clause-own
 returns-in_err-program_page-clause-own g c told = c.program_page.ensures.own told ∙ c.read_page.ensures.own
@@ -307,19 +371,26 @@ returns-then-is_err-clause-few g c few =
     let start = c.args.self.now.state in
     let key = c.in-Some.key in
     let old = c.in-Some.old in
-    let is : known start.table key ≡ Some old = ap (λ (q : LayerState). known q.table key) (sym c.read_page.ensures.state) ∙ c.in-Some.ensures.known in
-    let at = same_places old.place.block c.args.from.block old.place.page c.args.from.page c.ne.result c.ne.ensures c.if-ne.false in
-    let moved : vec_len c.program_page.new.self.state.moved ≡ vec_len start.moved = ap (λ (q : LayerState). vec_len q.moved) (c.program_page.ensures.state ∙ c.read_page.ensures.state) in
-    let now : vec_len c.fault.new.self.state.moved ≡ vec_len c.push.new.self = ap (λ (q : LayerState). vec_len q.moved) c.fault.ensures.state in
-    few_more start.table c.args.from.block c.args.from.page key old is at.0 at.1 (vec_len start.moved) (vec_len c.fault.new.self.state.moved) few
+    let is : known start.table key ≡ Some old = ap (λ (q : LayerState). known q.table key)
+    (sym c.read_page.ensures.state) ∙ c.in-Some.ensures.known in
+    let at = same_places old.place.block c.args.from.block old.place.page c.args.from.page c.ne.result c.ne.ensures
+    c.if-ne.false in
+    let moved : vec_len c.program_page.new.self.state.moved ≡ vec_len start.moved =
+    ap (λ (q : LayerState). vec_len q.moved) (c.program_page.ensures.state ∙ c.read_page.ensures.state) in
+    let now : vec_len c.fault.new.self.state.moved ≡ vec_len c.push.new.self =
+    ap (λ (q : LayerState). vec_len q.moved) c.fault.ensures.state in
+    few_more start.table c.args.from.block c.args.from.page key old is at.0 at.1 (vec_len start.moved)
+    (vec_len c.fault.new.self.state.moved) few
     (let up = c.push.ensures.upper_bound in omega (arith, moved, now, up))
 
 pub returns-then-is_err-clause-own : goal.returns-then-is_err-clause-own
 returns-then-is_err-clause-own g c told =
     let start = c.args.self.now.state in
     let state = c.program_page.ensures.state ∙ c.read_page.ensures.state in
-    let len : vec_len c.program_page.new.self.state.moved ≡ vec_len start.moved = ap (λ (q : LayerState). vec_len q.moved) state in
-    let memory : vec_capacity c.program_page.new.self.state.moved ≡ vec_capacity start.moved = ap (λ (q : LayerState). vec_capacity q.moved) state in
+    let len : vec_len c.program_page.new.self.state.moved ≡ vec_len start.moved =
+    ap (λ (q : LayerState). vec_len q.moved) state in
+    let memory : vec_capacity c.program_page.new.self.state.moved ≡ vec_capacity start.moved =
+    ap (λ (q : LayerState). vec_capacity q.moved) state in
     let full = of_err c.push.result (c.is_err.ensures.negation ∙ ap not c.if-is_err.true) c.push.ensures.full in
     let count = c.requires.count in
     let page = c.requires.page in
@@ -334,27 +405,48 @@ returns-clause-few g c few =
     let start = c.args.self.now.state in
     let key = c.in-Some.key in
     let old = c.in-Some.old in
-    let is : known start.table key ≡ Some old = ap (λ (q : LayerState). known q.table key) (sym c.read_page.ensures.state) ∙ c.in-Some.ensures.known in
-    let at = same_places old.place.block c.args.from.block old.place.page c.args.from.page c.ne.result c.ne.ensures c.if-ne.false in
-    let moved : vec_len c.program_page.new.self.state.moved ≡ vec_len start.moved = ap (λ (q : LayerState). vec_len q.moved) (c.program_page.ensures.state ∙ c.read_page.ensures.state) in
-    let now : vec_len (let u : LayerState = record c.program_page.new.self.state { moved = c.push.new.self } in u).moved ≡ vec_len c.push.new.self = refl in
-    few_more start.table c.args.from.block c.args.from.page key old is at.0 at.1 (vec_len start.moved) (vec_len (let u : LayerState = record c.program_page.new.self.state { moved = c.push.new.self } in u).moved) few
+    let is : known start.table key ≡ Some old = ap (λ (q : LayerState). known q.table key)
+    (sym c.read_page.ensures.state) ∙ c.in-Some.ensures.known in
+    let at = same_places old.place.block c.args.from.block old.place.page c.args.from.page c.ne.result c.ne.ensures
+    c.if-ne.false in
+    let moved : vec_len c.program_page.new.self.state.moved ≡ vec_len start.moved =
+    ap (λ (q : LayerState). vec_len q.moved) (c.program_page.ensures.state ∙ c.read_page.ensures.state) in
+    let now : vec_len (let u : LayerState = record c.program_page.new.self.state { moved = c.push.new.self } in u).moved
+    ≡ vec_len c.push.new.self = refl in
+    few_more start.table c.args.from.block c.args.from.page key old is at.0 at.1 (vec_len start.moved)
+    (vec_len (let u : LayerState = record c.program_page.new.self.state { moved = c.push.new.self } in u).moved) few
     (let up = c.push.ensures.upper_bound in omega (arith, moved, now, up))
 
 pub returns-in_err-program_page-clause-time : goal.returns-in_err-program_page-clause-time
 returns-in_err-program_page-clause-time g c told =
-    elapses_then (g.F.Flash.medium c.args.self.now.flash) (g.F.Flash.medium c.read_page.new.self.flash) (g.F.Flash.medium c.program_page.new.self.flash) (c.read_page.ensures.looks.time told) (c.program_page.ensures.time told)
+    elapses_then (g.F.Flash.medium c.args.self.now.flash) (g.F.Flash.medium c.read_page.new.self.flash)
+    (g.F.Flash.medium c.program_page.new.self.flash) (c.read_page.ensures.looks.time told)
+    (c.program_page.ensures.time told)
 
 pub returns-clause-time : goal.returns-clause-time
 returns-clause-time g c told =
-    elapses_then (g.F.Flash.medium c.args.self.now.flash) (g.F.Flash.medium c.read_page.new.self.flash) (g.F.Flash.medium c.program_page.new.self.flash) (c.read_page.ensures.looks.time told) (c.program_page.ensures.time told)
+    elapses_then (g.F.Flash.medium c.args.self.now.flash) (g.F.Flash.medium c.read_page.new.self.flash)
+    (g.F.Flash.medium c.program_page.new.self.flash) (c.read_page.ensures.looks.time told)
+    (c.program_page.ensures.time told)
 
 pub returns-then-is_err-clause-time : goal.returns-then-is_err-clause-time
 returns-then-is_err-clause-time g c told =
     subst (λ f. FlashElapses (g.F.Flash.medium c.args.self.now.flash) (g.F.Flash.medium f)) (sym c.fault.ensures.flash)
-    (elapses_then (g.F.Flash.medium c.args.self.now.flash) (g.F.Flash.medium c.read_page.new.self.flash) (g.F.Flash.medium c.program_page.new.self.flash) (c.read_page.ensures.looks.time told) (c.program_page.ensures.time told))
+    (elapses_then (g.F.Flash.medium c.args.self.now.flash) (g.F.Flash.medium c.read_page.new.self.flash)
+    (g.F.Flash.medium c.program_page.new.self.flash) (c.read_page.ensures.looks.time told)
+    (c.program_page.ensures.time told))
 
 pub returns-clause-accounts : goal.returns-clause-accounts
 returns-clause-accounts g c =
-    let on = accounts_on g.F.Flash.medium 0 0 0 (omega arith) c.in_ok-read_page.ensures.accounts c.in_ok-program_page.ensures.accounts in
-    record { cause = on.cause; kept = on.kept; one = on.one; no_less = on.no_less; later = on.later; steps = on.steps; disputed = on.disputed }
+    let on = accounts_on g.F.Flash.medium 0 0 0 (omega arith) c.in_ok-read_page.ensures.accounts
+    c.in_ok-program_page.ensures.accounts in
+    record {
+      cause = on.cause;
+      kept = on.kept;
+      one = on.one;
+      no_less = on.no_less;
+      later = on.later;
+      steps =
+          on.steps;
+      disputed = on.disputed;
+    }

@@ -8,4 +8,5 @@ pub returns : goal.returns
 returns g c told knows =
     let pages = (g.F.Flash.medium c.args.self.now.flash).state.pages in
     let blocks = (g.F.Flash.medium c.args.self.now.flash).blocks in
-    c.len_of.ensures ∙ (len_is pages (places blocks) c.args.self.now.state.table knows c.args.file ∙ sym (length-flash_files pages blocks c.args.file))
+    c.len_of.ensures ∙ (len_is pages (places blocks) c.args.self.now.state.table knows c.args.file
+    ∙ sym (length-flash_files pages blocks c.args.file))

@@ -14,8 +14,10 @@ loop-page-preserved g c =
     let from = c.args.at / 256 in
     let page = c.loop-page.page in
     let past = c.loop-page.auto.page in
-    let step : missing table file from (page + 1 - from) ≡ missing table file from (page - from) + cond c.is_none.result 1 0 =
-    one_missing table file from page (page - from) (page + 1 - from) (omega (arith, past)) (omega (arith, past)) c.is_none.result c.find.result c.is_none.ensures c.find.ensures in
+    let step : missing table file from (page + 1 - from)
+    ≡ missing table file from (page - from) + cond c.is_none.result 1 0 =
+    one_missing table file from page (page - from) (page + 1 - from) (omega (arith, past)) (omega (arith, past))
+    c.is_none.result c.find.result c.is_none.ensures c.find.ensures in
     let so_far = i.0 in
     let few = i.1 in
     let test = c.loop-page-test.true in
@@ -23,12 +25,16 @@ loop-page-preserved g c =
     let end = c.requires.end in
     elim c.if-is_none.branch [
       | then-is_none w ↦
-          let one : missing table file from (page - from) + cond c.is_none.result 1 0 ≡ missing table file from (page - from) + 1 = ap (λ b. missing table file from (page - from) + cond b 1 0) w.if-is_none.true in
+          let one : missing table file from (page - from) + cond c.is_none.result 1 0
+          ≡ missing table file from (page - from) + 1 = ap (λ b. missing table file from (page - from) + cond b 1 0)
+          w.if-is_none.true in
           let sum = w.saturating_add-new.ensures in
           let is = w.new-is in
           (omega (arith, step, so_far, few, test, last, end, one, sum, is), omega (arith, few, sum, is))
       | else-is_none w ↦
-          let none : missing table file from (page - from) + cond c.is_none.result 1 0 ≡ missing table file from (page - from) + 0 = ap (λ b. missing table file from (page - from) + cond b 1 0) w.if-is_none.false in
+          let none : missing table file from (page - from) + cond c.is_none.result 1 0
+          ≡ missing table file from (page - from) + 0 = ap (λ b. missing table file from (page - from) + cond b 1 0)
+          w.if-is_none.false in
           let is = w.new-is in
           (omega (arith, step, so_far, none, is), omega (arith, few, is))
     ]
@@ -44,5 +50,7 @@ returns g c =
     let within = c.loop-page.auto.page-end in
     let ordered = c.requires.ordered in
     let last : c.loop-page.page ≡ div_ceil c.args.end 256 = omega (arith, end, past, within, ordered) in
-    let same : missing table file from (div_ceil c.args.end 256 - from) ≡ c.loop-page.new = sym (i.0 ∙ ap (λ p. missing table file from (p - from)) last) in
-    fits_in c.loop-page.new c.room.result (missing table file from (div_ceil c.args.end 256 - from)) (limit_of table) (page_len table) same c.room.ensures
+    let same : missing table file from (div_ceil c.args.end 256 - from) ≡ c.loop-page.new =
+    sym (i.0 ∙ ap (λ p. missing table file from (p - from)) last) in
+    fits_in c.loop-page.new c.room.result (missing table file from (div_ceil c.args.end 256 - from)) (limit_of table)
+    (page_len table) same c.room.ensures

@@ -7,21 +7,27 @@ use Rattle.flash_disk.specs.Counted.{IsCounted}
 use Rattle.flash_disk.proofs.layer.Layer.learn_block.Goals as goal
 
 pub returns-then-not-branch-clause-learns : goal.returns-then-not-branch-clause-learns
-returns-then-not-branch-clause-learns g c told learnt = let i = c.loop-page.invariant in let within = c.loop-page-test.true in
-    next_full (g.F.Flash.medium c.args.self.now.flash).state.pages (g.F.Flash.medium c.loop-page.self.flash).state.pages (i.1 told)
-    (64 * c.args.block + c.loop-page.page + 1) (64 * c.args.block + 64) (limit_of c.args.self.now.state.table) c.loop-page.self.state.table c.learn_page.new.self.state.table
+returns-then-not-branch-clause-learns g c told learnt = let i = c.loop-page.invariant in let within =
+    c.loop-page-test.true in
+    next_full (g.F.Flash.medium c.args.self.now.flash).state.pages (g.F.Flash.medium c.loop-page.self.flash).state.pages
+    (i.1 told)
+    (64 * c.args.block + c.loop-page.page + 1) (64 * c.args.block + 64) (limit_of c.args.self.now.state.table)
+    c.loop-page.self.state.table c.learn_page.new.self.state.table
     c.in_ok-learn_page.field-0 c.if-not-branch.true i.3
-    (c.in_ok-learn_page.ensures.learns told (learnt_there (g.F.Flash.medium c.args.self.now.flash).state.pages (g.F.Flash.medium c.loop-page.self.flash).state.pages (i.1 told)
+    (c.in_ok-learn_page.ensures.learns told (learnt_there (g.F.Flash.medium c.args.self.now.flash).state.pages
+    (g.F.Flash.medium c.loop-page.self.flash).state.pages (i.1 told)
     (64 * c.args.block + c.loop-page.page) c.loop-page.self.state.table (i.4 told learnt)))
     (omega (arith, within))
 
 pub returns-in_err-learn_page-clause-looks : goal.returns-in_err-learn_page-clause-looks
 returns-in_err-learn_page-clause-looks g c =
-    looks_then g.F.Flash.told (g.F.Flash.medium c.args.self.now.flash) (g.F.Flash.medium c.loop-page.self.flash) (g.F.Flash.medium c.learn_page.new.self.flash) c.loop-page.invariant.10 c.learn_page.ensures.looks
+    looks_then g.F.Flash.told (g.F.Flash.medium c.args.self.now.flash) (g.F.Flash.medium c.loop-page.self.flash)
+    (g.F.Flash.medium c.learn_page.new.self.flash) c.loop-page.invariant.10 c.learn_page.ensures.looks
 
 pub returns-then-not-branch-clause-looks : goal.returns-then-not-branch-clause-looks
 returns-then-not-branch-clause-looks g c =
-    looks_then g.F.Flash.told (g.F.Flash.medium c.args.self.now.flash) (g.F.Flash.medium c.loop-page.self.flash) (g.F.Flash.medium c.learn_page.new.self.flash) c.loop-page.invariant.10 c.learn_page.ensures.looks
+    looks_then g.F.Flash.told (g.F.Flash.medium c.args.self.now.flash) (g.F.Flash.medium c.loop-page.self.flash)
+    (g.F.Flash.medium c.learn_page.new.self.flash) c.loop-page.invariant.10 c.learn_page.ensures.looks
 
 pub loop-page-preserved : goal.loop-page-preserved
 loop-page-preserved g c =
@@ -40,7 +46,8 @@ loop-page-preserved g c =
       e.limit ∙ i.3,
       (λ told start. subst (λ k. HasLearnt pages k table) next
           (subst (λ q. HasLearnt q (n + 1) table) (i.1 told)
-          (subst (LearnsNext seen (n + 1) was table) c.if-not-branch.false (e.learns told (learnt_there pages seen (i.1 told) n was (i.4 told start)))))),
+          (subst (LearnsNext seen (n + 1) was table) c.if-not-branch.false
+          (e.learns told (learnt_there pages seen (i.1 told) n was (i.4 told start)))))),
       e.lens ∙ i.5,
       e.own ∙ i.6,
       (e.fill.0 ∙ i.7.0, e.fill.1 ∙ i.7.1, e.fill.2 ∙ i.7.2),
@@ -48,5 +55,6 @@ loop-page-preserved g c =
           (subst (λ q. IsTop q (n + 1) top) (i.1 told)
           (e.tops told (subst (λ q. IsTop q n c.loop-page.self.state.sequence) (sym (i.1 told)) (i.8 told start))))),
       (λ start. subst (λ b. IsCounted b table) i.2 (e.counted (subst (λ b. IsCounted b was) (sym i.2) (i.9 start)))),
-      looks_then g.F.Flash.told (g.F.Flash.medium c.args.self.now.flash) (g.F.Flash.medium c.loop-page.self.flash) (g.F.Flash.medium c.learn_page.new.self.flash) i.10 e.looks,
+      looks_then g.F.Flash.told (g.F.Flash.medium c.args.self.now.flash) (g.F.Flash.medium c.loop-page.self.flash)
+          (g.F.Flash.medium c.learn_page.new.self.flash) i.10 e.looks,
     )

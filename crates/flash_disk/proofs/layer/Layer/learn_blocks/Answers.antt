@@ -8,11 +8,15 @@ use Rattle.flash_disk.proofs.Usable.{all_full, learnt_there}
 use Rattle.flash_disk.proofs.layer.Layer.learn_blocks.Goals as goal
 
 pub returns-then-not-branch-clause-learns : goal.returns-then-not-branch-clause-learns
-returns-then-not-branch-clause-learns g c told = let i = c.loop-block.invariant in let within = c.loop-block-test.true in
-    all_full (g.F.Flash.medium c.args.self.now.flash).state.pages (g.F.Flash.medium c.loop-block.self.flash).state.pages (i.1 told)
-    (64 * c.loop-block.block + 64) (places c.args.blocks) (limit_of c.loop-block.self.state.table) (limit_of c.args.self.now.state.table) c.learn_block.new.self.state.table
+returns-then-not-branch-clause-learns g c told = let i = c.loop-block.invariant in let within =
+    c.loop-block-test.true in
+    all_full (g.F.Flash.medium c.args.self.now.flash).state.pages (g.F.Flash.medium c.loop-block.self.flash).state.pages
+    (i.1 told)
+    (64 * c.loop-block.block + 64) (places c.args.blocks) (limit_of c.loop-block.self.state.table)
+    (limit_of c.args.self.now.state.table) c.learn_block.new.self.state.table
     c.in_ok-learn_block.field-0 c.if-not-branch.true i.3
-    (c.in_ok-learn_block.ensures.learns told (learnt_there (g.F.Flash.medium c.args.self.now.flash).state.pages (g.F.Flash.medium c.loop-block.self.flash).state.pages (i.1 told)
+    (c.in_ok-learn_block.ensures.learns told (learnt_there (g.F.Flash.medium c.args.self.now.flash).state.pages
+    (g.F.Flash.medium c.loop-block.self.flash).state.pages (i.1 told)
     (64 * c.loop-block.block) c.loop-block.self.state.table (i.4 told)))
     (omega (arith, within))
 
@@ -40,15 +44,19 @@ loop-block-preserved g c =
       (e.fill.0 ∙ i.7.0, e.fill.1 ∙ i.7.1, e.fill.2 ∙ i.7.2),
       (λ told start. subst (λ k. IsTop pages k top) next
           (subst (λ q. IsTop q (64 * block + 64) top) (i.1 told)
-          (e.tops told (subst (λ q. IsTop q (64 * block) c.loop-block.self.state.sequence) (sym (i.1 told)) (i.8 told start)) c.if-not-branch.false))),
+          (e.tops told (subst (λ q. IsTop q (64 * block) c.loop-block.self.state.sequence) (sym (i.1 told))
+          (i.8 told start)) c.if-not-branch.false))),
       (λ start. subst (λ b. IsCounted b table) i.2 (e.counted (subst (λ b. IsCounted b was) (sym i.2) (i.9 start)))),
-      looks_then g.F.Flash.told (g.F.Flash.medium c.args.self.now.flash) (g.F.Flash.medium c.loop-block.self.flash) (g.F.Flash.medium c.learn_block.new.self.flash) i.10 e.looks,
+      looks_then g.F.Flash.told (g.F.Flash.medium c.args.self.now.flash) (g.F.Flash.medium c.loop-block.self.flash)
+          (g.F.Flash.medium c.learn_block.new.self.flash) i.10 e.looks,
     )
 
 pub returns-in_err-learn_block-clause-looks : goal.returns-in_err-learn_block-clause-looks
 returns-in_err-learn_block-clause-looks g c =
-    looks_then g.F.Flash.told (g.F.Flash.medium c.args.self.now.flash) (g.F.Flash.medium c.loop-block.self.flash) (g.F.Flash.medium c.learn_block.new.self.flash) c.loop-block.invariant.10 c.learn_block.ensures.looks
+    looks_then g.F.Flash.told (g.F.Flash.medium c.args.self.now.flash) (g.F.Flash.medium c.loop-block.self.flash)
+    (g.F.Flash.medium c.learn_block.new.self.flash) c.loop-block.invariant.10 c.learn_block.ensures.looks
 
 pub returns-then-not-branch-clause-looks : goal.returns-then-not-branch-clause-looks
 returns-then-not-branch-clause-looks g c =
-    looks_then g.F.Flash.told (g.F.Flash.medium c.args.self.now.flash) (g.F.Flash.medium c.loop-block.self.flash) (g.F.Flash.medium c.learn_block.new.self.flash) c.loop-block.invariant.10 c.learn_block.ensures.looks
+    looks_then g.F.Flash.told (g.F.Flash.medium c.args.self.now.flash) (g.F.Flash.medium c.loop-block.self.flash)
+    (g.F.Flash.medium c.learn_block.new.self.flash) c.loop-block.invariant.10 c.learn_block.ensures.looks

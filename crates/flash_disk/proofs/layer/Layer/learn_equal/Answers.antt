@@ -18,13 +18,18 @@ returns-clause-learns g c told learnt here =
     let e = c.args.old in
     let is : known old (page_of r) ≡ Some e = ap (known old) (sym c.requires.key) ∙ c.requires.old in
     let block = old_block pages n r here old e learnt is c.args.place refl c.requires.page c.requires.sequence in
-    let within : e.place.block < (g.F.Flash.medium c.args.self.now.flash).blocks = (let lt = c.requires.block in omega (arith, block, lt)) in
+    let within : e.place.block < (g.F.Flash.medium c.args.self.now.flash).blocks =
+    (let lt = c.requires.block in omega (arith, block, lt)) in
     let small = old_small pages n r here old e learnt is in
-    let first : record_in c.read_page.new.out ≡ record_at pages (number e.place) = ap record_in (c.in_ok-read_page.ensures.bytes told within small)
+    let first : record_in c.read_page.new.out ≡ record_at pages (number e.place) =
+    ap record_in (c.in_ok-read_page.ensures.bytes told within small)
     ∙ sym (record_at_place pages e.place.block e.place.page small) in
-    put_learns pages n r here old c.read_page.new.self.state.table c.put.new.self c.args.key (record e { twin = c.twin_at.result; rivalled = c.is_rivalled.result }) c.put.result
+    put_learns pages n r here old c.read_page.new.self.state.table c.put.new.self c.args.key
+    (record e { twin = c.twin_at.result; rivalled = c.is_rivalled.result }) c.put.result
     (ap (λ s. s.table) c.in_ok-read_page.ensures.state) c.requires.key learnt
-    (equal pages n r here old e learnt is c.args.place refl c.requires.page c.requires.sequence (record_in c.read_page.new.out) first c.twin_at.result c.is_rivalled.result c.twin_at.ensures.at c.is_rivalled.ensures)
+    (equal pages n r here old e learnt is c.args.place refl c.requires.page c.requires.sequence
+    (record_in c.read_page.new.out) first c.twin_at.result c.is_rivalled.result c.twin_at.ensures.at
+    c.is_rivalled.ensures)
     c.put.ensures.full c.put.ensures.put
 
 pub returns-clause-counted : goal.returns-clause-counted

@@ -33,10 +33,13 @@ returns-clause-tops g c told top =
     let n = number c.args.place in
     let r = stated c.in-Some.record in
     let here : record_at pages n ≡ Some r = record_at_place pages c.args.place.block c.args.place.page c.requires.page
-    ∙ (ap record_in (sym (c.in_ok-read_page.ensures.bytes told c.requires.block c.requires.page)) ∙ c.in-Some.ensures.record) in
+    ∙ (ap record_in (sym (c.in_ok-read_page.ensures.bytes told c.requires.block c.requires.page))
+    ∙ c.in-Some.ensures.record) in
     on_ok c.learn_record.result (subst (IsTop pages (n + 1)) (sym c.learn_record.ensures.sequence)
-    (next_top pages n c.args.self.now.state.sequence top r here c.max-self.result (c.max-self.ensures ∙ ap (λ s. max s.sequence r.sequence) c.in_ok-read_page.ensures.state)))
+    (next_top pages n c.args.self.now.state.sequence top r here c.max-self.result
+    (c.max-self.ensures ∙ ap (λ s. max s.sequence r.sequence) c.in_ok-read_page.ensures.state)))
 
 pub returns-clause-looks : goal.returns-clause-looks
 returns-clause-looks g c =
-    looks_then g.F.Flash.told (g.F.Flash.medium c.args.self.now.flash) (g.F.Flash.medium c.read_page.new.self.flash) (g.F.Flash.medium c.learn_record.new.self.flash) c.read_page.ensures.looks c.learn_record.ensures.looks
+    looks_then g.F.Flash.told (g.F.Flash.medium c.args.self.now.flash) (g.F.Flash.medium c.read_page.new.self.flash)
+    (g.F.Flash.medium c.learn_record.new.self.flash) c.read_page.ensures.looks c.learn_record.ensures.looks

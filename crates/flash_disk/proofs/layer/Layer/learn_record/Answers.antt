@@ -8,13 +8,16 @@ use Rattle.flash_disk.proofs.Looking.{looks_none}
 use Rattle.flash_disk.proofs.layer.Layer.learn_record.Goals as goal
 
 pub returns-in_default-clause-looks : goal.returns-in_default-clause-looks
-returns-in_default-clause-looks g c = looks_none g.F.Flash.told (g.F.Flash.medium c.args.self.now.flash) (g.met.F.Flash.lawful c.args.self.now.flash)
+returns-in_default-clause-looks g c = looks_none g.F.Flash.told (g.F.Flash.medium c.args.self.now.flash)
+    (g.met.F.Flash.lawful c.args.self.now.flash)
 
 pub returns-then-old-found-clause-looks : goal.returns-then-old-found-clause-looks
-returns-then-old-found-clause-looks g c = looks_none g.F.Flash.told (g.F.Flash.medium c.args.self.now.flash) (g.met.F.Flash.lawful c.args.self.now.flash)
+returns-then-old-found-clause-looks g c = looks_none g.F.Flash.told (g.F.Flash.medium c.args.self.now.flash)
+    (g.met.F.Flash.lawful c.args.self.now.flash)
 
 pub returns-then-old-found-2-clause-looks : goal.returns-then-old-found-2-clause-looks
-returns-then-old-found-2-clause-looks g c = looks_none g.F.Flash.told (g.F.Flash.medium c.args.self.now.flash) (g.met.F.Flash.lawful c.args.self.now.flash)
+returns-then-old-found-2-clause-looks g c = looks_none g.F.Flash.told (g.F.Flash.medium c.args.self.now.flash)
+    (g.met.F.Flash.lawful c.args.self.now.flash)
 
 pub returns-in_default-clause-learns : goal.returns-in_default-clause-learns
 returns-in_default-clause-learns g c told learnt here =
@@ -25,7 +28,16 @@ returns-in_default-clause-learns g c told learnt here =
     let none : known old (page_of r) ≡ None = sym c.find.ensures ∙ c.in_default.is in
     let entry = c.newest_at.ensures in
     put_learns pages n r here old old c.put.new.self (page_of r) c.newest_at.result c.put.result refl refl learnt
-    (first pages n r here old c.newest_at.result learnt none (ap number entry.place, rw entry.place c.requires.page, entry.sequence, entry.len, entry.twin, entry.filled c.requires.long, entry.page, entry.calm))
+    (first pages n r here old c.newest_at.result learnt none (
+      ap number entry.place,
+      rw entry.place c.requires.page,
+      entry.sequence,
+      entry.len,
+      entry.twin,
+      entry.filled c.requires.long,
+      entry.page,
+      entry.calm,
+    ))
     c.put.ensures.full c.put.ensures.put
 
 pub returns-then-old-found-clause-learns : goal.returns-then-old-found-clause-learns
@@ -36,8 +48,18 @@ returns-then-old-found-clause-learns g c told learnt here =
     let old = c.args.self.now.state.table in
     let is : known old (page_of r) ≡ Some c.in-Some.old = sym c.find.ensures ∙ c.in-Some.is in
     let entry = c.newest_at-then-old-found.ensures in
-    put_learns pages n r here old old c.put-then-old-found.new.self (page_of r) c.newest_at-then-old-found.result c.put-then-old-found.result refl refl learnt
-    (newer_one pages n r here old c.in-Some.old learnt is c.newest_at-then-old-found.result (ap number entry.place, rw entry.place c.requires.page, entry.sequence, entry.len, entry.twin, entry.filled c.requires.long, entry.page, entry.calm) c.if-old-found.true)
+    put_learns pages n r here old old c.put-then-old-found.new.self (page_of r) c.newest_at-then-old-found.result
+    c.put-then-old-found.result refl refl learnt
+    (newer_one pages n r here old c.in-Some.old learnt is c.newest_at-then-old-found.result (
+      ap number entry.place,
+      rw entry.place c.requires.page,
+      entry.sequence,
+      entry.len,
+      entry.twin,
+      entry.filled c.requires.long,
+      entry.page,
+      entry.calm,
+    ) c.if-old-found.true)
     c.put-then-old-found.ensures.full c.put-then-old-found.ensures.put
 
 pub returns-then-old-found-2-clause-learns : goal.returns-then-old-found-2-clause-learns

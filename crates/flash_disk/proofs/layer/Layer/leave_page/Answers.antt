@@ -5,7 +5,8 @@ use Rattle.flash_record.specs.PageRecord.{record_in}
 use Rattle.flash_disk.specs.Newest.{record_at, places}
 use Rattle.flash_disk.specs.Learnt.{IsLeaving}
 use Rattle.flash_disk.proofs.Learning.{record_at_place}
-use Rattle.flash_disk.proofs.Leaving.{nothing_found, elsewhere_found, no_twin_found, twin_found, places_differ, places_same}
+use Rattle.flash_disk.proofs.Leaving.{nothing_found, elsewhere_found, no_twin_found, twin_found, places_differ}
+use Rattle.flash_disk.proofs.Leaving.{places_same}
 use Rattle.flash_disk.proofs.layer.Layer.leave_page.Goals as goal
 
 pub returns-in_default-clause-left : goal.returns-in_default-clause-left
@@ -15,10 +16,12 @@ returns-in_default-clause-left g c told within small spare leaving =
     let block = c.args.place.block in
     let p = c.args.place.page in
     let table = c.read_page.new.self.state.table in
-    let still : IsLeaving pages n block p table = subst (IsLeaving pages n block p) (ap (λ s. s.table) (sym c.in_ok-read_page.ensures.state)) leaving in
+    let still : IsLeaving pages n block p table = subst (IsLeaving pages n block p)
+    (ap (λ s. s.table) (sym c.in_ok-read_page.ensures.state)) leaving in
     let there : record_in c.read_page.new.out ≡ record_at pages (64 * block + p) =
     ap record_in (c.in_ok-read_page.ensures.bytes told within small) ∙ sym (record_at_place pages block p small) in
-    nothing_found pages n block p table still spare small (record_in c.read_page.new.out) there c.newest_in.result c.newest_in.ensures.found c.in_default.is
+    nothing_found pages n block p table still spare small (record_in c.read_page.new.out) there c.newest_in.result
+    c.newest_in.ensures.found c.in_default.is
 
 pub returns-then-ne-clause-left : goal.returns-then-ne-clause-left
 returns-then-ne-clause-left g c told within small spare leaving =
@@ -27,10 +30,12 @@ returns-then-ne-clause-left g c told within small spare leaving =
     let block = c.args.place.block in
     let p = c.args.place.page in
     let table = c.read_page.new.self.state.table in
-    let still : IsLeaving pages n block p table = subst (IsLeaving pages n block p) (ap (λ s. s.table) (sym c.in_ok-read_page.ensures.state)) leaving in
+    let still : IsLeaving pages n block p table = subst (IsLeaving pages n block p)
+    (ap (λ s. s.table) (sym c.in_ok-read_page.ensures.state)) leaving in
     let there : record_in c.read_page.new.out ≡ record_at pages (64 * block + p) =
     ap record_in (c.in_ok-read_page.ensures.bytes told within small) ∙ sym (record_at_place pages block p small) in
-    elsewhere_found pages n block p table still spare small (record_in c.read_page.new.out) there c.newest_in.result c.newest_in.ensures.found
+    elsewhere_found pages n block p table still spare small (record_in c.read_page.new.out) there c.newest_in.result
+    c.newest_in.ensures.found
     c.in-Some.key c.in-Some.old c.in-Some.is
     (places_differ c.in-Some.old.place.block block c.in-Some.old.place.page p c.ne.result c.ne.ensures c.if-ne.true)
 
@@ -41,10 +46,12 @@ returns-in_default-twin-clause-left g c told within small spare leaving =
     let block = c.args.place.block in
     let p = c.args.place.page in
     let table = c.read_page.new.self.state.table in
-    let still : IsLeaving pages n block p table = subst (IsLeaving pages n block p) (ap (λ s. s.table) (sym c.in_ok-read_page.ensures.state)) leaving in
+    let still : IsLeaving pages n block p table = subst (IsLeaving pages n block p)
+    (ap (λ s. s.table) (sym c.in_ok-read_page.ensures.state)) leaving in
     let there : record_in c.read_page.new.out ≡ record_at pages (64 * block + p) =
     ap record_in (c.in_ok-read_page.ensures.bytes told within small) ∙ sym (record_at_place pages block p small) in
-    no_twin_found pages n block p table still spare small (record_in c.read_page.new.out) there c.newest_in.result c.newest_in.ensures.found
+    no_twin_found pages n block p table still spare small (record_in c.read_page.new.out) there c.newest_in.result
+    c.newest_in.ensures.found
     c.in-Some.key c.in-Some.old c.in-Some.is c.in_default-twin.is
 
 pub returns-clause-left : goal.returns-clause-left
@@ -54,12 +61,16 @@ returns-clause-left g c told within small spare leaving =
     let block = c.args.place.block in
     let p = c.args.place.page in
     let table = c.read_page.new.self.state.table in
-    let still : IsLeaving pages n block p table = subst (IsLeaving pages n block p) (ap (λ s. s.table) (sym c.in_ok-read_page.ensures.state)) leaving in
+    let still : IsLeaving pages n block p table = subst (IsLeaving pages n block p)
+    (ap (λ s. s.table) (sym c.in_ok-read_page.ensures.state)) leaving in
     let there : record_in c.read_page.new.out ≡ record_at pages (64 * block + p) =
     ap record_in (c.in_ok-read_page.ensures.bytes told within small) ∙ sym (record_at_place pages block p small) in
-    let same = places_same c.in-Some.old.place.block block c.in-Some.old.place.page p c.ne.result c.ne.ensures c.if-ne.false in
-    twin_found pages n block p table still spare small (record_in c.read_page.new.out) there c.newest_in.result c.newest_in.ensures.found
-    c.in-Some.key c.in-Some.old c.in-Some.is c.in-Some.ensures.known same.0 same.1 c.in-Some-twin.twin c.in-Some-twin.is c.put.new.self c.put.result
+    let same = places_same c.in-Some.old.place.block block c.in-Some.old.place.page p c.ne.result c.ne.ensures
+    c.if-ne.false in
+    twin_found pages n block p table still spare small (record_in c.read_page.new.out) there c.newest_in.result
+    c.newest_in.ensures.found
+    c.in-Some.key c.in-Some.old c.in-Some.is c.in-Some.ensures.known same.0 same.1 c.in-Some-twin.twin c.in-Some-twin.is
+    c.put.new.self c.put.result
     c.put.ensures.full c.put.ensures.put
 
 pub returns-clause-counted : goal.returns-clause-counted

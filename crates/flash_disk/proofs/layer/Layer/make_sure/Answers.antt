@@ -7,21 +7,27 @@ use Rattle.flash_disk.proofs.layer.Layer.make_sure.Goals as goal
 pub returns-in-Some-read_record-clause-sound : goal.returns-in-Some-read_record-clause-sound
 returns-in-Some-read_record-clause-sound g c told =
     let e = c.in_ok-read_page.ensures in
-    let sound = one_there (g.F.Flash.medium c.args.self.now.flash) (g.F.Flash.medium c.read_page.new.self.flash) c.args.self.now.state c.read_page.new.self.state c.in-Some.place
+    let sound = one_there (g.F.Flash.medium c.args.self.now.flash) (g.F.Flash.medium c.read_page.new.self.flash)
+    c.args.self.now.state c.read_page.new.self.state c.in-Some.place
     (c.requires.holds told) c.in-Some.is (e.pages told) e.blocks e.state c.read_page.new.out (e.bytes told)
-    (stated c.in-Some-read_record.record) c.in-Some-read_record.ensures.record c.enter.new.self.state c.enter.ensures.sound in
+    (stated c.in-Some-read_record.record) c.in-Some-read_record.ensures.record c.enter.new.self.state
+    c.enter.ensures.sound in
     subst (λ f. IsSound (g.F.Flash.medium f) c.enter.new.self.state) (sym c.enter.ensures.flash) sound
 
 pub returns-in-Some-read_record-clause-holds : goal.returns-in-Some-read_record-clause-holds
 returns-in-Some-read_record-clause-holds g c told =
-    sound_holds (g.F.Flash.medium c.enter.new.self.flash) c.enter.new.self.state (returns-in-Some-read_record-clause-sound g c told) c.enter.ensures.unsure
+    sound_holds (g.F.Flash.medium c.enter.new.self.flash) c.enter.new.self.state
+    (returns-in-Some-read_record-clause-sound g c told) c.enter.ensures.unsure
 
 pub returns-in_default-read_record-clause-sound : goal.returns-in_default-read_record-clause-sound
 returns-in_default-read_record-clause-sound g c told =
     let e = c.in_ok-read_page.ensures in
-    nothing_there (g.F.Flash.medium c.args.self.now.flash) (g.F.Flash.medium c.read_page.new.self.flash) c.args.self.now.state c.read_page.new.self.state c.in-Some.place
-    (c.requires.holds told) c.in-Some.is (e.pages told) e.blocks e.state c.read_page.new.out (e.bytes told) c.in_default-read_record.ensures.record
+    nothing_there (g.F.Flash.medium c.args.self.now.flash) (g.F.Flash.medium c.read_page.new.self.flash)
+    c.args.self.now.state c.read_page.new.self.state c.in-Some.place
+    (c.requires.holds told) c.in-Some.is (e.pages told) e.blocks e.state c.read_page.new.out (e.bytes told)
+    c.in_default-read_record.ensures.record
 
 pub returns-in_default-read_record-clause-holds : goal.returns-in_default-read_record-clause-holds
 returns-in_default-read_record-clause-holds g c told =
-    sound_holds (g.F.Flash.medium c.read_page.new.self.flash) (record c.read_page.new.self.state { unsure = None }) (returns-in_default-read_record-clause-sound g c told) refl
+    sound_holds (g.F.Flash.medium c.read_page.new.self.flash) (record c.read_page.new.self.state { unsure = None })
+    (returns-in_default-read_record-clause-sound g c told) refl

@@ -22,7 +22,9 @@ returns-clause-bytes g c told knows =
       ⊎_elim
           (λ past. nothing_taken count _ _ (omega (arith, is, long, past)))
           (λ within. let fits : at + count ≤ file_len pages (places blocks) file = omega (arith, is, long, within) in
-          all_read pages blocks file at count c.read_pages.new.out (drop count c.args.out.now) (omega (arith, part)) fits
-          (λ k below. c.in_ok-read_pages.ensures.bytes told knows (omega (arith, fits, part)) k (omega (arith, below, part))))
+          all_read pages blocks file at count c.read_pages.new.out (drop count c.args.out.now) (omega (arith, part))
+          fits
+          (λ k below. c.in_ok-read_pages.ensures.bytes told knows (omega (arith, fits, part)) k
+          (omega (arith, below, part))))
           (cases_lt (file_len pages (places blocks) file) at),
     )

@@ -48,9 +48,12 @@ loop-done-preserved g c =
           let inside : j < c.min-count.result = omega (arith, late, below) in
           let there : start + j ≡ c.args.at + k = omega (arith, late) in
           let byte = c.copy_part.ensures.inside j inside in
-          let is = content_here pages seen same first.blocks mid.blocks i.blocks (record { file = file; page = start / 256 }) c.in_ok-content.content
-          (e.bytes told (knows_there pages seen same first.blocks mid.blocks i.blocks c.args.self.now.state.table c.loop-done.self.state.table table knows)) in
-          let more = page_more pages (places first.blocks) file start from j c.in_ok-content.content refl (omega (arith, inside)) (omega (arith, fits, inside)) is in
+          let is = content_here pages seen same first.blocks mid.blocks i.blocks
+          (record { file = file; page = start / 256 }) c.in_ok-content.content
+          (e.bytes told (knows_there pages seen same first.blocks mid.blocks i.blocks c.args.self.now.state.table
+          c.loop-done.self.state.table table knows)) in
+          let more = page_more pages (places first.blocks) file start from j c.in_ok-content.content refl
+          (omega (arith, inside)) (omega (arith, fits, inside)) is in
           subst (λ q. get_or c.copy_part.new.out q 0 ≡ file_byte pages (places first.blocks) file (c.args.at + k)) at
           (byte ∙ (more ∙ ap (file_byte pages (places first.blocks) file) there)))
           (cases_lt k done);
@@ -58,5 +61,6 @@ loop-done-preserved g c =
 
 pub returns-in_err-content-clause-looks : goal.returns-in_err-content-clause-looks
 returns-in_err-content-clause-looks g c =
-    looks_then g.F.Flash.told (g.F.Flash.medium c.args.self.now.flash) (g.F.Flash.medium c.loop-done.self.flash) (g.F.Flash.medium c.content.new.self.flash)
+    looks_then g.F.Flash.told (g.F.Flash.medium c.args.self.now.flash) (g.F.Flash.medium c.loop-done.self.flash)
+    (g.F.Flash.medium c.content.new.self.flash)
     c.loop-done.invariant.looks c.content.ensures.looks

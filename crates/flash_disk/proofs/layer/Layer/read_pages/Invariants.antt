@@ -16,8 +16,11 @@ invariant-loop-done g l = record {
   looks : Looks g.F.Flash.told (g.F.Flash.medium l.initial.self.flash) (g.F.Flash.medium l.self.flash);
   blocks : (g.F.Flash.medium l.self.flash).blocks ≡ (g.F.Flash.medium l.initial.self.flash).blocks;
   known : l.self.state ≡ l.initial.self.state;
-  read : g.F.Flash.told ≡ true → Knows (g.F.Flash.medium l.initial.self.flash).state.pages (places (g.F.Flash.medium l.initial.self.flash).blocks) l.initial.self.state.table
-      → l.at + length l.out ≤ file_len (g.F.Flash.medium l.initial.self.flash).state.pages (places (g.F.Flash.medium l.initial.self.flash).blocks) l.file
+  read : g.F.Flash.told ≡ true → Knows (g.F.Flash.medium l.initial.self.flash).state.pages
+      (places (g.F.Flash.medium l.initial.self.flash).blocks) l.initial.self.state.table
+      → l.at + length l.out ≤ file_len (g.F.Flash.medium l.initial.self.flash).state.pages
+      (places (g.F.Flash.medium l.initial.self.flash).blocks) l.file
       → (k : ℕ) → k < l.done
-      → get_or l.out k 0 ≡ file_byte (g.F.Flash.medium l.initial.self.flash).state.pages (places (g.F.Flash.medium l.initial.self.flash).blocks) l.file (l.at + k);
+      → get_or l.out k 0 ≡ file_byte (g.F.Flash.medium l.initial.self.flash).state.pages
+      (places (g.F.Flash.medium l.initial.self.flash).blocks) l.file (l.at + k);
 }

@@ -13,7 +13,8 @@ abbrev pub invariant-loop-page : goal.invariant-loop-page
 invariant-loop-page g l = record {
   sure : l.self.state.unsure ≡ None;
   sound : g.F.Flash.told ≡ true → IsSound (g.F.Flash.medium l.self.flash) l.self.state;
-  wiped : g.F.Flash.told ≡ true → Wiped (g.F.Flash.medium l.initial.self.flash) (g.F.Flash.medium l.self.flash) l.file l.page l.initial.self.state.stray_end;
+  wiped : g.F.Flash.told ≡ true → Wiped (g.F.Flash.medium l.initial.self.flash) (g.F.Flash.medium l.self.flash) l.file
+      l.page l.initial.self.state.stray_end;
   does : g.F.Flash.told ≡ true → Does (StandsFor (g.F.Flash.medium l.initial.self.flash))
       (g.F.Flash.medium l.initial.self.flash) (g.F.Flash.medium l.self.flash);
   time : g.F.Flash.told ≡ true → FlashElapses (g.F.Flash.medium l.initial.self.flash) (g.F.Flash.medium l.self.flash);

@@ -2,7 +2,8 @@ use Rattle.std.proofs.Common.{◌≡◌, ◌*◌, ◌+◌, length, subst, arith}
 use Rattle.std.proofs.lemmas.Result.{on_ok_weaker}
 use Rattle.flash_disk.specs.PutPart.{PutPart}
 use Rattle.flash_disk.specs.Sound.{files_of, LeavesPut}
-use Rattle.flash_disk.proofs.Writing.{leaves_nothing, files_seen, fits_seen, does_after_look, page_fits, page_narrower, leaves_narrower}
+use Rattle.flash_disk.proofs.Writing.{leaves_nothing, files_seen, fits_seen, does_after_look, page_fits, page_narrower}
+use Rattle.flash_disk.proofs.Writing.{leaves_narrower}
 use Rattle.flash_disk.proofs.Stretches.{does_nothing, elapses_then}
 use Rattle.flash_disk.proofs.Accounting.{accounts_on}
 use Rattle.flash_disk.proofs.layer.Layer.write_page.Goals as goal
@@ -13,8 +14,10 @@ returns-in_err-content-clause-does g c told =
     let b = g.F.Flash.medium c.content.new.self.flash in
     let at = 256 * c.args.page + c.args.from in
     let e = c.in_err-content.ensures in
-    let nothing = leaves_nothing a c.args.self.now.state (c.requires.sound told) c.args.file at c.args.bytes.now c.args.len in
-    does_nothing a b (LeavesPut c.args.file at c.args.bytes.now c.args.len a) (e.looks.state told) (e.looks.during told) nothing
+    let nothing = leaves_nothing a c.args.self.now.state (c.requires.sound told) c.args.file at c.args.bytes.now
+    c.args.len in
+    does_nothing a b (LeavesPut c.args.file at c.args.bytes.now c.args.len a) (e.looks.state told) (e.looks.during told)
+    nothing
 
 pub append-requires-clause-fits : goal.append-requires-clause-fits
 append-requires-clause-fits g c told =
@@ -26,8 +29,10 @@ append-requires-clause-fits g c told =
     let sound = r.sound told in
     let copied = c.copy_part.ensures in
     let fits = page_fits a c.args.file c.args.page c.in_ok-content.content (e.bytes told sound.knows)
-    c.args.from c.args.len c.args.bytes.now c.copy_part.new.out copied.inside copied.before copied.after s (r.place told) r.end (r.no_shorter told) (r.grows told) in
-    fits_seen a b (e.looks.state told) e.blocks s c.content.new.self.state e.state c.args.file c.args.page c.args.len c.copy_part.new.out fits
+    c.args.from c.args.len c.args.bytes.now c.copy_part.new.out copied.inside copied.before copied.after s
+    (r.place told) r.end (r.no_shorter told) (r.grows told) in
+    fits_seen a b (e.looks.state told) e.blocks s c.content.new.self.state e.state c.args.file c.args.page c.args.len
+    c.copy_part.new.out fits
 
 pub returns-clause-put : goal.returns-clause-put
 returns-clause-put g c told =
@@ -40,8 +45,10 @@ returns-clause-put g c told =
     let full : length c.copy_part.new.out ≡ 256 = omega arith in
     on_ok_weaker c.append.result
     (λ put. page_narrower a c.args.file c.args.page c.in_ok-content.content (e.bytes told sound.knows)
-    c.args.from c.args.len c.args.bytes.now c.copy_part.new.out copied.inside copied.before copied.after (files_of d) full c.requires.within
-    (subst (λ f. PutPart c.args.file (256 * c.args.page) c.copy_part.new.out c.args.len f (files_of d)) (files_seen a b (e.looks.state told) e.blocks) put))
+    c.args.from c.args.len c.args.bytes.now c.copy_part.new.out copied.inside copied.before copied.after (files_of d)
+    full c.requires.within
+    (subst (λ f. PutPart c.args.file (256 * c.args.page) c.copy_part.new.out c.args.len f (files_of d))
+    (files_seen a b (e.looks.state told) e.blocks) put))
     (c.append.ensures.put told)
 
 pub returns-clause-does : goal.returns-clause-does
@@ -54,15 +61,19 @@ returns-clause-does g c told =
     let sound = c.requires.sound told in
     let copied = c.copy_part.ensures in
     let full : length c.copy_part.new.out ≡ 256 = omega arith in
-    does_after_look a b (e.looks.state told) e.blocks (LeavesPut c.args.file at c.args.bytes.now c.args.len) c.args.file (256 * c.args.page) c.copy_part.new.out c.args.len d
+    does_after_look a b (e.looks.state told) e.blocks (LeavesPut c.args.file at c.args.bytes.now c.args.len) c.args.file
+    (256 * c.args.page) c.copy_part.new.out c.args.len d
     (leaves_narrower a c.args.file c.args.page c.in_ok-content.content (e.bytes told sound.knows)
-    c.args.from c.args.len c.args.bytes.now c.copy_part.new.out copied.inside copied.before copied.after full c.requires.within)
+    c.args.from c.args.len c.args.bytes.now c.copy_part.new.out copied.inside copied.before copied.after full
+    c.requires.within)
     (leaves_nothing a c.args.self.now.state sound c.args.file at c.args.bytes.now c.args.len)
     (e.looks.time told) (c.append.ensures.time told) (e.looks.during told) (c.append.ensures.does told)
 
 pub returns-clause-time : goal.returns-clause-time
 returns-clause-time g c told =
-    elapses_then (g.F.Flash.medium c.args.self.now.flash) (g.F.Flash.medium c.content.new.self.flash) (g.F.Flash.medium c.append.new.self.flash) (c.content.ensures.looks.time told) (c.append.ensures.time told)
+    elapses_then (g.F.Flash.medium c.args.self.now.flash) (g.F.Flash.medium c.content.new.self.flash)
+    (g.F.Flash.medium c.append.new.self.flash) (c.content.ensures.looks.time told) (c.append.ensures.time told)
 
 pub returns-clause-accounts : goal.returns-clause-accounts
-returns-clause-accounts g c = accounts_on g.F.Flash.medium 0 1 1 (omega arith) c.in_ok-content.ensures.accounts c.append.ensures.accounts
+returns-clause-accounts g c = accounts_on g.F.Flash.medium 0 1 1 (omega arith) c.in_ok-content.ensures.accounts
+    c.append.ensures.accounts

@@ -4,7 +4,8 @@ use Rattle.flash_disk.specs.Does.{Does}
 use Rattle.flash_disk.specs.PutPart.{PutPart}
 use Rattle.flash_disk.specs.Sound.{files_of, LeavesPut}
 use Rattle.flash_disk.specs.Writes.{LeavesTorn}
-use Rattle.flash_disk.proofs.Writing.{does_none, torn_nothing, wrote_nothing, wrote_more, torn_then, moved_there, wrote_all}
+use Rattle.flash_disk.proofs.Writing.{does_none, torn_nothing, wrote_nothing, wrote_more, torn_then, moved_there}
+use Rattle.flash_disk.proofs.Writing.{wrote_all}
 use Rattle.flash_disk.proofs.Stretches.{elapses_refl, elapses_then}
 use Rattle.flash_disk.proofs.Affording.{affords_place, affords_more, as_many}
 use Rattle.flash_disk.proofs.Accounting.{counted_none, counted_on}
@@ -19,7 +20,8 @@ loop-done-init g c =
       within = omega arith;
       sure = r.sure;
       sound = r.sound;
-      wrote = λ told. wrote_nothing a c.args.file c.args.at c.args.bytes.now c.args.len (let len = r.len told in omega (arith, len)) (r.grows told);
+      wrote = λ told. wrote_nothing a c.args.file c.args.at c.args.bytes.now c.args.len
+          (let len = r.len told in omega (arith, len)) (r.grows told);
       does = λ told. does_none g.F.Flash.told a lawful (LeavesTorn c.args.file c.args.at (length c.args.bytes.now) a)
           (torn_nothing a s (r.sound told) c.args.file c.args.at (length c.args.bytes.now));
       time = λ told. elapses_refl g.F.Flash.told a lawful told;
@@ -40,9 +42,11 @@ returns-in_err-write_page-clause-does g c told =
     let done = c.loop-done.done in
     let count = c.min-count.result in
     let start = c.args.at + done in
-    torn_then a b c.args.file c.args.at c.args.bytes.now c.args.len done (i.wrote told) count d (omega arith) (omega arith) (c.requires.len told)
+    torn_then a b c.args.file c.args.at c.args.bytes.now c.args.len done (i.wrote told) count d (omega arith)
+    (omega arith) (c.requires.len told)
     (i.time told) (e.time told) (i.does told)
-    (moved_there (λ p k. Does (LeavesPut c.args.file p (take k (drop done c.args.bytes.now)) c.args.len b) b d) start done count (e.does told))
+    (moved_there (λ p k. Does (LeavesPut c.args.file p (take k (drop done c.args.bytes.now)) c.args.len b) b d) start
+    done count (e.does told))
 
 pub loop-done-preserved : goal.loop-done-preserved
 loop-done-preserved g c =
@@ -57,20 +61,30 @@ loop-done-preserved g c =
       within = omega arith;
       sure = e.sure;
       sound = e.sound;
-      wrote = λ told. wrote_more a b c.args.file c.args.at c.args.bytes.now c.args.len done (i.wrote told) count d (omega arith)
-          (moved_there (λ p k. PutPart c.args.file p (take k (drop done c.args.bytes.now)) c.args.len (files_of b) (files_of d)) start done count (e.put told));
-      does = λ told. torn_then a b c.args.file c.args.at c.args.bytes.now c.args.len done (i.wrote told) count d (omega arith) (omega arith) (c.requires.len told)
+      wrote = λ told. wrote_more a b c.args.file c.args.at c.args.bytes.now c.args.len done (i.wrote told) count d
+          (omega arith)
+          (moved_there (λ p k. PutPart c.args.file p (take k (drop done c.args.bytes.now)) c.args.len (files_of b)
+          (files_of d)) start done count (e.put told));
+      does = λ told. torn_then a b c.args.file c.args.at c.args.bytes.now c.args.len done (i.wrote told) count d
+          (omega arith) (omega arith) (c.requires.len told)
           (i.time told) (e.time told) (i.does told)
-          (moved_there (λ p k. Does (LeavesPut c.args.file p (take k (drop done c.args.bytes.now)) c.args.len b) b d) start done count (e.does told));
+          (moved_there (λ p k. Does (LeavesPut c.args.file p (take k (drop done c.args.bytes.now)) c.args.len b) b d)
+          start done count (e.does told));
       time = λ told. elapses_then a b d (i.time told) (e.time told);
-      numbered = (let before = i.numbered in let on = e.rises in let few = c.min-count.ensures in omega (arith, before, on, few));
-      counts = counted_on g.F.Flash.medium done 1 (done + count) (let few = c.min-count.ensures in omega (arith, few)) i.counts e.accounts;
-      affords = λ told. affords_more c.args.file (c.args.at / 256) c.loop-done.self.state.table c.write_page.new.self.state.table
-          (div_ceil (c.args.at + length c.args.bytes.now) 256 - c.args.at / 256) (start / 256 - c.args.at / 256) (start / 256) (omega arith) (omega arith)
+      numbered = (let before = i.numbered in let on = e.rises in let few =
+          c.min-count.ensures in omega (arith, before, on, few));
+      counts = counted_on g.F.Flash.medium done 1 (done + count) (let few = c.min-count.ensures in omega (arith, few))
+          i.counts e.accounts;
+      affords = λ told. affords_more c.args.file (c.args.at / 256) c.loop-done.self.state.table
+          c.write_page.new.self.state.table
+          (div_ceil (c.args.at + length c.args.bytes.now) 256 - c.args.at / 256) (start / 256 - c.args.at / 256)
+          (start / 256) (omega arith) (omega arith)
           (e.entries told) (i.affords told);
       calm = λ told some. sym i.counts.disputed ∙ e.calm told;
-      as_many = λ told. as_many c.args.file (c.args.at / 256) c.loop-done.self.state.table c.write_page.new.self.state.table
-          (div_ceil (c.args.at + length c.args.bytes.now) 256 - c.args.at / 256) (start / 256 - c.args.at / 256) (start / 256) (omega arith) (omega arith)
+      as_many = λ told. as_many c.args.file (c.args.at / 256) c.loop-done.self.state.table
+          c.write_page.new.self.state.table
+          (div_ceil (c.args.at + length c.args.bytes.now) 256 - c.args.at / 256) (start / 256 - c.args.at / 256)
+          (start / 256) (omega arith) (omega arith)
           (e.entries told) ∙ i.as_many told;
     }
 
@@ -81,14 +95,18 @@ returns-clause-put g c told some =
     let i = c.loop-done.invariant in
     let within = i.within in
     let past = c.loop-done-test.false in
-    wrote_all a b c.args.file c.args.at c.args.bytes.now c.args.len c.loop-done.done (i.wrote told) (omega (arith, within, past)) some (c.requires.len told)
+    wrote_all a b c.args.file c.args.at c.args.bytes.now c.args.len c.loop-done.done (i.wrote told)
+    (omega (arith, within, past)) some (c.requires.len told)
 
 pub write_page-requires-clause-place : goal.write_page-requires-clause-place
 write_page-requires-clause-place g c told =
     let start = c.args.at + c.loop-done.done in
-    affords_place c.args.file (c.args.at / 256) c.loop-done.self.state.table (div_ceil (c.args.at + length c.args.bytes.now) 256 - c.args.at / 256)
+    affords_place c.args.file (c.args.at / 256) c.loop-done.self.state.table
+    (div_ceil (c.args.at + length c.args.bytes.now) 256 - c.args.at / 256)
     (start / 256 - c.args.at / 256) (start / 256) (c.loop-done.invariant.affords told) (omega arith) (omega arith)
 
 pub returns-in_err-write_page-clause-time : goal.returns-in_err-write_page-clause-time
 returns-in_err-write_page-clause-time g c told =
-    elapses_then (g.F.Flash.medium c.args.self.now.flash) (g.F.Flash.medium c.loop-done.self.flash) (g.F.Flash.medium c.write_page.new.self.flash) (c.loop-done.invariant.time told) (c.write_page.ensures.time told)
+    elapses_then (g.F.Flash.medium c.args.self.now.flash) (g.F.Flash.medium c.loop-done.self.flash)
+    (g.F.Flash.medium c.write_page.new.self.flash) (c.loop-done.invariant.time told)
+    (c.write_page.ensures.time told)

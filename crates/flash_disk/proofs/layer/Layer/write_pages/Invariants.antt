@@ -20,15 +20,19 @@ invariant-loop-done g l = record {
   within : l.done ≤ length l.bytes;
   sure : l.self.state.unsure ≡ None;
   sound : g.F.Flash.told ≡ true → IsSound (g.F.Flash.medium l.self.flash) l.self.state;
-  wrote : g.F.Flash.told ≡ true → WroteSoFar (g.F.Flash.medium l.initial.self.flash) (g.F.Flash.medium l.self.flash) l.file l.at l.bytes l.len l.done;
+  wrote : g.F.Flash.told ≡ true → WroteSoFar (g.F.Flash.medium l.initial.self.flash) (g.F.Flash.medium l.self.flash)
+      l.file l.at l.bytes l.len l.done;
   does : g.F.Flash.told ≡ true → Does (LeavesTorn l.file l.at (length l.bytes) (g.F.Flash.medium l.initial.self.flash))
       (g.F.Flash.medium l.initial.self.flash) (g.F.Flash.medium l.self.flash);
   time : g.F.Flash.told ≡ true → FlashElapses (g.F.Flash.medium l.initial.self.flash) (g.F.Flash.medium l.self.flash);
   numbered : l.done + 256 * l.initial.self.state.sequence ≤ 256 * l.self.state.sequence;
   counts : Counted g.F.Flash.medium l.done l.initial.self l.self;
   calm : g.F.Flash.told ≡ true → 0 < l.done → IsFalse l.initial.self.state.disputed;
-  affords : g.F.Flash.told ≡ true → Affords l.self.state.table l.file (l.at / 256) (div_ceil (l.at + length l.bytes) 256 - l.at / 256);
+  affords : g.F.Flash.told ≡ true → Affords l.self.state.table l.file (l.at / 256)
+      (div_ceil (l.at + length l.bytes) 256 - l.at / 256);
   as_many : g.F.Flash.told ≡ true
-      → missing l.self.state.table l.file (l.at / 256) (div_ceil (l.at + length l.bytes) 256 - l.at / 256) + page_len l.self.state.table
-      ≡ missing l.initial.self.state.table l.file (l.at / 256) (div_ceil (l.at + length l.bytes) 256 - l.at / 256) + page_len l.initial.self.state.table;
+      → missing l.self.state.table l.file (l.at / 256) (div_ceil (l.at + length l.bytes) 256 - l.at / 256)
+      + page_len l.self.state.table
+      ≡ missing l.initial.self.state.table l.file (l.at / 256) (div_ceil (l.at + length l.bytes) 256 - l.at / 256)
+      + page_len l.initial.self.state.table;
 }

@@ -1,6 +1,7 @@
 use Rattle.std.proofs.Common.{length, sym, ◌∙◌, arith}
 use Rattle.std.proofs.lemmas.Result.{on_ok_weaker}
-use Rattle.flash_disk.proofs.Writing.{on_ok_both, no_error, wipes_torn, wipes_then, len_wiped, grows_wiped, sound_announced, writes_into}
+use Rattle.flash_disk.proofs.Writing.{on_ok_both, no_error, wipes_torn, wipes_then, len_wiped, grows_wiped}
+use Rattle.flash_disk.proofs.Writing.{sound_announced, writes_into}
 use Rattle.flash_disk.proofs.Stretches.{elapses_then}
 use Rattle.flash_disk.proofs.Failing.{allowed, takes_pages}
 use Rattle.flash_disk.proofs.layer.Layer.write_within.Goals as goal
@@ -12,8 +13,10 @@ returns-in_err-wipe_strays-clause-writes g c told =
     let w = g.F.Flash.medium c.wipe_strays.new.self.flash in
     let s = c.args.self.now.state in
     let e = c.wipe_strays.ensures in
-    let announced = no_error c.announce.result (sym c.is_err.ensures.value ∙ c.if-is_err.false) (c.announce.ensures.state told) in
-    writes_into c.args.file c.args.at c.args.bytes.now a b announced c.announce.ensures.time s (c.requires.sound told) c.announce.ensures.during w (e.time told)
+    let announced = no_error c.announce.result (sym c.is_err.ensures.value ∙ c.if-is_err.false)
+    (c.announce.ensures.state told) in
+    writes_into c.args.file c.args.at c.args.bytes.now a b announced c.announce.ensures.time s (c.requires.sound told)
+    c.announce.ensures.during w (e.time told)
     (wipes_torn c.args.file c.args.at c.args.bytes.now b w (e.time told) (e.does told))
 
 pub write_pages-requires-clause-grows : goal.write_pages-requires-clause-grows
@@ -23,11 +26,14 @@ write_pages-requires-clause-grows g c told =
     let w = g.F.Flash.medium c.wipe_strays.new.self.flash in
     let s = c.args.self.now.state in
     let e = c.in_ok-wipe_strays.ensures in
-    let announced = no_error c.announce.result (sym c.is_err.ensures.value ∙ c.if-is_err.false) (c.announce.ensures.state told) in
-    let sound = sound_announced c.args.file c.args.at c.args.bytes.now a b announced c.announce.ensures.time s (c.requires.sound told) in
+    let announced = no_error c.announce.result (sym c.is_err.ensures.value ∙ c.if-is_err.false)
+    (c.announce.ensures.state told) in
+    let sound = sound_announced c.args.file c.args.at c.args.bytes.now a b announced c.announce.ensures.time s
+    (c.requires.sound told) in
     let len = c.len_of.ensures in
     let greater = c.max-len.ensures in
-    grows_wiped c.args.file c.args.at c.args.bytes.now b w (e.time told) (e.does told) s sound c.args.end c.max-len.result (omega (arith, len, greater)) (e.wiped told)
+    grows_wiped c.args.file c.args.at c.args.bytes.now b w (e.time told) (e.does told) s sound c.args.end
+    c.max-len.result (omega (arith, len, greater)) (e.wiped told)
 
 pub write_pages-requires-clause-len : goal.write_pages-requires-clause-len
 write_pages-requires-clause-len g c told =
@@ -36,8 +42,10 @@ write_pages-requires-clause-len g c told =
     let w = g.F.Flash.medium c.wipe_strays.new.self.flash in
     let s = c.args.self.now.state in
     let e = c.in_ok-wipe_strays.ensures in
-    let announced = no_error c.announce.result (sym c.is_err.ensures.value ∙ c.if-is_err.false) (c.announce.ensures.state told) in
-    let sound = sound_announced c.args.file c.args.at c.args.bytes.now a b announced c.announce.ensures.time s (c.requires.sound told) in
+    let announced = no_error c.announce.result (sym c.is_err.ensures.value ∙ c.if-is_err.false)
+    (c.announce.ensures.state told) in
+    let sound = sound_announced c.args.file c.args.at c.args.bytes.now a b announced c.announce.ensures.time s
+    (c.requires.sound told) in
     let known_is = len_wiped c.args.file c.args.at c.args.bytes.now b w (e.time told) (e.does told) s sound in
     let len = c.len_of.ensures in
     let greater = c.max-len.ensures in
@@ -53,8 +61,10 @@ returns-clause-writes g c told =
     let s = c.args.self.now.state in
     let e = c.in_ok-wipe_strays.ensures in
     let f = c.write_pages.ensures in
-    let announced = no_error c.announce.result (sym c.is_err.ensures.value ∙ c.if-is_err.false) (c.announce.ensures.state told) in
-    writes_into c.args.file c.args.at c.args.bytes.now a b announced c.announce.ensures.time s (c.requires.sound told) c.announce.ensures.during d
+    let announced = no_error c.announce.result (sym c.is_err.ensures.value ∙ c.if-is_err.false)
+    (c.announce.ensures.state told) in
+    writes_into c.args.file c.args.at c.args.bytes.now a b announced c.announce.ensures.time s (c.requires.sound told)
+    c.announce.ensures.during d
     (elapses_then b w d (e.time told) (f.time told))
     (wipes_then c.args.file c.args.at c.args.bytes.now b w (e.time told) (e.does told) d (f.time told) (f.does told))
 
@@ -63,7 +73,8 @@ returns-clause-allowed g c told =
     let a = g.F.Flash.medium c.args.self.now.flash in
     let s = c.args.self.now.state in
     on_ok_weaker c.write_pages.result
-    (λ calm. allowed a s c.args.file c.args.at (length c.args.bytes.now) c.args.end (c.requires.sound told) c.requires.end c.requires.least
+    (λ calm. allowed a s c.args.file c.args.at (length c.args.bytes.now) c.args.end (c.requires.sound told)
+    c.requires.end c.requires.least
     c.requires.room (sym c.in_ok-wipe_strays.ensures.accounts.disputed ∙ calm c.requires.some))
     (c.write_pages.ensures.calm told)
 
@@ -73,17 +84,20 @@ returns-clause-takes g c told =
     let d = g.F.Flash.medium c.write_pages.new.self.flash in
     let f = c.write_pages.ensures in
     on_ok_both c.write_pages.result
-    (λ sound takes. takes_pages a d c.args.self.now.state c.wipe_strays.new.self.state c.write_pages.new.self.state c.args.file c.args.at (length c.args.bytes.now)
+    (λ sound takes. takes_pages a d c.args.self.now.state c.wipe_strays.new.self.state c.write_pages.new.self.state
+    c.args.file c.args.at (length c.args.bytes.now)
     (c.requires.sound told) sound (c.in_ok-wipe_strays.ensures.entries told) takes)
     (f.sound told) (f.takes told)
 
 pub returns-in_err-wipe_strays-clause-time : goal.returns-in_err-wipe_strays-clause-time
 returns-in_err-wipe_strays-clause-time g c told =
-    elapses_then (g.F.Flash.medium c.args.self.now.flash) (g.F.Flash.medium c.announce.new.self) (g.F.Flash.medium c.wipe_strays.new.self.flash) c.announce.ensures.time (c.wipe_strays.ensures.time told)
+    elapses_then (g.F.Flash.medium c.args.self.now.flash) (g.F.Flash.medium c.announce.new.self)
+    (g.F.Flash.medium c.wipe_strays.new.self.flash) c.announce.ensures.time (c.wipe_strays.ensures.time told)
 
 pub returns-clause-time : goal.returns-clause-time
 returns-clause-time g c told =
     let b = g.F.Flash.medium c.announce.new.self in
     let w = g.F.Flash.medium c.wipe_strays.new.self.flash in
     let d = g.F.Flash.medium c.write_pages.new.self.flash in
-    elapses_then (g.F.Flash.medium c.args.self.now.flash) b d c.announce.ensures.time (elapses_then b w d (c.wipe_strays.ensures.time told) (c.write_pages.ensures.time told))
+    elapses_then (g.F.Flash.medium c.args.self.now.flash) b d c.announce.ensures.time
+    (elapses_then b w d (c.wipe_strays.ensures.time told) (c.write_pages.ensures.time told))

@@ -6,10 +6,12 @@ use Rattle.flash_disk.proofs.table.Table.is_disputed.Goals as goal
 
 pub returns-clause-calm : goal.returns-clause-calm
 returns-clause-calm c calm key entry is =
-    let all = any_from_yields_List (λ e. e.rivalled) _ _ c.any.result c.any.ensures.ran (YieldsList-from_rest _ c.values.ensures.rest) (λ x b q k. search (rules, tests)) in
+    let all = any_from_yields_List (λ e. e.rivalled) _ _ c.any.result c.any.ensures.ran
+    (YieldsList-from_rest _ c.values.ensures.rest) (λ x b q k. search (rules, tests)) in
     none_passes (λ e. e.rivalled) key entry c.args.self.now.newest.entries (sym all ∙ calm) is
 
 pub returns-clause-rivals : goal.returns-clause-rivals
 returns-clause-rivals c some =
-    let all = any_from_yields_List (λ e. e.rivalled) _ _ c.any.result c.any.ensures.ran (YieldsList-from_rest _ c.values.ensures.rest) (λ x b q k. search (rules, tests)) in
+    let all = any_from_yields_List (λ e. e.rivalled) _ _ c.any.result c.any.ensures.ran
+    (YieldsList-from_rest _ c.values.ensures.rest) (λ x b q k. search (rules, tests)) in
     one_passes (λ e. e.rivalled) c.args.self.now.newest.entries c.values.ensures.unique (sym all ∙ some)

@@ -10,7 +10,9 @@ loop-block-preserved c =
     let block = c.loop-block.block in let best = c.loop-block.best in
     elim c.if-is_lighter.branch [
       | then-is_lighter w ↦ subst (IsBest load but blocks (block + 1)) (sym w.best-is)
-          (taken load but blocks block best c.loop-block-test.true c.loop-block.invariant (c.is_lighter.ensures.0 w.if-is_lighter.true))
+          (taken load but blocks block best c.loop-block-test.true c.loop-block.invariant
+          (c.is_lighter.ensures.0 w.if-is_lighter.true))
       | else-is_lighter w ↦ subst (IsBest load but blocks (block + 1)) (sym w.best-is)
-          (kept load but blocks block best c.loop-block.invariant (λ beats. true≢false (sym (c.is_lighter.ensures.1 beats) ∙ w.if-is_lighter.false)))
+          (kept load but blocks block best c.loop-block.invariant
+          (λ beats. true≢false (sym (c.is_lighter.ensures.1 beats) ∙ w.if-is_lighter.false)))
     ]

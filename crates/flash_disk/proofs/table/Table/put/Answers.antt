@@ -9,7 +9,8 @@ use Rattle.flash_disk.proofs.table.Table.put.Goals.{in-Some, in_default}
 pub returns-then-not-store-clause-counted : goal.returns-then-not-store-clause-counted
 returns-then-not-store-clause-counted c blocks counted inside =
     let e = c.if-not-store.ensures in
-    same_counted blocks c.args.self.now c.store.new.self counted (c.store.ensures.same c.if-not-store.true) c.store.ensures.limit
+    same_counted blocks c.args.self.now c.store.new.self counted (c.store.ensures.same c.if-not-store.true)
+    c.store.ensures.limit
     (c.store.ensures.entries c.if-not-store.true) c.store.ensures.load c.store.ensures.blocks
 
 pub returns-clause-counted : goal.returns-clause-counted
@@ -19,12 +20,19 @@ returns-clause-counted c blocks counted inside =
     let mid = c.store.new.self in
     let less = c.match-old.self in
     let m = c.count_more.ensures in
-    let parts : Recounts mid less × ((block : ℕ) → load_known less block ≡ load_known mid block - had_in block (known old c.args.key)) =
+    let parts : Recounts mid less × ((block : ℕ) → load_known less block
+    ≡ load_known mid block - had_in block (known old c.args.key)) =
     elim c.match-old.branch [
       | in-Some w ↦
           let f = w.count_less.ensures in
           let is : known old c.args.key ≡ Some w.in-Some.old = sym c.find-old.ensures ∙ w.in-Some.is in (
-            subst (Recounts mid) (sym w.self-is) (record { newest = f.newest; blocks = f.blocks; loads = f.loads; limit = f.limit }),
+            subst (Recounts mid) (sym w.self-is) (record {
+              newest = f.newest;
+              blocks = f.blocks;
+              loads =
+                  f.loads;
+              limit = f.limit;
+            }),
             fewer_by blocks old mid less c.args.key w.in-Some.old is
                 (λ within block. ap (λ t. load_known t block) w.self-is ∙ f.counts within block) counted e.load,
           )
@@ -33,5 +41,6 @@ returns-clause-counted c blocks counted inside =
         none_fewer old mid less c.args.key (sym c.find-old.ensures ∙ w.in_default.is) w.self-is,
       )
     ] in
-    put_counted blocks old mid less c.count_more.new.self c.args.key c.args.new counted inside (e.put c.if-not-store.false) e.limit (e.counts c.if-not-store.false) e.load e.blocks
+    put_counted blocks old mid less c.count_more.new.self c.args.key c.args.new counted inside
+    (e.put c.if-not-store.false) e.limit (e.counts c.if-not-store.false) e.load e.blocks
     parts.0 parts.1 (record { newest = m.newest; blocks = m.blocks; loads = m.loads; limit = m.limit }) m.counts

@@ -7,5 +7,6 @@ loop-new-preserved c = let i = c.loop-new.invariant in record {
   limit = c.put.ensures.limit ∙ i.limit;
   lens = c.put.ensures.lens ∙ i.lens;
   puts = grind (arith, common_steps);
-  counted = λ blocks all start. c.put.ensures.counted blocks (i.counted blocks all start) (all c.loop-new.new-index _ c.loop-new-test.true);
+  counted = λ blocks all start. c.put.ensures.counted blocks (i.counted blocks all start)
+      (all c.loop-new.new-index _ c.loop-new-test.true);
 }

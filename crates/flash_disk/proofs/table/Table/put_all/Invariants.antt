@@ -15,5 +15,6 @@ invariant-loop-new l = record {
       × (page_len l.self ≡ page_len l.initial.self)
       × ((k : FilePage) → IsSome (known l.initial.self k) → IsSome (known l.self k))
       × ((k : FilePage) → known l.self k ≡ update_all same_page (known l.initial.self) (take l.new-index l.news) k);
-  counted : (blocks : ℕ) → All (λ new. IsInside blocks new.1) l.news → IsCounted blocks l.initial.self → IsCounted blocks l.self;
+  counted : (blocks : ℕ) → All (λ new. IsInside blocks new.1) l.news → IsCounted blocks l.initial.self
+      → IsCounted blocks l.self;
 }

@@ -6,10 +6,12 @@ use Rattle.flash_model.proofs.memory.MemFlashFlash.erase.Goals as goal
 
 pub returns-in_err-begin-clause-during : goal.returns-in_err-begin-clause-during
 returns-in_err-begin-clause-during c x past =
-    inl ((begin_failed c.args.self.now c.begin.new.self c.in_err-begin.ensures.begun c.in_err-begin.ensures.record).still x past)
+    inl ((begin_failed c.args.self.now c.begin.new.self c.in_err-begin.ensures.begun
+    c.in_err-begin.ensures.record).still x past)
 
 pub returns-in_err-begin-clause-time : goal.returns-in_err-begin-clause-time
-returns-in_err-begin-clause-time c = (begin_failed c.args.self.now c.begin.new.self c.in_err-begin.ensures.begun c.in_err-begin.ensures.record).time
+returns-in_err-begin-clause-time c = (begin_failed c.args.self.now c.begin.new.self c.in_err-begin.ensures.begun
+    c.in_err-begin.ensures.record).time
 
 done : (c : goal.In-Ok) → Done (Erase c.args.block) c.args.self.now c.erase_block.new.self
 done c = done_after c.args.self.now c.begin.new.self c.erase_block.new.self (Erase c.args.block)
@@ -31,12 +33,15 @@ pub returns-in-Ok-clause-time : goal.returns-in-Ok-clause-time
 returns-in-Ok-clause-time c = (done c).time
 
 pub returns-in-Err-clause-during : goal.returns-in-Err-clause-during
-returns-in-Err-clause-during c x past = inl ((want_after c.args.self.now c.begin.new.self c.erase_block.new.self c.starve.new.self
-    c.in_ok-begin.ensures.begun c.in_ok-begin.ensures.record c.in-Err.ensures.err c.in-Err.ensures.rest c.starve.ensures.record c.starve.ensures.wants).still x past)
+returns-in-Err-clause-during c x past = inl ((want_after c.args.self.now c.begin.new.self c.erase_block.new.self
+    c.starve.new.self
+    c.in_ok-begin.ensures.begun c.in_ok-begin.ensures.record c.in-Err.ensures.err c.in-Err.ensures.rest
+    c.starve.ensures.record c.starve.ensures.wants).still x past)
 
 pub returns-in-Err-clause-time : goal.returns-in-Err-clause-time
 returns-in-Err-clause-time c = (want_after c.args.self.now c.begin.new.self c.erase_block.new.self c.starve.new.self
-    c.in_ok-begin.ensures.begun c.in_ok-begin.ensures.record c.in-Err.ensures.err c.in-Err.ensures.rest c.starve.ensures.record c.starve.ensures.wants).time
+    c.in_ok-begin.ensures.begun c.in_ok-begin.ensures.record c.in-Err.ensures.err c.in-Err.ensures.rest
+    c.starve.ensures.record c.starve.ensures.wants).time
 
 pub returns-in-Ok-clause-tears : goal.returns-in-Ok-clause-tears
 returns-in-Ok-clause-tears c x case = (done c).within x case

@@ -8,5 +8,6 @@ use Rattle.key_maps.proofs.maps.KeyMaps.changes.Goals as goal
 pub returns : goal.returns
 returns c =
     if_ok c.changes.result
-    (λ changes is. subst (λ (m : TwoMaps). AreChanges changes.items m.synced m.visible) c.self.view_is (changes_by changes.items c.self.inside.cells.entries c.self.invariant.kept is))
+    (λ changes is. subst (λ (m : TwoMaps). AreChanges changes.items m.synced m.visible) c.self.view_is
+    (changes_by changes.items c.self.inside.cells.entries c.self.invariant.kept is))
     c.changes.ensures

@@ -7,5 +7,6 @@ use Rattle.kvs_core.proofs.session.KeySession.check_type.Goals as goal
 
 pub check_configured-requires : goal.check_configured-requires
 check_configured-requires c =
-    configured_kind (storage_data c.self.inside.config) c.args.name.now (element_data c.in-Some.element.now) (kind_of c.in-Some-value_type.stored) c.self.invariant.configured c.self.invariant.of_keys
+    configured_kind (storage_data c.self.inside.config) c.args.name.now (element_data c.in-Some.element.now)
+    (kind_of c.in-Some-value_type.stored) c.self.invariant.configured c.self.invariant.of_keys
     c.in-Some.ensures.found (ap (option_map kind_of) c.in-Some-value_type.is)

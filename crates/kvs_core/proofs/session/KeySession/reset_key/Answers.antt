@@ -5,4 +5,5 @@ use Rattle.kvs_core.proofs.SameKinds.{initial_short}
 use Rattle.kvs_core.proofs.session.KeySession.reset_key.Goals as goal
 
 pub start-requires : goal.start-requires
-start-requires c = initial_short (storage_data c.self.inside.config) c.args.name.now c.as_slice.result.now c.self.invariant.configured c.self.invariant.of_keys (ap (λ b. Some b) c.as_slice.ensures ∙ c.in-Some.ensures)
+start-requires c = initial_short (storage_data c.self.inside.config) c.args.name.now c.as_slice.result.now
+    c.self.invariant.configured c.self.invariant.of_keys (ap (λ b. Some b) c.as_slice.ensures ∙ c.in-Some.ensures)

@@ -6,4 +6,6 @@ use Rattle.kvs_store.specs.Storages.{KvsSession}
 use Rattle.kvs_store.proofs.storages.Kvs.set_any.Goals as goal
 
 pub returns-clause-refused : goal.returns-clause-refused
-returns-clause-refused c = subst (λ (s : KvsSession). IfErr c.set_any.result (λ error. IsRefusal (calls.set_any s.config s.session.visible c.args.name.now c.args.value) error)) c.self.view_is c.set_any.ensures.refused
+returns-clause-refused c = subst (λ (s : KvsSession). IfErr c.set_any.result
+    (λ error. IsRefusal (calls.set_any s.config s.session.visible c.args.name.now c.args.value) error)) c.self.view_is
+    c.set_any.ensures.refused

@@ -6,4 +6,6 @@ use Rattle.kvs_store.specs.Storages.{KvsSession}
 use Rattle.kvs_store.proofs.storages.Kvs.set_value.Goals as goal
 
 pub returns-clause-refused : goal.returns-clause-refused
-returns-clause-refused g c = subst (λ (s : KvsSession). IfErr c.set_value.result (λ error. IsRefusal (calls.set_value s.config s.session.visible c.args.name.now (g.T.PerValue.tree c.args.value.now)) error)) c.self.view_is c.set_value.ensures.refused
+returns-clause-refused g c = subst (λ (s : KvsSession).
+    IfErr c.set_value.result (λ error. IsRefusal (calls.set_value s.config s.session.visible c.args.name.now
+    (g.T.PerValue.tree c.args.value.now)) error)) c.self.view_is c.set_value.ensures.refused

@@ -7,7 +7,8 @@ use Rattle.migrate_fns.proofs.search.Search.trace.Given as goal
 
 abbrev pub invariant-loop-left : goal.invariant-loop-left
 invariant-loop-left g l = (l.left ≤ length l.levels)
-    × (links (map rule_of l.self.list.now) l.self.element.now (kind_of l.self.to.now) (length l.levels) (kind_of l.fn.from)
+    × (links (map rule_of l.self.list.now) l.self.element.now (kind_of l.self.to.now) (length l.levels)
+    (kind_of l.fn.from)
     ≡ behind (map rule_of l.self.list.now) l.self.element.now (kind_of l.self.to.now) l.places.items
     (links (map rule_of l.self.list.now) l.self.element.now (kind_of l.self.to.now) l.left (kind_of l.at)))
 

@@ -18,36 +18,45 @@ use Rattle.open_storages.proofs.Idle.{none_storing}
 use Rattle.open_storages.proofs.opens.Open.close.Goals as goal
 
 pub returns-in-Keys-clause-storing : goal.returns-in-Keys-clause-storing
-returns-in-Keys-clause-storing g c = none_storing c.untouched_is_kept.ensures.untouched g.D.Disk.told (shape_of (store_in c.args.self)) (Opens (durable_view c.args.self) []) (g.D.Disk.medium c.args.disk.now)
+returns-in-Keys-clause-storing g c = none_storing c.untouched_is_kept.ensures.untouched g.D.Disk.told
+    (shape_of (store_in c.args.self)) (Opens (durable_view c.args.self) []) (g.D.Disk.medium c.args.disk.now)
     c.requires.used.memory.shape.some (g.met.D.Disk.lawful c.args.disk.now)
 
 pub returns-in-Ok-Refused-clause-due : goal.returns-in-Ok-Refused-clause-due
 returns-in-Ok-Refused-clause-due g c =
     let f = c.in-Files.files in
     subst (λ (x : Open). (error : PerError) → close_refused x ≡ Some error
-    → ((let r : Result Closing Stop = Ok (left.Refused (Files c.in-Ok-Refused.files) c.in-Ok-Refused.error) in r) ≡ Ok (left.Refused x error)) × (c.close_storage.new.disk ≡ c.args.disk.now)) (sym c.in-Files.is)
+    → ((let r : Result Closing Stop = Ok (left.Refused (Files c.in-Ok-Refused.files) c.in-Ok-Refused.error) in r)
+    ≡ Ok (left.Refused x error)) × (c.close_storage.new.disk ≡ c.args.disk.now)) (sym c.in-Files.is)
     (λ error due.
     let told = c.close_storage.ensures.due error due in (
-      ap (λ (d : Closing). let r : Result Closing Stop = Ok d in r) (same_refusal f c.in-Ok-Refused.files c.in-Ok-Refused.error error c.close_storage.result
-          (c.in-Ok-Refused.is ∙ ap (λ (d : Closed). let r : Result Closed FilesFault = Ok d in r) c.in-Ok-Refused.field-0-is) told.0),
+      ap (λ (d : Closing). let r : Result Closing Stop = Ok d in r)
+          (same_refusal f c.in-Ok-Refused.files c.in-Ok-Refused.error error c.close_storage.result
+          (c.in-Ok-Refused.is ∙ ap (λ (d : Closed). let r : Result Closed FilesFault = Ok d in r)
+          c.in-Ok-Refused.field-0-is) told.0),
       told.1,
     ))
 
 pub returns-in-Ok-Refused-clause-quiet : goal.returns-in-Ok-Refused-clause-quiet
-returns-in-Ok-Refused-clause-quiet g c = λ quiet. let refused = rw c.in-Ok-Refused.field-0-is at c.in-Ok-Refused.ensures.refused in
+returns-in-Ok-Refused-clause-quiet g c = λ quiet. let refused =
+    rw c.in-Ok-Refused.field-0-is at c.in-Ok-Refused.ensures.refused in
     rw (c.close_storage.ensures.due c.in-Ok-Refused.error refused).1 quiet
 
 pub returns-in-Ok-Refused-clause-clean : goal.returns-in-Ok-Refused-clause-clean
-returns-in-Ok-Refused-clause-clean g c = λ tells clean. let refused = rw c.in-Ok-Refused.field-0-is at c.in-Ok-Refused.ensures.refused in
+returns-in-Ok-Refused-clause-clean g c = λ tells clean. let refused =
+    rw c.in-Ok-Refused.field-0-is at c.in-Ok-Refused.ensures.refused in
     rw (c.close_storage.ensures.due c.in-Ok-Refused.error refused).1 clean
 
 pub returns-in-Err-OutOfMemory-clause-due : goal.returns-in-Err-OutOfMemory-clause-due
 returns-in-Err-OutOfMemory-clause-due g c = λ error due. absurd (not_both c.close_storage.result _ _
-    (c.close_storage.ensures.due error (subst (λ (x : Open). close_refused x ≡ Some error) c.in-Files.is due)).0 c.in-Err-OutOfMemory.is)
+    (c.close_storage.ensures.due error (subst (λ (x : Open). close_refused x ≡ Some error) c.in-Files.is due)).0
+    c.in-Err-OutOfMemory.is)
 
 pub returns-in-Err-OutOfMemory-clause-unchanged : goal.returns-in-Err-OutOfMemory-clause-unchanged
 returns-in-Err-OutOfMemory-clause-unchanged g c = λ still.
     let synced = subst (λ (x : Open). is_still x ≡ true) c.in-Files.is still in
     absurd (some_or (below.close_refused c.in-Files.files)
-    (λ none. not_both c.close_storage.result _ _ (c.close_storage.ensures.unchanged synced none).0 c.in-Err-OutOfMemory.is)
-    (λ error due. not_both c.close_storage.result _ _ (c.close_storage.ensures.due error due).0 c.in-Err-OutOfMemory.is))
+    (λ none. not_both c.close_storage.result _ _ (c.close_storage.ensures.unchanged synced none).0
+    c.in-Err-OutOfMemory.is)
+    (λ error due. not_both c.close_storage.result _ _ (c.close_storage.ensures.due error due).0
+    c.in-Err-OutOfMemory.is))

@@ -19,7 +19,8 @@ use Rattle.open_storages.proofs.Refused.{flush_refused_is}
 use Rattle.open_storages.proofs.opens.Open.flush.Goals as goal
 
 pub returns-in-Keys-clause-storing : goal.returns-in-Keys-clause-storing
-returns-in-Keys-clause-storing g c = none_storing c.untouched_is_kept.ensures.untouched g.D.Disk.told (shape_of (store_in c.args.self)) (Opens (durable_view c.args.self) []) (g.D.Disk.medium c.args.disk.now)
+returns-in-Keys-clause-storing g c = none_storing c.untouched_is_kept.ensures.untouched g.D.Disk.told
+    (shape_of (store_in c.args.self)) (Opens (durable_view c.args.self) []) (g.D.Disk.medium c.args.disk.now)
     c.requires.used.memory.shape.some (g.met.D.Disk.lawful c.args.disk.now)
 
 pub returns-in-Ok-clause-done : goal.returns-in-Ok-clause-done
@@ -27,8 +28,10 @@ returns-in-Ok-clause-done g c =
     let f = c.in-Files.files in
     let image = (g.D.Disk.medium c.sync_to_file.new.disk).image in
     subst (λ (x : Open). IsMade g.D.Disk.told image x (flush_refused x c.args.handle) c.made.result) (sym c.in-Files.is)
-    (subst (λ (d : Durable). IsMade g.D.Disk.told image (Files f) (flush_refused (Files f) c.args.handle) d) (sym c.made.ensures)
-    (flush_made g.D.Disk.told image f c.args.handle c.in-Ok.field-0 c.in-Ok.ensures.refused c.in-Ok.ensures.stored c.in-Ok.ensures.view c.in-Ok.ensures.beside c.in-Ok.ensures.shape c.in-Ok.ensures.used
+    (subst (λ (d : Durable). IsMade g.D.Disk.told image (Files f) (flush_refused (Files f) c.args.handle) d)
+    (sym c.made.ensures)
+    (flush_made g.D.Disk.told image f c.args.handle c.in-Ok.field-0 c.in-Ok.ensures.refused c.in-Ok.ensures.stored
+    c.in-Ok.ensures.view c.in-Ok.ensures.beside c.in-Ok.ensures.shape c.in-Ok.ensures.used
     (λ some. same_files f c.in-Ok.field-0 c.sync_to_file.result (sync_refused f c.args.handle) c.in-Ok.is
     (c.sync_to_file.ensures.due (subst (λ (r : Option PerError). IsSome r) c.in-Ok.ensures.refused some)).0)))
 
@@ -36,22 +39,31 @@ pub returns-in-Ok-clause-due : goal.returns-in-Ok-clause-due
 returns-in-Ok-clause-due g c =
     let f = c.in-Files.files in
     subst (λ (x : Open). (error : PerError) → flush_refused x c.args.handle ≡ Some error
-    → ((let r : Result Durable Stop = Ok c.made.result in r) ≡ Ok (made.Refused x error)) × (c.sync_to_file.new.disk ≡ c.args.disk.now)) (sym c.in-Files.is)
+    → ((let r : Result Durable Stop = Ok c.made.result in r) ≡ Ok (made.Refused x error))
+    × (c.sync_to_file.new.disk ≡ c.args.disk.now)) (sym c.in-Files.is)
     (λ error due.
-    let some : IsSome (sync_refused f c.args.handle) = subst (λ (r : Option PerError). IsSome r) (sym (sym (flush_refused_is f c.args.handle) ∙ due)) refl in
+    let some : IsSome (sync_refused f c.args.handle) = subst (λ (r : Option PerError). IsSome r)
+    (sym (sym (flush_refused_is f c.args.handle) ∙ due)) refl in
     let told = c.sync_to_file.ensures.due some in (
-      ap (λ (d : Durable). let r : Result Durable Stop = Ok d in r) (c.made.ensures ∙ flush_due g.D.Disk.told (g.D.Disk.medium c.args.disk.now).image f c.args.handle c.in-Ok.field-0 c.in-Ok.ensures.refused error due
-          (λ handed. same_files f c.in-Ok.field-0 c.sync_to_file.result (sync_refused f c.args.handle) c.in-Ok.is told.0)),
+      ap (λ (d : Durable). let r : Result Durable Stop = Ok d in r)
+          (c.made.ensures ∙ flush_due g.D.Disk.told (g.D.Disk.medium c.args.disk.now).image f c.args.handle
+          c.in-Ok.field-0 c.in-Ok.ensures.refused error due
+          (λ handed. same_files f c.in-Ok.field-0 c.sync_to_file.result (sync_refused f c.args.handle) c.in-Ok.is
+          told.0)),
       told.1,
     ))
 
 pub returns-in-Ok-clause-quiet : goal.returns-in-Ok-clause-quiet
 returns-in-Ok-clause-quiet g c = λ quiet. made_or c.in-Ok.field-0.refused
     (λ none. (c.in-Ok.ensures.durable none).quiet quiet)
-    (λ some. rw (c.sync_to_file.ensures.due (subst (λ (r : Option PerError). IsSome r) c.in-Ok.ensures.refused some)).1 quiet)
+    (λ some. rw (c.sync_to_file.ensures.due (subst (λ (r : Option PerError). IsSome r) c.in-Ok.ensures.refused some)).1
+    quiet)
 
 pub returns-in-Ok-clause-clean : goal.returns-in-Ok-clause-clean
-returns-in-Ok-clause-clean g c = subst (λ (x : Open). IsTrue g.D.Disk.told → IsClean (shape_of (store_in x)) (g.D.Disk.medium c.args.disk.now).image → IsClean (shape_of (store_in x)) (g.D.Disk.medium c.sync_to_file.new.disk).image) (sym c.in-Files.is)
+returns-in-Ok-clause-clean g c = subst (λ (x : Open). IsTrue g.D.Disk.told
+    → IsClean (shape_of (store_in x)) (g.D.Disk.medium c.args.disk.now).image
+    → IsClean (shape_of (store_in x)) (g.D.Disk.medium c.sync_to_file.new.disk).image) (sym c.in-Files.is)
     (λ tells clean. made_or c.in-Ok.field-0.refused
     (λ none. (c.in-Ok.ensures.durable none).clean tells clean)
-    (λ some. rw (c.sync_to_file.ensures.due (subst (λ (r : Option PerError). IsSome r) c.in-Ok.ensures.refused some)).1 clean))
+    (λ some. rw (c.sync_to_file.ensures.due (subst (λ (r : Option PerError). IsSome r) c.in-Ok.ensures.refused some)).1
+    clean))

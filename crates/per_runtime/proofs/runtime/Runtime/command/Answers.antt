@@ -14,8 +14,10 @@ returns-in-Now g c =
         memory = record { apps = c.requires.memory.apps; quiet = c.requires.memory.quiet };
         text = tt;
         blamed = (le_refl m.faults, λ four. absurd (not_four four));
-        stepped = λ tells doubt is. now_steps c.applications_stand.ensures c.running_is_application.ensures (rules_of c.args.migrations.now) (answers_of c.args.migrations.now) g.D.Disk.told m
-            r.now c.in-Now.moment r.apps.items r.in_doubt tells lawful c.requires.memory.apps c.requires.memory.quiet doubt is;
+        stepped = λ tells doubt is. now_steps c.applications_stand.ensures c.running_is_application.ensures
+            (rules_of c.args.migrations.now) (answers_of c.args.migrations.now) g.D.Disk.told m
+            r.now c.in-Now.moment r.apps.items r.in_doubt tells lawful c.requires.memory.apps c.requires.memory.quiet
+            doubt is;
       };
       idle = λ tells none. refl;
       time = elapses_none lawful;

@@ -7,11 +7,17 @@ use Rattle.per_runtime.proofs.runtime.Runtime.end_doubt.Goals as goal
 pub returns-then-is_err : goal.returns-then-is_err
 returns-then-is_err g c =
     let is = sym c.if-is_err.ensures.value in
-    rw c.failed_reply.ensures (still_doubtful (rules_of c.args.migrations.now) (answers_of c.args.migrations.now) g.D.Disk.told c.args.app c.args.call.now c.args.self.now
-    (g.D.Disk.medium c.args.disk.now) (g.D.Disk.medium c.sync.new.self) c.requires.app c.requires.memory c.requires.device c.requires.doubt c.sync.ensures.writes_nothing c.sync.ensures.time
-    _ c.running_is_application.ensures (on_err c.sync.result is c.sync.ensures.failed) (on_err c.sync.result is c.sync.ensures.cause))
+    rw c.failed_reply.ensures (still_doubtful (rules_of c.args.migrations.now) (answers_of c.args.migrations.now)
+    g.D.Disk.told c.args.app c.args.call.now c.args.self.now
+    (g.D.Disk.medium c.args.disk.now) (g.D.Disk.medium c.sync.new.self) c.requires.app c.requires.memory
+    c.requires.device c.requires.doubt c.sync.ensures.writes_nothing c.sync.ensures.time
+    _ c.running_is_application.ensures (on_err c.sync.result is c.sync.ensures.failed)
+    (on_err c.sync.result is c.sync.ensures.cause))
 
 pub returns : goal.returns
-returns g c = resumed (rules_of c.args.migrations.now) (answers_of c.args.migrations.now) g.D.Disk.told c.args.app c.args.call.now c.args.self.now
-    (g.D.Disk.medium c.args.disk.now) (g.D.Disk.medium c.sync.new.self) c.requires.app c.requires.memory c.requires.device c.requires.doubt c.sync.ensures.writes_nothing c.sync.ensures.time
-    c.hand.new.self (g.D.Disk.medium c.hand.new.disk) (g.met.D.Disk.lawful c.sync.new.self) (on_ok c.sync.result (sym c.if-is_err.ensures.value) c.sync.ensures.quiet) _ _ c.hand.result c.hand.ensures
+returns g c = resumed (rules_of c.args.migrations.now) (answers_of c.args.migrations.now) g.D.Disk.told c.args.app
+    c.args.call.now c.args.self.now
+    (g.D.Disk.medium c.args.disk.now) (g.D.Disk.medium c.sync.new.self) c.requires.app c.requires.memory
+    c.requires.device c.requires.doubt c.sync.ensures.writes_nothing c.sync.ensures.time
+    c.hand.new.self (g.D.Disk.medium c.hand.new.disk) (g.met.D.Disk.lawful c.sync.new.self)
+    (on_ok c.sync.result (sym c.if-is_err.ensures.value) c.sync.ensures.quiet) _ _ c.hand.result c.hand.ensures

@@ -1,6 +1,7 @@
 use Rattle.std.proofs.Common.{refl, true≢false}
 use Rattle.migrate_fns.specs.Stored.{answers_of, rules_of}
-use Rattle.per_runtime.proofs.Handing.{answered_steps, answered_use, device_end, failed_steps, failed_use, left_alone, memory_end, stopped_steps, there}
+use Rattle.per_runtime.proofs.Handing.{answered_steps, answered_use, device_end, failed_steps, failed_use, left_alone}
+use Rattle.per_runtime.proofs.Handing.{memory_end, stopped_steps, there}
 use Rattle.per_runtime.proofs.Single.{only_reads}
 use Rattle.per_runtime.proofs.runtime.Runtime.hand.Goals as goal
 
@@ -9,7 +10,8 @@ answer-requires g c =
     let r = c.args.self.now in
     record {
       memory = (c.requires.memory.apps.each c.args.app c.index_mut.result.now
-          (there r.apps.items c.args.app c.index_mut.result.now c.requires.app c.requires.memory.apps.eight c.index_mut.ensures.value)).1;
+          (there r.apps.items c.args.app c.index_mut.result.now c.requires.app c.requires.memory.apps.eight
+          c.index_mut.ensures.value)).1;
     }
 
 pub returns-in-Ok : goal.returns-in-Ok
@@ -22,22 +24,29 @@ returns-in-Ok g c =
     let told = g.D.Disk.told in
     let old = g.D.Disk.medium c.args.disk.now in
     let new = g.D.Disk.medium c.answer.new.disk in
-    let reads = only_reads g.D.Disk.medium c.args.disk.now c.answer.new.disk told (g.met.D.Disk.lawful c.args.disk.now) in
+    let reads = only_reads g.D.Disk.medium c.args.disk.now c.answer.new.disk told (g.met.D.Disk.lawful c.args.disk.now)
+    in
     let here = there r.apps.items c.args.app a c.requires.app c.requires.memory.apps.eight c.index_mut.ensures.value in
     let is = c.in-Ok.ensures in
     record {
       end = record {
         memory = record {
-          apps = answered_use c.applications_stand.ensures c.running_is_application.ensures c.running_stays.ensures rules answers told old new r.now c.args.app c.args.call.now r.apps.items a a' r.in_doubt
-              c.requires.app c.requires.memory.apps c.requires.memory.quiet here c.requires.sure _ reads _ is c.in-Ok.reply is.end;
+          apps = answered_use c.applications_stand.ensures c.running_is_application.ensures c.running_stays.ensures
+              rules answers told old new r.now c.args.app c.args.call.now r.apps.items a a' r.in_doubt
+              c.requires.app c.requires.memory.apps c.requires.memory.quiet here c.requires.sure _ reads _ is
+              c.in-Ok.reply is.end;
           quiet = λ sure. is.end.quiet (c.requires.memory.quiet sure);
         };
         text = is.end.text;
         blamed = (is.time.faults, λ four. absurd (is.end.unfailed four));
-        stepped = λ tells doubt in_doubt. answered_steps c.applications_stand.ensures c.running_is_application.ensures c.running_stays.ensures rules answers told old new r.now c.args.app c.args.call.now r.apps.items a a' r.in_doubt
-            c.requires.app c.requires.memory.apps c.requires.memory.quiet here c.requires.sure _ reads _ is c.in-Ok.reply is.end tells doubt in_doubt;
+        stepped = λ tells doubt in_doubt. answered_steps c.applications_stand.ensures c.running_is_application.ensures
+            c.running_stays.ensures rules answers told old new r.now c.args.app c.args.call.now r.apps.items a a'
+            r.in_doubt
+            c.requires.app c.requires.memory.apps c.requires.memory.quiet here c.requires.sure _ reads _ is
+            c.in-Ok.reply is.end tells doubt in_doubt;
       };
-      idle = left_alone c.applications_stand.ensures c.running_is_application.ensures c.running_stays.ensures rules answers told old new r.now c.args.app c.args.call.now r.apps.items a a' r.in_doubt
+      idle = left_alone c.applications_stand.ensures c.running_is_application.ensures c.running_stays.ensures rules
+          answers told old new r.now c.args.app c.args.call.now r.apps.items a a' r.in_doubt
           c.requires.app c.requires.memory.apps c.requires.memory.quiet here c.requires.sure _ reads _ is;
       time = is.time;
     }
@@ -52,23 +61,29 @@ returns-in-Err-Device g c =
     let told = g.D.Disk.told in
     let old = g.D.Disk.medium c.args.disk.now in
     let new = g.D.Disk.medium c.answer.new.disk in
-    let reads = only_reads g.D.Disk.medium c.args.disk.now c.answer.new.disk told (g.met.D.Disk.lawful c.args.disk.now) in
+    let reads = only_reads g.D.Disk.medium c.args.disk.now c.answer.new.disk told (g.met.D.Disk.lawful c.args.disk.now)
+    in
     let here = there r.apps.items c.args.app a c.requires.app c.requires.memory.apps.eight c.index_mut.ensures.value in
     let is = c.in-Err-Device.ensures in
     let end = device_end _ _ _ c.in-Err-Device.field-0 c.in-Err-Device.field-0-is is.end in
     rw c.failed_reply.ensures (record {
       end = record {
         memory = record {
-          apps = failed_use c.applications_stand.ensures c.running_is_application.ensures c.running_stays.ensures rules answers told old new r.now c.args.app c.args.call.now r.apps.items a a' r.in_doubt
+          apps = failed_use c.applications_stand.ensures c.running_is_application.ensures c.running_stays.ensures rules
+              answers told old new r.now c.args.app c.args.call.now r.apps.items a a' r.in_doubt
               c.requires.app c.requires.memory.apps c.requires.memory.quiet here c.requires.sure _ reads _ is end;
           quiet = λ sure. absurd (true≢false sure);
         };
         text = refl;
         blamed = (is.time.faults, λ four. end.cause);
-        stepped = λ tells doubt in_doubt. failed_steps c.applications_stand.ensures c.running_is_application.ensures c.running_stays.ensures rules answers told old new r.now c.args.app c.args.call.now r.apps.items a a' r.in_doubt
-            c.requires.app c.requires.memory.apps c.requires.memory.quiet here c.requires.sure _ reads _ is end (g.met.D.Disk.lawful c.answer.new.disk) tells doubt in_doubt;
+        stepped = λ tells doubt in_doubt. failed_steps c.applications_stand.ensures c.running_is_application.ensures
+            c.running_stays.ensures rules answers told old new r.now c.args.app c.args.call.now r.apps.items a a'
+            r.in_doubt
+            c.requires.app c.requires.memory.apps c.requires.memory.quiet here c.requires.sure _ reads _ is end
+            (g.met.D.Disk.lawful c.answer.new.disk) tells doubt in_doubt;
       };
-      idle = left_alone c.applications_stand.ensures c.running_is_application.ensures c.running_stays.ensures rules answers told old new r.now c.args.app c.args.call.now r.apps.items a a' r.in_doubt
+      idle = left_alone c.applications_stand.ensures c.running_is_application.ensures c.running_stays.ensures rules
+          answers told old new r.now c.args.app c.args.call.now r.apps.items a a' r.in_doubt
           c.requires.app c.requires.memory.apps c.requires.memory.quiet here c.requires.sure _ reads _ is;
       time = is.time;
     })
@@ -83,14 +98,19 @@ returns-in-Err-OutOfMemory g c =
     let told = g.D.Disk.told in
     let old = g.D.Disk.medium c.args.disk.now in
     let new = g.D.Disk.medium c.answer.new.disk in
-    let reads = only_reads g.D.Disk.medium c.args.disk.now c.answer.new.disk told (g.met.D.Disk.lawful c.args.disk.now) in
+    let reads = only_reads g.D.Disk.medium c.args.disk.now c.answer.new.disk told (g.met.D.Disk.lawful c.args.disk.now)
+    in
     let here = there r.apps.items c.args.app a c.requires.app c.requires.memory.apps.eight c.index_mut.ensures.value in
     let is = c.in-Err-OutOfMemory.ensures in
     let end = memory_end _ _ _ c.in-Err-OutOfMemory.field-0 c.in-Err-OutOfMemory.field-0-is is.end in
     record {
-      end = λ tells doubt in_doubt. stopped_steps c.applications_stand.ensures c.running_is_application.ensures c.running_stays.ensures rules answers told old new r.now c.args.app c.args.call.now r.apps.items a a' r.in_doubt
-          c.requires.app c.requires.memory.apps c.requires.memory.quiet here c.requires.sure _ reads _ is end tells doubt in_doubt;
-      idle = left_alone c.applications_stand.ensures c.running_is_application.ensures c.running_stays.ensures rules answers told old new r.now c.args.app c.args.call.now r.apps.items a a' r.in_doubt
+      end = λ tells doubt in_doubt. stopped_steps c.applications_stand.ensures c.running_is_application.ensures
+          c.running_stays.ensures rules answers told old new r.now c.args.app c.args.call.now r.apps.items a a'
+          r.in_doubt
+          c.requires.app c.requires.memory.apps c.requires.memory.quiet here c.requires.sure _ reads _ is end tells
+          doubt in_doubt;
+      idle = left_alone c.applications_stand.ensures c.running_is_application.ensures c.running_stays.ensures rules
+          answers told old new r.now c.args.app c.args.call.now r.apps.items a a' r.in_doubt
           c.requires.app c.requires.memory.apps c.requires.memory.quiet here c.requires.sure _ reads _ is;
       time = is.time;
     }

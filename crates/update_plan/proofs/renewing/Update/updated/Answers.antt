@@ -13,21 +13,30 @@ loop-first-init g c =
     let self = c.args.self.now in
     let s = storage_data self.storage.now in
     let es = c.args.stored.now in
-    let b = begun (rules_of self.migrations.now) (answers_of self.migrations.now) self.moment s es c.requires.stored.each c.requires.storage.each in
-    let one = subst (λ xs. Renewing (rules_of self.migrations.now) (answers_of self.migrations.now) self.moment s (merged es s.elements) (merged es (map element_data xs)) []) (sym c.as_slice-elements.ensures) b in
-    subst (λ xs. Renewing (rules_of self.migrations.now) (answers_of self.migrations.now) self.moment s (merged es s.elements) (merged es (map element_data c.as_slice-elements.result.now)) xs) (sym c.new-contents.ensures.items) one
+    let b = begun (rules_of self.migrations.now) (answers_of self.migrations.now) self.moment s es
+    c.requires.stored.each c.requires.storage.each in
+    let one = subst (λ xs. Renewing (rules_of self.migrations.now) (answers_of self.migrations.now) self.moment s
+    (merged es s.elements) (merged es (map element_data xs)) []) (sym c.as_slice-elements.ensures) b in
+    subst (λ xs. Renewing (rules_of self.migrations.now) (answers_of self.migrations.now) self.moment s
+    (merged es s.elements) (merged es (map element_data c.as_slice-elements.result.now)) xs)
+    (sym c.new-contents.ensures.items) one
 
 pub loop-first-preserved : goal.loop-first-preserved
 loop-first-preserved g c =
     let self = c.args.self.now in
     let s = storage_data self.storage.now in
     let es = c.args.stored.now in
-    let more : c.match-branch-2.contents.items ≡ c.loop-first.contents.items ++ cons_option c.in_ok-fresh.field-0 [] = elim c.match-branch-2.branch [
-      | in-Some-2+in-Ok w ↦ ap (λ v. v.items) w.contents-is ∙ w.in-Ok.ensures.items ∙ sym (ap (λ o. c.loop-first.contents.items ++ cons_option o []) w.in-Some-2.is)
-      | in_default-2 w ↦ ap (λ v. v.items) w.contents-is ∙ sym (append-nil c.loop-first.contents.items) ∙ sym (ap (λ o. c.loop-first.contents.items ++ cons_option o []) w.in_default-2.is)
+    let more : c.match-branch-2.contents.items ≡ c.loop-first.contents.items ++ cons_option c.in_ok-fresh.field-0 [] =
+    elim c.match-branch-2.branch [
+      | in-Some-2+in-Ok w ↦ ap (λ v. v.items) w.contents-is ∙ w.in-Ok.ensures.items
+          ∙ sym (ap (λ o. c.loop-first.contents.items ++ cons_option o []) w.in-Some-2.is)
+      | in_default-2 w ↦ ap (λ v. v.items) w.contents-is ∙ sym (append-nil c.loop-first.contents.items)
+          ∙ sym (ap (λ o. c.loop-first.contents.items ++ cons_option o []) w.in_default-2.is)
     ] in
-    next (rules_of self.migrations.now) (answers_of self.migrations.now) self.moment s (merged es s.elements) (merged c.loop-first.entries.now (map element_data c.loop-first.elements.now))
-    (merged c.in-Some.first.stored.now (map element_data c.in-Some.first.configured.now)) (item_of c.in-Some.first.item) c.in_ok-fresh.field-0 c.loop-first.contents.items c.match-branch-2.contents.items
+    next (rules_of self.migrations.now) (answers_of self.migrations.now) self.moment s (merged es s.elements)
+    (merged c.loop-first.entries.now (map element_data c.loop-first.elements.now))
+    (merged c.in-Some.first.stored.now (map element_data c.in-Some.first.configured.now)) (item_of c.in-Some.first.item)
+    c.in_ok-fresh.field-0 c.loop-first.contents.items c.match-branch-2.contents.items
     c.loop-first.invariant c.in-Some.ensures.merged c.in_ok-fresh.ensures.renewed c.in_ok-fresh.ensures.made more
 
 pub returns : goal.returns
@@ -35,5 +44,6 @@ returns g c =
     let self = c.args.self.now in
     let s = storage_data self.storage.now in
     let es = c.args.stored.now in
-    ended (rules_of self.migrations.now) (answers_of self.migrations.now) self.moment s (merged es s.elements) (merged c.loop-first.entries.now (map element_data c.loop-first.elements.now)) c.loop-first.contents.items
+    ended (rules_of self.migrations.now) (answers_of self.migrations.now) self.moment s (merged es s.elements)
+    (merged c.loop-first.entries.now (map element_data c.loop-first.elements.now)) c.loop-first.contents.items
     c.loop-first.invariant (c.first_item.ensures.merged ∙ ap items_by c.in_default.is)

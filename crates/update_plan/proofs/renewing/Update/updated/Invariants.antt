@@ -7,8 +7,10 @@ use Rattle.update_plan.proofs.renewing.Update.updated.Given as goal
 
 -- what was made, and behind it what the rest becomes
 abbrev pub invariant-loop-first : goal.invariant-loop-first
-invariant-loop-first g l = Renewing (rules_of l.self.migrations.now) (answers_of l.self.migrations.now) l.self.moment (storage_data l.self.storage.now)
-    (merged l.fn.stored (map element_data l.self.storage.now.elements)) (merged l.entries (map element_data l.elements)) l.contents.items
+invariant-loop-first g l = Renewing (rules_of l.self.migrations.now) (answers_of l.self.migrations.now) l.self.moment
+    (storage_data l.self.storage.now)
+    (merged l.fn.stored (map element_data l.self.storage.now.elements)) (merged l.entries (map element_data l.elements))
+    l.contents.items
 
 abbrev pub decreases-loop-first : goal.decreases-loop-first
 decreases-loop-first g l = length l.entries + length l.elements
