@@ -9,5 +9,6 @@ pub mod Spread
 pub mod Everywhere
 pub mod Sharing
 pub mod BlockReads
+pub mod Runs
 pub mod Counting
 pub mod AsideLaws

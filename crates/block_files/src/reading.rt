@@ -1,17 +1,18 @@
 //! What the copies of a content hold.
 
-ghost use Rattle.std.specs.Prelude.{◌≡◌, ◌≤◌, ◌-◌, ◌*◌, ◌++◌, IsTrue, IfOk, IfSome, OnErr, IsErrOf, length, map, min};
-ghost use Rattle.std.specs.Prelude.{take, replicate, OnOk};
+ghost use Rattle.std.specs.Prelude.{◌≡◌, ◌≢◌, ◌<◌, ◌≤◌, ◌+◌, ◌*◌, ℕ, IsTrue, IfOk, IfSome, OnOk, OnErr, IsErrOf};
+ghost use Rattle.std.specs.Prelude.{length, map, min, slice_index};
 ghost use Rattle.std.specs.List.{range_with_len};
 ghost use Rattle.std.specs.Option.{option_map};
 ghost use Rattle.per_base.specs.Causes.{Rose};
 ghost use Rattle.disk_model.specs.Place.{area};
 ghost use Rattle.disk_model.specs.Medium.{Elapses, OnlyReads};
 ghost use Rattle.m_of_n.specs.Vote.{texts_of};
-ghost use Rattle.block_files.specs.Areas.{block, joined, is_within, within};
+ghost use Rattle.block_files.specs.Areas.{joined, is_within, within};
 ghost use Rattle.block_files.specs.Contents.{counting, contents, HaveSize};
 
 use crate::errors::BlobError;
+use crate::parts::count_blocks;
 use disk_model::{Disk, DiskFailed, Place};
 use hash_guard::hash as hash_of;
 use per_base::BLOCK;
@@ -101,38 +102,66 @@ fn read_joined<D: Disk>(
     ensures passes { OnOk result ((D.medium disk.new).faults ≡ (D.medium disk.old).faults) }
     ensures fed { IsErrOf result BlobError.OutOfMemory → (D.medium disk.new).faults ≡ (D.medium disk.old).faults }
 {
-    let mut bytes = Vec::new(alloc);
-    for number in blocks {
-        let content = read_block(disk, file, *number)?;
-        let left = len.saturating_sub(bytes.len());
-        bytes.extend_from_slice(&content[..left.min(BLOCK)])?;
-    }
+    let size = len.min(blocks.len().saturating_mul(BLOCK));
+    let mut bytes = vec![in alloc; 0; size]?;
+    read_runs(disk, file, blocks, &mut bytes)?;
     Ok(bytes)
 }
 
-// The bytes of a block, with zeros past the file's end.
-fn read_block<D: Disk>(disk: &mut D, file: u32, number: u32) -> Result<[u8; BLOCK], DiskFailed>
-    ensures bytes { IsTrue D.told → IfOk result (λ bytes. bytes ≡ block ((D.medium disk.old).image file) number) }
-    ensures long { IfOk result (λ bytes. length bytes ≡ 256) }
+// Fills `out` with the bytes of the blocks, by one read for each run of blocks that follow one another.
+fn read_runs<D: Disk>(
+    disk: &mut D,
+    file: u32,
+    blocks: &[u32],
+    out: &mut [u8],
+) -> Result<(), DiskFailed>
+    requires room { length out.old ≤ 256 * length blocks.now }
+    ensures bytes { IsTrue D.told → OnOk result (out.new
+        ≡ joined ((D.medium disk.old).image file) blocks.now (length out.old)) }
     ensures reads { OnlyReads (D.medium disk.old) (D.medium disk.new) }
     ensures time { Elapses (D.medium disk.old) (D.medium disk.new) }
     ensures cause { OnErr result (Rose (D.medium disk.old).faults (D.medium disk.new).faults) }
     ensures passes { OnOk result ((D.medium disk.new).faults ≡ (D.medium disk.old).faults) }
 {
-    let mut content = [0; BLOCK];
-    let n = disk.read(file, BLOCK as u64 * u64::from(number), &mut content)?;
-    clear_from(&mut content, n);
-    Ok(content)
+    let needed = count_blocks(out.len());
+    let mut next = 0;
+    while next < needed {
+        let end = next + count_run(&blocks[next..needed]);
+        let stop = (BLOCK * end).min(out.len());
+        read_from(disk, file, blocks[next], &mut out[BLOCK * next..stop])?;
+        next = end;
+    }
+    Ok(())
 }
 
-// Writes zeros from this byte on.
-fn clear_from(content: &mut [u8; BLOCK], n: usize)
-    requires { n ≤ 256 }
-    ensures { content.new ≡ take n content.old ++ replicate (256 - n) 0 }
+// How many of the blocks, from the first on, follow one another.
+fn count_run(blocks: &[u32]) -> usize
+    ensures within { result ≤ length blocks.now }
+    ensures some { 0 < length blocks.now → 0 < result }
+    ensures follow { (i : ℕ) → i < result → slice_index blocks.now i ≡ slice_index blocks.now 0 + i }
+    ensures longest { result < length blocks.now
+        → slice_index blocks.now result ≢ slice_index blocks.now 0 + result }
 {
-    for i in n..BLOCK {
-        content[i] = 0;
+    for i in 1..blocks.len() {
+        if u64::from(blocks[i]) != u64::from(blocks[0]) + i as u64 {
+            return i;
+        }
     }
+    blocks.len()
+}
+
+// Fills `out` with the bytes from the block on, with zeros past the file's end.
+fn read_from<D: Disk>(disk: &mut D, file: u32, block: u32, out: &mut [u8]) -> Result<(), DiskFailed>
+    ensures bytes { IsTrue D.told → OnOk result ((i : ℕ) → i < length out.old
+        → slice_index out.new i ≡ slice_index ((D.medium disk.old).image file) (256 * block + i)) }
+    ensures reads { OnlyReads (D.medium disk.old) (D.medium disk.new) }
+    ensures time { Elapses (D.medium disk.old) (D.medium disk.new) }
+    ensures cause { OnErr result (Rose (D.medium disk.old).faults (D.medium disk.new).faults) }
+    ensures passes { OnOk result ((D.medium disk.new).faults ≡ (D.medium disk.old).faults) }
+{
+    let count = disk.read(file, BLOCK as u64 * u64::from(block), out)?;
+    out[count..].fill(0);
+    Ok(())
 }
 
 // Whether a file of this size has all bytes of a content.
