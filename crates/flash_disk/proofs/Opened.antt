@@ -125,10 +125,11 @@ module _ (told : Bool) (old new : FlashMedium) (lawful : IsLawfulFlash told new)
   still_so P holds t = subst (λ b. P new.state.pages b) (sym blocks)
       (subst (λ p. P p old.blocks) (sym (pages t)) (holds t))
 
-  pub begins : (own : ℕ) → (IsTrue told → IsUsable old.state.pages old.blocks)
+  pub begins : (own : ℕ) → 4 ≤ old.blocks → old.blocks ≤ 4096 → (IsTrue told → IsUsable old.state.pages old.blocks)
       → Begins told old (flash_disk_medium told new own 0)
-  begins own usable = record {
-    opens = opens_now told new own 0 lawful (still_so IsUsable usable);
+  begins own many few usable = record {
+    opens = opens_now told new own 0 lawful (subst (λ (n : ℕ). 4 ≤ n) (sym blocks) many)
+        (subst (λ (n : ℕ). n ≤ 4096) (sym blocks) few) (still_so IsUsable usable);
     agrees = λ agreed. agrees_now told new own 0 lawful (still_so (λ p b. IsAgreed p (places b)) agreed);
   }
 

@@ -149,6 +149,8 @@ usable_then a b c first second early late = record {
 pub usable_since : (a b : FlashMedium) → FlashElapses a b → KeepsUsable a b → (t : ℕ) → t ≤ a.moment → UsableSince a t
     → UsableSince b t
 usable_since a b time kept t le was = record {
+  many = subst (λ (n : ℕ). 4 ≤ n) (sym time.blocks) was.many;
+  few = subst (λ (n : ℕ). n ≤ 4096) (sym time.blocks) was.few;
   now = subst (IsUsable b.state.pages) (sym time.blocks) kept.now;
   during = λ c past plain. subst (IsUsable c.left) (sym time.blocks)
       (⊎_elim (λ before. was.during c before plain) (λ since. kept.during c since plain)

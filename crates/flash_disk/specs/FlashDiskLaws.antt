@@ -95,8 +95,11 @@ module _ (told : Bool) (m : FlashMedium) (own written : ℕ) where
           (subst (λ k. m.since k (still_case s)) (told_moment told m.moment tells) past)
 
   -- what can be opened, or has no rivals, is so since now: with what calls keep, at each moment from now on
-  pub opens_now : IsLawfulFlash told m → (IsTrue told → IsUsable m.state.pages m.blocks) → disk.opens disk.moment
-  opens_now lawful usable tells = record {
+  pub opens_now : IsLawfulFlash told m → 4 ≤ m.blocks → m.blocks ≤ 4096
+      → (IsTrue told → IsUsable m.state.pages m.blocks) → disk.opens disk.moment
+  opens_now lawful many few usable tells = record {
+    many = many;
+    few = few;
     now = usable tells;
     during = λ c past plain. subst (λ p. IsUsable p m.blocks) (sym (left_now lawful tells c past)) (usable tells);
   }

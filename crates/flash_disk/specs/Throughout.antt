@@ -1,5 +1,5 @@
 -- What holds of a flash at every moment of the calls of its disk, if no page passes its hash by chance.
-use Rattle.std.specs.Prelude.{◌≡◌, ℕ}
+use Rattle.std.specs.Prelude.{◌≡◌, ℕ, ◌≤◌}
 use Rattle.flash_model.specs.Pages.{IsPlain}
 use Rattle.flash_model.specs.State.{FlashCase}
 use Rattle.flash_model.specs.FlashMedium.{FlashMedium}
@@ -20,8 +20,10 @@ pub record KeepsAgreed (old new : FlashMedium) : Type 0 where
 
 -- ---- the same from a moment on
 
--- it can be opened now, and after a crash at any moment since this one
+-- it can be opened now, and after a crash at any moment since this one; nor are its blocks too few or too many
 pub record UsableSince (m : FlashMedium) (t : ℕ) : Type 0 where
+  pub many : 4 ≤ m.blocks
+  pub few : m.blocks ≤ 4096
   pub now : IsUsable m.state.pages m.blocks
   pub during : (c : FlashCase) → m.since t c → IsPlain c.before c.whole c.left → IsUsable c.left m.blocks
 

@@ -2,7 +2,7 @@
 
 ghost use Rattle.std.specs.Prelude.{ℕ, ◌<◌};
 ghost use Rattle.flash_model.specs.Pages.{Pages};
-ghost use Rattle.flash_disk.specs.Newest.{places, IsUsable};
+ghost use Rattle.flash_disk.specs.Newest.{places, IsUsable, IsUnusable};
 ghost use Rattle.flash_disk.specs.Standing.{IsAgreed, HasRivals};
 ghost use Rattle.flash_disk.specs.Fresh.{IsBlankFlash};
 
@@ -13,4 +13,9 @@ pub fn fresh_flashes_open()
     ensures agreed { (pages : Pages) (blocks : ℕ) → IsBlankFlash pages blocks → IsAgreed pages (places blocks) }
     ensures no_rivals { (pages : Pages) (blocks : ℕ) → IsAgreed pages (places blocks) → HasRivals pages (places blocks)
         → ⊥ }
+{}
+
+/// A flash that can be opened is not refused as unusable.
+pub fn usable_flashes_are_taken()
+    ensures { (pages : Pages) (blocks : ℕ) → IsUsable pages blocks → IsUnusable pages blocks → ⊥ }
 {}

@@ -40,4 +40,4 @@ mod serving;
 mod table;
 
 pub use disk::{FlashDisk, FlashOpenError, FlashRefused};
-pub use laws::fresh_flashes_open;
+pub use laws::{fresh_flashes_open, usable_flashes_are_taken};

@@ -39,12 +39,14 @@ impl<F: Flash> FlashDisk<F> {
         ensures faults { MatchResult result (λ disk. (F.medium disk.flash).faults ≡ (F.medium flash).faults)
             (λ refused. (F.medium flash).faults ≤ (F.medium refused.flash).faults) }
 
-        // A flash that opens is usable; one that is refused as unusable is not.
+        // A flash that opens is usable; one that is refused as unusable is not, and none of its calls failed.
         ensures usable { IsTrue F.told → OnOk result (IsUsable (F.medium flash).state.pages (F.medium flash).blocks) }
         ensures throughout { IsTrue F.told → IfOk result (λ disk. KeepsUsable (F.medium flash) (F.medium disk.flash)) }
         ensures agreed { IsTrue F.told → IfOk result (λ disk. KeepsAgreed (F.medium flash) (F.medium disk.flash)) }
         ensures unusable { IsTrue F.told → IfErr result (λ refused. refused.error ≡ FlashOpenError.Unusable
             → IsUnusable (F.medium flash).state.pages (F.medium flash).blocks) }
+        ensures unfailed { IfErr result (λ refused. refused.error ≡ FlashOpenError.Unusable
+            → (F.medium refused.flash).faults ≡ (F.medium flash).faults) }
 
         // No page changes, nothing counts as a fault of the disk yet, and a crash leaves what the flash held, meanwhile
         // and afterwards.

@@ -9,15 +9,19 @@
 //! | `run WORDS` | runs the program with these words: `< REPLY` for each line of its output, and `= STATUS`; `over a disk: STATUS` and that output too, where the disk's are not the same |
 //! | `? LINE` | a line that looks at what is left, for the next row |
 //! | `stops WORDS` | the lines so far on the flash as the last run left it, the last one stopped at each call of the flash in turn: `= ANSWERS` of the look in a new run, each once in a row |
+//! | `outages WORDS` | the lines so far on such a flash, with power going off in each call that changes pages: `Sweep` says what is expected |
+//! | `failures WORDS` | the same with each call of the flash failing alone |
 //! | any other | nothing |
 //!
 //! Between two runs the flash and the disk restart with all that was written.
 #![tactic(auto)]
 
+mod device;
 mod full;
 mod runs;
 mod scripts;
 mod sessions;
+mod sweeps;
 
 use migrate_fns::Migrations;
 use number_converters::{WithConverters, with_converters};

@@ -1,7 +1,7 @@
 //! One run of the program, over streams in memory.
 
 use disk_model::MemDisk;
-use flash_model::MemFlash;
+use flash_model::Flash;
 use migrate_fns::Migrations;
 use per_base::{MemSink, MemSource};
 use per_run::{FlashRun, per_flash, per_run};
@@ -38,28 +38,33 @@ impl Ran {
 
     /// The lines of the output but for reports, with ` | ` between them.
     pub(crate) fn answers(&self, alloc: Global) -> Result<String, AllocError> {
-        let mut answers = String::new(alloc);
-        for line in self.output.lines() {
-            if line.starts_with("report ") {
-                continue;
-            }
-            if !answers.is_empty() {
-                answers.push_str(" | ")?;
-            }
-            answers.push_str(line)?;
-        }
-        Ok(answers)
+        answers(alloc, self.output.as_str())
     }
 }
 
+/// The lines of an output but for reports, with ` | ` between them.
+pub(crate) fn answers(alloc: Global, output: &str) -> Result<String, AllocError> {
+    let mut answers = String::new(alloc);
+    for line in output.lines() {
+        if line.starts_with("report ") {
+            continue;
+        }
+        if !answers.is_empty() {
+            answers.push_str(" | ")?;
+        }
+        answers.push_str(line)?;
+    }
+    Ok(answers)
+}
+
 /// Runs the program with these words over this input and a flash, and hands the flash back.
-pub(crate) fn run_over_flash(
+pub(crate) fn run_over_flash<F: Flash + Drop>(
     alloc: Global,
     words: &str,
     migrations: &Migrations,
     input: &str,
-    flash: MemFlash,
-) -> Result<(Ran, MemFlash), AllocError> {
+    flash: F,
+) -> Result<(Ran, F), AllocError> {
     let words = words_of(alloc, words)?;
     let mut source = source_of(alloc, input)?;
     let mut sink = MemSink::new(alloc, SINK_PIECE, Vec::new(alloc));

@@ -1,8 +1,10 @@
 //! Scripts: what was run on a flash since it was fresh, and lines of which the last is stopped at each call of the
 //! flash.
 
+use crate::device::Device;
 use crate::runs::{Ran, run_over_flash};
-use flash_model::MemFlash;
+use crate::sweeps::Sweep;
+use flash_model::{Flash, MemFlash};
 use migrate_fns::Migrations;
 use std::alloc::{AllocError, Global};
 
@@ -89,13 +91,60 @@ impl Script {
         Ok(shown)
     }
 
+    /// What comes of the lines with power going off in each call.
+    pub(crate) fn outages(
+        &self,
+        migrations: &Migrations,
+        words: &str,
+    ) -> Result<String, AllocError> {
+        let lines = self.input()?;
+        self.sweep(migrations, words, lines.as_str())?.outages()
+    }
+
+    /// What comes of the lines with each call failing alone.
+    pub(crate) fn failures(
+        &self,
+        migrations: &Migrations,
+        words: &str,
+    ) -> Result<String, AllocError> {
+        let lines = self.input()?;
+        self.sweep(migrations, words, lines.as_str())?.failures()
+    }
+
+    /// Lines on the flash on which all was run that was run so far.
+    fn sweep<'a>(
+        &'a self,
+        migrations: &'a Migrations,
+        words: &'a str,
+        lines: &'a str,
+    ) -> Result<Sweep<'a>, AllocError> {
+        let fresh = Device::new(self.alloc, self.blocks)?;
+        Ok(Sweep {
+            alloc: self.alloc,
+            migrations,
+            words,
+            start: self.replayed(migrations, fresh)?,
+            lines,
+            look: self.look.as_str(),
+        })
+    }
+
     fn input(&self) -> Result<String, AllocError> {
         format!(in self.alloc; "{}{}", self.front, self.last)
     }
 
     /// The flash on which all was run that was run so far.
     fn flash(&self, migrations: &Migrations) -> Result<MemFlash, AllocError> {
-        let mut flash = MemFlash::new(self.alloc, self.blocks)?;
+        self.replayed(migrations, MemFlash::new(self.alloc, self.blocks)?)
+    }
+
+    /// A fresh flash after all that was run so far.
+    fn replayed<F: Flash + Drop>(
+        &self,
+        migrations: &Migrations,
+        fresh: F,
+    ) -> Result<F, AllocError> {
+        let mut flash = fresh;
         for past in &self.past {
             let (_, left) = run_over_flash(
                 self.alloc,

@@ -40,6 +40,8 @@ impl Session {
             "?" => self.script.add_look(rest)?,
             "run" => return self.run(migrations, rest),
             "stops" => return Ok(self.script.stops(migrations, rest)?),
+            "outages" => return Ok(self.script.outages(migrations, rest)?),
+            "failures" => return Ok(self.script.failures(migrations, rest)?),
             _ => {}
         }
         Ok(String::new(self.alloc))

@@ -8,3 +8,4 @@ pub mod Nothing
 pub mod Replaced
 pub mod ExportRows
 pub mod ImportRows
+pub mod Numbers

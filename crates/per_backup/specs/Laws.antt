@@ -1,5 +1,6 @@
 -- What an import makes of an export: the statements of the laws.
-use Rattle.std.specs.Prelude.{◌≡◌, ℕ, List, true, Some, Ok}
+use Rattle.std.specs.Prelude.{◌≡◌, ℕ, List, true, Some, Ok, IfErr, IsSome}
+use Rattle.per_base.specs.Errors.{error_number}
 use Rattle.per_base.specs.FieldLaws.{IsBytes}
 use Rattle.deployment_model.specs.Data.{StorageData}
 use Rattle.element_state.specs.States.{State, fresh_map, fresh_state, next_generation, salvage_of}
@@ -27,3 +28,10 @@ ExportedLaw = (from into : StorageData) (old state : State) (x : Export) → exp
 abbrev pub AgainLaw : Type 0
 AgainLaw = (a b : App) (name text : List ℕ) → IsBytes text → importing_into a name text ≡ Ok b
     → exporting b name ≡ Ok text
+
+-- every refusal has a number, and so a line that says it
+abbrev pub ExportNumbersLaw : Type 0
+ExportNumbersLaw = (a : App) (name : List ℕ) → IfErr (exporting a name) (λ e. IsSome (error_number e))
+
+abbrev pub ImportNumbersLaw : Type 0
+ImportNumbersLaw = (a : App) (name text : List ℕ) → IfErr (importing_into a name text) (λ e. IsSome (error_number e))

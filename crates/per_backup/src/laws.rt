@@ -1,6 +1,6 @@
 //! Laws, for the proofs of callers: none of these functions does anything when it runs.
 
-ghost use Rattle.per_backup.specs.Laws.{AgainLaw, ExportedLaw, ImportsLaw};
+ghost use Rattle.per_backup.specs.Laws.{AgainLaw, ExportNumbersLaw, ExportedLaw, ImportNumbersLaw, ImportsLaw};
 ghost use Rattle.per_backup.specs.StorageLaws.{StorageLaws};
 
 use deploy_laws::{files_lie_apart, others_stand, roots_say, storing_stands, untouched_stands};
@@ -16,6 +16,12 @@ pub fn exports_come_back()
 {
     export_is_exact();
 }
+
+/// Every refusal of an export and of an import has a number, and so a line that says it.
+pub fn refusals_are_numbered()
+    ensures exports { ExportNumbersLaw }
+    ensures imports { ImportNumbersLaw }
+{}
 
 /// A storage's files lie apart from all others: what changes them alone changes that storage alone, also at every
 /// moment.

@@ -17,4 +17,4 @@ mod typing;
 
 pub use exporting::{Exported, export};
 pub use importing::import;
-pub use laws::exports_come_back;
+pub use laws::{exports_come_back, refusals_are_numbered};

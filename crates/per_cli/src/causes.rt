@@ -5,7 +5,8 @@ use std::rt::Files;
 use std::{fmt, fs, io};
 
 /// The line where the words are refused.
-const USAGE: &str = "usage: per --dir DIR [--flash N] [--format | --generate N | --audit]";
+const USAGE: &str =
+    "usage: per --dir DIR [--flash N] [--format | --generate N | --audit | --export A:S | --import A:S]";
 
 /// Why calls of the disk failed.
 #[derive(Clone, Copy, Debug)]
@@ -62,6 +63,10 @@ pub(crate) fn say<R: Files + Eprint>(rt: &R, ended: &Ended<'_>) -> io::Result<()
         ),
         8 if !ended.has_files => say_of_folder(rt, ended),
         8 => rt.eprintln("per: the audit found something; its lines say what"),
+        9 if !ended.has_files => say_of_folder(rt, ended),
+        9 => rt.eprintln(
+            "per: the export or the import was refused; the line that was written says why",
+        ),
         10 => eprintln!(rt;
             "per: the flash in {dir} cannot be opened: it holds more pages of files than so many blocks may, or no block is spare"
         ),

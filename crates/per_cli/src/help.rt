@@ -9,8 +9,10 @@ const HELP: &str =
   ./per --dir DIR                 handles the lines of standard input
   ./per --generate N --dir DIR    formats, and handles a large input that is made from N, 1 to 100000
   ./per --audit --dir DIR         lists what is kept, and what is damaged or lost; mends nothing
+  ./per --export A:S --dir DIR    writes storage S of application A, 0 to 7, as one text; mends nothing
+  ./per --import A:S --dir DIR    makes that storage anew of such a text on standard input, whole or not at all
   ./per --flash N --dir DIR       the same as without --flash, in one file of the folder that stands for raw flash of N blocks, 4 to 4096;
-                                  beside --format, --generate or --audit too
+                                  beside --format, --generate, --audit, --export or --import too
   ./per --demo                    shows a first session, in a folder of its own
   ./per --help                    shows this
 
@@ -100,17 +102,19 @@ Errors
  27 UpdateNotFinished        the previous version, which is still kept
  28 VersionNotNewer          the active version, the offered one
  30 NoUpdateInProgress
+ 31 ExportRejected           the text is no export of a storage of this kind
 
 Status
   0 all lines were handled and answered
   1 the words are refused
   2 a line is outside the grammar; bad-line and its number are the last reply
-  3 the disk failed while the program started or formatted, or in an audit
+  3 the disk failed while the program started or formatted, or in an audit, an export or an import
   4 memory ran out
   5 the input failed
   6 the output failed
   7 the input has 67108864 bytes or more
   8 the audit found something; its lines say what
+  9 the export or the import was refused; its line says why
  10 the flash cannot be opened: too many pages of files, or no spare block
  11 the flash has fewer than 4 blocks, or more than 4096
  12 the system does not give the words

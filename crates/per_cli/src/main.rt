@@ -4,8 +4,9 @@
 //! status of [`per_run::per_run`] over them and the six converters of [`number_converters`]. `per --help` says what
 //! there is, and `per --demo` shows a first session.
 //!
-//! Where a run did not end well, one line on standard error says why ([`causes`]). Two statuses are main's own: 4 where
-//! memory runs out before the top call, and 12 where the system does not give the words.
+//! Where a run did not end well, one line on standard error says why ([`causes`]). Main itself ends with 4 where memory
+//! runs out before the top call, and with 12 where the system does not give the words; help and the demo also with 6
+//! where the output fails, and the demo with 3 where its folder cannot be made.
 #![tactic(auto)]
 
 mod causes;

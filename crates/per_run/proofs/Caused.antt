@@ -2,6 +2,8 @@
 use Rattle.std.proofs.Common.{ℕ, zero, suc, ◌<◌, ◌≤◌, ◌-◌, List, [], ◌∷◌, ◌++◌, length, ◌≡◌, ◌⊎◌, inl, inr, refl, sym}
 use Rattle.std.proofs.Common.{◌∙◌, ap, subst, arith, Option, Some, None, option_map, Err, Bool, true, false, ◌&&◌}
 use Rattle.std.proofs.Common.{nat_eq, nat_le, IfSome, slice_index_or, codes, if◌then◌else◌}
+use Rattle.std.proofs.KnownBytes.{Consumes-nil}
+use Rattle.std.proofs.lemmas.Bool.{leb-true}
 use Rattle.std.specs.Bool.{⊤}
 use Rattle.std.specs.List.{AllByRecursion, Contains}
 use Rattle.std.specs.Str.Parse.{digits_value, without_leading_plus}
@@ -12,6 +14,7 @@ use Rattle.clap.specs.Walk.{Row, first_of}
 use Rattle.clap.specs.declared.builder.value_parser.ValueParser.TheVariants as vp
 use Rattle.per_base.specs.Causes.{Rose}
 use Rattle.per_base.specs.Fields.{◌>>=◌, only_if}
+use Rattle.per_base.specs.Names.{is_name}
 use Rattle.disk_model.specs.Laws.{elapses_none}
 use Rattle.disk_model.specs.Medium.{Medium, IsLawful}
 use Rattle.migrate_fns.specs.Rules.{Rule, Answers}
@@ -20,17 +23,21 @@ use Rattle.run_model.specs.Endings as endings
 use Rattle.run_model.specs.Endings.{Ending, Failed, HasCauseOf, status_of}
 use Rattle.run_model.specs.Lines.{IsWellFormed}
 use Rattle.run_model.specs.Runs as runs
+use Rattle.per_run.specs.declared.endings.Ending as parts
+use Rattle.per_run.specs.declared.endings.Ending.TheVariants as part
 use Rattle.per_run.specs.declared.words.Job.{Job}
 use Rattle.per_run.specs.declared.words.JobKind.{JobKind}
-use Rattle.per_run.specs.declared.words.JobKind.TheVariants.{Run, Format, Generate, Audit}
+use Rattle.per_run.specs.declared.words.JobKind.TheVariants.{Run, Format, Generate, Audit, Export, Import}
 use Rattle.per_run.specs.Jobs.{IsCaused, JobDone, by_disk, by_itself, by_sink, by_source, statuses_of}
-use Rattle.per_run.specs.Steps.{IsInRange}
-use Rattle.per_run.specs.Words.{command, dir_of, flagged, flash_of, generate_of, has_matches, is_set, job_in, job_of}
-use Rattle.per_run.specs.Words.{kind_in, modes, only_mode, reads_input, valued}
-use Rattle.per_run.proofs.Answered.{audits_none}
+use Rattle.per_run.specs.Steps.{IsCut, IsInRange, ending_of}
+use Rattle.per_run.specs.Words.{command, dir_of, export_of, flagged, flash_of, generate_of, has_matches, import_of}
+use Rattle.per_run.specs.Words.{is_application, is_set, job_in, job_of, kind_in, modes, only_mode, reads_input}
+use Rattle.per_run.specs.Words.{target_of, valued}
+use Rattle.per_run.proofs.Answered.{audits_none, exports_none, imports_cut}
 use Rattle.per_run.proofs.Begins.{run_short, unbegun}
 use Rattle.per_run.proofs.Completes.{OneLine, completes}
 use Rattle.per_run.proofs.Fresh.{formats_none, generates_none}
+use Rattle.per_run.proofs.Inputs.{not_seen}
 use Rattle.per_run.proofs.Outputs.{nothing_changed}
 
 -- ---- statuses
@@ -76,6 +83,8 @@ short_caused Run b n = by_itself (2, omega arith, refl)
 short_caused Format b n = by_itself (1, omega arith, refl)
 short_caused (Generate k) b n = by_itself (1, omega arith, refl)
 short_caused Audit b n = by_itself (1, omega arith, refl)
+short_caused (Export app name) b n = by_itself (1, omega arith, refl)
+short_caused (Import app name) b n = by_itself (1, omega arith, refl)
 
 -- the output of a job that came to it, by this status where all of it was taken
 pub output_caused : (kind : JobKind) (status done : ℕ) (b n : Failed) → Contains (statuses_of kind) done
@@ -93,6 +102,43 @@ audit_caused status b n (inl (inl none)) = output_caused Audit status 0 b n (0, 
 audit_caused status b n (inl (inr eight)) = output_caused Audit status 8 b n (2, omega arith, refl) (inl eight)
 audit_caused status b n (inr other) = output_caused Audit status 0 b n (0, omega arith, refl) (inr other)
 
+-- an export or an import that was answered
+answered_caused : (kind : JobKind) (status : ℕ) (b n : Failed) → Contains (statuses_of kind) 0
+    → Contains (statuses_of kind) 9 → ((status ≡ 0) ⊎ (status ≡ 9))
+    ⊎ ((status ≡ 4) ⊎ ((status ≡ 6) × Rose b.sink n.sink)) → IsCaused kind status b n
+answered_caused kind status b n has_0 has_9 (inl (inl none)) = output_caused kind status 0 b n has_0 (inl none)
+answered_caused kind status b n has_0 has_9 (inl (inr nine)) = output_caused kind status 9 b n has_9 (inl nine)
+answered_caused kind status b n has_0 has_9 (inr other) = output_caused kind status 0 b n has_0 (inr other)
+
+pub export_caused : (app : ℕ) (name : List ℕ) (status : ℕ) (b n : Failed) → ((status ≡ 0) ⊎ (status ≡ 9))
+    ⊎ ((status ≡ 4) ⊎ ((status ≡ 6) × Rose b.sink n.sink)) → IsCaused (Export app name) status b n
+export_caused app name status b n is =
+    answered_caused (Export app name) status b n (0, omega arith, refl) (2, omega arith, refl) is
+
+pub import_caused : (app : ℕ) (name : List ℕ) (status : ℕ) (b n : Failed) → ((status ≡ 0) ⊎ (status ≡ 9))
+    ⊎ ((status ≡ 4) ⊎ (((status ≡ 3) × Rose b.disk n.disk) ⊎ ((status ≡ 6) × Rose b.sink n.sink)))
+    → IsCaused (Import app name) status b n
+import_caused app name status b n (inl is) =
+    answered_caused (Import app name) status b n (0, omega arith, refl) (3, omega arith, refl) (inl is)
+import_caused app name status b n (inr (inl four)) =
+    answered_caused (Import app name) status b n (0, omega arith, refl) (3, omega arith, refl) (inr (inl four))
+import_caused app name status b n (inr (inr (inl disk))) = by_disk disk.0 disk.1
+import_caused app name status b n (inr (inr (inr sink))) = by_sink sink.0 sink.1
+
+-- and one whose input was not read whole
+pub cut_caused : (app : ℕ) (name : List ℕ) (ending : parts.Ending) (status count : ℕ) (b n : Failed)
+    → status ≡ status_of (ending_of ending) → IsCut ending count → (ending ≡ part.Source → Rose b.source n.source)
+    → IsCaused (Import app name) status b n
+cut_caused app name part.AllRead status count b n is cut rose = absurd cut
+cut_caused app name part.EndLine status count b n is cut rose = absurd cut
+cut_caused app name part.BadLine status count b n is cut rose = absurd cut
+cut_caused app name part.OutOfMemory status count b n is cut rose =
+    by_itself (among status 4 (statuses_of (Import app name)) is (1, omega arith, refl))
+cut_caused app name part.Source status count b n is cut rose = by_source is refl (rose refl)
+cut_caused app name part.Sink status count b n is cut rose = absurd cut
+cut_caused app name part.TooLong status count b n is cut rose =
+    by_itself (among status 7 (statuses_of (Import app name)) is (2, omega arith, refl))
+
 no_one : (xs : List ℕ) → AllByRecursion (λ x. x ≡ 1 → ⊥) xs → (k : ℕ) → k < length xs → slice_index_or xs k 1 ≡ 1 → ⊥
 no_one [] each k within is = absurd (omega (arith, within))
 no_one (x ∷ xs) each zero within is = each.0 is
@@ -109,6 +155,14 @@ others_than_one Run = (
 others_than_one Format = (λ is. omega (arith, is), (λ is. omega (arith, is), tt))
 others_than_one (Generate k) = (λ is. omega (arith, is), (λ is. omega (arith, is), tt))
 others_than_one Audit = (λ is. omega (arith, is), (λ is. omega (arith, is), (λ is. omega (arith, is), tt)))
+others_than_one (Export app name) = (λ is. omega (arith, is), (λ is. omega (arith, is), (λ is. omega (arith, is), tt)))
+others_than_one (Import app name) = (
+  λ is. omega (arith, is),
+  (
+    λ is. omega (arith, is),
+    (λ is. omega (arith, is), (λ is. omega (arith, is), tt)),
+  ),
+)
 
 has_no_one : (kind : JobKind) → Contains (statuses_of kind) 1 → ⊥
 has_no_one kind contains = no_one (statuses_of kind) (others_than_one kind) contains.0 contains.1 contains.2
@@ -168,6 +222,15 @@ done_none laws told (Generate n) rules answers left before source sink m lawful 
     generates_none told rules answers n 4 before m m (inr refl) (elapses_none lawful).faults
 done_none laws told Audit rules answers left before source sink m lawful =
     audits_none told 4 before m m (inr refl) (nothing_changed lawful) (λ unfailed. refl)
+done_none laws told (Export app name) rules answers left before source sink m lawful =
+    exports_none told app name 4 before m m (inr refl) (nothing_changed lawful) (λ unfailed. refl)
+done_none laws told (Import app name) rules answers left before source sink m lawful =
+    imports_cut told app name part.OutOfMemory 4 left left before m lawful refl
+    (record {
+      given = [];
+      taken = record { takes = Consumes-nil left; bound = omega arith; end_seen = not_seen };
+      cut = tt;
+    })
 
 pub unread_none : {S : Type 0} (o : Option Job) (s : S) → IfSome o (λ job. reads_input job.kind ≡ false → s ≡ s)
 unread_none o s = each_is o (λ job. reads_input job.kind ≡ false → s ≡ s) (λ job reads. refl)
@@ -226,6 +289,42 @@ generate_safe value = go (is_unsigned_in 1 100000 value) refl
     go true within = some_safe (Generate n) (accepts-Accepts false (vp.Unsigned 1 100000) value within).3
     go false within = none_safe
 
+only_some : {A : Type 0} (b : Bool) (x y : A) → only_if b x ≡ Some y → (b ≡ true) × (x ≡ y)
+only_some {A} true x y is = (refl, some_same is)
+  where
+    some_same : ◌≡◌ {A = Option A} (Some x) (Some y) → x ≡ y
+    some_same same = cc
+only_some {A} false x y is = absurd (none_some is)
+  where
+    none_some : ◌≡◌ {A = Option A} None (Some y) → ⊥
+    none_some same = cc
+
+digit_within : (low high colon name : Bool) → ((low && high) && colon && name) ≡ true → high ≡ true
+digit_within true true colon name is = refl
+digit_within true false colon name is = let bad : false ≡ true = is in cc
+digit_within false high colon name is = let bad : false ≡ true = is in cc
+
+target_within : (value : List ℕ) (target : ℕ × List ℕ) → target_of value ≡ Some target → target.0 < 8
+target_within [] target is = let bad : ◌≡◌ {A = Option (ℕ × List ℕ)} None (Some target) = is in absurd (cc)
+target_within (digit ∷ []) target is = let bad : ◌≡◌ {A = Option (ℕ × List ℕ)} None (Some target) = is in absurd (cc)
+target_within (digit ∷ colon ∷ name) target is =
+    let told : ((is_application digit && nat_eq colon 58 && is_name name) ≡ true)
+    × (◌≡◌ {A = ℕ × List ℕ} (digit - 48, name) target) =
+    only_some {A = ℕ × List ℕ} (is_application digit && nat_eq colon 58 && is_name name) (digit - 48, name) target is in
+    let high : digit ≤ 55 = leb-true digit 55
+    (digit_within (nat_le 48 digit) (nat_le digit 55) (nat_eq colon 58) (is_name name) told.0) in
+    let app : digit - 48 ≡ target.0 = ap (λ (t : ℕ × List ℕ). t.0) told.1 in
+    omega (arith, high, app)
+
+target_safe : (kind : ℕ → List ℕ → JobKind) (value : List ℕ) → ((app : ℕ) (name : List ℕ) → app < 8
+    → IsInRange (kind app name)) → IsSafe (option_map (λ target. kind target.0 target.1) (target_of value))
+target_safe kind value safe = go (target_of value) refl
+  where
+    go : (o : Option (ℕ × List ℕ)) → target_of value ≡ o
+        → IsSafe (option_map (λ target. kind target.0 target.1) o)
+    go None is = none_safe
+    go (Some target) is = some_safe (kind target.0 target.1) (safe target.0 target.1 (target_within value target is))
+
 -- so is each that is named
 abbrev AreSafe : List (Option JobKind) → Type 0
 AreSafe [] = ⊤
@@ -244,12 +343,19 @@ valued_safe : (mode : List ℕ → Option JobKind) (value : Option (List ℕ)) �
 valued_safe mode (Some v) safe = (safe v, tt)
 valued_safe mode None safe = tt
 
-modes_safe : (formats : Bool) (number : Option (List ℕ)) (audits : Bool) → AreSafe (modes formats number audits)
-modes_safe formats number audits =
-    both_safe (flagged Format formats ++ valued generate_of number) (flagged Audit audits)
+modes_safe : (formats : Bool) (number : Option (List ℕ)) (audits : Bool) (exports imports : Option (List ℕ))
+    → AreSafe (modes formats number audits exports imports)
+modes_safe formats number audits exports imports =
+    both_safe (((flagged Format formats ++ valued generate_of number) ++ flagged Audit audits)
+    ++ valued export_of exports) (valued import_of imports)
+    (both_safe ((flagged Format formats ++ valued generate_of number) ++ flagged Audit audits)
+    (valued export_of exports)
+    (both_safe (flagged Format formats ++ valued generate_of number) (flagged Audit audits)
     (both_safe (flagged Format formats) (valued generate_of number) (flagged_safe Format formats tt)
     (valued_safe generate_of number generate_safe))
-    (flagged_safe Audit audits tt)
+    (flagged_safe Audit audits tt))
+    (valued_safe export_of exports (λ value. target_safe Export value (λ app name within. within))))
+    (valued_safe import_of imports (λ value. target_safe Import value (λ app name within. within)))
 
 only_safe : (ms : List (Option JobKind)) → AreSafe ms → IsSafe (only_mode ms)
 only_safe [] safe = some_safe Run tt
@@ -279,7 +385,8 @@ job_within ws job is = go (has_matches ws) is
 
     go : (b : Bool) → (if b then job_in rows else None) ≡ Some job → IsInRange job.kind
     go true says = only_safe _ (modes_safe (is_set (first_of (codes "format") rows)) (first_of (codes "generate") rows)
-        (is_set (first_of (codes "audit") rows))) job.kind
+        (is_set (first_of (codes "audit") rows)) (first_of (codes "export") rows) (first_of (codes "import") rows))
+        job.kind
         (kind_of_job (kind_in rows) (flash_of (first_of (codes "flash") rows)) (dir_of (first_of (codes "dir") rows))
         job says)
     go false says = let bad : ◌≡◌ {A = Option Job} None (Some job) = says in cc

@@ -6,6 +6,7 @@ pub mod Goes
 pub mod Courses
 pub mod Reaches
 pub mod Inputs
+pub mod Wholes
 pub mod Begins
 pub mod Completes
 pub mod Tallied

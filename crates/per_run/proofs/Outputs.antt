@@ -1,5 +1,5 @@
 -- What is written of a job's output, and what holds where a job did not come to it.
-use Rattle.std.proofs.Common.{ℕ, List, [], ◌≡◌, ◌⊎◌, inl, inr, refl, subst, arith, Option, Bool}
+use Rattle.std.proofs.Common.{ℕ, List, [], ◌≡◌, ◌⊎◌, ◌∙◌, inl, inr, refl, sym, subst, arith, Option, Bool}
 use Rattle.std.proofs.KnownBytes.{Keeps-refl}
 use Rattle.std.specs.Io.KnownBytes.{Appends}
 use Rattle.disk_model.specs.Laws.{idle_none}
@@ -9,17 +9,34 @@ use Rattle.per_run.specs.Jobs.{IsDone, IsFront, IsWritten, Writes}
 
 -- ---- statuses
 
+pub not_written : (status : ℕ) → (status ≡ 0 → ⊥) → (status ≡ 8 → ⊥) → (status ≡ 9 → ⊥) → IsWritten status → ⊥
+not_written status no_0 no_8 no_9 (inl none) = no_0 none
+not_written status no_0 no_8 no_9 (inr (inl eight)) = no_8 eight
+not_written status no_0 no_8 no_9 (inr (inr nine)) = no_9 nine
+
+not_among_done : (status other : ℕ) → status ≡ other → (other ≡ 0 → ⊥) → (other ≡ 8 → ⊥) → (other ≡ 9 → ⊥)
+    → (other ≡ 6 → ⊥) → IsDone status → ⊥
+not_among_done status other is no_0 no_8 no_9 no_6 (inl written) =
+    not_written status (λ e. no_0 (sym is ∙ e)) (λ e. no_8 (sym is ∙ e)) (λ e. no_9 (sym is ∙ e)) written
+not_among_done status other is no_0 no_8 no_9 no_6 (inr six) = no_6 (sym is ∙ six)
+
 pub not_done : (status : ℕ) → (status ≡ 3) ⊎ (status ≡ 4) → IsDone status → ⊥
-not_done status (inl three) (inl (inl none)) = omega (arith, three, none)
-not_done status (inl three) (inl (inr eight)) = omega (arith, three, eight)
-not_done status (inl three) (inr six) = omega (arith, three, six)
-not_done status (inr four) (inl (inl none)) = omega (arith, four, none)
-not_done status (inr four) (inl (inr eight)) = omega (arith, four, eight)
-not_done status (inr four) (inr six) = omega (arith, four, six)
+not_done status (inl three) done = not_among_done status 3 three (λ e. omega (arith, e)) (λ e. omega (arith, e))
+    (λ e. omega (arith, e)) (λ e. omega (arith, e)) done
+not_done status (inr four) done = not_among_done status 4 four (λ e. omega (arith, e)) (λ e. omega (arith, e))
+    (λ e. omega (arith, e)) (λ e. omega (arith, e)) done
+
+-- neither did a job whose input was not read whole
+pub not_read : (status : ℕ) → (status ≡ 4) ⊎ ((status ≡ 5) ⊎ (status ≡ 7)) → IsDone status → ⊥
+not_read status (inl four) done = not_done status (inr four) done
+not_read status (inr (inl five)) done = not_among_done status 5 five (λ e. omega (arith, e)) (λ e. omega (arith, e))
+    (λ e. omega (arith, e)) (λ e. omega (arith, e)) done
+not_read status (inr (inr seven)) done = not_among_done status 7 seven (λ e. omega (arith, e)) (λ e. omega (arith, e))
+    (λ e. omega (arith, e)) (λ e. omega (arith, e)) done
 
 pub not_cut : (status : ℕ) → IsWritten status → status ≡ 6 → ⊥
-not_cut status (inl none) six = omega (arith, none, six)
-not_cut status (inr eight) six = omega (arith, eight, six)
+not_cut status written six = not_written status (λ e. omega (arith, six, e)) (λ e. omega (arith, six, e))
+    (λ e. omega (arith, six, e)) written
 
 -- ---- the output
 

@@ -1,5 +1,5 @@
 -- What a stop leaves of a flash since it was handed in, from what its opening says and how time went on for its disk.
-use Rattle.std.proofs.Common.{◌≡◌, ◌≤◌, ◌⊎◌, ℕ, refl, sym, ap, subst, ◌∙◌, ⊎_elim, inl, inr}
+use Rattle.std.proofs.Common.{◌≡◌, ◌≤◌, ◌⊎◌, ℕ, refl, sym, ap, subst, ◌∙◌, ⊎_elim, inl, inr, arith}
 use Rattle.std.specs.Prelude.{Bool, IsTrue}
 use Rattle.disk_model.specs.Case.{Case}
 use Rattle.disk_model.specs.Medium.{Elapses}
@@ -11,14 +11,17 @@ use Rattle.flash_disk.specs.FlashDiskMedium.{disk_case, disk_seen}
 use Rattle.flash_disk.specs.FlashFiles.{flash_files}
 use Rattle.flash_disk.specs.FlashView.{FlashView}
 use Rattle.flash_disk.specs.Looks.{Opens}
-use Rattle.flash_disk.specs.Newest.{IsUsable, places}
+use Rattle.flash_disk.specs.Newest.{IsUnusable, IsUsable, places}
 use Rattle.flash_disk.specs.Standing.{IsAgreed}
 use Rattle.flash_disk.specs.Throughout.{AgreedSince, KeepsAgreed, KeepsUsable, UsableSince}
-use Rattle.per_run.specs.Flashes.{LeavesFiles, OpensAgain}
+use Rattle.per_run.specs.Flashes.{IsWrongSize, LeavesFiles, OpensAgain}
 
 -- what stays usable in a stretch of calls is so since its beginning
-usable_since : (old new : FlashMedium) → KeepsUsable old new → UsableSince new old.moment
-usable_since old new keeps = record {
+usable_since : (old new : FlashMedium) → 4 ≤ old.blocks → old.blocks ≤ 4096 → KeepsUsable old new
+    → UsableSince new old.moment
+usable_since old new many few keeps = record {
+  many = subst (λ (b : ℕ). 4 ≤ b) (sym keeps.blocks) many;
+  few = subst (λ (b : ℕ). b ≤ 4096) (sym keeps.blocks) few;
   now = subst (λ (b : ℕ). IsUsable new.state.pages b) (sym keeps.blocks) keeps.now;
   during = λ c past plain. subst (λ (b : ℕ). IsUsable c.left b) (sym keeps.blocks) (keeps.during c past plain);
 }
@@ -30,6 +33,18 @@ agreed_since old new blocks keeps agreed = record {
   during = λ c past plain. subst (λ (b : ℕ). IsAgreed c.left (places b)) (sym blocks)
       (keeps.during c past plain agreed);
 }
+
+-- a flash that is usable is refused neither for its size nor for what its pages hold
+right_size : (m : FlashMedium) (t : ℕ) → UsableSince m t → IsWrongSize m.blocks → ⊥
+right_size m t since wrong =
+    let many = since.many in
+    let few = since.few in
+    ⊎_elim (λ less. omega (arith, less, many)) (λ more. omega (arith, more, few)) wrong
+
+not_unusable : (pages : Pages) (blocks : ℕ) → IsUsable pages blocks → IsUnusable pages blocks → ⊥
+not_unusable pages blocks usable unusable =
+    let fits = usable.fits in
+    ⊎_elim (λ more. omega (arith, more, fits)) (λ none. none usable.block usable.within usable.spare) unusable
 
 -- the files of a disk that was just opened
 pub opened_files : {F : Type 0} (told : Bool) (medium : F → FlashMedium) (flash : F) (opened : FlashView F)
@@ -67,12 +82,16 @@ module _ {F : Type 0} (told : Bool) (medium : F → FlashMedium) (flash : F) (op
       (time.nothing_else (medium flash).moment (disk_case (medium disk.flash).blocks c) earlier
       (tells, (c, past, (plain, refl))))
 
-  pub opens_again : KeepsUsable (medium flash) (medium opened.flash) → KeepsAgreed (medium flash) (medium opened.flash)
+  pub opens_again : 4 ≤ (medium flash).blocks → (medium flash).blocks ≤ 4096
+      → KeepsUsable (medium flash) (medium opened.flash) → KeepsAgreed (medium flash) (medium opened.flash)
       → OpensAgain told medium flash opened disk
-  opens_again usable agreed = record {
-    usable = time.opens (medium flash).moment earlier (λ _. usable_since (medium flash) (medium opened.flash) usable)
-        tells;
-    agreed = λ agrees. time.agrees (medium flash).moment earlier
-        (λ _. agreed_since (medium flash) (medium opened.flash) blocks agreed agrees) tells;
-    files = files;
-  }
+  opens_again many few usable agreed =
+      let since : UsableSince (medium disk.flash) (medium flash).moment = time.opens (medium flash).moment earlier
+      (λ _. usable_since (medium flash) (medium opened.flash) many few usable) tells in record {
+        usable = since;
+        right_size = right_size (medium disk.flash) (medium flash).moment since;
+        not_unusable = λ c past plain. not_unusable c.left (medium disk.flash).blocks (since.during c past plain);
+        agreed = λ agrees. time.agrees (medium flash).moment earlier
+            (λ _. agreed_since (medium flash) (medium opened.flash) blocks agreed agrees) tells;
+        files = files;
+      }

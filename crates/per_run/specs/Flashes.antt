@@ -49,8 +49,8 @@ pub record IsOpened {F : Type 0} (told : Bool) (medium : F → FlashMedium) (fla
 -- Why a flash was not opened, and the status that says so; back is what is handed back.
 pub data IsRefused (told : Bool) (status : ℕ) (flash back : FlashMedium) : Type 0 where
   wrong_size : IsWrongSize flash.blocks → status ≡ 11 → IsRefused told status flash back
-  unusable : (IsWrongSize flash.blocks → ⊥) → (IsTrue told → IsUnusable flash.state.pages flash.blocks) → status ≡ 10
-      → IsRefused told status flash back
+  unusable : (IsWrongSize flash.blocks → ⊥) → (IsTrue told → IsUnusable flash.state.pages flash.blocks)
+      → back.faults ≡ flash.faults → status ≡ 10 → IsRefused told status flash back
   failed : (IsWrongSize flash.blocks → ⊥) → Rose flash.faults back.faults → status ≡ 3
       → IsRefused told status flash back
   memory : (IsWrongSize flash.blocks → ⊥) → status ≡ 4 → IsRefused told status flash back
@@ -72,10 +72,14 @@ LeavesFiles told medium flash opened disk c =
     ⊎ (disk_seen told medium disk).since (disk_seen told medium opened).moment (disk_case (medium disk.flash).blocks c)
 
 -- After a stop at any moment since the flash was handed in it can be opened again, and has the files that the job's
--- promise speaks of, as far as no page passes its hash by chance. If it had no rivals it goes on taking writes.
+-- promise speaks of, as far as no page passes its hash by chance: it is refused neither for its size nor for what its
+-- pages hold. If it had no rivals it goes on taking writes.
 pub record OpensAgain {F : Type 0} (told : Bool) (medium : F → FlashMedium) (flash : F)
     (opened disk : FlashView F) : Type 0 where
   pub usable : UsableSince (medium disk.flash) (medium flash).moment
+  pub right_size : IsWrongSize (medium disk.flash).blocks → ⊥
+  pub not_unusable : (c : FlashCase) → (medium disk.flash).since (medium flash).moment c
+      → IsPlain c.before c.whole c.left → IsUnusable c.left (medium disk.flash).blocks → ⊥
   pub agreed : IsAgreed (medium flash).state.pages (places (medium flash).blocks)
       → AgreedSince (medium disk.flash) (medium flash).moment
   pub files : (c : FlashCase) → (medium disk.flash).since (medium flash).moment c → IsPlain c.before c.whole c.left

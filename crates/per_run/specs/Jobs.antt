@@ -1,18 +1,21 @@
 -- What each job promises, and by which statuses it ends.
-use Rattle.std.specs.Prelude.{◌≡◌, ◌≢◌, ◌⊎◌, ◌<◌, ℕ, List, [], ◌∷◌, ◌++◌, length, take, Option, Some, None, Bool, true}
-use Rattle.std.specs.Prelude.{false, codes, count_by, not, ◌&&◌, IsTrue}
+use Rattle.std.specs.Prelude.{◌≡◌, ◌≢◌, ◌⊎◌, ◌<◌, ◌≤◌, ℕ, List, [], ◌∷◌, ◌++◌, length, take, Option, Some, None}
+use Rattle.std.specs.Prelude.{Bool, true, false, codes, count_by, not, ◌&&◌, IsTrue, IsFalse, Result, Ok, Err, IsOk}
+use Rattle.std.specs.Prelude.{IsErr}
 use Rattle.std.specs.List.{Contains}
 use Rattle.std.specs.Option.{option_or}
 use Rattle.std.specs.Fmt.{decimal}
-use Rattle.std.specs.Io.KnownBytes.{Appends, Keeps}
+use Rattle.std.specs.Io.KnownBytes.{Appends, Consumes, IsAtEnd, Keeps}
 use Rattle.per_base.specs.Causes.{Rose}
+use Rattle.per_base.specs.declared.errors.PerError.{PerError}
 use Rattle.disk_model.specs.Medium.{Medium, Quiet}
 use Rattle.migrate_fns.specs.Rules.{Rule, Answers}
 use Rattle.command_text.specs.declared.replies.Answer.{Answer}
 use Rattle.command_text.specs.declared.replies.Answer.TheVariants as answer
 use Rattle.command_text.specs.declared.replies.Reply.{Reply}
 use Rattle.command_text.specs.Generated.{generated}
-use Rattle.deploy_laws.specs.Apps.{IsCleanApp}
+use Rattle.command_text.specs.Replies.{answer_text}
+use Rattle.deploy_laws.specs.Apps.{App, IsCleanApp}
 use Rattle.deploy.specs.Clauses.{ChangesNothing}
 use Rattle.run_model.specs.Endings.{Failed}
 use Rattle.run_model.specs.Lines.{Give}
@@ -25,8 +28,10 @@ use Rattle.per_audit.specs.Audits.{elements_at, findings_at}
 use Rattle.per_audit.specs.AuditText.{audit_text}
 use Rattle.per_audit.specs.declared.findings.Finding.{Finding}
 use Rattle.per_audit.specs.declared.findings.Listed.{Listed}
+use Rattle.per_backup.specs.Backups.{exporting, importing_into}
+use Rattle.per_backup.specs.Clauses.{ImportKeeps, Imported, IsSeen}
 use Rattle.per_run.specs.declared.words.JobKind.{JobKind}
-use Rattle.per_run.specs.declared.words.JobKind.TheVariants.{Run, Format, Generate, Audit}
+use Rattle.per_run.specs.declared.words.JobKind.TheVariants.{Run, Format, Generate, Audit, Export, Import}
 use Rattle.per_run.specs.Words.{reads_input}
 
 -- ---- the output of a job that writes once
@@ -35,9 +40,9 @@ use Rattle.per_run.specs.Words.{reads_input}
 abbrev pub IsFront : (before now : Option (List ℕ)) → List ℕ → Type 0
 IsFront before now text = (count : ℕ) × (count < length text) × Appends before now (take count text)
 
--- the sink took all of the output: the job is done, or its audit has findings
+-- the sink took all of the output: the job is done, its audit has findings, or its export or import is refused
 abbrev pub IsWritten : ℕ → Type 0
-IsWritten status = (status ≡ 0) ⊎ (status ≡ 8)
+IsWritten status = (status ≡ 0) ⊎ ((status ≡ 8) ⊎ (status ≡ 9))
 
 -- the job came to its output
 abbrev pub IsDone : ℕ → Type 0
@@ -132,6 +137,76 @@ pub record Audits (told : Bool) (status : ℕ) (before now : Option (List ℕ)) 
   pub quiet : IsDone status → Quiet new
   pub failed : FailsAtThree status old.faults new.faults
 
+-- ---- an answer that may be a refusal
+
+-- the line of an error, as a reply says it
+abbrev pub error_line : PerError → List ℕ
+error_line e = answer_text (answer.Error e) ++ codes "\n"
+
+abbrev pub answered_text : {A : Type 0} → (A → List ℕ) → Result A PerError → List ℕ
+answered_text text (Ok x) = text x
+answered_text text (Err e) = error_line e
+
+-- the text of what was answered is written, or the line of the refusal; 9 and not 0 is the status of a refusal
+pub record AnswersOr {A : Type 0} (text : A → List ℕ) (row : Result A PerError) (status : ℕ)
+    (before now : Option (List ℕ)) : Type 0 where
+  pub output : Writes status before now (answered_text text row)
+  pub done : status ≡ 0 → IsOk row
+  pub refused : status ≡ 9 → IsErr row
+
+-- ---- an export
+
+-- the text of the storage alone is written; over a disk that tells nothing it is a storage of some application
+pub record Exports (told : Bool) (app : ℕ) (name : List ℕ) (status : ℕ) (before now : Option (List ℕ))
+    (old new : Medium) : Type 0 where
+  pub it : App
+  pub seen : IsSeen told old.image app it
+  pub answers : AnswersOr (λ text. text) (exporting it name) status before now
+  pub stays : ChangesNothing old new
+  pub quiet : IsDone status → Quiet new
+  pub failed : FailsAtThree status old.faults new.faults
+
+-- ---- an import
+
+-- these bytes were taken of the input, and its end was seen or not; behind as many as are allowed nobody looks for it
+pub record IsTaken (left_before left_now : Option (List ℕ)) (given : List ℕ) (ended : Bool) : Type 0 where
+  pub takes : Consumes left_before left_now given
+  pub bound : length given ≤ 67108864
+  pub end_seen : IsTrue ended → IsAtEnd left_now × (length given < 67108864)
+
+-- nothing was written, and no call of the disk was made
+pub record IsUncalled (before now : Option (List ℕ)) (old new : Medium) : Type 0 where
+  pub output : Keeps before now
+  pub stays : ChangesNothing old new
+  pub moment : new.moment ≡ old.moment
+  pub faults : new.faults ≡ old.faults
+
+-- the storage was made anew of this text, or that was refused, or it was broken off on the way
+pub record Makes (told : Bool) (app : ℕ) (name text : List ℕ) (status : ℕ) (before now : Option (List ℕ))
+    (old new : Medium) : Type 0 where
+  pub it : App
+  pub seen : IsSeen told old.image app it
+  pub answers : AnswersOr (λ after. codes "ok\n") (importing_into it name text) status before now
+  pub refused : IsDone status → IsErr (importing_into it name text) → ChangesNothing old new
+  pub imported : IsTrue told → IsDone status → Imported app name text old new
+  -- at every moment, however it ends
+  pub keeps : IsTrue told → ImportKeeps app name text old new
+  pub quiet : IsDone status → Quiet new
+  pub failed : FailsAtThree status old.faults new.faults
+
+-- The input was read to its end, and then the storage made anew; or it was not, and nothing happened.
+pub record Imports (told : Bool) (app : ℕ) (name : List ℕ) (status : ℕ)
+    (left_before left_now before now : Option (List ℕ)) (old new : Medium) : Type 0 where
+  pub given : List ℕ
+  pub ended : Bool
+  pub taken : IsTaken left_before left_now given ended
+  -- 5 is the status where the source failed, and 7 where the input is too long
+  pub broken : status ≡ 5 → IsFalse ended × (length given < 67108864)
+  pub too_long : status ≡ 7 → IsFalse ended × (length given ≡ 67108864)
+  pub called : IsDone status ⊎ (status ≡ 3) → IsTrue ended
+  pub uncalled : IsFalse ended → IsUncalled before now old new
+  pub made : IsTrue ended → Makes told app name given status before now old new
+
 -- ---- all jobs
 
 abbrev pub JobDone : (told : Bool) → JobKind → List Rule → Answers → (status : ℕ)
@@ -146,6 +221,10 @@ JobDone told (Generate n) rules answers status left_before left_now before now o
     Generates told rules answers n status before now old new
 JobDone told Audit rules answers status left_before left_now before now old_counts new_counts old new =
     Audits told status before now old new
+JobDone told (Export app name) rules answers status left_before left_now before now old_counts new_counts old new =
+    Exports told app name status before now old new
+JobDone told (Import app name) rules answers status left_before left_now before now old_counts new_counts old new =
+    Imports told app name status left_before left_now before now old new
 
 -- the statuses that no failure brings
 abbrev pub statuses_of : JobKind → List ℕ
@@ -153,6 +232,8 @@ statuses_of Run = 0 ∷ 2 ∷ 4 ∷ 7 ∷ []
 statuses_of Format = 0 ∷ 4 ∷ []
 statuses_of (Generate n) = 0 ∷ 4 ∷ []
 statuses_of Audit = 0 ∷ 4 ∷ 8 ∷ []
+statuses_of (Export app name) = 0 ∷ 4 ∷ 9 ∷ []
+statuses_of (Import app name) = 0 ∷ 4 ∷ 7 ∷ 9 ∷ []
 
 -- the others come only by a failure in this very run: 3 of the disk, 5 of the source, 6 of the sink
 pub data IsCaused (kind : JobKind) (status : ℕ) (old new : Failed) : Type 0 where

@@ -9,7 +9,7 @@ use Rattle.command_text.specs.declared.replies.Reply.{Reply}
 use Rattle.per_base.specs.declared.errors.PerError.TheVariants as error
 use Rattle.per_run.specs.declared.words.Job.{Job}
 use Rattle.per_run.specs.declared.words.JobKind.{JobKind}
-use Rattle.per_run.specs.declared.words.JobKind.TheVariants.{Run, Format, Generate, Audit}
+use Rattle.per_run.specs.declared.words.JobKind.TheVariants.{Run, Format, Generate, Audit, Export, Import}
 use Rattle.per_run.specs.Jobs.{summary}
 use Rattle.per_run.specs.Words.{job_of}
 
@@ -77,6 +77,35 @@ two_modes = refl
 audited_nowhere : job_of (codes "--dir=" ∷ codes "--audit" ∷ []) ≡ None
 unfolding job_of clap_on_literals
 audited_nowhere = refl
+
+exports : job_of (codes "--dir" ∷ codes "d" ∷ codes "--export" ∷ codes "0:fav" ∷ []) ≡ job (Export 0 (codes "fav"))
+unfolding job_of clap_on_literals
+exports = refl
+
+imports : job_of (codes "--import=7:a/b-c_d.e" ∷ codes "--dir=d" ∷ codes "--flash" ∷ codes "4" ∷ [])
+    ≡ over_flash 4 (Import 7 (codes "a/b-c_d.e"))
+unfolding job_of clap_on_literals
+imports = refl
+
+no_application : job_of (codes "--dir" ∷ codes "d" ∷ codes "--export" ∷ codes "8:fav" ∷ []) ≡ None
+unfolding job_of clap_on_literals
+no_application = refl
+
+more_digits : job_of (codes "--dir" ∷ codes "d" ∷ codes "--import" ∷ codes "00:fav" ∷ []) ≡ None
+unfolding job_of clap_on_literals
+more_digits = refl
+
+no_name : job_of (codes "--dir" ∷ codes "d" ∷ codes "--export" ∷ codes "0:" ∷ []) ≡ None
+unfolding job_of clap_on_literals
+no_name = refl
+
+bad_name : job_of (codes "--dir" ∷ codes "d" ∷ codes "--import" ∷ codes "0:fav:home" ∷ []) ≡ None
+unfolding job_of clap_on_literals
+bad_name = refl
+
+there_and_back : job_of (codes "--dir" ∷ codes "d" ∷ codes "--export=0:a" ∷ codes "--import=0:a" ∷ []) ≡ None
+unfolding job_of clap_on_literals
+there_and_back = refl
 
 no_folder : job_of (codes "--dir" ∷ []) ≡ None
 unfolding job_of clap_on_literals

@@ -26,8 +26,8 @@ use Rattle.per_run.specs.declared.endings.Ending.TheVariants.{AllRead, EndLine, 
 use Rattle.per_run.specs.declared.endings.Ending.TheVariants.{TooLong}
 use Rattle.per_run.specs.declared.tally.Tally.{Tally}
 use Rattle.per_run.specs.declared.words.JobKind.{JobKind}
-use Rattle.per_run.specs.declared.words.JobKind.TheVariants.{Generate}
-use Rattle.per_run.specs.Jobs.{IsFront, is_done, is_other, is_error, size_given}
+use Rattle.per_run.specs.declared.words.JobKind.TheVariants.{Generate, Export, Import}
+use Rattle.per_run.specs.Jobs.{IsFront, IsTaken, is_done, is_other, is_error, size_given}
 
 -- ---- endings
 
@@ -176,6 +176,21 @@ pub record Ran (told : Bool) (rules : List Rule) (answers : Answers) (ending : E
   pub input : IsInput (ending_of ending) ended (length given)
   pub course : Course told rules answers (ending_of ending) start before (lines_of ended given) now medium
 
+-- ---- an input that is read whole
+
+-- why it was not, after so many bytes
+abbrev pub IsCut : Ending → (count : ℕ) → Type 0
+IsCut OutOfMemory count = ⊤
+IsCut Source count = count < 67108864
+IsCut TooLong count = count ≡ 67108864
+IsCut other count = ⊥
+
+-- some bytes were taken, and the end was not seen
+pub record Breaks (left_before left_now : Option (List ℕ)) (ending : Ending) : Type 0 where
+  pub given : List ℕ
+  pub taken : IsTaken left_before left_now given false
+  pub cut : IsCut ending (length given)
+
 -- ---- an input that is made of a number
 
 -- the replies of each sort are counted, and the first number that one gave is kept
@@ -203,7 +218,9 @@ pub record IsBegun (told : Bool) (memory : Memory) (old middle new : Medium) : T
 
 -- ---- jobs
 
--- the number of an input that is made is in its range
+-- the number of an input that is made is in its range, and so is that of an application
 abbrev pub IsInRange : JobKind → Type 0
 IsInRange (Generate n) = n ≤ 100000
+IsInRange (Export app name) = app < 8
+IsInRange (Import app name) = app < 8
 IsInRange other = ⊤

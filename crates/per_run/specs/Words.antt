@@ -1,6 +1,6 @@
 -- The words of the command line that are accepted, and the job that they say.
-use Rattle.std.specs.Prelude.{◌≡◌, ◌==◌, ℕ, List, [], ◌∷◌, ◌++◌, length, ⊤, Bool, true, false, Option, Some, None}
-use Rattle.std.specs.Prelude.{option_map, Result, Ok, Err, codes, if◌then◌else◌}
+use Rattle.std.specs.Prelude.{◌≡◌, ◌==◌, ◌-◌, ℕ, List, [], ◌∷◌, ◌++◌, length, fold, ⊤, Bool, true, false, ◌&&◌}
+use Rattle.std.specs.Prelude.{nat_eq, nat_le, Option, Some, None, option_map, Result, Ok, Err, codes, if◌then◌else◌}
 use Rattle.std.specs.Str.{bytes_eq}
 use Rattle.std.specs.Str.Parse.{digits_value, without_leading_plus}
 use Rattle.clap.specs.Faults.{fault_of}
@@ -10,9 +10,10 @@ use Rattle.clap.specs.Walk.{Row, Rule, first_of}
 use Rattle.clap.specs.declared.builder.action.ArgAction.{ArgAction}
 use Rattle.clap.specs.declared.builder.action.ArgAction.TheVariants.{Set, SetTrue}
 use Rattle.per_base.specs.Fields.{◌>>=◌, only_if}
+use Rattle.per_base.specs.Names.{is_name}
 use Rattle.per_run.specs.declared.words.Job.{Job}
 use Rattle.per_run.specs.declared.words.JobKind.{JobKind}
-use Rattle.per_run.specs.declared.words.JobKind.TheVariants.{Run, Format, Generate, Audit}
+use Rattle.per_run.specs.declared.words.JobKind.TheVariants.{Run, Format, Generate, Audit, Export, Import}
 use Rattle.per_run.specs.declared.words.WordsError.{WordsError}
 use Rattle.per_run.specs.declared.words.WordsError.TheVariants as words_error
 
@@ -21,14 +22,17 @@ use Rattle.per_run.specs.declared.words.WordsError.TheVariants as words_error
 abbrev pub named_rule : List ℕ → ArgAction → Rule
 named_rule name action = record (new_rule name) { long = Some name; action = Some action }
 
--- a required option `--dir`, the flags `--format` and `--audit`, and the options `--generate` and `--flash`; the words
--- come without the program's name
+-- a required option `--dir`, the flags `--format` and `--audit`, and the options `--flash`, `--generate`, `--export`
+-- and `--import`
+abbrev pub option_rules : List Rule
+option_rules = record (named_rule (codes "dir") Set) { required = true } ∷ named_rule (codes "flash") Set
+    ∷ named_rule (codes "format") SetTrue ∷ named_rule (codes "generate") Set ∷ named_rule (codes "audit") SetTrue
+    ∷ named_rule (codes "export") Set ∷ named_rule (codes "import") Set ∷ []
+
+-- with these options; the words come without the program's name
 abbrev pub command : App
-command = with_rule (with_rule (with_rule (with_rule (with_rule
-    (record (new_app (codes "per")) { top = record (new_app (codes "per")).top { no_binary_name = true } })
-    (record (named_rule (codes "dir") Set) { required = true })) (named_rule (codes "flash") Set))
-    (named_rule (codes "format") SetTrue))
-    (named_rule (codes "generate") Set)) (named_rule (codes "audit") SetTrue)
+command = fold with_rule
+    (record (new_app (codes "per")) { top = record (new_app (codes "per")).top { no_binary_name = true } }) option_rules
 
 -- it has matches for the words
 abbrev pub has_matches : List (List ℕ) → Bool
@@ -45,6 +49,23 @@ is_set (Some value) = bytes_eq value (codes "true")
 abbrev pub number_in : (least most : ℕ) → List ℕ → Option ℕ
 number_in least most value = only_if (is_unsigned_in least most value) (digits_value 10 (without_leading_plus value))
 
+-- the digit of an application
+abbrev pub is_application : ℕ → Bool
+is_application digit = nat_le 48 digit && nat_le digit 55
+
+-- an application and the name of a storage, with a colon between them
+abbrev pub target_of : List ℕ → Option (ℕ × List ℕ)
+target_of (digit ∷ colon ∷ name) = only_if (is_application digit && nat_eq colon 58 && is_name name) (digit - 48, name)
+target_of text = None
+
+-- the one of them, and the other
+abbrev pub application_of : List ℕ → Option ℕ
+application_of (digit ∷ []) = only_if (is_application digit) (digit - 48)
+application_of text = None
+
+abbrev pub name_of : List ℕ → Option (List ℕ)
+name_of text = only_if (is_name text) text
+
 -- ---- the job, as the matches say it
 
 -- the mode of a flag, where it is set
@@ -60,9 +81,17 @@ valued mode None = []
 abbrev pub generate_of : List ℕ → Option JobKind
 generate_of value = option_map Generate (number_in 1 100000 value)
 
+abbrev pub export_of : List ℕ → Option JobKind
+export_of value = option_map (λ target. Export target.0 target.1) (target_of value)
+
+abbrev pub import_of : List ℕ → Option JobKind
+import_of value = option_map (λ target. Import target.0 target.1) (target_of value)
+
 -- the modes that are named
-abbrev pub modes : (formats : Bool) → (generates : Option (List ℕ)) → (audits : Bool) → List (Option JobKind)
-modes formats generates audits = flagged Format formats ++ valued generate_of generates ++ flagged Audit audits
+abbrev pub modes : (formats : Bool) → (generates : Option (List ℕ)) → (audits : Bool)
+    → (exports imports : Option (List ℕ)) → List (Option JobKind)
+modes formats generates audits exports imports = flagged Format formats ++ valued generate_of generates
+    ++ flagged Audit audits ++ valued export_of exports ++ valued import_of imports
 
 -- at most one is named, and where none is the lines of the input are handled
 abbrev pub only_mode : List (Option JobKind) → Option JobKind
@@ -72,7 +101,7 @@ only_mode (mode ∷ other ∷ others) = None
 
 abbrev pub kind_in : List Row → Option JobKind
 kind_in rows = only_mode (modes (is_set (first_of (codes "format") rows)) (first_of (codes "generate") rows)
-    (is_set (first_of (codes "audit") rows)))
+    (is_set (first_of (codes "audit") rows)) (first_of (codes "export") rows) (first_of (codes "import") rows))
 
 -- the number of blocks of the flash, where one is named
 abbrev pub flash_of : Option (List ℕ) → Option (Option ℕ)
@@ -107,4 +136,5 @@ Reads (Err words_error.OutOfMemory) said = ⊤
 -- whether the job reads the input
 abbrev pub reads_input : JobKind → Bool
 reads_input Run = true
+reads_input (Import app name) = true
 reads_input other = false

@@ -57,6 +57,9 @@ pub const SINK: u8 = 6;
 /// The status where an audit found something, and the sink took all of its text.
 pub const FOUND: u8 = 8;
 
+/// The status where an export or an import is refused, and the sink took its line whole.
+pub const CALL_REFUSED: u8 = 9;
+
 /// The status where a flash cannot be a disk.
 pub const UNUSABLE: u8 = 10;
 

@@ -24,8 +24,8 @@ use std::alloc::Global;
 pub enum FlashRun<F: Flash> {
     /// The job of the words was begun on the flash as a disk, which is handed back.
     Ran(u8, FlashDisk<F>),
-    /// The words were refused, or the flash cannot be opened as a disk, or memory ran out before. The flash is as it
-    /// was.
+    /// The words were refused, or memory ran out before, or the flash was not opened as a disk. It is handed back, and
+    /// no page of it changed.
     Unopened(u8, F),
 }
 
@@ -42,7 +42,7 @@ pub enum FlashRun<F: Flash> {
 /// | 10 | the flash holds more pages of files than a disk may have, or none of its blocks is spare |
 /// | 11 | the flash has fewer than 4 blocks, or more than 4,096 |
 ///
-/// Then nothing was read or written.
+/// Then no input was read, no output written and no page changed.
 pub fn per_flash<F: Flash, S: Source, K: Sink>(
     alloc: Global,
     words: &[String],
@@ -68,7 +68,7 @@ pub fn per_flash<F: Flash, S: Source, K: Sink>(
         → (Rose (K.faults sink.old) (K.faults sink.new) → ⊥)
         → IfSome (S.left source.old) (λ left. IsWellFormed left → (status ≡ 0) ⊎ (status ≡ 4)))) }
 
-    // Why there was no run; then nothing was read or written, and no page of the flash changed.
+    // Why there was no run; then no input was read, no output written and no page of the flash changed.
     ensures unopened { IfUnopened result (λ status back.
         HasNotRun F.told (job_of (map string_bytes words.now)) status (F.medium flash) (F.medium back)) }
     ensures back { IfUnopened result (λ status back. IsHandedBack F.told (F.medium flash) (F.medium back)) }

@@ -1,9 +1,12 @@
-//! The bytes of the source, in pieces.
+//! The bytes of the source, in pieces and as a whole.
 
-ghost use Rattle.std.specs.Prelude.{◌≡◌, ◌<◌, ◌≤◌, MatchResult, IfOk, length, take, vec_len};
+ghost use Rattle.std.specs.Prelude.{◌≡◌, ◌<◌, ◌≤◌, MatchResult, IfOk, IsErrOf, length, take, true, vec_len};
 ghost use Rattle.std.specs.Io.KnownBytes.{Consumes, IsAtEnd, Keeps};
-ghost use Rattle.per_base.specs.Causes.{HasCause};
+ghost use Rattle.per_base.specs.Causes.{HasCause, Rose};
+ghost use Rattle.per_run.specs.Jobs.{IsTaken};
+ghost use Rattle.per_run.specs.Steps.{Breaks};
 
+use crate::endings::Ending;
 use per_base::{Failed, Source};
 use std::alloc::{AllocError, Global};
 
@@ -38,4 +41,45 @@ pub fn zeros(alloc: Global, count: usize) -> Result<Vec<u8>, AllocError>
     ensures { IfOk result (λ bytes. vec_len bytes ≡ count) }
 {
     vec![in alloc; 0; count]
+}
+
+/// Reads the source to its end.
+///
+/// Errors: `Source` where it failed; `TooLong` where it gave as many bytes as an input may have, and not its end;
+/// `OutOfMemory`.
+pub fn read_whole<S: Source>(alloc: Global, source: &mut S) -> Result<Vec<u8>, Ending>
+    ensures read { MatchResult result (λ whole. IsTaken (S.left source.old) (S.left source.new) whole.items true)
+        (λ ending. Breaks (S.left source.old) (S.left source.new) ending) }
+    ensures failed { IsErrOf result Ending.Source → Rose (S.faults source.old) (S.faults source.new) }
+{
+    match zeros(alloc, PIECE_BYTES) {
+        Ok(mut buffer) => read_to_end(alloc, source, buffer.as_mut_slice()),
+        Err(_) => Err(Ending::OutOfMemory),
+    }
+}
+
+/// The same, in pieces as long as the buffer.
+fn read_to_end<S: Source>(
+    alloc: Global,
+    source: &mut S,
+    buffer: &mut [u8],
+) -> Result<Vec<u8>, Ending>
+    requires { 0 < length buffer.old }
+    ensures read { MatchResult result (λ whole. IsTaken (S.left source.old) (S.left source.new) whole.items true)
+        (λ ending. Breaks (S.left source.old) (S.left source.new) ending) }
+    ensures failed { IsErrOf result Ending.Source → Rose (S.faults source.old) (S.faults source.new) }
+{
+    let mut whole = Vec::new(alloc);
+    while whole.len() < INPUT_BYTES {
+        let room = buffer.len().min(INPUT_BYTES - whole.len());
+        match read_piece(source, buffer, room) {
+            Ok(0) => return Ok(whole),
+            Ok(count) => match whole.extend_from_slice(&buffer[..count]) {
+                Ok(()) => {}
+                Err(_) => return Err(Ending::OutOfMemory),
+            },
+            Err(_) => return Err(Ending::Source),
+        }
+    }
+    Err(Ending::TooLong)
 }

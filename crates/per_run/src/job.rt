@@ -12,8 +12,10 @@ ghost use Rattle.per_run.specs.declared.words.JobKind.{JobKind};
 
 use crate::auditing::audit_disk;
 use crate::endings::{OUT_OF_MEMORY, REFUSED};
+use crate::exporting::export_storage;
 use crate::formatting::format;
 use crate::generating::generate;
+use crate::importing::import_storage;
 use crate::run::run;
 use crate::words::{JobKind, WordsError, read_words};
 use command_text::one_line;
@@ -27,15 +29,16 @@ use std::alloc::Global;
 ///
 /// | status | comes |
 /// |---|---|
-/// | 0 | the job is done, and all output is written: the input was read to its end or to the line `end`, the disk is formatted, the made input is handled, or nothing was found |
+/// | 0 | the job is done, and all output is written: the input was read to its end or to the line `end`, the disk is formatted, the made input is handled, an audit found nothing, or the storage is exported or imported |
 /// | 1 | only where the words are refused; nothing was read or written |
 /// | 2 | the line `bad-line N` says is outside the grammar; all lines before it were handled and answered |
-/// | 3 | the disk failed while the runtime started, or in a job that handles no lines |
+/// | 3 | the disk failed while the runtime started, or in a job that reads no lines |
 /// | 4 | memory ran out |
-/// | 5 | the source failed; all whole lines before were handled and answered |
+/// | 5 | the source failed; all whole lines before were handled and answered, and nothing was imported |
 /// | 6 | the sink failed; what it took is a front of the output |
-/// | 7 | 67,108,864 bytes were taken, and neither `end` nor the end of the input was among them |
+/// | 7 | 67,108,864 bytes were taken, and neither `end` nor the end of the input was among them; nothing was imported |
 /// | 8 | an audit found something; what it is is written |
+/// | 9 | an export or an import was refused; the line of its error is written |
 pub fn per_run<D: Disk, S: Source, K: Sink>(
     alloc: Global,
     words: &[String],
@@ -106,5 +109,11 @@ pub fn run_job<D: Disk, S: Source, K: Sink>(
         JobKind::Format => format(alloc, sink, disk),
         JobKind::Generate(number) => generate(alloc, number, migrations, sink, disk),
         JobKind::Audit => audit_disk(alloc, sink, disk),
+        JobKind::Export(application, name) => {
+            export_storage(alloc, u32::from(application), &name, sink, disk)
+        }
+        JobKind::Import(application, name) => {
+            import_storage(alloc, u32::from(application), &name, source, sink, disk)
+        }
     }
 }

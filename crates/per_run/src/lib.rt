@@ -4,7 +4,8 @@
 //! runtime and handles the lines of a source one by one, each with its reply to a sink, until the input ends, a line is
 //! outside the grammar, or something fails. `--format` formats the disk, and `--generate N` does that and then handles
 //! a large input that is made of a number. `--audit` lists what lies on the disk and finds what is damaged or lost, and
-//! mends nothing. The contract says what every status means: which lines were handled, what was written, what the disk
+//! mends nothing. `--export A:S` writes a storage as one text, and `--import A:S` makes it anew of such a text. The
+//! contract says what every status means: which lines were handled, what was written, what the disk
 //! then stands for, what a stop at any moment leaves, and that a failure of the disk, the source or the sink ends the
 //! program only where its count of faults rose.
 //!
@@ -16,12 +17,15 @@
 mod answering;
 mod auditing;
 mod endings;
+mod exporting;
 mod flash;
 mod formatting;
 mod generating;
+mod importing;
 mod input;
 mod job;
 mod reader;
+mod refusing;
 mod run;
 mod tally;
 mod words;

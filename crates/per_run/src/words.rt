@@ -4,12 +4,13 @@ ghost use Rattle.std.specs.Prelude.{◌≡◌, ◌≢◌, Some, None, IfOk, fals
 ghost use Rattle.clap.specs.Words.{app_of, found_of, kind_of, rows_of, rule_of};
 ghost use Rattle.clap.specs.declared.error.kind.ErrorKind.{ErrorKind};
 ghost use Rattle.clap.specs.declared.builder.action.ArgAction.TheVariants.{Set, SetTrue};
-ghost use Rattle.per_run.specs.Words.{Reads, command, dir_of, flash_of, generate_of, is_set, job_in, job_of, kind_in};
-ghost use Rattle.per_run.specs.Words.{modes, named_rule, number_in, only_mode};
+ghost use Rattle.per_run.specs.Words.{Reads, application_of, command, dir_of, export_of, flash_of, generate_of};
+ghost use Rattle.per_run.specs.Words.{import_of, is_set, job_in, job_of, kind_in, modes, name_of, named_rule};
+ghost use Rattle.per_run.specs.Words.{number_in, only_mode, target_of};
 
 use clap::error::ErrorKind;
 use clap::{Arg, ArgAction, ArgMatches, Command, Error};
-use per_base::ValueText;
+use per_base::{Name, PerError, ValueText};
 use std::alloc::{AllocError, Global};
 use thiserror::Error as ThisError;
 
@@ -24,7 +25,7 @@ pub struct Job {
 }
 
 /// The kinds of job.
-#[derive(Clone, Copy, Debug, PartialEq, Eq)]
+#[derive(Debug, Drop)]
 pub enum JobKind {
     /// The lines of the input are handled.
     Run,
@@ -34,6 +35,10 @@ pub enum JobKind {
     Generate(u32),
     /// What all storages hold is listed, and what is damaged or lost, and nothing is mended.
     Audit,
+    /// The storage of this name of an application, 0 to 7, is written as one text, and nothing is mended.
+    Export(u8, Name),
+    /// The storage of this name of an application, 0 to 7, is made anew of the text that the input is.
+    Import(u8, Name),
 }
 
 /// Why the words give no job.
@@ -84,7 +89,9 @@ fn command<'a>(alloc: Global) -> Result<Command<'a>, AllocError>
         .arg(option(alloc, "flash"))?
         .arg(flag(alloc, "format"))?
         .arg(option(alloc, "generate"))?
-        .arg(flag(alloc, "audit"))
+        .arg(flag(alloc, "audit"))?
+        .arg(option(alloc, "export"))?
+        .arg(option(alloc, "import"))
 }
 
 /// An option of this name, with one value.
@@ -118,32 +125,45 @@ fn job_in(alloc: Global, matches: &ArgMatches<'_>) -> Result<Job, WordsError>
     ensures { Reads result (job_in (rows_of (found_of matches.now))) }
 {
     Ok(Job {
-        kind: kind_in(matches)?,
+        kind: kind_in(alloc, matches)?,
         flash: flash_of(matches.get_str("flash"))?,
         dir: dir_of(alloc, matches.get_str("dir"))?,
     })
 }
 
 /// The kind of job that the matches say.
-fn kind_in(matches: &ArgMatches<'_>) -> Result<JobKind, WordsError>
+fn kind_in(alloc: Global, matches: &ArgMatches<'_>) -> Result<JobKind, WordsError>
     ensures { Reads result (kind_in (rows_of (found_of matches.now))) }
 {
     only_mode(
+        alloc,
         is_set(matches.get_str("format")),
         matches.get_str("generate"),
         is_set(matches.get_str("audit")),
+        matches.get_str("export"),
+        matches.get_str("import"),
     )
 }
 
 /// At most one mode is named, and where none is the lines of the input are handled.
-fn only_mode(formats: bool, generates: Option<&str>, audits: bool) -> Result<JobKind, WordsError>
-    ensures { Reads result (only_mode (modes formats (option_map (λ text. text.now) generates.entry) audits)) }
+fn only_mode(
+    alloc: Global,
+    formats: bool,
+    generates: Option<&str>,
+    audits: bool,
+    exports: Option<&str>,
+    imports: Option<&str>,
+) -> Result<JobKind, WordsError>
+    ensures { Reads result (only_mode (modes formats (option_map (λ text. text.now) generates.entry) audits
+        (option_map (λ text. text.now) exports.entry) (option_map (λ text. text.now) imports.entry))) }
 {
-    match (formats, generates, audits) {
-        (false, None, false) => Ok(JobKind::Run),
-        (true, None, false) => Ok(JobKind::Format),
-        (false, Some(number), false) => generate_of(number),
-        (false, None, true) => Ok(JobKind::Audit),
+    match (formats, generates, audits, exports, imports) {
+        (false, None, false, None, None) => Ok(JobKind::Run),
+        (true, None, false, None, None) => Ok(JobKind::Format),
+        (false, Some(number), false, None, None) => generate_of(number),
+        (false, None, true, None, None) => Ok(JobKind::Audit),
+        (false, None, false, Some(target), None) => export_of(alloc, target),
+        (false, None, false, None, Some(target)) => import_of(alloc, target),
         _ => Err(WordsError::Refused),
     }
 }
@@ -163,6 +183,22 @@ fn generate_of(text: &str) -> Result<JobKind, WordsError>
     ensures { Reads result (generate_of text.now) }
 {
     Ok(JobKind::Generate(number_in(1, 100_000, text)?))
+}
+
+/// The storage is named behind its application.
+fn export_of(alloc: Global, text: &str) -> Result<JobKind, WordsError>
+    ensures { Reads result (export_of text.now) }
+{
+    let (application, name) = target_of(alloc, text)?;
+    Ok(JobKind::Export(application, name))
+}
+
+/// The storage is named behind its application.
+fn import_of(alloc: Global, text: &str) -> Result<JobKind, WordsError>
+    ensures { Reads result (import_of text.now) }
+{
+    let (application, name) = target_of(alloc, text)?;
+    Ok(JobKind::Import(application, name))
 }
 
 /// How many blocks the flash has, where one is named: 4 to 4096.
@@ -192,5 +228,36 @@ fn number_in(least: u32, most: u32, text: &str) -> Result<u32, WordsError>
     match text.parse::<u32>() {
         Ok(number) if least <= number && number <= most => Ok(number),
         _ => Err(WordsError::Refused),
+    }
+}
+
+/// An application and the name of a storage, as `3:fav`.
+fn target_of(alloc: Global, text: &str) -> Result<(u8, Name), WordsError>
+    ensures { Reads result (target_of text.now) }
+{
+    match text.split_once(':') {
+        Some((application, name)) => Ok((application_of(application)?, name_of(alloc, name)?)),
+        None => Err(WordsError::Refused),
+    }
+}
+
+/// The digit of an application.
+fn application_of(text: &str) -> Result<u8, WordsError>
+    ensures { Reads result (application_of text.now) }
+{
+    match text.as_bytes() {
+        [digit @ b'0'..=b'7'] => Ok(*digit - b'0'),
+        _ => Err(WordsError::Refused),
+    }
+}
+
+/// A name in the grammar of names.
+fn name_of(alloc: Global, text: &str) -> Result<Name, WordsError>
+    ensures { Reads result (name_of text.now) }
+{
+    match Name::new(alloc, text) {
+        Ok(name) => Ok(name),
+        Err(PerError::BadName) => Err(WordsError::Refused),
+        Err(_) => Err(WordsError::OutOfMemory),
     }
 }

@@ -15,6 +15,7 @@
 //! | `? LINE` | a line that looks at what is left, for one of the rows below |
 //! | `stops`, `stops WORDS` | the lines so far, in a run with `--dir d` or these words, stopped after each call of the disk. `Script` says what is expected |
 //! | `failures`, `cuts` | the lines so far, with each call of the disk failing alone; with each call of the source and of the sink failing alone |
+//! | `rejects WORDS` | the bytes so far as the input of a job, cut off at each length, and with each byte as another |
 //! | `folder CASE`, `streams TEXT` | the ends of the program on a system |
 //! | any other | nothing |
 //!

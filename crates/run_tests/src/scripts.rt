@@ -16,6 +16,9 @@ pub(crate) const PLAIN: &str = "--dir d";
 /// No script makes so many calls of a disk or of a stream.
 const ENOUGH: u64 = 100_000;
 
+/// What makes another of a byte.
+const CHANGES: [u8; 3] = [1, 128, 255];
+
 /// What a restart keeps of the writes since the last sync.
 #[derive(Clone, Copy)]
 enum Restart {
@@ -147,6 +150,42 @@ impl Script {
             return Ok(fault);
         }
         text(self.alloc, "= kept\n")
+    }
+
+    /// `= rejected` where the input, cut off at each length and with each byte as another, is answered error 31 with
+    /// status 9, and a look finds what it did before. Else the first input for which it is not so.
+    pub(crate) fn rejects(&self, migrations: &Migrations) -> Result<String, RowError> {
+        let before = self.found(migrations, self.start.disk(self.alloc)?)?;
+        for place in 0..self.input.len() {
+            let cut = self.input.get(..place).unwrap_or(&[]);
+            if !self.is_rejected(migrations, cut, before.as_str())? {
+                return Ok(format!(in self.alloc; "= cut at {place}\n")?);
+            }
+            for change in CHANGES {
+                let mut changed = self.input.clone()?;
+                if let Some(byte) = changed.get_mut(place) {
+                    *byte ^= change;
+                }
+                if !self.is_rejected(migrations, changed.as_slice(), before.as_str())? {
+                    return Ok(format!(in self.alloc; "= byte {place} changed by {change}\n")?);
+                }
+            }
+        }
+        text(self.alloc, "= rejected\n")
+    }
+
+    /// Whether an input is rejected as no export, and a look finds what it did before.
+    fn is_rejected(
+        &self,
+        migrations: &Migrations,
+        input: &[u8],
+        before: &str,
+    ) -> Result<bool, RowError> {
+        let mut disk = self.start.disk(self.alloc)?;
+        let ran = self.ran(migrations, input, &mut disk)?;
+        let found = self.found(migrations, disk.crash(true)?)?;
+        let is_answered = ran.output.as_str() == "error 31 ExportRejected\n";
+        Ok(ran.status == 9 && is_answered && found.as_str() == before)
     }
 
     /// What a look finds after none of the lines, after one, and so on.

@@ -43,7 +43,7 @@ impl Session {
         let (word, rest) = parted(row, " ");
         match word {
             "run" => self.run(migrations, row, rest),
-            "stops" | "failures" | "cuts" => self.follow(migrations, row, word, rest),
+            "stops" | "failures" | "cuts" | "rejects" => self.follow(migrations, row, word, rest),
             _ => self.prepare(migrations, row, word, rest),
         }
     }
@@ -156,6 +156,7 @@ impl Session {
         let told = match word {
             "stops" => script.stops(migrations)?,
             "failures" => script.failures(migrations)?,
+            "rejects" => script.rejects(migrations)?,
             _ => script.cuts(migrations)?,
         };
         let shown = transcript(self.alloc, &rows, row, "")?;

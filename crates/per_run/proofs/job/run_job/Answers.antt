@@ -1,6 +1,7 @@
 -- Each job, and why it ended so.
-use Rattle.std.proofs.Common.{refl}
-use Rattle.per_run.specs.declared.words.JobKind.TheVariants.{Run, Format, Generate, Audit}
+use Rattle.std.proofs.Common.{ℕ, ◌<◌, ◌∙◌, ap, arith, refl, subst, sym}
+use Rattle.per_run.specs.declared.words.JobKind.TheVariants.{Run, Format, Generate, Audit, Export, Import}
+use Rattle.per_run.specs.Steps.{IsInRange}
 use Rattle.per_run.proofs.Caused.{caused_as, done_as, run_caused, written_caused}
 use Rattle.per_run.proofs.job.run_job.Goals as goal
 
@@ -31,3 +32,33 @@ returns-in-Audit-clause-job g c = done_as _ _ Audit _ _ _ _ _ _ _ _ _ _ _ c.in-A
 
 pub returns-in-Audit-clause-caused : goal.returns-in-Audit-clause-caused
 returns-in-Audit-clause-caused g c = caused_as _ Audit _ _ _ c.in-Audit.is (c.audit_disk.ensures.caused _)
+
+pub export_storage-requires : goal.export_storage-requires
+export_storage-requires g c =
+    let within : c.in-Export.application < 8 = subst IsInRange c.in-Export.is c.requires in
+    omega (arith, within, c.from.ensures)
+
+pub returns-in-Export-clause-job : goal.returns-in-Export-clause-job
+returns-in-Export-clause-job g c = done_as _ _ (Export c.from.result c.in-Export.name) _ _ _ _ _ _ _ _ _ _ _
+    (c.in-Export.is ∙ ap (λ (app : ℕ). Export app c.in-Export.name) (sym c.from.ensures))
+    c.export_storage.ensures.job
+
+pub returns-in-Export-clause-caused : goal.returns-in-Export-clause-caused
+returns-in-Export-clause-caused g c = caused_as _ (Export c.from.result c.in-Export.name) _ _ _
+    (c.in-Export.is ∙ ap (λ (app : ℕ). Export app c.in-Export.name) (sym c.from.ensures))
+    (c.export_storage.ensures.caused _)
+
+pub import_storage-requires : goal.import_storage-requires
+import_storage-requires g c =
+    let within : c.in-Import.application < 8 = subst IsInRange c.in-Import.is c.requires in
+    omega (arith, within, c.from-in-Import.ensures)
+
+pub returns-in-Import-clause-job : goal.returns-in-Import-clause-job
+returns-in-Import-clause-job g c = done_as _ _ (Import c.from-in-Import.result c.in-Import.name) _ _ _ _ _ _ _ _ _ _ _
+    (c.in-Import.is ∙ ap (λ (app : ℕ). Import app c.in-Import.name) (sym c.from-in-Import.ensures))
+    c.import_storage.ensures.job
+
+pub returns-in-Import-clause-caused : goal.returns-in-Import-clause-caused
+returns-in-Import-clause-caused g c = caused_as _ (Import c.from-in-Import.result c.in-Import.name) _ _ _
+    (c.in-Import.is ∙ ap (λ (app : ℕ). Import app c.in-Import.name) (sym c.from-in-Import.ensures))
+    c.import_storage.ensures.caused

@@ -24,5 +24,7 @@ returns c =
     let format = c.in_ok-arg-3.ensures.shape c.flag.ensures.global ∙ ap₂ with_rule flash c.flag.ensures.rule in
     let generate = c.in_ok-arg-4.ensures.shape c.option-3.ensures.global ∙ ap₂ with_rule format c.option-3.ensures.rule
     in
-    IfOk-weaker c.arg-5.result _ _ (λ r adds. adds.shape c.flag-2.ensures.global
-    ∙ ap₂ with_rule generate c.flag-2.ensures.rule) c.arg-5.ensures
+    let audit = c.in_ok-arg-5.ensures.shape c.flag-2.ensures.global ∙ ap₂ with_rule generate c.flag-2.ensures.rule in
+    let export = c.in_ok-arg-6.ensures.shape c.option-4.ensures.global ∙ ap₂ with_rule audit c.option-4.ensures.rule in
+    IfOk-weaker c.arg-7.result _ _ (λ r adds. adds.shape c.option-5.ensures.global
+    ∙ ap₂ with_rule export c.option-5.ensures.rule) c.arg-7.ensures

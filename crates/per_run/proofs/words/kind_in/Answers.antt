@@ -12,5 +12,7 @@ returns c = reads_as c.only_mode.result _ _
     ∙ first_value-rows (found_of c.args.matches.now) (codes "format")))
     (c.get_str-2.ensures ∙ first_value-rows (found_of c.args.matches.now) (codes "generate"))
     (c.is_set-2.ensures ∙ ap is_set (c.get_str-3.ensures
-    ∙ first_value-rows (found_of c.args.matches.now) (codes "audit"))))
+    ∙ first_value-rows (found_of c.args.matches.now) (codes "audit")))
+    (c.get_str-4.ensures ∙ first_value-rows (found_of c.args.matches.now) (codes "export"))
+    (c.get_str-5.ensures ∙ first_value-rows (found_of c.args.matches.now) (codes "import")))
     c.only_mode.ensures

@@ -46,7 +46,11 @@ pub returns-in-Ok-true-clause-begins : goal.returns-in-Ok-true-clause-begins
 returns-in-Ok-true-clause-begins g c =
     let old = g.F.Flash.medium c.args.flash in
     let e = c.in-Ok-true.ensures in
+    let many = c.if-blocks-lt4.false in
+    let few = c.if-blocks-gt4096.false in
+    let blocks = c.blocks-blocks.ensures in
     begins g.F.Flash.told old (g.F.Flash.medium c.learn.new.self.flash) (g.met.F.Flash.lawful c.learn.new.self.flash)
     e.pages e.blocks c.learn.new.self.own
+    (omega (arith, many, blocks)) (omega (arith, few, blocks))
     (λ told. subst (IsUsable old.state.pages) c.blocks-blocks.ensures
     (subst (SaysUsable old.state.pages c.blocks-blocks.result) c.in-Ok-true.field-0-test (e.usable told)))

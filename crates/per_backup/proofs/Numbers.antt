@@ -1,0 +1,136 @@
+-- Every refusal of an export and of an import has a number.
+use Rattle.std.proofs.Common.{ℕ, List, [], ◌∷◌, Bool, true, false, cond, Option, Some, None, Result, Ok, Err, refl}
+use Rattle.std.proofs.Common.{IfErr, IfSome, sum_by, nat_lt}
+use Rattle.std.specs.Prelude.{IsSome}
+use Rattle.per_base.specs.Errors.{error_number}
+use Rattle.per_base.specs.declared.elements.Content.{Content}
+use Rattle.per_base.specs.declared.elements.Content.TheVariants.{Good, Bad}
+use Rattle.per_base.specs.declared.elements.Entry.{Entry}
+use Rattle.per_base.specs.declared.elements.Fresh.{Fresh}
+use Rattle.per_base.specs.declared.elements.StoreKind.{StoreKind}
+use Rattle.per_base.specs.declared.errors.PerError.{PerError}
+use Rattle.deployment_model.specs.Data.{StorageData}
+use Rattle.deployment_model.specs.Lookups.{storage_number}
+use Rattle.element_state.specs.States.{State, Opens, Corrupt, salvage_of}
+use Rattle.element_state.specs.Views.{judged_content}
+use Rattle.index_text.specs.Contents.{fresh_size}
+use Rattle.update_plan.specs.Plans.{is_kind}
+use Rattle.value_model.specs.Kinds.{Kind}
+use Rattle.value_text.specs.Limits.{same_kind}
+use Rattle.deploy_laws.specs.Places.{Named}
+use Rattle.deploy_laws.specs.Apps.{App, Says, absent, installed, nothing}
+use Rattle.deploy_rows.specs.Recovering.{if_fits, is_content, is_worn_out, rebuilding}
+use Rattle.deploy_rows.specs.Rows.{◌>>=◌}
+use Rattle.export_text.specs.declared.exports.Export.{Export}
+use Rattle.export_text.specs.Exports.{export_of, export_text}
+use Rattle.kvs_core.specs.Calls.{mismatch}
+use Rattle.run_model.specs.Found.{Found, found_at, found_in, found_with, of_kind, storage_in, with_state}
+use Rattle.per_backup.specs.Backups.{configured_type, contents_of, differing, export_for, exported_from, exported_type}
+use Rattle.per_backup.specs.Backups.{exporting, fresh_by, fresh_of, importing, importing_into, least_mismatch}
+use Rattle.per_backup.specs.Backups.{mismatch_of, or_next, text_from, unless}
+use Rattle.per_backup.specs.Laws.{ExportNumbersLaw, ImportNumbersLaw}
+
+abbrev IsNumbered : PerError → Type 0
+IsNumbered e = IsSome (error_number e)
+
+abbrev Numbered : {A : Type 0} → Result A PerError → Type 0
+Numbered r = IfErr r IsNumbered
+
+-- ---- rows of rows
+
+both : {A B : Type 0} (r : Result A PerError) (f : A → Result B PerError) → Numbered r → ((x : A) → Numbered (f x))
+    → Numbered (r >>= f)
+both (Ok x) f first rest = rest x
+both (Err e) f first rest = first
+
+either : {A : Type 0} (b : Bool) (one other : Result A PerError) → Numbered one → Numbered other
+    → Numbered (cond b one other)
+either true one other first second = first
+either false one other first second = second
+
+unless_numbered : {A : Type 0} (o : Option PerError) (row : Result A PerError) → IfSome o IsNumbered → Numbered row
+    → Numbered (unless o row)
+unless_numbered None row first rest = rest
+unless_numbered (Some e) row first rest = first
+
+-- ---- the storage of a name
+
+with_numbered : (bank number : ℕ) (kind : Option StoreKind) (config : Option StorageData) (state : Option State)
+    → Numbered (found_with bank number kind config state)
+with_numbered bank number kind (Some config) (Some state) = either (of_kind kind config.kind) _ _ tt refl
+with_numbered bank number kind (Some config) None = refl
+with_numbered bank number kind None state = refl
+
+at_numbered : (v : Named) (states : List State) (kind : Option StoreKind) (number : Option ℕ)
+    → Numbered (found_at v states kind number)
+at_numbered v states kind None = refl
+at_numbered v states kind (Some number) = with_numbered v.bank number kind _ _
+
+in_numbered : (says : Says) (states : List State) (name : List ℕ) (kind : Option StoreKind)
+    → Numbered (found_in says states name kind)
+in_numbered nothing states name kind = refl
+in_numbered (absent g) states name kind = refl
+in_numbered (installed g active previous) states name kind =
+    at_numbered active states kind (storage_number active.deployment name)
+
+-- ---- an export
+
+fresh_numbered : (storage : List ℕ) (e : Entry) (content : Content) → Numbered (fresh_by storage e content)
+fresh_numbered storage e (Good bytes) = tt
+fresh_numbered storage e (Bad salvage) = refl
+
+contents_numbered : (s : StorageData) (es : List Entry) → Numbered (contents_of s es)
+contents_numbered s [] = tt
+contents_numbered s (e ∷ es) =
+    both (fresh_of s e) _ (fresh_numbered s.name e (judged_content (is_content s.kind) e.content))
+    (λ f. both (contents_of s es) _ (contents_numbered s es) (λ fs. tt))
+
+from_numbered : (s : StorageData) (state : State) → Numbered (exported_from s state)
+from_numbered s (Corrupt salvage others) = refl
+from_numbered s (Opens v others) = both (contents_of s v.entries) _ (contents_numbered s v.entries) (λ contents. tt)
+
+pub exports : ExportNumbersLaw
+unfolding exporting
+exports a name = both (storage_in a name None) _ (in_numbered a.says a.states name None)
+    (λ f. both (exported_from f.config f.state) _ (from_numbered f.config f.state) (λ x. tt))
+
+-- ---- an import
+
+for_numbered : (kind : StoreKind) (x : Option Export) → Numbered (export_for kind x)
+for_numbered kind None = refl
+for_numbered kind (Some x) = either (is_kind kind x.kind) _ _ tt refl
+
+same_numbered : (b : Bool) (e : PerError) → IsNumbered e → IfSome (cond b None (Some e)) IsNumbered
+same_numbered true e is = tt
+same_numbered false e is = is
+
+differing_numbered : (exported configured : Option Kind) → IfSome (differing exported configured) IsNumbered
+differing_numbered exported None = tt
+differing_numbered None (Some configured) = tt
+differing_numbered (Some exported) (Some configured) =
+    same_numbered (same_kind exported configured) (mismatch exported configured) refl
+
+next_numbered : (first next : Option PerError) → IfSome first IsNumbered → IfSome next IsNumbered
+    → IfSome (or_next first next) IsNumbered
+next_numbered None next one other = other
+next_numbered (Some e) next one other = one
+
+least_numbered : (s : StorageData) (fs : List Fresh) → IfSome (least_mismatch s fs) IsNumbered
+least_numbered s [] = tt
+least_numbered s (f ∷ fs) = next_numbered (mismatch_of s f) (least_mismatch s fs)
+    (differing_numbered (exported_type f) (configured_type s f.name)) (least_numbered s fs)
+
+fits_numbered : (s : StorageData) (state : State) (contents : List Fresh) → Numbered (if_fits s state contents)
+fits_numbered s state contents = either (nat_lt s.maximum (sum_by fresh_size contents)) _ _ refl
+    (either (is_worn_out (salvage_of state)) _ _ refl tt)
+
+importing_numbered : (s : StorageData) (state : State) (text : List ℕ) → Numbered (importing s state text)
+unfolding importing
+importing_numbered s state text = both (export_for s.kind (export_of text)) _ (for_numbered s.kind (export_of text))
+    (λ x. unless_numbered (least_mismatch s x.contents) _ (least_numbered s x.contents)
+    (fits_numbered s state x.contents))
+
+pub imports : ImportNumbersLaw
+unfolding importing_into
+imports a name text = both (storage_in a name None) _ (in_numbered a.says a.states name None)
+    (λ f. both (importing f.config f.state text) _ (importing_numbered f.config f.state text) (λ state. tt))
