@@ -1,0 +1,5 @@
+pub mod Keys
+pub mod Next
+pub mod SameKinds
+pub mod Standing
+pub mod Stops

@@ -1,0 +1,47 @@
+-- The statements of the laws.
+use Rattle.std.specs.Prelude.{◌≡◌, ℕ, List, [], Bool, IsTrue, Ok}
+use Rattle.per_base.specs.Maps.{Map}
+use Rattle.disk_model.specs.Case.{Case, IsSettledAt}
+use Rattle.disk_model.specs.Image.{Image}
+use Rattle.value_model.specs.Trees.{Tree, type_of}
+use Rattle.value_model.specs.Validity.{IsValue}
+use Rattle.deployment_model.specs.Data.{StorageData}
+use Rattle.element_state.specs.Clean.{IsClean}
+use Rattle.element_state.specs.Kept.{IsKeptCase}
+use Rattle.element_state.specs.States.{Opens}
+use Rattle.element_store.specs.Stores.{IsUsed, shape_of, view_in}
+use Rattle.kvs_core.specs.Calls.{get_as, set_value}
+use Rattle.kvs_store.specs.Storages.{KvsSession, keys_in}
+use Rattle.kvs_store.specs.Synced.{synced_view}
+use Rattle.kvs_laws.specs.Values.{Asked, HasValue, LeavesValue, ReadsAs}
+
+-- what was set is what is got
+abbrev pub SetLaw : Type 0
+SetLaw = (config : StorageData) (m new : Map) (name : List ℕ) (value : Tree) → IsValue value
+    → set_value config m name value ≡ Ok new → get_as config new name (type_of value) ≡ Ok value
+
+-- an open storage in use on an image, on which the key has this value
+pub record IsHeld (asked : Asked) (image : Image) (kvs : KvsSession) (value : Tree) : Type 0 where
+  pub told : Bool
+  pub tells : IsTrue told
+  pub used : IsUsed told image kvs.store
+  pub shown : kvs.session.synced ≡ keys_in (view_in kvs.store)
+  pub value_is : HasValue asked kvs.session.synced value
+
+-- it reads so on the disk
+abbrev pub ReadsLaw : Type 0
+ReadsLaw = (asked : Asked) (image : Image) (kvs : KvsSession) (value : Tree) → IsHeld asked image kvs value
+    → ReadsAs asked (shape_of kvs.store) value image
+
+-- where a sync keeps the storage, a stop leaves the value that was synchronised or the one that the calls see
+abbrev pub SyncLaw : Type 0
+SyncLaw = (asked : Asked) (start : Image) (kvs : KvsSession) (before after : Tree) (c : Case)
+    → IsHeld asked start kvs before → HasValue asked kvs.session.visible after
+    → IsKeptCase (shape_of kvs.store) start (Opens (synced_view kvs) []) c
+    → LeavesValue asked (shape_of kvs.store) (view_in kvs.store).lacking before after c
+
+-- and so it does where nothing is pending
+abbrev pub StillLaw : Type 0
+StillLaw = (asked : Asked) (start : Image) (kvs : KvsSession) (before after : Tree) (c : Case)
+    → IsHeld asked start kvs before → IsClean (shape_of kvs.store) start → IsSettledAt start c
+    → LeavesValue asked (shape_of kvs.store) (view_in kvs.store).lacking before after c
