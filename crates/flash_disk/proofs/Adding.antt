@@ -16,7 +16,7 @@ use Rattle.flash_disk.specs.FlashFiles.{flash_files}
 use Rattle.flash_disk.specs.Does.{Does}
 use Rattle.flash_disk.specs.PutPart.{PutPart, PutOrNot}
 use Rattle.flash_disk.specs.Standing.{StandsFor}
-use Rattle.flash_disk.specs.Sound.{files_of, Sound, IsSound, IsFresh, FitsIn, Enters, Pends, Holds, LeavesPut}
+use Rattle.flash_disk.specs.Sound.{files_of, Sound, IsSound, IsFresh, FitsIn, Enters, Pends, IsDescribedBy, LeavesPut}
 use Rattle.flash_disk.specs.Sound.{ShowsSame, ShowsPage}
 use Rattle.flash_disk.proofs.Standing.{HasSameRecords, records_agreed}
 use Rattle.flash_disk.proofs.Growing.{adds_byte, adds_put, adds_agreed, grown_put}
@@ -182,14 +182,14 @@ module _ (m now : FlashMedium) (s u : LayerState) (place : Place) (r : PageRecor
 
   -- what a call that failed left pends
   pub failed_holds : FailsToProgram place.block place.page whole m.state now.state → now.blocks ≡ m.blocks
-      → Holds now (record u { unsure = Some place })
+      → IsDescribedBy now (record u { unsure = Some place })
   failed_holds failed blocks =
       let left = now.state.pages in
       let torn = subst (IsTorn pages left (number place)) is
       (torn_program pages place.block place.page small blank left whole failed.torn failed.plain) in
       let state : adding (Some place) ≡ record u { unsure = Some place } =
       ap (λ (q : LayerState). let t : LayerState = record q { unsure = Some place } in t) (sym on) in
-      subst (Holds now) state (record {
+      subst (IsDescribedBy now) state (record {
         sure = pages;
         sound = subst (λ b. Sound pages b (adding (Some place))) (sym blocks) (still_sound (Some place));
         pends = subst (λ b. Pends pages left b (adding (Some place)) place) (sym blocks) (record {

@@ -20,7 +20,7 @@ use Rattle.flash_disk.specs.Counted.{IsCounted}
 use Rattle.flash_disk.specs.Learnt.{number, Led, LedOf, IsLed, Adds, HasPlace, Tops}
 use Rattle.flash_disk.specs.FlashFiles.{file_len, IsFileLen}
 use Rattle.flash_disk.specs.FlashFilesLaws.{file_len_is, one_len}
-use Rattle.flash_disk.specs.Sound.{Sound, IsSound, Enters, Pends, PendsAt, Holds}
+use Rattle.flash_disk.specs.Sound.{Sound, IsSound, Enters, Pends, PendsAt, IsDescribedBy}
 use Rattle.flash_disk.proofs.Standing.{HasSameRecords, records_known, records_tops, records_alike, records_spare}
 use Rattle.flash_disk.proofs.Standing.{records_count, records_agreed, same_said_strayless}
 use Rattle.flash_disk.proofs.Tearing.{torn_same, torn_page}
@@ -177,7 +177,7 @@ still_blank old new block page current fill torn behind p past small = torn curr
     (cases_eq current block))
 
 -- what fits the pages is what was kept
-pub sound_holds : (m : FlashMedium) (s : LayerState) → IsSound m s → s.unsure ≡ None → Holds m s
+pub sound_holds : (m : FlashMedium) (s : LayerState) → IsSound m s → s.unsure ≡ None → IsDescribedBy m s
 sound_holds m s sound sure = record {
   sure = m.state.pages;
   sound = sound;
@@ -185,13 +185,14 @@ sound_holds m s sound sure = record {
 }
 
 -- nothing that is kept is in doubt
-pub holds_sound : (m : FlashMedium) (s : LayerState) → Holds m s → s.unsure ≡ None → IsSound m s
+pub holds_sound : (m : FlashMedium) (s : LayerState) → IsDescribedBy m s → s.unsure ≡ None → IsSound m s
 holds_sound m s holds sure =
     let same : m.state.pages ≡ holds.sure = subst (PendsAt holds.sure m.state.pages m.blocks s) sure holds.pends in
     subst (λ p. Sound p m.blocks s) (sym same) holds.sound
 
 -- a page in doubt was read
-module _ (m now : FlashMedium) (s t : LayerState) (place : Place) (holds : Holds m s) (is : s.unsure ≡ Some place)
+module _ (m now : FlashMedium) (s t : LayerState) (place : Place) (holds : IsDescribedBy m s)
+    (is : s.unsure ≡ Some place)
     (pages : now.state.pages ≡ m.state.pages) (blocks : now.blocks ≡ m.blocks) (state : t ≡ s) (page : List ℕ)
     (read : place.block < m.blocks → place.page < 64 → page ≡ m.state.pages place.block place.page) where
   abbrev pub pends : Pends holds.sure m.state.pages m.blocks s place

@@ -1,9 +1,9 @@
--- Tables with entries of the same pages, and with one page more.
+-- Tables with entries of the same pages, and with one page more, and tables with the same bounds.
 use Rattle.std.proofs.Common.{◌≡◌, ◌+◌, cond, refl, sym, ap, ◌∙◌, arith}
 use Rattle.std.specs.Prelude.{Bool, true, false, is_some}
 use Rattle.flash_disk.specs.declared.table.FilePage.{FilePage}
 use Rattle.flash_disk.specs.declared.table.Table.{Table}
-use Rattle.flash_disk.specs.Known.{same_page, known, page_len}
+use Rattle.flash_disk.specs.Known.{same_page, known, page_len, limit_of, SameBounds}
 use Rattle.flash_disk.specs.Entries.{SameEntries, Occupies}
 use Rattle.flash_disk.proofs.Learning.{same_page_is}
 
@@ -37,4 +37,20 @@ occupies_known a b key had more = record {
   has = λ k. more.has k ∙ had_by a key k had (same_page key k) refl;
   len = more.len ∙ ap (λ some. page_len a + cond some 0 1) had ∙ omega arith;
   limit = more.limit;
+}
+
+-- ---- bounds
+
+pub bounds_same : {a b : Table} → b ≡ a → SameBounds a b
+bounds_same same = record {
+  limit = ap limit_of same;
+  lens = ap (λ t. t.lens) same;
+  blocks = ap (λ t. t.blocks) same;
+}
+
+pub bounds_then : {a b c : Table} → SameBounds a b → SameBounds b c → SameBounds a c
+bounds_then first second = record {
+  limit = second.limit ∙ first.limit;
+  lens = second.lens ∙ first.lens;
+  blocks = second.blocks ∙ first.blocks;
 }

@@ -11,7 +11,7 @@ use Rattle.flash_disk.specs.Standing.{IsAgreed, HasRivals}
 use Rattle.flash_disk.specs.Sound.{IsSound}
 use Rattle.flash_disk.specs.Known.{page_len, limit_of}
 use Rattle.flash_disk.specs.Counted.{missing}
-use Rattle.flash_disk.specs.OwnFaults.{lacking, EndsTooLate, WantsTooMany, IsAllowed, TakesPages, StopsAdding}
+use Rattle.flash_disk.specs.OwnFaults.{unrecorded, EndsTooLate, WantsTooMany, IsAllowed, TakesPages, StopsAdding}
 use Rattle.flash_disk.specs.OwnFaults.{FailsAlone}
 use Rattle.flash_disk.specs.Entries.{SameEntries}
 use Rattle.flash_disk.proofs.PageCount.{missing_is}
@@ -28,13 +28,13 @@ wants_too_many m s file at n end sound is full =
     let misses = missing_is m.state.pages (places m.blocks) s.table sound.knows.led file (at / 256) range in
     let many : limit_of s.table - page_len s.table < missing s.table file (at / 256) range = omega (arith, full) in
     subst (λ e. page_limit m.blocks < page_count m.state.pages (places m.blocks)
-    + lacking m.state.pages (places m.blocks) file (at / 256) (div_ceil e 256 - at / 256)) is
+    + unrecorded m.state.pages (places m.blocks) file (at / 256) (div_ceil e 256 - at / 256)) is
     (omega (arith, limit, known_pages, misses, many))
 
 -- there is room for the write
 pub has_room_for : (m : FlashMedium) (s : LayerState) (file at n end : ℕ) → IsSound m s → end ≡ at + n
     → missing s.table file (at / 256) (div_ceil end 256 - at / 256) ≤ limit_of s.table - page_len s.table
-    → page_count m.state.pages (places m.blocks) + lacking m.state.pages (places m.blocks) file (at / 256)
+    → page_count m.state.pages (places m.blocks) + unrecorded m.state.pages (places m.blocks) file (at / 256)
     (div_ceil (at + n) 256 - at / 256) ≤ page_limit m.blocks
 has_room_for m s file at n end sound is room =
     let range = div_ceil end 256 - at / 256 in
@@ -43,7 +43,7 @@ has_room_for m s file at n end sound is room =
     let known_pages = sound.count in
     let misses = missing_is m.state.pages (places m.blocks) s.table sound.knows.led file (at / 256) range in
     subst (λ e. page_count m.state.pages (places m.blocks)
-    + lacking m.state.pages (places m.blocks) file (at / 256) (div_ceil e 256 - at / 256) ≤ page_limit m.blocks)
+    + unrecorded m.state.pages (places m.blocks) file (at / 256) (div_ceil e 256 - at / 256) ≤ page_limit m.blocks)
     is
     (omega (arith, limit, few, known_pages, misses, room))
 
@@ -86,7 +86,7 @@ takes_pages a d s u t file at n before after same takes =
 abbrev Fails : Pages → (blocks : ℕ) → LayerState → (file at n : ℕ) → Type 0
 Fails pages blocks t file at n = EndsTooLate at n
     ⊎ ((page_limit blocks < page_count pages (places blocks)
-    + lacking pages (places blocks) file (at / 256) (div_ceil (at + n) 256 - at / 256))
+    + unrecorded pages (places blocks) file (at / 256) (div_ceil (at + n) 256 - at / 256))
     ⊎ ((t.sequence ≡ 18446744073709551615) ⊎ HasRivals pages (places blocks)))
 
 -- what a write says after calls that only look, said of the flash before them
@@ -112,7 +112,7 @@ module _ (a b : FlashMedium) (state : b.state ≡ a.state) (blocks : b.blocks �
   pub allowed_before : (file at n : ℕ) → IsAllowed b file at n → IsAllowed a file at n
   allowed_before file at n allowed = record {
     ends = allowed.ends;
-    fits = seen_before (λ p k. page_count p (places k) + lacking p (places k) file (at / 256)
+    fits = seen_before (λ p k. page_count p (places k) + unrecorded p (places k) file (at / 256)
         (div_ceil (at + n) 256 - at / 256) ≤ page_limit k) allowed.fits;
     agreed = seen_before (λ p k. IsAgreed p (places k)) allowed.agreed;
   }
@@ -120,7 +120,7 @@ module _ (a b : FlashMedium) (state : b.state ≡ a.state) (blocks : b.blocks �
   pub takes_before : (d : FlashMedium) (file at n : ℕ) → TakesPages b d file at n → TakesPages a d file at n
   takes_before d file at n takes =
       seen_before (λ p k. page_count d.state.pages (places d.blocks)
-      ≤ page_count p (places k) + lacking p (places k) file (at / 256) (div_ceil (at + n) 256 - at / 256)) takes
+      ≤ page_count p (places k) + unrecorded p (places k) file (at / 256) (div_ceil (at + n) 256 - at / 256)) takes
 
   -- a write that is refused changes no page
   pub refused_before : (d : FlashMedium) (file at n : ℕ)
@@ -128,5 +128,5 @@ module _ (a b : FlashMedium) (state : b.state ≡ a.state) (blocks : b.blocks �
       → EndsTooLate at n ⊎ WantsTooMany a file at n → d.state ≡ a.state
   refused_before d file at n refused = seen_before
       (λ p k. EndsTooLate at n ⊎ (page_limit k < page_count p (places k)
-      + lacking p (places k) file (at / 256) (div_ceil (at + n) 256 - at / 256)) → d.state ≡ a.state)
+      + unrecorded p (places k) file (at / 256) (div_ceil (at + n) 256 - at / 256)) → d.state ≡ a.state)
       (λ why. refused why ∙ state)

@@ -25,11 +25,13 @@ pub mod Adding
 pub mod Moving
 pub mod Moved
 mod Looking
+mod Steps
 pub mod Entries
 pub mod Accounting
 pub mod Affording
 pub mod PageCount
 pub mod Throughout
 pub mod Times
+pub mod Unchanged
 pub mod Failing
 mod Fresh

@@ -21,7 +21,7 @@ use Rattle.flash_disk.specs.FlashFiles.{file_byte}
 use Rattle.flash_disk.specs.Known.{same_page, page_of, known}
 use Rattle.flash_disk.specs.Learnt.{number, Led, LedOf, IsLed, HasPlace}
 use Rattle.flash_disk.specs.Does.{Does}
-use Rattle.flash_disk.specs.Standing.{Keeps, StandsFor}
+use Rattle.flash_disk.specs.Standing.{KeepsRecords, StandsFor}
 use Rattle.flash_disk.specs.Sound.{Sound, IsSound, FitsIn, Fits, ShowsSame}
 use Rattle.flash_disk.specs.Moving.{IsMoved, HasKey, IsMoving}
 use Rattle.flash_disk.proofs.Learning.{record_at_place, same_page_refl}
@@ -59,7 +59,7 @@ record_of pages n table led key e is =
 
 -- what counts is kept, and what the table leads to stands where it stood
 pub kept_sound : (old new : Pages) (blocks : ℕ) (s : LayerState) → Sound old blocks s → IsFalse s.disputed → 64 ≤ s.fill
-    → Keeps old new (places blocks)
+    → KeepsRecords old new (places blocks)
     → ((key : FilePage) (e : Newest) → known s.table key ≡ Some e
     → record_at new (number e.place) ≡ record_at old (number e.place)) → Sound new blocks s
 kept_sound old new blocks s sound agreed full keeps there =
@@ -85,7 +85,7 @@ kept_sound old new blocks s sound agreed full keeps there =
 
 -- the pages stand for the files that they stood for
 pub kept_stands : (m : FlashMedium) (new : Pages) (s : LayerState) → IsSound m s → IsFalse s.disputed
-    → Keeps m.state.pages new (places m.blocks) → Sound new m.blocks s
+    → KeepsRecords m.state.pages new (places m.blocks) → Sound new m.blocks s
     → StandsFor m new
 kept_stands m new s sound agreed keeps now = record {
   files_are = keeps_files m.state.pages new m.blocks (sound.agreed agreed) keeps;
@@ -128,7 +128,7 @@ module _ (m now : FlashMedium) (s : LayerState) (sound : IsSound m s) (agreed : 
     abbrev n : ℕ
     n = places m.blocks
 
-    loses_keeps : (left : Pages) → LosesIn s.spare pages left → Keeps pages left n
+    loses_keeps : (left : Pages) → LosesIn s.spare pages left → KeepsRecords pages left n
     loses_keeps left loses = erase_keeps pages left n s.spare (lies_elsewhere pages m.blocks s sound agreed) loses
 
     loses_sound : (left : Pages) → LosesIn s.spare pages left → Sound left m.blocks s
@@ -155,12 +155,12 @@ module _ (m now : FlashMedium) (s : LayerState) (sound : IsSound m s) (agreed : 
     erase_failed failed blocks = subst (λ b. Sound now.state.pages b s) (sym blocks)
         (loses_sound now.state.pages (torn_erase pages s.spare now.state.pages failed.torn failed.plain))
 
-    pub erase_failed_keeps : FailsToErase s.spare m.state now.state → Keeps pages now.state.pages n
+    pub erase_failed_keeps : FailsToErase s.spare m.state now.state → KeepsRecords pages now.state.pages n
     erase_failed_keeps failed = loses_keeps now.state.pages
         (torn_erase pages s.spare now.state.pages failed.torn failed.plain)
 
-    pub erase_keeps_all : now.state ≡ erased m.state s.spare → Keeps pages now.state.pages n
-    erase_keeps_all done = subst (λ (z : FlashState). Keeps pages z.pages n) (sym done)
+    pub erase_keeps_all : now.state ≡ erased m.state s.spare → KeepsRecords pages now.state.pages n
+    erase_keeps_all done = subst (λ (z : FlashState). KeepsRecords pages z.pages n) (sym done)
         (loses_keeps (erase_block pages s.spare) (whole_erase pages s.spare))
 
     -- nothing is copied yet
@@ -288,11 +288,12 @@ module _ (m : FlashMedium) (s : LayerState) (from to done : ℕ) (moving : IsMov
 
     left_keeps : (left : Pages) → TornPage to count m.state.pages left
         → IsPlain m.state.pages (program_page m.state.pages to count bytes) left
-        → Keeps m.state.pages left (places m.blocks)
+        → KeepsRecords m.state.pages left (places m.blocks)
     left_keeps = torn_copy m.state.pages (places m.blocks) (number old.place) place bytes r small blank
         (page_says key old is block page).3 led.within led.leads.there
 
-    left_sound : (left : Pages) → TornPage to count m.state.pages left → Keeps m.state.pages left (places m.blocks)
+    left_sound : (left : Pages) → TornPage to count m.state.pages left
+        → KeepsRecords m.state.pages left (places m.blocks)
         → Sound left m.blocks s
     left_sound left torn keeps = kept_sound m.state.pages left m.blocks s moving.sound moving.agreed moving.full keeps
         (λ k e found. torn_elsewhere m.state.pages to count left torn (number e.place) (apart_of k e found))
@@ -303,13 +304,13 @@ module _ (m : FlashMedium) (s : LayerState) (from to done : ℕ) (moving : IsMov
     written_torn : TornPage to count m.state.pages written
     written_torn = whole_torn m.state.pages to count bytes
 
-    written_keeps : Keeps m.state.pages written (places m.blocks)
+    written_keeps : KeepsRecords m.state.pages written (places m.blocks)
     written_keeps = whole_copy m.state.pages (places m.blocks) (number old.place) place bytes r small blank
         (page_says key old is block page).3 led.within led.leads.there
 
     -- a call that failed lost nothing
     pub copy_failed_keeps : (now : FlashMedium) → FailsToProgram to count bytes m.state now.state
-        → Keeps m.state.pages now.state.pages (places m.blocks)
+        → KeepsRecords m.state.pages now.state.pages (places m.blocks)
     copy_failed_keeps now failed = left_keeps now.state.pages failed.torn failed.plain
 
     pub copy_failed_sound : (now : FlashMedium) → FailsToProgram to count bytes m.state now.state
@@ -318,8 +319,8 @@ module _ (m : FlashMedium) (s : LayerState) (from to done : ℕ) (moving : IsMov
         (left_sound now.state.pages failed.torn (copy_failed_keeps now failed))
 
     pub copy_keeps_all : (now : FlashMedium) → now.state ≡ programmed m.state to count bytes
-        → Keeps m.state.pages now.state.pages (places m.blocks)
-    copy_keeps_all now done_now = subst (λ (z : FlashState). Keeps m.state.pages z.pages (places m.blocks))
+        → KeepsRecords m.state.pages now.state.pages (places m.blocks)
+    copy_keeps_all now done_now = subst (λ (z : FlashState). KeepsRecords m.state.pages z.pages (places m.blocks))
         (sym done_now) written_keeps
 
     pub copy_sound : (now : FlashMedium) → now.state ≡ programmed m.state to count bytes → now.blocks ≡ m.blocks
@@ -432,30 +433,31 @@ module _ (m look : FlashMedium) (same : look.state ≡ m.state) (blocks : look.b
       (subst (λ b. IsMoving look.state.pages b s from to done) (sym blocks)
       (subst (λ (z : FlashState). IsMoving z.pages m.blocks s from to done) (sym same) moving))
 
-  pub look_keeps : Keeps m.state.pages look.state.pages (places m.blocks)
-  look_keeps = subst (λ (z : FlashState). Keeps m.state.pages z.pages (places m.blocks)) (sym same)
+  pub look_keeps : KeepsRecords m.state.pages look.state.pages (places m.blocks)
+  look_keeps = subst (λ (z : FlashState). KeepsRecords m.state.pages z.pages (places m.blocks)) (sym same)
       (keeps_refl m.state.pages (places m.blocks))
 
   -- what was kept since is kept
-  pub keeps_since : (after : Pages) → Keeps look.state.pages after (places look.blocks)
-      → Keeps m.state.pages after (places m.blocks)
-  keeps_since after keeps = subst (λ (z : FlashState). Keeps z.pages after (places m.blocks)) same
-      (subst (λ b. Keeps look.state.pages after (places b)) blocks keeps)
+  pub keeps_since : (after : Pages) → KeepsRecords look.state.pages after (places look.blocks)
+      → KeepsRecords m.state.pages after (places m.blocks)
+  keeps_since after keeps = subst (λ (z : FlashState). KeepsRecords z.pages after (places m.blocks)) same
+      (subst (λ b. KeepsRecords look.state.pages after (places b)) blocks keeps)
 
   pub look_stands : EachFlashCase (IsStill m.state) m look → (s : LayerState) → IsSound m s → Does (StandsFor m) m look
   look_stands still s sound = does_nothing m look (StandsFor m) same still (stands_now m s sound)
 
 -- what was kept in one stretch after the other
 pub keeps_on : (m mid : FlashMedium) (s : LayerState) → IsSound m s → IsFalse s.disputed → mid.blocks ≡ m.blocks
-    → Keeps m.state.pages mid.state.pages (places m.blocks)
-    → (after : Pages) → Keeps mid.state.pages after (places mid.blocks) → Keeps m.state.pages after (places m.blocks)
+    → KeepsRecords m.state.pages mid.state.pages (places m.blocks)
+    → (after : Pages) → KeepsRecords mid.state.pages after (places mid.blocks)
+    → KeepsRecords m.state.pages after (places m.blocks)
 keeps_on m mid s sound agreed blocks keeps after then =
     keeps_then m.state.pages mid.state.pages (places m.blocks) (sound.agreed agreed) keeps after
-    (subst (λ b. Keeps mid.state.pages after (places b)) blocks then)
+    (subst (λ b. KeepsRecords mid.state.pages after (places b)) blocks then)
 
 -- no byte changed
 pub shows_same : (m now : FlashMedium) (s : LayerState) → IsSound m s → IsFalse s.disputed
-    → Keeps m.state.pages now.state.pages (places m.blocks) → now.blocks ≡ m.blocks
+    → KeepsRecords m.state.pages now.state.pages (places m.blocks) → now.blocks ≡ m.blocks
     → ShowsSame m now
 shows_same m now s sound agreed keeps blocks f i =
     subst (λ b. file_byte now.state.pages (places b) f i ≡ file_byte m.state.pages (places m.blocks) f i) (sym blocks)
@@ -463,7 +465,7 @@ shows_same m now s sound agreed keeps blocks f i =
 
 -- a record that might be added still may
 pub fits_kept : (m now : FlashMedium) (s t : LayerState) → IsSound m s → IsFalse s.disputed
-    → Keeps m.state.pages now.state.pages (places m.blocks) → now.blocks ≡ m.blocks
+    → KeepsRecords m.state.pages now.state.pages (places m.blocks) → now.blocks ≡ m.blocks
     → ((key : FilePage) → HasPlace s.table key → HasPlace t.table key) → (file page len : ℕ) (bytes : List ℕ)
     → FitsIn m s file page len bytes → FitsIn now t file page len bytes
 fits_kept m now s t sound agreed keeps blocks has file page len bytes fits =

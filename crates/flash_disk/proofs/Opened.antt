@@ -11,7 +11,7 @@ use Rattle.flash_disk.specs.Newest.{places, page_count, page_limit, IsSpare, IsU
 use Rattle.flash_disk.specs.Known.{same_page, known, page_len, limit_of, len_known, HasLen, EndsBy, IsLongest}
 use Rattle.flash_disk.specs.Counted.{IsCounted}
 use Rattle.flash_disk.specs.Learnt.{IsLed, IsLeaving, Knows, Tops}
-use Rattle.flash_disk.specs.Sound.{Sound, PendsAt, Holds}
+use Rattle.flash_disk.specs.Sound.{Sound, PendsAt, IsDescribedBy}
 use Rattle.flash_disk.specs.Standing.{IsAgreed}
 use Rattle.flash_disk.specs.Throughout.{KeepsUsable, KeepsAgreed}
 use Rattle.flash_disk.specs.Looks.{Opens}
@@ -88,7 +88,7 @@ module _ (pages : Pages) (blocks : ℕ) (s : LayerState) (left : Table)
 
 -- what is kept fits all pages
 pub holds_all : (m : FlashMedium) (s : LayerState) (pages : Pages) → Sound pages m.blocks s → m.state.pages ≡ pages
-    → s.unsure ≡ None → Holds m s
+    → s.unsure ≡ None → IsDescribedBy m s
 holds_all m s pages sound same sure = record {
   sure = pages;
   sound = sound;

@@ -20,9 +20,9 @@ use Rattle.flash_disk.specs.Newest.{IsNewestOf}
 use Rattle.flash_disk.specs.NewestLaws.{newest_is}
 use Rattle.flash_disk.specs.Known.{same_page, page_of, known}
 use Rattle.flash_disk.specs.Learnt.{LedOf, IsLed, Adds}
-use Rattle.flash_disk.specs.Standing.{Keeps}
+use Rattle.flash_disk.specs.Standing.{KeepsRecords}
 use Rattle.flash_disk.specs.Counted.{missing}
-use Rattle.flash_disk.specs.OwnFaults.{lacking}
+use Rattle.flash_disk.specs.OwnFaults.{unrecorded}
 use Rattle.flash_disk.proofs.Learning.{same_page_is, same_page_refl}
 use Rattle.flash_disk.proofs.Programming.{placed, newest_here, newest_elsewhere}
 
@@ -174,7 +174,7 @@ module _ (old new : Pages) (n : ℕ) (place : Place) (r : PageRecord) (adds : Ad
       (opened_is new n) (one_record old n (page_count old n) (opened_pages old n) (opened_is old n) r b refl)
       (λ key. added_page key (is_of key.file key.page r) refl)
 
-module _ (old new : Pages) (n : ℕ) (keeps : Keeps old new n) where
+module _ (old new : Pages) (n : ℕ) (keeps : KeepsRecords old new n) where
   kept_page : (file page : ℕ) (was is : Option Placed) → newest old file page n ≡ was → IsNewestOf old file page n was
       → IsNewestOf new file page n is → is_none is ≡ is_none was
   kept_page file page None None found before after = refl
@@ -203,10 +203,10 @@ led_none pages n (Some e) (Some x) led = refl
 
 -- as many pages of a file have no entry as have no record
 pub missing_is : (pages : Pages) (n : ℕ) (table : Table) → IsLed pages n table → (file from k : ℕ)
-    → missing table file from k ≡ lacking pages n file from k
+    → missing table file from k ≡ unrecorded pages n file from k
 missing_is pages n table led file from zero = refl
 missing_is pages n table led file from (suc k) =
     let key : FilePage = record { file = file; page = from + k } in
     ap (λ m. m + cond (is_none (known table key)) 1 0) (missing_is pages n table led file from k)
-    ∙ ap (λ b. lacking pages n file from k + cond b 1 0)
+    ∙ ap (λ b. unrecorded pages n file from k + cond b 1 0)
     (led_none pages n (known table key) (newest pages file (from + k) n) (led.says key))

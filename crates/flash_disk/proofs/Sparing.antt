@@ -11,7 +11,7 @@ use Rattle.flash_disk.specs.declared.table.Table.{Table}
 use Rattle.flash_disk.specs.Known.{known}
 use Rattle.flash_disk.specs.Learnt.{number, LedOf, IsLed}
 use Rattle.flash_disk.specs.Sound.{LeavesOut}
-use Rattle.flash_disk.specs.Standing.{IsAgreed, Keeps}
+use Rattle.flash_disk.specs.Standing.{IsAgreed, KeepsRecords}
 use Rattle.flash_disk.proofs.Standing.{said_before, keeps_said}
 
 -- each newest record, or an equal one, lies outside the block
@@ -26,7 +26,8 @@ spare_of pages n block elsewhere x needed at =
     needed.alone copy.0 (record { within = copy.1; apart = λ same. copy.2 (same ∙ at); same = copy.3 })
 
 -- each newest record still lies outside the block, if what lies outside it stays
-pub elsewhere_kept : (old new : Pages) (n block : ℕ) → IsAgreed old n → Keeps old new n → LiesElsewhere old n block
+pub elsewhere_kept : (old new : Pages) (n block : ℕ) → IsAgreed old n → KeepsRecords old new n
+    → LiesElsewhere old n block
     → ((j : ℕ) (q : PageRecord) → j / 64 ≢ block → record_at old j ≡ Some q → record_at new j ≡ Some q)
     → LiesElsewhere new n block
 elsewhere_kept old new n block agreed keeps elsewhere stays file page x found =

@@ -18,7 +18,7 @@ use Rattle.flash_disk.specs.declared.table.Newest.{Newest}
 use Rattle.flash_disk.specs.declared.table.Table.{Table}
 use Rattle.flash_disk.specs.Known.{known, len_known}
 use Rattle.flash_disk.specs.Learnt.{number, LedOf, IsLed, Knows, Tops}
-use Rattle.flash_disk.specs.Standing.{said, IsAgreed, Keeps, IsStrayless, MayGrow}
+use Rattle.flash_disk.specs.Standing.{said, IsAgreed, KeepsRecords, IsStrayless, MayGrow}
 
 -- a page of which something is said has a newest record, which says it
 pub said_some : (best : Option Placed) (r : PageRecord) → said best ≡ Some r
@@ -120,7 +120,7 @@ same_said_files old new blocks alike = fun_ext (λ file.
     (same_said_len old new (places blocks) alike file))
 
 module _ (old new : Pages) (n : ℕ) where
-  module _ (agreed : IsAgreed old n) (keeps : Keeps old new n) where
+  module _ (agreed : IsAgreed old n) (keeps : KeepsRecords old new n) where
     nothing_came : (file page : ℕ) → IsNewestOf old file page n None → (best : Option Placed)
         → IsNewestOf new file page n best → said best ≡ None
     nothing_came file page none None is = refl
@@ -217,7 +217,7 @@ module _ (old new : Pages) (n : ℕ) where
       }
 
     -- what is kept after this is kept
-    pub keeps_then : (after : Pages) → Keeps new after n → Keeps old after n
+    pub keeps_then : (after : Pages) → KeepsRecords new after n → KeepsRecords old after n
     keeps_then after then = record {
       only = λ j q inside there. (let was = then.only j q inside there in keeps.only was.0 q was.1 was.2);
       stays = λ file page x found.
@@ -226,11 +226,11 @@ module _ (old new : Pages) (n : ℕ) where
     }
 
   -- no record has a greater number
-  pub keeps_tops : Keeps old new n → (top : ℕ) → Tops old n top → Tops new n top
+  pub keeps_tops : KeepsRecords old new n → (top : ℕ) → Tops old n top → Tops new n top
   keeps_tops keeps top tops = λ j q inside there. (let was = keeps.only j q inside there in tops was.0 q was.1 was.2)
 
   -- the same records in the same places
-  pub same_records_keep : ((j : ℕ) → j < n → record_at new j ≡ record_at old j) → Keeps old new n
+  pub same_records_keep : ((j : ℕ) → j < n → record_at new j ≡ record_at old j) → KeepsRecords old new n
   same_records_keep same = record {
     only = λ j q inside there. (j, inside, sym (same j inside) ∙ there);
     stays = λ file page x found. (let is = is_newest_of old file page n x found in
@@ -238,11 +238,11 @@ module _ (old new : Pages) (n : ℕ) where
   }
 
 -- nothing changed
-pub keeps_refl : (pages : Pages) (n : ℕ) → Keeps pages pages n
+pub keeps_refl : (pages : Pages) (n : ℕ) → KeepsRecords pages pages n
 keeps_refl pages n = same_records_keep pages pages n (λ j inside. refl)
 
 -- the files are the same
-pub keeps_files : (old new : Pages) (blocks : ℕ) → IsAgreed old (places blocks) → Keeps old new (places blocks)
+pub keeps_files : (old new : Pages) (blocks : ℕ) → IsAgreed old (places blocks) → KeepsRecords old new (places blocks)
     → flash_files new blocks ≡ flash_files old blocks
 keeps_files old new blocks agreed keeps = same_said_files old new blocks
     (keeps_said old new (places blocks) agreed keeps)
@@ -283,7 +283,7 @@ module _ (old new : Pages) (same : HasSameRecords old new) where
 
   module _ (n : ℕ) where
     -- what there was is kept
-    pub records_keep : Keeps old new n
+    pub records_keep : KeepsRecords old new n
     records_keep = same_records_keep old new n (λ j inside. same j)
 
     -- the records are still agreed

@@ -8,11 +8,11 @@ use Rattle.std.proofs.lemmas.Option.{same_Some, none-some}
 use Rattle.flash_model.specs.Pages.{Pages, blank_page, program_page, erase_block, TornPage, TornBlock, IsPlain}
 use Rattle.flash_record.specs.PageRecord.{PageRecord, record_in}
 use Rattle.flash_record.specs.Blank.{blank_is_none}
-use Rattle.flash_record.proofs.Bodies.{record_in-plain}
+use Rattle.flash_record.specs.lemmas.Bodies.{record_in-plain}
 use Rattle.flash_disk.specs.declared.table.Place.{Place}
 use Rattle.flash_disk.specs.Newest.{record_at}
 use Rattle.flash_disk.specs.Learnt.{number, Adds}
-use Rattle.flash_disk.specs.Standing.{Keeps}
+use Rattle.flash_disk.specs.Standing.{KeepsRecords}
 use Rattle.flash_disk.proofs.Learning.{record_at_place}
 use Rattle.flash_disk.proofs.Standing.{is_newest_of, HasSameRecords}
 use Rattle.flash_disk.proofs.Sparing.{LiesElsewhere}
@@ -170,7 +170,7 @@ module _ (old : Pages) (n : ℕ) (place : Place) (bytes : List ℕ) (r : PageRec
 module _ (old left : Pages) (n i k : ℕ) (r : PageRecord) (nothing : record_at old i ≡ None) (inside : k < n)
     (copied : record_at old k ≡ Some r) where
   -- a place without a record has none, or has a copy of one that was there
-  pub copy_keeps : IsTorn old left i (Some r) → Keeps old left n
+  pub copy_keeps : IsTorn old left i (Some r) → KeepsRecords old left n
   copy_keeps torn = record {
     only = λ j q within there. ⊎_elim
         (λ here. (let now : record_at left i ≡ Some q = subst (λ m. record_at left m ≡ Some q) here there in ⊎_elim
@@ -192,14 +192,14 @@ module _ (old : Pages) (n k : ℕ) (place : Place) (bytes : List ℕ) (r : PageR
     (copied : record_at old k ≡ Some r) where
   -- a record was to be copied, which was cut short
   pub torn_copy : (left : Pages) → TornPage place.block place.page old left
-      → IsPlain old (program_page old place.block place.page bytes) left → Keeps old left n
+      → IsPlain old (program_page old place.block place.page bytes) left → KeepsRecords old left n
   torn_copy left torn plain = copy_keeps old left n (number place) k r
       (nothing_there old place.block place.page small blank) inside copied
       (subst (IsTorn old left (number place)) is (torn_program old place.block place.page small blank left bytes torn
       plain))
 
   -- a record was copied
-  pub whole_copy : Keeps old (program_page old place.block place.page bytes) n
+  pub whole_copy : KeepsRecords old (program_page old place.block place.page bytes) n
   whole_copy = copy_keeps old (program_page old place.block place.page bytes) n (number place) k r
       (nothing_there old place.block place.page small blank) inside copied
       (subst (IsTorn old (program_page old place.block place.page bytes) (number place)) is
@@ -257,7 +257,7 @@ module _ (old : Pages) (block : ℕ) where
 
 module _ (old left : Pages) (n block : ℕ) (elsewhere : LiesElsewhere old n block) (loses : LosesIn block old left) where
   -- nothing was lost that counts
-  pub erase_keeps : Keeps old left n
+  pub erase_keeps : KeepsRecords old left n
   erase_keeps = record {
     only = λ j q within there. (j, within, loses.only j q there);
     stays = λ file page x found. (let copy = elsewhere file page x found in

@@ -13,7 +13,7 @@ use Rattle.flash_disk.specs.declared.layer.LayerState.{LayerState}
 use Rattle.flash_disk.specs.Newest.{record_at, newest, places, page_count, page_limit, IsSpare, IsUsable}
 use Rattle.flash_disk.specs.Known.{page_of, known, page_len, limit_of}
 use Rattle.flash_disk.specs.Learnt.{number}
-use Rattle.flash_disk.specs.Sound.{Sound, Pends, PendsAt, Holds, Enters}
+use Rattle.flash_disk.specs.Sound.{Sound, Pends, PendsAt, IsDescribedBy, Enters}
 use Rattle.flash_disk.specs.Throughout.{KeepsUsable, KeepsAgreed, UsableSince, AgreedSince}
 use Rattle.flash_disk.specs.Standing.{IsAgreed, StaysAgreed}
 use Rattle.flash_disk.specs.Writes.{WritesInto}
@@ -76,7 +76,7 @@ module _ (sure pages : Pages) (blocks : ℕ) (s : LayerState) (sound : Sound sur
   kept_usable None same = subst (λ p. IsUsable p blocks) (sym same) (with_spare sure sure_fits sound.is_spare)
   kept_usable (Some place) pends = pending_usable place pends (record_at pages (number place)) refl
 
-pub holds_usable : (m : FlashMedium) (s : LayerState) → Holds m s → IsUsable m.state.pages m.blocks
+pub holds_usable : (m : FlashMedium) (s : LayerState) → IsDescribedBy m s → IsUsable m.state.pages m.blocks
 holds_usable m s holds = kept_usable holds.sure m.state.pages m.blocks s holds.sound s.unsure holds.pends
 
 -- ---- calls

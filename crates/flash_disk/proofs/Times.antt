@@ -6,14 +6,14 @@ use Rattle.flash_model.specs.State.{IsStill}
 use Rattle.flash_model.specs.FlashMedium.{FlashMedium, FlashElapses, EachFlashCase}
 use Rattle.flash_disk.specs.declared.layer.LayerState.{LayerState}
 use Rattle.flash_disk.specs.FlashDiskMedium.{flash_disk_medium}
-use Rattle.flash_disk.specs.Sound.{Holds}
+use Rattle.flash_disk.specs.Sound.{IsDescribedBy}
 use Rattle.flash_disk.specs.Writes.{WritesInto}
 use Rattle.flash_disk.proofs.DiskCases.{disk_elapses}
 use Rattle.flash_disk.proofs.Throughout.{holds_usable, look_usable, settle_usable, write_usable, look_agreed}
 use Rattle.flash_disk.proofs.Throughout.{settle_agreed, write_agreed}
 
-module _ (told : Bool) (a b : FlashMedium) (own own' written : ℕ) (s : LayerState) (holds : IsTrue told → Holds a s)
-    (time : IsTrue told → FlashElapses a b)
+module _ (told : Bool) (a b : FlashMedium) (own own' written : ℕ) (s : LayerState)
+    (holds : IsTrue told → IsDescribedBy a s) (time : IsTrue told → FlashElapses a b)
     (faults : a.faults + own ≤ b.faults + own') where
   -- calls that only look
   pub look_time : (IsTrue told → b.state ≡ a.state) → (IsTrue told → EachFlashCase (IsStill a.state) a b)

@@ -20,7 +20,8 @@ use Rattle.flash_disk.specs.Learnt.{LedOf, IsContent, HasPlace}
 use Rattle.flash_disk.specs.Does.{Does}
 use Rattle.flash_disk.specs.PutPart.{PutPart, PutOrNot}
 use Rattle.flash_disk.specs.Standing.{IsAgreed, IsStrayless, StaysAgreed, StandsFor}
-use Rattle.flash_disk.specs.Sound.{files_of, IsSound, Sound, Fits, Holds, PendsAt, FitsIn, LeavesPut, ShowsZeros}
+use Rattle.flash_disk.specs.Sound.{files_of, IsSound, Sound, Fits, IsDescribedBy, PendsAt, FitsIn, LeavesPut}
+use Rattle.flash_disk.specs.Sound.{ShowsZeros}
 use Rattle.flash_disk.specs.Sound.{ShowsPage, WipesPage}
 use Rattle.flash_disk.specs.Writes.{LeavesTorn, with_write, WritesInto}
 use Rattle.flash_disk.proofs.Entering.{sound_usable}
@@ -43,7 +44,7 @@ module _ (m : FlashMedium) (s : LayerState) (sound : IsSound m s) where
   pub usable_now : IsUsable m.state.pages m.blocks
   usable_now = sound_usable m.state.pages m.blocks s sound
 
-  pub holds_sound : s.unsure ≡ None → Holds m s
+  pub holds_sound : s.unsure ≡ None → IsDescribedBy m s
   holds_sound sure = record {
     sure = m.state.pages;
     sound = sound;

@@ -11,7 +11,7 @@ use Rattle.flash_disk.specs.FlashFiles.{flash_files}
 use Rattle.flash_disk.specs.FlashView.{FlashView}
 use Rattle.flash_disk.specs.Newest.{places}
 use Rattle.flash_disk.specs.Standing.{IsAgreed}
-use Rattle.flash_disk.specs.Throughout.{UsableSince, AgreedSince}
+use Rattle.flash_disk.specs.Throughout.{KeepsUsable, KeepsAgreed, UsableSince, AgreedSince}
 
 -- the files after these writes
 abbrev pub put_announced : Image → List Announced → Image
@@ -73,3 +73,12 @@ disk_seen told medium v = flash_disk_medium told (medium v.flash) v.own v.writte
 pub record Begins (told : Bool) (m : FlashMedium) (disk : Medium) : Type 0 where
   pub opens : disk.opens disk.moment
   pub agrees : (IsTrue told → IsAgreed m.state.pages (places m.blocks)) → disk.agrees disk.moment
+
+-- a call that changes no page: no fault is its own, it uses no number, no rivals come, and a crash meanwhile leaves
+-- what can be opened
+pub record ChangesNoPage {F : Type 0} (told : Bool) (medium : F → FlashMedium) (old new : FlashView F) : Type 0 where
+  pub own : new.own ≡ old.own
+  pub numbers : new.sequence ≡ old.sequence
+  pub pages : IsTrue told → (medium new.flash).state.pages ≡ (medium old.flash).state.pages
+  pub usable : IsTrue told → KeepsUsable (medium old.flash) (medium new.flash)
+  pub agreed : IsTrue told → KeepsAgreed (medium old.flash) (medium new.flash)

@@ -3,7 +3,7 @@ use Rattle.std.specs.Prelude.{ℕ, ◌*◌, ◌≤◌, Bool, IsTrue, refl}
 use Rattle.std.specs.Coded.{Coded, code_by, coded×, coded_ℕ}
 use Rattle.flash_model.specs.FlashMedium.{FlashMedium}
 use Rattle.flash_disk.specs.declared.layer.LayerState.{LayerState}
-use Rattle.flash_disk.specs.Sound.{Holds}
+use Rattle.flash_disk.specs.Sound.{IsDescribedBy}
 
 -- the flash, and what the disk counts
 pub record FlashView (F : Type 0) : Type 0 where
@@ -23,5 +23,5 @@ view_code {F} code =
 
 -- what is known of the flash fits it, and no more bytes were written than records with these numbers hold
 pub record IsKept (told : Bool) (m : FlashMedium) (s : LayerState) (written : ℕ) : Type 0 where
-  pub holds : IsTrue told → Holds m s
+  pub holds : IsTrue told → IsDescribedBy m s
   pub counted : written ≤ 256 * s.sequence

@@ -63,6 +63,12 @@ pub record SameRecords (old new : Table) : Type 0 where
   pub room : HasRoom old → HasRoom new
   pub fits : page_len old ≤ limit_of old → page_len new ≤ limit_of new
 
+-- both have room for as many pages, the same lengths of files, and as many blocks
+pub record SameBounds (old new : Table) : Type 0 where
+  pub limit : limit_of new ≡ limit_of old
+  pub lens : new.lens ≡ old.lens
+  pub blocks : new.blocks ≡ old.blocks
+
 -- the table with entries put in one after the other, each for a page that has one
 abbrev pub PutsAll : Table → Table → List (FilePage × Newest) → Type 0
 PutsAll old new news = (k : FilePage) → known new k ≡ update_all same_page (known old) news k

@@ -19,4 +19,5 @@ pub mod Moving
 pub mod FlashDiskLaws
 pub mod Looks
 pub mod Accounts
+pub mod Steps
 pub mod Fresh

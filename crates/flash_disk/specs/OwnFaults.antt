@@ -8,9 +8,9 @@ use Rattle.flash_disk.specs.Newest.{newest, places, page_count, page_limit}
 use Rattle.flash_disk.specs.Standing.{IsAgreed, HasRivals}
 
 -- how many of k pages of a file from one on have no record in the first n places
-abbrev pub lacking : Pages → (n file from k : ℕ) → ℕ
-lacking pages n file from zero = 0
-lacking pages n file from (suc k) = lacking pages n file from k
+abbrev pub unrecorded : Pages → (n file from k : ℕ) → ℕ
+unrecorded pages n file from zero = 0
+unrecorded pages n file from (suc k) = unrecorded pages n file from k
     + (if is_none (newest pages file (from + k) n) then 1 else 0)
 
 -- a write of n bytes would end past the end of the greatest file
@@ -20,20 +20,21 @@ EndsTooLate at n = 1099511627776 < at + n
 -- after it there would be more pages than all blocks but two have room for
 abbrev pub WantsTooMany : FlashMedium → (file at n : ℕ) → Type 0
 WantsTooMany m file at n = page_limit m.blocks < page_count m.state.pages (places m.blocks)
-    + lacking m.state.pages (places m.blocks) file (at / 256) (div_ceil (at + n) 256 - at / 256)
+    + unrecorded m.state.pages (places m.blocks) file (at / 256) (div_ceil (at + n) 256 - at / 256)
 
 -- a write of n bytes ends within the greatest file, has room for its pages, and finds no rivals
 pub record IsAllowed (m : FlashMedium) (file at n : ℕ) : Type 0 where
   pub ends : at + n ≤ 1099511627776
   pub fits : page_count m.state.pages (places m.blocks)
-      + lacking m.state.pages (places m.blocks) file (at / 256) (div_ceil (at + n) 256 - at / 256) ≤ page_limit m.blocks
+      + unrecorded m.state.pages (places m.blocks) file (at / 256) (div_ceil (at + n) 256 - at / 256)
+      ≤ page_limit m.blocks
   pub agreed : IsAgreed m.state.pages (places m.blocks)
 
 -- it adds no more pages than it lacks
 abbrev pub TakesPages : FlashMedium → FlashMedium → (file at n : ℕ) → Type 0
 TakesPages old new file at n = page_count new.state.pages (places new.blocks)
     ≤ page_count old.state.pages (places old.blocks)
-    + lacking old.state.pages (places old.blocks) file (at / 256) (div_ceil (at + n) 256 - at / 256)
+    + unrecorded old.state.pages (places old.blocks) file (at / 256) (div_ceil (at + n) 256 - at / 256)
 
 -- no record can be added: the greatest number was used, or two records of a page that have its greatest number differ
 abbrev pub StopsAdding : LayerState → Type 0

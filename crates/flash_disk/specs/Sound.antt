@@ -97,7 +97,7 @@ PendsAt sure pages blocks s None = pages ≡ sure
 PendsAt sure pages blocks s (Some place) = Pends sure pages blocks s place
 
 -- what is kept fits the pages but for one that a call that failed may have left anything in
-pub record Holds (m : FlashMedium) (s : LayerState) : Type 0 where
+pub record IsDescribedBy (m : FlashMedium) (s : LayerState) : Type 0 where
   pub sure : Pages
   pub sound : Sound sure m.blocks s
   pub pends : PendsAt sure m.state.pages m.blocks s s.unsure

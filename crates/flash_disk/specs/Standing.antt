@@ -32,7 +32,7 @@ abbrev pub HasRivals : Pages → ℕ → Type 0
 HasRivals pages n = (file page : ℕ) × (x : Placed) × (newest pages file page n ≡ Some x) × IsRivalled pages n x
 
 -- no record came that was not there, and of each newest record one is left
-pub record Keeps (old new : Pages) (n : ℕ) : Type 0 where
+pub record KeepsRecords (old new : Pages) (n : ℕ) : Type 0 where
   pub only : (j : ℕ) (q : PageRecord) → j < n → record_at new j ≡ Some q
       → (k : ℕ) × (k < n) × (record_at old k ≡ Some q)
   pub stays : (file page : ℕ) (x : Placed) → newest old file page n ≡ Some x

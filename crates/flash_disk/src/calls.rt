@@ -13,7 +13,7 @@ use disk_model::{Disk, DiskFailed};
 use flash_model::Flash;
 
 impl<F: Flash> Disk for FlashDisk<F> {
-    ghost use Rattle.flash_disk.specs.FlashDiskMedium.{flash_disk_medium, disk_seen};
+    ghost use Rattle.flash_disk.specs.FlashDiskMedium.{flash_disk_medium, disk_seen, ChangesNoPage};
     ghost use Rattle.flash_disk.specs.OwnFaults.{EndsTooLate, WantsTooMany, FailsAlone, IsAllowed, TakesPages};
     ghost use Rattle.flash_disk.specs.Throughout.{KeepsUsable, KeepsAgreed};
     ghost use Rattle.flash_disk.specs.FlashDiskLaws.{disk_is_lawful};
@@ -35,14 +35,8 @@ impl<F: Flash> Disk for FlashDisk<F> {
             (disk_seen F.told F.medium self.new).faults) }
         ensures passes { OnOk result ((disk_seen F.told F.medium self.new).faults
             ≡ (disk_seen F.told F.medium self.old).faults) }
-
-        // No fault is its own, no number is used, no page changes, no rivals come, and a crash meanwhile leaves what
-        // can be opened.
-        ensures own { self.new.own ≡ self.old.own }
-        ensures numbers { self.new.sequence ≡ self.old.sequence }
+        ensures unchanged { ChangesNoPage F.told F.medium self.old self.new }
         ensures still { IsTrue F.told → (F.medium self.new.flash).state ≡ (F.medium self.old.flash).state }
-        ensures usable { IsTrue F.told → KeepsUsable (F.medium self.old.flash) (F.medium self.new.flash) }
-        ensures agreed { IsTrue F.told → KeepsAgreed (F.medium self.old.flash) (F.medium self.new.flash) }
     {
         self.layer.make_sure()?;
         self.layer.read_file(file, at, out)
@@ -120,14 +114,8 @@ impl<F: Flash> Disk for FlashDisk<F> {
             (disk_seen F.told F.medium self.new).faults) }
         ensures passes { OnOk result ((disk_seen F.told F.medium self.new).faults
             ≡ (disk_seen F.told F.medium self.old).faults) }
-
-        // No fault is its own, no number is used, no page changes, no rivals come, and a crash meanwhile leaves what
-        // can be opened.
-        ensures own { self.new.own ≡ self.old.own }
-        ensures numbers { self.new.sequence ≡ self.old.sequence }
+        ensures unchanged { ChangesNoPage F.told F.medium self.old self.new }
         ensures still { IsTrue F.told → (F.medium self.new.flash).state ≡ (F.medium self.old.flash).state }
-        ensures usable { IsTrue F.told → KeepsUsable (F.medium self.old.flash) (F.medium self.new.flash) }
-        ensures agreed { IsTrue F.told → KeepsAgreed (F.medium self.old.flash) (F.medium self.new.flash) }
     {
         self.layer.make_sure()?;
         Ok(self.layer.file_size(file))
@@ -144,14 +132,7 @@ impl<F: Flash> Disk for FlashDisk<F> {
             (disk_seen F.told F.medium self.new).faults) }
         ensures passes { OnOk result ((disk_seen F.told F.medium self.new).faults
             ≡ (disk_seen F.told F.medium self.old).faults) }
-
-        // No fault is its own, no number is used, no page changes, no rivals come, and a crash meanwhile leaves what
-        // can be opened.
-        ensures own { self.new.own ≡ self.old.own }
-        ensures numbers { self.new.sequence ≡ self.old.sequence }
-        ensures pages { IsTrue F.told → (F.medium self.new.flash).state.pages ≡ (F.medium self.old.flash).state.pages }
-        ensures usable { IsTrue F.told → KeepsUsable (F.medium self.old.flash) (F.medium self.new.flash) }
-        ensures agreed { IsTrue F.told → KeepsAgreed (F.medium self.old.flash) (F.medium self.new.flash) }
+        ensures unchanged { ChangesNoPage F.told F.medium self.old self.new }
     {
         self.layer.make_sure()?;
         match self.layer.flash.settle() {

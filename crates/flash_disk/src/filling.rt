@@ -3,7 +3,7 @@
 ghost use Rattle.std.specs.Prelude.{◌≡◌, ◌⊎◌, ◌+◌, ◌*◌, ◌≤◌, ◌<◌, ℕ, IsTrue, IsFalse, IfOk, IfSome, OnOk, OnErr, Some};
 ghost use Rattle.std.specs.Prelude.{None, length, vec_len};
 ghost use Rattle.flash_model.specs.State.{IsStill};
-ghost use Rattle.flash_model.specs.FlashMedium.{FlashElapses, EachFlashCase};
+ghost use Rattle.flash_model.specs.FlashMedium.{EachFlashCase};
 ghost use Rattle.flash_model.specs.Pages.{Pages};
 ghost use Rattle.flash_record.specs.PageRecord.{PageRecord, record_in};
 ghost use Rattle.flash_record.specs.Stated.{stated};
@@ -13,7 +13,7 @@ ghost use Rattle.flash_disk.specs.Entries.{SameEntries, Occupies};
 ghost use Rattle.flash_disk.specs.Does.{Does};
 ghost use Rattle.flash_disk.specs.PutPart.{PutPart};
 ghost use Rattle.flash_disk.specs.Newest.{places};
-ghost use Rattle.flash_disk.specs.Standing.{Keeps, StandsFor};
+ghost use Rattle.flash_disk.specs.Standing.{KeepsRecords, StandsFor};
 ghost use Rattle.flash_disk.specs.Accounts.{Accounts};
 
 use crate::layer::Layer;
@@ -24,24 +24,22 @@ use flash_model::{BLANK_PAGE, BLOCK_PAGES, Flash, PAGE_BYTES};
 use flash_record::{RECORD_BYTES, Record, read_record, record_page};
 
 impl<F: Flash> Layer<F> {
-    ghost use Rattle.flash_disk.specs.Sound.{files_of, Sound, IsSound, Holds, FitsIn, Enters, LeavesPut, ShowsPage};
-    ghost use Rattle.flash_disk.specs.Sound.{ShowsSame};
+    ghost use Rattle.flash_disk.specs.Sound.{files_of, Sound, IsSound, IsDescribedBy, FitsIn, Enters, LeavesPut};
+    ghost use Rattle.flash_disk.specs.Sound.{ShowsPage, ShowsSame};
     ghost use Rattle.flash_disk.specs.Moving.{IsMoving};
-    ghost use Rattle.flash_disk.specs.OwnFaults.{StopsAdding};
+    ghost use Rattle.flash_disk.specs.Steps.{IsSure, StaysSound, AddsRecords};
 
     // Reads again what a failed call may have left anything in.
     pub(crate) fn make_sure(&mut self) -> Result<(), DiskFailed>
-        requires holds { IsTrue F.told → Holds (F.medium self.old.flash) self.old.state }
-        ensures holds { IsTrue F.told → Holds (F.medium self.new.flash) self.new.state }
-        ensures sound { IsTrue F.told → OnOk result (IsSound (F.medium self.new.flash) self.new.state) }
-        ensures sure { OnOk result (self.new.state.unsure ≡ None) }
+        requires holds { IsTrue F.told → IsDescribedBy (F.medium self.old.flash) self.old.state }
+        ensures holds { IsTrue F.told → IsDescribedBy (F.medium self.new.flash) self.new.state }
+        ensures stays { StaysSound F.told F.medium self.new result }
         ensures sequence { self.new.state.sequence ≡ self.old.state.sequence }
         ensures unchanged { IsTrue F.told → (F.medium self.new.flash).state ≡ (F.medium self.old.flash).state }
         ensures during { EachFlashCase (IsStill (F.medium self.old.flash).state) (F.medium self.old.flash)
             (F.medium self.new.flash) }
-        ensures time { IsTrue F.told → FlashElapses (F.medium self.old.flash) (F.medium self.new.flash) }
         ensures own { self.new.own ≡ self.old.own }
-        ensures accounts { Accounts F.medium 0 self.old self.new result }
+        ensures accounts { Accounts F.told F.medium 0 self.old self.new result }
     {
         let Some(place) = self.state.unsure else {
             return Ok(());
@@ -62,7 +60,7 @@ impl<F: Flash> Layer<F> {
         ensures next { IfOk result (λ sequence. (sequence ≡ self.old.state.sequence + 1)
             × (self.new ≡ record self.old { state = record self.old.state { sequence = sequence } })) }
         ensures none { OnErr result (self.new.state ≡ self.old.state) }
-        ensures accounts { Accounts F.medium 1 self.old self.new result }
+        ensures accounts { Accounts F.told F.medium 1 self.old self.new result }
         ensures last { OnErr result (self.old.state.sequence ≡ 18446744073709551615) }
     {
         if self.state.sequence == u64::MAX {
@@ -80,22 +78,16 @@ impl<F: Flash> Layer<F> {
         len: u64,
         bytes: &[u8; RECORD_BYTES],
     ) -> Result<(), DiskFailed>
-        requires sure { self.old.state.unsure ≡ None }
-        requires sound { IsTrue F.told → IsSound (F.medium self.old.flash) self.old.state }
+        requires ready { IsSure F.told F.medium self.old }
         requires fits { IsTrue F.told → FitsIn (F.medium self.old.flash) self.old.state file page len bytes.now }
-        ensures sound { IsTrue F.told → OnOk result (IsSound (F.medium self.new.flash) self.new.state) }
-        ensures sure { OnOk result (self.new.state.unsure ≡ None) }
+        ensures adds { AddsRecords F.told F.medium 1 self.old self.new result }
         ensures put { IsTrue F.told → OnOk result (PutPart file (256 * page) bytes.now len
             (files_of (F.medium self.old.flash)) (files_of (F.medium self.new.flash))) }
         ensures shown { IsTrue F.told → OnOk result (ShowsPage (F.medium self.old.flash) (F.medium self.new.flash) file
             page bytes.now) }
-        ensures failed { IsTrue F.told → OnErr result (Holds (F.medium self.new.flash) self.new.state) }
         ensures does { IsTrue F.told → Does (LeavesPut file (256 * page) bytes.now len (F.medium self.old.flash))
             (F.medium self.old.flash) (F.medium self.new.flash) }
         ensures rises { OnOk result (self.old.state.sequence < self.new.state.sequence) }
-        ensures time { IsTrue F.told → FlashElapses (F.medium self.old.flash) (F.medium self.new.flash) }
-        ensures accounts { Accounts F.medium 1 self.old self.new result }
-        ensures own { IsTrue F.told → (self.new.own ≡ self.old.own) ⊎ StopsAdding self.new.state }
         ensures entries { IsTrue F.told → OnOk result (Occupies self.old.state.table self.new.state.table
             (record { file = file; page = page })) }
         ensures calm { IsTrue F.told → OnOk result (IsFalse self.old.state.disputed) }
@@ -107,22 +99,18 @@ impl<F: Flash> Layer<F> {
     // Adds a record to the current block.
     fn add(&mut self, file: u32, page: u32, len: u64, bytes: &[u8]) -> Result<(), DiskFailed>
         requires bytes { length bytes.now ≡ 256 }
-        requires sure { self.old.state.unsure ≡ None }
-        requires sound { IsTrue F.told → IsSound (F.medium self.old.flash) self.old.state }
+        requires ready { IsSure F.told F.medium self.old }
         requires room { self.old.state.fill < 64 }
         requires fits { IsTrue F.told → FitsIn (F.medium self.old.flash) self.old.state file page len bytes.now }
-        ensures sound { IsTrue F.told → OnOk result (IsSound (F.medium self.new.flash) self.new.state) }
-        ensures sure { OnOk result (self.new.state.unsure ≡ None) }
+        ensures stays { StaysSound F.told F.medium self.new result }
         ensures put { IsTrue F.told → OnOk result (PutPart file (256 * page) bytes.now len
             (files_of (F.medium self.old.flash)) (files_of (F.medium self.new.flash))) }
         ensures shown { IsTrue F.told → OnOk result (ShowsPage (F.medium self.old.flash) (F.medium self.new.flash) file
             page bytes.now) }
-        ensures failed { IsTrue F.told → OnErr result (Holds (F.medium self.new.flash) self.new.state) }
         ensures does { IsTrue F.told → Does (LeavesPut file (256 * page) bytes.now len (F.medium self.old.flash))
             (F.medium self.old.flash) (F.medium self.new.flash) }
         ensures rises { OnOk result (self.old.state.sequence < self.new.state.sequence) }
-        ensures time { IsTrue F.told → FlashElapses (F.medium self.old.flash) (F.medium self.new.flash) }
-        ensures accounts { Accounts F.medium 1 self.old self.new result }
+        ensures accounts { Accounts F.told F.medium 1 self.old self.new result }
         ensures own { IsTrue F.told → (self.new.own ≡ self.old.own) ⊎ (self.new.state.sequence ≡ 18446744073709551615) }
         ensures entries { IsTrue F.told → OnOk result (Occupies self.old.state.table self.new.state.table
             (record { file = file; page = page })) }
@@ -179,10 +167,8 @@ impl<F: Flash> Layer<F> {
 
     // Sees to it that the current block has a page that was not tried yet.
     fn make_room(&mut self) -> Result<(), DiskFailed>
-        requires sure { self.old.state.unsure ≡ None }
-        requires sound { IsTrue F.told → IsSound (F.medium self.old.flash) self.old.state }
-        ensures sound { IsTrue F.told → IsSound (F.medium self.new.flash) self.new.state }
-        ensures sure { self.new.state.unsure ≡ None }
+        requires ready { IsSure F.told F.medium self.old }
+        ensures ready { IsSure F.told F.medium self.new }
         ensures room { OnOk result (self.new.state.fill < 64) }
         ensures fits { IsTrue F.told → (file page len : ℕ) (bytes : _)
             → FitsIn (F.medium self.old.flash) self.old.state file page len bytes
@@ -191,8 +177,7 @@ impl<F: Flash> Layer<F> {
             (F.medium self.old.flash) (F.medium self.new.flash) }
         ensures shown { IsTrue F.told → OnOk result (ShowsSame (F.medium self.old.flash) (F.medium self.new.flash)) }
         ensures sequence { self.new.state.sequence ≡ self.old.state.sequence }
-        ensures time { IsTrue F.told → FlashElapses (F.medium self.old.flash) (F.medium self.new.flash) }
-        ensures accounts { Accounts F.medium 0 self.old self.new result }
+        ensures accounts { Accounts F.told F.medium 0 self.old self.new result }
         ensures own { IsTrue F.told → IsFalse self.old.state.disputed → self.new.own ≡ self.old.own }
         ensures entries { IsTrue F.told → OnOk result (SameEntries self.old.state.table self.new.state.table) }
     {
@@ -209,11 +194,9 @@ impl<F: Flash> Layer<F> {
     // Moves the newest records of the block where they are fewest into the spare block, which is the current one from
     // then on.
     fn collect(&mut self) -> Result<(), DiskFailed>
-        requires sure { self.old.state.unsure ≡ None }
-        requires sound { IsTrue F.told → IsSound (F.medium self.old.flash) self.old.state }
+        requires ready { IsSure F.told F.medium self.old }
         requires full { 64 ≤ self.old.state.fill }
-        ensures sound { IsTrue F.told → IsSound (F.medium self.new.flash) self.new.state }
-        ensures sure { self.new.state.unsure ≡ None }
+        ensures ready { IsSure F.told F.medium self.new }
         ensures fits { IsTrue F.told → (file page len : ℕ) (bytes : _)
             → FitsIn (F.medium self.old.flash) self.old.state file page len bytes
             → FitsIn (F.medium self.new.flash) self.new.state file page len bytes }
@@ -221,8 +204,7 @@ impl<F: Flash> Layer<F> {
             (F.medium self.old.flash) (F.medium self.new.flash) }
         ensures shown { IsTrue F.told → OnOk result (ShowsSame (F.medium self.old.flash) (F.medium self.new.flash)) }
         ensures sequence { self.new.state.sequence ≡ self.old.state.sequence }
-        ensures time { IsTrue F.told → FlashElapses (F.medium self.old.flash) (F.medium self.new.flash) }
-        ensures accounts { Accounts F.medium 0 self.old self.new result }
+        ensures accounts { Accounts F.told F.medium 0 self.old self.new result }
         ensures light { IsTrue F.told → OnOk result (self.new.state.fill < 64) }
         ensures own { IsTrue F.told → IsFalse self.old.state.disputed → self.new.own ≡ self.old.own }
         ensures entries { IsTrue F.told → OnOk result (SameEntries self.old.state.table self.new.state.table) }
@@ -252,12 +234,11 @@ impl<F: Flash> Layer<F> {
             64) }
         ensures failed { IsTrue F.told → OnErr result (IsSound (F.medium self.new.flash) self.new.state) }
         ensures state { self.new.state ≡ record self.old.state { moved = self.new.state.moved } }
-        ensures keeps { IsTrue F.told → Keeps (F.medium self.old.flash).state.pages
+        ensures keeps { IsTrue F.told → KeepsRecords (F.medium self.old.flash).state.pages
             (F.medium self.new.flash).state.pages (places (F.medium self.old.flash).blocks) }
         ensures does { IsTrue F.told → Does (StandsFor (F.medium self.old.flash))
             (F.medium self.old.flash) (F.medium self.new.flash) }
-        ensures time { IsTrue F.told → FlashElapses (F.medium self.old.flash) (F.medium self.new.flash) }
-        ensures accounts { Accounts F.medium 0 self.old self.new result }
+        ensures accounts { Accounts F.told F.medium 0 self.old self.new result }
         ensures few { vec_len self.new.state.moved ≤ entries_in self.old.state.table from }
         ensures own { IsTrue F.told → self.new.own ≡ self.old.own }
     {
@@ -280,12 +261,11 @@ impl<F: Flash> Layer<F> {
         ensures count { vec_len self.new.state.moved ≤ vec_len self.old.state.moved + 1 }
         ensures failed { IsTrue F.told → OnErr result (IsSound (F.medium self.new.flash) self.new.state) }
         ensures state { self.new.state ≡ record self.old.state { moved = self.new.state.moved } }
-        ensures keeps { IsTrue F.told → Keeps (F.medium self.old.flash).state.pages
+        ensures keeps { IsTrue F.told → KeepsRecords (F.medium self.old.flash).state.pages
             (F.medium self.new.flash).state.pages (places (F.medium self.old.flash).blocks) }
         ensures does { IsTrue F.told → Does (StandsFor (F.medium self.old.flash))
             (F.medium self.old.flash) (F.medium self.new.flash) }
-        ensures time { IsTrue F.told → FlashElapses (F.medium self.old.flash) (F.medium self.new.flash) }
-        ensures accounts { Accounts F.medium 0 self.old self.new result }
+        ensures accounts { Accounts F.told F.medium 0 self.old self.new result }
         ensures few { vec_len self.old.state.moved ≤ copied_below self.old.state.table from.block from.page
             → vec_len self.new.state.moved ≤ copied_below self.old.state.table from.block (from.page + 1) }
         ensures own { IsTrue F.told → self.new.own ≡ self.old.own }

@@ -1,13 +1,13 @@
 //! What lies between the files of a disk and the pages of its flash, and the calls of the flash that it makes.
 
-ghost use Rattle.std.specs.Prelude.{◌≡◌, ◌⊎◌, ◌↔◌, ◌≤◌, ◌<◌, ◌+◌, IsTrue, IsFalse, OnOk, OnErr};
-ghost use Rattle.per_base.specs.Causes.{CountsFaults, Rose};
+ghost use Rattle.std.specs.Prelude.{◌≡◌, ◌⊎◌, ◌↔◌, ◌≤◌, ◌<◌, ◌+◌, IsTrue, OnOk, OnErr};
+ghost use Rattle.per_base.specs.Causes.{Rose};
 ghost use Rattle.flash_model.specs.Pages.{blank_page};
 ghost use Rattle.flash_model.specs.State.{IsStill, ProgramCase, EraseCase, FailsToProgram, FailsToErase, programmed};
 ghost use Rattle.flash_model.specs.State.{erased};
-ghost use Rattle.flash_model.specs.FlashMedium.{FlashElapses, EachFlashCase};
+ghost use Rattle.flash_model.specs.FlashMedium.{EachFlashCase};
 ghost use Rattle.flash_disk.specs.Accounts.{Accounts};
-ghost use Rattle.flash_disk.specs.Looks.{Looks};
+ghost use Rattle.flash_disk.specs.Steps.{LearnsNothing};
 
 use crate::table::{FilePage, Newest, Place, Table};
 use disk_model::DiskFailed;
@@ -67,15 +67,9 @@ impl<F: Flash> Layer<F> {
     ) -> Result<(), DiskFailed>
         ensures bytes { IsTrue F.told → OnOk result (place.block < (F.medium self.old.flash).blocks → place.page < 64
             → out.new ≡ (F.medium self.old.flash).state.pages place.block place.page) }
-        ensures looks { Looks F.told (F.medium self.old.flash) (F.medium self.new.flash) }
+        ensures reads { LearnsNothing F.told F.medium self.old self.new result }
         ensures during { EachFlashCase (IsStill (F.medium self.old.flash).state) (F.medium self.old.flash)
             (F.medium self.new.flash) }
-        ensures flash { CountsFaults (F.medium self.old.flash).faults (F.medium self.new.flash).faults result }
-        ensures pages { IsTrue F.told → (F.medium self.new.flash).state.pages ≡ (F.medium self.old.flash).state.pages }
-        ensures blocks { (F.medium self.new.flash).blocks ≡ (F.medium self.old.flash).blocks }
-        ensures state { self.new.state ≡ self.old.state }
-        ensures own { self.new.own ≡ self.old.own }
-        ensures accounts { Accounts F.medium 0 self.old self.new result }
     {
         if !self.has(place) {
             *out = BLANK_PAGE;
@@ -105,10 +99,9 @@ impl<F: Flash> Layer<F> {
             ⊎ (IsStill (F.medium self.new.flash).state c
             ⊎ ProgramCase place.block place.page bytes.now (F.medium self.old.flash).state c)) (F.medium self.old.flash)
             (F.medium self.new.flash) }
-        ensures time { IsTrue F.told → FlashElapses (F.medium self.old.flash) (F.medium self.new.flash) }
         ensures state { self.new.state ≡ self.old.state }
         ensures own { IsTrue F.told → self.new.own ≡ self.old.own }
-        ensures accounts { Accounts F.medium 0 self.old self.new result }
+        ensures accounts { Accounts F.told F.medium 0 self.old self.new result }
     {
         if !self.has(place) {
             return Err(self.fault());
@@ -129,10 +122,9 @@ impl<F: Flash> Layer<F> {
         ensures during { IsTrue F.told → EachFlashCase (λ c. IsStill (F.medium self.old.flash).state c
             ⊎ (IsStill (F.medium self.new.flash).state c
             ⊎ EraseCase block (F.medium self.old.flash).state c)) (F.medium self.old.flash) (F.medium self.new.flash) }
-        ensures time { IsTrue F.told → FlashElapses (F.medium self.old.flash) (F.medium self.new.flash) }
         ensures state { self.new.state ≡ self.old.state }
         ensures own { IsTrue F.told → self.new.own ≡ self.old.own }
-        ensures accounts { Accounts F.medium 0 self.old self.new result }
+        ensures accounts { Accounts F.told F.medium 0 self.old self.new result }
     {
         if block >= self.flash.blocks() {
             return Err(self.fault());

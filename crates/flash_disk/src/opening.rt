@@ -124,8 +124,9 @@ fn empty_state(alloc: Global, blocks: u32) -> Result<LayerState, AllocError>
 }
 
 impl<F: Flash> Layer<F> {
-    ghost use Rattle.flash_disk.specs.Sound.{Sound, SameFill};
+    ghost use Rattle.flash_disk.specs.Sound.{Sound};
     ghost use Rattle.flash_disk.specs.Looks.{Looks, Opens};
+    ghost use Rattle.flash_disk.specs.Steps.{LearnsNothing, IsOpeningStep};
 
     // Learns what the flash holds, and says whether it is usable.
     fn learn(&mut self, blocks: u32) -> Result<bool, DiskFailed>
@@ -174,22 +175,13 @@ impl<F: Flash> Layer<F> {
     fn learn_blocks(&mut self, blocks: u32) -> Result<bool, DiskFailed>
         requires blocks { blocks ≡ (F.medium self.old.flash).blocks }
         requires empty { IsEmptyTable self.old.state.table }
-        ensures flash { CountsFaults (F.medium self.old.flash).faults (F.medium self.new.flash).faults result }
-        ensures pages { IsTrue F.told → (F.medium self.new.flash).state.pages ≡ (F.medium self.old.flash).state.pages }
-        ensures blocks { (F.medium self.new.flash).blocks ≡ (F.medium self.old.flash).blocks }
-        ensures looks { Looks F.told (F.medium self.old.flash) (F.medium self.new.flash) }
-        ensures own { self.new.own ≡ self.old.own }
-        ensures fill { SameFill self.old.state self.new.state }
-        ensures limit { limit_of self.new.state.table ≡ limit_of self.old.state.table }
-        ensures lens { self.new.state.table.lens ≡ self.old.state.table.lens }
+        ensures step { IsOpeningStep F.told F.medium self.old self.new result }
         ensures learns { IsTrue F.told
             → IfOk result (LearnsAll (F.medium self.old.flash).state.pages (places blocks)
             (limit_of self.old.state.table) self.new.state.table) }
         ensures tops { IsTrue F.told → IsTop (F.medium self.old.flash).state.pages 0 self.old.state.sequence
             → IfOk result (λ fits. IsTrue fits → IsTop (F.medium self.old.flash).state.pages (places blocks)
             self.new.state.sequence) }
-        ensures counted { IsCounted (F.medium self.old.flash).blocks self.old.state.table
-            → IsCounted (F.medium self.old.flash).blocks self.new.state.table }
     {
         for block in 0..blocks {
             if !self.learn_block(block)? {
@@ -202,14 +194,7 @@ impl<F: Flash> Layer<F> {
     // Learns what one block holds; `false` where there is no room for it.
     fn learn_block(&mut self, block: u32) -> Result<bool, DiskFailed>
         requires { block < (F.medium self.old.flash).blocks }
-        ensures flash { CountsFaults (F.medium self.old.flash).faults (F.medium self.new.flash).faults result }
-        ensures pages { IsTrue F.told → (F.medium self.new.flash).state.pages ≡ (F.medium self.old.flash).state.pages }
-        ensures blocks { (F.medium self.new.flash).blocks ≡ (F.medium self.old.flash).blocks }
-        ensures looks { Looks F.told (F.medium self.old.flash) (F.medium self.new.flash) }
-        ensures own { self.new.own ≡ self.old.own }
-        ensures fill { SameFill self.old.state self.new.state }
-        ensures limit { limit_of self.new.state.table ≡ limit_of self.old.state.table }
-        ensures lens { self.new.state.table.lens ≡ self.old.state.table.lens }
+        ensures step { IsOpeningStep F.told F.medium self.old self.new result }
         ensures learns { IsTrue F.told → HasLearnt (F.medium self.old.flash).state.pages (64 * block)
             self.old.state.table
             → IfOk result (LearnsAll (F.medium self.old.flash).state.pages (64 * block + 64)
@@ -217,8 +202,6 @@ impl<F: Flash> Layer<F> {
         ensures tops { IsTrue F.told → IsTop (F.medium self.old.flash).state.pages (64 * block) self.old.state.sequence
             → IfOk result (λ fits. IsTrue fits → IsTop (F.medium self.old.flash).state.pages (64 * block + 64)
             self.new.state.sequence) }
-        ensures counted { IsCounted (F.medium self.old.flash).blocks self.old.state.table
-            → IsCounted (F.medium self.old.flash).blocks self.new.state.table }
     {
         for page in 0..BLOCK_PAGES {
             if !self.learn_page(Place { block, page })? {
@@ -231,12 +214,7 @@ impl<F: Flash> Layer<F> {
     // Finds a block that is spare; `false` where there is none.
     fn find_spare(&mut self, blocks: u32) -> Result<bool, DiskFailed>
         requires blocks { blocks ≡ (F.medium self.old.flash).blocks }
-        ensures flash { CountsFaults (F.medium self.old.flash).faults (F.medium self.new.flash).faults result }
-        ensures pages { IsTrue F.told → (F.medium self.new.flash).state.pages ≡ (F.medium self.old.flash).state.pages }
-        ensures blocks { (F.medium self.new.flash).blocks ≡ (F.medium self.old.flash).blocks }
-        ensures looks { Looks F.told (F.medium self.old.flash) (F.medium self.new.flash) }
-        ensures own { self.new.own ≡ self.old.own }
-        ensures fill { SameFill self.old.state self.new.state }
+        ensures step { IsOpeningStep F.told F.medium self.old self.new result }
         ensures sequence { self.new.state.sequence ≡ self.old.state.sequence }
         ensures table { self.new.state.table ≡ self.old.state.table }
         ensures spare { IsTrue F.told → HasLearnt (F.medium self.old.flash).state.pages (places blocks)
@@ -254,23 +232,14 @@ impl<F: Flash> Layer<F> {
 
     // Leads from the newest records in the spare block to the equal ones in other blocks.
     fn leave_spare(&mut self) -> Result<(), DiskFailed>
-        ensures flash { CountsFaults (F.medium self.old.flash).faults (F.medium self.new.flash).faults result }
-        ensures pages { IsTrue F.told → (F.medium self.new.flash).state.pages ≡ (F.medium self.old.flash).state.pages }
-        ensures blocks { (F.medium self.new.flash).blocks ≡ (F.medium self.old.flash).blocks }
-        ensures looks { Looks F.told (F.medium self.old.flash) (F.medium self.new.flash) }
-        ensures own { self.new.own ≡ self.old.own }
-        ensures fill { SameFill self.old.state self.new.state }
+        ensures step { IsOpeningStep F.told F.medium self.old self.new result }
         ensures sequence { self.new.state.sequence ≡ self.old.state.sequence }
         ensures spare { self.new.state.spare ≡ self.old.state.spare }
-        ensures limit { limit_of self.new.state.table ≡ limit_of self.old.state.table }
-        ensures lens { self.new.state.table.lens ≡ self.old.state.table.lens }
         ensures len { page_len self.new.state.table ≡ page_len self.old.state.table }
         ensures left { IsTrue F.told → self.old.state.spare < (F.medium self.old.flash).blocks
             → OnOk result (LeavesBlock (F.medium self.old.flash).state.pages (places (F.medium self.old.flash).blocks)
             self.old.state.spare
             0 64 self.old.state.table self.new.state.table) }
-        ensures counted { IsCounted (F.medium self.old.flash).blocks self.old.state.table
-            → IsCounted (F.medium self.old.flash).blocks self.new.state.table }
     {
         let spare = self.state.spare;
         for page in 0..BLOCK_PAGES {
@@ -281,23 +250,14 @@ impl<F: Flash> Layer<F> {
 
     // Leads from the record in a page, if it is a newest one, to the equal one in another block.
     fn leave_page(&mut self, place: Place) -> Result<(), DiskFailed>
-        ensures flash { CountsFaults (F.medium self.old.flash).faults (F.medium self.new.flash).faults result }
-        ensures pages { IsTrue F.told → (F.medium self.new.flash).state.pages ≡ (F.medium self.old.flash).state.pages }
-        ensures blocks { (F.medium self.new.flash).blocks ≡ (F.medium self.old.flash).blocks }
-        ensures looks { Looks F.told (F.medium self.old.flash) (F.medium self.new.flash) }
-        ensures own { self.new.own ≡ self.old.own }
-        ensures fill { SameFill self.old.state self.new.state }
+        ensures step { IsOpeningStep F.told F.medium self.old self.new result }
         ensures sequence { self.new.state.sequence ≡ self.old.state.sequence }
         ensures spare { self.new.state.spare ≡ self.old.state.spare }
-        ensures limit { limit_of self.new.state.table ≡ limit_of self.old.state.table }
-        ensures lens { self.new.state.table.lens ≡ self.old.state.table.lens }
         ensures len { page_len self.new.state.table ≡ page_len self.old.state.table }
         ensures left { IsTrue F.told → place.block < (F.medium self.old.flash).blocks → place.page < 64
             → OnOk result (LeavesBlock (F.medium self.old.flash).state.pages (places (F.medium self.old.flash).blocks)
             place.block
             place.page (place.page + 1) self.old.state.table self.new.state.table) }
-        ensures counted { IsCounted (F.medium self.old.flash).blocks self.old.state.table
-            → IsCounted (F.medium self.old.flash).blocks self.new.state.table }
     {
         let mut page = BLANK_PAGE;
         self.read_page(place, &mut page)?;
@@ -318,12 +278,7 @@ impl<F: Flash> Layer<F> {
     // Whether a block has no record that is needed.
     fn is_spare(&mut self, block: u32) -> Result<bool, DiskFailed>
         requires { block < (F.medium self.old.flash).blocks }
-        ensures flash { CountsFaults (F.medium self.old.flash).faults (F.medium self.new.flash).faults result }
-        ensures pages { IsTrue F.told → (F.medium self.new.flash).state.pages ≡ (F.medium self.old.flash).state.pages }
-        ensures blocks { (F.medium self.new.flash).blocks ≡ (F.medium self.old.flash).blocks }
-        ensures looks { Looks F.told (F.medium self.old.flash) (F.medium self.new.flash) }
-        ensures own { self.new.own ≡ self.old.own }
-        ensures state { self.new.state ≡ self.old.state }
+        ensures reads { LearnsNothing F.told F.medium self.old self.new result }
         ensures spare { IsTrue F.told
             → HasLearnt (F.medium self.old.flash).state.pages (places (F.medium self.old.flash).blocks)
             self.old.state.table
@@ -342,12 +297,7 @@ impl<F: Flash> Layer<F> {
     fn is_needed(&mut self, place: Place) -> Result<bool, DiskFailed>
         requires block { place.block < (F.medium self.old.flash).blocks }
         requires page { place.page < 64 }
-        ensures flash { CountsFaults (F.medium self.old.flash).faults (F.medium self.new.flash).faults result }
-        ensures pages { IsTrue F.told → (F.medium self.new.flash).state.pages ≡ (F.medium self.old.flash).state.pages }
-        ensures blocks { (F.medium self.new.flash).blocks ≡ (F.medium self.old.flash).blocks }
-        ensures looks { Looks F.told (F.medium self.old.flash) (F.medium self.new.flash) }
-        ensures own { self.new.own ≡ self.old.own }
-        ensures state { self.new.state ≡ self.old.state }
+        ensures reads { LearnsNothing F.told F.medium self.old self.new result }
         ensures needed { IsTrue F.told
             → HasLearnt (F.medium self.old.flash).state.pages (places (F.medium self.old.flash).blocks)
             self.old.state.table
@@ -377,14 +327,7 @@ impl<F: Flash> Layer<F> {
     fn learn_page(&mut self, place: Place) -> Result<bool, DiskFailed>
         requires block { place.block < (F.medium self.old.flash).blocks }
         requires page { place.page < 64 }
-        ensures flash { CountsFaults (F.medium self.old.flash).faults (F.medium self.new.flash).faults result }
-        ensures pages { IsTrue F.told → (F.medium self.new.flash).state.pages ≡ (F.medium self.old.flash).state.pages }
-        ensures blocks { (F.medium self.new.flash).blocks ≡ (F.medium self.old.flash).blocks }
-        ensures looks { Looks F.told (F.medium self.old.flash) (F.medium self.new.flash) }
-        ensures own { self.new.own ≡ self.old.own }
-        ensures fill { SameFill self.old.state self.new.state }
-        ensures limit { limit_of self.new.state.table ≡ limit_of self.old.state.table }
-        ensures lens { self.new.state.table.lens ≡ self.old.state.table.lens }
+        ensures step { IsOpeningStep F.told F.medium self.old self.new result }
         ensures learns { IsTrue F.told → HasLearnt (F.medium self.old.flash).state.pages (number place)
             self.old.state.table
             → IfOk result (LearnsNext (F.medium self.old.flash).state.pages (number place + 1) self.old.state.table
@@ -392,8 +335,6 @@ impl<F: Flash> Layer<F> {
         ensures tops { IsTrue F.told → IsTop (F.medium self.old.flash).state.pages (number place)
             self.old.state.sequence
             → OnOk result (IsTop (F.medium self.old.flash).state.pages (number place + 1) self.new.state.sequence) }
-        ensures counted { IsCounted (F.medium self.old.flash).blocks self.old.state.table
-            → IsCounted (F.medium self.old.flash).blocks self.new.state.table }
     {
         let mut page = BLANK_PAGE;
         self.read_page(place, &mut page)?;
@@ -409,22 +350,13 @@ impl<F: Flash> Layer<F> {
         requires block { place.block < (F.medium self.old.flash).blocks }
         requires page { place.page < 64 }
         requires long { length found.bytes.now ≡ 256 }
-        ensures flash { CountsFaults (F.medium self.old.flash).faults (F.medium self.new.flash).faults result }
-        ensures pages { IsTrue F.told → (F.medium self.new.flash).state.pages ≡ (F.medium self.old.flash).state.pages }
-        ensures blocks { (F.medium self.new.flash).blocks ≡ (F.medium self.old.flash).blocks }
-        ensures looks { Looks F.told (F.medium self.old.flash) (F.medium self.new.flash) }
-        ensures own { self.new.own ≡ self.old.own }
-        ensures fill { SameFill self.old.state self.new.state }
+        ensures step { IsOpeningStep F.told F.medium self.old self.new result }
         ensures sequence { self.new.state.sequence ≡ self.old.state.sequence }
-        ensures limit { limit_of self.new.state.table ≡ limit_of self.old.state.table }
-        ensures lens { self.new.state.table.lens ≡ self.old.state.table.lens }
         ensures learns { IsTrue F.told → HasLearnt (F.medium self.old.flash).state.pages (number place)
             self.old.state.table
             → record_at (F.medium self.old.flash).state.pages (number place) ≡ Some (stated found.entry)
             → IfOk result (LearnsNext (F.medium self.old.flash).state.pages (number place + 1) self.old.state.table
             self.new.state.table) }
-        ensures counted { IsCounted (F.medium self.old.flash).blocks self.old.state.table
-            → IsCounted (F.medium self.old.flash).blocks self.new.state.table }
     {
         let key = FilePage {
             file: found.file,
@@ -455,22 +387,13 @@ impl<F: Flash> Layer<F> {
         requires key { key ≡ page_of (stated found) }
         requires old { known self.old.state.table key ≡ Some old }
         requires sequence { old.sequence ≡ found.sequence }
-        ensures flash { CountsFaults (F.medium self.old.flash).faults (F.medium self.new.flash).faults result }
-        ensures pages { IsTrue F.told → (F.medium self.new.flash).state.pages ≡ (F.medium self.old.flash).state.pages }
-        ensures blocks { (F.medium self.new.flash).blocks ≡ (F.medium self.old.flash).blocks }
-        ensures looks { Looks F.told (F.medium self.old.flash) (F.medium self.new.flash) }
-        ensures own { self.new.own ≡ self.old.own }
-        ensures fill { SameFill self.old.state self.new.state }
+        ensures step { IsOpeningStep F.told F.medium self.old self.new result }
         ensures sequence { self.new.state.sequence ≡ self.old.state.sequence }
-        ensures limit { limit_of self.new.state.table ≡ limit_of self.old.state.table }
-        ensures lens { self.new.state.table.lens ≡ self.old.state.table.lens }
         ensures learns { IsTrue F.told → HasLearnt (F.medium self.old.flash).state.pages (number place)
             self.old.state.table
             → record_at (F.medium self.old.flash).state.pages (number place) ≡ Some (stated found.entry)
             → IfOk result (LearnsNext (F.medium self.old.flash).state.pages (number place + 1) self.old.state.table
             self.new.state.table) }
-        ensures counted { IsCounted (F.medium self.old.flash).blocks self.old.state.table
-            → IsCounted (F.medium self.old.flash).blocks self.new.state.table }
     {
         let mut page = BLANK_PAGE;
         self.read_page(old.place, &mut page)?;

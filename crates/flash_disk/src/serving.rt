@@ -1,12 +1,10 @@
 //! Reads and writes of the bytes of files, page by page.
 
 ghost use Rattle.std.specs.Prelude.{◌≡◌, ◌⊎◌, ◌↔◌, ◌+◌, ◌-◌, ◌*◌, ◌/◌, ◌≤◌, ◌<◌, ◌^◌, ℕ, IsTrue, IsFalse, IfOk, OnOk};
-ghost use Rattle.std.specs.Prelude.{OnErr, None, length, min, max, take, drop, nat_lt, slice_index, if◌then◌else◌};
+ghost use Rattle.std.specs.Prelude.{None, length, min, max, take, drop, nat_lt, slice_index, if◌then◌else◌};
 ghost use Rattle.flash_disk.specs.Accounts.{Accounts};
-ghost use Rattle.flash_disk.specs.Looks.{Looks};
+ghost use Rattle.flash_disk.specs.Steps.{LearnsNothing, IsSure, AddsRecords};
 ghost use Rattle.disk_model.specs.Image.{put_image};
-ghost use Rattle.flash_model.specs.State.{IsStill};
-ghost use Rattle.flash_model.specs.FlashMedium.{FlashElapses, EachFlashCase};
 ghost use Rattle.flash_record.specs.PageRecord.{record_in};
 ghost use Rattle.flash_disk.specs.Newest.{places};
 ghost use Rattle.flash_disk.specs.FlashFiles.{record_byte, file_byte, file_len, flash_files};
@@ -33,7 +31,7 @@ pub(crate) const MAX_END: u64 = 1_099_511_627_776;
 const PAGE: u64 = 256;
 
 impl<F: Flash> Layer<F> {
-    ghost use Rattle.flash_disk.specs.Sound.{files_of, IsSound, Holds, LeavesPut, ShowsZeros, WipesPage};
+    ghost use Rattle.flash_disk.specs.Sound.{files_of, IsDescribedBy, LeavesPut, ShowsZeros, WipesPage};
     ghost use Rattle.flash_disk.specs.OwnFaults.{StopsAdding, EndsTooLate, WantsTooMany, IsAllowed, TakesPages};
 
     // The bytes of a page of a file, with zeros past the end of the file.
@@ -42,11 +40,7 @@ impl<F: Flash> Layer<F> {
             (places (F.medium self.old.flash).blocks) self.old.state.table
             → IfOk result (IsContent (F.medium self.old.flash).state.pages (places (F.medium self.old.flash).blocks)
             key) }
-        ensures looks { Looks F.told (F.medium self.old.flash) (F.medium self.new.flash) }
-        ensures blocks { (F.medium self.new.flash).blocks ≡ (F.medium self.old.flash).blocks }
-        ensures state { self.new.state ≡ self.old.state }
-        ensures own { self.new.own ≡ self.old.own }
-        ensures accounts { Accounts F.medium 0 self.old self.new result }
+        ensures reads { LearnsNothing F.told F.medium self.old self.new result }
     {
         let Some(newest) = self.state.table.find(key) else {
             return Ok(zeros());
@@ -69,22 +63,16 @@ impl<F: Flash> Layer<F> {
         requires within { from + length bytes.now ≤ 256 }
         requires some { 0 < length bytes.now }
         requires end { 256 * page + from + length bytes.now ≤ len }
-        requires sure { self.old.state.unsure ≡ None }
-        requires sound { IsTrue F.told → IsSound (F.medium self.old.flash) self.old.state }
+        requires ready { IsSure F.told F.medium self.old }
         requires place { IsTrue F.told → HasPlace self.old.state.table (record { file = file; page = page }) }
         requires no_shorter { IsTrue F.told → length (files_of (F.medium self.old.flash) file) ≤ len }
         requires grows { IsTrue F.told → ShowsZeros (F.medium self.old.flash) file len }
-        ensures sound { IsTrue F.told → OnOk result (IsSound (F.medium self.new.flash) self.new.state) }
-        ensures sure { OnOk result (self.new.state.unsure ≡ None) }
+        ensures adds { AddsRecords F.told F.medium 1 self.old self.new result }
         ensures put { IsTrue F.told → OnOk result (PutPart file (256 * page + from) bytes.now len
             (files_of (F.medium self.old.flash)) (files_of (F.medium self.new.flash))) }
-        ensures failed { IsTrue F.told → OnErr result (Holds (F.medium self.new.flash) self.new.state) }
         ensures does { IsTrue F.told → Does (LeavesPut file (256 * page + from) bytes.now len (F.medium self.old.flash))
             (F.medium self.old.flash) (F.medium self.new.flash) }
         ensures rises { OnOk result (self.old.state.sequence < self.new.state.sequence) }
-        ensures time { IsTrue F.told → FlashElapses (F.medium self.old.flash) (F.medium self.new.flash) }
-        ensures accounts { Accounts F.medium 1 self.old self.new result }
-        ensures own { IsTrue F.told → (self.new.own ≡ self.old.own) ⊎ StopsAdding self.new.state }
         ensures entries { IsTrue F.told → OnOk result (Occupies self.old.state.table self.new.state.table
             (record { file = file; page = page })) }
         ensures calm { IsTrue F.told → OnOk result (IsFalse self.old.state.disputed) }
@@ -102,17 +90,11 @@ impl<F: Flash> Layer<F> {
     // they do not show once the file is longer.
     fn wipe_strays(&mut self, file: u32, until: u64) -> Result<(), DiskFailed>
         requires end { until ≤ 1099511627776 }
-        requires sure { self.old.state.unsure ≡ None }
-        requires sound { IsTrue F.told → IsSound (F.medium self.old.flash) self.old.state }
-        ensures sound { IsTrue F.told → OnOk result (IsSound (F.medium self.new.flash) self.new.state) }
-        ensures sure { OnOk result (self.new.state.unsure ≡ None) }
+        requires ready { IsSure F.told F.medium self.old }
+        ensures adds { AddsRecords F.told F.medium (div_ceil until 256) self.old self.new result }
         ensures wiped { IsTrue F.told → OnOk result (ShowsZeros (F.medium self.new.flash) file until) }
-        ensures failed { IsTrue F.told → OnErr result (Holds (F.medium self.new.flash) self.new.state) }
         ensures does { IsTrue F.told → Does (StandsFor (F.medium self.old.flash))
             (F.medium self.old.flash) (F.medium self.new.flash) }
-        ensures time { IsTrue F.told → FlashElapses (F.medium self.old.flash) (F.medium self.new.flash) }
-        ensures accounts { Accounts F.medium (div_ceil until 256) self.old self.new result }
-        ensures own { IsTrue F.told → (self.new.own ≡ self.old.own) ⊎ StopsAdding self.new.state }
         ensures entries { IsTrue F.told → OnOk result (SameEntries self.old.state.table self.new.state.table) }
     {
         let len = self.state.table.len_of(file);
@@ -129,18 +111,12 @@ impl<F: Flash> Layer<F> {
     // Rewrites a record that has bytes past the end of its file without them.
     fn wipe_stray(&mut self, file: u32, page: u32, len: u64) -> Result<(), DiskFailed>
         requires len { IsTrue F.told → len ≡ len_known self.old.state.table file }
-        requires sure { self.old.state.unsure ≡ None }
-        requires sound { IsTrue F.told → IsSound (F.medium self.old.flash) self.old.state }
-        ensures sound { IsTrue F.told → OnOk result (IsSound (F.medium self.new.flash) self.new.state) }
-        ensures sure { OnOk result (self.new.state.unsure ≡ None) }
+        requires ready { IsSure F.told F.medium self.old }
+        ensures adds { AddsRecords F.told F.medium 1 self.old self.new result }
         ensures wiped { IsTrue F.told → OnOk result (WipesPage (F.medium self.old.flash) (F.medium self.new.flash) file
             page) }
-        ensures failed { IsTrue F.told → OnErr result (Holds (F.medium self.new.flash) self.new.state) }
         ensures does { IsTrue F.told → Does (StandsFor (F.medium self.old.flash))
             (F.medium self.old.flash) (F.medium self.new.flash) }
-        ensures time { IsTrue F.told → FlashElapses (F.medium self.old.flash) (F.medium self.new.flash) }
-        ensures accounts { Accounts F.medium 1 self.old self.new result }
-        ensures own { IsTrue F.told → (self.new.own ≡ self.old.own) ⊎ StopsAdding self.new.state }
         ensures entries { IsTrue F.told → OnOk result (SameEntries self.old.state.table self.new.state.table) }
     {
         let key = FilePage {
@@ -178,24 +154,18 @@ impl<F: Flash> Layer<F> {
     fn write_pages(&mut self, file: u32, at: u64, bytes: &[u8], len: u64) -> Result<(), DiskFailed>
         requires end { at + length bytes.now ≤ 1099511627776 }
         requires within { at + length bytes.now ≤ len }
-        requires sure { self.old.state.unsure ≡ None }
-        requires sound { IsTrue F.told → IsSound (F.medium self.old.flash) self.old.state }
+        requires ready { IsSure F.told F.medium self.old }
         requires grows { IsTrue F.told → ShowsZeros (F.medium self.old.flash) file len }
         requires len { IsTrue F.told → len ≡ max (length (files_of (F.medium self.old.flash) file))
             (at + length bytes.now) }
         requires affords { IsTrue F.told → Affords self.old.state.table file (at / 256)
             (div_ceil (at + length bytes.now) 256 - at / 256) }
-        ensures sound { IsTrue F.told → OnOk result (IsSound (F.medium self.new.flash) self.new.state) }
+        ensures adds { AddsRecords F.told F.medium (length bytes.now) self.old self.new result }
         ensures put { IsTrue F.told → OnOk result (0 < length bytes.now
             → files_of (F.medium self.new.flash) ≡ put_image (files_of (F.medium self.old.flash)) file at bytes.now) }
-        ensures sure { OnOk result (self.new.state.unsure ≡ None) }
-        ensures failed { IsTrue F.told → OnErr result (Holds (F.medium self.new.flash) self.new.state) }
         ensures does { IsTrue F.told → Does (LeavesTorn file at (length bytes.now) (F.medium self.old.flash))
             (F.medium self.old.flash) (F.medium self.new.flash) }
         ensures rises { OnOk result (length bytes.now + 256 * self.old.state.sequence ≤ 256 * self.new.state.sequence) }
-        ensures time { IsTrue F.told → FlashElapses (F.medium self.old.flash) (F.medium self.new.flash) }
-        ensures accounts { Accounts F.medium (length bytes.now) self.old self.new result }
-        ensures own { IsTrue F.told → (self.new.own ≡ self.old.own) ⊎ StopsAdding self.new.state }
         ensures calm { IsTrue F.told → OnOk result (0 < length bytes.now → IsFalse self.old.state.disputed) }
         ensures takes { IsTrue F.told → OnOk result (page_len self.new.state.table
             ≤ page_len self.old.state.table + missing self.old.state.table file (at / 256)
@@ -221,9 +191,8 @@ impl<F: Flash> Layer<F> {
     // Writes bytes into a file.
     pub(crate) fn write_file(&mut self, file: u32, at: u64, bytes: &[u8]) -> Result<(), DiskFailed>
         requires some { 0 < length bytes.now }
-        requires sure { self.old.state.unsure ≡ None }
-        requires sound { IsTrue F.told → IsSound (F.medium self.old.flash) self.old.state }
-        ensures holds { IsTrue F.told → Holds (F.medium self.new.flash) self.new.state }
+        requires ready { IsSure F.told F.medium self.old }
+        ensures holds { IsTrue F.told → IsDescribedBy (F.medium self.new.flash) self.new.state }
         ensures put { IsTrue F.told → OnOk result (files_of (F.medium self.new.flash)
             ≡ put_image (files_of (F.medium self.old.flash)) file at bytes.now) }
         ensures rises { OnOk result (length bytes.now + 256 * self.old.state.sequence ≤ 256 * self.new.state.sequence) }
@@ -231,9 +200,8 @@ impl<F: Flash> Layer<F> {
             (F.medium self.new.flash) }
         ensures announced { IsTrue F.told → OnOk result ((F.medium self.new.flash).state.announced
             ≡ with_write (F.medium self.old.flash).state file at bytes.now) }
-        ensures time { IsTrue F.told → FlashElapses (F.medium self.old.flash) (F.medium self.new.flash) }
-        ensures accounts { Accounts F.medium (length bytes.now + div_ceil (at + length bytes.now) 256) self.old self.new
-            result }
+        ensures accounts { Accounts F.told F.medium (length bytes.now + div_ceil (at + length bytes.now) 256) self.old
+            self.new result }
         ensures own { IsTrue F.told → (self.new.own ≡ self.old.own) ⊎ (EndsTooLate at (length bytes.now)
             ⊎ (WantsTooMany (F.medium self.old.flash) file at (length bytes.now) ⊎ StopsAdding self.new.state)) }
         ensures allowed { IsTrue F.told → OnOk result (IsAllowed (F.medium self.old.flash) file at (length bytes.now)) }
@@ -258,11 +226,10 @@ impl<F: Flash> Layer<F> {
         requires some { 0 < length bytes.now }
         requires end { end ≡ at + length bytes.now }
         requires least { end ≤ 1099511627776 }
-        requires sure { self.old.state.unsure ≡ None }
-        requires sound { IsTrue F.told → IsSound (F.medium self.old.flash) self.old.state }
+        requires ready { IsSure F.told F.medium self.old }
         requires room { missing self.old.state.table file (at / 256) (div_ceil end 256 - at / 256)
             ≤ limit_of self.old.state.table - page_len self.old.state.table }
-        ensures holds { IsTrue F.told → Holds (F.medium self.new.flash) self.new.state }
+        ensures holds { IsTrue F.told → IsDescribedBy (F.medium self.new.flash) self.new.state }
         ensures put { IsTrue F.told → OnOk result (files_of (F.medium self.new.flash)
             ≡ put_image (files_of (F.medium self.old.flash)) file at bytes.now) }
         ensures rises { OnOk result (length bytes.now + 256 * self.old.state.sequence ≤ 256 * self.new.state.sequence) }
@@ -270,9 +237,8 @@ impl<F: Flash> Layer<F> {
             (F.medium self.new.flash) }
         ensures announced { IsTrue F.told → OnOk result ((F.medium self.new.flash).state.announced
             ≡ with_write (F.medium self.old.flash).state file at bytes.now) }
-        ensures time { IsTrue F.told → FlashElapses (F.medium self.old.flash) (F.medium self.new.flash) }
-        ensures accounts { Accounts F.medium (length bytes.now + div_ceil (at + length bytes.now) 256) self.old self.new
-            result }
+        ensures accounts { Accounts F.told F.medium (length bytes.now + div_ceil (at + length bytes.now) 256) self.old
+            self.new result }
         ensures own { IsTrue F.told → (self.new.own ≡ self.old.own) ⊎ StopsAdding self.new.state }
         ensures allowed { IsTrue F.told → OnOk result (IsAllowed (F.medium self.old.flash) file at (length bytes.now)) }
         ensures takes { IsTrue F.told → OnOk result (TakesPages (F.medium self.old.flash) (F.medium self.new.flash) file
@@ -300,11 +266,7 @@ impl<F: Flash> Layer<F> {
             (flash_files (F.medium self.old.flash).state.pages (F.medium self.old.flash).blocks file) - at))
             × (take n out.new ≡ take n (drop at (flash_files (F.medium self.old.flash).state.pages
             (F.medium self.old.flash).blocks file)))) }
-        ensures looks { Looks F.told (F.medium self.old.flash) (F.medium self.new.flash) }
-        ensures blocks { (F.medium self.new.flash).blocks ≡ (F.medium self.old.flash).blocks }
-        ensures state { self.new.state ≡ self.old.state }
-        ensures own { self.new.own ≡ self.old.own }
-        ensures accounts { Accounts F.medium 0 self.old self.new result }
+        ensures reads { LearnsNothing F.told F.medium self.old self.new result }
     {
         let count = self.bytes_from(file, at, out.len());
         self.read_pages(file, at, &mut out[..count])?;
@@ -344,11 +306,7 @@ impl<F: Flash> Layer<F> {
             → (k : ℕ) → k < length out.old
             → slice_index out.new k ≡ file_byte (F.medium self.old.flash).state.pages
             (places (F.medium self.old.flash).blocks) file (at + k)) }
-        ensures looks { Looks F.told (F.medium self.old.flash) (F.medium self.new.flash) }
-        ensures blocks { (F.medium self.new.flash).blocks ≡ (F.medium self.old.flash).blocks }
-        ensures state { self.new.state ≡ self.old.state }
-        ensures own { self.new.own ≡ self.old.own }
-        ensures accounts { Accounts F.medium 0 self.old self.new result }
+        ensures reads { LearnsNothing F.told F.medium self.old self.new result }
     {
         let mut done = 0;
         while done < out.len() {

@@ -52,7 +52,7 @@ pub struct Table {
 
 impl Table {
     ghost use Rattle.flash_disk.specs.Known.{known, page_len, limit_of, len_known, HasLen, load_known, Puts, PutsAll};
-    ghost use Rattle.flash_disk.specs.Known.{SameRecords, Lengthens, SameLens, IsEmptyTable, HasRoom};
+    ghost use Rattle.flash_disk.specs.Known.{SameRecords, SameBounds, Lengthens, SameLens, IsEmptyTable, HasRoom};
 
     /// An empty table for a flash of so many blocks.
     pub fn new(alloc: Global, blocks: u32) -> Result<Table, AllocError>
@@ -104,8 +104,7 @@ impl Table {
             ((known self.old key ≡ None) × (limit_of self.old ≤ page_len self.old))) }
         ensures put { IsTrue result → Puts self.old self.new key new }
         ensures same { IsFalse result → SameRecords self.old self.new }
-        ensures limit { limit_of self.new ≡ limit_of self.old }
-        ensures lens { self.new.lens ≡ self.old.lens }
+        ensures bounds { SameBounds self.old self.new }
         ensures counted { (blocks : ℕ) → IsCounted blocks self.old → IsInside blocks new → IsCounted blocks self.new }
     {
         let old = self.find(key);
@@ -125,14 +124,12 @@ impl Table {
             ((known self.old key ≡ None) × (limit_of self.old ≤ page_len self.old))) }
         ensures put { IsTrue result → Puts self.old self.new key new }
         ensures same { IsFalse result → SameRecords self.old self.new }
-        ensures limit { limit_of self.new ≡ limit_of self.old }
-        ensures lens { self.new.lens ≡ self.old.lens }
+        ensures bounds { SameBounds self.old self.new }
         ensures counts { IsTrue result → (block : ℕ)
             → entries_in self.new block + had_in block (known self.old key)
             ≡ entries_in self.old block + leads_into block new }
         ensures entries { IsFalse result → (block : ℕ) → entries_in self.new block ≡ entries_in self.old block }
         ensures load { self.new.load ≡ self.old.load }
-        ensures blocks { self.new.blocks ≡ self.old.blocks }
     {
         if self.newest.contains_key(&key) {
             self.replace(key, new);
@@ -145,13 +142,11 @@ impl Table {
     fn replace(&mut self, key: FilePage, new: Newest)
         requires { IsSome (known self.old key) }
         ensures put { Puts self.old self.new key new }
-        ensures limit { limit_of self.new ≡ limit_of self.old }
-        ensures lens { self.new.lens ≡ self.old.lens }
+        ensures bounds { SameBounds self.old self.new }
         ensures counts { (block : ℕ)
             → entries_in self.new block + had_in block (known self.old key)
             ≡ entries_in self.old block + leads_into block new }
         ensures load { self.new.load ≡ self.old.load }
-        ensures blocks { self.new.blocks ≡ self.old.blocks }
     {
         if let Some(slot) = self.newest.get_mut(&key) {
             *slot = new;
@@ -167,8 +162,7 @@ impl Table {
         ensures room { All (λ new. IsSome (known self.old new.0)) news.now → HasRoom self.old → HasRoom self.new }
         ensures stays { All (λ new. IsSome (known self.old new.0)) news.now → HasRoom self.old
             → (key : FilePage) → IsSome (known self.old key) → IsSome (known self.new key) }
-        ensures limit { limit_of self.new ≡ limit_of self.old }
-        ensures lens { self.new.lens ≡ self.old.lens }
+        ensures bounds { SameBounds self.old self.new }
         ensures counted { (blocks : ℕ) → All (λ new. IsInside blocks new.1) news.now → IsCounted blocks self.old
             → IsCounted blocks self.new }
     {
@@ -258,10 +252,8 @@ impl Table {
 
     fn count_more(&mut self, newest: Newest)
         ensures records { SameRecords self.old self.new }
-        ensures limit { limit_of self.new ≡ limit_of self.old }
-        ensures lens { self.new.lens ≡ self.old.lens }
+        ensures bounds { SameBounds self.old self.new }
         ensures newest { self.new.newest ≡ self.old.newest }
-        ensures blocks { self.new.blocks ≡ self.old.blocks }
         ensures loads { length self.new.load.items ≡ length self.old.load.items }
         ensures counts { load_known self.old newest.place.block < 4294967295
             → newest.place.block < length self.old.load.items
@@ -274,10 +266,8 @@ impl Table {
 
     fn count_less(&mut self, newest: Newest)
         ensures records { SameRecords self.old self.new }
-        ensures limit { limit_of self.new ≡ limit_of self.old }
-        ensures lens { self.new.lens ≡ self.old.lens }
+        ensures bounds { SameBounds self.old self.new }
         ensures newest { self.new.newest ≡ self.old.newest }
-        ensures blocks { self.new.blocks ≡ self.old.blocks }
         ensures loads { length self.new.load.items ≡ length self.old.load.items }
         ensures counts { newest.place.block < length self.old.load.items
             → (block : ℕ) → load_known self.new block ≡ load_known self.old block - leads_into block newest }

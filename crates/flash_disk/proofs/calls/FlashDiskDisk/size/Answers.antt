@@ -1,28 +1,9 @@
 use Rattle.std.proofs.Common.{subst}
 use Rattle.disk_model.specs.Medium.{Elapses}
-use Rattle.flash_disk.specs.FlashDiskMedium.{flash_disk_medium, disk_seen}
-use Rattle.flash_disk.specs.Throughout.{KeepsUsable}
-use Rattle.flash_disk.proofs.Throughout.{holds_usable, look_usable}
+use Rattle.flash_disk.specs.FlashDiskMedium.{flash_disk_medium, disk_seen, ChangesNoPage}
+use Rattle.flash_disk.proofs.Unchanged.{looked, view_of}
 use Rattle.flash_disk.proofs.Times.{look_time}
 use Rattle.flash_disk.proofs.calls.FlashDiskDisk.size.Goals as goal
-
-pub returns-in_err-make_sure-clause-usable : goal.returns-in_err-make_sure-clause-usable
-returns-in_err-make_sure-clause-usable g c told =
-    let m0 = g.F.Flash.medium c.self.inside.layer.flash in
-    let m1 = g.F.Flash.medium c.make_sure.new.self.flash in
-    let e = c.make_sure.ensures in
-    subst (λ v. KeepsUsable (g.F.Flash.medium v.flash) m1) c.self.view_is
-    (look_usable m0 m1 (e.time told) (holds_usable m0 c.self.inside.layer.state (c.self.invariant.holds told))
-    (e.unchanged told) e.during)
-
-pub returns-clause-usable : goal.returns-clause-usable
-returns-clause-usable g c told =
-    let m0 = g.F.Flash.medium c.self.inside.layer.flash in
-    let m1 = g.F.Flash.medium c.make_sure.new.self.flash in
-    let e = c.make_sure.ensures in
-    subst (λ v. KeepsUsable (g.F.Flash.medium v.flash) m1) c.self.view_is
-    (look_usable m0 m1 (e.time told) (holds_usable m0 c.self.inside.layer.state (c.self.invariant.holds told))
-    (e.unchanged told) e.during)
 
 pub returns-in_err-make_sure-clause-time : goal.returns-in_err-make_sure-clause-time
 returns-in_err-make_sure-clause-time g c =
@@ -33,7 +14,7 @@ returns-in_err-make_sure-clause-time g c =
     subst (λ v. Elapses (disk_seen told g.F.Flash.medium v)
     (flash_disk_medium told m1 c.make_sure.new.self.own c.self.inside.written)) c.self.view_is
     (look_time told m0 m1 c.self.inside.layer.own c.make_sure.new.self.own c.self.inside.written
-    c.self.inside.layer.state c.self.invariant.holds e.time e.accounts.cause.later
+    c.self.inside.layer.state c.self.invariant.holds e.accounts.time e.accounts.cause.later
     e.unchanged (λ t. e.during))
 
 pub returns-clause-time : goal.returns-clause-time
@@ -45,5 +26,27 @@ returns-clause-time g c =
     subst (λ v. Elapses (disk_seen told g.F.Flash.medium v)
     (flash_disk_medium told m1 c.make_sure.new.self.own c.self.inside.written)) c.self.view_is
     (look_time told m0 m1 c.self.inside.layer.own c.make_sure.new.self.own c.self.inside.written
-    c.self.inside.layer.state c.self.invariant.holds e.time e.accounts.cause.later
+    c.self.inside.layer.state c.self.invariant.holds e.accounts.time e.accounts.cause.later
+    e.unchanged (λ t. e.during))
+
+pub returns-in_err-make_sure-clause-unchanged : goal.returns-in_err-make_sure-clause-unchanged
+returns-in_err-make_sure-clause-unchanged g c =
+    let told = g.F.Flash.told in
+    let medium = g.F.Flash.medium in
+    let layer = c.self.inside.layer in
+    let written = c.self.inside.written in
+    let e = c.make_sure.ensures in
+    subst (λ v. ChangesNoPage told medium v (view_of c.make_sure.new.self written)) c.self.view_is
+    (looked told medium written layer c.make_sure.new.self c.self.invariant.holds e.accounts.time e.own e.sequence
+    e.unchanged (λ t. e.during))
+
+pub returns-clause-unchanged : goal.returns-clause-unchanged
+returns-clause-unchanged g c =
+    let told = g.F.Flash.told in
+    let medium = g.F.Flash.medium in
+    let layer = c.self.inside.layer in
+    let written = c.self.inside.written in
+    let e = c.make_sure.ensures in
+    subst (λ v. ChangesNoPage told medium v (view_of c.make_sure.new.self written)) c.self.view_is
+    (looked told medium written layer c.make_sure.new.self c.self.invariant.holds e.accounts.time e.own e.sequence
     e.unchanged (λ t. e.during))

@@ -47,7 +47,8 @@ returns-in_err-write_file-clause-during g c =
     c.self.view_is
     (write_during g.F.Flash.told m0 m1 m2 c.self.inside.layer.own c.write_file.new.self.own c.self.inside.written
     c.self.inside.written c.args.file c.args.at c.args.bytes.now
-    c.make_sure.ensures.unchanged c.make_sure.ensures.time c.write_file.ensures.time c.write_file.ensures.writes
+    c.make_sure.ensures.unchanged c.make_sure.ensures.accounts.time c.write_file.ensures.accounts.time
+    c.write_file.ensures.writes
     c.make_sure.ensures.during)
 
 pub returns-clause-now : goal.returns-clause-now
@@ -60,7 +61,8 @@ returns-clause-now g c =
     subst (λ v. Follows (WriteCase c.args.file c.args.at c.args.bytes.now) (seen v).now after.now) c.self.view_is
     (write_now g.F.Flash.told m0 m1 m2 c.self.inside.layer.own c.write_file.new.self.own c.self.inside.written
     c.with_more-self-inside.result c.args.file c.args.at c.args.bytes.now
-    c.make_sure.ensures.unchanged c.make_sure.ensures.time c.write_file.ensures.time c.write_file.ensures.writes
+    c.make_sure.ensures.unchanged c.make_sure.ensures.accounts.time c.write_file.ensures.accounts.time
+    c.write_file.ensures.writes
     c.in_ok-write_file.ensures.announced)
 
 pub returns-clause-during : goal.returns-clause-during
@@ -74,7 +76,8 @@ returns-clause-during g c =
     c.self.view_is
     (write_during g.F.Flash.told m0 m1 m2 c.self.inside.layer.own c.write_file.new.self.own c.self.inside.written
     c.with_more-self-inside.result c.args.file c.args.at c.args.bytes.now
-    c.make_sure.ensures.unchanged c.make_sure.ensures.time c.write_file.ensures.time c.write_file.ensures.writes
+    c.make_sure.ensures.unchanged c.make_sure.ensures.accounts.time c.write_file.ensures.accounts.time
+    c.write_file.ensures.writes
     c.make_sure.ensures.during)
 
 pub returns-in_err-make_sure-clause-usable : goal.returns-in_err-make_sure-clause-usable
@@ -83,7 +86,7 @@ returns-in_err-make_sure-clause-usable g c told =
     let m1 = g.F.Flash.medium c.make_sure.new.self.flash in
     let e = c.make_sure.ensures in
     subst (λ v. KeepsUsable (g.F.Flash.medium v.flash) m1) c.self.view_is
-    (look_usable m0 m1 (e.time told) (holds_usable m0 c.self.inside.layer.state (c.self.invariant.holds told))
+    (look_usable m0 m1 (e.accounts.time told) (holds_usable m0 c.self.inside.layer.state (c.self.invariant.holds told))
     (e.unchanged told) e.during)
 
 pub returns-in_err-write_file-clause-usable : goal.returns-in_err-write_file-clause-usable
@@ -94,10 +97,11 @@ returns-in_err-write_file-clause-usable g c told =
     let e = c.make_sure.ensures in
     let w = c.write_file.ensures in
     subst (λ v. KeepsUsable (g.F.Flash.medium v.flash) m2) c.self.view_is
-    (usable_then m0 m1 m2 (e.time told) (w.time told)
-    (look_usable m0 m1 (e.time told) (holds_usable m0 c.self.inside.layer.state (c.self.invariant.holds told))
+    (usable_then m0 m1 m2 (e.accounts.time told) (w.accounts.time told)
+    (look_usable m0 m1 (e.accounts.time told) (holds_usable m0 c.self.inside.layer.state (c.self.invariant.holds told))
     (e.unchanged told) e.during)
-    (write_usable m1 m2 (w.time told) (holds_usable m1 c.make_sure.new.self.state (e.holds told)) c.args.file c.args.at
+    (write_usable m1 m2 (w.accounts.time told) (holds_usable m1 c.make_sure.new.self.state (e.holds told)) c.args.file
+    c.args.at
     c.args.bytes.now (w.writes told)))
 
 pub returns-clause-usable : goal.returns-clause-usable
@@ -108,10 +112,11 @@ returns-clause-usable g c told =
     let e = c.make_sure.ensures in
     let w = c.write_file.ensures in
     subst (λ v. KeepsUsable (g.F.Flash.medium v.flash) m2) c.self.view_is
-    (usable_then m0 m1 m2 (e.time told) (w.time told)
-    (look_usable m0 m1 (e.time told) (holds_usable m0 c.self.inside.layer.state (c.self.invariant.holds told))
+    (usable_then m0 m1 m2 (e.accounts.time told) (w.accounts.time told)
+    (look_usable m0 m1 (e.accounts.time told) (holds_usable m0 c.self.inside.layer.state (c.self.invariant.holds told))
     (e.unchanged told) e.during)
-    (write_usable m1 m2 (w.time told) (holds_usable m1 c.make_sure.new.self.state (e.holds told)) c.args.file c.args.at
+    (write_usable m1 m2 (w.accounts.time told) (holds_usable m1 c.make_sure.new.self.state (e.holds told)) c.args.file
+    c.args.at
     c.args.bytes.now (w.writes told)))
 
 pub returns-then-is_empty-clause-usable : goal.returns-then-is_empty-clause-usable
@@ -129,7 +134,7 @@ returns-in_err-write_file-clause-agreed g c told =
     let e = c.make_sure.ensures in
     let w = c.write_file.ensures in
     subst (λ v. KeepsAgreed (g.F.Flash.medium v.flash) m2) c.self.view_is
-    (agreed_then m0 m1 m2 (e.time told) (w.time told)
+    (agreed_then m0 m1 m2 (e.accounts.time told) (w.accounts.time told)
     (look_agreed m0 m1 (e.unchanged told) e.during)
     (write_agreed m1 m2 c.args.file c.args.at c.args.bytes.now (w.writes told)))
 
@@ -141,7 +146,7 @@ returns-clause-agreed g c told =
     let e = c.make_sure.ensures in
     let w = c.write_file.ensures in
     subst (λ v. KeepsAgreed (g.F.Flash.medium v.flash) m2) c.self.view_is
-    (agreed_then m0 m1 m2 (e.time told) (w.time told)
+    (agreed_then m0 m1 m2 (e.accounts.time told) (w.accounts.time told)
     (look_agreed m0 m1 (e.unchanged told) e.during)
     (write_agreed m1 m2 c.args.file c.args.at c.args.bytes.now (w.writes told)))
 
@@ -153,7 +158,7 @@ returns-in_err-write_file-clause-own g c told =
     let own = c.write_file.new.self.own in
     let n = length c.args.bytes.now in
     let some : 0 < n = grind arith in
-    let time = c.make_sure.ensures.time told in
+    let time = c.make_sure.ensures.accounts.time told in
     subst (λ v. (own ≡ v.own) ⊎ ((0 < n) × FailsAlone (g.F.Flash.medium v.flash) state.sequence c.args.file c.args.at
     n)) c.self.view_is
     (⊎_elim
@@ -162,7 +167,7 @@ returns-in_err-write_file-clause-own g c told =
       some,
       fails_alone m0 m1 c.make_sure.new.self.state state c.args.file c.args.at n (c.make_sure.ensures.unchanged told)
           time.blocks
-          (c.in_ok-make_sure.ensures.sound told) c.write_file.ensures.accounts.disputed why,
+          (c.in_ok-make_sure.ensures.stays.sound told) c.write_file.ensures.accounts.disputed why,
     ))
     (c.write_file.ensures.own told))
 
@@ -175,7 +180,7 @@ returns-in_err-make_sure-clause-time g c =
     subst (λ v. Elapses (medium_of told g.F.Flash.medium v)
     (flash_disk_medium told m1 c.make_sure.new.self.own c.self.inside.written)) c.self.view_is
     (look_time told m0 m1 c.self.inside.layer.own c.make_sure.new.self.own c.self.inside.written
-    c.self.inside.layer.state c.self.invariant.holds e.time e.accounts.cause.later
+    c.self.inside.layer.state c.self.invariant.holds e.accounts.time e.accounts.cause.later
     e.unchanged (λ t. e.during))
 
 pub returns-in_err-write_file-clause-time : goal.returns-in_err-write_file-clause-time
@@ -190,10 +195,10 @@ returns-in_err-write_file-clause-time g c =
     (flash_disk_medium told m2 c.write_file.new.self.own c.self.inside.written)) c.self.view_is
     (elapses_on
     (look_time told m0 m1 c.self.inside.layer.own c.make_sure.new.self.own c.self.inside.written
-    c.self.inside.layer.state c.self.invariant.holds e.time e.accounts.cause.later
+    c.self.inside.layer.state c.self.invariant.holds e.accounts.time e.accounts.cause.later
     e.unchanged (λ t. e.during))
     (write_time told m1 m2 c.make_sure.new.self.own c.write_file.new.self.own c.self.inside.written
-    c.make_sure.new.self.state e.holds w.time w.accounts.cause.later
+    c.make_sure.new.self.state e.holds w.accounts.time w.accounts.cause.later
     c.self.inside.written c.args.file c.args.at c.args.bytes.now (le_refl _) w.writes))
 
 pub returns-clause-time : goal.returns-clause-time
@@ -208,24 +213,24 @@ returns-clause-time g c =
     (flash_disk_medium told m2 c.write_file.new.self.own c.with_more-self-inside.result)) c.self.view_is
     (elapses_on
     (look_time told m0 m1 c.self.inside.layer.own c.make_sure.new.self.own c.self.inside.written
-    c.self.inside.layer.state c.self.invariant.holds e.time e.accounts.cause.later
+    c.self.inside.layer.state c.self.invariant.holds e.accounts.time e.accounts.cause.later
     e.unchanged (λ t. e.during))
     (write_time told m1 m2 c.make_sure.new.self.own c.write_file.new.self.own c.self.inside.written
-    c.make_sure.new.self.state e.holds w.time w.accounts.cause.later
+    c.make_sure.new.self.state e.holds w.accounts.time w.accounts.cause.later
     c.with_more-self-inside.result c.args.file c.args.at c.args.bytes.now
     (let sum = c.with_more-self-inside.ensures in omega (arith, sum)) w.writes))
 
 pub returns-clause-kept : goal.returns-clause-kept
 returns-clause-kept g c =
     let n = length c.args.bytes.now + div_ceil (c.args.at + length c.args.bytes.now) 256 in
-    let on = accounts_on g.F.Flash.medium 0 n n (omega arith) c.in_ok-make_sure.ensures.accounts
+    let on = accounts_on 0 n n (omega arith) c.in_ok-make_sure.ensures.accounts
     c.in_ok-write_file.ensures.accounts in
     subst (λ v. c.write_file.new.self.own ≡ v.own) c.self.view_is on.kept
 
 pub returns-clause-passes : goal.returns-clause-passes
 returns-clause-passes g c =
     let n = length c.args.bytes.now + div_ceil (c.args.at + length c.args.bytes.now) 256 in
-    let on = accounts_on g.F.Flash.medium 0 n n (omega arith) c.in_ok-make_sure.ensures.accounts
+    let on = accounts_on 0 n n (omega arith) c.in_ok-make_sure.ensures.accounts
     c.in_ok-write_file.ensures.accounts in
     subst (λ v. (g.F.Flash.medium c.write_file.new.self.flash).faults + c.write_file.new.self.own
     ≡ (g.F.Flash.medium v.flash).faults + v.own) c.self.view_is on.cause.passed
@@ -233,28 +238,28 @@ returns-clause-passes g c =
 pub returns-clause-one : goal.returns-clause-one
 returns-clause-one g c =
     let n = length c.args.bytes.now + div_ceil (c.args.at + length c.args.bytes.now) 256 in
-    let on = accounts_on g.F.Flash.medium 0 n n (omega arith) c.in_ok-make_sure.ensures.accounts
+    let on = accounts_on 0 n n (omega arith) c.in_ok-make_sure.ensures.accounts
     c.write_file.ensures.accounts in
     subst (λ v. c.write_file.new.self.own ≤ v.own + 1) c.self.view_is on.one
 
 pub returns-clause-no_less : goal.returns-clause-no_less
 returns-clause-no_less g c =
     let n = length c.args.bytes.now + div_ceil (c.args.at + length c.args.bytes.now) 256 in
-    let on = accounts_on g.F.Flash.medium 0 n n (omega arith) c.in_ok-make_sure.ensures.accounts
+    let on = accounts_on 0 n n (omega arith) c.in_ok-make_sure.ensures.accounts
     c.write_file.ensures.accounts in
     subst (λ v. v.own ≤ c.write_file.new.self.own) c.self.view_is on.no_less
 
 pub returns-clause-later : goal.returns-clause-later
 returns-clause-later g c =
     let n = length c.args.bytes.now + div_ceil (c.args.at + length c.args.bytes.now) 256 in
-    let on = accounts_on g.F.Flash.medium 0 n n (omega arith) c.in_ok-make_sure.ensures.accounts
+    let on = accounts_on 0 n n (omega arith) c.in_ok-make_sure.ensures.accounts
     c.write_file.ensures.accounts in
     subst (λ v. v.sequence ≤ c.write_file.new.self.state.sequence) c.self.view_is on.later
 
 pub returns-clause-steps : goal.returns-clause-steps
 returns-clause-steps g c =
     let n = length c.args.bytes.now + div_ceil (c.args.at + length c.args.bytes.now) 256 in
-    let on = accounts_on g.F.Flash.medium 0 n n (omega arith) c.in_ok-make_sure.ensures.accounts
+    let on = accounts_on 0 n n (omega arith) c.in_ok-make_sure.ensures.accounts
     c.write_file.ensures.accounts in
     subst (λ v. c.write_file.new.self.state.sequence ≤ v.sequence + length c.args.bytes.now
     + div_ceil (c.args.at + length c.args.bytes.now) 256) c.self.view_is
@@ -268,34 +273,35 @@ returns-clause-refused g c told =
     let n = length c.args.bytes.now in
     subst (λ v. EndsTooLate c.args.at n ⊎ WantsTooMany (g.F.Flash.medium v.flash) c.args.file c.args.at n
     → m2.state ≡ (g.F.Flash.medium v.flash).state) c.self.view_is
-    (refused_before m0 m1 (c.make_sure.ensures.unchanged told) (c.make_sure.ensures.time told).blocks m2 c.args.file
+    (refused_before m0 m1 (c.make_sure.ensures.unchanged told) (c.make_sure.ensures.accounts.time told).blocks m2
+    c.args.file
     c.args.at n (c.write_file.ensures.refused told))
 
 pub returns-in_err-write_file-clause-one : goal.returns-in_err-write_file-clause-one
 returns-in_err-write_file-clause-one g c =
     let n = length c.args.bytes.now + div_ceil (c.args.at + length c.args.bytes.now) 256 in
-    let on = accounts_on g.F.Flash.medium 0 n n (omega arith) c.in_ok-make_sure.ensures.accounts
+    let on = accounts_on 0 n n (omega arith) c.in_ok-make_sure.ensures.accounts
     c.write_file.ensures.accounts in
     subst (λ v. c.write_file.new.self.own ≤ v.own + 1) c.self.view_is on.one
 
 pub returns-in_err-write_file-clause-no_less : goal.returns-in_err-write_file-clause-no_less
 returns-in_err-write_file-clause-no_less g c =
     let n = length c.args.bytes.now + div_ceil (c.args.at + length c.args.bytes.now) 256 in
-    let on = accounts_on g.F.Flash.medium 0 n n (omega arith) c.in_ok-make_sure.ensures.accounts
+    let on = accounts_on 0 n n (omega arith) c.in_ok-make_sure.ensures.accounts
     c.write_file.ensures.accounts in
     subst (λ v. v.own ≤ c.write_file.new.self.own) c.self.view_is on.no_less
 
 pub returns-in_err-write_file-clause-later : goal.returns-in_err-write_file-clause-later
 returns-in_err-write_file-clause-later g c =
     let n = length c.args.bytes.now + div_ceil (c.args.at + length c.args.bytes.now) 256 in
-    let on = accounts_on g.F.Flash.medium 0 n n (omega arith) c.in_ok-make_sure.ensures.accounts
+    let on = accounts_on 0 n n (omega arith) c.in_ok-make_sure.ensures.accounts
     c.write_file.ensures.accounts in
     subst (λ v. v.sequence ≤ c.write_file.new.self.state.sequence) c.self.view_is on.later
 
 pub returns-in_err-write_file-clause-steps : goal.returns-in_err-write_file-clause-steps
 returns-in_err-write_file-clause-steps g c =
     let n = length c.args.bytes.now + div_ceil (c.args.at + length c.args.bytes.now) 256 in
-    let on = accounts_on g.F.Flash.medium 0 n n (omega arith) c.in_ok-make_sure.ensures.accounts
+    let on = accounts_on 0 n n (omega arith) c.in_ok-make_sure.ensures.accounts
     c.write_file.ensures.accounts in
     subst (λ v. c.write_file.new.self.state.sequence ≤ v.sequence + length c.args.bytes.now
     + div_ceil (c.args.at + length c.args.bytes.now) 256) c.self.view_is
@@ -309,7 +315,8 @@ returns-in_err-write_file-clause-refused g c told =
     let n = length c.args.bytes.now in
     subst (λ v. EndsTooLate c.args.at n ⊎ WantsTooMany (g.F.Flash.medium v.flash) c.args.file c.args.at n
     → m2.state ≡ (g.F.Flash.medium v.flash).state) c.self.view_is
-    (refused_before m0 m1 (c.make_sure.ensures.unchanged told) (c.make_sure.ensures.time told).blocks m2 c.args.file
+    (refused_before m0 m1 (c.make_sure.ensures.unchanged told) (c.make_sure.ensures.accounts.time told).blocks m2
+    c.args.file
     c.args.at n (c.write_file.ensures.refused told))
 
 pub returns-clause-allowed : goal.returns-clause-allowed
@@ -318,7 +325,8 @@ returns-clause-allowed g c told some =
     let m1 = g.F.Flash.medium c.make_sure.new.self.flash in
     let n = length c.args.bytes.now in
     subst (λ v. IsAllowed (g.F.Flash.medium v.flash) c.args.file c.args.at n) c.self.view_is
-    (allowed_before m0 m1 (c.make_sure.ensures.unchanged told) (c.make_sure.ensures.time told).blocks c.args.file
+    (allowed_before m0 m1 (c.make_sure.ensures.unchanged told) (c.make_sure.ensures.accounts.time told).blocks
+    c.args.file
     c.args.at n (c.in_ok-write_file.ensures.allowed told))
 
 pub returns-clause-takes : goal.returns-clause-takes
@@ -328,5 +336,6 @@ returns-clause-takes g c told =
     let m2 = (g.F.Flash.medium c.write_file.new.self.flash) in
     let n = length c.args.bytes.now in
     subst (λ v. TakesPages (g.F.Flash.medium v.flash) m2 c.args.file c.args.at n) c.self.view_is
-    (takes_before m0 m1 (c.make_sure.ensures.unchanged told) (c.make_sure.ensures.time told).blocks m2 c.args.file
+    (takes_before m0 m1 (c.make_sure.ensures.unchanged told) (c.make_sure.ensures.accounts.time told).blocks m2
+    c.args.file
     c.args.at n (c.in_ok-write_file.ensures.takes told))

@@ -1,4 +1,4 @@
-use Rattle.std.proofs.Common.{◌≡◌, ◌+◌, ◌*◌, sym, ap, inl, inr, subst, ◌∙◌}
+use Rattle.std.proofs.Common.{◌≡◌, ◌+◌, ◌*◌, refl, sym, ap, inl, inr, subst, ◌∙◌, arith}
 use Rattle.flash_record.specs.PageRecord.{PageRecord}
 use Rattle.flash_disk.specs.declared.table.Place.{Place}
 use Rattle.flash_disk.specs.declared.layer.LayerState.{LayerState}
@@ -7,7 +7,7 @@ use Rattle.flash_disk.specs.PutPart.{PutPart}
 use Rattle.flash_disk.specs.Sound.{files_of, IsSound, FitsIn, LeavesPut, ShowsPage}
 use Rattle.flash_disk.proofs.Adding.{puts_nothing, added_sound, added_entries, added_put, added_shown, failed_holds}
 use Rattle.flash_disk.proofs.Adding.{add_does}
-use Rattle.flash_model.specs.FlashMedium.{FlashElapses}
+use Rattle.flash_disk.proofs.Accounting.{accounts_here, accounts_on}
 use Rattle.flash_disk.proofs.layer.Layer.add.Goals as goal
 
 pub returns-in_err-sequence-clause-does : goal.returns-in_err-sequence-clause-does
@@ -16,39 +16,46 @@ returns-in_err-sequence-clause-does g c told =
     subst (λ now. Does (LeavesPut c.args.file (256 * c.args.page) c.args.bytes.now c.args.len (g.F.Flash.medium f))
     (g.F.Flash.medium f) (g.F.Flash.medium now)) (sym c.next_sequence.ensures.flash)
     (puts_nothing g.F.Flash.told (g.F.Flash.medium f) (g.met.F.Flash.lawful f) c.args.self.now.state
-    (c.requires.sound told) c.args.file (256 * c.args.page) c.args.len c.args.bytes.now)
+    (c.requires.ready.sound told) c.args.file (256 * c.args.page) c.args.len c.args.bytes.now)
 
-pub returns-in-Ok-clause-sound : goal.returns-in-Ok-clause-sound
-returns-in-Ok-clause-sound g c told =
-    let r : PageRecord = record {
-      sequence = c.in_ok-sequence.sequence;
-      file = c.args.file;
-      page = c.args.page;
-      len =
-          c.args.len;
-      bytes = c.args.bytes.now;
-    } in
-    let s = c.args.self.now.state in
-    let t = c.next_sequence.new.self.state in
-    let m = g.F.Flash.medium c.next_sequence.new.self.flash in
-    let now = g.F.Flash.medium c.program_page.new.self.flash in
-    let u = c.program_page.new.self.state in
-    let place : Place = record { block = t.current; page = t.fill } in
-    let sound : IsSound m s = subst (λ f. IsSound (g.F.Flash.medium f) s) (sym c.next_sequence.ensures.flash)
-    (c.requires.sound told) in
-    let fits : FitsIn m s c.args.file c.args.page c.args.len c.args.bytes.now =
-    subst (λ f. FitsIn (g.F.Flash.medium f) s c.args.file c.args.page c.args.len c.args.bytes.now)
-    (sym c.next_sequence.ensures.flash) (c.requires.fits told) in
-    let next = c.in_ok-sequence.ensures.next in
-    let state : t ≡ record s { sequence = c.in_ok-sequence.sequence } = ap (λ l. l.state) next.1 in
-    let on : u ≡ record s { sequence = c.in_ok-sequence.sequence; fill = s.fill + 1 } =
-    c.program_page.ensures.state ∙ ap (λ (q : LayerState). let z : LayerState = record q { fill = q.fill + 1 } in z)
-    state in
-    let at = ap (λ (q : LayerState). let p : Place = record { block = q.current; page = q.fill } in p) state in
-    subst (λ f. IsSound (g.F.Flash.medium f) c.enter.new.self.state) (sym c.enter.ensures.flash)
-    (added_sound m now s u place r c.page_with.result sound c.requires.room fits c.requires.bytes at next.0 on
-    c.page_with.ensures
-    (c.in-Ok.ensures.done told) (c.program_page.ensures.time told).blocks c.enter.new.self.state c.enter.ensures.sound)
+pub returns-in-Ok-clause-stays : goal.returns-in-Ok-clause-stays
+returns-in-Ok-clause-stays g c = record {
+  sure = c.enter.ensures.unsure ∙ (ap (λ (q : LayerState). q.unsure) c.program_page.ensures.state
+      ∙ (ap (λ q. q.state.unsure) c.in_ok-sequence.ensures.next.1 ∙ c.requires.ready.sure));
+  sound = λ told.
+      let r : PageRecord = record {
+        sequence = c.in_ok-sequence.sequence;
+        file = c.args.file;
+        page = c.args.page;
+        len =
+            c.args.len;
+        bytes = c.args.bytes.now;
+      } in
+      let s = c.args.self.now.state in
+      let t = c.next_sequence.new.self.state in
+      let m = g.F.Flash.medium c.next_sequence.new.self.flash in
+      let now = g.F.Flash.medium c.program_page.new.self.flash in
+      let u = c.program_page.new.self.state in
+      let place : Place = record { block = t.current; page = t.fill } in
+      let sound : IsSound m s = subst (λ f. IsSound (g.F.Flash.medium f) s) (sym c.next_sequence.ensures.flash)
+      (c.requires.ready.sound told) in
+      let fits : FitsIn m s c.args.file c.args.page c.args.len c.args.bytes.now =
+      subst (λ f. FitsIn (g.F.Flash.medium f) s c.args.file c.args.page c.args.len c.args.bytes.now)
+      (sym c.next_sequence.ensures.flash) (c.requires.fits told) in
+      let next = c.in_ok-sequence.ensures.next in
+      let state : t ≡ record s { sequence = c.in_ok-sequence.sequence } = ap (λ l. l.state) next.1 in
+      let on : u ≡ record s { sequence = c.in_ok-sequence.sequence; fill = s.fill + 1 } =
+      c.program_page.ensures.state ∙ ap (λ (q : LayerState). let z : LayerState = record q { fill = q.fill + 1 } in
+      z)
+      state in
+      let at = ap (λ (q : LayerState). let p : Place = record { block = q.current; page = q.fill } in p) state in
+      subst (λ f. IsSound (g.F.Flash.medium f) c.enter.new.self.state) (sym c.enter.ensures.flash)
+      (added_sound m now s u place r c.page_with.result sound c.requires.room fits c.requires.bytes at next.0 on
+      c.page_with.ensures
+      (c.in-Ok.ensures.done told) (c.program_page.ensures.accounts.time told).blocks c.enter.new.self.state
+      c.enter.ensures.sound);
+  failed = λ told. tt;
+}
 
 pub returns-in-Ok-clause-put : goal.returns-in-Ok-clause-put
 returns-in-Ok-clause-put g c told =
@@ -67,7 +74,7 @@ returns-in-Ok-clause-put g c told =
     let u = c.program_page.new.self.state in
     let place : Place = record { block = t.current; page = t.fill } in
     let sound : IsSound m s = subst (λ f. IsSound (g.F.Flash.medium f) s) (sym c.next_sequence.ensures.flash)
-    (c.requires.sound told) in
+    (c.requires.ready.sound told) in
     let fits : FitsIn m s c.args.file c.args.page c.args.len c.args.bytes.now =
     subst (λ f. FitsIn (g.F.Flash.medium f) s c.args.file c.args.page c.args.len c.args.bytes.now)
     (sym c.next_sequence.ensures.flash) (c.requires.fits told) in
@@ -84,7 +91,7 @@ returns-in-Ok-clause-put g c told =
     (files_of (g.F.Flash.medium f))) (sym c.enter.ensures.flash)
     (added_put m now s u place r c.page_with.result sound c.requires.room fits c.requires.bytes at next.0 on
     c.page_with.ensures
-    (c.in-Ok.ensures.done told) (c.program_page.ensures.time told).blocks))
+    (c.in-Ok.ensures.done told) (c.program_page.ensures.accounts.time told).blocks))
 
 pub returns-in-Ok-clause-shown : goal.returns-in-Ok-clause-shown
 returns-in-Ok-clause-shown g c told =
@@ -103,7 +110,7 @@ returns-in-Ok-clause-shown g c told =
     let u = c.program_page.new.self.state in
     let place : Place = record { block = t.current; page = t.fill } in
     let sound : IsSound m s = subst (λ f. IsSound (g.F.Flash.medium f) s) (sym c.next_sequence.ensures.flash)
-    (c.requires.sound told) in
+    (c.requires.ready.sound told) in
     let fits : FitsIn m s c.args.file c.args.page c.args.len c.args.bytes.now =
     subst (λ f. FitsIn (g.F.Flash.medium f) s c.args.file c.args.page c.args.len c.args.bytes.now)
     (sym c.next_sequence.ensures.flash) (c.requires.fits told) in
@@ -118,7 +125,7 @@ returns-in-Ok-clause-shown g c told =
     (subst (λ f. ShowsPage m (g.F.Flash.medium f) c.args.file c.args.page c.args.bytes.now) (sym c.enter.ensures.flash)
     (added_shown m now s u place r c.page_with.result sound c.requires.room fits c.requires.bytes at next.0 on
     c.page_with.ensures
-    (c.in-Ok.ensures.done told) (c.program_page.ensures.time told).blocks))
+    (c.in-Ok.ensures.done told) (c.program_page.ensures.accounts.time told).blocks))
 
 pub returns-in-Ok-clause-does : goal.returns-in-Ok-clause-does
 returns-in-Ok-clause-does g c told =
@@ -137,7 +144,7 @@ returns-in-Ok-clause-does g c told =
     let u = c.program_page.new.self.state in
     let place : Place = record { block = t.current; page = t.fill } in
     let sound : IsSound m s = subst (λ f. IsSound (g.F.Flash.medium f) s) (sym c.next_sequence.ensures.flash)
-    (c.requires.sound told) in
+    (c.requires.ready.sound told) in
     let fits : FitsIn m s c.args.file c.args.page c.args.len c.args.bytes.now =
     subst (λ f. FitsIn (g.F.Flash.medium f) s c.args.file c.args.page c.args.len c.args.bytes.now)
     (sym c.next_sequence.ensures.flash) (c.requires.fits told) in
@@ -156,36 +163,41 @@ returns-in-Ok-clause-does g c told =
     c.program_page.result (c.program_page.ensures.done told) (c.program_page.ensures.failed told)
     (c.program_page.ensures.during told)))
 
-pub returns-in-Err-clause-failed : goal.returns-in-Err-clause-failed
-returns-in-Err-clause-failed g c told =
-    let r : PageRecord = record {
-      sequence = c.in_ok-sequence.sequence;
-      file = c.args.file;
-      page = c.args.page;
-      len =
-          c.args.len;
-      bytes = c.args.bytes.now;
-    } in
-    let s = c.args.self.now.state in
-    let t = c.next_sequence.new.self.state in
-    let m = g.F.Flash.medium c.next_sequence.new.self.flash in
-    let now = g.F.Flash.medium c.program_page.new.self.flash in
-    let u = c.program_page.new.self.state in
-    let place : Place = record { block = t.current; page = t.fill } in
-    let sound : IsSound m s = subst (λ f. IsSound (g.F.Flash.medium f) s) (sym c.next_sequence.ensures.flash)
-    (c.requires.sound told) in
-    let fits : FitsIn m s c.args.file c.args.page c.args.len c.args.bytes.now =
-    subst (λ f. FitsIn (g.F.Flash.medium f) s c.args.file c.args.page c.args.len c.args.bytes.now)
-    (sym c.next_sequence.ensures.flash) (c.requires.fits told) in
-    let next = c.in_ok-sequence.ensures.next in
-    let state : t ≡ record s { sequence = c.in_ok-sequence.sequence } = ap (λ l. l.state) next.1 in
-    let on : u ≡ record s { sequence = c.in_ok-sequence.sequence; fill = s.fill + 1 } =
-    c.program_page.ensures.state ∙ ap (λ (q : LayerState). let z : LayerState = record q { fill = q.fill + 1 } in z)
-    state in
-    let at = ap (λ (q : LayerState). let p : Place = record { block = q.current; page = q.fill } in p) state in
-    failed_holds m now s u place r c.page_with.result sound c.requires.room fits c.requires.bytes at next.0 on
-    c.page_with.ensures
-    (c.in-Err.ensures.failed told) (c.program_page.ensures.time told).blocks
+pub returns-in-Err-clause-stays : goal.returns-in-Err-clause-stays
+returns-in-Err-clause-stays g c = record {
+  sure = tt;
+  sound = λ told. tt;
+  failed = λ told.
+      let r : PageRecord = record {
+        sequence = c.in_ok-sequence.sequence;
+        file = c.args.file;
+        page = c.args.page;
+        len =
+            c.args.len;
+        bytes = c.args.bytes.now;
+      } in
+      let s = c.args.self.now.state in
+      let t = c.next_sequence.new.self.state in
+      let m = g.F.Flash.medium c.next_sequence.new.self.flash in
+      let now = g.F.Flash.medium c.program_page.new.self.flash in
+      let u = c.program_page.new.self.state in
+      let place : Place = record { block = t.current; page = t.fill } in
+      let sound : IsSound m s = subst (λ f. IsSound (g.F.Flash.medium f) s) (sym c.next_sequence.ensures.flash)
+      (c.requires.ready.sound told) in
+      let fits : FitsIn m s c.args.file c.args.page c.args.len c.args.bytes.now =
+      subst (λ f. FitsIn (g.F.Flash.medium f) s c.args.file c.args.page c.args.len c.args.bytes.now)
+      (sym c.next_sequence.ensures.flash) (c.requires.fits told) in
+      let next = c.in_ok-sequence.ensures.next in
+      let state : t ≡ record s { sequence = c.in_ok-sequence.sequence } = ap (λ l. l.state) next.1 in
+      let on : u ≡ record s { sequence = c.in_ok-sequence.sequence; fill = s.fill + 1 } =
+      c.program_page.ensures.state ∙ ap (λ (q : LayerState). let z : LayerState = record q { fill = q.fill + 1 } in
+      z)
+      state in
+      let at = ap (λ (q : LayerState). let p : Place = record { block = q.current; page = q.fill } in p) state in
+      failed_holds m now s u place r c.page_with.result sound c.requires.room fits c.requires.bytes at next.0 on
+      c.page_with.ensures
+      (c.in-Err.ensures.failed told) (c.program_page.ensures.accounts.time told).blocks;
+}
 
 pub returns-in-Err-clause-does : goal.returns-in-Err-clause-does
 returns-in-Err-clause-does g c told =
@@ -204,7 +216,7 @@ returns-in-Err-clause-does g c told =
     let u = c.program_page.new.self.state in
     let place : Place = record { block = t.current; page = t.fill } in
     let sound : IsSound m s = subst (λ f. IsSound (g.F.Flash.medium f) s) (sym c.next_sequence.ensures.flash)
-    (c.requires.sound told) in
+    (c.requires.ready.sound told) in
     let fits : FitsIn m s c.args.file c.args.page c.args.len c.args.bytes.now =
     subst (λ f. FitsIn (g.F.Flash.medium f) s c.args.file c.args.page c.args.len c.args.bytes.now)
     (sym c.next_sequence.ensures.flash) (c.requires.fits told) in
@@ -250,7 +262,7 @@ returns-in-Ok-clause-entries g c told =
     let u = c.program_page.new.self.state in
     let place : Place = record { block = t.current; page = t.fill } in
     let sound : IsSound m s = subst (λ f. IsSound (g.F.Flash.medium f) s) (sym c.next_sequence.ensures.flash)
-    (c.requires.sound told) in
+    (c.requires.ready.sound told) in
     let fits : FitsIn m s c.args.file c.args.page c.args.len c.args.bytes.now =
     subst (λ f. FitsIn (g.F.Flash.medium f) s c.args.file c.args.page c.args.len c.args.bytes.now)
     (sym c.next_sequence.ensures.flash) (c.requires.fits told) in
@@ -264,14 +276,13 @@ returns-in-Ok-clause-entries g c told =
     c.page_with.ensures
     c.enter.new.self.state c.enter.ensures.entries
 
-pub returns-in-Ok-clause-time : goal.returns-in-Ok-clause-time
-returns-in-Ok-clause-time g c told =
-    subst (λ f. FlashElapses (g.F.Flash.medium f) (g.F.Flash.medium c.enter.new.self.flash))
-    c.next_sequence.ensures.flash
-    (subst (λ f. FlashElapses (g.F.Flash.medium c.next_sequence.new.self.flash) (g.F.Flash.medium f))
-    (sym c.enter.ensures.flash) (c.program_page.ensures.time told))
+pub returns-in-Ok-clause-accounts : goal.returns-in-Ok-clause-accounts
+returns-in-Ok-clause-accounts g c =
+    let e = c.enter.ensures in
+    accounts_here e.flash e.own e.sequence e.disputed (accounts_on 1 0 1 (omega arith)
+    (accounts_here refl refl refl refl c.in_ok-sequence.ensures.accounts) c.in-Ok.ensures.accounts)
 
-pub returns-in-Err-clause-time : goal.returns-in-Err-clause-time
-returns-in-Err-clause-time g c told =
-    subst (λ f. FlashElapses (g.F.Flash.medium f) (g.F.Flash.medium c.program_page.new.self.flash))
-    c.next_sequence.ensures.flash (c.program_page.ensures.time told)
+pub returns-in-Err-clause-accounts : goal.returns-in-Err-clause-accounts
+returns-in-Err-clause-accounts g c =
+    accounts_here refl refl refl refl (accounts_on 1 0 1 (omega arith)
+    (accounts_here refl refl refl refl c.in_ok-sequence.ensures.accounts) c.in-Err.ensures.accounts)

@@ -4,15 +4,16 @@ use Rattle.std.proofs.lemmas.Result.{on_ok_weaker}
 use Rattle.flash_disk.specs.declared.table.FilePage.{FilePage}
 use Rattle.flash_disk.proofs.Entries.{occupies_after}
 use Rattle.flash_disk.proofs.Adding.{puts_then, puts_not, shown_after}
-use Rattle.flash_disk.proofs.Stretches.{elapses_then}
-use Rattle.flash_disk.proofs.Accounting.{accounts_on}
+use Rattle.flash_disk.proofs.Accounting.{accounts_fails, accounts_more, accounts_on}
+use Rattle.flash_disk.proofs.Steps.{sure_fails}
 use Rattle.flash_disk.proofs.layer.Layer.append.Goals as goal
 
 pub returns-in_err-make_room-clause-does : goal.returns-in_err-make_room-clause-does
 returns-in_err-make_room-clause-does g c told =
     let m = g.F.Flash.medium c.args.self.now.flash in
     let mid = g.F.Flash.medium c.make_room.new.self.flash in
-    puts_not m mid mid (c.make_room.ensures.time told) (c.make_room.ensures.does told) c.args.file (256 * c.args.page)
+    puts_not m mid mid (c.make_room.ensures.accounts.time told) (c.make_room.ensures.does told) c.args.file
+    (256 * c.args.page)
     c.args.len c.args.bytes.now
 
 pub returns-clause-does : goal.returns-clause-does
@@ -20,9 +21,10 @@ returns-clause-does g c told =
     let m = g.F.Flash.medium c.args.self.now.flash in
     let mid = g.F.Flash.medium c.make_room.new.self.flash in
     let now = g.F.Flash.medium c.add.new.self.flash in
-    puts_then m mid now (c.make_room.ensures.time told) (c.make_room.ensures.does told) c.args.file (256 * c.args.page)
+    puts_then m mid now (c.make_room.ensures.accounts.time told) (c.make_room.ensures.does told) c.args.file
+    (256 * c.args.page)
     c.args.len c.args.bytes.now
-    (c.add.ensures.time told) (c.add.ensures.does told)
+    (c.add.ensures.accounts.time told) (c.add.ensures.does told)
 
 pub returns-clause-shown : goal.returns-clause-shown
 returns-clause-shown g c told =
@@ -36,21 +38,6 @@ pub add-requires-clause-fits : goal.add-requires-clause-fits
 add-requires-clause-fits g c told =
     c.make_room.ensures.fits told c.args.file c.args.page c.args.len c.args.bytes.now (c.requires.fits told)
 
-pub returns-in_err-make_room-clause-own : goal.returns-in_err-make_room-clause-own
-returns-in_err-make_room-clause-own g c told = ⊎_elim
-    (λ disputed. inr (inr (c.make_room.ensures.accounts.disputed ∙ disputed)))
-    (λ calm. inl (c.make_room.ensures.own told calm))
-    (cases_Bool c.args.self.now.state.disputed)
-
-pub returns-clause-own : goal.returns-clause-own
-returns-clause-own g c told = ⊎_elim
-    (λ disputed. inr (inr (c.add.ensures.accounts.disputed ∙ (c.make_room.ensures.accounts.disputed ∙ disputed))))
-    (λ calm. ⊎_elim
-    (λ same. inl (same ∙ c.make_room.ensures.own told calm))
-    (λ last. inr (inl last))
-    (c.add.ensures.own told))
-    (cases_Bool c.args.self.now.state.disputed)
-
 pub returns-clause-entries : goal.returns-clause-entries
 returns-clause-entries g c told =
     let key : FilePage = record { file = c.args.file; page = c.args.page } in
@@ -59,11 +46,28 @@ returns-clause-entries g c told =
     (c.in_ok-make_room.ensures.entries told))
     (c.add.ensures.entries told)
 
-pub returns-clause-time : goal.returns-clause-time
-returns-clause-time g c told =
-    elapses_then (g.F.Flash.medium c.args.self.now.flash) (g.F.Flash.medium c.make_room.new.self.flash)
-    (g.F.Flash.medium c.add.new.self.flash) (c.make_room.ensures.time told) (c.add.ensures.time told)
+pub returns-in_err-make_room-clause-adds : goal.returns-in_err-make_room-clause-adds
+returns-in_err-make_room-clause-adds g c =
+    let r = c.from_residual.result in
+    let fails = c.from_residual.ensures.1 in record {
+      stays = sure_fails r _ fails c.make_room.ensures.ready;
+      accounts = accounts_more 1 (omega arith) (accounts_fails r _ fails c.in_err-make_room.ensures.accounts);
+      own = λ told. ⊎_elim
+          (λ disputed. inr (inr (c.make_room.ensures.accounts.disputed ∙ disputed)))
+          (λ calm. inl (c.make_room.ensures.own told calm))
+          (cases_Bool c.args.self.now.state.disputed);
+    }
 
-pub returns-clause-accounts : goal.returns-clause-accounts
-returns-clause-accounts g c = accounts_on g.F.Flash.medium 0 1 1 (omega arith) c.in_ok-make_room.ensures.accounts
-    c.add.ensures.accounts
+pub returns-clause-adds : goal.returns-clause-adds
+returns-clause-adds g c = record {
+  stays = c.add.ensures.stays;
+  accounts = accounts_on 0 1 1 (omega arith) c.in_ok-make_room.ensures.accounts
+      c.add.ensures.accounts;
+  own = λ told. ⊎_elim
+      (λ disputed. inr (inr (c.add.ensures.accounts.disputed ∙ (c.make_room.ensures.accounts.disputed ∙ disputed))))
+      (λ calm. ⊎_elim
+      (λ same. inl (same ∙ c.make_room.ensures.own told calm))
+      (λ last. inr (inl last))
+      (c.add.ensures.own told))
+      (cases_Bool c.args.self.now.state.disputed);
+}

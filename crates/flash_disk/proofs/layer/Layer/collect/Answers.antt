@@ -11,11 +11,12 @@ use Rattle.flash_disk.specs.Sound.{IsSound}
 use Rattle.flash_disk.specs.Moving.{IsMoving}
 use Rattle.flash_disk.specs.Counted.{IsInside, entries_in}
 use Rattle.flash_disk.proofs.Spreading.{light_enough}
-use Rattle.flash_disk.proofs.Stretches.{does_nothing, elapses_then}
+use Rattle.flash_disk.proofs.Stretches.{does_nothing}
 use Rattle.flash_disk.specs.Entries.{SameEntries}
 use Rattle.flash_disk.proofs.Moved.{all_known, finished, places_stay, entries_stay}
 use Rattle.flash_disk.proofs.Moving.{erase_stands, erase_failed, erase_failed_keeps, erase_keeps_all, moving_none}
 use Rattle.flash_disk.proofs.Moving.{stands_then, keeps_on, fits_kept, shows_same, stands_now}
+use Rattle.flash_disk.proofs.Accounting.{accounts_fails, accounts_here, accounts_on}
 use Rattle.flash_disk.proofs.layer.Layer.collect.Goals as goal
 
 pub returns-then-self-clause-does : goal.returns-then-self-clause-does
@@ -24,18 +25,21 @@ returns-then-self-clause-does g c told =
     let lawful = g.met.F.Flash.lawful c.args.self.now.flash in
     subst (λ f. Does (StandsFor m) m (g.F.Flash.medium f)) (sym c.fault.ensures.flash)
     (does_nothing m m (StandsFor m) refl (λ x past. lawful.only_now x past)
-    (stands_now m c.args.self.now.state (c.requires.sound told)))
+    (stands_now m c.args.self.now.state (c.requires.ready.sound told)))
 
-pub returns-in_err-erase_block-clause-sound : goal.returns-in_err-erase_block-clause-sound
-returns-in_err-erase_block-clause-sound g c told =
-    let s = c.args.self.now.state in
-    let m = g.F.Flash.medium c.args.self.now.flash in
-    let look = g.F.Flash.medium c.erase_block.new.self.flash in
-    let e = c.erase_block.ensures in
-    let sound : IsSound m s = c.requires.sound told in
-    let agreed : IsFalse s.disputed = c.if-self.false in
-    subst (IsSound look) (sym e.state) (erase_failed m look s sound agreed c.requires.full
-    (c.in_err-erase_block.ensures.failed told) (e.time told).blocks)
+pub returns-in_err-erase_block-clause-ready : goal.returns-in_err-erase_block-clause-ready
+returns-in_err-erase_block-clause-ready g c = record {
+  sure = ap (λ (q : LayerState). q.unsure) c.erase_block.ensures.state ∙ c.requires.ready.sure;
+  sound = λ told.
+      let s = c.args.self.now.state in
+      let m = g.F.Flash.medium c.args.self.now.flash in
+      let look = g.F.Flash.medium c.erase_block.new.self.flash in
+      let e = c.erase_block.ensures in
+      let sound : IsSound m s = c.requires.ready.sound told in
+      let agreed : IsFalse s.disputed = c.if-self.false in
+      subst (IsSound look) (sym e.state) (erase_failed m look s sound agreed c.requires.full
+      (c.in_err-erase_block.ensures.failed told) (e.accounts.time told).blocks);
+}
 
 pub returns-in_err-erase_block-clause-fits : goal.returns-in_err-erase_block-clause-fits
 returns-in_err-erase_block-clause-fits g c told =
@@ -43,11 +47,11 @@ returns-in_err-erase_block-clause-fits g c told =
     let m = g.F.Flash.medium c.args.self.now.flash in
     let look = g.F.Flash.medium c.erase_block.new.self.flash in
     let e = c.erase_block.ensures in
-    let sound : IsSound m s = c.requires.sound told in
+    let sound : IsSound m s = c.requires.ready.sound told in
     let agreed : IsFalse s.disputed = c.if-self.false in
     fits_kept m look s c.erase_block.new.self.state sound agreed
     (erase_failed_keeps m look s sound agreed c.requires.full (c.in_err-erase_block.ensures.failed told))
-    (e.time told).blocks
+    (e.accounts.time told).blocks
     (λ key has. subst (λ (q : LayerState). HasPlace q.table key) (sym e.state) has)
 
 pub returns-in_err-erase_block-clause-does : goal.returns-in_err-erase_block-clause-does
@@ -56,7 +60,7 @@ returns-in_err-erase_block-clause-does g c told =
     let m = g.F.Flash.medium c.args.self.now.flash in
     let look = g.F.Flash.medium c.erase_block.new.self.flash in
     let e = c.erase_block.ensures in
-    let sound : IsSound m s = c.requires.sound told in
+    let sound : IsSound m s = c.requires.ready.sound told in
     let agreed : IsFalse s.disputed = c.if-self.false in
     erase_stands m look s sound agreed c.requires.full c.erase_block.result (e.done told) (e.failed told)
     (e.during told)
@@ -67,7 +71,7 @@ copy_needed-requires-clause-moving g c told =
     let m = g.F.Flash.medium c.args.self.now.flash in
     let look = g.F.Flash.medium c.erase_block.new.self.flash in
     let e = c.erase_block.ensures in
-    let sound : IsSound m s = c.requires.sound told in
+    let sound : IsSound m s = c.requires.ready.sound told in
     let agreed : IsFalse s.disputed = c.if-self.false in
     let t : LayerState = record c.erase_block.new.self.state { moved = c.clear.new.self } in
     let state : t ≡ record s { moved = c.clear.new.self } =
@@ -78,7 +82,8 @@ copy_needed-requires-clause-moving g c told =
     let within : from < m.blocks = light.1 in
     let same = ap (λ (q : LayerState). vec_capacity q.moved) e.state in
     let kept = c.clear.ensures.capacity in
-    moving_none m look s sound agreed c.requires.full (c.in_ok-erase_block.ensures.done told) (e.time told).blocks t
+    moving_none m look s sound agreed c.requires.full (c.in_ok-erase_block.ensures.done told)
+    (e.accounts.time told).blocks t
     state (omega (arith, same, kept)) c.clear.ensures.items
     from s.spare refl within (λ same. c.if-victim-target.false same)
 
@@ -88,14 +93,14 @@ returns-in_err-copy_needed-clause-fits g c told =
     let m = g.F.Flash.medium c.args.self.now.flash in
     let look = g.F.Flash.medium c.erase_block.new.self.flash in
     let e = c.erase_block.ensures in
-    let sound : IsSound m s = c.requires.sound told in
+    let sound : IsSound m s = c.requires.ready.sound told in
     let agreed : IsFalse s.disputed = c.if-self.false in
     let now = g.F.Flash.medium c.copy_needed.new.self.flash in
     let t = c.copy_needed.new.self.state in
     let n = c.copy_needed.ensures in
     let blank = c.in_ok-erase_block.ensures.done told in
-    let same_blocks : now.blocks ≡ m.blocks = (n.time told).blocks ∙ (e.time told).blocks in
-    let keeps = keeps_on m look s sound agreed (e.time told).blocks
+    let same_blocks : now.blocks ≡ m.blocks = (n.accounts.time told).blocks ∙ (e.accounts.time told).blocks in
+    let keeps = keeps_on m look s sound agreed (e.accounts.time told).blocks
     (erase_keeps_all m look s sound agreed c.requires.full blank) now.state.pages (n.keeps told) in
     let same_table : t.table ≡ s.table = ap (λ (q : LayerState). q.table) n.state
     ∙ ap (λ (q : LayerState). q.table) e.state in
@@ -107,51 +112,58 @@ returns-in_err-copy_needed-clause-does g c told =
     let m = g.F.Flash.medium c.args.self.now.flash in
     let look = g.F.Flash.medium c.erase_block.new.self.flash in
     let e = c.erase_block.ensures in
-    let sound : IsSound m s = c.requires.sound told in
+    let sound : IsSound m s = c.requires.ready.sound told in
     let agreed : IsFalse s.disputed = c.if-self.false in
     let now = g.F.Flash.medium c.copy_needed.new.self.flash in
     let t = c.copy_needed.new.self.state in
     let n = c.copy_needed.ensures in
     let blank = c.in_ok-erase_block.ensures.done told in
-    let same_blocks : now.blocks ≡ m.blocks = (n.time told).blocks ∙ (e.time told).blocks in
-    let keeps = keeps_on m look s sound agreed (e.time told).blocks
+    let same_blocks : now.blocks ≡ m.blocks = (n.accounts.time told).blocks ∙ (e.accounts.time told).blocks in
+    let keeps = keeps_on m look s sound agreed (e.accounts.time told).blocks
     (erase_keeps_all m look s sound agreed c.requires.full blank) now.state.pages (n.keeps told) in
     let same_table : t.table ≡ s.table = ap (λ (q : LayerState). q.table) n.state
     ∙ ap (λ (q : LayerState). q.table) e.state in
-    stands_then m look now (e.time told) (n.time told) (erase_stands m look s sound agreed c.requires.full
+    stands_then m look now (e.accounts.time told) (n.accounts.time told)
+    (erase_stands m look s sound agreed c.requires.full
     c.erase_block.result (e.done told) (e.failed told) (e.during told)) (n.does told)
 
-pub returns-clause-sound : goal.returns-clause-sound
-returns-clause-sound g c told =
-    let s = c.args.self.now.state in
-    let m = g.F.Flash.medium c.args.self.now.flash in
-    let look = g.F.Flash.medium c.erase_block.new.self.flash in
-    let e = c.erase_block.ensures in
-    let sound : IsSound m s = c.requires.sound told in
-    let agreed : IsFalse s.disputed = c.if-self.false in
-    let now = g.F.Flash.medium c.copy_needed.new.self.flash in
-    let t = c.copy_needed.new.self.state in
-    let n = c.copy_needed.ensures in
-    let blank = c.in_ok-erase_block.ensures.done told in
-    let same_blocks : now.blocks ≡ m.blocks = (n.time told).blocks ∙ (e.time told).blocks in
-    let keeps = keeps_on m look s sound agreed (e.time told).blocks
-    (erase_keeps_all m look s sound agreed c.requires.full blank) now.state.pages (n.keeps told) in
-    let same_table : t.table ≡ s.table = ap (λ (q : LayerState). q.table) n.state
-    ∙ ap (λ (q : LayerState). q.table) e.state in
-    let from = c.lightest_but-victim.result in
-    let to = s.spare in
-    let moving : IsMoving now.state.pages now.blocks t from to 64 = c.in_ok-copy_needed.ensures.moving told in
-    let p = c.put_all.ensures in
-    let items : c.deref.result.now ≡ t.moved.items = c.deref.ensures.value in
-    let known_all = subst (All (λ (q : FilePage × Newest). IsSome (known t.table q.0))) (sym items)
-    (all_known now t from to moving) in
-    let room = moving.sound.knows.led.room in
-    let puts = subst (PutsAll t.table c.put_all.new.self) items (p.put known_all room) in
-    let long = t.moved.ok.0 in let count = c.len.ensures in let least = c.min.ensures in
-    finished now t from to moving c.put_all.new.self puts (p.len known_all room) (p.room known_all room) p.limit p.lens
-    (p.stays known_all room) c.min.result (omega (arith, long, count, least))
-    (λ counted inside. p.counted now.blocks (subst (All (λ (q : FilePage × Newest). IsInside now.blocks q.1))
-    (sym items) inside) counted)
+pub returns-clause-ready : goal.returns-clause-ready
+returns-clause-ready g c = record {
+  sure = ap (λ (q : LayerState). q.unsure) c.copy_needed.ensures.state
+      ∙ (ap (λ (q : LayerState). q.unsure) c.erase_block.ensures.state ∙ c.requires.ready.sure);
+  sound = λ told.
+      let s = c.args.self.now.state in
+      let m = g.F.Flash.medium c.args.self.now.flash in
+      let look = g.F.Flash.medium c.erase_block.new.self.flash in
+      let e = c.erase_block.ensures in
+      let sound : IsSound m s = c.requires.ready.sound told in
+      let agreed : IsFalse s.disputed = c.if-self.false in
+      let now = g.F.Flash.medium c.copy_needed.new.self.flash in
+      let t = c.copy_needed.new.self.state in
+      let n = c.copy_needed.ensures in
+      let blank = c.in_ok-erase_block.ensures.done told in
+      let same_blocks : now.blocks ≡ m.blocks = (n.accounts.time told).blocks ∙ (e.accounts.time told).blocks in
+      let keeps = keeps_on m look s sound agreed (e.accounts.time told).blocks
+      (erase_keeps_all m look s sound agreed c.requires.full blank) now.state.pages (n.keeps told) in
+      let same_table : t.table ≡ s.table = ap (λ (q : LayerState). q.table) n.state
+      ∙ ap (λ (q : LayerState). q.table) e.state in
+      let from = c.lightest_but-victim.result in
+      let to = s.spare in
+      let moving : IsMoving now.state.pages now.blocks t from to 64 = c.in_ok-copy_needed.ensures.moving told in
+      let p = c.put_all.ensures in
+      let items : c.deref.result.now ≡ t.moved.items = c.deref.ensures.value in
+      let known_all = subst (All (λ (q : FilePage × Newest). IsSome (known t.table q.0))) (sym items)
+      (all_known now t from to moving) in
+      let room = moving.sound.knows.led.room in
+      let puts = subst (PutsAll t.table c.put_all.new.self) items (p.put known_all room) in
+      let long = t.moved.ok.0 in let count = c.len.ensures in let least = c.min.ensures in
+      finished now t from to moving c.put_all.new.self puts (p.len known_all room) (p.room known_all room)
+      p.bounds.limit
+      p.bounds.lens
+      (p.stays known_all room) c.min.result (omega (arith, long, count, least))
+      (λ counted inside. p.counted now.blocks (subst (All (λ (q : FilePage × Newest). IsInside now.blocks q.1))
+      (sym items) inside) counted);
+}
 
 pub returns-clause-fits : goal.returns-clause-fits
 returns-clause-fits g c told =
@@ -159,14 +171,14 @@ returns-clause-fits g c told =
     let m = g.F.Flash.medium c.args.self.now.flash in
     let look = g.F.Flash.medium c.erase_block.new.self.flash in
     let e = c.erase_block.ensures in
-    let sound : IsSound m s = c.requires.sound told in
+    let sound : IsSound m s = c.requires.ready.sound told in
     let agreed : IsFalse s.disputed = c.if-self.false in
     let now = g.F.Flash.medium c.copy_needed.new.self.flash in
     let t = c.copy_needed.new.self.state in
     let n = c.copy_needed.ensures in
     let blank = c.in_ok-erase_block.ensures.done told in
-    let same_blocks : now.blocks ≡ m.blocks = (n.time told).blocks ∙ (e.time told).blocks in
-    let keeps = keeps_on m look s sound agreed (e.time told).blocks
+    let same_blocks : now.blocks ≡ m.blocks = (n.accounts.time told).blocks ∙ (e.accounts.time told).blocks in
+    let keeps = keeps_on m look s sound agreed (e.accounts.time told).blocks
     (erase_keeps_all m look s sound agreed c.requires.full blank) now.state.pages (n.keeps told) in
     let same_table : t.table ≡ s.table = ap (λ (q : LayerState). q.table) n.state
     ∙ ap (λ (q : LayerState). q.table) e.state in
@@ -182,7 +194,7 @@ returns-clause-fits g c told =
     fits_kept m now s (record t { table = c.put_all.new.self; fill = c.min.result; current = to; spare = from }) sound
     agreed keeps same_blocks
     (λ key has. places_stay now t from to moving c.put_all.new.self puts (p.len known_all room) (p.room known_all room)
-    p.limit p.lens (p.stays known_all room) key (subst (λ q. HasPlace q key) (sym same_table) has))
+    p.bounds.limit p.bounds.lens (p.stays known_all room) key (subst (λ q. HasPlace q key) (sym same_table) has))
 
 pub returns-clause-shown : goal.returns-clause-shown
 returns-clause-shown g c told =
@@ -190,14 +202,14 @@ returns-clause-shown g c told =
     let m = g.F.Flash.medium c.args.self.now.flash in
     let look = g.F.Flash.medium c.erase_block.new.self.flash in
     let e = c.erase_block.ensures in
-    let sound : IsSound m s = c.requires.sound told in
+    let sound : IsSound m s = c.requires.ready.sound told in
     let agreed : IsFalse s.disputed = c.if-self.false in
     let now = g.F.Flash.medium c.copy_needed.new.self.flash in
     let t = c.copy_needed.new.self.state in
     let n = c.copy_needed.ensures in
     let blank = c.in_ok-erase_block.ensures.done told in
-    let same_blocks : now.blocks ≡ m.blocks = (n.time told).blocks ∙ (e.time told).blocks in
-    let keeps = keeps_on m look s sound agreed (e.time told).blocks
+    let same_blocks : now.blocks ≡ m.blocks = (n.accounts.time told).blocks ∙ (e.accounts.time told).blocks in
+    let keeps = keeps_on m look s sound agreed (e.accounts.time told).blocks
     (erase_keeps_all m look s sound agreed c.requires.full blank) now.state.pages (n.keeps told) in
     shows_same m now s sound agreed keeps same_blocks
 
@@ -207,24 +219,25 @@ returns-clause-does g c told =
     let m = g.F.Flash.medium c.args.self.now.flash in
     let look = g.F.Flash.medium c.erase_block.new.self.flash in
     let e = c.erase_block.ensures in
-    let sound : IsSound m s = c.requires.sound told in
+    let sound : IsSound m s = c.requires.ready.sound told in
     let agreed : IsFalse s.disputed = c.if-self.false in
     let now = g.F.Flash.medium c.copy_needed.new.self.flash in
     let t = c.copy_needed.new.self.state in
     let n = c.copy_needed.ensures in
     let blank = c.in_ok-erase_block.ensures.done told in
-    let same_blocks : now.blocks ≡ m.blocks = (n.time told).blocks ∙ (e.time told).blocks in
-    let keeps = keeps_on m look s sound agreed (e.time told).blocks
+    let same_blocks : now.blocks ≡ m.blocks = (n.accounts.time told).blocks ∙ (e.accounts.time told).blocks in
+    let keeps = keeps_on m look s sound agreed (e.accounts.time told).blocks
     (erase_keeps_all m look s sound agreed c.requires.full blank) now.state.pages (n.keeps told) in
     let same_table : t.table ≡ s.table = ap (λ (q : LayerState). q.table) n.state
     ∙ ap (λ (q : LayerState). q.table) e.state in
-    stands_then m look now (e.time told) (n.time told) (erase_stands m look s sound agreed c.requires.full
+    stands_then m look now (e.accounts.time told) (n.accounts.time told)
+    (erase_stands m look s sound agreed c.requires.full
     c.erase_block.result (e.done told) (e.failed told) (e.during told)) (n.does told)
 
 pub returns-then-self-clause-own : goal.returns-then-self-clause-own
 returns-then-self-clause-own g c told calm =
     let s = c.args.self.now.state in
-    let sound : IsSound (g.F.Flash.medium c.args.self.now.flash) s = c.requires.sound told in
+    let sound : IsSound (g.F.Flash.medium c.args.self.now.flash) s = c.requires.ready.sound told in
     let light = light_enough (g.F.Flash.medium c.args.self.now.flash).blocks s.table s.spare
     c.lightest_but-victim.result sound.counted
     c.lightest_but-victim.ensures.within c.lightest_but-victim.ensures.lightest in
@@ -246,7 +259,7 @@ pub returns-clause-light : goal.returns-clause-light
 returns-clause-light g c told =
     let s = c.args.self.now.state in
     let m = g.F.Flash.medium c.args.self.now.flash in
-    let sound : IsSound m s = c.requires.sound told in
+    let sound : IsSound m s = c.requires.ready.sound told in
     let from = c.lightest_but-victim.result in
     let light = light_enough m.blocks s.table s.spare from sound.counted c.lightest_but-victim.ensures.within
     c.lightest_but-victim.ensures.lightest in
@@ -274,17 +287,17 @@ returns-clause-entries g c told =
     let room = moving.sound.knows.led.room in
     let puts = subst (PutsAll t.table c.put_all.new.self) items (p.put known_all room) in
     subst (λ was. SameEntries was c.put_all.new.self) same_table
-    (entries_stay now t from to moving c.put_all.new.self puts (p.len known_all room) (p.room known_all room) p.limit
-    p.lens (p.stays known_all room))
+    (entries_stay now t from to moving c.put_all.new.self puts (p.len known_all room) (p.room known_all room)
+    p.bounds.limit
+    p.bounds.lens (p.stays known_all room))
 
-pub returns-in_err-copy_needed-clause-time : goal.returns-in_err-copy_needed-clause-time
-returns-in_err-copy_needed-clause-time g c told =
-    elapses_then (g.F.Flash.medium c.args.self.now.flash) (g.F.Flash.medium c.erase_block.new.self.flash)
-    (g.F.Flash.medium c.copy_needed.new.self.flash) (c.erase_block.ensures.time told)
-    (c.copy_needed.ensures.time told)
+pub returns-in_err-copy_needed-clause-accounts : goal.returns-in_err-copy_needed-clause-accounts
+returns-in_err-copy_needed-clause-accounts g c =
+    accounts_fails c.from_residual-in_err-copy_needed.result _ c.from_residual-in_err-copy_needed.ensures.1
+    (accounts_on 0 0 0 (omega arith) (accounts_here refl refl refl refl c.in_ok-erase_block.ensures.accounts)
+    c.in_err-copy_needed.ensures.accounts)
 
-pub returns-clause-time : goal.returns-clause-time
-returns-clause-time g c told =
-    elapses_then (g.F.Flash.medium c.args.self.now.flash) (g.F.Flash.medium c.erase_block.new.self.flash)
-    (g.F.Flash.medium c.copy_needed.new.self.flash) (c.erase_block.ensures.time told)
-    (c.copy_needed.ensures.time told)
+pub returns-clause-accounts : goal.returns-clause-accounts
+returns-clause-accounts g c = accounts_here refl refl refl refl
+    (accounts_on 0 0 0 (omega arith) (accounts_here refl refl refl refl c.in_ok-erase_block.ensures.accounts)
+    c.in_ok-copy_needed.ensures.accounts)

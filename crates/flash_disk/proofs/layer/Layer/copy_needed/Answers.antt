@@ -3,17 +3,17 @@ use Rattle.flash_disk.specs.declared.layer.LayerState.{LayerState}
 use Rattle.flash_disk.specs.Newest.{places}
 use Rattle.flash_disk.specs.Standing.{StandsFor}
 use Rattle.flash_disk.proofs.Standing.{keeps_refl}
-use Rattle.flash_disk.proofs.Stretches.{does_nothing, elapses_refl, elapses_then}
+use Rattle.flash_disk.proofs.Stretches.{does_nothing}
 use Rattle.flash_disk.proofs.Spreading.{copied_in, fewer_copied}
 use Rattle.flash_disk.proofs.Moving.{stands_now, stands_then, keeps_on}
-use Rattle.flash_disk.proofs.Accounting.{counted_none, counted_on}
+use Rattle.flash_disk.proofs.Accounting.{accounts_fails, accounts_on, counted_none, counted_on}
 use Rattle.flash_disk.proofs.layer.Layer.copy_needed.Goals as goal
 
 pub loop-page-init : goal.loop-page-init
 loop-page-init g c =
     let m = g.F.Flash.medium c.args.self.now.flash in
     let lawful = g.met.F.Flash.lawful c.args.self.now.flash in record {
-      counts = counted_none g.F.Flash.medium 0 c.args.self.now;
+      counts = counted_none 0 c.args.self.now lawful;
       few = (let none = c.requires.none in omega (arith, none));
       count = (let none = c.requires.none in omega (arith, none));
       state = refl;
@@ -21,7 +21,6 @@ loop-page-init g c =
       keeps = λ told. keeps_refl m.state.pages (places m.blocks);
       does = λ told. does_nothing m m (StandsFor m) refl (λ x past. lawful.only_now x past)
           (stands_now m c.args.self.now.state (c.requires.moving told).sound);
-      time = λ told. elapses_refl g.F.Flash.told m lawful told;
     }
 
 pub returns-in_err-copy_one-clause-keeps : goal.returns-in_err-copy_one-clause-keeps
@@ -31,7 +30,8 @@ returns-in_err-copy_one-clause-keeps g c told =
     let now = g.F.Flash.medium c.copy_one.new.self.flash in
     let i = c.loop-page.invariant in
     let start = c.requires.moving told in
-    keeps_on m mid c.args.self.now.state start.sound start.agreed (i.time told).blocks (i.keeps told) now.state.pages
+    keeps_on m mid c.args.self.now.state start.sound start.agreed (i.counts.time told).blocks (i.keeps told)
+    now.state.pages
     (c.copy_one.ensures.keeps told)
 
 pub returns-in_err-copy_one-clause-does : goal.returns-in_err-copy_one-clause-does
@@ -40,7 +40,8 @@ returns-in_err-copy_one-clause-does g c told =
     let mid = g.F.Flash.medium c.loop-page.self.flash in
     let now = g.F.Flash.medium c.copy_one.new.self.flash in
     let i = c.loop-page.invariant in
-    stands_then m mid now (i.time told) (c.copy_one.ensures.time told) (i.does told) (c.copy_one.ensures.does told)
+    stands_then m mid now (i.counts.time told) (c.copy_one.ensures.accounts.time told) (i.does told)
+    (c.copy_one.ensures.does told)
 
 pub loop-page-preserved : goal.loop-page-preserved
 loop-page-preserved g c =
@@ -49,7 +50,7 @@ loop-page-preserved g c =
     let now = g.F.Flash.medium c.copy_one.new.self.flash in
     let i = c.loop-page.invariant in
     let e = c.copy_one.ensures in record {
-      counts = counted_on g.F.Flash.medium 0 0 0 (omega arith) i.counts c.in_ok-copy_one.ensures.accounts;
+      counts = counted_on 0 0 0 (omega arith) i.counts c.in_ok-copy_one.ensures.accounts;
       few = fewer_copied c.args.self.now.state c.loop-page.self.state c.copy_one.new.self.state c.args.from
           c.loop-page.page (ap (λ (q : LayerState). q.table) i.state) i.few e.few;
       count = (let was = i.count in let one = e.count in omega (arith, was, one));
@@ -57,10 +58,9 @@ loop-page-preserved g c =
           record q { moved = c.copy_one.new.self.state.moved } in z) i.state;
       moving = λ told. c.in_ok-copy_one.ensures.moving told;
       keeps = λ told. let start = c.requires.moving told in
-          keeps_on m mid c.args.self.now.state start.sound start.agreed (i.time told).blocks (i.keeps told)
+          keeps_on m mid c.args.self.now.state start.sound start.agreed (i.counts.time told).blocks (i.keeps told)
           now.state.pages (e.keeps told);
-      does = λ told. stands_then m mid now (i.time told) (e.time told) (i.does told) (e.does told);
-      time = λ told. elapses_then m mid now (i.time told) (e.time told);
+      does = λ told. stands_then m mid now (i.counts.time told) (e.accounts.time told) (i.does told) (e.does told);
     }
 
 pub returns-clause-few : goal.returns-clause-few
@@ -83,7 +83,6 @@ returns-in_err-copy_one-clause-own g c told =
 pub returns-clause-own : goal.returns-clause-own
 returns-clause-own g c told = c.loop-page.invariant.counts.kept
 
-pub returns-in_err-copy_one-clause-time : goal.returns-in_err-copy_one-clause-time
-returns-in_err-copy_one-clause-time g c told =
-    elapses_then (g.F.Flash.medium c.args.self.now.flash) (g.F.Flash.medium c.loop-page.self.flash)
-    (g.F.Flash.medium c.copy_one.new.self.flash) (c.loop-page.invariant.time told) (c.copy_one.ensures.time told)
+pub returns-in_err-copy_one-clause-accounts : goal.returns-in_err-copy_one-clause-accounts
+returns-in_err-copy_one-clause-accounts g c = accounts_fails c.from_residual.result _ c.from_residual.ensures.1
+    (accounts_on 0 0 0 (omega arith) c.loop-page.invariant.counts c.in_err-copy_one.ensures.accounts)

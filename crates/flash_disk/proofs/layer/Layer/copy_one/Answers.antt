@@ -8,68 +8,70 @@ use Rattle.flash_disk.specs.declared.layer.LayerState.{LayerState}
 use Rattle.flash_disk.specs.Known.{known}
 use Rattle.flash_disk.specs.Newest.{places}
 use Rattle.flash_disk.specs.Does.{Does}
-use Rattle.flash_disk.specs.Standing.{Keeps, StandsFor}
+use Rattle.flash_disk.specs.Standing.{KeepsRecords, StandsFor}
 use Rattle.flash_disk.specs.Sound.{IsSound}
 use Rattle.flash_disk.proofs.Entering.{as_said}
 use Rattle.flash_disk.specs.Moving.{IsMoving}
 use Rattle.flash_disk.proofs.Moving.{differ, same_places, found_same, on_err, stands_then, looked_up, passed_over}
 use Rattle.flash_disk.proofs.Moving.{copy_failed_keeps, copy_failed_sound, copy_keeps_all, copy_sound, copy_does}
 use Rattle.flash_disk.proofs.Moving.{copied, looked, look_keeps, keeps_since, look_stands}
-use Rattle.flash_disk.proofs.Stretches.{elapses_then}
-use Rattle.flash_model.specs.FlashMedium.{FlashElapses}
-use Rattle.flash_disk.proofs.Accounting.{accounts_on}
+use Rattle.flash_disk.proofs.Accounting.{accounts_fails, accounts_here, accounts_on}
 use Rattle.flash_disk.proofs.layer.Layer.copy_one.Goals as goal
 
 pub returns-in_err-read_page-clause-keeps : goal.returns-in_err-read_page-clause-keeps
 returns-in_err-read_page-clause-keeps g c told =
     let m = g.F.Flash.medium c.args.self.now.flash in
     let look = g.F.Flash.medium c.read_page.new.self.flash in
-    let e = c.read_page.ensures in
+    let e = c.read_page.ensures.reads.only in
     look_keeps m look (e.looks.state told) e.blocks
 
 pub returns-in_err-read_page-clause-does : goal.returns-in_err-read_page-clause-does
 returns-in_err-read_page-clause-does g c told =
     let m = g.F.Flash.medium c.args.self.now.flash in
     let look = g.F.Flash.medium c.read_page.new.self.flash in
-    let e = c.read_page.ensures in
-    look_stands m look (e.looks.state told) e.blocks e.during c.args.self.now.state (c.requires.moving told).sound
+    let e = c.read_page.ensures.reads.only in
+    look_stands m look (e.looks.state told) e.blocks c.read_page.ensures.during c.args.self.now.state
+    (c.requires.moving told).sound
 
 pub returns-in_default-clause-keeps : goal.returns-in_default-clause-keeps
 returns-in_default-clause-keeps g c told =
     let m = g.F.Flash.medium c.args.self.now.flash in
     let look = g.F.Flash.medium c.read_page.new.self.flash in
-    let e = c.read_page.ensures in
+    let e = c.read_page.ensures.reads.only in
     look_keeps m look (e.looks.state told) e.blocks
 
 pub returns-in_default-clause-does : goal.returns-in_default-clause-does
 returns-in_default-clause-does g c told =
     let m = g.F.Flash.medium c.args.self.now.flash in
     let look = g.F.Flash.medium c.read_page.new.self.flash in
-    let e = c.read_page.ensures in
-    look_stands m look (e.looks.state told) e.blocks e.during c.args.self.now.state (c.requires.moving told).sound
+    let e = c.read_page.ensures.reads.only in
+    look_stands m look (e.looks.state told) e.blocks c.read_page.ensures.during c.args.self.now.state
+    (c.requires.moving told).sound
 
 pub returns-then-ne-clause-keeps : goal.returns-then-ne-clause-keeps
 returns-then-ne-clause-keeps g c told =
     let m = g.F.Flash.medium c.args.self.now.flash in
     let look = g.F.Flash.medium c.read_page.new.self.flash in
-    let e = c.read_page.ensures in
+    let e = c.read_page.ensures.reads.only in
     look_keeps m look (e.looks.state told) e.blocks
 
 pub returns-then-ne-clause-does : goal.returns-then-ne-clause-does
 returns-then-ne-clause-does g c told =
     let m = g.F.Flash.medium c.args.self.now.flash in
     let look = g.F.Flash.medium c.read_page.new.self.flash in
-    let e = c.read_page.ensures in
-    look_stands m look (e.looks.state told) e.blocks e.during c.args.self.now.state (c.requires.moving told).sound
+    let e = c.read_page.ensures.reads.only in
+    look_stands m look (e.looks.state told) e.blocks c.read_page.ensures.during c.args.self.now.state
+    (c.requires.moving told).sound
 
 pub returns-in_default-clause-moving : goal.returns-in_default-clause-moving
 returns-in_default-clause-moving g c told =
     let m = g.F.Flash.medium c.args.self.now.flash in
     let look = g.F.Flash.medium c.read_page.new.self.flash in
-    let e = c.read_page.ensures in
+    let e = c.read_page.ensures.reads.only in
     let s = c.read_page.new.self.state in
     let moving : IsMoving look.state.pages look.blocks s c.args.from.block c.args.to c.args.from.page =
-    looked m look (e.looks.state told) e.blocks c.args.self.now.state s e.state c.args.from.block c.args.to
+    looked m look (e.looks.state told) e.blocks c.args.self.now.state s c.read_page.ensures.reads.state
+    c.args.from.block c.args.to
     c.args.from.page (c.requires.moving told) in
     let read = c.in_ok-read_page.ensures.bytes told (c.requires.moving told).within c.requires.page
     ∙ ap (λ z. z.pages c.args.from.block c.args.from.page) (sym (e.looks.state told)) in
@@ -82,10 +84,11 @@ pub returns-then-ne-clause-moving : goal.returns-then-ne-clause-moving
 returns-then-ne-clause-moving g c told =
     let m = g.F.Flash.medium c.args.self.now.flash in
     let look = g.F.Flash.medium c.read_page.new.self.flash in
-    let e = c.read_page.ensures in
+    let e = c.read_page.ensures.reads.only in
     let s = c.read_page.new.self.state in
     let moving : IsMoving look.state.pages look.blocks s c.args.from.block c.args.to c.args.from.page =
-    looked m look (e.looks.state told) e.blocks c.args.self.now.state s e.state c.args.from.block c.args.to
+    looked m look (e.looks.state told) e.blocks c.args.self.now.state s c.read_page.ensures.reads.state
+    c.args.from.block c.args.to
     c.args.from.page (c.requires.moving told) in
     let read = c.in_ok-read_page.ensures.bytes told (c.requires.moving told).within c.requires.page
     ∙ ap (λ z. z.pages c.args.from.block c.args.from.page) (sym (e.looks.state told)) in
@@ -103,10 +106,11 @@ pub returns-in_err-program_page-clause-keeps : goal.returns-in_err-program_page-
 returns-in_err-program_page-clause-keeps g c told =
     let m = g.F.Flash.medium c.args.self.now.flash in
     let look = g.F.Flash.medium c.read_page.new.self.flash in
-    let e = c.read_page.ensures in
+    let e = c.read_page.ensures.reads.only in
     let s = c.read_page.new.self.state in
     let moving : IsMoving look.state.pages look.blocks s c.args.from.block c.args.to c.args.from.page =
-    looked m look (e.looks.state told) e.blocks c.args.self.now.state s e.state c.args.from.block c.args.to
+    looked m look (e.looks.state told) e.blocks c.args.self.now.state s c.read_page.ensures.reads.state
+    c.args.from.block c.args.to
     c.args.from.page (c.requires.moving told) in
     let read = c.in_ok-read_page.ensures.bytes told (c.requires.moving told).within c.requires.page
     ∙ ap (λ z. z.pages c.args.from.block c.args.from.page) (sym (e.looks.state told)) in
@@ -127,10 +131,11 @@ pub returns-in_err-program_page-clause-failed : goal.returns-in_err-program_page
 returns-in_err-program_page-clause-failed g c told =
     let m = g.F.Flash.medium c.args.self.now.flash in
     let look = g.F.Flash.medium c.read_page.new.self.flash in
-    let e = c.read_page.ensures in
+    let e = c.read_page.ensures.reads.only in
     let s = c.read_page.new.self.state in
     let moving : IsMoving look.state.pages look.blocks s c.args.from.block c.args.to c.args.from.page =
-    looked m look (e.looks.state told) e.blocks c.args.self.now.state s e.state c.args.from.block c.args.to
+    looked m look (e.looks.state told) e.blocks c.args.self.now.state s c.read_page.ensures.reads.state
+    c.args.from.block c.args.to
     c.args.from.page (c.requires.moving told) in
     let read = c.in_ok-read_page.ensures.bytes told (c.requires.moving told).within c.requires.page
     ∙ ap (λ z. z.pages c.args.from.block c.args.from.page) (sym (e.looks.state told)) in
@@ -145,16 +150,17 @@ returns-in_err-program_page-clause-failed g c told =
     on_err c.from_residual-in_err-program_page.result (subst (IsSound now) (sym p.state)
     (copy_failed_sound look s c.args.from.block c.args.to c.args.from.page moving c.requires.page
     c.read_page.new.out read key old is at.0 at.1 c.len.result long now
-    (c.in_err-program_page.ensures.failed told) (p.time told).blocks))
+    (c.in_err-program_page.ensures.failed told) (p.accounts.time told).blocks))
 
 pub returns-in_err-program_page-clause-does : goal.returns-in_err-program_page-clause-does
 returns-in_err-program_page-clause-does g c told =
     let m = g.F.Flash.medium c.args.self.now.flash in
     let look = g.F.Flash.medium c.read_page.new.self.flash in
-    let e = c.read_page.ensures in
+    let e = c.read_page.ensures.reads.only in
     let s = c.read_page.new.self.state in
     let moving : IsMoving look.state.pages look.blocks s c.args.from.block c.args.to c.args.from.page =
-    looked m look (e.looks.state told) e.blocks c.args.self.now.state s e.state c.args.from.block c.args.to
+    looked m look (e.looks.state told) e.blocks c.args.self.now.state s c.read_page.ensures.reads.state
+    c.args.from.block c.args.to
     c.args.from.page (c.requires.moving told) in
     let read = c.in_ok-read_page.ensures.bytes told (c.requires.moving told).within c.requires.page
     ∙ ap (λ z. z.pages c.args.from.block c.args.from.page) (sym (e.looks.state told)) in
@@ -166,8 +172,9 @@ returns-in_err-program_page-clause-does g c told =
     let now = g.F.Flash.medium c.program_page.new.self.flash in
     let long : c.len.result ≡ length s.moved.items = c.len.ensures ∙ s.moved.ok.0 in
     let p = c.program_page.ensures in
-    stands_then m look now (e.looks.time told) (p.time told)
-    (look_stands m look (e.looks.state told) e.blocks e.during c.args.self.now.state (c.requires.moving told).sound)
+    stands_then m look now (e.looks.time told) (p.accounts.time told)
+    (look_stands m look (e.looks.state told) e.blocks c.read_page.ensures.during c.args.self.now.state
+    (c.requires.moving told).sound)
     (copy_does look s c.args.from.block c.args.to c.args.from.page moving c.requires.page c.read_page.new.out read key
     old is at.0 at.1 c.len.result long now c.program_page.result (p.done told) (p.failed told) (p.during told))
 
@@ -175,10 +182,11 @@ pub returns-then-is_err-clause-does : goal.returns-then-is_err-clause-does
 returns-then-is_err-clause-does g c told =
     let m = g.F.Flash.medium c.args.self.now.flash in
     let look = g.F.Flash.medium c.read_page.new.self.flash in
-    let e = c.read_page.ensures in
+    let e = c.read_page.ensures.reads.only in
     let s = c.read_page.new.self.state in
     let moving : IsMoving look.state.pages look.blocks s c.args.from.block c.args.to c.args.from.page =
-    looked m look (e.looks.state told) e.blocks c.args.self.now.state s e.state c.args.from.block c.args.to
+    looked m look (e.looks.state told) e.blocks c.args.self.now.state s c.read_page.ensures.reads.state
+    c.args.from.block c.args.to
     c.args.from.page (c.requires.moving told) in
     let read = c.in_ok-read_page.ensures.bytes told (c.requires.moving told).within c.requires.page
     ∙ ap (λ z. z.pages c.args.from.block c.args.from.page) (sym (e.looks.state told)) in
@@ -191,8 +199,9 @@ returns-then-is_err-clause-does g c told =
     let long : c.len.result ≡ length s.moved.items = c.len.ensures ∙ s.moved.ok.0 in
     let p = c.program_page.ensures in
     subst (λ f. Does (StandsFor m) m (g.F.Flash.medium f)) (sym c.fault.ensures.flash) (
-    stands_then m look now (e.looks.time told) (p.time told)
-    (look_stands m look (e.looks.state told) e.blocks e.during c.args.self.now.state (c.requires.moving told).sound)
+    stands_then m look now (e.looks.time told) (p.accounts.time told)
+    (look_stands m look (e.looks.state told) e.blocks c.read_page.ensures.during c.args.self.now.state
+    (c.requires.moving told).sound)
     (copy_does look s c.args.from.block c.args.to c.args.from.page moving c.requires.page c.read_page.new.out read key
     old is at.0 at.1 c.len.result long now c.program_page.result (p.done told) (p.failed told) (p.during told)))
 
@@ -200,10 +209,11 @@ pub returns-clause-does : goal.returns-clause-does
 returns-clause-does g c told =
     let m = g.F.Flash.medium c.args.self.now.flash in
     let look = g.F.Flash.medium c.read_page.new.self.flash in
-    let e = c.read_page.ensures in
+    let e = c.read_page.ensures.reads.only in
     let s = c.read_page.new.self.state in
     let moving : IsMoving look.state.pages look.blocks s c.args.from.block c.args.to c.args.from.page =
-    looked m look (e.looks.state told) e.blocks c.args.self.now.state s e.state c.args.from.block c.args.to
+    looked m look (e.looks.state told) e.blocks c.args.self.now.state s c.read_page.ensures.reads.state
+    c.args.from.block c.args.to
     c.args.from.page (c.requires.moving told) in
     let read = c.in_ok-read_page.ensures.bytes told (c.requires.moving told).within c.requires.page
     ∙ ap (λ z. z.pages c.args.from.block c.args.from.page) (sym (e.looks.state told)) in
@@ -215,8 +225,9 @@ returns-clause-does g c told =
     let now = g.F.Flash.medium c.program_page.new.self.flash in
     let long : c.len.result ≡ length s.moved.items = c.len.ensures ∙ s.moved.ok.0 in
     let p = c.program_page.ensures in
-    stands_then m look now (e.looks.time told) (p.time told)
-    (look_stands m look (e.looks.state told) e.blocks e.during c.args.self.now.state (c.requires.moving told).sound)
+    stands_then m look now (e.looks.time told) (p.accounts.time told)
+    (look_stands m look (e.looks.state told) e.blocks c.read_page.ensures.during c.args.self.now.state
+    (c.requires.moving told).sound)
     (copy_does look s c.args.from.block c.args.to c.args.from.page moving c.requires.page c.read_page.new.out read key
     old is at.0 at.1 c.len.result long now c.program_page.result (p.done told) (p.failed told) (p.during told))
 
@@ -224,10 +235,11 @@ pub returns-clause-keeps : goal.returns-clause-keeps
 returns-clause-keeps g c told =
     let m = g.F.Flash.medium c.args.self.now.flash in
     let look = g.F.Flash.medium c.read_page.new.self.flash in
-    let e = c.read_page.ensures in
+    let e = c.read_page.ensures.reads.only in
     let s = c.read_page.new.self.state in
     let moving : IsMoving look.state.pages look.blocks s c.args.from.block c.args.to c.args.from.page =
-    looked m look (e.looks.state told) e.blocks c.args.self.now.state s e.state c.args.from.block c.args.to
+    looked m look (e.looks.state told) e.blocks c.args.self.now.state s c.read_page.ensures.reads.state
+    c.args.from.block c.args.to
     c.args.from.page (c.requires.moving told) in
     let read = c.in_ok-read_page.ensures.bytes told (c.requires.moving told).within c.requires.page
     ∙ ap (λ z. z.pages c.args.from.block c.args.from.page) (sym (e.looks.state told)) in
@@ -247,10 +259,11 @@ pub returns-then-is_err-clause-keeps : goal.returns-then-is_err-clause-keeps
 returns-then-is_err-clause-keeps g c told =
     let m = g.F.Flash.medium c.args.self.now.flash in
     let look = g.F.Flash.medium c.read_page.new.self.flash in
-    let e = c.read_page.ensures in
+    let e = c.read_page.ensures.reads.only in
     let s = c.read_page.new.self.state in
     let moving : IsMoving look.state.pages look.blocks s c.args.from.block c.args.to c.args.from.page =
-    looked m look (e.looks.state told) e.blocks c.args.self.now.state s e.state c.args.from.block c.args.to
+    looked m look (e.looks.state told) e.blocks c.args.self.now.state s c.read_page.ensures.reads.state
+    c.args.from.block c.args.to
     c.args.from.page (c.requires.moving told) in
     let read = c.in_ok-read_page.ensures.bytes told (c.requires.moving told).within c.requires.page
     ∙ ap (λ z. z.pages c.args.from.block c.args.from.page) (sym (e.looks.state told)) in
@@ -262,7 +275,8 @@ returns-then-is_err-clause-keeps g c told =
     let now = g.F.Flash.medium c.program_page.new.self.flash in
     let long : c.len.result ≡ length s.moved.items = c.len.ensures ∙ s.moved.ok.0 in
     let p = c.program_page.ensures in
-    subst (λ f. Keeps m.state.pages (g.F.Flash.medium f).state.pages (places m.blocks)) (sym c.fault.ensures.flash)
+    subst (λ f. KeepsRecords m.state.pages (g.F.Flash.medium f).state.pages (places m.blocks))
+    (sym c.fault.ensures.flash)
     (keeps_since m look (e.looks.state told) e.blocks now.state.pages
     (copy_keeps_all look s c.args.from.block c.args.to c.args.from.page moving c.requires.page c.read_page.new.out
     read key old is at.0 at.1 c.len.result long now (c.in_ok-program_page.ensures.done told)))
@@ -271,10 +285,11 @@ pub returns-then-is_err-clause-failed : goal.returns-then-is_err-clause-failed
 returns-then-is_err-clause-failed g c told =
     let m = g.F.Flash.medium c.args.self.now.flash in
     let look = g.F.Flash.medium c.read_page.new.self.flash in
-    let e = c.read_page.ensures in
+    let e = c.read_page.ensures.reads.only in
     let s = c.read_page.new.self.state in
     let moving : IsMoving look.state.pages look.blocks s c.args.from.block c.args.to c.args.from.page =
-    looked m look (e.looks.state told) e.blocks c.args.self.now.state s e.state c.args.from.block c.args.to
+    looked m look (e.looks.state told) e.blocks c.args.self.now.state s c.read_page.ensures.reads.state
+    c.args.from.block c.args.to
     c.args.from.page (c.requires.moving told) in
     let read = c.in_ok-read_page.ensures.bytes told (c.requires.moving told).within c.requires.page
     ∙ ap (λ z. z.pages c.args.from.block c.args.from.page) (sym (e.looks.state told)) in
@@ -288,7 +303,7 @@ returns-then-is_err-clause-failed g c told =
     let p = c.program_page.ensures in
     let sound = copy_sound look s c.args.from.block c.args.to c.args.from.page moving c.requires.page
     c.read_page.new.out read key old is at.0 at.1 c.len.result long now (c.in_ok-program_page.ensures.done told)
-    (p.time told).blocks in
+    (p.accounts.time told).blocks in
     let state : c.fault.new.self.state ≡ record s { moved = c.push.new.self } =
     c.fault.ensures.state ∙ ap (λ (q : LayerState). let z : LayerState = record q { moved = c.push.new.self } in z)
     p.state in
@@ -302,10 +317,11 @@ pub returns-clause-moving : goal.returns-clause-moving
 returns-clause-moving g c told =
     let m = g.F.Flash.medium c.args.self.now.flash in
     let look = g.F.Flash.medium c.read_page.new.self.flash in
-    let e = c.read_page.ensures in
+    let e = c.read_page.ensures.reads.only in
     let s = c.read_page.new.self.state in
     let moving : IsMoving look.state.pages look.blocks s c.args.from.block c.args.to c.args.from.page =
-    looked m look (e.looks.state told) e.blocks c.args.self.now.state s e.state c.args.from.block c.args.to
+    looked m look (e.looks.state told) e.blocks c.args.self.now.state s c.read_page.ensures.reads.state
+    c.args.from.block c.args.to
     c.args.from.page (c.requires.moving told) in
     let read = c.in_ok-read_page.ensures.bytes told (c.requires.moving told).within c.requires.page
     ∙ ap (λ z. z.pages c.args.from.block c.args.from.page) (sym (e.looks.state told)) in
@@ -321,7 +337,7 @@ returns-clause-moving g c told =
     let state : t ≡ record s { moved = t.moved } = ap (λ (q : LayerState). let z : LayerState =
     record q { moved = c.push.new.self } in z) p.state in
     copied look s c.args.from.block c.args.to c.args.from.page moving c.requires.page c.read_page.new.out read key old
-    is at.0 at.1 c.len.result long now (c.in_ok-program_page.ensures.done told) (p.time told).blocks
+    is at.0 at.1 c.len.result long now (c.in_ok-program_page.ensures.done told) (p.accounts.time told).blocks
     (λ k entry found block page. let up = looked_up look s c.args.from.block c.args.to c.args.from.page moving
     c.requires.page c.read_page.new.out read
     c.newest_in.result c.newest_in.ensures.found k entry found block page in
@@ -340,31 +356,31 @@ returns-clause-moving g c told =
 
 pub returns-in_err-read_page-clause-few : goal.returns-in_err-read_page-clause-few
 returns-in_err-read_page-clause-few g c few = few_same c.args.self.now.state c.read_page.new.self.state
-    c.args.from.block c.args.from.page c.read_page.ensures.state few
+    c.args.from.block c.args.from.page c.read_page.ensures.reads.state few
 
 pub returns-in_err-read_page-clause-own : goal.returns-in_err-read_page-clause-own
-returns-in_err-read_page-clause-own g c told = c.read_page.ensures.own
+returns-in_err-read_page-clause-own g c told = c.read_page.ensures.reads.only.own
 
 pub returns-in_default-clause-few : goal.returns-in_default-clause-few
 returns-in_default-clause-few g c few = few_same c.args.self.now.state c.read_page.new.self.state c.args.from.block
-    c.args.from.page c.read_page.ensures.state few
+    c.args.from.page c.read_page.ensures.reads.state few
 
 pub returns-in_default-clause-own : goal.returns-in_default-clause-own
-returns-in_default-clause-own g c told = c.read_page.ensures.own
+returns-in_default-clause-own g c told = c.read_page.ensures.reads.only.own
 
 pub returns-then-ne-clause-few : goal.returns-then-ne-clause-few
 returns-then-ne-clause-few g c few = few_same c.args.self.now.state c.read_page.new.self.state c.args.from.block
-    c.args.from.page c.read_page.ensures.state few
+    c.args.from.page c.read_page.ensures.reads.state few
 
 pub returns-then-ne-clause-own : goal.returns-then-ne-clause-own
-returns-then-ne-clause-own g c told = c.read_page.ensures.own
+returns-then-ne-clause-own g c told = c.read_page.ensures.reads.only.own
 
 pub returns-in_err-program_page-clause-few : goal.returns-in_err-program_page-clause-few
 returns-in_err-program_page-clause-few g c few = few_same c.args.self.now.state c.program_page.new.self.state
-    c.args.from.block c.args.from.page (c.program_page.ensures.state ∙ c.read_page.ensures.state) few
+    c.args.from.block c.args.from.page (c.program_page.ensures.state ∙ c.read_page.ensures.reads.state) few
 
 pub returns-in_err-program_page-clause-own : goal.returns-in_err-program_page-clause-own
-returns-in_err-program_page-clause-own g c told = c.program_page.ensures.own told ∙ c.read_page.ensures.own
+returns-in_err-program_page-clause-own g c told = c.program_page.ensures.own told ∙ c.read_page.ensures.reads.only.own
 
 pub returns-then-is_err-clause-few : goal.returns-then-is_err-clause-few
 returns-then-is_err-clause-few g c few =
@@ -372,11 +388,11 @@ returns-then-is_err-clause-few g c few =
     let key = c.in-Some.key in
     let old = c.in-Some.old in
     let is : known start.table key ≡ Some old = ap (λ (q : LayerState). known q.table key)
-    (sym c.read_page.ensures.state) ∙ c.in-Some.ensures.known in
+    (sym c.read_page.ensures.reads.state) ∙ c.in-Some.ensures.known in
     let at = same_places old.place.block c.args.from.block old.place.page c.args.from.page c.ne.result c.ne.ensures
     c.if-ne.false in
     let moved : vec_len c.program_page.new.self.state.moved ≡ vec_len start.moved =
-    ap (λ (q : LayerState). vec_len q.moved) (c.program_page.ensures.state ∙ c.read_page.ensures.state) in
+    ap (λ (q : LayerState). vec_len q.moved) (c.program_page.ensures.state ∙ c.read_page.ensures.reads.state) in
     let now : vec_len c.fault.new.self.state.moved ≡ vec_len c.push.new.self =
     ap (λ (q : LayerState). vec_len q.moved) c.fault.ensures.state in
     few_more start.table c.args.from.block c.args.from.page key old is at.0 at.1 (vec_len start.moved)
@@ -386,7 +402,7 @@ returns-then-is_err-clause-few g c few =
 pub returns-then-is_err-clause-own : goal.returns-then-is_err-clause-own
 returns-then-is_err-clause-own g c told =
     let start = c.args.self.now.state in
-    let state = c.program_page.ensures.state ∙ c.read_page.ensures.state in
+    let state = c.program_page.ensures.state ∙ c.read_page.ensures.reads.state in
     let len : vec_len c.program_page.new.self.state.moved ≡ vec_len start.moved =
     ap (λ (q : LayerState). vec_len q.moved) state in
     let memory : vec_capacity c.program_page.new.self.state.moved ≡ vec_capacity start.moved =
@@ -398,7 +414,7 @@ returns-then-is_err-clause-own g c told =
     absurd (omega (arith, len, memory, full, count, page, enough))
 
 pub returns-clause-own : goal.returns-clause-own
-returns-clause-own g c told = c.program_page.ensures.own told ∙ c.read_page.ensures.own
+returns-clause-own g c told = c.program_page.ensures.own told ∙ c.read_page.ensures.reads.only.own
 
 pub returns-clause-few : goal.returns-clause-few
 returns-clause-few g c few =
@@ -406,47 +422,22 @@ returns-clause-few g c few =
     let key = c.in-Some.key in
     let old = c.in-Some.old in
     let is : known start.table key ≡ Some old = ap (λ (q : LayerState). known q.table key)
-    (sym c.read_page.ensures.state) ∙ c.in-Some.ensures.known in
+    (sym c.read_page.ensures.reads.state) ∙ c.in-Some.ensures.known in
     let at = same_places old.place.block c.args.from.block old.place.page c.args.from.page c.ne.result c.ne.ensures
     c.if-ne.false in
     let moved : vec_len c.program_page.new.self.state.moved ≡ vec_len start.moved =
-    ap (λ (q : LayerState). vec_len q.moved) (c.program_page.ensures.state ∙ c.read_page.ensures.state) in
+    ap (λ (q : LayerState). vec_len q.moved) (c.program_page.ensures.state ∙ c.read_page.ensures.reads.state) in
     let now : vec_len (let u : LayerState = record c.program_page.new.self.state { moved = c.push.new.self } in u).moved
     ≡ vec_len c.push.new.self = refl in
     few_more start.table c.args.from.block c.args.from.page key old is at.0 at.1 (vec_len start.moved)
     (vec_len (let u : LayerState = record c.program_page.new.self.state { moved = c.push.new.self } in u).moved) few
     (let up = c.push.ensures.upper_bound in omega (arith, moved, now, up))
 
-pub returns-in_err-program_page-clause-time : goal.returns-in_err-program_page-clause-time
-returns-in_err-program_page-clause-time g c told =
-    elapses_then (g.F.Flash.medium c.args.self.now.flash) (g.F.Flash.medium c.read_page.new.self.flash)
-    (g.F.Flash.medium c.program_page.new.self.flash) (c.read_page.ensures.looks.time told)
-    (c.program_page.ensures.time told)
-
-pub returns-clause-time : goal.returns-clause-time
-returns-clause-time g c told =
-    elapses_then (g.F.Flash.medium c.args.self.now.flash) (g.F.Flash.medium c.read_page.new.self.flash)
-    (g.F.Flash.medium c.program_page.new.self.flash) (c.read_page.ensures.looks.time told)
-    (c.program_page.ensures.time told)
-
-pub returns-then-is_err-clause-time : goal.returns-then-is_err-clause-time
-returns-then-is_err-clause-time g c told =
-    subst (λ f. FlashElapses (g.F.Flash.medium c.args.self.now.flash) (g.F.Flash.medium f)) (sym c.fault.ensures.flash)
-    (elapses_then (g.F.Flash.medium c.args.self.now.flash) (g.F.Flash.medium c.read_page.new.self.flash)
-    (g.F.Flash.medium c.program_page.new.self.flash) (c.read_page.ensures.looks.time told)
-    (c.program_page.ensures.time told))
-
 pub returns-clause-accounts : goal.returns-clause-accounts
-returns-clause-accounts g c =
-    let on = accounts_on g.F.Flash.medium 0 0 0 (omega arith) c.in_ok-read_page.ensures.accounts
-    c.in_ok-program_page.ensures.accounts in
-    record {
-      cause = on.cause;
-      kept = on.kept;
-      one = on.one;
-      no_less = on.no_less;
-      later = on.later;
-      steps =
-          on.steps;
-      disputed = on.disputed;
-    }
+returns-clause-accounts g c = accounts_here refl refl refl refl
+    (accounts_on 0 0 0 (omega arith) c.in_ok-read_page.ensures.reads.accounts c.in_ok-program_page.ensures.accounts)
+
+pub returns-in_err-program_page-clause-accounts : goal.returns-in_err-program_page-clause-accounts
+returns-in_err-program_page-clause-accounts g c =
+    accounts_fails c.from_residual-in_err-program_page.result _ c.from_residual-in_err-program_page.ensures.1
+    (accounts_on 0 0 0 (omega arith) c.in_ok-read_page.ensures.reads.accounts c.in_err-program_page.ensures.accounts)

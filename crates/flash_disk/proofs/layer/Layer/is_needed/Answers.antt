@@ -35,7 +35,7 @@ returns-in_default-find-clause-needed g c told learnt =
     let here : record_at pages i ≡ Some r = read ∙ c.in-Some.ensures.record in
     let old = c.args.self.now.state.table in
     let none : known old (page_of r) ≡ None = ap (λ t. known t (page_of r))
-    (sym (ap (λ s. s.table) c.in_ok-read_page.ensures.state)) ∙ (sym c.find.ensures ∙ c.in_default-find.is) in
+    (sym (ap (λ s. s.table) c.in_ok-read_page.ensures.reads.state)) ∙ (sym c.find.ensures ∙ c.in_default-find.is) in
     (λ no. absurd (true≢false (sym no)), λ needs. absurd (unknown_needed pages n i r here old learnt none needs))
 
 pub returns-then-is_some-clause-needed : goal.returns-then-is_some-clause-needed
@@ -51,7 +51,7 @@ returns-then-is_some-clause-needed g c told learnt =
     let old = c.args.self.now.state.table in
     let e = c.in-Some-find.newest in
     let is : known old (page_of r) ≡ Some e = ap (λ t. known t (page_of r))
-    (sym (ap (λ s. s.table) c.in_ok-read_page.ensures.state)) ∙ (sym c.find.ensures ∙ c.in-Some-find.is) in (
+    (sym (ap (λ s. s.table) c.in_ok-read_page.ensures.reads.state)) ∙ (sym c.find.ensures ∙ c.in-Some-find.is) in (
       λ no. absurd (true≢false (sym no)),
       λ needs. absurd
           (some_not_none e.twin (sym c.is_some.ensures ∙ c.if-is_some.true)
@@ -71,7 +71,7 @@ returns-then-newest-place-clause-needed g c told learnt =
     let old = c.args.self.now.state.table in
     let e = c.in-Some-find.newest in
     let is : known old (page_of r) ≡ Some e = ap (λ t. known t (page_of r))
-    (sym (ap (λ s. s.table) c.in_ok-read_page.ensures.state)) ∙ (sym c.find.ensures ∙ c.in-Some-find.is) in
+    (sym (ap (λ s. s.table) c.in_ok-read_page.ensures.reads.state)) ∙ (sym c.find.ensures ∙ c.in-Some-find.is) in
     let page_small = small pages n i r here old e learnt is in
     let own_small = c.requires.page in
     let block = c.if-newest-place.true in (
@@ -94,7 +94,7 @@ returns-else-newest-place-clause-needed g c told learnt =
     let old = c.args.self.now.state.table in
     let e = c.in-Some-find.newest in
     let is : known old (page_of r) ≡ Some e = ap (λ t. known t (page_of r))
-    (sym (ap (λ s. s.table) c.in_ok-read_page.ensures.state)) ∙ (sym c.find.ensures ∙ c.in-Some-find.is) in
+    (sym (ap (λ s. s.table) c.in_ok-read_page.ensures.reads.state)) ∙ (sym c.find.ensures ∙ c.in-Some-find.is) in
     let page_small = small pages n i r here old e learnt is in
     let own_small = c.requires.page in (
       λ same. absurd (c.if-newest-place.false (eqb-true e.place.block c.args.place.block same)),

@@ -1,24 +1,14 @@
 use Rattle.std.proofs.Common.{◌≡◌, ◌*◌, true}
-use Rattle.flash_disk.specs.Known.{limit_of}
 use Rattle.flash_disk.specs.Learnt.{HasLearnt, IsTop}
-use Rattle.flash_disk.specs.Counted.{IsCounted}
-use Rattle.flash_disk.specs.Sound.{SameFill}
-use Rattle.flash_disk.specs.Looks.{Looks}
+use Rattle.flash_disk.proofs.Steps.{SteppedOn}
 use Rattle.flash_disk.proofs.layer.Layer.learn_blocks.Given as goal
 
 abbrev pub invariant-loop-block : goal.invariant-loop-block
-invariant-loop-block g l = ((g.F.Flash.medium l.self.flash).faults ≡ (g.F.Flash.medium l.initial.self.flash).faults)
-    × (g.F.Flash.told ≡ true → (g.F.Flash.medium l.self.flash).state.pages
-    ≡ (g.F.Flash.medium l.initial.self.flash).state.pages)
-    × ((g.F.Flash.medium l.self.flash).blocks ≡ (g.F.Flash.medium l.initial.self.flash).blocks)
-    × (limit_of l.self.state.table ≡ limit_of l.initial.self.state.table)
-    × (g.F.Flash.told ≡ true → HasLearnt (g.F.Flash.medium l.initial.self.flash).state.pages (64 * l.block)
-    l.self.state.table)
-    × (l.self.state.table.lens ≡ l.initial.self.state.table.lens)
-    × (l.self.own ≡ l.initial.self.own)
-    × SameFill l.initial.self.state l.self.state
-    × (g.F.Flash.told ≡ true → IsTop (g.F.Flash.medium l.initial.self.flash).state.pages 0 l.initial.self.state.sequence
-    → IsTop (g.F.Flash.medium l.initial.self.flash).state.pages (64 * l.block) l.self.state.sequence)
-    × (IsCounted (g.F.Flash.medium l.initial.self.flash).blocks l.initial.self.state.table
-    → IsCounted (g.F.Flash.medium l.initial.self.flash).blocks l.self.state.table)
-    × Looks g.F.Flash.told (g.F.Flash.medium l.initial.self.flash) (g.F.Flash.medium l.self.flash)
+invariant-loop-block g l =
+    let pages = (g.F.Flash.medium l.initial.self.flash).state.pages in
+    record {
+      step : SteppedOn g.F.Flash.told g.F.Flash.medium l.initial.self l.self;
+      learns : g.F.Flash.told ≡ true → HasLearnt pages (64 * l.block) l.self.state.table;
+      tops : g.F.Flash.told ≡ true → IsTop pages 0 l.initial.self.state.sequence
+          → IsTop pages (64 * l.block) l.self.state.sequence;
+    }

@@ -1,11 +1,11 @@
 use Rattle.std.specs.Prelude.{IfOk, max}
-use Rattle.std.proofs.Common.{◌≡◌, ◌+◌, ap, sym, ◌∙◌, subst, Some}
+use Rattle.std.proofs.Common.{◌≡◌, ◌+◌, ap, refl, sym, ◌∙◌, subst, Some}
 use Rattle.flash_record.specs.PageRecord.{record_in}
 use Rattle.flash_record.specs.Stated.{stated}
 use Rattle.flash_disk.specs.Newest.{record_at}
 use Rattle.flash_disk.specs.Learnt.{number, HasLearnt, LearnsNext, IsTop}
 use Rattle.flash_disk.proofs.Learning.{record_at_place}
-use Rattle.flash_disk.proofs.Looking.{looks_then}
+use Rattle.flash_disk.proofs.Steps.{step_as, step_fails, step_of, step_then}
 use Rattle.flash_disk.proofs.Topmost.{next_top, on_ok}
 use Rattle.flash_disk.proofs.layer.Layer.learn_page.Goals as goal
 
@@ -20,12 +20,12 @@ returns-clause-learns g c told learnt =
     ∙ (ap record_in (sym (e.bytes told c.requires.block c.requires.page)) ∙ c.in-Some.ensures.record) in
     let was = c.read_page.new.self.state.table in
     let table = c.learn_record.new.self.state.table in
-    let same = ap (λ s. s.table) e.state in
+    let same = ap (λ s. s.table) e.reads.state in
     subst (λ t. IfOk c.learn_record.result (LearnsNext pages (n + 1) t table)) same
-    (subst (λ q. IfOk c.learn_record.result (LearnsNext q (n + 1) was table)) (e.pages told)
+    (subst (λ q. IfOk c.learn_record.result (LearnsNext q (n + 1) was table)) (e.reads.only.pages told)
     (c.learn_record.ensures.learns told
-    (subst (λ q. HasLearnt q n was) (sym (e.pages told)) (subst (HasLearnt pages n) (sym same) learnt))
-    (subst (λ q. record_at q n ≡ Some r) (sym (e.pages told)) here)))
+    (subst (λ q. HasLearnt q n was) (sym (e.reads.only.pages told)) (subst (HasLearnt pages n) (sym same) learnt))
+    (subst (λ q. record_at q n ≡ Some r) (sym (e.reads.only.pages told)) here)))
 
 pub returns-clause-tops : goal.returns-clause-tops
 returns-clause-tops g c told top =
@@ -37,9 +37,16 @@ returns-clause-tops g c told top =
     ∙ c.in-Some.ensures.record) in
     on_ok c.learn_record.result (subst (IsTop pages (n + 1)) (sym c.learn_record.ensures.sequence)
     (next_top pages n c.args.self.now.state.sequence top r here c.max-self.result
-    (c.max-self.ensures ∙ ap (λ s. max s.sequence r.sequence) c.in_ok-read_page.ensures.state)))
+    (c.max-self.ensures ∙ ap (λ s. max s.sequence r.sequence) c.in_ok-read_page.ensures.reads.state)))
 
-pub returns-clause-looks : goal.returns-clause-looks
-returns-clause-looks g c =
-    looks_then g.F.Flash.told (g.F.Flash.medium c.args.self.now.flash) (g.F.Flash.medium c.read_page.new.self.flash)
-    (g.F.Flash.medium c.learn_record.new.self.flash) c.read_page.ensures.looks c.learn_record.ensures.looks
+pub returns-in_default-clause-step : goal.returns-in_default-clause-step
+returns-in_default-clause-step g c =
+    step_as (step_of c.in_ok-read_page.ensures.reads refl refl refl refl refl refl) tt
+
+pub returns-in_err-read_page-clause-step : goal.returns-in_err-read_page-clause-step
+returns-in_err-read_page-clause-step g c = step_fails c.from_residual.result _ c.from_residual.ensures.1
+    (step_of c.in_err-read_page.ensures.reads refl refl refl refl refl refl)
+
+pub returns-clause-step : goal.returns-clause-step
+returns-clause-step g c = step_then (step_of c.in_ok-read_page.ensures.reads refl refl refl refl refl refl)
+    c.learn_record.ensures.step

@@ -4,20 +4,8 @@ use Rattle.flash_record.specs.Stated.{stated}
 use Rattle.flash_disk.specs.Known.{known, page_of}
 use Rattle.flash_disk.specs.Learnt.{number}
 use Rattle.flash_disk.proofs.Learning.{put_learns, older, first, newer_one}
-use Rattle.flash_disk.proofs.Looking.{looks_none}
+use Rattle.flash_disk.proofs.Steps.{only_here, only_none, step_none}
 use Rattle.flash_disk.proofs.layer.Layer.learn_record.Goals as goal
-
-pub returns-in_default-clause-looks : goal.returns-in_default-clause-looks
-returns-in_default-clause-looks g c = looks_none g.F.Flash.told (g.F.Flash.medium c.args.self.now.flash)
-    (g.met.F.Flash.lawful c.args.self.now.flash)
-
-pub returns-then-old-found-clause-looks : goal.returns-then-old-found-clause-looks
-returns-then-old-found-clause-looks g c = looks_none g.F.Flash.told (g.F.Flash.medium c.args.self.now.flash)
-    (g.met.F.Flash.lawful c.args.self.now.flash)
-
-pub returns-then-old-found-2-clause-looks : goal.returns-then-old-found-2-clause-looks
-returns-then-old-found-2-clause-looks g c = looks_none g.F.Flash.told (g.F.Flash.medium c.args.self.now.flash)
-    (g.met.F.Flash.lawful c.args.self.now.flash)
 
 pub returns-in_default-clause-learns : goal.returns-in_default-clause-learns
 returns-in_default-clause-learns g c told learnt here =
@@ -71,20 +59,31 @@ returns-then-old-found-2-clause-learns g c told learnt here =
     let is : known old (page_of r) ≡ Some c.in-Some.old = sym c.find.ensures ∙ c.in-Some.is in
     rw (add-one n) (older pages n r here old c.in-Some.old learnt is c.if-old-found-2.true)
 
-pub returns-in_default-clause-counted : goal.returns-in_default-clause-counted
-returns-in_default-clause-counted g c counted =
+pub returns-in_default-clause-step : goal.returns-in_default-clause-step
+returns-in_default-clause-step g c =
     let blocks = (g.F.Flash.medium c.args.self.now.flash).blocks in
-    let e = c.newest_at.ensures in
-    c.put.ensures.counted blocks counted (record {
-      place = subst (λ p. p.block < blocks) (sym e.place) c.requires.block;
-      twin = subst (λ t. IfSome t (λ q. q.block < blocks)) (sym e.twin) tt;
-    })
+    let e = c.newest_at.ensures in record {
+      only = only_here refl refl (only_none _ c.args.self.now (g.met.F.Flash.lawful c.args.self.now.flash));
+      fill = (refl, refl, refl);
+      bounds = c.put.ensures.bounds;
+      counted = λ counted. c.put.ensures.counted blocks counted (record {
+        place = subst (λ p. p.block < blocks) (sym e.place) c.requires.block;
+        twin = subst (λ t. IfSome t (λ q. q.block < blocks)) (sym e.twin) tt;
+      });
+    }
 
-pub returns-then-old-found-clause-counted : goal.returns-then-old-found-clause-counted
-returns-then-old-found-clause-counted g c counted =
+pub returns-then-old-found-clause-step : goal.returns-then-old-found-clause-step
+returns-then-old-found-clause-step g c =
     let blocks = (g.F.Flash.medium c.args.self.now.flash).blocks in
-    let e = c.newest_at-then-old-found.ensures in
-    c.put-then-old-found.ensures.counted blocks counted (record {
-      place = subst (λ p. p.block < blocks) (sym e.place) c.requires.block;
-      twin = subst (λ t. IfSome t (λ q. q.block < blocks)) (sym e.twin) tt;
-    })
+    let e = c.newest_at-then-old-found.ensures in record {
+      only = only_here refl refl (only_none _ c.args.self.now (g.met.F.Flash.lawful c.args.self.now.flash));
+      fill = (refl, refl, refl);
+      bounds = c.put-then-old-found.ensures.bounds;
+      counted = λ counted. c.put-then-old-found.ensures.counted blocks counted (record {
+        place = subst (λ p. p.block < blocks) (sym e.place) c.requires.block;
+        twin = subst (λ t. IfSome t (λ q. q.block < blocks)) (sym e.twin) tt;
+      });
+    }
+
+pub returns-then-old-found-2-clause-step : goal.returns-then-old-found-2-clause-step
+returns-then-old-found-2-clause-step g c = step_none _ c.args.self.now (g.met.F.Flash.lawful c.args.self.now.flash)

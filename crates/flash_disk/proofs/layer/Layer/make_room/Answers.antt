@@ -10,7 +10,7 @@ returns-then-self-lt-BLOCK_PAGES-clause-does g c told =
     let m = g.F.Flash.medium c.args.self.now.flash in
     let lawful = g.met.F.Flash.lawful c.args.self.now.flash in
     does_nothing m m (StandsFor m) refl (λ x past. lawful.only_now x past)
-    (stands_now m c.args.self.now.state (c.requires.sound told))
+    (stands_now m c.args.self.now.state (c.requires.ready.sound told))
 
 pub returns-clause-fits : goal.returns-clause-fits
 returns-clause-fits g c told file page len bytes fits =

@@ -2,8 +2,7 @@ use Rattle.std.proofs.Common.{◌≡◌, ℕ, ◌<◌, ◌≤◌, ◌+◌, ◌-�
 use Rattle.flash_disk.specs.Newest.{places}
 use Rattle.flash_disk.specs.FlashFiles.{file_byte, file_len}
 use Rattle.flash_disk.specs.Learnt.{Knows}
-use Rattle.flash_disk.specs.Looks.{Looks}
-use Rattle.flash_disk.proofs.Accounting.{Counted}
+use Rattle.flash_disk.proofs.Steps.{LookedOn}
 use Rattle.flash_disk.proofs.layer.Layer.read_pages.Given as goal
 
 abbrev pub decreases-loop-done : goal.decreases-loop-done
@@ -12,10 +11,7 @@ decreases-loop-done g l = length l.out - l.done
 abbrev pub invariant-loop-done : goal.invariant-loop-done
 invariant-loop-done g l = record {
   within : l.done ≤ length l.out;
-  counts : Counted g.F.Flash.medium 0 l.initial.self l.self;
-  looks : Looks g.F.Flash.told (g.F.Flash.medium l.initial.self.flash) (g.F.Flash.medium l.self.flash);
-  blocks : (g.F.Flash.medium l.self.flash).blocks ≡ (g.F.Flash.medium l.initial.self.flash).blocks;
-  known : l.self.state ≡ l.initial.self.state;
+  reads : LookedOn g.F.Flash.told g.F.Flash.medium l.initial.self l.self;
   read : g.F.Flash.told ≡ true → Knows (g.F.Flash.medium l.initial.self.flash).state.pages
       (places (g.F.Flash.medium l.initial.self.flash).blocks) l.initial.self.state.table
       → l.at + length l.out ≤ file_len (g.F.Flash.medium l.initial.self.flash).state.pages

@@ -6,14 +6,14 @@ pub returns-then-not-has_room-clause-own : goal.returns-then-not-has_room-clause
 returns-then-not-has_room-clause-own g c told =
     let s = c.args.self.now.state in
     inr (inr (inl (wants_too_many (g.F.Flash.medium c.args.self.now.flash) s c.args.file c.args.at
-    (length c.args.bytes.now) c.in-Some.end (c.requires.sound told)
+    (length c.args.bytes.now) c.in-Some.end (c.requires.ready.sound told)
     c.in-Some.ensures.1
     (λ fits. true≢false (sym (c.has_room.ensures.1 fits) ∙ c.if-not-has_room.true)))))
 
 pub returns-clause-refused : goal.returns-clause-refused
 returns-clause-refused g c told why =
     absurd (not_begun (g.F.Flash.medium c.args.self.now.flash) c.args.self.now.state c.args.file c.args.at
-    (length c.args.bytes.now) c.in-Some.end (c.requires.sound told)
+    (length c.args.bytes.now) c.in-Some.end (c.requires.ready.sound told)
     c.in-Some.ensures.1 (omega arith) (c.has_room.ensures.0 c.if-not-has_room.false) why)
 
 pub returns-clause-own : goal.returns-clause-own

@@ -6,9 +6,9 @@ use Rattle.flash_disk.specs.Sound.{files_of, LeavesPut}
 use Rattle.flash_disk.specs.Writes.{LeavesTorn}
 use Rattle.flash_disk.proofs.Writing.{does_none, torn_nothing, wrote_nothing, wrote_more, torn_then, moved_there}
 use Rattle.flash_disk.proofs.Writing.{wrote_all}
-use Rattle.flash_disk.proofs.Stretches.{elapses_refl, elapses_then}
 use Rattle.flash_disk.proofs.Affording.{affords_place, affords_more, as_many}
 use Rattle.flash_disk.proofs.Accounting.{counted_none, counted_on}
+use Rattle.flash_disk.proofs.Steps.{adds_fail, adds_then}
 use Rattle.flash_disk.proofs.layer.Layer.write_pages.Goals as goal
 
 pub loop-done-init : goal.loop-done-init
@@ -18,15 +18,13 @@ loop-done-init g c =
     let r = c.requires in
     let lawful = g.met.F.Flash.lawful c.args.self.now.flash in record {
       within = omega arith;
-      sure = r.sure;
-      sound = r.sound;
+      ready = r.ready;
       wrote = λ told. wrote_nothing a c.args.file c.args.at c.args.bytes.now c.args.len
           (let len = r.len told in omega (arith, len)) (r.grows told);
       does = λ told. does_none g.F.Flash.told a lawful (LeavesTorn c.args.file c.args.at (length c.args.bytes.now) a)
-          (torn_nothing a s (r.sound told) c.args.file c.args.at (length c.args.bytes.now));
-      time = λ told. elapses_refl g.F.Flash.told a lawful told;
+          (torn_nothing a s (r.ready.sound told) c.args.file c.args.at (length c.args.bytes.now));
       numbered = omega arith;
-      counts = counted_none g.F.Flash.medium 0 c.args.self.now;
+      counts = counted_none 0 c.args.self.now lawful;
       calm = λ told some. absurd (omega (arith, some));
       affords = r.affords;
       as_many = λ told. refl;
@@ -44,7 +42,7 @@ returns-in_err-write_page-clause-does g c told =
     let start = c.args.at + done in
     torn_then a b c.args.file c.args.at c.args.bytes.now c.args.len done (i.wrote told) count d (omega arith)
     (omega arith) (c.requires.len told)
-    (i.time told) (e.time told) (i.does told)
+    (i.counts.time told) (e.adds.accounts.time told) (i.does told)
     (moved_there (λ p k. Does (LeavesPut c.args.file p (take k (drop done c.args.bytes.now)) c.args.len b) b d) start
     done count (e.does told))
 
@@ -59,22 +57,20 @@ loop-done-preserved g c =
     let count = c.min-count.result in
     let start = c.args.at + done in record {
       within = omega arith;
-      sure = e.sure;
-      sound = e.sound;
+      ready = record { sure = e.adds.stays.sure; sound = e.adds.stays.sound };
       wrote = λ told. wrote_more a b c.args.file c.args.at c.args.bytes.now c.args.len done (i.wrote told) count d
           (omega arith)
           (moved_there (λ p k. PutPart c.args.file p (take k (drop done c.args.bytes.now)) c.args.len (files_of b)
           (files_of d)) start done count (e.put told));
       does = λ told. torn_then a b c.args.file c.args.at c.args.bytes.now c.args.len done (i.wrote told) count d
           (omega arith) (omega arith) (c.requires.len told)
-          (i.time told) (e.time told) (i.does told)
+          (i.counts.time told) (e.adds.accounts.time told) (i.does told)
           (moved_there (λ p k. Does (LeavesPut c.args.file p (take k (drop done c.args.bytes.now)) c.args.len b) b d)
           start done count (e.does told));
-      time = λ told. elapses_then a b d (i.time told) (e.time told);
       numbered = (let before = i.numbered in let on = e.rises in let few =
           c.min-count.ensures in omega (arith, before, on, few));
-      counts = counted_on g.F.Flash.medium done 1 (done + count) (let few = c.min-count.ensures in omega (arith, few))
-          i.counts e.accounts;
+      counts = counted_on done 1 (done + count) (let few = c.min-count.ensures in omega (arith, few))
+          i.counts e.adds.accounts;
       affords = λ told. affords_more c.args.file (c.args.at / 256) c.loop-done.self.state.table
           c.write_page.new.self.state.table
           (div_ceil (c.args.at + length c.args.bytes.now) 256 - c.args.at / 256) (start / 256 - c.args.at / 256)
@@ -105,8 +101,7 @@ write_page-requires-clause-place g c told =
     (div_ceil (c.args.at + length c.args.bytes.now) 256 - c.args.at / 256)
     (start / 256 - c.args.at / 256) (start / 256) (c.loop-done.invariant.affords told) (omega arith) (omega arith)
 
-pub returns-in_err-write_page-clause-time : goal.returns-in_err-write_page-clause-time
-returns-in_err-write_page-clause-time g c told =
-    elapses_then (g.F.Flash.medium c.args.self.now.flash) (g.F.Flash.medium c.loop-done.self.flash)
-    (g.F.Flash.medium c.write_page.new.self.flash) (c.loop-done.invariant.time told)
-    (c.write_page.ensures.time told)
+pub returns-in_err-write_page-clause-adds : goal.returns-in_err-write_page-clause-adds
+returns-in_err-write_page-clause-adds g c = adds_fail c.from_residual.result _ c.from_residual.ensures.1
+    (adds_then c.loop-done.done 1 (length c.args.bytes.now) (omega arith) c.loop-done.invariant.counts
+    c.in_err-write_page.ensures.adds)

@@ -1,9 +1,8 @@
 use Rattle.std.proofs.Common.{◌≡◌, ◌<◌, ◌≤◌, ◌+◌, ◌*◌, ◌-◌, ◌/◌, length, true}
-use Rattle.std.specs.Prelude.{None, IsFalse}
+use Rattle.std.specs.Prelude.{IsFalse}
 use Rattle.std.specs.Int.{div_ceil}
-use Rattle.flash_model.specs.FlashMedium.{FlashElapses}
 use Rattle.flash_disk.specs.Does.{Does}
-use Rattle.flash_disk.specs.Sound.{IsSound}
+use Rattle.flash_disk.specs.Steps.{IsSure}
 use Rattle.flash_disk.specs.Writes.{LeavesTorn}
 use Rattle.flash_disk.specs.Known.{page_len}
 use Rattle.flash_disk.specs.Counted.{missing}
@@ -18,15 +17,13 @@ decreases-loop-done g l = length l.bytes - l.done
 abbrev pub invariant-loop-done : goal.invariant-loop-done
 invariant-loop-done g l = record {
   within : l.done ≤ length l.bytes;
-  sure : l.self.state.unsure ≡ None;
-  sound : g.F.Flash.told ≡ true → IsSound (g.F.Flash.medium l.self.flash) l.self.state;
+  ready : IsSure g.F.Flash.told g.F.Flash.medium l.self;
   wrote : g.F.Flash.told ≡ true → WroteSoFar (g.F.Flash.medium l.initial.self.flash) (g.F.Flash.medium l.self.flash)
       l.file l.at l.bytes l.len l.done;
   does : g.F.Flash.told ≡ true → Does (LeavesTorn l.file l.at (length l.bytes) (g.F.Flash.medium l.initial.self.flash))
       (g.F.Flash.medium l.initial.self.flash) (g.F.Flash.medium l.self.flash);
-  time : g.F.Flash.told ≡ true → FlashElapses (g.F.Flash.medium l.initial.self.flash) (g.F.Flash.medium l.self.flash);
   numbered : l.done + 256 * l.initial.self.state.sequence ≤ 256 * l.self.state.sequence;
-  counts : Counted g.F.Flash.medium l.done l.initial.self l.self;
+  counts : Counted g.F.Flash.told g.F.Flash.medium l.done l.initial.self l.self;
   calm : g.F.Flash.told ≡ true → 0 < l.done → IsFalse l.initial.self.state.disputed;
   affords : g.F.Flash.told ≡ true → Affords l.self.state.table l.file (l.at / 256)
       (div_ceil (l.at + length l.bytes) 256 - l.at / 256);

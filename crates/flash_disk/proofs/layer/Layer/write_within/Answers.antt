@@ -15,9 +15,10 @@ returns-in_err-wipe_strays-clause-writes g c told =
     let e = c.wipe_strays.ensures in
     let announced = no_error c.announce.result (sym c.is_err.ensures.value ∙ c.if-is_err.false)
     (c.announce.ensures.state told) in
-    writes_into c.args.file c.args.at c.args.bytes.now a b announced c.announce.ensures.time s (c.requires.sound told)
-    c.announce.ensures.during w (e.time told)
-    (wipes_torn c.args.file c.args.at c.args.bytes.now b w (e.time told) (e.does told))
+    writes_into c.args.file c.args.at c.args.bytes.now a b announced c.announce.ensures.time s
+    (c.requires.ready.sound told)
+    c.announce.ensures.during w (e.adds.accounts.time told)
+    (wipes_torn c.args.file c.args.at c.args.bytes.now b w (e.adds.accounts.time told) (e.does told))
 
 pub write_pages-requires-clause-grows : goal.write_pages-requires-clause-grows
 write_pages-requires-clause-grows g c told =
@@ -29,10 +30,10 @@ write_pages-requires-clause-grows g c told =
     let announced = no_error c.announce.result (sym c.is_err.ensures.value ∙ c.if-is_err.false)
     (c.announce.ensures.state told) in
     let sound = sound_announced c.args.file c.args.at c.args.bytes.now a b announced c.announce.ensures.time s
-    (c.requires.sound told) in
+    (c.requires.ready.sound told) in
     let len = c.len_of.ensures in
     let greater = c.max-len.ensures in
-    grows_wiped c.args.file c.args.at c.args.bytes.now b w (e.time told) (e.does told) s sound c.args.end
+    grows_wiped c.args.file c.args.at c.args.bytes.now b w (e.adds.accounts.time told) (e.does told) s sound c.args.end
     c.max-len.result (omega (arith, len, greater)) (e.wiped told)
 
 pub write_pages-requires-clause-len : goal.write_pages-requires-clause-len
@@ -45,8 +46,9 @@ write_pages-requires-clause-len g c told =
     let announced = no_error c.announce.result (sym c.is_err.ensures.value ∙ c.if-is_err.false)
     (c.announce.ensures.state told) in
     let sound = sound_announced c.args.file c.args.at c.args.bytes.now a b announced c.announce.ensures.time s
-    (c.requires.sound told) in
-    let known_is = len_wiped c.args.file c.args.at c.args.bytes.now b w (e.time told) (e.does told) s sound in
+    (c.requires.ready.sound told) in
+    let known_is = len_wiped c.args.file c.args.at c.args.bytes.now b w (e.adds.accounts.time told) (e.does told) s
+    sound in
     let len = c.len_of.ensures in
     let greater = c.max-len.ensures in
     let end = c.requires.end in
@@ -63,19 +65,22 @@ returns-clause-writes g c told =
     let f = c.write_pages.ensures in
     let announced = no_error c.announce.result (sym c.is_err.ensures.value ∙ c.if-is_err.false)
     (c.announce.ensures.state told) in
-    writes_into c.args.file c.args.at c.args.bytes.now a b announced c.announce.ensures.time s (c.requires.sound told)
+    writes_into c.args.file c.args.at c.args.bytes.now a b announced c.announce.ensures.time s
+    (c.requires.ready.sound told)
     c.announce.ensures.during d
-    (elapses_then b w d (e.time told) (f.time told))
-    (wipes_then c.args.file c.args.at c.args.bytes.now b w (e.time told) (e.does told) d (f.time told) (f.does told))
+    (elapses_then b w d (e.adds.accounts.time told) (f.adds.accounts.time told))
+    (wipes_then c.args.file c.args.at c.args.bytes.now b w (e.adds.accounts.time told) (e.does told) d
+    (f.adds.accounts.time told)
+    (f.does told))
 
 pub returns-clause-allowed : goal.returns-clause-allowed
 returns-clause-allowed g c told =
     let a = g.F.Flash.medium c.args.self.now.flash in
     let s = c.args.self.now.state in
     on_ok_weaker c.write_pages.result
-    (λ calm. allowed a s c.args.file c.args.at (length c.args.bytes.now) c.args.end (c.requires.sound told)
+    (λ calm. allowed a s c.args.file c.args.at (length c.args.bytes.now) c.args.end (c.requires.ready.sound told)
     c.requires.end c.requires.least
-    c.requires.room (sym c.in_ok-wipe_strays.ensures.accounts.disputed ∙ calm c.requires.some))
+    c.requires.room (sym c.in_ok-wipe_strays.ensures.adds.accounts.disputed ∙ calm c.requires.some))
     (c.write_pages.ensures.calm told)
 
 pub returns-clause-takes : goal.returns-clause-takes
@@ -86,18 +91,5 @@ returns-clause-takes g c told =
     on_ok_both c.write_pages.result
     (λ sound takes. takes_pages a d c.args.self.now.state c.wipe_strays.new.self.state c.write_pages.new.self.state
     c.args.file c.args.at (length c.args.bytes.now)
-    (c.requires.sound told) sound (c.in_ok-wipe_strays.ensures.entries told) takes)
-    (f.sound told) (f.takes told)
-
-pub returns-in_err-wipe_strays-clause-time : goal.returns-in_err-wipe_strays-clause-time
-returns-in_err-wipe_strays-clause-time g c told =
-    elapses_then (g.F.Flash.medium c.args.self.now.flash) (g.F.Flash.medium c.announce.new.self)
-    (g.F.Flash.medium c.wipe_strays.new.self.flash) c.announce.ensures.time (c.wipe_strays.ensures.time told)
-
-pub returns-clause-time : goal.returns-clause-time
-returns-clause-time g c told =
-    let b = g.F.Flash.medium c.announce.new.self in
-    let w = g.F.Flash.medium c.wipe_strays.new.self.flash in
-    let d = g.F.Flash.medium c.write_pages.new.self.flash in
-    elapses_then (g.F.Flash.medium c.args.self.now.flash) b d c.announce.ensures.time
-    (elapses_then b w d (c.wipe_strays.ensures.time told) (c.write_pages.ensures.time told))
+    (c.requires.ready.sound told) sound (c.in_ok-wipe_strays.ensures.entries told) takes)
+    (f.adds.stays.sound told) (f.takes told)

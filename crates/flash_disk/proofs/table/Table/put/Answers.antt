@@ -10,8 +10,8 @@ pub returns-then-not-store-clause-counted : goal.returns-then-not-store-clause-c
 returns-then-not-store-clause-counted c blocks counted inside =
     let e = c.if-not-store.ensures in
     same_counted blocks c.args.self.now c.store.new.self counted (c.store.ensures.same c.if-not-store.true)
-    c.store.ensures.limit
-    (c.store.ensures.entries c.if-not-store.true) c.store.ensures.load c.store.ensures.blocks
+    c.store.ensures.bounds.limit
+    (c.store.ensures.entries c.if-not-store.true) c.store.ensures.load c.store.ensures.bounds.blocks
 
 pub returns-clause-counted : goal.returns-clause-counted
 returns-clause-counted c blocks counted inside =
@@ -28,10 +28,10 @@ returns-clause-counted c blocks counted inside =
           let is : known old c.args.key ≡ Some w.in-Some.old = sym c.find-old.ensures ∙ w.in-Some.is in (
             subst (Recounts mid) (sym w.self-is) (record {
               newest = f.newest;
-              blocks = f.blocks;
+              blocks = f.bounds.blocks;
               loads =
                   f.loads;
-              limit = f.limit;
+              limit = f.bounds.limit;
             }),
             fewer_by blocks old mid less c.args.key w.in-Some.old is
                 (λ within block. ap (λ t. load_known t block) w.self-is ∙ f.counts within block) counted e.load,
@@ -42,5 +42,6 @@ returns-clause-counted c blocks counted inside =
       )
     ] in
     put_counted blocks old mid less c.count_more.new.self c.args.key c.args.new counted inside
-    (e.put c.if-not-store.false) e.limit (e.counts c.if-not-store.false) e.load e.blocks
-    parts.0 parts.1 (record { newest = m.newest; blocks = m.blocks; loads = m.loads; limit = m.limit }) m.counts
+    (e.put c.if-not-store.false) e.bounds.limit (e.counts c.if-not-store.false) e.load e.bounds.blocks
+    parts.0 parts.1 (record { newest = m.newest; blocks = m.bounds.blocks; loads = m.loads; limit = m.bounds.limit })
+    m.counts

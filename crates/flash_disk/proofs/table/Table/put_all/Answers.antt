@@ -1,11 +1,11 @@
-use Rattle.std.proofs.Common.{arith, ◌∙◌}
+use Rattle.std.proofs.Common.{arith}
 use Rattle.std.proofs.lemmas.Grind.{common_steps}
+use Rattle.flash_disk.proofs.Entries.{bounds_then}
 use Rattle.flash_disk.proofs.table.Table.put_all.Goals as goal
 
 pub loop-new-preserved : goal.loop-new-preserved
 loop-new-preserved c = let i = c.loop-new.invariant in record {
-  limit = c.put.ensures.limit ∙ i.limit;
-  lens = c.put.ensures.lens ∙ i.lens;
+  bounds = bounds_then c.loop-new.invariant.bounds c.put.ensures.bounds;
   puts = grind (arith, common_steps);
   counted = λ blocks all start. c.put.ensures.counted blocks (i.counted blocks all start)
       (all c.loop-new.new-index _ c.loop-new-test.true);

@@ -2,14 +2,13 @@ use Rattle.std.proofs.Common.{◌≡◌, ℕ, take}
 use Rattle.std.specs.Prelude.{All, IsSome}
 use Rattle.std.specs.Map.{update_all}
 use Rattle.flash_disk.specs.declared.table.FilePage.{FilePage}
-use Rattle.flash_disk.specs.Known.{same_page, known, page_len, limit_of, HasRoom}
+use Rattle.flash_disk.specs.Known.{same_page, known, page_len, HasRoom, SameBounds}
 use Rattle.flash_disk.specs.Counted.{IsInside, IsCounted}
 use Rattle.flash_disk.proofs.table.Table.put_all.Given as goal
 
 abbrev pub invariant-loop-new : goal.invariant-loop-new
 invariant-loop-new l = record {
-  limit : limit_of l.self ≡ limit_of l.initial.self;
-  lens : l.self.lens ≡ l.initial.self.lens;
+  bounds : SameBounds l.initial.self l.self;
   puts : All (λ new. IsSome (known l.initial.self new.0)) l.news → HasRoom l.initial.self
       → HasRoom l.self
       × (page_len l.self ≡ page_len l.initial.self)
