@@ -9,8 +9,8 @@ use Rattle.migrate_fns.specs.Chains.{usable, linked, fitting, list_less, IsFound
 use Rattle.migrate_fns.specs.Chains.{if_same, links, shortest, chain_of}
 use Rattle.migrate_fns.specs.Rules.{Rule}
 use Rattle.migrate_fns.specs.SameKind.{same_kind}
-use Rattle.migrate_fns.proofs.Facts.{not_false, is_false, both_true, true_both, not_none, some_is, split, compare}
-use Rattle.migrate_fns.proofs.Facts.{less_not_equal, nil_of, cons_of}
+use Rattle.migrate_fns.specs.lemmas.Facts.{not_false, is_false, both_true, true_both, not_none, some_is, split, compare}
+use Rattle.migrate_fns.specs.lemmas.Facts.{less_not_equal, nil_of, cons_of}
 
 module _ (rules : List Rule) (element : List ℕ) (to : Kind) where
   pub linked_cons : (i : ℕ) (is : List ℕ) (from : Kind) → linked rules element to (i ∷ is) from ≡ true

@@ -1,26 +1,30 @@
 -- The levels of the search, and the way back through them.
-use Rattle.std.proofs.Common.{◌≡◌, ℕ, zero, suc, ◌+◌, ◌-◌, ◌<◌, ◌≤◌, Bool, true, false, cond, List, [], ◌∷◌, ◌++◌}
+use Rattle.std.proofs.Common.{◌≡◌, ℕ, suc, ◌+◌, ◌-◌, ◌<◌, ◌≤◌, true, false, cond, List, [], ◌∷◌, ◌++◌}
 use Rattle.std.proofs.Common.{length, Option, Some, None, refl, sym, ap, subst, ◌∙◌, arith, inl, inr, append_assoc}
-use Rattle.std.proofs.Common.{length-append, drop, get_or, map, Result, Ok, Err, IfOk}
-use Rattle.std.specs.Prelude.{◌⊎◌, ◌&&◌, not, is_some, slice_get, option_map, option_and_then, IfSome}
-use Rattle.std.proofs.lemmas.List.{drop_all}
-use Rattle.std.proofs.lemmas.Option.{slice_get-map, slice_get_past, slice_get_read, slice_get_within}
+use Rattle.std.proofs.Common.{length-append, drop, get_or, map, Result, Ok, Err, IfOk, set, replicate, Vec, Global}
+use Rattle.std.specs.Prelude.{◌⊎◌, ◌&&◌, not, nat_eq, is_some, slice_get, option_map, option_and_then, IfSome}
+use Rattle.std.proofs.lemmas.List.{drop_all, get_or-replicate, length-replicate, get_or-set_same, get_or-set_other}
+use Rattle.std.proofs.lemmas.List.{length-set, append-nil, map-append}
+use Rattle.std.proofs.lemmas.Option.{slice_get-get_or, slice_get-map, slice_get_past, slice_get_read, slice_get_within}
 use Rattle.value_model.specs.Kinds.{Kind}
 use Rattle.value_model.specs.Trees.{Tree, type_of}
-use Rattle.migrate_fns.specs.Chains.{usable, linked, IsFound, or_later, with_place, first_link, links, shortest}
-use Rattle.migrate_fns.specs.Chains.{chain_of, first_place, takes, first_taking, IsLevel, AreLevels, opens}
+use Rattle.migrate_fns.specs.Chains.{usable, linked, IsFound, or_later, with_place, first_link, if_same, links}
+use Rattle.migrate_fns.specs.Chains.{shortest, chain_of, first_place, takes}
+use Rattle.migrate_fns.specs.Links.{AllDiffer, AreLevels, AreLinks, IsLevel, Leads, entered, is_link, levels_view}
+use Rattle.migrate_fns.specs.Links.{place_of}
 use Rattle.migrate_fns.specs.Rules.{Rule, Answers, ConvertsTo, is_for, first_type, last_type, reached, if_takes}
 use Rattle.migrate_fns.specs.SameKind.{same_kind}
+use Rattle.migrate_fns.specs.declared.numbering.Link.{Link}
 use Rattle.migrate_fns.proofs.Found.{Least, first_least, linked_cons, fitting_parts, chain_is_found}
-use Rattle.migrate_fns.proofs.SameKinds.{kind_is}
-use Rattle.migrate_fns.proofs.Facts.{not_false, both_true, not_none, some_is, none_is, at_end}
+use Rattle.migrate_fns.specs.lemmas.SameKinds.{kind_is, same_from_is}
+use Rattle.migrate_fns.proofs.TypeNumbers.{linked_is, same_number}
+use Rattle.migrate_fns.specs.lemmas.Facts.{not_false, not_true, is_false, both_true, true_both, not_none, some_is}
+use Rattle.migrate_fns.specs.lemmas.Facts.{none_is}
+use Rattle.migrate_fns.specs.lemmas.Facts.{at_end, same_or_apart, there_is}
 
 abbrev pub or_first : Option ℕ → Option ℕ → Option ℕ
 or_first None other = other
 or_first (Some i) other = Some i
-
-abbrev pub if_taken : Bool → ℕ → Option ℕ
-if_taken b i = cond b (Some i) None
 
 pub or_first-none : (o : Option ℕ) → or_first o None ≡ o
 or_first-none None = refl
@@ -38,28 +42,19 @@ of_ok (Err e) G P g k = tt
 pub push_length : {A : Type 0} (xs : List A) (x : A) (n : ℕ) → length xs ≡ n → length (xs ++ x ∷ []) ≡ suc n
 push_length xs x n e = length-append xs (x ∷ []) ∙ omega (arith, e)
 
--- an item of a list, and what is left from there, as their images
-pub item_at : {A B : Type 0} (f : A → B) (xs : List A) (i : ℕ) (x : A) → i < length xs → x ≡ get_or xs i x
-    → (slice_get (map f xs) i ≡ Some (f x)) × (drop i (map f xs) ≡ f x ∷ drop (suc i) (map f xs))
-item_at f [] i x lt e = absurd (omega (arith, lt))
-item_at f (y ∷ ys) zero x lt e = (ap (λ z. Some (f z)) (sym e), ap (λ z. f z ∷ map f ys) (sym e))
-item_at f (y ∷ ys) (suc i) x lt e = item_at f ys i x (omega (arith, lt)) e
+pub view_at : (levels : List (Vec (Option Link) Global)) (n : ℕ) (level : Vec (Option Link) Global)
+    → slice_get levels n ≡ Some level → slice_get (levels_view levels) n ≡ Some level.items
+view_at levels n level at = slice_get-map (λ (v : Vec (Option Link) Global). v.items) levels n
+    ∙ ap (λ (o : Option (Vec (Option Link) Global)). option_map (λ v. v.items) o) at
+
+views : (levels : List (Vec (Option Link) Global)) → length (levels_view levels) ≡ length levels
+views [] = refl
+views (v ∷ levels) = ap suc (views levels)
 
 module _ (rules : List Rule) where
   pub takes_at : (from : Kind) (i : ℕ) (r : Rule) → slice_get rules i ≡ Some r
       → takes rules from i ≡ same_kind r.from from
   takes_at from i r at = ap (λ (o : Option Rule). elim o [ None ↦ false | Some q ↦ same_kind q.from from ]) at
-
-  pub taking_end : (from : Kind) (places : List ℕ) (i : ℕ)
-      → first_taking rules from (places ++ i ∷ []) ≡ or_first (first_taking rules from places)
-      (if_taken (takes rules from i) i)
-  taking_end from [] i = refl
-  taking_end from (p ∷ places) i = elim (takes rules from p) as
-      (λ b. cond b (Some p) (first_taking rules from (places ++ i ∷ []))
-      ≡ or_first (cond b (Some p) (first_taking rules from places)) (if_taken (takes rules from i) i)) [
-        | true ↦ refl
-        | false ↦ taking_end from places i
-      ]
 
   module _ (element : List ℕ) (to : Kind) where
     abbrev pub rest_from : ℕ → Kind → ℕ → List Rule → Option ℕ
@@ -67,40 +62,17 @@ module _ (rules : List Rule) where
 
     -- ---- a level
 
-    open_cases : (from : Kind) (n i : ℕ) (r : Rule) (rs : List Rule) → is_for r.element element ≡ true
-        → is_some (links rules element to n r.to) ≡ true
-        → rest_from n from i (r ∷ rs) ≡ or_first (if_taken (same_kind r.from from) i) (rest_from n from (suc i) rs)
-    open_cases from n i r rs named leads =
-        rw named (elim (same_kind r.from from) as (λ b. first_place
-        (or_later (with_place b i (links rules element to n) r.to)
-        (λ u. first_link element from (links rules element to n) (suc i) rs))
-        ≡ or_first (if_taken b i) (rest_from n from (suc i) rs)) [
-          | false ↦ refl
-          | true ↦ elim (links rules element to n r.to) as (λ o. is_some o ≡ true
-              → first_place (or_later (option_map (λ is. i ∷ is) o)
-              (λ u. first_link element from (links rules element to n) (suc i) rs)) ≡ Some i) [
-                | None ↦ λ f. absurd (not_false f)
-                | Some is ↦ λ yes. refl
-              ] leads
-        ])
-
-    pub level_push : (n i : ℕ) (r : Rule) (rs : List Rule) (places : List ℕ) → slice_get rules i ≡ Some r
-        → opens rules element to n places r ≡ true → (from : Kind)
-        → or_first (first_taking rules from (places ++ i ∷ [])) (rest_from n from (suc i) rs)
-        ≡ or_first (first_taking rules from places) (rest_from n from i (r ∷ rs))
-    level_push n i r rs places at opened from =
-        let a = both_true (is_for r.element element) (not (is_some (first_taking rules r.from places))
-        && is_some (links rules element to n r.to)) opened in
-        let b = both_true (not (is_some (first_taking rules r.from places))) (is_some (links rules element to n r.to))
-        a.1 in
-        let next = open_cases from n i r rs a.0 b.1 in
-        rw (taking_end from places i, takes_at from i r at, next)
-        (elim (first_taking rules from places) as (λ o. or_first (or_first o (if_taken (same_kind r.from from) i))
-        (rest_from n from (suc i) rs) ≡ or_first o (or_first (if_taken (same_kind r.from from) i)
-        (rest_from n from (suc i) rs))) [
-          | None ↦ refl
-          | Some j ↦ refl
-        ])
+    opened : (from : Kind) (n i : ℕ) (r : Rule) (rs : List Rule) → usable element from r ≡ true
+        → is_some (links rules element to n r.to) ≡ true → rest_from n from i (r ∷ rs) ≡ Some i
+    opened from n i r rs fits leads =
+        ap (λ b. first_place (or_later (with_place b i (links rules element to n) r.to)
+        (λ u. first_link element from (links rules element to n) (suc i) rs))) fits
+        ∙ elim (links rules element to n r.to) as (λ o. is_some o ≡ true
+        → first_place (or_later (option_map (λ is. i ∷ is) o)
+        (λ u. first_link element from (links rules element to n) (suc i) rs)) ≡ Some i) [
+          | None ↦ λ f. absurd (not_false f)
+          | Some is ↦ λ h. refl
+        ] leads
 
     unusable : (from : Kind) (n i : ℕ) (r : Rule) (rs : List Rule) → usable element from r ≡ false
         → rest_from n from i (r ∷ rs) ≡ rest_from n from (suc i) rs
@@ -117,92 +89,212 @@ module _ (rules : List Rule) where
               (λ u. first_link element from (links rules element to n) (suc i) rs))) none
         ]
 
-    taken : (from : Kind) (n i : ℕ) (r : Rule) (rs : List Rule) (places : List ℕ)
-        → is_some (first_taking rules r.from places) ≡ true
-        → or_first (first_taking rules from places) (rest_from n from (suc i) rs)
-        ≡ or_first (first_taking rules from places) (rest_from n from i (r ∷ rs))
-    taken from n i r rs places there = elim (same_kind r.from from) as
-        (λ b. same_kind r.from from ≡ b → or_first (first_taking rules from places) (rest_from n from (suc i) rs)
-        ≡ or_first (first_taking rules from places) (rest_from n from i (r ∷ rs))) [
-          | true ↦ λ yes.
-              let same : r.from ≡ from = kind_is r.from from yes in
-              let some : is_some (first_taking rules from places) ≡ true =
-              subst (λ k. is_some (first_taking rules k places) ≡ true) same there in
-              elim (first_taking rules from places) as (λ o. is_some o ≡ true
-              → or_first o (rest_from n from (suc i) rs) ≡ or_first o (rest_from n from i (r ∷ rs))) [
-                | None ↦ λ h. absurd (not_false h)
-                | Some j ↦ λ h. refl
-              ] some
-          | false ↦ λ off. ap (λ o. or_first (first_taking rules from places) o)
-              (sym (unusable from n i r rs (elim (is_for r.element element) as
-              (λ b. (b && same_kind r.from from) ≡ false)
-              [ true ↦ off | false ↦ refl ])))
-        ] refl
+    -- a converter from a type with another number
+    other_type : (kinds : List Kind) (a b : ℕ) (from : Kind) (r : Rule) → AllDiffer kinds
+        → slice_get kinds a ≡ Some from → slice_get kinds b ≡ Some r.from → (a ≡ b → ⊥) → usable element from r ≡ false
+    other_type kinds a b from r differ at there apart = is_false (usable element from r) (λ u.
+        let same : r.from ≡ from = kind_is r.from from
+        (both_true (is_for r.element element) (same_kind r.from from) u).1 in
+        apart (differ a b from at (there ∙ ap (λ k. Some k) same)))
 
-    pub level_skip : (n i : ℕ) (r : Rule) (rs : List Rule) (places : List ℕ) → opens rules element to n places r ≡ false
-        → (from : Kind)
-        → or_first (first_taking rules from places) (rest_from n from (suc i) rs)
-        ≡ or_first (first_taking rules from places) (rest_from n from i (r ∷ rs))
-    level_skip n i r rs places shut from =
-        elim (is_for r.element element) as (λ b. is_for r.element element ≡ b
-        → (b && (not (is_some (first_taking rules r.from places)) && is_some (links rules element to n r.to)))
-        ≡ false
-        → or_first (first_taking rules from places) (rest_from n from (suc i) rs)
-        ≡ or_first (first_taking rules from places) (rest_from n from i (r ∷ rs))) [
-          | false ↦ λ other h. ap (λ o. or_first (first_taking rules from places) o)
-              (sym (unusable from n i r rs (ap (λ b. b && same_kind r.from from) other)))
-          | true ↦ λ named h. elim (is_some (first_taking rules r.from places)) as
-              (λ b. is_some (first_taking rules r.from places) ≡ b
-              → (not b && is_some (links rules element to n r.to)) ≡ false
-              → or_first (first_taking rules from places) (rest_from n from (suc i) rs)
-              ≡ or_first (first_taking rules from places) (rest_from n from i (r ∷ rs))) [
-                | true ↦ λ there k. taken from n i r rs places there
-                | false ↦ λ off k. ap (λ o. or_first (first_taking rules from places) o)
-                    (sym (closed from n i r rs (none_is (links rules element to n r.to) k)))
-              ] refl h
-        ] refl shut
+    -- what holds of a level before the converter at i is read
+    pub record Begun (kinds : List Kind) (n i : ℕ) (level : List (Option Link)) : Type 0 where
+      pub count : length level ≡ length kinds
+      pub cells : (a : ℕ) (from : Kind) → slice_get kinds a ≡ Some from
+          → or_first (place_of (get_or level a None)) (rest_from n from i (drop i rules)) ≡ rest_from n from 0 rules
+      pub lead : (a : ℕ) (from : Kind) → slice_get kinds a ≡ Some from
+          → IfSome (get_or level a None) (Leads rules kinds)
 
-    abbrev pub Begun : ℕ → ℕ → List ℕ → Type 0
-    Begun n i places = (from : Kind) → or_first (first_taking rules from places) (rest_from n from i (drop i rules))
-        ≡ rest_from n from 0 rules
+    pub level_begun : (kinds : List Kind) (n : ℕ) (level : List (Option Link))
+        → level ≡ replicate (length kinds) None → Begun kinds n 0 level
+    level_begun kinds n level e =
+        let empty : (a : ℕ) (from : Kind) → slice_get kinds a ≡ Some from → get_or level a None ≡ None =
+        λ (a : ℕ) (from : Kind) (at : slice_get kinds a ≡ Some from).
+        ap (λ ls. get_or ls a None) e
+        ∙ get_or-replicate (length kinds) a None None (slice_get_within kinds a from at) in
+        record {
+          count = ap (λ ls. length ls) e ∙ length-replicate (length kinds) None;
+          cells = λ a from at. ap (λ (c : Option Link). or_first (place_of c) (rest_from n from 0 rules))
+              (empty a from at);
+          lead = λ a from at. subst (λ c. IfSome c (Leads rules kinds)) (sym (empty a from at)) tt;
+        }
 
-    pub level_next : (n i : ℕ) (r : Rule) (places longer : List ℕ)
-        → (slice_get rules i ≡ Some r) × (drop i rules ≡ r ∷ drop (suc i) rules)
-        → ((opens rules element to n places r ≡ true) × (longer ≡ places ++ i ∷ []))
-        ⊎ ((opens rules element to n places r ≡ false) × (longer ≡ places))
-        → Begun n i places → Begun n (i + 1) longer
-    level_next n i r places longer here step known from =
-        let next : suc i ≡ i + 1 = omega arith in
-        subst (λ j. or_first (first_taking rules from longer) (rest_from n from j (drop j rules))
-        ≡ rest_from n from 0 rules) next (elim step [
-          | inl more ↦ ap (λ ps. or_first (first_taking rules from ps) (rest_from n from (suc i) (drop (suc i) rules)))
-              more.1
-              ∙ level_push n i r (drop (suc i) rules) places here.0 more.0 from
-              ∙ ap (λ rs. or_first (first_taking rules from places) (rest_from n from i rs)) (sym here.1) ∙ known from
-          | inr off ↦ ap (λ ps. or_first (first_taking rules from ps) (rest_from n from (suc i) (drop (suc i) rules)))
-              off.1
-              ∙ level_skip n i r (drop (suc i) rules) places off.0 from
-              ∙ ap (λ rs. or_first (first_taking rules from places) (rest_from n from i rs)) (sym here.1) ∙ known from
+    pub level_made : (kinds : List Kind) (n i : ℕ) (level : List (Option Link)) → length rules ≤ i
+        → Begun kinds n i level → IsLevel rules element to kinds n level
+    level_made kinds n i level past b = (
+      b.count,
+      (λ a from at. (
+        sym (or_first-none (place_of (get_or level a None)))
+            ∙ ap (λ rs. or_first (place_of (get_or level a None)) (rest_from n from i rs))
+            (sym (drop_all i rules past))
+            ∙ b.cells a from at,
+        b.lead a from at,
+      )),
+    )
+
+    module _ (kinds : List Kind) (n i : ℕ) (r : Rule)
+        (here : (slice_get rules i ≡ Some r) × (drop i rules ≡ r ∷ drop (suc i) rules)) where
+      -- the cells after the converter at i is read
+      advance : (level longer : List (Option Link)) → length longer ≡ length level
+          → ((a : ℕ) (from : Kind) → slice_get kinds a ≡ Some from
+          → or_first (place_of (get_or longer a None)) (rest_from n from (suc i) (drop (suc i) rules))
+          ≡ or_first (place_of (get_or level a None)) (rest_from n from i (r ∷ drop (suc i) rules)))
+          → ((a : ℕ) (from : Kind) → slice_get kinds a ≡ Some from → IfSome (get_or longer a None) (Leads rules kinds))
+          → Begun kinds n i level → Begun kinds n (i + 1) longer
+      advance level longer same cells lead b =
+          let next : suc i ≡ i + 1 = omega arith in
+          subst (λ j. Begun kinds n j longer) next (record {
+            count = same ∙ b.count;
+            cells = λ a from at. cells a from at
+                ∙ ap (λ rs. or_first (place_of (get_or level a None)) (rest_from n from i rs)) (sym here.1)
+                ∙ b.cells a from at;
+            lead = lead;
+          })
+
+      skip : (level : List (Option Link)) → ((a : ℕ) (from : Kind) → slice_get kinds a ≡ Some from
+          → (is_some (get_or level a None) ≡ true)
+          ⊎ (rest_from n from i (r ∷ drop (suc i) rules) ≡ rest_from n from (suc i) (drop (suc i) rules)))
+          → Begun kinds n i level → Begun kinds n (i + 1) level
+      skip level why b = advance level level refl (λ a from at. elim (why a from at) [
+        | inl some ↦ elim (get_or level a None) as (λ c. is_some c ≡ true
+            → or_first (place_of c) (rest_from n from (suc i) (drop (suc i) rules))
+            ≡ or_first (place_of c) (rest_from n from i (r ∷ drop (suc i) rules))) [
+              | None ↦ λ h. absurd (not_false h)
+              | Some l ↦ λ h. refl
+            ] some
+        | inr same ↦ ap (λ o. or_first (place_of (get_or level a None)) o) (sym same)
+      ]) b.lead b
+
+      other_element : (level : List (Option Link)) → is_link element kinds i r None ≡ true
+          → Begun kinds n i level → Begun kinds n (i + 1) level
+      other_element level is = skip level (λ a from at. inr (unusable from n i r (drop (suc i) rules)
+          (ap (λ b. b && same_kind r.from from) (not_true (is_for r.element element) is))))
+
+      module _ (l : Link) (is : is_link element kinds i r (Some l) ≡ true) where
+        taken : (level : List (Option Link)) → AllDiffer kinds → is_some (get_or level l.from None) ≡ true
+            → Begun kinds n i level → Begun kinds n (i + 1) level
+        taken level differ some = skip level (λ a from at. elim (same_or_apart a l.from) [
+          | inl same ↦ inl (subst (λ x. is_some (get_or level x None) ≡ true) (sym same) some)
+          | inr apart ↦ inr (unusable from n i r (drop (suc i) rules)
+              (other_type kinds a l.from from r differ at (linked_is element kinds i r l is).from apart))
         ])
 
-    pub level_made : (n i : ℕ) (places : List ℕ) → length rules ≤ i → Begun n i places
-        → IsLevel rules element to n places
-    level_made n i places past known from =
-        sym (or_first-none (first_taking rules from places))
-        ∙ ap (λ rs. or_first (first_taking rules from places) (rest_from n from i rs)) (sym (drop_all i rules past))
-        ∙ known from
+        closes : (level : List (Option Link)) → is_some (links rules element to n r.to) ≡ false
+            → Begun kinds n i level → Begun kinds n (i + 1) level
+        closes level shut = skip level (λ a from at. inr (closed from n i r (drop (suc i) rules)
+            (none_is (links rules element to n r.to) shut)))
 
-    pub no_levels : (levels : List (List ℕ)) → levels ≡ [] → AreLevels rules element to levels
-    no_levels levels none n level found = absurd (not_none level
+        leads_on : Leads rules kinds l
+        leads_on =
+            let p = linked_is element kinds i r l is in
+            (r, ap (slice_get rules) p.place ∙ here.0, p.to)
+
+        opens : (level : List (Option Link)) → AllDiffer kinds → get_or level l.from None ≡ None
+            → is_some (links rules element to n r.to) ≡ true → Begun kinds n i level
+            → Begun kinds n (i + 1) (set level l.from (Some l))
+        opens level differ none leads b =
+            let p = linked_is element kinds i r l is in
+            let within : l.from < length level = omega (slice_get_within kinds l.from r.from p.from, b.count, arith) in
+            advance level (set level l.from (Some l)) (length-set level l.from (Some l))
+            (λ a from at. elim (same_or_apart a l.from) [
+              | inl same ↦
+                  let kind : from ≡ r.from = some_is from r.from (sym at ∙ ap (slice_get kinds) same ∙ p.from) in
+                  let usable : usable element from r ≡ true = true_both (is_for r.element element)
+                  (same_kind r.from from) p.named (same_from_is r.from from (sym kind)) in
+                  ap (λ (c : Option Link). or_first (place_of c) (rest_from n from (suc i) (drop (suc i) rules)))
+                  (ap (λ x. get_or (set level l.from (Some l)) x None) same
+                  ∙ get_or-set_same level l.from (Some l) None within)
+                  ∙ ap (λ x. Some x) p.place ∙ sym (opened from n i r (drop (suc i) rules) usable leads)
+                  ∙ ap (λ (c : Option Link). or_first (place_of c) (rest_from n from i (r ∷ drop (suc i) rules)))
+                  (sym (ap (λ x. get_or level x None) same ∙ none))
+              | inr apart ↦
+                  ap (λ (c : Option Link). or_first (place_of c) (rest_from n from (suc i) (drop (suc i) rules)))
+                  (get_or-set_other level l.from a (Some l) None apart)
+                  ∙ ap (λ o. or_first (place_of (get_or level a None)) o)
+                  (sym (unusable from n i r (drop (suc i) rules)
+                  (other_type kinds a l.from from r differ at p.from apart)))
+            ])
+            (λ a from at. elim (same_or_apart a l.from) [
+              | inl same ↦ subst (λ c. IfSome c (Leads rules kinds))
+                  (sym (ap (λ x. get_or (set level l.from (Some l)) x None) same
+                  ∙ get_or-set_same level l.from (Some l) None within)) leads_on
+              | inr apart ↦ subst (λ c. IfSome c (Leads rules kinds))
+                  (sym (get_or-set_other level l.from a (Some l) None apart)) (b.lead a from at)
+            ]) b
+
+        enters : (level : List (Option Link)) → AllDiffer kinds → Begun kinds n i level
+            → Begun kinds n (i + 1) (entered (is_some (links rules element to n r.to)) l level)
+        enters level differ b = elim (get_or level l.from None) as (λ c. get_or level l.from None ≡ c
+            → Begun kinds n (i + 1) (cond (not (is_some c) && is_some (links rules element to n r.to))
+            (set level l.from (Some l)) level)) [
+              | Some x ↦ λ e. taken level differ (ap (λ (c : Option Link). is_some c) e) b
+              | None ↦ λ e. elim (is_some (links rules element to n r.to)) as
+                  (λ d. is_some (links rules element to n r.to) ≡ d
+                  → Begun kinds n (i + 1) (cond d (set level l.from (Some l)) level)) [
+                    | true ↦ λ h. opens level differ e h b
+                    | false ↦ λ h. closes level h b
+                  ] refl
+            ] refl
+
+    -- the converter at i, as a link or none
+    module _ (kinds : List Kind) (i : ℕ) (ls : List (Option Link)) (are : AreLinks rules element kinds ls)
+        (count : length ls ≡ length rules) (within : i < length ls) where
+      link_at : (o : Option Link) → get_or ls i None ≡ o → (r : Rule)
+          × ((slice_get rules i ≡ Some r) × (drop i rules ≡ r ∷ drop (suc i) rules))
+          × (is_link element kinds i r o ≡ true)
+      link_at o e =
+          let here = there_is rules i (omega (arith, count, within)) in (
+            here.0,
+            (here.1, here.2),
+            are i here.0 o here.1 (slice_get-get_or ls i None within ∙ ap (λ x. Some x) e),
+          )
+
+      pub link_within : (l : Link) → get_or ls i None ≡ Some l → (l.from < length kinds) × (l.to < length kinds)
+      link_within l e =
+          let a = link_at (Some l) e in
+          let p = linked_is element kinds i a.0 l a.2 in
+          (slice_get_within kinds l.from a.0.from p.from, slice_get_within kinds l.to a.0.to p.to)
+
+      pub level_next : (n : ℕ) (level longer : List (Option Link)) → AllDiffer kinds
+          → ((l : Link) × (get_or ls i None ≡ Some l) × ((to' : Kind) → slice_get kinds l.to ≡ Some to'
+          → longer ≡ entered (is_some (links rules element to n to')) l level))
+          ⊎ ((get_or ls i None ≡ None) × (longer ≡ level))
+          → Begun kinds n i level → Begun kinds n (i + 1) longer
+      level_next n level longer differ step b = elim step [
+        | inl w ↦
+            let a = link_at (Some w.0) w.1 in
+            let p = linked_is element kinds i a.0 w.0 a.2 in
+            subst (λ ls. Begun kinds n (i + 1) ls) (sym (w.2 a.0.to p.to))
+            (enters kinds n i a.0 a.1 w.0 a.2 level differ b)
+        | inr w ↦
+            let a = link_at None w.0 in
+            subst (λ ls. Begun kinds n (i + 1) ls) (sym w.1) (other_element kinds n i a.0 a.1 level a.2 b)
+      ]
+
+    pub no_levels : (kinds : List Kind) (levels : List (List (Option Link))) → levels ≡ []
+        → AreLevels rules element to kinds levels
+    no_levels kinds levels none n level found = absurd (not_none level
         (sym (ap (λ ls. slice_get ls n) (sym none) ∙ found) ∙ slice_get_past [] n (omega arith)))
 
-    pub levels_push : (levels : List (List ℕ)) (level : List ℕ) → AreLevels rules element to levels
-        → IsLevel rules element to (length levels) level → AreLevels rules element to (levels ++ level ∷ [])
-    levels_push levels level known new n found at from = elim (at_end levels level found n at) [
-      | inl before ↦ known n found before from
-      | inr end ↦ ap (λ l. first_taking rules from l) (sym end.1) ∙ new from
-          ∙ ap (λ m. first_place (links rules element to (suc m) from)) (sym end.0)
+    levels_push : (kinds : List Kind) (levels : List (List (Option Link))) (level : List (Option Link))
+        → AreLevels rules element to kinds levels → IsLevel rules element to kinds (length levels) level
+        → AreLevels rules element to kinds (levels ++ level ∷ [])
+    levels_push kinds levels level known new n found at = elim (at_end levels level found n at) [
+      | inl before ↦ known n found before
+      | inr end ↦ subst (λ l. IsLevel rules element to kinds n l) end.1
+          (subst (λ m. IsLevel rules element to kinds m level) (sym end.0) new)
     ]
+
+    pub view_push : (kinds : List Kind) (levels : List (Vec (Option Link) Global)) (level : Vec (Option Link) Global)
+        → AreLevels rules element to kinds (levels_view levels)
+        → IsLevel rules element to kinds (length levels) level.items
+        → AreLevels rules element to kinds (levels_view (levels ++ level ∷ []))
+    view_push kinds levels level known new =
+        subst (λ ls. AreLevels rules element to kinds ls)
+        (sym (map-append (λ (v : Vec (Option Link) Global). v.items) levels (level ∷ [])))
+        (levels_push kinds (levels_view levels) level.items known
+        (subst (λ n. IsLevel rules element to kinds n level.items)
+        (sym (views levels)) new))
 
     -- ---- the way back
 
@@ -254,15 +346,18 @@ module _ (rules : List Rule) where
               ] e
         ] refl
 
-    pub leads_by : (levels : List (List ℕ)) (level : List ℕ) (from : Kind) → AreLevels rules element to levels
-        → slice_get levels (length levels - 1) ≡ Some level
-        → is_some (first_taking rules from level) ≡ is_some (links rules element to (length levels) from)
-    leads_by levels level from known found =
-        let within = slice_get_within levels (length levels - 1) level found in
-        let more : suc (length levels - 1) ≡ length levels = omega (arith, within) in
-        ap (λ (o : Option ℕ). is_some o) (known (length levels - 1) level found from)
-        ∙ some_place (length levels - 1) from
-        ∙ ap (λ m. is_some (links rules element to m from)) more
+    pub leads_by : (kinds : List Kind) (levels : List (List (Option Link))) (level : List (Option Link)) (n a : ℕ)
+        (from : Kind) → AreLevels rules element to kinds levels → slice_get levels n ≡ Some level
+        → slice_get kinds a ≡ Some from
+        → is_some (get_or level a None) ≡ is_some (links rules element to (suc n) from)
+    leads_by kinds levels level n a from known found at =
+        sym (is_some_map (λ (l : Link). l.place) (get_or level a None))
+        ∙ ap (λ (o : Option ℕ). is_some o) ((known n level found).1 a from at).0 ∙ some_place n from
+
+    pub leads_at_end : (kinds : List Kind) (a end : ℕ) (from : Kind) → AllDiffer kinds → slice_get kinds a ≡ Some from
+        → slice_get kinds end ≡ Some to → nat_eq a end ≡ is_some (links rules element to 0 from)
+    leads_at_end kinds a end from differ at there = same_number kinds a end from to differ at there
+        ∙ elim (same_kind from to) as (λ b. b ≡ is_some (if_same b)) [ true ↦ refl | false ↦ refl ]
 
     -- one more place on the way back
     pub behind_more : (places : List ℕ) (j : ℕ) (o : Option (List ℕ))
@@ -270,20 +365,59 @@ module _ (rules : List Rule) where
     behind_more places j None = refl
     behind_more places j (Some is) = ap (λ (x : List ℕ). Some x) (sym (append_assoc places (j ∷ []) is))
 
-    -- one step back
-    pub back : (levels : List (List ℕ)) (level : List ℕ) (n : ℕ) (from : Kind) (j : ℕ) (r : Rule)
-        → AreLevels rules element to levels → slice_get levels n ≡ Some level
-        → first_taking rules from level ≡ Some j → slice_get rules j ≡ Some r → (places : List ℕ)
-        → behind places (links rules element to (suc n) from)
-        ≡ behind (places ++ j ∷ []) (links rules element to n r.to)
-    back levels level n from j r known found first there places =
-        ap (behind places) (is_linked n from j r (sym (known n level found from) ∙ first) there)
-        ∙ behind_more places j (links rules element to n r.to)
+    pub behind_none : (places : List ℕ) (n : ℕ) (from : Kind) → places ≡ []
+        → links rules element to n from ≡ behind places (links rules element to n from)
+    behind_none places n from none =
+        elim (links rules element to n from) as (λ o. o ≡ behind [] o) [ None ↦ refl | Some is ↦ refl ]
+        ∙ ap (λ ps. behind ps (links rules element to n from)) (sym none)
 
-    pub no_way : (levels : List (List ℕ)) (level : List ℕ) (n : ℕ) (from : Kind) → AreLevels rules element to levels
-        → slice_get levels n ≡ Some level
-        → first_taking rules from level ≡ None → links rules element to (suc n) from ≡ None
-    no_way levels level n from known found none = no_link n from (sym (known n level found from) ∙ none)
+    -- what is left of the way from the start, when these places are behind
+    pub record Left (kinds : List Kind) (places : List ℕ) (n a : ℕ) (all : Option (List ℕ)) : Type 0 where
+      pub at : Kind
+      pub number : slice_get kinds a ≡ Some at
+      pub way : all ≡ behind places (links rules element to n at)
+
+    -- one step back
+    pub back : (kinds : List Kind) (levels : List (List (Option Link))) (level : List (Option Link)) (n a : ℕ)
+        (l : Link) (places : List ℕ) (all : Option (List ℕ)) → AreLevels rules element to kinds levels
+        → slice_get levels n ≡ Some level → get_or level a None ≡ Some l → Left kinds places (suc n) a all
+        → Left kinds (places ++ l.place ∷ []) n l.to all
+    back kinds levels level n a l places all known found cell left =
+        let step = (known n level found).1 a left.at left.number in
+        let on : Leads rules kinds l = subst (λ c. IfSome c (Leads rules kinds)) cell step.1 in
+        record {
+          at = on.0.to;
+          number = on.2;
+          way = left.way
+              ∙ ap (behind places) (is_linked n left.at l.place on.0
+              (sym step.0 ∙ ap (λ (c : Option Link). place_of c) cell) on.1)
+              ∙ behind_more places l.place (links rules element to n on.0.to);
+        }
+
+    pub cell_within : (kinds : List Kind) (levels : List (List (Option Link))) (level : List (Option Link)) (n m a : ℕ)
+        (places : List ℕ) (all : Option (List ℕ)) → AreLevels rules element to kinds levels
+        → slice_get levels n ≡ Some level → Left kinds places m a all → a < length level
+    cell_within kinds levels level n m a places all known found left =
+        omega (slice_get_within kinds a left.at left.number, (known n level found).0, arith)
+
+    pub no_way : (kinds : List Kind) (levels : List (List (Option Link))) (level : List (Option Link)) (n a : ℕ)
+        (places : List ℕ) (all : Option (List ℕ)) → AreLevels rules element to kinds levels
+        → slice_get levels n ≡ Some level → get_or level a None ≡ None → Left kinds places (suc n) a all → all ≡ None
+    no_way kinds levels level n a places all known found cell left =
+        let step = (known n level found).1 a left.at left.number in
+        left.way ∙ ap (behind places)
+        (no_link n left.at (sym step.0 ∙ ap (λ (c : Option Link). place_of c) cell))
+
+    -- at the end of the way
+    pub arrived : (kinds : List Kind) (places : List ℕ) (a end : ℕ) (all : Option (List ℕ)) → AllDiffer kinds
+        → slice_get kinds end ≡ Some to → Left kinds places 0 a all → all ≡ cond (nat_eq a end) (Some places) None
+    arrived kinds places a end all differ there left =
+        left.way ∙ ap (λ b. behind places (if_same b))
+        (sym (same_number kinds a end left.at to differ left.number there))
+        ∙ elim (nat_eq a end) as (λ b. behind places (if_same b) ≡ cond b (Some places) None) [
+          | true ↦ ap (λ (x : List ℕ). Some x) (append-nil places)
+          | false ↦ refl
+        ]
 
     -- ---- the lengths one after the other
 

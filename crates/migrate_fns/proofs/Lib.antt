@@ -1,4 +1,3 @@
-pub mod Facts
 pub mod Found
 pub mod Levels
-pub mod SameKinds
+pub mod TypeNumbers

@@ -1,6 +1,6 @@
 -- Chains of converters: which lists of places fit, which of them is the shortest and then least, and the search for it.
 use Rattle.std.specs.Prelude.{◌≡◌, ◌⊎◌, ℕ, zero, suc, List, [], ◌∷◌, length, Bool, true, false, cond, ◌&&◌, nat_le}
-use Rattle.std.specs.Prelude.{nat_lt, nat_eq, Option, Some, None, option_map, is_some, not, slice_get, ⊤}
+use Rattle.std.specs.Prelude.{nat_lt, nat_eq, Option, Some, None, option_map, slice_get, ⊤}
 use Rattle.value_model.specs.Kinds.{Kind}
 use Rattle.migrate_fns.specs.Rules.{Rule, is_for}
 use Rattle.migrate_fns.specs.SameKind.{same_kind}
@@ -68,7 +68,7 @@ shortest rules element from to (suc fuel) n = or_later (links rules element to n
 unfoldable pub chain_of : List Rule → List ℕ → Kind → Kind → Option (List ℕ)
 chain_of rules element from to = shortest rules element from to 8 1
 
--- ---- levels of the search
+-- ---- steps of the search
 
 abbrev pub first_place : Option (List ℕ) → Option ℕ
 first_place None = None
@@ -77,22 +77,3 @@ first_place (Some (i ∷ is)) = Some i
 
 abbrev pub takes : List Rule → Kind → ℕ → Bool
 takes rules from i = elim (slice_get rules i) [ None ↦ false | Some r ↦ same_kind r.from from ]
-
-abbrev pub first_taking : List Rule → Kind → List ℕ → Option ℕ
-first_taking rules from [] = None
-first_taking rules from (i ∷ is) = cond (takes rules from i) (Some i) (first_taking rules from is)
-
--- the level holds, for every type from which a list of n + 1 links leads to the end, the place that the least of them
--- begins with
-abbrev pub IsLevel : List Rule → List ℕ → Kind → ℕ → List ℕ → Type 0
-IsLevel rules element to n level = (from : Kind) → first_taking rules from level
-    ≡ first_place (links rules element to (suc n) from)
-
-abbrev pub AreLevels : List Rule → List ℕ → Kind → List (List ℕ) → Type 0
-AreLevels rules element to levels = (n : ℕ) (level : List ℕ) → slice_get levels n ≡ Some level
-    → IsLevel rules element to n level
-
--- the converter begins a list of n + 1 links to the end, from a type that these places do not take yet
-abbrev pub opens : List Rule → List ℕ → Kind → ℕ → List ℕ → Rule → Bool
-opens rules element to n places r = is_for r.element element
-    && (not (is_some (first_taking rules r.from places)) && is_some (links rules element to n r.to))

@@ -1,6 +1,9 @@
 pub mod Chains
+pub mod Fingerprints
+pub mod Links
 pub mod Rules
 pub mod SameKind
 pub mod Samples
 pub mod Stored
 pub mod Widened
+pub mod lemmas

@@ -8,7 +8,7 @@ ghost use Rattle.migrate_fns.specs.Rules.{ConvertsTo, first_type, last_type, rea
 ghost use Rattle.migrate_fns.specs.Stored.{answers_of, rules_of};
 
 use crate::migrations::Migrations;
-use crate::search::Search;
+use crate::search::places_of_chain;
 use per_base::{Name, Numbers};
 use std::alloc::{AllocError, Global};
 use typed_value::{Value, ValueType};
@@ -96,12 +96,7 @@ impl Migrations {
         ensures last { IfOk result (λ chain. IfSome chain (λ c. last_type (rules_of self.now) c.places
             ≡ Some (kind_of to.now))) }
     {
-        let search = Search {
-            list: self.as_slice(),
-            element,
-            to,
-        };
-        match search.run(alloc, from)? {
+        match places_of_chain(alloc, self.as_slice(), element, from, to)? {
             None => Ok(None),
             Some(places) => Ok(Some(Chain {
                 migrations: self,

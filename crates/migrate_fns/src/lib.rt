@@ -7,16 +7,19 @@
 //!
 //! [`Migrations`] is a list of them. `find` gives the first with two types that names an element or none. `find_chain`
 //! gives the shortest list of 1 to 8 that lead from one type to another, one after the other, and of these the least by
-//! places; none exactly where there is none. It goes back from the wanted type, level by level: a level holds each type
-//! once, so hundreds of converters cost no exhaustive walk. A [`Chain`] is such a list, and answers what its stored
-//! functions, one after the other, may answer.
+//! places; none exactly where there is none. It first numbers the types of the converters, each compared with those of
+//! its fingerprint alone, and then goes back from the wanted type, level by level, over numbers alone: a level holds
+//! each type once, so hundreds of converters cost no exhaustive walk. A [`Chain`] is such a list, and answers what its
+//! stored functions, one after the other, may answer.
 //!
 //! [`u8_to_u16`] and its like are functions to be stored: they keep the number, in twice the bytes.
 #![tactic(auto)]
 
 mod chains;
 mod converters;
+mod fingerprints;
 mod migrations;
+mod numbering;
 mod search;
 
 pub use chains::Chain;

@@ -1,5 +1,5 @@
 use Rattle.value_model.specs.Views.{kind_of}
-use Rattle.migrate_fns.proofs.SameKinds.{same_test}
+use Rattle.migrate_fns.specs.lemmas.SameKinds.{same_test}
 use Rattle.migrate_fns.proofs.migrations.is_same.Goals as goal
 
 pub returns : goal.returns

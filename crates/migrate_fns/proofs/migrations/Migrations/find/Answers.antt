@@ -1,7 +1,7 @@
 use Rattle.std.proofs.Common.{◌∙◌, sym}
 use Rattle.value_model.specs.Views.{kind_of}
 use Rattle.migrate_fns.specs.Stored.{rule_of}
-use Rattle.migrate_fns.proofs.SameKinds.{serves_types}
+use Rattle.migrate_fns.specs.lemmas.SameKinds.{serves_types}
 use Rattle.migrate_fns.proofs.migrations.Migrations.find.Goals as goal
 
 pub returns-then-serves-clause-from : goal.returns-then-serves-clause-from

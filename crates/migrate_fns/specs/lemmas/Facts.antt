@@ -1,8 +1,9 @@
 -- Facts on tests and options.
 use Rattle.std.proofs.Common.{◌≡◌, ℕ, suc, ◌<◌, ◌≤◌, zero, Bool, true, false, List, [], ◌∷◌, ◌++◌, length, Option, Some}
-use Rattle.std.proofs.Common.{None, refl, sym, ap, arith, inl, inr}
-use Rattle.std.specs.Prelude.{◌⊎◌, ◌&&◌, nat_eq, slice_get, unwrap_or, is_some}
+use Rattle.std.proofs.Common.{None, refl, sym, ap, arith, inl, inr, get_or, drop, map, ◌-◌, ◌∙◌}
+use Rattle.std.specs.Prelude.{◌⊎◌, ◌&&◌, not, nat_eq, slice_get, unwrap_or, is_some, option_map}
 use Rattle.std.proofs.lemmas.Bool.{eqb-true}
+use Rattle.std.proofs.lemmas.Option.{get_or_from_slice_get, slice_get-get_or, slice_get-map, slice_get_read}
 
 pub not_false : false ≡ true → ⊥
 not_false e = cc
@@ -10,6 +11,10 @@ not_false e = cc
 pub is_false : (b : Bool) → (b ≡ true → ⊥) → b ≡ false
 is_false true f = absurd (f refl)
 is_false false f = refl
+
+pub not_true : (b : Bool) → not b ≡ true → b ≡ false
+not_true true e = absurd (not_false e)
+not_true false e = refl
 
 pub both_true : (a b : Bool) → (a && b) ≡ true → (a ≡ true) × (b ≡ true)
 both_true true b e = (refl, e)
@@ -48,6 +53,12 @@ compare (suc i) (suc j) = elim (compare i j) [
       elim e [ inl s ↦ inr (inl (ap suc s)) | inr h ↦ inr (inr (omega (arith, h))) ]
 ]
 
+pub same_or_apart : (i j : ℕ) → (i ≡ j) ⊎ (i ≡ j → ⊥)
+same_or_apart i j = elim (compare i j) [
+  | inl less ↦ inr (λ e. omega (arith, less, e))
+  | inr more ↦ elim more [ inl same ↦ inl same | inr greater ↦ inr (λ e. omega (arith, greater, e)) ]
+]
+
 pub less_not_equal : (k n : ℕ) → k < n → nat_eq k n ≡ false
 less_not_equal k n lt = is_false (nat_eq k n) (λ is. let e : k ≡ n = eqb-true k n is in omega (arith, lt, e))
 
@@ -69,3 +80,32 @@ at_end [] y z zero e = inr (refl, some_is y z e)
 at_end [] y z (suc n) e = absurd (not_none z (sym e))
 at_end (x ∷ xs) y z zero e = inl e
 at_end (x ∷ xs) y z (suc n) e = elim (at_end xs y z n e) [ inl h ↦ inl h | inr h ↦ inr (ap suc h.0, h.1) ]
+
+pub still_at : {A : Type 0} (xs ys : List A) (n : ℕ) (x : A) → slice_get xs n ≡ Some x → slice_get (xs ++ ys) n ≡ Some x
+still_at [] ys n x e = absurd (not_none x (sym e))
+still_at (y ∷ xs) ys zero x e = e
+still_at (y ∷ xs) ys (suc n) x e = still_at xs ys n x e
+
+pub last_at : {A : Type 0} (xs : List A) (x : A) → slice_get (xs ++ x ∷ []) (length xs) ≡ Some x
+last_at [] x = refl
+last_at (y ∷ xs) x = last_at xs x
+
+pub read_as : {A : Type 0} (xs : List A) (n : ℕ) (x d : A) → n < length xs → x ≡ get_or xs n x → get_or xs n d ≡ x
+read_as xs n x d within read = get_or_from_slice_get xs n x d (slice_get_read xs (length xs) n x refl within read)
+
+pub no_last : {A : Type 0} (xs : List A) → slice_get xs (length xs - 1) ≡ None → length xs ≡ 0
+no_last [] e = refl
+no_last (x ∷ xs) e = absurd (not_none (get_or (x ∷ xs) (length (x ∷ xs) - 1) x)
+    (sym (slice_get-get_or (x ∷ xs) (length (x ∷ xs) - 1) x (omega arith)) ∙ e))
+
+-- an element of a list, and what is left from there
+pub there_is : {A : Type 0} (xs : List A) (n : ℕ) → n < length xs
+    → (x : A) × (slice_get xs n ≡ Some x) × (drop n xs ≡ x ∷ drop (suc n) xs)
+there_is [] n within = absurd (omega (arith, within))
+there_is (x ∷ xs) zero within = (x, refl, refl)
+there_is (x ∷ xs) (suc n) within = there_is xs n (omega (arith, within))
+
+pub mapped_at : {A B : Type 0} (f : A → B) (xs : List A) (n : ℕ) (x : A) → n < length xs → x ≡ get_or xs n x
+    → slice_get (map f xs) n ≡ Some (f x)
+mapped_at f xs n x within read = slice_get-map f xs n
+    ∙ ap (λ o. option_map f o) (slice_get_read xs (length xs) n x refl within read)

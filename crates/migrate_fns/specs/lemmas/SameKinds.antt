@@ -5,7 +5,7 @@ use Rattle.value_model.specs.Kinds.{Size, one, two, four, eight, Kind, bool_kind
 use Rattle.value_model.specs.Kinds.{bytes_kind, list_kind, fields_kind, Kinds, no_kinds, kind_then}
 use Rattle.migrate_fns.specs.Rules.{Rule, is_for, serves}
 use Rattle.migrate_fns.specs.SameKind.{same_size, same_kind, same_kinds}
-use Rattle.migrate_fns.proofs.Facts.{not_false, is_false, both_true, true_both}
+use Rattle.migrate_fns.specs.lemmas.Facts.{not_false, is_false, both_true, true_both}
 
 size_is : (s t : Size) → same_size s t ≡ true → s ≡ t
 size_is one one h = refl
