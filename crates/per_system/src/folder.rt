@@ -48,6 +48,29 @@ struct OpenFile {
     file: File,
     /// Whether it was written since the last sync.
     is_written: bool,
+    /// Its length, where the system was asked for it and no write failed since.
+    size: Option<u64>,
+}
+
+impl OpenFile {
+    /// Its length. The system is asked for it once: only this disk writes the file.
+    fn size(&mut self) -> io::Result<u64> {
+        if let Some(size) = self.size {
+            return Ok(size);
+        }
+        let size = self.file.metadata()?.len();
+        self.size = Some(size);
+        Ok(size)
+    }
+
+    fn write_all_at(&mut self, at: u64, bytes: &[u8]) -> io::Result<()> {
+        let known = self.size.take();
+        self.is_written = true;
+        self.file.write_all_at(bytes, at)?;
+        let end = at.saturating_add(bytes.len() as u64);
+        self.size = known.map(|size| size.max(end));
+        Ok(())
+    }
 }
 
 impl<'a, R: Files<File = File>> DirDisk<'a, R> {
@@ -178,11 +201,10 @@ impl<'a, R: Files<File = File>> Folder<'a, R> {
     fn size(&mut self, number: u32) -> Result<u64, Failure> {
         self.hand_over_of(number)?;
         self.find(number)?;
-        match self.files.get(&number) {
-            Some(open) => match open.file.metadata() {
-                Ok(metadata) => Ok(metadata.len()),
-                Err(error) => Err(failed(Asked::Size, number, error)),
-            },
+        match self.files.get_mut(&number) {
+            Some(open) => open
+                .size()
+                .map_err(|error| failed(Asked::Size, number, error)),
             None => Ok(0),
         }
     }
@@ -237,9 +259,7 @@ impl<'a, R: Files<File = File>> Folder<'a, R> {
             let error = io::Error::from(io::ErrorKind::NotFound);
             return Err(failed(Asked::Write, number, error));
         };
-        open.is_written = true;
-        open.file
-            .write_all_at(piece.bytes(), piece.at())
+        open.write_all_at(piece.at(), piece.bytes())
             .map_err(|error| failed(Asked::Write, number, error))?;
         self.piece = None;
         Ok(())
@@ -297,6 +317,7 @@ impl<'a, R: Files<File = File>> Folder<'a, R> {
         let open = OpenFile {
             file,
             is_written: false,
+            size: None,
         };
         match self.files.insert(number, open) {
             Ok(_) => {
