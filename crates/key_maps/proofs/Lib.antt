@@ -1,7 +1,0 @@
-pub mod Both
-pub mod Differing
-pub mod Opened
-pub mod Ordered
-pub mod Picked
-pub mod Steps
-pub mod Sums

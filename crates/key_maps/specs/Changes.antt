@@ -1,18 +1,18 @@
--- What makes one map of keys into another, as a map from names to changes.
-use Rattle.std.specs.Prelude.{◌≡◌, ℕ, List, [], ◌∷◌, Bool, true, false, cond, ◌&&◌, nat_eq, Option, None, Some}
-use Rattle.std.specs.BTreeMap.{is_at}
+-- What makes one map of keys into another, as the changes of a commit.
+use Rattle.std.specs.Prelude.{◌≡◌, ℕ, List, [], ◌∷◌, map, filter_map, Bool, true, false, cond, ◌&&◌, nat_eq, Option}
+use Rattle.std.specs.Prelude.{None, Some}
 use Rattle.std.specs.List.Sorted.{IsStrictlySortedBy}
-use Rattle.std.specs.Map.{keys_of, lookup}
 use Rattle.std.specs.Str.{bytes_eq}
+use Rattle.per_base.specs.Changes.{change_at, changed_name}
+use Rattle.per_base.specs.declared.elements.Change.{Change}
+use Rattle.per_base.specs.declared.elements.Change.TheVariants.{Put, Remove}
 use Rattle.per_base.specs.declared.elements.Content.{Content}
 use Rattle.per_base.specs.declared.elements.Content.TheVariants.{Good, Bad}
 use Rattle.per_base.specs.declared.elements.Element.{Element}
 use Rattle.per_base.specs.Maps.{Map, element_at}
 use Rattle.per_base.specs.Names.{name_cmp}
-use Rattle.key_maps.specs.declared.changes.KeyChange.{KeyChange}
-use Rattle.key_maps.specs.declared.changes.KeyChange.TheVariants.{Put, Remove}
-use Rattle.key_maps.specs.declared.cells.Cell.{Cell}
-use Rattle.key_maps.specs.Cells.{synced_of, visible_of}
+use Rattle.key_maps.specs.declared.key_states.KeyState.{KeyState}
+use Rattle.key_maps.specs.KeyStates.{KeyStates, synced_of, visible_of}
 
 abbrev pub same_salvage : Option (List ℕ) → Option (List ℕ) → Bool
 same_salvage None None = true
@@ -37,23 +37,28 @@ abbrev pub bytes_of : Content → List ℕ
 bytes_of (Good bytes) = bytes
 bytes_of (Bad salvage) = []
 
-abbrev pub removal : Option Element → Option KeyChange
-removal None = None
-removal (Some old) = Some Remove
+abbrev pub put : List ℕ → Element → Change
+put name key = Put (record { name = name; info = None; bytes = bytes_of key.content })
 
--- what is to be done where the one stands and the other shall
-abbrev pub difference : Option Element → Option Element → Option KeyChange
-difference old None = removal old
-difference old (Some key) = cond (is_same old key) None (Some (Put (bytes_of key.content)))
+abbrev pub removal : List ℕ → Option Element → Option Change
+removal name None = None
+removal name (Some old) = Some (Remove name)
+
+-- what is to be done at a name where the one stands and the other shall, and nothing where both are the same
+abbrev pub difference : List ℕ → (old new : Option Element) → Option Change
+difference name old None = removal name old
+difference name old (Some key) = cond (is_same old key) None (Some (put name key))
 
 -- the changes that make the first map into the second: in the order of the names, and exactly where the two differ
-pub record AreChanges (changes : List (List ℕ × KeyChange)) (old new : Map) : Type 0 where
-  pub ordered : IsStrictlySortedBy name_cmp (keys_of changes)
-  pub exact : (name : List ℕ) → lookup (is_at (name_cmp name)) changes
-      ≡ difference (element_at old name) (element_at new name)
+pub record AreChanges (changes : List Change) (old new : Map) : Type 0 where
+  pub ordered : IsStrictlySortedBy name_cmp (map changed_name changes)
+  pub exact : (name : List ℕ) → change_at name changes ≡ difference name (element_at old name) (element_at new name)
 
-abbrev pub change_of : Cell → Option KeyChange
-change_of cell = difference (synced_of cell) (visible_of cell)
+abbrev pub change_of : List ℕ → KeyState → Option Change
+change_of name state = difference name (synced_of state) (visible_of state)
+
+abbrev pub changes_of : KeyStates → List Change
+changes_of states = filter_map (λ (e : List ℕ × KeyState). change_of e.0 e.1) states
 
 abbrev pub has_any : {A : Type 0} → List A → Bool
 has_any [] = false

@@ -1,6 +1,7 @@
-pub mod Cells
 pub mod Changes
 pub mod KeyElements
+pub mod KeyStates
 pub mod Picked
 pub mod Shown
 pub mod TwoMaps
+pub mod lemmas

@@ -1,23 +1,21 @@
 //! The two maps of a session of keys: what is synchronised, and what calls see.
 //!
-//! A [`KeyMaps`] keeps both in one ordered map of cells, so that a look-up and a change take logarithmic time, and so
-//! that discarding all pending changes, removing all keys and settling after a commit take no memory. The number and
-//! the size of the visible keys are kept, never counted anew.
+//! A [`KeyMaps`] keeps both in one ordered map of key states, so that a look-up and a change take logarithmic time, and
+//! so that discarding all pending changes, removing all keys and marking all as synchronised take no memory. The number
+//! and the size of the visible keys are kept, never counted anew.
 //!
 //! A map holds encodings, each beside the value that it encodes ([`Stored`]): a value is decoded once, when it comes
 //! from the disk, and encoded once, when it is put. What a sync hands down ([`KeyMaps::changes`]) is exactly what
 //! differs between the maps.
 #![tactic(auto)]
 
-mod cells;
-mod changes;
 mod extents;
 mod key_elements;
+mod key_states;
 mod maps;
 mod opening;
 mod stored;
 
-pub use changes::KeyChange;
 pub use key_elements::{KeyContent, KeyElement};
 pub use maps::{KEYS, KeyMaps, STORAGE_BYTES};
 pub use stored::Stored;

@@ -9,11 +9,10 @@ ghost use Rattle.key_maps.specs.Changes.{AreChanges};
 ghost use Rattle.key_maps.specs.KeyElements.{is_readable};
 ghost use Rattle.key_maps.specs.TwoMaps.{AreTwoMaps};
 
-use crate::cells::{self, Cell};
-use crate::changes::KeyChange;
 use crate::extents::Extent;
 use crate::key_elements::KeyElement;
-use per_base::{Name, element_size};
+use crate::key_states::{self, KeyState};
+use per_base::{Change, Name, element_size};
 use std::alloc::{AllocError, Global};
 use std::collections::BTreeMap;
 use std::marker::Model;
@@ -27,7 +26,7 @@ pub const STORAGE_BYTES: u64 = 4_194_304;
 /// What is synchronised, and what is visible. Contracts see both as maps from names to elements.
 #[derive(Drop)]
 pub struct KeyMaps {
-    pub(crate) cells: BTreeMap<Name, Cell>,
+    pub(crate) states: BTreeMap<Name, KeyState>,
     pub(crate) synced: Extent,
     pub(crate) visible: Extent,
 }
@@ -37,16 +36,16 @@ impl Model for KeyMaps {
 
     ghost Value = { TwoMaps };
 
-    ghost use Rattle.key_maps.specs.Cells.{AreMeasured, synced_map, visible_map};
+    ghost use Rattle.key_maps.specs.KeyStates.{AreMeasured, synced_map, visible_map};
 
-    ghost view = { λ m. record { synced = synced_map m.cells.entries; visible = visible_map m.cells.entries } };
+    ghost view = { λ m. record { synced = synced_map m.states.entries; visible = visible_map m.states.entries } };
 
-    ghost invariant = { λ m. AreMeasured m.cells.entries m.synced m.visible };
+    ghost invariant = { λ m. AreMeasured m.states.entries m.synced m.visible };
 }
 
 impl KeyMaps {
     /// What always holds of the maps.
-    pub fn holds(&self)
+    pub fn invariants(&self)
         ensures { AreTwoMaps self.now }
     {
         let _size = self.visible.size;
@@ -56,7 +55,7 @@ impl KeyMaps {
     pub fn get(&self, name: &Name) -> Option<&KeyElement>
         ensures { option_copied result ≡ element_at self.now.visible name.now }
     {
-        cells::get(&self.cells, name)
+        key_states::get(&self.states, name)
     }
 
     /// Whether this name is visible, readable or not. Takes no memory.
@@ -86,7 +85,7 @@ impl KeyMaps {
     pub fn names(&self, alloc: Global) -> Result<Vec<Name>, AllocError>
         ensures { IfOk result (λ names. names.items ≡ names_of self.now.visible) }
     {
-        cells::names(alloc, &self.cells)
+        key_states::names(alloc, &self.states)
     }
 
     /// The size of the visible map with a key of this length under this name, in bytes. Takes no memory.
@@ -97,14 +96,14 @@ impl KeyMaps {
     }
 
     /// The number and the size of the visible keys with a key of this length under this name.
-    #[tactic(auto, using(crate::proofs::Both::size_set, crate::proofs::Both::size_new, crate::proofs::Both::size_gone, crate::proofs::Both::count_set, crate::proofs::Both::count_new, crate::proofs::Both::visible_sorted))]
+    #[tactic(auto, using(crate::specs::lemmas::Both::size_set, crate::specs::lemmas::Both::size_new, crate::specs::lemmas::Both::size_gone, crate::specs::lemmas::Both::count_set, crate::specs::lemmas::Both::count_new, crate::specs::lemmas::Both::visible_sorted))]
     fn extent_with(&self, name: &Name, len: u32) -> Extent
         ensures counted { (key : Element) → key.len ≡ len → result.count
             ≡ length (with_element self.now.visible name.now key) }
         ensures sized { (key : Element) → key.len ≡ len → result.size
             ≡ size_of (with_element self.now.visible name.now key) }
     {
-        match cells::get(&self.cells, name) {
+        match key_states::get(&self.states, name) {
             Some(old) => Extent {
                 count: self.visible.count,
                 size: self.visible.size - u64::from(old.len()) + u64::from(len),
@@ -125,7 +124,7 @@ impl KeyMaps {
         ensures unchanged { OnErr result (self.new ≡ self.old) }
     {
         let extent = self.extent_with(name, key.len());
-        cells::put(&mut self.cells, name, key)?;
+        key_states::put(&mut self.states, name, key)?;
         self.visible = extent;
         Ok(())
     }
@@ -136,14 +135,14 @@ impl KeyMaps {
         ensures removed { self.new ≡ record self.old { visible = without self.old.visible name.now } }
         ensures unchanged { OnFalse result (self.new ≡ self.old) }
     {
-        let Some(old) = cells::get(&self.cells, name) else {
+        let Some(old) = key_states::get(&self.states, name) else {
             return false;
         };
         let extent = Extent {
             count: self.visible.count - 1,
             size: self.visible.size - element_size(name, old.len()),
         };
-        cells::remove(&mut self.cells, name);
+        key_states::remove(&mut self.states, name);
         self.visible = extent;
         true
     }
@@ -152,7 +151,7 @@ impl KeyMaps {
     pub fn clear(&mut self)
         ensures { self.new ≡ record self.old { visible = [] } }
     {
-        cells::clear(&mut self.cells);
+        key_states::clear(&mut self.states);
         self.visible = Extent { count: 0, size: 0 };
     }
 
@@ -160,15 +159,15 @@ impl KeyMaps {
     pub fn discard(&mut self)
         ensures { self.new ≡ record self.old { visible = self.old.synced } }
     {
-        cells::discard(&mut self.cells);
+        key_states::discard(&mut self.states);
         self.visible = self.synced;
     }
 
     /// Makes synchronised what is visible. Takes no memory.
-    pub fn settle(&mut self)
+    pub fn mark_synced(&mut self)
         ensures { self.new ≡ record self.old { synced = self.old.visible } }
     {
-        cells::settle(&mut self.cells);
+        key_states::mark_synced(&mut self.states);
         self.synced = self.visible;
     }
 
@@ -177,15 +176,15 @@ impl KeyMaps {
         ensures { (result ≡ false) ↔ (self.now.synced ≡ self.now.visible) }
     {
         let _size = self.visible.size;
-        cells::has_changes(&self.cells)
+        key_states::has_changes(&self.states)
     }
 
     /// What a sync hands down: the changes that make the synchronised map into the visible one, exactly where they
     /// differ.
-    pub fn changes(&self, alloc: Global) -> Result<Vec<(Name, KeyChange)>, AllocError>
+    pub fn changes(&self, alloc: Global) -> Result<Vec<Change>, AllocError>
         ensures { IfOk result (λ changes. AreChanges changes.items self.now.synced self.now.visible) }
     {
         let _size = self.visible.size;
-        cells::changes(alloc, &self.cells)
+        key_states::changes(alloc, &self.states)
     }
 }

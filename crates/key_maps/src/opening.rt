@@ -5,12 +5,12 @@ ghost use Rattle.std.specs.List.{All};
 ghost use Rattle.std.specs.List.Sorted.{IsStrictlySortedBy};
 ghost use Rattle.per_base.specs.Maps.{size_of};
 ghost use Rattle.per_base.specs.Names.{name_cmp};
-ghost use Rattle.key_maps.specs.Cells.{opened};
+ghost use Rattle.key_maps.specs.KeyStates.{opened};
 ghost use Rattle.key_maps.specs.KeyElements.{IsKeyEntry, entry_names, judged_map};
 
-use crate::cells::{Cell, Pending, add};
 use crate::extents::Extent;
 use crate::key_elements::KeyElement;
+use crate::key_states::{KeyState, Pending, add};
 use crate::maps::{KEYS, KeyMaps, STORAGE_BYTES};
 use per_base::{Entry, Name, storage_size};
 use std::alloc::{AllocError, Global};
@@ -18,7 +18,7 @@ use std::collections::BTreeMap;
 
 impl KeyMaps {
     /// The maps of the keys that these entries are: each is judged, and nothing is pending.
-    #[tactic(auto, using(crate::proofs::Opened::opened_synced, crate::proofs::Opened::opened_visible, crate::proofs::Opened::opened_measured, crate::proofs::Opened::judged_size))]
+    #[tactic(auto, using(crate::specs::lemmas::Opened::opened_synced, crate::specs::lemmas::Opened::opened_visible, crate::specs::lemmas::Opened::opened_measured, crate::specs::lemmas::Opened::judged_size))]
     pub fn new(alloc: Global, entries: &[Entry]) -> Result<KeyMaps, AllocError>
         requires keys { All IsKeyEntry entries.now }
         requires ordered { IsStrictlySortedBy name_cmp (entry_names entries.now) }
@@ -30,33 +30,33 @@ impl KeyMaps {
               judged_map entries.now;
         }) }
     {
-        let cells = cells_of(alloc, entries)?;
+        let states = states_of(alloc, entries)?;
         let extent = Extent {
             count: entries.len(),
             size: storage_size(entries),
         };
         Ok(KeyMaps {
-            cells,
+            states,
             synced: extent,
             visible: extent,
         })
     }
 }
 
-#[tactic(auto, using(crate::proofs::Opened::opened_more))]
-fn cells_of(alloc: Global, entries: &[Entry]) -> Result<BTreeMap<Name, Cell>, AllocError>
+#[tactic(auto, using(crate::specs::lemmas::Opened::opened_more))]
+fn states_of(alloc: Global, entries: &[Entry]) -> Result<BTreeMap<Name, KeyState>, AllocError>
     requires keys { All IsKeyEntry entries.now }
     requires ordered { IsStrictlySortedBy name_cmp (entry_names entries.now) }
-    ensures { IfOk result (λ cells. cells.entries ≡ opened entries.now) }
+    ensures { IfOk result (λ states. states.entries ≡ opened entries.now) }
 {
-    let mut cells = BTreeMap::new(alloc);
+    let mut states = BTreeMap::new(alloc);
     for entry in entries {
         let key = KeyElement::judge(alloc, entry)?;
-        let cell = Cell {
+        let state = KeyState {
             synced: Some(key),
             pending: Pending::Same,
         };
-        add(&mut cells, &entry.name, cell)?;
+        add(&mut states, &entry.name, state)?;
     }
-    Ok(cells)
+    Ok(states)
 }

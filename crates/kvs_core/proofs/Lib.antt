@@ -1,4 +1,3 @@
 pub mod Contents
-pub mod OneKey
 pub mod Recoveries
 pub mod SameKinds

@@ -20,7 +20,7 @@ use Rattle.deployment_model.specs.Data.{StorageData}
 use Rattle.deployment_model.specs.Lookups.{initial_of}
 use Rattle.key_maps.specs.KeyElements.{is_readable, key_of}
 use Rattle.key_maps.specs.Shown.{salvage_in}
-use Rattle.key_maps.proofs.Both.{size_gone, size_set, without_absent}
+use Rattle.key_maps.specs.lemmas.Both.{size_gone, size_set, without_absent}
 use Rattle.kvs_core.specs.Calls.{recovered, restored, set_any, set_value}
 
 pub recovers_good : (c : StorageData) (m : Map) (name : List ℕ) (content : Content) → is_readable content ≡ true

@@ -11,7 +11,7 @@ use Rattle.value_text.specs.Limits.{same_kind}
 use Rattle.deployment_model.specs.Conditions.{HasTypeFor, IsElement, IsStorage, StartsAs}
 use Rattle.deployment_model.specs.Data.{ElementData, StorageData}
 use Rattle.deployment_model.specs.Lookups.{element_named, initial_of}
-use Rattle.value_text.proofs.LimitLaws.{same_kind-true, same_kind-self}
+use Rattle.value_text.specs.lemmas.LimitLaws.{same_kind-true, same_kind-self}
 
 pub has_kind : (answer : Bool) (j k : Kind) → (IsTrue answer ↔ (j ≡ k)) → answer ≡ same_kind j k
 has_kind answer j k both = by answer (same_kind j k) refl refl

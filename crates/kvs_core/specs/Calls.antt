@@ -1,6 +1,6 @@
 -- The calls of a session of keys: each is a function of the storage's configuration, the visible map and the arguments.
-use Rattle.std.specs.Prelude.{ℕ, List, [], length, not, ◌&&◌, nat_le, nat_lt, Option, None, Some, option_map, Result}
-use Rattle.std.specs.Prelude.{Ok, Err}
+use Rattle.std.specs.Prelude.{ℕ, List, [], length, Bool, false, not, ◌&&◌, nat_le, nat_lt, Option, None, Some}
+use Rattle.std.specs.Prelude.{option_map, Result, Ok, Err}
 use Rattle.per_base.specs.declared.elements.Content.{Content}
 use Rattle.per_base.specs.declared.elements.Content.TheVariants.{Good, Bad}
 use Rattle.per_base.specs.declared.elements.Element.{Element}
@@ -20,7 +20,7 @@ use Rattle.value_text.specs.Limits.{same_kind}
 use Rattle.value_text.specs.Texts.{type_text}
 use Rattle.deployment_model.specs.Data.{ElementData, StorageData}
 use Rattle.deployment_model.specs.Lookups.{element_named, initial_of}
-use Rattle.key_maps.specs.KeyElements.{key_of}
+use Rattle.key_maps.specs.KeyElements.{is_readable, key_of}
 use Rattle.kvs_core.specs.Refusals.{refuse}
 
 -- what is made of the key of a name, or that there is none
@@ -29,6 +29,11 @@ found None call = Err KeyNotFound
 found (Some key) call = call key
 
 -- ---- reading
+
+-- there is a key, and it is readable
+abbrev pub is_readable_key : Option Element → Bool
+is_readable_key None = false
+is_readable_key (Some key) = is_readable key.content
 
 -- what is readable always encodes a value
 abbrev pub value_in : Option Tree → Result Tree PerError

@@ -2,7 +2,7 @@
 //!
 //! A [`KeySession`] holds what lies on the disk and what the calls see, as two maps from names to keys. Reads see the
 //! visible one, writes change it, and nothing here touches a disk: a sync takes the changes that make the one map into
-//! the other ([`KeySession::changes`]), and settles the session once they are written.
+//! the other ([`KeySession::changes`]), and marks what is visible as synchronised once they are written.
 //!
 //! Each call answers exactly by its definition: every refusal in its order with what it carries, and a refused call
 //! changes nothing; neither does want of memory. Reading and writing a key take logarithmic time in the number of keys,
@@ -17,5 +17,5 @@ mod syncing;
 mod typing;
 mod writing;
 
-pub use key_maps::{KEYS, KeyChange, KeyElement, KeyMaps, STORAGE_BYTES, Stored};
+pub use key_maps::{KEYS, KeyElement, KeyMaps, STORAGE_BYTES, Stored};
 pub use session::KeySession;

@@ -2,7 +2,7 @@
 
 ghost use Rattle.std.specs.Prelude.{◌≡◌, ◌≢◌, IfErr, IfOk, IsTrue};
 ghost use Rattle.per_base.specs.declared.errors.Unit.TheVariants.{Part};
-ghost use Rattle.per_base.specs.Maps.{has, names_of, size_of};
+ghost use Rattle.per_base.specs.Maps.{element_at, has, names_of, size_of};
 ghost use Rattle.value_model.specs.Kinds.{kind_fits};
 ghost use Rattle.value_model.specs.Validity.{IsValue};
 ghost use Rattle.value_model.specs.Views.{kind_of};
@@ -21,6 +21,16 @@ impl KeySession {
         ensures { result ≡ has self.now.visible name.now }
     {
         self.maps.has(name)
+    }
+
+    /// Whether this name is visible and its key readable. Takes no memory.
+    pub fn is_readable(&self, name: &Name) -> bool
+        ensures { result ≡ calls.is_readable_key (element_at self.now.visible name.now) }
+    {
+        match self.maps.get(name) {
+            Some(key) => key.is_readable(),
+            None => false,
+        }
     }
 
     /// The visible names, ascending.

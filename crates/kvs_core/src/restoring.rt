@@ -36,7 +36,7 @@ impl KeySession {
         if self.config.read_only {
             return Err(PerError::IllegalWriteAccess);
         }
-        self.maps.holds();
+        self.maps.invariants();
         let Some(key) = self.maps.get(name) else {
             return Err(PerError::KeyNotFound);
         };

@@ -74,10 +74,10 @@ impl KeySession {
     }
 
     /// What always holds of a session.
-    pub fn holds(&self)
+    pub fn invariants(&self)
         ensures maps { AreTwoMaps (record { synced = self.now.synced; visible = self.now.visible }) }
         ensures room { HasRoom self.now.config (record { synced = self.now.synced; visible = self.now.visible }) }
     {
-        self.maps.holds();
+        self.maps.invariants();
     }
 }

@@ -1,11 +1,11 @@
 //! What a sync takes from a session, and what it leaves there.
 
-ghost use Rattle.std.specs.Prelude.{◌≡◌, ◌↔◌, false, IfErr, IfOk};
+ghost use Rattle.std.specs.Prelude.{◌≡◌, ◌↔◌, false, IfOk};
 ghost use Rattle.key_maps.specs.Changes.{AreChanges};
 
 use crate::session::KeySession;
-use key_maps::KeyChange;
-use per_base::{Name, PerError};
+use per_base::Change;
+use std::alloc::AllocError;
 
 impl KeySession {
     /// Makes visible what is synchronised: the pending changes are gone. Takes no memory.
@@ -24,24 +24,16 @@ impl KeySession {
 
     /// What a sync hands down: the changes that make the synchronised map into the visible one, exactly where they
     /// differ.
-    ///
-    /// # Errors
-    ///
-    /// `OutOfMemory` alone.
-    pub fn changes(&self) -> Result<Vec<(Name, KeyChange)>, PerError>
-        ensures changes { IfOk result (λ changes. AreChanges changes.items self.now.synced self.now.visible) }
-        ensures memory { IfErr result (λ error. error ≡ PerError.OutOfMemory) }
+    pub fn changes(&self) -> Result<Vec<Change>, AllocError>
+        ensures { IfOk result (λ changes. AreChanges changes.items self.now.synced self.now.visible) }
     {
-        match self.maps.changes(self.alloc) {
-            Ok(changes) => Ok(changes),
-            Err(_) => Err(PerError::OutOfMemory),
-        }
+        self.maps.changes(self.alloc)
     }
 
     /// Makes synchronised what is visible, once the changes are written. Takes no memory.
-    pub fn settle(&mut self)
+    pub fn mark_synced(&mut self)
         ensures { self.new ≡ record self.old { synced = self.old.visible } }
     {
-        self.maps.settle();
+        self.maps.mark_synced();
     }
 }

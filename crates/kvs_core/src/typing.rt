@@ -47,7 +47,7 @@ fn mismatch(alloc: Global, stored: &ValueType, asked: &ValueType) -> PerError
 
 impl KeySession {
     /// The refusal where the type of a stored value differs from the asked one.
-    #[tactic(auto, using(value_code::proofs::ValueLaws::typed_fits))]
+    #[tactic(auto, using(value_code::specs::lemmas::ValueLaws::typed_fits))]
     pub(crate) fn differs(&self, value: &Value, asked: &ValueType) -> PerError
         requires { IsTrue (kind_fits (kind_of asked.now)) }
         ensures { result ≢ PerError.OutOfMemory → result ≡ calls.mismatch (type_of value.now) (kind_of asked.now) }
@@ -60,7 +60,7 @@ impl KeySession {
     }
 
     /// The refusal where the type of a value differs from a configured one.
-    #[tactic(auto, using(value_code::proofs::ValueLaws::typed_fits))]
+    #[tactic(auto, using(value_code::specs::lemmas::ValueLaws::typed_fits))]
     fn differs_from(&self, stored: &ValueType, value: &Value) -> PerError
         requires { IsTrue (kind_fits (kind_of stored.now)) }
         ensures { result ≢ PerError.OutOfMemory → result ≡ calls.mismatch (kind_of stored.now) (type_of value.now) }
@@ -129,7 +129,7 @@ impl KeySession {
         Err(self.differs_from(stored, value))
     }
 
-    #[tactic(auto, using(crate::proofs::Contents::kind_stored, crate::proofs::Contents::kind_bad, crate::proofs::Contents::needs_kind, value_code::proofs::ValueLaws::typed_fits))]
+    #[tactic(auto, using(crate::proofs::Contents::kind_stored, crate::proofs::Contents::kind_bad, crate::proofs::Contents::needs_kind, value_code::specs::lemmas::ValueLaws::typed_fits))]
     fn check_stored(&self, key: &KeyElement, value: &Value) -> Result<(), PerError>
         ensures ok { OnOk result ((rest : Result Map PerError)
             → calls.unless_typed (calls.stored_kind key.now.content) (type_of value.now) rest ≡ rest) }

@@ -1,7 +1,12 @@
--- A view whose keys are judged: its reports, and its map.
-use Rattle.std.proofs.Common.{◌≡◌, ℕ, List, [], ◌∷◌, ◌++◌, map, Bool, true, false, cond, refl, sym, ◌∙◌, ap}
-use Rattle.std.specs.Prelude.{Some, None}
-use Rattle.std.specs.List.{flat_map}
+-- A view whose keys a session judged: its reports, and its map.
+use Rattle.std.proofs.Common.{◌≡◌, ℕ, List, [], ◌∷◌, ◌++◌, map, Bool, true, false, cond, refl, ◌∙◌, ap}
+use Rattle.std.specs.Prelude.{Option, Some, None}
+use Rattle.std.specs.declared.cmp.Ordering.TheVariants.{Greater}
+use Rattle.std.specs.List.{AllByRecursion, flat_map}
+use Rattle.std.specs.List.Sorted.{IsStrictlySortedBy}
+use Rattle.std.specs.Ordering.{ordering_reverse}
+use Rattle.std.proofs.lemmas.Cmp.{nat_list_cmp_total, tied_itself}
+use Rattle.std.proofs.lemmas.Map.Keys.{sorted_head, sorted_tail}
 use Rattle.per_base.specs.declared.elements.Content.{Content}
 use Rattle.per_base.specs.declared.elements.Content.TheVariants.{Good, Bad}
 use Rattle.per_base.specs.declared.elements.Element.{Element}
@@ -9,59 +14,89 @@ use Rattle.per_base.specs.declared.elements.Entry.{Entry}
 use Rattle.per_base.specs.declared.elements.Scope.{Scope}
 use Rattle.per_base.specs.declared.elements.Scope.TheVariants as scope
 use Rattle.per_base.specs.declared.reports.Report.{Report}
+use Rattle.per_base.specs.Maps.{Map, element_at}
+use Rattle.per_base.specs.Names.{name_cmp}
 use Rattle.element_state.specs.declared.shapes.Shape.{Shape}
 use Rattle.element_state.specs.declared.shapes.View.{View}
 use Rattle.element_state.specs.Reports.{element_failed, element_reports, is_readable, recovered_reports, report_of}
 use Rattle.element_state.specs.Reports.{report_some, reports, store_recovered}
 use Rattle.element_state.specs.States.{mended_by, mended_entry, mended_view}
 use Rattle.element_state.specs.Views as views
-use Rattle.element_state.specs.Views.{judged_content, judged_entry, judged_view}
+use Rattle.element_state.specs.Views.{judged_content, judged_entry}
 use Rattle.element_maps.specs.Sessions.{synchronised}
 use Rattle.key_maps.specs.KeyElements as keys
-use Rattle.key_maps.specs.KeyElements.{is_encoding, judged_map}
+use Rattle.key_maps.specs.KeyElements.{entry_names, is_encoding, judged_map}
+use Rattle.key_maps.specs.lemmas.Ordered.{Above}
+use Rattle.kvs_core.specs.Calls.{is_readable_key}
+use Rattle.kvs_store.specs.Judged.{shown_entry, shown_view}
+
+-- ---- a view that a session shows
+
+-- the map has the key of this entry
+abbrev Stands : Map → Entry → Type 0
+Stands m e = element_at m e.name ≡ Some (keys.judged (keys.element_of e))
+
+-- one before all others hides none of them
+stand_later : (m : Map) (e : List ℕ × Element) (es : List Entry) → Above name_cmp e.0 (entry_names es)
+    → AllByRecursion (Stands m) es → AllByRecursion (Stands (e ∷ m)) es
+stand_later m e [] above all = tt
+stand_later m e (x ∷ xs) above all =
+    let greater : name_cmp x.name e.0 ≡ Greater =
+    nat_list_cmp_total.antisymm x.name e.0 ∙ ap ordering_reverse above.0 in
+    (rw greater all.0, stand_later m e xs above.1 all.1)
+
+all_stand : (es : List Entry) → IsStrictlySortedBy name_cmp (entry_names es)
+    → AllByRecursion (Stands (judged_map es)) es
+all_stand [] sorted = tt
+all_stand (e ∷ es) sorted = (
+  rw (tied_itself nat_list_cmp_total e.name) refl,
+  stand_later (judged_map es) (e.name, keys.judged (keys.element_of e)) es
+      (sorted_head name_cmp e.name (entry_names es) sorted)
+      (all_stand es (sorted_tail name_cmp e.name (entry_names es) sorted)),
+)
 
 -- ---- reports
 
-readable_is : (test : List ℕ → Bool) (c : Content) → is_readable (λ bytes. true) (judged_content test c)
-    ≡ is_readable test c
-readable_is test (Good value) = by (test value)
+readable_is : (c : Content)
+    → is_readable (λ bytes. true) (cond (keys.is_readable (keys.judged_content c)) c (Bad None))
+    ≡ is_readable is_encoding c
+readable_is (Good value) = by (is_encoding value)
   where
-    by : (b : Bool) → is_readable (λ bytes. true) (cond b (Good value) (Bad None)) ≡ b
+    by : (b : Bool)
+        → is_readable (λ bytes. true) (cond (keys.is_readable (cond b (Good value) (Bad None))) (Good value) (Bad None))
+        ≡ b
     by true = refl
     by false = refl
-readable_is test (Bad None) = refl
-readable_is test (Bad (Some salvage)) = by (test salvage)
-  where
-    by : (b : Bool) → is_readable (λ bytes. true) (cond b (Bad (Some salvage)) (Bad None)) ≡ false
-    by true = refl
-    by false = refl
+readable_is (Bad salvage) = refl
 
-same_recovered : (test : List ℕ → Bool) (scope : Scope) (shape : Shape) (e : Entry)
-    → recovered_reports scope shape (judged_entry test e) ≡ recovered_reports scope shape e
-same_recovered test scope.Element shape e = refl
-same_recovered test scope.Storage shape e = refl
+same_recovered : (m : Map) (scope : Scope) (shape : Shape) (e : Entry)
+    → recovered_reports scope shape (shown_entry m e) ≡ recovered_reports scope shape e
+same_recovered m scope.Element shape e = refl
+same_recovered m scope.Storage shape e = refl
 
-entry_reports : (test : List ℕ → Bool) (shape : Shape) (e : Entry)
-    → element_reports (λ bytes. true) shape (judged_entry test e) ≡ element_reports test shape e
-entry_reports test shape e =
-    ap (λ (l : List Report). cond (is_readable (λ bytes. true) (judged_content test e.content)) l
+entry_reports : (m : Map) (shape : Shape) (e : Entry) → Stands m e
+    → element_reports (λ bytes. true) shape (shown_entry m e) ≡ element_reports is_encoding shape e
+entry_reports m shape e stands =
+    ap (λ (l : List Report). cond (is_readable (λ bytes. true) (shown_entry m e).content) l
     (report_of (element_failed shape.kind) shape (Some e.name) e.lacking ∷ []))
-    (same_recovered test shape.scope shape e)
+    (same_recovered m shape.scope shape e)
     ∙ ap (λ (b : Bool). cond b (recovered_reports shape.scope shape e)
-    (report_of (element_failed shape.kind) shape (Some e.name) e.lacking ∷ [])) (readable_is test e.content)
+    (report_of (element_failed shape.kind) shape (Some e.name) e.lacking ∷ []))
+    (ap (λ (key : Option Element). is_readable (λ bytes. true) (cond (is_readable_key key) e.content (Bad None))) stands
+    ∙ readable_is e.content)
 
-all_reports : (test : List ℕ → Bool) (shape : Shape) (es : List Entry)
-    → flat_map (element_reports (λ bytes. true) shape) (map (judged_entry test) es)
-    ≡ flat_map (element_reports test shape) es
-all_reports test shape [] = refl
-all_reports test shape (e ∷ es) = rw (entry_reports test shape e, all_reports test shape es) refl
+all_reports : (m : Map) (shape : Shape) (es : List Entry) → AllByRecursion (Stands m) es
+    → flat_map (element_reports (λ bytes. true) shape) (map (shown_entry m) es)
+    ≡ flat_map (element_reports is_encoding shape) es
+all_reports m shape [] all = refl
+all_reports m shape (e ∷ es) all = rw (entry_reports m shape e all.0, all_reports m shape es all.1) refl
 
--- the reports of a view that is judged are those of the view with the test
-pub judged_reports : (test : List ℕ → Bool) (shape : Shape) (v : View)
-    → reports (λ bytes. true) shape (judged_view test v) ≡ reports test shape v
+-- the reports of a view that a session of its keys shows are those of the view with the test
+pub shown_reports : (shape : Shape) (v : View) → IsStrictlySortedBy name_cmp (entry_names v.entries)
+    → reports (λ bytes. true) shape (shown_view (judged_map v.entries) v) ≡ reports is_encoding shape v
 unfolding reports
-judged_reports test shape v = ap (λ (l : List Report). report_some (store_recovered shape.kind) shape None v.lacking
-    ++ l) (all_reports test shape v.entries)
+shown_reports shape v sorted = ap (λ (l : List Report). report_some (store_recovered shape.kind) shape None v.lacking
+    ++ l) (all_reports (judged_map v.entries) shape v.entries (all_stand v.entries sorted))
 
 -- ---- maps
 
@@ -98,7 +133,6 @@ mended_map [] = refl
 mended_map (e ∷ es) = rw (mended_key e e.content, mended_map es) refl
 
 -- copies that are mended change no key
-pub mended_keys : (shape : Shape) (v : View) → synchronised is_encoding (mended_view shape v)
-    ≡ synchronised is_encoding v
+pub mended_judged : (shape : Shape) (v : View) → judged_map (mended_view shape v).entries ≡ judged_map v.entries
 unfolding mended_view
-mended_keys shape v = sym (judged_synchronised (mended_view shape v)) ∙ (mended_map v.entries ∙ judged_synchronised v)
+mended_judged shape v = mended_map v.entries

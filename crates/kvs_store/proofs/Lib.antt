@@ -1,5 +1,5 @@
-pub mod Handed
 pub mod JudgedKeys
+pub mod KeyChanges
+pub mod Opened
 pub mod Stored
 pub mod Synced
-pub mod Opened

@@ -18,14 +18,14 @@ use Rattle.element_state.specs.Conditions.{IsShape}
 use Rattle.element_state.specs.Read.{IsView}
 use Rattle.element_state.specs.Reports.{reports}
 use Rattle.element_state.specs.States.{store_at, mended_view}
-use Rattle.element_state.specs.Views.{judged_view}
-use Rattle.element_maps.specs.Storages.{IsConfigured, IsOpened, Opened}
+use Rattle.element_maps.specs.Storages.{IsConfigured, IsOpened}
 use Rattle.element_store.specs.declared.store.Store.{Store}
 use Rattle.element_store.specs.Stores as stores
 use Rattle.key_maps.specs.KeyElements.{IsKeyEntry, entry_names, is_encoding, judged_map}
 use Rattle.kvs_core.specs.Sessions.{Session}
-use Rattle.kvs_store.specs.Storages.{IsOpen, keys_in}
-use Rattle.kvs_store.proofs.JudgedKeys.{judged_reports, judged_synchronised, mended_keys}
+use Rattle.kvs_store.specs.Judged.{shown_view}
+use Rattle.kvs_store.specs.Storages.{IsOpen}
+use Rattle.kvs_store.proofs.JudgedKeys.{judged_synchronised, mended_judged, shown_reports}
 use Rattle.kvs_store.proofs.Stored.{key_entries, keys_fit}
 
 module _ (shape : Shape) (config : StorageData) (store : Store) (entries : List Entry)
@@ -59,11 +59,11 @@ opened_is_open shape config store entries session lies placed shown is = record 
 }
 
 pub opened_is : (told : Bool) (image : Image) (shape : Shape) (entries : List Entry) (before : View) (copy : Shape)
-    (seen : View) (store : Store) (synced : Map) (all : List Report)
+    (seen : View) (store : Store) (synced visible : Map) (all : List Report)
     → (IsTrue told → opened_of (store_at image shape) ≡ Some before) → stores.view_in store ≡ mended_view shape before
-    → stores.shape_of store ≡ shape
-    → entries ≡ stores.entries_of store → synced ≡ judged_map entries → copy ≡ shape
-    → seen ≡ judged_view is_encoding before
+    → stores.shape_of store ≡ shape → IsView shape before
+    → entries ≡ stores.entries_of store → synced ≡ judged_map entries → visible ≡ judged_map entries → copy ≡ shape
+    → seen ≡ shown_view visible before
     → all ≡ reports (λ bytes. true) copy seen
     → IsOpened told image shape is_encoding (record {
       shape = stores.shape_of store;
@@ -72,16 +72,20 @@ pub opened_is : (told : Bool) (image : Image) (shape : Shape) (entries : List En
       synced = synced;
       reports = all;
     })
-opened_is told image shape entries before copy seen store synced all found view placed shown read same judged reported =
+opened_is told image shape entries before copy seen store synced visible all found view placed is shown read shows same
+    judged reported =
+    let keys : judged_map entries ≡ judged_map before.entries =
+    ap judged_map shown ∙ (ap (λ (v : View). judged_map v.entries) view ∙ mended_judged shape before) in
     record {
       before = before;
       seen = found;
       place = placed;
       view = view;
-      synced = read ∙ (ap judged_map shown ∙ (judged_synchronised (stores.view_in store)
-          ∙ (ap keys_in view ∙ mended_keys shape before)));
+      synced = read ∙ (keys ∙ judged_synchronised before);
       reports = reported ∙ (ap (λ (s : Shape). reports (λ bytes. true) s seen) same
-          ∙ (ap (λ (v : View). reports (λ bytes. true) shape v) judged ∙ judged_reports is_encoding shape before));
+          ∙ (ap (λ (v : View). reports (λ bytes. true) shape v)
+          (judged ∙ ap (λ (m : Map). shown_view m before) (shows ∙ keys))
+          ∙ shown_reports shape before is.names_ascend));
     }
 
 pub shape_is : (shape : Shape) (config : StorageData) → IsStorage config → IsConfigured Keys config shape

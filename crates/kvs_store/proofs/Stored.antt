@@ -14,9 +14,9 @@ use Rattle.element_state.specs.declared.shapes.Shape.{Shape}
 use Rattle.element_state.specs.declared.shapes.View.{View}
 use Rattle.element_state.specs.Chosen as chosen
 use Rattle.element_state.specs.Read.{IsEntryOf, IsView}
-use Rattle.element_state.proofs.Entrywise.{all_at, all_less}
+use Rattle.element_state.specs.lemmas.Entrywise.{all_at, all_less}
 use Rattle.key_maps.specs.KeyElements.{HasLength, IsKeyEntry, judged_map}
-use Rattle.key_maps.proofs.Opened.{judged_size}
+use Rattle.key_maps.specs.lemmas.Opened.{judged_size}
 
 none_in : (info : Option FileInfo) → IsTrue (has_info Keys info) → info ≡ None
 none_in None has = refl

@@ -1,5 +1,5 @@
 -- A sync: what is handed down may be committed, and what the commit makes.
-use Rattle.std.proofs.Common.{◌≡◌, ◌≢◌, ℕ, ◌+◌, ◌*◌, ◌≤◌, ◌<◌, List, [], length, Bool, true, false, refl, sym, ◌∙◌, ap}
+use Rattle.std.proofs.Common.{◌≡◌, ℕ, ◌+◌, ◌*◌, ◌≤◌, List, [], length, Bool, true, false, refl, sym, ◌∙◌, ap}
 use Rattle.std.proofs.Common.{subst, arith}
 use Rattle.std.specs.Prelude.{Option, Some, IsTrue, not, ◌↔◌}
 use Rattle.std.proofs.Math.Nat.{mul-le-mul_left}
@@ -8,13 +8,13 @@ use Rattle.per_base.specs.declared.elements.Content.TheVariants.{Good, Bad}
 use Rattle.per_base.specs.declared.elements.Element.{Element}
 use Rattle.per_base.specs.declared.elements.StoreKind.{StoreKind}
 use Rattle.per_base.specs.declared.elements.StoreKind.TheVariants.{Keys}
-use Rattle.per_base.specs.Maps.{Map, element_at, size_of}
+use Rattle.per_base.specs.Maps.{Map, element_at}
+use Rattle.per_base.specs.declared.elements.Change.{Change}
 use Rattle.disk_model.specs.Frame.{IsSettledOn, Spares}
 use Rattle.disk_model.specs.Medium.{EachCase, Elapses, Medium, Quiet, IsLawful}
 use Rattle.disk_model.specs.Place.{IsOutside}
-use Rattle.disk_model.proofs.Moments.{elapses_none}
+use Rattle.disk_model.specs.Laws.{elapses_none}
 use Rattle.index_text.specs.Spelling.{index_text}
-use Rattle.element_state.specs.declared.shapes.Change.{Change}
 use Rattle.element_state.specs.declared.shapes.Shape.{Shape}
 use Rattle.element_state.specs.declared.shapes.View.{View}
 use Rattle.element_state.specs.Changes.{committed, committed_by}
@@ -27,18 +27,18 @@ use Rattle.element_state.specs.Written.{IsWithin, commit_cost, map_cost}
 use Rattle.element_laws.specs.Phases.{UntouchedLaw}
 use Rattle.element_maps.specs.Differences.{MakeInto}
 use Rattle.element_maps.specs.Laws.{CommittedLaw, CostLaw, HeldLaw, OthersLaw}
-use Rattle.element_maps.specs.Sessions.{IsHeld, IsNext, IsSync, IsWritable, Passes, same_map, synchronised}
-use Rattle.element_maps.specs.Storages.{IsConfigured, IsDurable, IsStoring, KeepsEqual}
+use Rattle.element_maps.specs.Sessions.{IsHeld, IsNext, IsSync, IsWritable, Passes}
+use Rattle.element_maps.specs.Storages.{IsConfigured, IsDurable, IsStoring}
 use Rattle.element_store.specs.declared.store.Store.{Store}
 use Rattle.element_store.specs.Changing.{KeepsOthers}
 use Rattle.element_store.specs.Committing.{index_in, index_length}
 use Rattle.element_store.specs.Stores.{IsUsed, entries_of, shape_of, view_in}
-use Rattle.element_store.proofs.CommitKept.{none_around, none_kept}
+use Rattle.element_laws.specs.lemmas.Untouched.{none_around, none_kept}
 use Rattle.key_maps.specs.KeyElements.{Encodes, IsKey, is_encoding, is_readable}
 use Rattle.key_maps.specs.TwoMaps.{AreTwoMaps}
 use Rattle.kvs_core.specs.Sessions.{HasRoom}
 use Rattle.kvs_store.specs.Storages.{IsOpen, KvsSession, keys_in, session_of}
-use Rattle.kvs_store.specs.Synced.{IsSynced, WritesAtMost, is_synced, settled, synced_view}
+use Rattle.kvs_store.specs.Synced.{IsSynced, WritesAtMost, is_synced, marked_synced, synced_view}
 
 -- ---- where nothing is called
 
@@ -77,9 +77,9 @@ none_written kvs m = within_none (shape_of kvs.store).place.copies
     (index_length (shape_of kvs.store).kind (synced_view kvs).entries) m.written
 
 -- both maps are then as they were
-pub none_settled : (kvs : KvsSession) → kvs.session.synced ≡ kvs.session.visible
-    → kvs ≡ record kvs { store = kvs.store; session = settled kvs.session }
-none_settled kvs same = ap (λ (m : Map). let later : KvsSession =
+pub none_marked : (kvs : KvsSession) → kvs.session.synced ≡ kvs.session.visible
+    → kvs ≡ record kvs { store = kvs.store; session = marked_synced kvs.session }
+none_marked kvs same = ap (λ (m : Map). let later : KvsSession =
     record kvs { session = record kvs.session { synced = m } } in later) same
 
 pub none_durable : (told : Bool) (kvs : KvsSession) (index : ℕ) (m : Medium) → is_synced kvs ≡ true
@@ -207,7 +207,7 @@ module _ (kvs : KvsSession) (changes : List Change) (sync : IsSync (shape_of kvs
       → KeepsOthers changes (index_in kvs.store).entries (index_in later).entries → (index_in later).format ≡ 2
       → length (index_text (index_in later)) ≡ index_length (shape_of kvs.store).kind (entries_of later)
       → new.faults ≡ old.faults
-      → IsSynced told kvs (record kvs { store = later; session = settled kvs.session }) old new
+      → IsSynced told kvs (record kvs { store = later; session = marked_synced kvs.session }) old new
   commit_synced cost others told later old new view shape used clean quiet written carried format text passes = record {
     session = refl;
     shape = shape;

@@ -1,4 +1,4 @@
-pub mod Storages
+pub mod Judged
 pub mod Opened
+pub mod Storages
 pub mod Synced
-pub mod Handed

@@ -18,8 +18,8 @@ abbrev pub is_synced : KvsSession → Bool
 is_synced kvs = maps.same_map kvs.session.synced kvs.session.visible
 
 -- both maps after a sync
-abbrev pub settled : TwoMaps → TwoMaps
-settled session = record session { synced = session.visible }
+abbrev pub marked_synced : TwoMaps → TwoMaps
+marked_synced session = record session { synced = session.visible }
 
 -- the view after a sync: that of before where nothing differs
 abbrev pub synced_view : KvsSession → View
@@ -33,7 +33,7 @@ WritesAtMost kvs old new = IsWithin (shape_of kvs.store).place.copies
 
 -- what the calls see is durable in a later storage, and all else of it stays
 pub record IsSynced (told : Bool) (kvs later : KvsSession) (old new : Medium) : Type 0 where
-  pub session : later ≡ record kvs { store = later.store; session = settled kvs.session }
+  pub session : later ≡ record kvs { store = later.store; session = marked_synced kvs.session }
   pub shape : shape_of later.store ≡ shape_of kvs.store
   pub view : view_in later.store ≡ synced_view kvs
   pub used : IsUsed told new.image later.store

@@ -1,54 +1,52 @@
-//! Keys of a view that are judged: bytes that encode no value are unreadable.
+//! The keys of a view, as a session judged them when it read them.
 
 ghost use Rattle.std.specs.Prelude.{◌≡◌, IfOk, map};
-ghost use Rattle.element_state.specs.Views.{judged_entry, judged_view};
-ghost use Rattle.key_maps.specs.KeyElements.{is_encoding};
+ghost use Rattle.kvs_store.specs.Judged.{shown_entry, shown_view};
 
 use element_state::View;
+use kvs_core::KeySession;
 use per_base::{Content, Entry, Sequence};
 use std::alloc::{AllocError, Global};
-use value_code::encodes;
 
-/// The view with each of its keys judged: bytes that encode no value are unreadable, and no salvage.
-pub fn judged(alloc: Global, view: View) -> Result<View, AllocError>
-    ensures { IfOk result (λ judged. judged ≡ judged_view is_encoding view) }
+/// The view as a session of its keys shows it: a key that the session cannot read has no content. Nothing is decoded.
+pub fn judged(alloc: Global, session: &KeySession, view: View) -> Result<View, AllocError>
+    ensures { IfOk result (λ judged. judged ≡ shown_view session.now.visible view) }
 {
     let View {
         generation,
         lacking,
-        settled,
+        sole,
         entries,
     } = view;
-    let entries = judge_all(alloc, entries.into_vec())?;
+    let entries = judge_all(alloc, session, entries.into_vec())?;
     Ok(View {
         generation,
         lacking,
-        settled,
+        sole,
         entries: Sequence::new(entries),
     })
 }
 
-fn judge_all(alloc: Global, entries: Vec<Entry>) -> Result<Vec<Entry>, AllocError>
-    ensures { IfOk result (λ judged. judged.items ≡ map (judged_entry is_encoding) entries.items) }
+fn judge_all(
+    alloc: Global,
+    session: &KeySession,
+    entries: Vec<Entry>,
+) -> Result<Vec<Entry>, AllocError>
+    ensures { IfOk result (λ judged. judged.items ≡ map (shown_entry session.now.visible) entries.items) }
 {
     let mut judged = Vec::with_capacity(alloc, entries.len())?;
     for entry in entries {
-        judged.push(judge(alloc, entry)?)?;
+        judged.push(judge(session, entry))?;
     }
     Ok(judged)
 }
 
-fn judge(alloc: Global, entry: Entry) -> Result<Entry, AllocError>
-    ensures { IfOk result (λ judged. judged ≡ judged_entry is_encoding entry) }
+fn judge(session: &KeySession, entry: Entry) -> Entry
+    ensures { result ≡ shown_entry session.now.visible entry }
 {
-    let keeps = match &entry.content {
-        Content::Good(bytes) => encodes(alloc, bytes.as_slice())?,
-        Content::Bad(Some(salvage)) => encodes(alloc, salvage.as_slice())?,
-        Content::Bad(None) => true,
-    };
     let mut entry = entry;
-    if !keeps {
+    if !session.is_readable(&entry.name) {
         entry.content = Content::Bad(None);
     }
-    Ok(entry)
+    entry
 }

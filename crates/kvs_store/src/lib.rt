@@ -14,7 +14,6 @@
 //! by one caller at a time. Dropping a [`Kvs`] drops its pending changes.
 #![tactic(auto)]
 
-mod handing;
 mod judging;
 mod opening;
 mod reading;
@@ -23,7 +22,6 @@ mod syncing;
 mod writing;
 
 pub use element_state::{Shape, StoreError};
-pub use judging::judged;
 pub use opening::{OpenedKvs, open_kvs};
 pub use storages::Kvs;
 pub use syncing::SyncFault;

@@ -88,7 +88,7 @@ pub fn open_kvs<D: Disk>(
     let copy = shape.copy()?;
     let OpenedStore { store, before, .. } = open_store(alloc, disk, shape)?;
     let session = KeySession::new(alloc, config, store.entries())?;
-    let seen = judged(alloc, before)?;
+    let seen = judged(alloc, &session, before)?;
     let reports = reports_of(alloc, &copy, &seen)?;
     let kvs = Kvs {
         alloc,

@@ -47,12 +47,12 @@ impl Model for Kvs {
 
 impl Kvs {
     /// What always holds of an open storage.
-    pub fn holds(&self)
+    pub fn invariants(&self)
         ensures maps { AreTwoMaps self.now.session }
         ensures room { HasRoom self.now.config self.now.session }
         ensures configured { IsConfigured Keys self.now.config (shape_of self.now.store) }
         ensures synced { self.now.session.synced ≡ keys_in (view_in self.now.store) }
     {
-        self.session.holds();
+        self.session.invariants();
     }
 }

@@ -8,15 +8,15 @@ ghost use Rattle.element_store.specs.Committing.{index_in, index_length};
 ghost use Rattle.element_store.specs.Stores.{IsUsed, shape_of, view_in};
 ghost use Rattle.element_maps.specs.Differences.{MakeInto};
 ghost use Rattle.element_maps.specs.Storages.{IsDurable, IsStoring, KeepsEqual};
-ghost use Rattle.kvs_store.specs.Synced.{HandsBack, IsDeviceFault, IsSynced, WritesAtMost, is_synced, settled};
-ghost use Rattle.kvs_store.specs.Synced.{synced_view};
+ghost use Rattle.kvs_store.specs.Synced.{HandsBack, IsDeviceFault, IsSynced, WritesAtMost, is_synced};
+ghost use Rattle.kvs_store.specs.Synced.{marked_synced, synced_view};
 
 use crate::storages::Kvs;
 use disk_model::Disk;
 use element_laws::untouched_is_kept;
 use element_maps::{changes_make_maps, syncs_are_decided};
-use element_state::Change;
-use element_store::CommitFault;
+use per_base::{Change, Fault};
+use std::alloc::AllocError;
 
 /// Why a sync gave up.
 #[derive(Drop)]
@@ -42,7 +42,8 @@ impl Kvs {
         requires { IsUsed D.told (D.medium disk.old).image self.store }
 
         // What the calls see is then what is synchronised and what the storage shows, and all else stays.
-        ensures session { IfOk result (λ kvs. kvs ≡ record self { store = kvs.store; session = settled self.session }) }
+        ensures session { IfOk result (λ kvs. kvs
+            ≡ record self { store = kvs.store; session = marked_synced self.session }) }
         ensures shape { IfOk result (λ kvs. shape_of kvs.store ≡ shape_of self.store) }
         ensures view { IfOk result (λ kvs. view_in kvs.store ≡ synced_view self) }
         ensures used { IfOk result (λ kvs. IsUsed D.told (D.medium disk.new).image kvs.store) }
@@ -96,6 +97,14 @@ impl Kvs {
         !self.session.has_changes()
     }
 
+    // The changes that make what is synchronised into what the calls see, exactly where the two differ.
+    fn changes(&self) -> Result<Vec<Change>, AllocError>
+        ensures { IfOk result (λ changes. MakeInto changes.items self.now.session.synced self.now.session.visible) }
+    {
+        self.session.invariants();
+        self.session.changes()
+    }
+
     // Commits these changes, which make what is synchronised into what the calls see.
     fn commit<D: Disk>(self, disk: &mut D, changes: Vec<Change>) -> Result<Kvs, SyncFault>
         requires used { IsUsed D.told (D.medium disk.old).image self.store }
@@ -112,8 +121,8 @@ impl Kvs {
             (D.medium disk.new) }
     {
         changes_make_maps();
-        self.holds();
-        self.store.holds();
+        self.invariants();
+        self.store.invariants();
         let Kvs {
             alloc,
             store,
@@ -121,15 +130,15 @@ impl Kvs {
         } = self;
         match store.commit(disk, changes) {
             Ok(store) => {
-                session.settle();
+                session.mark_synced();
                 Ok(Kvs {
                     alloc,
                     store,
                     session,
                 })
             }
-            Err(CommitFault::Device) => Err(SyncFault::Device),
-            Err(CommitFault::OutOfMemory(store)) => Err(SyncFault::OutOfMemory(Kvs {
+            Err(Fault::Device) => Err(SyncFault::Device),
+            Err(Fault::OutOfMemory(store)) => Err(SyncFault::OutOfMemory(Kvs {
                 alloc,
                 store,
                 session,

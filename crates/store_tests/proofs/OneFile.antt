@@ -3,7 +3,7 @@ use Rattle.std.proofs.Common.{◌≡◌, ◌≤◌, [], ◌∷◌, refl, arith}
 use Rattle.std.proofs.lemmas.List.Sums.{sum_by-cons}
 use Rattle.per_base.specs.declared.elements.StoreKind.TheVariants.{Files}
 use Rattle.per_base.specs.Names.{IsName}
-use Rattle.index_text.proofs.Order.{sorted_from_ascends}
+use Rattle.index_text.specs.lemmas.Order.{sorted_from_ascends}
 use Rattle.deployment_model.specs.Data.{ElementData, StorageData}
 use Rattle.deployment_model.specs.Conditions.{IsElement, IsStorage, initial_size}
 

@@ -10,8 +10,8 @@ use crate::answers::{CaseError, done, listed, push_answer, read, said, thing};
 use crate::key_configs::{Plan, fav};
 use crate::words::parted;
 use deployment_model::StorageConfig;
-use kvs_core::{KEYS, KeyChange, KeySession};
-use per_base::{Content, Entry, Name, Numbers, ValueText};
+use kvs_core::{KEYS, KeySession};
+use per_base::{Change, Content, Entry, Fresh, Name, Numbers, ValueText};
 use per_value::Favourite;
 use std::alloc::{AllocError, Global};
 use value_model::ValueType;
@@ -110,7 +110,7 @@ fn only(alloc: Global, entry: Entry) -> Result<Vec<Entry>, AllocError>
     Ok(vec![in alloc; entry]?)
 }
 
-#[tactic(auto, using(kvs_core::proofs::OneKey::one_ordered))]
+#[tactic(auto, using(kvs_core::specs::lemmas::OneKey::one_ordered))]
 fn with_one(alloc: Global, config: &StorageConfig, entry: Entry) -> Result<KeySession, CaseError>
     requires storage { IsStorage (storage_data config.now) }
     requires of_keys { config.now.kind ≡ Keys }
@@ -123,7 +123,7 @@ fn with_one(alloc: Global, config: &StorageConfig, entry: Entry) -> Result<KeySe
     Ok(KeySession::new(alloc, config, entries.as_slice())?)
 }
 
-#[tactic(auto, using(key_maps::proofs::Ordered::sorted_none))]
+#[tactic(auto, using(key_maps::specs::lemmas::Ordered::sorted_none))]
 fn empty(alloc: Global, config: &StorageConfig) -> Result<KeySession, CaseError>
     requires storage { IsStorage (storage_data config.now) }
     requires of_keys { config.now.kind ≡ Keys }
@@ -163,8 +163,8 @@ fn whole(alloc: Global, session: &mut KeySession, call: &str) -> Result<String, 
             session.discard_pending_changes();
             said(alloc, "ok")
         }
-        "settle" => {
-            session.settle();
+        "mark-synced" => {
+            session.mark_synced();
             said(alloc, "ok")
         }
         "fill" => fill(alloc, session),
@@ -204,14 +204,18 @@ fn asked(alloc: Global, session: &KeySession, call: &str, key: &Name) -> Result<
 /// What a sync hands down: each name with its bytes or a dash, before a comma.
 fn changes(alloc: Global, session: &KeySession) -> Result<String, CaseError> {
     let mut text = String::new(alloc);
-    for (name, change) in &session.changes()? {
-        text.push_str(name.as_str())?;
+    for change in &session.changes()? {
         match change {
-            KeyChange::Put(bytes) => {
+            Change::Put(Fresh { name, bytes, .. }) => {
+                text.push_str(name.as_str())?;
                 text.push('=')?;
                 push_hex(&mut text, bytes.as_slice())?;
             }
-            KeyChange::Remove => text.push('-')?,
+            Change::Remove(name) => {
+                text.push_str(name.as_str())?;
+                text.push('-')?;
+            }
+            Change::Touch(..) => return Err(CaseError::Case("a key has no info")),
         }
         text.push(',')?;
     }

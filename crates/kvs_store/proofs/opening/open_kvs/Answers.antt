@@ -30,9 +30,10 @@ invariant_of-kvs g c = opened_is_open c.args.shape (storage_data c.args.config.n
 pub returns-clause-opened : goal.returns-clause-opened
 returns-clause-opened g c = opened_is g.D.Disk.told (g.D.Disk.medium c.args.disk.now).image c.args.shape
     c.entries.result.now
-    c.in_ok-store.field-0.before c.in_ok-copy.copy c.in_ok-seen.seen c.in_ok-store.field-0.store _ _
-    c.in_ok-store.ensures.before c.in_ok-store.ensures.view c.in_ok-store.ensures.shape c.entries.ensures
-    (ap (λ (s : Session). s.synced) c.in_ok-session.ensures) c.in_ok-copy.ensures c.in_ok-seen.ensures
+    c.in_ok-store.field-0.before c.in_ok-copy.copy c.in_ok-seen.seen c.in_ok-store.field-0.store _ _ _
+    c.in_ok-store.ensures.before c.in_ok-store.ensures.view c.in_ok-store.ensures.shape c.in_ok-store.ensures.read
+    c.entries.ensures (ap (λ (s : Session). s.synced) c.in_ok-session.ensures)
+    (ap (λ (s : Session). s.visible) c.in_ok-session.ensures) c.in_ok-copy.ensures c.in_ok-seen.ensures
     c.in_ok-reports.ensures
 
 pub returns-in_err-copy-clause-storing : goal.returns-in_err-copy-clause-storing

@@ -1,7 +1,7 @@
 use Rattle.std.proofs.Common.{◌+◌, ◌≤◌, List, [], ◌∷◌, length, refl, sym, ap, subst, arith}
 use Rattle.std.proofs.lemmas.List.Sums.{sum_by-cons}
 use Rattle.per_base.specs.declared.elements.Fresh.{Fresh}
-use Rattle.index_text.proofs.Order.{sorted_from_ascends}
+use Rattle.index_text.specs.lemmas.Order.{sorted_from_ascends}
 use Rattle.index_text.specs.Contents.{AreContents}
 use Rattle.store_tests.proofs.contents.alone.Goals as goal
 

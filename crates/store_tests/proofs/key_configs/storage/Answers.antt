@@ -1,7 +1,7 @@
 use Rattle.std.proofs.Common.{◌∙◌, ap, refl}
 use Rattle.std.specs.Prelude.{map}
 use Rattle.deployment_model.specs.Data.{element_data}
-use Rattle.kvs_core.proofs.OneKey.{one_key}
+use Rattle.kvs_core.specs.lemmas.OneKey.{one_key}
 use Rattle.store_tests.proofs.key_configs.storage.Goals as goal
 
 pub returns-clause-storage : goal.returns-clause-storage

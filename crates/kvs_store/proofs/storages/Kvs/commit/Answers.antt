@@ -9,7 +9,7 @@ use Rattle.key_maps.specs.KeyElements.{is_encoding}
 use Rattle.key_maps.specs.TwoMaps.{AreTwoMaps}
 use Rattle.kvs_core.specs.Sessions.{HasRoom, Session}
 use Rattle.kvs_store.specs.Storages.{IsOpen, KvsSession}
-use Rattle.kvs_store.specs.Synced.{IsSynced, WritesAtMost, is_synced, settled, synced_view}
+use Rattle.kvs_store.specs.Synced.{IsSynced, WritesAtMost, is_synced, marked_synced, synced_view}
 use Rattle.kvs_store.proofs.Synced.{commit_at_most, commit_storing, commit_synced, is_sync, open_later}
 use Rattle.kvs_store.proofs.storages.Kvs.commit.Goals as goal
 
@@ -25,15 +25,15 @@ commit-requires-clause-changes g c =
       session =
           record { synced = c.self.inside.session.synced; visible = c.self.inside.session.visible };
     } in
-    let maps = subst (λ (s : KvsSession). AreTwoMaps s.session) (sym c.self.view_is) c.holds.ensures.maps in
-    let room = subst (λ (s : KvsSession). HasRoom s.config s.session) (sym c.self.view_is) c.holds.ensures.room in
+    let maps = subst (λ (s : KvsSession). AreTwoMaps s.session) (sym c.self.view_is) c.invariants.ensures.maps in
+    let room = subst (λ (s : KvsSession). HasRoom s.config s.session) (sym c.self.view_is) c.invariants.ensures.room in
     let made = subst (λ (s : KvsSession). MakeInto c.args.changes.items s.session.synced s.session.visible)
     (sym c.self.view_is) c.requires.changes in
     let left = subst (λ (s : KvsSession). (view_in s.store).generation < greatest_generation) (sym c.self.view_is)
     c.requires.not_worn in
     c.changes_make_maps.ensures.taken (shape_of before.store) is_encoding (view_in before.store) before.session.synced
     before.session.visible c.args.changes.items
-    (is_sync before c.self.invariant c.holds-2.ensures maps room c.args.changes.items made) left
+    (is_sync before c.self.invariant c.invariants-2.ensures maps room c.args.changes.items made) left
 
 pub invariant_of-result : goal.invariant_of-result
 invariant_of-result g c =
@@ -43,12 +43,12 @@ invariant_of-result g c =
       session =
           record { synced = c.self.inside.session.synced; visible = c.self.inside.session.visible };
     } in
-    let maps = subst (λ (s : KvsSession). AreTwoMaps s.session) (sym c.self.view_is) c.holds.ensures.maps in
-    let room = subst (λ (s : KvsSession). HasRoom s.config s.session) (sym c.self.view_is) c.holds.ensures.room in
+    let maps = subst (λ (s : KvsSession). AreTwoMaps s.session) (sym c.self.view_is) c.invariants.ensures.maps in
+    let room = subst (λ (s : KvsSession). HasRoom s.config s.session) (sym c.self.view_is) c.invariants.ensures.room in
     let made = subst (λ (s : KvsSession). MakeInto c.args.changes.items s.session.synced s.session.visible)
     (sym c.self.view_is) c.requires.changes in
-    subst (λ (s : Session). IsOpen c.in-Ok.store s) (sym c.settle.ensures)
-    (open_later before c.self.invariant c.holds-2.ensures maps room c.args.changes.items made
+    subst (λ (s : Session). IsOpen c.in-Ok.store s) (sym c.mark_synced.ensures)
+    (open_later before c.self.invariant c.invariants-2.ensures maps room c.args.changes.items made
     c.changes_make_maps.ensures.committed c.changes_make_maps.ensures.held
     c.in-Ok.store c.in-Ok.ensures.shape c.in-Ok.ensures.view)
 
@@ -60,16 +60,16 @@ returns-in-Ok-clause-synced g c =
       session =
           record { synced = c.self.inside.session.synced; visible = c.self.inside.session.visible };
     } in
-    let maps = subst (λ (s : KvsSession). AreTwoMaps s.session) (sym c.self.view_is) c.holds.ensures.maps in
-    let room = subst (λ (s : KvsSession). HasRoom s.config s.session) (sym c.self.view_is) c.holds.ensures.room in
+    let maps = subst (λ (s : KvsSession). AreTwoMaps s.session) (sym c.self.view_is) c.invariants.ensures.maps in
+    let room = subst (λ (s : KvsSession). HasRoom s.config s.session) (sym c.self.view_is) c.invariants.ensures.room in
     let made = subst (λ (s : KvsSession). MakeInto c.args.changes.items s.session.synced s.session.visible)
     (sym c.self.view_is) c.requires.changes in
     let differ = subst (λ (s : KvsSession). is_synced s ≡ false) (sym c.self.view_is) c.requires.differ in
-    let sync = is_sync before c.self.invariant c.holds-2.ensures maps room c.args.changes.items made in
+    let sync = is_sync before c.self.invariant c.invariants-2.ensures maps room c.args.changes.items made in
     subst (λ (s : Session). IsSynced g.D.Disk.told c.args.self (later c.in-Ok.store s) (g.D.Disk.medium c.args.disk.now)
-    (g.D.Disk.medium c.commit.new.disk)) (sym c.settle.ensures)
+    (g.D.Disk.medium c.commit.new.disk)) (sym c.mark_synced.ensures)
     (subst (λ (s : KvsSession). IsSynced g.D.Disk.told s
-    (record before { store = c.in-Ok.store; session = settled before.session })
+    (record before { store = c.in-Ok.store; session = marked_synced before.session })
     (g.D.Disk.medium c.args.disk.now) (g.D.Disk.medium c.commit.new.disk)) c.self.view_is
     (commit_synced before c.args.changes.items sync differ c.changes_make_maps.ensures.committed
     c.changes_make_maps.ensures.cost c.changes_make_maps.ensures.others
@@ -86,12 +86,12 @@ returns-in-Ok-clause-at_most g c =
       session =
           record { synced = c.self.inside.session.synced; visible = c.self.inside.session.visible };
     } in
-    let maps = subst (λ (s : KvsSession). AreTwoMaps s.session) (sym c.self.view_is) c.holds.ensures.maps in
-    let room = subst (λ (s : KvsSession). HasRoom s.config s.session) (sym c.self.view_is) c.holds.ensures.room in
+    let maps = subst (λ (s : KvsSession). AreTwoMaps s.session) (sym c.self.view_is) c.invariants.ensures.maps in
+    let room = subst (λ (s : KvsSession). HasRoom s.config s.session) (sym c.self.view_is) c.invariants.ensures.room in
     let made = subst (λ (s : KvsSession). MakeInto c.args.changes.items s.session.synced s.session.visible)
     (sym c.self.view_is) c.requires.changes in
     let differ = subst (λ (s : KvsSession). is_synced s ≡ false) (sym c.self.view_is) c.requires.differ in
-    let sync = is_sync before c.self.invariant c.holds-2.ensures maps room c.args.changes.items made in
+    let sync = is_sync before c.self.invariant c.invariants-2.ensures maps room c.args.changes.items made in
     subst (λ (s : KvsSession). WritesAtMost s (g.D.Disk.medium c.args.disk.now) (g.D.Disk.medium c.commit.new.disk))
     c.self.view_is
     (commit_at_most before c.args.changes.items sync differ c.changes_make_maps.ensures.committed
@@ -106,12 +106,12 @@ returns-in-Ok-clause-storing g c =
       session =
           record { synced = c.self.inside.session.synced; visible = c.self.inside.session.visible };
     } in
-    let maps = subst (λ (s : KvsSession). AreTwoMaps s.session) (sym c.self.view_is) c.holds.ensures.maps in
-    let room = subst (λ (s : KvsSession). HasRoom s.config s.session) (sym c.self.view_is) c.holds.ensures.room in
+    let maps = subst (λ (s : KvsSession). AreTwoMaps s.session) (sym c.self.view_is) c.invariants.ensures.maps in
+    let room = subst (λ (s : KvsSession). HasRoom s.config s.session) (sym c.self.view_is) c.invariants.ensures.room in
     let made = subst (λ (s : KvsSession). MakeInto c.args.changes.items s.session.synced s.session.visible)
     (sym c.self.view_is) c.requires.changes in
     let differ = subst (λ (s : KvsSession). is_synced s ≡ false) (sym c.self.view_is) c.requires.differ in
-    let sync = is_sync before c.self.invariant c.holds-2.ensures maps room c.args.changes.items made in
+    let sync = is_sync before c.self.invariant c.invariants-2.ensures maps room c.args.changes.items made in
     subst (λ (s : KvsSession). IsStoring g.D.Disk.told (shape_of s.store) (Opens (synced_view s) [])
     (g.D.Disk.medium c.args.disk.now) (g.D.Disk.medium c.commit.new.disk)) c.self.view_is
     (commit_storing before c.args.changes.items sync differ c.changes_make_maps.ensures.committed g.D.Disk.told
@@ -126,12 +126,12 @@ returns-in-Err-Device-clause-at_most g c =
       session =
           record { synced = c.self.inside.session.synced; visible = c.self.inside.session.visible };
     } in
-    let maps = subst (λ (s : KvsSession). AreTwoMaps s.session) (sym c.self.view_is) c.holds.ensures.maps in
-    let room = subst (λ (s : KvsSession). HasRoom s.config s.session) (sym c.self.view_is) c.holds.ensures.room in
+    let maps = subst (λ (s : KvsSession). AreTwoMaps s.session) (sym c.self.view_is) c.invariants.ensures.maps in
+    let room = subst (λ (s : KvsSession). HasRoom s.config s.session) (sym c.self.view_is) c.invariants.ensures.room in
     let made = subst (λ (s : KvsSession). MakeInto c.args.changes.items s.session.synced s.session.visible)
     (sym c.self.view_is) c.requires.changes in
     let differ = subst (λ (s : KvsSession). is_synced s ≡ false) (sym c.self.view_is) c.requires.differ in
-    let sync = is_sync before c.self.invariant c.holds-2.ensures maps room c.args.changes.items made in
+    let sync = is_sync before c.self.invariant c.invariants-2.ensures maps room c.args.changes.items made in
     subst (λ (s : KvsSession). WritesAtMost s (g.D.Disk.medium c.args.disk.now) (g.D.Disk.medium c.commit.new.disk))
     c.self.view_is
     (commit_at_most before c.args.changes.items sync differ c.changes_make_maps.ensures.committed
@@ -146,12 +146,12 @@ returns-in-Err-Device-clause-storing g c =
       session =
           record { synced = c.self.inside.session.synced; visible = c.self.inside.session.visible };
     } in
-    let maps = subst (λ (s : KvsSession). AreTwoMaps s.session) (sym c.self.view_is) c.holds.ensures.maps in
-    let room = subst (λ (s : KvsSession). HasRoom s.config s.session) (sym c.self.view_is) c.holds.ensures.room in
+    let maps = subst (λ (s : KvsSession). AreTwoMaps s.session) (sym c.self.view_is) c.invariants.ensures.maps in
+    let room = subst (λ (s : KvsSession). HasRoom s.config s.session) (sym c.self.view_is) c.invariants.ensures.room in
     let made = subst (λ (s : KvsSession). MakeInto c.args.changes.items s.session.synced s.session.visible)
     (sym c.self.view_is) c.requires.changes in
     let differ = subst (λ (s : KvsSession). is_synced s ≡ false) (sym c.self.view_is) c.requires.differ in
-    let sync = is_sync before c.self.invariant c.holds-2.ensures maps room c.args.changes.items made in
+    let sync = is_sync before c.self.invariant c.invariants-2.ensures maps room c.args.changes.items made in
     subst (λ (s : KvsSession). IsStoring g.D.Disk.told (shape_of s.store) (Opens (synced_view s) [])
     (g.D.Disk.medium c.args.disk.now) (g.D.Disk.medium c.commit.new.disk)) c.self.view_is
     (commit_storing before c.args.changes.items sync differ c.changes_make_maps.ensures.committed g.D.Disk.told
@@ -167,12 +167,12 @@ returns-in-Err-OutOfMemory-clause-at_most g c =
       session =
           record { synced = c.self.inside.session.synced; visible = c.self.inside.session.visible };
     } in
-    let maps = subst (λ (s : KvsSession). AreTwoMaps s.session) (sym c.self.view_is) c.holds.ensures.maps in
-    let room = subst (λ (s : KvsSession). HasRoom s.config s.session) (sym c.self.view_is) c.holds.ensures.room in
+    let maps = subst (λ (s : KvsSession). AreTwoMaps s.session) (sym c.self.view_is) c.invariants.ensures.maps in
+    let room = subst (λ (s : KvsSession). HasRoom s.config s.session) (sym c.self.view_is) c.invariants.ensures.room in
     let made = subst (λ (s : KvsSession). MakeInto c.args.changes.items s.session.synced s.session.visible)
     (sym c.self.view_is) c.requires.changes in
     let differ = subst (λ (s : KvsSession). is_synced s ≡ false) (sym c.self.view_is) c.requires.differ in
-    let sync = is_sync before c.self.invariant c.holds-2.ensures maps room c.args.changes.items made in
+    let sync = is_sync before c.self.invariant c.invariants-2.ensures maps room c.args.changes.items made in
     subst (λ (s : KvsSession). WritesAtMost s (g.D.Disk.medium c.args.disk.now) (g.D.Disk.medium c.commit.new.disk))
     c.self.view_is
     (commit_at_most before c.args.changes.items sync differ c.changes_make_maps.ensures.committed
@@ -187,12 +187,12 @@ returns-in-Err-OutOfMemory-clause-storing g c =
       session =
           record { synced = c.self.inside.session.synced; visible = c.self.inside.session.visible };
     } in
-    let maps = subst (λ (s : KvsSession). AreTwoMaps s.session) (sym c.self.view_is) c.holds.ensures.maps in
-    let room = subst (λ (s : KvsSession). HasRoom s.config s.session) (sym c.self.view_is) c.holds.ensures.room in
+    let maps = subst (λ (s : KvsSession). AreTwoMaps s.session) (sym c.self.view_is) c.invariants.ensures.maps in
+    let room = subst (λ (s : KvsSession). HasRoom s.config s.session) (sym c.self.view_is) c.invariants.ensures.room in
     let made = subst (λ (s : KvsSession). MakeInto c.args.changes.items s.session.synced s.session.visible)
     (sym c.self.view_is) c.requires.changes in
     let differ = subst (λ (s : KvsSession). is_synced s ≡ false) (sym c.self.view_is) c.requires.differ in
-    let sync = is_sync before c.self.invariant c.holds-2.ensures maps room c.args.changes.items made in
+    let sync = is_sync before c.self.invariant c.invariants-2.ensures maps room c.args.changes.items made in
     subst (λ (s : KvsSession). IsStoring g.D.Disk.told (shape_of s.store) (Opens (synced_view s) [])
     (g.D.Disk.medium c.args.disk.now) (g.D.Disk.medium c.commit.new.disk)) c.self.view_is
     (commit_storing before c.args.changes.items sync differ c.changes_make_maps.ensures.committed g.D.Disk.told

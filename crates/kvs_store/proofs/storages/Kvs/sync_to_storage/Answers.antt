@@ -4,13 +4,13 @@ use Rattle.element_state.specs.States.{Opens}
 use Rattle.element_store.specs.Committing.{index_in}
 use Rattle.element_store.specs.Stores.{shape_of}
 use Rattle.kvs_store.specs.Synced.{is_synced, synced_view}
-use Rattle.kvs_store.proofs.Synced.{none_durable, none_settled, none_storing, none_written, same_view}
+use Rattle.kvs_store.proofs.Synced.{none_durable, none_marked, none_storing, none_written, same_view}
 use Rattle.kvs_store.proofs.storages.Kvs.sync_to_storage.Goals as goal
 
 pub returns-then-is_synced-clause-session : goal.returns-then-is_synced-clause-session
 returns-then-is_synced-clause-session g c =
     let same : is_synced c.args.self ≡ true = sym c.is_synced.ensures ∙ c.if-is_synced.true in
-    none_settled c.args.self ((c.syncs_are_decided.ensures.decides c.args.self.session.synced
+    none_marked c.args.self ((c.syncs_are_decided.ensures.decides c.args.self.session.synced
     c.args.self.session.visible).0 same)
 
 pub returns-then-is_synced-clause-view : goal.returns-then-is_synced-clause-view

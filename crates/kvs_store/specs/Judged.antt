@@ -1,0 +1,14 @@
+-- A view as a session of its keys shows it.
+use Rattle.std.specs.Prelude.{cond, map, None}
+use Rattle.per_base.specs.declared.elements.Content.TheVariants.{Bad}
+use Rattle.per_base.specs.declared.elements.Entry.{Entry}
+use Rattle.per_base.specs.Maps.{Map, element_at}
+use Rattle.element_state.specs.declared.shapes.View.{View}
+use Rattle.kvs_core.specs.Calls.{is_readable_key}
+
+-- an entry, without its content where the map has no readable key of its name
+abbrev pub shown_entry : Map → Entry → Entry
+shown_entry m e = record e { content = cond (is_readable_key (element_at m e.name)) e.content (Bad None) }
+
+abbrev pub shown_view : Map → View → View
+shown_view m v = record v { entries = map (shown_entry m) v.entries }
