@@ -4,7 +4,7 @@ use Rattle.std.proofs.Common.{false, refl, sym, ap, ◌∙◌, subst, arith, ⊎
 use Rattle.std.proofs.lemmas.List.{length-append, length-set, get_or-set_same, get_or-set_other, get_or_append_left}
 use Rattle.std.proofs.lemmas.List.{get_or_push, take_more, take_all}
 use Rattle.std.proofs.lemmas.Bool.{cases_eq, cases_lt}
-use Rattle.block_files.specs.BlockSets.{holds, free_of, IsAdded}
+use Rattle.block_files.specs.BlockSets.{contains, free_of, IsAdded}
 
 pub added_none : (old : List Bool) → IsAdded [] old old
 added_none old = record {
@@ -16,9 +16,9 @@ added_none old = record {
 }
 
 -- what a set holds after one more
-holds_more : (now : List Bool) (b x : ℕ) → b < length now → holds now x ≡ true → holds (set now b true) x ≡ true
+holds_more : (now : List Bool) (b x : ℕ) → b < length now → contains now x ≡ true → contains (set now b true) x ≡ true
 holds_more now b x lt is = ⊎_elim
-    (λ e. let P : ℕ → Type 0 = λ k. holds (set now b true) k ≡ true in
+    (λ e. let P : ℕ → Type 0 = λ k. contains (set now b true) k ≡ true in
     subst P (sym e) (get_or-set_same now b true false lt))
     (λ ne. get_or-set_other now b x true false ne ∙ is)
     (cases_eq x b)
@@ -33,10 +33,10 @@ added_more blocks old now b lt free is =
       added = λ i at. ⊎_elim
           (λ before. (
           let e = get_or_append_left blocks (b ∷ []) 0 i before in
-          ap (holds (set now b true)) e ∙ holds_more now b (get_or blocks i 0) inside (is.added i before)))
+          ap (contains (set now b true)) e ∙ holds_more now b (get_or blocks i 0) inside (is.added i before)))
           (λ after. (
           let e = get_or_push blocks b 0 i (omega arith) in
-          ap (holds (set now b true)) e ∙ get_or-set_same now b true false inside))
+          ap (contains (set now b true)) e ∙ get_or-set_same now b true false inside))
           (cases_lt i (length blocks));
       kept = λ x apart. (
           let ne : x ≢ b = λ same. apart (length blocks) (omega arith)

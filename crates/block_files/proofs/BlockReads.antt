@@ -5,7 +5,7 @@ use Rattle.std.proofs.Common.{sym, ap, ◌∙◌}
 use Rattle.std.proofs.lemmas.List.{drop_more, drop_all}
 use Rattle.std.proofs.lemmas.Bool.{lt-leb, le-leb, eq-eqb, ne_eqb, or_left}
 use Rattle.disk_model.specs.Medium.{Medium, IsLawful, Elapses, OnlyReads}
-use Rattle.disk_model.proofs.Moments.{reads_none, reads_on, elapses_none, elapses_on}
+use Rattle.disk_model.specs.Laws.{reads_none, reads_on, elapses_none, elapses_on}
 use Rattle.block_files.specs.Areas.{is_within}
 
 -- ---- within a file, block by block

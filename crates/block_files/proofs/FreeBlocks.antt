@@ -4,7 +4,7 @@ use Rattle.std.proofs.Common.{Bool, true, false, not, cond, refl, sym, ap, ◌�
 use Rattle.std.specs.Prelude.{count_by}
 use Rattle.std.proofs.lemmas.List.{append-nil, drop_more, drop_all, length-append, get_or-take, length-take-le}
 use Rattle.std.proofs.lemmas.List.Sums.{sum_by-cons}
-use Rattle.block_files.specs.BlockSets.{holds, free_of, free_from, free_blocks, AreFree}
+use Rattle.block_files.specs.BlockSets.{contains, free_of, free_from, free_blocks, AreFree}
 
 -- ---- the list of free blocks
 
@@ -94,18 +94,28 @@ choosing_none set count = record {
 }
 
 -- the rest begins at a block whose flag is this
-rest_at : (set : List Bool) (i : ℕ) (flag : Bool) → i < length set → holds set i ≡ flag
+rest_at : (set : List Bool) (i : ℕ) (flag : Bool) → i < length set → contains set i ≡ flag
     → free_from i (drop i set) ≡ free_from i (flag ∷ drop (i + 1) set)
 rest_at set i flag lt is = ap (free_from i) (drop_more set i false lt) ∙ ap (λ f. free_from i (f ∷ drop (i + 1) set)) is
 
-pub choosing_skip : (set : List Bool) (count i : ℕ) (blocks : List ℕ) → i < length set → holds set i ≡ true
+pub choosing_skip : (set : List Bool) (count i : ℕ) (blocks : List ℕ) → i < length set → contains set i ≡ true
     → IsChoosing set count i blocks → IsChoosing set count (i + 1) blocks
 choosing_skip set count i blocks lt is now = record {
   few = now.few;
   rest = ap (λ rest. blocks ++ take (count - length blocks) rest) (sym (rest_at set i true lt is)) ∙ now.rest;
 }
 
-pub choosing_more : (set : List Bool) (count i : ℕ) (blocks : List ℕ) → i < length set → holds set i ≡ false
+-- a choice may begin behind blocks that are all taken
+pub choosing_from : (set : List Bool) (count i : ℕ) → i ≤ length set → ((b : ℕ) → b < i → contains set b ≡ true)
+    → IsChoosing set count i []
+choosing_from set count zero within taken = choosing_none set count
+choosing_from set count (suc i) within taken =
+    let e : i + 1 ≡ suc i = omega arith in
+    let P : ℕ → Type 0 = λ n. IsChoosing set count n [] in
+    subst P e (choosing_skip set count i [] (omega arith) (taken i (omega arith))
+    (choosing_from set count i (omega arith) (λ b below. taken b (omega arith))))
+
+pub choosing_more : (set : List Bool) (count i : ℕ) (blocks : List ℕ) → i < length set → contains set i ≡ false
     → length blocks < count → IsChoosing set count i blocks → IsChoosing set count (i + 1) (blocks ++ i ∷ [])
 choosing_more set count i blocks lt is room now =
     let later = free_from (i + 1) (drop (i + 1) set) in

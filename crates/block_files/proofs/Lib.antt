@@ -1,14 +1,6 @@
-pub mod Outcomes
 pub mod FreeBlocks
 pub mod Added
-pub mod PartLemmas
-pub mod Stretches
-pub mod Partly
-pub mod Joined
 pub mod Spread
-pub mod Everywhere
-pub mod Sharing
 pub mod BlockReads
 pub mod Runs
 pub mod Counting
-pub mod AsideLaws

@@ -10,7 +10,7 @@ use Rattle.std.proofs.lemmas.Bool.{cases_lt}
 use borrow.Rule.Slice.PartMut.{put_mid, post_of}
 use Rattle.block_files.specs.Areas.{block, joined}
 use Rattle.block_files.specs.Parts.{blocks_for}
-use Rattle.block_files.proofs.Joined.{length-blocks, read_joined}
+use Rattle.block_files.specs.lemmas.Joined.{length-blocks, read_joined}
 
 -- ---- a part that is written in place
 

@@ -7,8 +7,8 @@ use Rattle.disk_model.specs.Medium.{Medium, IsLawful}
 use Rattle.block_files.specs.Parts.{changed}
 use Rattle.block_files.specs.Areas.{area_of, HoldsBytes, HoldsShared, NamedFull}
 use Rattle.block_files.specs.Writes.{Wrote, Tore, IsNoneOf, IsApartFromChanged}
-use Rattle.block_files.proofs.Stretches.{wrote_none, wrote_on, wrote_tore, wrote_less, tore_less}
-use Rattle.block_files.proofs.Joined.{full_from}
+use Rattle.block_files.specs.lemmas.Stretches.{wrote_none, wrote_on, wrote_tore, wrote_less, tore_less}
+use Rattle.block_files.specs.lemmas.Joined.{full_from}
 
 pub record IsSpread (told : Bool) (first : ℕ) (copies blocks bytes was : List ℕ) (i : ℕ) (old now : Medium) : Type 0
   where

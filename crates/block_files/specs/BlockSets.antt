@@ -4,8 +4,8 @@ use Rattle.std.specs.Prelude.{true, false, not, count_by}
 use Rattle.block_files.specs.Parts.{is_changed}
 
 -- whether the block is in the set; no set holds a block past its capacity
-abbrev pub holds : List Bool → ℕ → Bool
-holds set block = slice_index_or set block false
+abbrev pub contains : List Bool → ℕ → Bool
+contains set block = slice_index_or set block false
 
 -- how many blocks below the capacity are free
 abbrev pub free_of : List Bool → ℕ
@@ -19,6 +19,12 @@ free_from block (false ∷ flags) = block ∷ free_from (block + 1) flags
 
 abbrev pub free_blocks : List Bool → List ℕ
 free_blocks set = free_from 0 set
+
+-- the lowest block that is free, or the capacity
+pub record IsFirstFree (set : List Bool) (block : ℕ) : Type 0 where
+  pub within : block ≤ length set
+  pub taken : (b : ℕ) → b < block → contains set b ≡ true
+  pub free : block < length set → contains set block ≡ false
 
 -- each is above those before it
 abbrev pub Ascend : List ℕ → Type 0
@@ -35,13 +41,13 @@ IsApart blocks k = (i : ℕ) → i < length blocks → k ≢ slice_index blocks 
 -- blocks that a set does not hold, each once
 pub record AreFree (set : List Bool) (blocks : List ℕ) : Type 0 where
   pub below : (i : ℕ) → i < length blocks → slice_index blocks i < length set
-  pub free : (i : ℕ) → i < length blocks → holds set (slice_index blocks i) ≡ false
+  pub free : (i : ℕ) → i < length blocks → contains set (slice_index blocks i) ≡ false
   pub ascend : Ascend blocks
 
 -- the new set holds these blocks, and is otherwise as the old one
 pub record IsAdded (blocks : List ℕ) (old new : List Bool) : Type 0 where
-  pub added : (i : ℕ) → i < length blocks → holds new (slice_index blocks i) ≡ true
-  pub kept : (b : ℕ) → IsApart blocks b → holds new b ≡ holds old b
+  pub added : (i : ℕ) → i < length blocks → contains new (slice_index blocks i) ≡ true
+  pub kept : (b : ℕ) → IsApart blocks b → contains new b ≡ contains old b
   pub capacity : length new ≡ length old
   pub free : free_of old ≤ free_of new + length blocks
 
@@ -51,4 +57,4 @@ pub record SharesBlocks (bytes was old_blocks : List ℕ) (set : List Bool) (blo
   pub equal : (i : ℕ) → i < length blocks → is_changed bytes was i ≡ false
       → slice_index blocks i ≡ slice_index old_blocks i
   pub fresh : (i : ℕ) → i < length blocks → is_changed bytes was i ≡ true
-      → (slice_index blocks i < length set) × (holds set (slice_index blocks i) ≡ false)
+      → (slice_index blocks i < length set) × (contains set (slice_index blocks i) ≡ false)

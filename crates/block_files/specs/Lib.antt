@@ -1,6 +1,7 @@
-pub mod Parts
-pub mod BlockSets
 pub mod Areas
-pub mod Contents
-pub mod Writes
 pub mod Aside
+pub mod BlockSets
+pub mod Contents
+pub mod Parts
+pub mod Writes
+pub mod lemmas

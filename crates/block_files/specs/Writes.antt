@@ -1,11 +1,11 @@
 -- What calls that write blocks leave alone, at their end and where a crash or a failure stops them.
-use Rattle.std.specs.Prelude.{◌≡◌, ◌≢◌, ℕ, ◌+◌, ◌<◌, ◌≤◌, List, length, slice_index, Bool, true, IsTrue}
+use Rattle.std.specs.Prelude.{◌≡◌, ◌≢◌, ℕ, ◌+◌, ◌-◌, ◌<◌, ◌≤◌, List, length, slice_index, Bool, true, IsTrue}
 use Rattle.per_base.specs.Causes.{Rose}
 use Rattle.disk_model.specs.Case.{Follows}
 use Rattle.disk_model.specs.Medium.{Medium, Elapses}
 use Rattle.disk_model.specs.Frame.{Keeps, Tears, KeepsCase}
-use Rattle.block_files.specs.BlockSets.{holds}
-use Rattle.block_files.specs.Parts.{is_changed}
+use Rattle.block_files.specs.BlockSets.{contains}
+use Rattle.block_files.specs.Parts.{is_changed, blocks_for}
 use Rattle.block_files.specs.Areas.{area_of}
 
 -- Writes that were all done, of at most n bytes: files that are spared and blocks that are apart read as before, and so
@@ -37,9 +37,19 @@ IsNoneOf first copies file = (i : ℕ) → i < length copies → file ≢ area_o
 
 -- the block was in the set
 abbrev pub IsTaken : List Bool → ℕ → Type 0
-IsTaken set k = holds set k ≡ true
+IsTaken set k = contains set k ≡ true
 
 -- the block is none of those whose part differs from that of an earlier content
 abbrev pub IsApartFromChanged : (blocks bytes was : List ℕ) (k : ℕ) → Type 0
 IsApartFromChanged blocks bytes was k = (i : ℕ) → i < length blocks → is_changed bytes was i ≡ true
     → k ≢ slice_index blocks i
+
+-- ---- runs
+
+-- from the first of these parts to the end each differs from that of an earlier content, and their blocks follow one
+-- another
+pub record IsRun (blocks bytes was : List ℕ) (first end : ℕ) : Type 0 where
+  pub some : first < end
+  pub within : end ≤ blocks_for (length bytes)
+  pub differ : (i : ℕ) → first ≤ i → i < end → is_changed bytes was i ≡ true
+  pub follow : (i : ℕ) → first ≤ i → i < end → slice_index blocks i ≡ slice_index blocks first + (i - first)

@@ -1,7 +1,7 @@
 //! Which blocks of an area are taken.
 
-ghost use Rattle.std.specs.Prelude.{◌≡◌, ◌<◌, ◌≤◌, ◌+◌, true, false, length, replicate, slice_set, IfOk};
-ghost use Rattle.block_files.specs.BlockSets.{holds, free_of};
+ghost use Rattle.std.specs.Prelude.{◌≡◌, ◌<◌, ◌≤◌, ◌+◌, ◌^◌, ℕ, true, false, length, replicate, slice_set, IfOk};
+ghost use Rattle.block_files.specs.BlockSets.{contains, free_of, IsFirstFree};
 
 use std::alloc::{AllocError, Global};
 use std::marker::Model;
@@ -10,16 +10,19 @@ use std::marker::Model;
 #[derive(Debug, Drop)]
 pub struct BlockSet {
     flags: Vec<bool>,
+    // The lowest block that is free, or the capacity: a choice of blocks begins here.
+    first_free: u32,
 }
 
 impl Model for BlockSet {
     ghost use Rattle.std.specs.Prelude.{◌<◌, ◌^◌, List, Bool, length};
+    ghost use Rattle.block_files.specs.BlockSets.{IsFirstFree};
 
     ghost Value = { List Bool };
 
     ghost view = { λ set. set.flags.items };
 
-    ghost invariant = { λ set. length set.flags.items < 2 ^ 32 };
+    ghost invariant = { λ set. (length set.flags.items < 2 ^ 32) × IsFirstFree set.flags.items set.first_free };
 }
 
 impl BlockSet {
@@ -33,7 +36,10 @@ impl BlockSet {
         ensures free { IfOk result (λ set. free_of set ≡ capacity) }
     {
         let flags = vec![in alloc; false; capacity as usize]?;
-        Ok(BlockSet { flags })
+        Ok(BlockSet {
+            flags,
+            first_free: 0,
+        })
     }
 
     /// A copy that holds the same blocks.
@@ -46,6 +52,7 @@ impl BlockSet {
     {
         Ok(BlockSet {
             flags: self.flags.clone()?,
+            first_free: self.first_free,
         })
     }
 
@@ -56,10 +63,17 @@ impl BlockSet {
         self.flags.len() as u32
     }
 
+    // The lowest block outside the set, or the capacity.
+    pub(crate) fn first_free(&self) -> u32
+        ensures { IsFirstFree self.now result }
+    {
+        self.first_free
+    }
+
     /// Whether the block is in the set. Takes no memory.
     pub fn contains(&self, block: u32) -> bool
         requires { block < length self.now }
-        ensures { result ≡ holds self.now block }
+        ensures { result ≡ contains self.now block }
     {
         self.flags[block as usize]
     }
@@ -71,6 +85,9 @@ impl BlockSet {
         ensures free { free_of self.old ≤ free_of self.new + 1 }
     {
         self.flags[block as usize] = true;
+        if block == self.first_free {
+            self.first_free = next_free(&self.flags, block + 1);
+        }
     }
 
     /// Takes the block out of the set. Takes no memory.
@@ -80,5 +97,22 @@ impl BlockSet {
         ensures free { free_of self.old ≤ free_of self.new }
     {
         self.flags[block as usize] = false;
+        self.first_free = self.first_free.min(block);
     }
+}
+
+// The lowest free block that is not below `from`, or the number of the flags.
+fn next_free(flags: &[bool], from: u32) -> u32
+    requires few { length flags.now < 2 ^ 32 }
+    requires inside { from ≤ length flags.now }
+    ensures within { (from ≤ result) × (result ≤ length flags.now) }
+    ensures taken { (b : ℕ) → from ≤ b → b < result → contains flags.now b ≡ true }
+    ensures free { result < length flags.now → contains flags.now result ≡ false }
+{
+    for block in from..flags.len() as u32 {
+        if !flags[block as usize] {
+            return block;
+        }
+    }
+    flags.len() as u32
 }

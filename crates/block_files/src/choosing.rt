@@ -8,12 +8,12 @@ use crate::block_set::BlockSet;
 use crate::parts::{count_blocks, differs};
 use std::alloc::{AllocError, Global};
 
-// The lowest free blocks.
+// The lowest free blocks. No block below the first of them is looked at.
 pub(crate) fn choose(alloc: Global, used: &BlockSet, count: usize) -> Result<Vec<u32>, AllocError>
     ensures { IfOk result (λ blocks. blocks.items ≡ take count (free_blocks used.now)) }
 {
     let mut blocks = Vec::new(alloc);
-    for block in 0..used.capacity() {
+    for block in used.first_free()..used.capacity() {
         if blocks.len() == count {
             return Ok(blocks);
         }

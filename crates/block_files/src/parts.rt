@@ -15,7 +15,7 @@ pub(crate) fn count_blocks(len: usize) -> usize
 
 // The bytes that go into a content's i-th block: the last part may be shorter than a block, and those past it are
 // empty.
-pub(crate) fn part_at(bytes: &[u8], i: usize) -> &[u8]
+fn part_at(bytes: &[u8], i: usize) -> &[u8]
     requires { 256 * i < 2 ^ 63 }
     ensures value { result.now ≡ part bytes.now i }
     ensures short { length result.now ≤ 256 }

@@ -4,7 +4,7 @@ ghost use Rattle.std.specs.Prelude.{◌≡◌, ◌<◌, ◌≤◌, ◌+◌, ◌*
 ghost use Rattle.std.specs.Prelude.{slice_index};
 ghost use Rattle.sha2.specs.Sha256.{sha256};
 ghost use Rattle.disk_model.specs.Place.{IsNoArea};
-ghost use Rattle.block_files.specs.BlockSets.{holds, free_of, AreFree, AreDistinct, IsApart, IsAdded, SharesBlocks};
+ghost use Rattle.block_files.specs.BlockSets.{contains, free_of, AreFree, AreDistinct, IsApart, IsAdded, SharesBlocks};
 ghost use Rattle.block_files.specs.Parts.{blocks_for, changed};
 ghost use Rattle.block_files.specs.Areas.{AllFull};
 ghost use Rattle.block_files.specs.Writes.{Wrote, Tore, IsTaken, IsApartFromChanged};
@@ -103,7 +103,7 @@ pub fn reserve_shared(
     old_blocks: &[u32],
 ) -> Result<PutBlob, AllocError>
     requires room { length old_bytes.now ≤ 256 * length old_blocks.now }
-    requires taken { (i : ℕ) → i < length old_blocks.now → holds used.old (slice_index old_blocks.now i) ≡ true }
+    requires taken { (i : ℕ) → i < length old_blocks.now → contains used.old (slice_index old_blocks.now i) ≡ true }
     requires distinct { AreDistinct old_blocks.now }
     requires free { changed bytes.now old_bytes.now ≤ free_of used.old }
     ensures count { IfOk result (λ blob. length blob.blocks ≡ blocks_for (length bytes.now)) }
@@ -142,7 +142,7 @@ pub fn put_shared<D: Disk>(
     requires whole { IsTrue D.told
         → AllFull place.first place.copies old_blocks.now old_bytes.now (D.medium disk.old).image }
     requires room { length old_bytes.now ≤ 256 * length old_blocks.now }
-    requires taken { (i : ℕ) → i < length old_blocks.now → holds used.old (slice_index old_blocks.now i) ≡ true }
+    requires taken { (i : ℕ) → i < length old_blocks.now → contains used.old (slice_index old_blocks.now i) ≡ true }
     requires distinct { AreDistinct old_blocks.now }
     requires free { changed bytes.now old_bytes.now ≤ free_of used.old }
     // The blocks.

@@ -1,14 +1,15 @@
 //! Writes of contents into the areas of copies. Nothing here takes memory.
 
-ghost use Rattle.std.specs.Prelude.{◌≢◌, ◌<◌, ◌≤◌, ◌*◌, ℕ, IsTrue, OnOk, OnErr, length, slice_index};
+ghost use Rattle.std.specs.Prelude.{◌≡◌, ◌≢◌, ◌<◌, ◌≤◌, ◌+◌, ◌-◌, ◌*◌, ℕ, IsTrue, OnOk, OnErr, length};
+ghost use Rattle.std.specs.Prelude.{slice_index, true};
 ghost use Rattle.disk_model.specs.Place.{area, IsNoArea};
 ghost use Rattle.block_files.specs.BlockSets.{AreDistinct, IsApart};
-ghost use Rattle.block_files.specs.Parts.{changed};
+ghost use Rattle.block_files.specs.Parts.{blocks_for, is_changed, changed};
 ghost use Rattle.block_files.specs.Areas.{HoldsBytes, HoldsShared, AllFull, NamedFull, area_of};
 ghost use Rattle.block_files.specs.Contents.{AreCopies};
-ghost use Rattle.block_files.specs.Writes.{Wrote, Tore, IsNoneOf, IsApartFromChanged};
+ghost use Rattle.block_files.specs.Writes.{Wrote, Tore, IsNoneOf, IsApartFromChanged, IsRun};
 
-use crate::parts::{count_blocks, differs, part_at};
+use crate::parts::{count_blocks, differs};
 use disk_model::{Disk, DiskFailed, Place};
 use per_base::BLOCK;
 
@@ -105,7 +106,7 @@ pub(crate) fn write_copies<D: Disk>(
     Ok(())
 }
 
-// The same in one area file.
+// The same in one area file, by one write for each run of parts that differ and whose blocks follow one another.
 fn write_changed<D: Disk>(
     disk: &mut D,
     file: u32,
@@ -122,10 +123,40 @@ fn write_changed<D: Disk>(
     ensures failed { OnErr result (Tore D.told (λ f. f ≢ file) (IsApartFromChanged blocks.now bytes.now was.now)
         (256 * changed bytes.now was.now) (D.medium disk.old) (D.medium disk.new)) }
 {
-    for i in 0..count_blocks(bytes.len()) {
-        if differs(bytes, was, i) {
-            disk.write_at(file, BLOCK as u64 * u64::from(blocks[i]), part_at(bytes, i))?;
+    let needed = count_blocks(bytes.len());
+    let mut next = 0;
+    while next < needed {
+        if differs(bytes, was, next) {
+            let end = run_end(blocks, bytes, was, next);
+            let stop = (BLOCK * end).min(bytes.len());
+            disk.write_at(
+                file,
+                BLOCK as u64 * u64::from(blocks[next]),
+                &bytes[BLOCK * next..stop],
+            )?;
+            next = end;
+        } else {
+            next += 1;
         }
     }
     Ok(())
+}
+
+// Where the run of a part that differs ends: up to there the parts differ, and their blocks follow one another.
+fn run_end(blocks: &[u32], bytes: &[u8], was: &[u8], first: usize) -> usize
+    requires room { length bytes.now ≤ 256 * length blocks.now }
+    requires inside { first < blocks_for (length bytes.now) }
+    requires differs { is_changed bytes.now was.now first ≡ true }
+    ensures run { IsRun blocks.now bytes.now was.now first result }
+    ensures longest { result < blocks_for (length bytes.now) → is_changed bytes.now was.now result ≡ true
+        → slice_index blocks.now result ≢ slice_index blocks.now first + (result - first) }
+{
+    let needed = count_blocks(bytes.len());
+    for i in first + 1..needed {
+        let follows = u64::from(blocks[i]) == u64::from(blocks[first]) + (i - first) as u64;
+        if !follows || !differs(bytes, was, i) {
+            return i;
+        }
+    }
+    needed
 }

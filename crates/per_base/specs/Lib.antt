@@ -1,5 +1,7 @@
 pub mod Causes
+pub mod Changes
 pub mod Errors
+pub mod Faults
 pub mod FieldLaws
 pub mod FieldLoops
 pub mod Fields

@@ -80,6 +80,17 @@ pub struct Fresh {
     pub bytes: Bytes,
 }
 
+/// One change of a commit.
+#[derive(Debug, Drop)]
+pub enum Change {
+    /// A new element, or a new content and info of one.
+    Put(Fresh),
+    /// No such element from now on.
+    Remove(Name),
+    /// A new info of a file.
+    Touch(Name, FileInfo),
+}
+
 impl Content {
     /// A copy with the same bytes.
     pub fn copy(&self) -> Result<Content, AllocError>

@@ -12,6 +12,7 @@
 
 mod elements;
 mod errors;
+mod faults;
 mod fields;
 mod lists;
 mod memory_streams;
@@ -21,10 +22,11 @@ mod reports;
 mod streams;
 
 pub use elements::{
-    BLOCK, Cause, Content, ENTRY_SIZE, Element, Entry, FileInfo, Fresh, Scope, StoreKind,
+    BLOCK, Cause, Change, Content, ENTRY_SIZE, Element, Entry, FileInfo, Fresh, Scope, StoreKind,
     element_size, storage_size,
 };
 pub use errors::{Holder, Limit, PerError, Unit};
+pub use faults::Fault;
 pub use fields::{Ended, byte_of, bytes_of, u16_of, u32_of, u64_of};
 pub use lists::{Bytes, Numbers, Sequence, ValueText};
 pub use memory_streams::{MemSink, MemSource};

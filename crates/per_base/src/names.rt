@@ -1,6 +1,6 @@
 //! Names of storages, keys and files.
 
-ghost use Rattle.std.specs.Prelude.{◌≡◌, ◌⊎◌, IfErr, IfOk, OnOk};
+ghost use Rattle.std.specs.Prelude.{◌≡◌, ◌⊎◌, IfErr, IfOk, OnOk, IsErrOf};
 ghost use Rattle.std.specs.List.{list_all};
 ghost use Rattle.per_base.specs.Names.{IsName, in_name, is_name};
 
@@ -38,7 +38,7 @@ impl Name {
     pub fn new(alloc: Global, text: &str) -> Result<Name, PerError>
         ensures name { IfOk result (λ name. name ≡ text.now) }
         ensures grammar { OnOk result (IsName text.now) }
-        ensures bad { result ≡ Err PerError.BadName → ¬ IsName text.now }
+        ensures bad { IsErrOf result PerError.BadName → ¬ IsName text.now }
         ensures causes { IfErr result (λ e. (e ≡ PerError.BadName) ⊎ (e ≡ PerError.OutOfMemory)) }
     {
         if !has_name_form(text.as_bytes()) {

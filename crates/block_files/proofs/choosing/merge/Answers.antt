@@ -1,7 +1,7 @@
 use Rattle.std.proofs.Common.{◌≡◌, ◌+◌, List, ℕ, refl, sym, ap, ◌∙◌, subst, true, false, length, arith}
 use Rattle.block_files.specs.Parts.{is_changed, blocks_for}
-use Rattle.block_files.proofs.PartLemmas.{changed_at, changed_to-le}
-use Rattle.block_files.proofs.Sharing.{IsMerging, merging_fresh, merging_old, same_inside}
+use Rattle.block_files.specs.lemmas.PartLemmas.{changed_at, changed_to-le}
+use Rattle.block_files.specs.lemmas.Sharing.{IsMerging, merging_fresh, merging_old, same_inside}
 use Rattle.block_files.proofs.choosing.merge.Goals as goal
 use Rattle.block_files.proofs.choosing.merge.Goals.{then-differs+in_ok-push, else-differs+in_ok-push-2}
 

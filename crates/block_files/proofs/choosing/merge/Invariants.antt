@@ -1,4 +1,4 @@
-use Rattle.block_files.proofs.Sharing.{IsMerging}
+use Rattle.block_files.specs.lemmas.Sharing.{IsMerging}
 use Rattle.block_files.proofs.choosing.merge.Given as goal
 
 abbrev pub invariant-loop-i : goal.invariant-loop-i

@@ -1,4 +1,4 @@
-use Rattle.block_files.proofs.AsideLaws.{aside}
+use Rattle.block_files.specs.lemmas.AsideLaws.{aside}
 use Rattle.block_files.proofs.laws.contents_stand_aside.Goals as goal
 
 pub returns : goal.returns

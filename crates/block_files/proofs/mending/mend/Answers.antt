@@ -3,9 +3,9 @@ use Rattle.block_files.specs.BlockSets.{IsApart}
 use Rattle.block_files.specs.Parts.{changed}
 use Rattle.block_files.specs.Areas.{area_of}
 use Rattle.block_files.specs.Writes.{IsNoneOf, IsApartFromChanged}
-use Rattle.block_files.proofs.Everywhere.{shared_none, apart_none, whole_le}
-use Rattle.block_files.proofs.Stretches.{wrote_less, tore_less}
-use Rattle.block_files.proofs.Outcomes.{on_err}
+use Rattle.block_files.specs.lemmas.Everywhere.{shared_none, apart_none, whole_le}
+use Rattle.block_files.specs.lemmas.Stretches.{wrote_less, tore_less}
+use Rattle.block_files.specs.lemmas.Outcomes.{on_err}
 use Rattle.block_files.proofs.mending.mend.Goals as goal
 
 pub write_copies-requires-clause-shared : goal.write_copies-requires-clause-shared

@@ -1,6 +1,6 @@
 use Rattle.std.proofs.Common.{arith, sym, ◌∙◌, ◌≡◌, true, false}
 use Rattle.block_files.specs.Parts.{is_changed}
-use Rattle.block_files.proofs.PartLemmas.{changed_to-le, changed_more, changed_same}
+use Rattle.block_files.specs.lemmas.PartLemmas.{changed_to-le, changed_more, changed_same}
 use Rattle.block_files.proofs.parts.count_changed.Goals as goal
 use Rattle.block_files.proofs.parts.count_changed.Goals.{then-differs, else-differs}
 

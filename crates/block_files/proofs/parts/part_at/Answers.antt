@@ -1,5 +1,5 @@
 use Rattle.std.proofs.lemmas.List.{take_rest}
-use Rattle.block_files.proofs.PartLemmas.{part_cut}
+use Rattle.block_files.specs.lemmas.PartLemmas.{part_cut}
 use Rattle.block_files.proofs.parts.part_at.Goals as goal
 
 pub returns-clause-value : goal.returns-clause-value

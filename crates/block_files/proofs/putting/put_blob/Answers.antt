@@ -1,6 +1,6 @@
 use Rattle.std.proofs.Common.{List, ℕ, sym, ap, subst, length, arith}
 use Rattle.block_files.specs.BlockSets.{AreDistinct}
-use Rattle.block_files.proofs.Sharing.{free_distinct}
+use Rattle.block_files.specs.lemmas.Sharing.{free_distinct}
 use Rattle.block_files.proofs.putting.put_blob.Goals as goal
 
 pub write_blob-requires : goal.write_blob-requires

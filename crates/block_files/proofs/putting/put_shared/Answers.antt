@@ -4,8 +4,8 @@ use Rattle.block_files.specs.BlockSets.{AreDistinct}
 use Rattle.block_files.specs.Parts.{changed}
 use Rattle.block_files.specs.Areas.{HoldsShared}
 use Rattle.block_files.specs.Writes.{IsTaken, IsApartFromChanged}
-use Rattle.block_files.proofs.Sharing.{holds_shared, taken_apart_changed}
-use Rattle.block_files.proofs.Stretches.{tore_less}
+use Rattle.block_files.specs.lemmas.Sharing.{holds_shared, taken_apart_changed}
+use Rattle.block_files.specs.lemmas.Stretches.{tore_less}
 use Rattle.block_files.proofs.putting.put_shared.Goals as goal
 
 pub write_shared-requires : goal.write_shared-requires

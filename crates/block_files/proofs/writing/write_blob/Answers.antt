@@ -4,8 +4,8 @@ use Rattle.disk_model.specs.Place.{area, IsNoArea}
 use Rattle.block_files.specs.BlockSets.{IsApart}
 use Rattle.block_files.specs.Parts.{changed}
 use Rattle.block_files.specs.Writes.{IsApartFromChanged}
-use Rattle.block_files.proofs.Everywhere.{shared_none, apart_none, whole_le}
-use Rattle.block_files.proofs.Stretches.{wrote_less, tore_less}
+use Rattle.block_files.specs.lemmas.Everywhere.{shared_none, apart_none, whole_le}
+use Rattle.block_files.specs.lemmas.Stretches.{wrote_less, tore_less}
 use Rattle.block_files.proofs.writing.write_blob.Goals as goal
 
 pub write_shared-requires-clause-shared : goal.write_shared-requires-clause-shared

@@ -1,6 +1,6 @@
 use Rattle.std.proofs.Common.{◌≡◌, ℕ, sym, subst, length, arith}
 use Rattle.block_files.specs.Areas.{HoldsShared}
-use Rattle.block_files.proofs.Outcomes.{on_err}
+use Rattle.block_files.specs.lemmas.Outcomes.{on_err}
 use Rattle.block_files.proofs.Spread.{spread_none, spread_more, spread_failed, spread_all, spread_full}
 use Rattle.block_files.proofs.writing.write_copies.Goals as goal
 

@@ -3,8 +3,9 @@ use Rattle.std.proofs.lemmas.Result.{on_ok_weaker, on_err_weaker}
 use Rattle.disk_model.specs.Place.{IsNoArea}
 use Rattle.block_files.specs.Parts.{changed}
 use Rattle.block_files.specs.Writes.{IsNoneOf, IsApartFromChanged}
-use Rattle.block_files.proofs.Everywhere.{numbers, numbers_named, shared_named, all_full, none_named, length-numbers}
-use Rattle.block_files.proofs.Stretches.{wrote_less, tore_less}
+use Rattle.block_files.specs.lemmas.Everywhere.{numbers, numbers_named, shared_named, all_full, none_named}
+use Rattle.block_files.specs.lemmas.Everywhere.{length-numbers}
+use Rattle.block_files.specs.lemmas.Stretches.{wrote_less, tore_less}
 use Rattle.block_files.proofs.writing.write_shared.Goals as goal
 
 pub write_copies-requires-clause-copies : goal.write_copies-requires-clause-copies

@@ -5,13 +5,13 @@ use Rattle.std.proofs.Common.{true, false, cond, refl, sym, ap, ◌∙◌, arith
 use Rattle.std.specs.Prelude.{slice_index}
 use Rattle.std.proofs.lemmas.List.{length-append, get_or_append_left, get_or_push}
 use Rattle.std.proofs.lemmas.Bool.{cases_lt, cases_Bool, cond-true, cond-false, both_ways}
-use Rattle.block_files.specs.BlockSets.{holds, AreDistinct, IsApart, AreFree, IsAdded, SharesBlocks}
+use Rattle.block_files.specs.BlockSets.{contains, AreDistinct, IsApart, AreFree, IsAdded, SharesBlocks}
 use Rattle.block_files.specs.Parts.{blocks_for, is_changed, changed, changed_to, IsMerged}
 use Rattle.block_files.specs.Areas.{HoldsShared, IsFull}
 use Rattle.block_files.specs.Writes.{IsTaken, IsApartFromChanged}
-use Rattle.block_files.proofs.PartLemmas.{same_part, changed_to-le, changed_more, changed_same, changed_at}
-use Rattle.block_files.proofs.Partly.{length-part, read_part}
-use Rattle.block_files.proofs.Joined.{holds_from}
+use Rattle.block_files.specs.lemmas.PartLemmas.{same_part, changed_to-le, changed_more, changed_same, changed_at}
+use Rattle.block_files.specs.lemmas.Partly.{length-part, read_part}
+use Rattle.block_files.specs.lemmas.Joined.{holds_from}
 
 -- ---- the merging, block by block
 
@@ -125,20 +125,20 @@ module _ (bytes was old fresh blocks : List ℕ) (set : List Bool) (is : IsMerge
     fresh = λ i lt differ. (
         let e = fresh_is i lt differ in
         let inside = fresh_lt i lt differ in
-        (omega (arith, free.below (at_fresh i) inside), ap (holds set) e ∙ free.free (at_fresh i) inside));
+        (omega (arith, free.below (at_fresh i) inside), ap (contains set) e ∙ free.free (at_fresh i) inside));
   }
 
   -- a block of the set is none of those outside it
-  taken_apart : (a b : ℕ) → holds set a ≡ true → holds set b ≡ false → a ≢ b
-  taken_apart a b taken out e = both_ways (holds set b) out (sym (ap (holds set) e) ∙ taken)
+  taken_apart : (a b : ℕ) → contains set a ≡ true → contains set b ≡ false → a ≢ b
+  taken_apart a b taken out e = both_ways (contains set b) out (sym (ap (contains set) e) ∙ taken)
 
-  module _ (apart : AreDistinct old) (taken : (i : ℕ) → i < length old → holds set (slice_index old i) ≡ true)
+  module _ (apart : AreDistinct old) (taken : (i : ℕ) → i < length old → contains set (slice_index old i) ≡ true)
       (room : length was ≤ 256 * length old) where
     old_lt : (i : ℕ) → i < length blocks → is_changed bytes was i ≡ false → i < length old
     old_lt i lt same = omega (arith, is.count, same_inside bytes was i 0 same (omega arith) (omega (arith, is.count)))
 
-    old_taken : (i : ℕ) → i < length blocks → is_changed bytes was i ≡ false → holds set (get_or blocks i 0) ≡ true
-    old_taken i lt same = ap (holds set) (old_is i lt same) ∙ taken i (old_lt i lt same)
+    old_taken : (i : ℕ) → i < length blocks → is_changed bytes was i ≡ false → contains set (get_or blocks i 0) ≡ true
+    old_taken i lt same = ap (contains set) (old_is i lt same) ∙ taken i (old_lt i lt same)
 
     pub distinct : AreDistinct blocks
     distinct i j less lt = ⊎_elim
@@ -165,7 +165,7 @@ module _ (bytes was old fresh blocks : List ℕ) (set : List Bool) (is : IsMerge
     pub added_merged : (new : List Bool) → IsAdded fresh set new → IsAdded blocks set new
     added_merged new added = record {
       added = λ i lt. ⊎_elim
-          (λ differ. ap (holds new) (fresh_is i lt differ) ∙ added.added (at_fresh i) (fresh_lt i lt differ))
+          (λ differ. ap (contains new) (fresh_is i lt differ) ∙ added.added (at_fresh i) (fresh_lt i lt differ))
           (λ same. added.kept (get_or blocks i 0) (λ t inside.
           taken_apart (get_or blocks i 0) (get_or fresh t 0) (old_taken i lt same) (free.free t inside))
           ∙ old_taken i lt same)
@@ -195,12 +195,12 @@ holds_shared file blocks bytes old was set shares count room full i lt same j sm
 pub taken_apart_changed : (blocks bytes old was : List ℕ) (set : List Bool) → SharesBlocks bytes was old set blocks
     → (k : ℕ) → IsTaken set k → IsApartFromChanged blocks bytes was k
 taken_apart_changed blocks bytes old was set shares k taken i lt differ e =
-    both_ways (holds set (get_or blocks i 0)) (shares.fresh i lt differ).1 (sym (ap (holds set) e) ∙ taken)
+    both_ways (contains set (get_or blocks i 0)) (shares.fresh i lt differ).1 (sym (ap (contains set) e) ∙ taken)
 
 pub taken_apart_free : (set : List Bool) (blocks : List ℕ) → AreFree set blocks → (k : ℕ) → IsTaken set k
     → IsApart blocks k
-taken_apart_free set blocks free k taken i lt e = both_ways (holds set (get_or blocks i 0)) (free.free i lt)
-    (sym (ap (holds set) e) ∙ taken)
+taken_apart_free set blocks free k taken i lt e = both_ways (contains set (get_or blocks i 0)) (free.free i lt)
+    (sym (ap (contains set) e) ∙ taken)
 
 pub free_distinct : (set : List Bool) (blocks : List ℕ) → AreFree set blocks → AreDistinct blocks
 free_distinct set blocks free i j less lt e = omega (arith, free.ascend i j less lt)

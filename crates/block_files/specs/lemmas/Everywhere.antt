@@ -11,8 +11,8 @@ use Rattle.block_files.specs.BlockSets.{IsApart}
 use Rattle.block_files.specs.Parts.{blocks_for, changed}
 use Rattle.block_files.specs.Areas.{area_of, IsFull, AllFull, NamedFull, HoldsShared}
 use Rattle.block_files.specs.Writes.{IsNoneOf, IsApartFromChanged}
-use Rattle.block_files.proofs.PartLemmas.{same_part, changed_to-le}
-use Rattle.block_files.proofs.Partly.{length-part}
+use Rattle.block_files.specs.lemmas.PartLemmas.{same_part, changed_to-le}
+use Rattle.block_files.specs.lemmas.Partly.{length-part}
 
 -- the numbers of the copies that a place can have
 abbrev pub numbers : List ℕ

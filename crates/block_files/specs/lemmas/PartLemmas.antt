@@ -70,3 +70,18 @@ changed_at bytes was i j less differ = omega (
   changed_more bytes was i differ,
   changed_to-mono bytes was (i + 1) j (omega arith),
 )
+
+-- parts that all differ are all counted
+pub changed_run : (bytes was : List ℕ) (i n : ℕ)
+    → ((m : ℕ) → i ≤ m → m < i + n → is_changed bytes was m ≡ true)
+    → changed_to bytes was (i + n) ≡ changed_to bytes was i + n
+changed_run bytes was i zero differ = let e : i + 0 ≡ i = omega arith in let f =
+    ap (changed_to bytes was) e in omega arith
+changed_run bytes was i (suc n) differ =
+    let e : i + suc n ≡ (i + n) + 1 = omega arith in
+    let f = ap (changed_to bytes was) e in
+    omega (
+      arith,
+      changed_more bytes was (i + n) (differ (i + n) (omega arith) (omega arith)),
+      changed_run bytes was i n (λ m from lt. differ m from (omega arith)),
+    )

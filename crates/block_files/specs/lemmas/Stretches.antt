@@ -1,15 +1,15 @@
 -- Stretches of writes: none, one after another, a failure after some, and less said of them.
-use Rattle.std.proofs.Common.{◌≡◌, ◌≢◌, ℕ, ◌+◌, ◌*◌, ◌≤◌, List, length, Bool, IsTrue, refl, sym, ◌∙◌, subst, arith}
-use Rattle.std.proofs.Common.{⊎_elim}
+use Rattle.std.proofs.Common.{◌≡◌, ◌≢◌, ◌⊎◌, ℕ, ◌+◌, ◌*◌, ◌<◌, ◌≤◌, List, length, Bool, IsTrue, refl, sym, ◌∙◌}
+use Rattle.std.proofs.Common.{subst, arith, ⊎_elim, inl, inr}
 use Rattle.per_base.specs.Causes.{Rose}
 use Rattle.disk_model.specs.Image.{put_image, TornImage}
 use Rattle.disk_model.specs.Case.{WriteCase, WriteOrNot, Follows}
 use Rattle.disk_model.specs.Medium.{Medium, IsLawful, Elapses}
 use Rattle.disk_model.specs.Frame.{Keeps, KeepsCase}
-use Rattle.disk_model.proofs.Moments.{rose_before, elapses_none, elapses_on, cases_on, follows_less, follows_on}
-use Rattle.disk_model.proofs.Frames.{IsApart, apart_block, keeps_none, keeps_on, keeps_less, keeps_tears, tears_on}
-use Rattle.disk_model.proofs.Frames.{tears_less, case_none, case_on, case_less, keeps_put, tears_torn, case_write}
-use Rattle.disk_model.proofs.Frames.{case_or_not}
+use Rattle.disk_model.specs.Laws.{rose_before, elapses_none, elapses_on, cases_on, follows_less, follows_on}
+use Rattle.disk_model.specs.lemmas.Frames.{IsApart, keeps_none, keeps_on, keeps_less, keeps_tears, tears_on}
+use Rattle.disk_model.specs.lemmas.Frames.{tears_less, case_none, case_on, case_less, keeps_put, tears_torn, case_write}
+use Rattle.disk_model.specs.lemmas.Frames.{case_or_not}
 use Rattle.block_files.specs.Writes.{Wrote, Tore}
 
 -- ---- none, and one after another
@@ -84,30 +84,33 @@ module _ (told : Bool) (spared apart fewer closer : ℕ → Type 0) (files : (f 
     cause = tore.cause;
   }
 
--- ---- one write, inside one block
+-- ---- one write, inside blocks that follow one another
 
-module _ (told : Bool) (file b : ℕ) (bytes : List ℕ) (small : length bytes ≤ 256) (old new : Medium) where
+module _ (told : Bool) (file b n : ℕ) (bytes : List ℕ) (fits : length bytes ≤ 256 * n) (old new : Medium) where
   abbrev others : ℕ → Type 0
   others f = f ≢ file
 
   abbrev apart : ℕ → Type 0
-  apart k = k ≢ b
+  apart k = (k < b) ⊎ (b + n ≤ k)
 
-  one_block : IsApart others apart file (256 * b) (length bytes)
-  one_block = apart_block others apart file b (length bytes) small (λ f ne. ne) (λ k ne. ne)
+  one_run : IsApart others apart file (256 * b) (length bytes)
+  one_run = record {
+    files = λ f ne. ne;
+    bytes = λ k j inside is. ⊎_elim (λ below. inl (omega arith)) (λ above. inr (omega arith)) is;
+  }
 
   pub wrote_one : (IsTrue told → new.image ≡ put_image old.image file (256 * b) bytes)
       → Follows (WriteCase file (256 * b) bytes) old.now new.now
       → Follows (WriteOrNot file (256 * b) bytes) old.now (new.since old.moment)
       → new.written ≤ old.written + length bytes → Elapses old new → new.faults ≡ old.faults
-      → Wrote told (λ f. f ≢ file) (λ k. k ≢ b) 256 old new
+      → Wrote told (λ f. f ≢ file) (λ k. (k < b) ⊎ (b + n ≤ k)) (256 * n) old new
   wrote_one image now during written time passes = record {
     keeps = λ tells. subst (Keeps others apart old.image) (sym (image tells))
-        (keeps_put old.image file (256 * b) bytes one_block);
+        (keeps_put old.image file (256 * b) bytes one_run);
     now = follows_less (WriteCase file (256 * b) bytes) (KeepsCase others apart) old.now new.now
-        (λ x y step. case_write file (256 * b) bytes one_block step) now;
+        (λ x y step. case_write file (256 * b) bytes one_run step) now;
     during = follows_less (WriteOrNot file (256 * b) bytes) (KeepsCase others apart) old.now (new.since old.moment)
-        (λ x y step. case_or_not x y file (256 * b) bytes one_block step) during;
+        (λ x y step. case_or_not x y file (256 * b) bytes one_run step) during;
     written = omega arith;
     time = time;
     passes = passes;
@@ -116,11 +119,11 @@ module _ (told : Bool) (file b : ℕ) (bytes : List ℕ) (small : length bytes �
   pub tore_one : (IsTrue told → TornImage file (256 * b) (length bytes) old.image new.image)
       → Follows (WriteOrNot file (256 * b) bytes) old.now (new.since old.moment)
       → new.written ≤ old.written + length bytes → Elapses old new → Rose old.faults new.faults
-      → Tore told (λ f. f ≢ file) (λ k. k ≢ b) 256 old new
+      → Tore told (λ f. f ≢ file) (λ k. (k < b) ⊎ (b + n ≤ k)) (256 * n) old new
   tore_one torn during written time cause = record {
-    tears = λ tells. tears_torn old.image new.image file (256 * b) (length bytes) one_block (torn tells);
+    tears = λ tells. tears_torn old.image new.image file (256 * b) (length bytes) one_run (torn tells);
     during = follows_less (WriteOrNot file (256 * b) bytes) (KeepsCase others apart) old.now (new.since old.moment)
-        (λ x y step. case_or_not x y file (256 * b) bytes one_block step) during;
+        (λ x y step. case_or_not x y file (256 * b) bytes one_run step) during;
     written = omega arith;
     time = time;
     cause = cause;

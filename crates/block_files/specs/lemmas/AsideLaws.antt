@@ -8,7 +8,8 @@ use Rattle.sha2.specs.Sha256.{sha256}
 use Rattle.block_files.specs.Areas.{block, joined, within}
 use Rattle.block_files.specs.Contents.{counting}
 use Rattle.block_files.specs.Aside.{AsideLaw}
-use Rattle.block_files.proofs.Joined.{length-block, read_block, length-blocks, read_joined, within_from, reaches_from}
+use Rattle.block_files.specs.lemmas.Joined.{length-block, read_block, length-blocks, read_joined, within_from}
+use Rattle.block_files.specs.lemmas.Joined.{reaches_from}
 
 -- areas that give the same bytes count alike
 pub counting_same : (old new blocks : List ℕ) (len : ℕ) (hash : List ℕ) → joined new blocks len ≡ joined old blocks len

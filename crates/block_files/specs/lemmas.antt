@@ -1,0 +1,9 @@
+pub mod AsideLaws
+pub mod Everywhere
+pub mod Joined
+pub mod Outcomes
+pub mod PartLemmas
+pub mod PartRuns
+pub mod Partly
+pub mod Sharing
+pub mod Stretches

@@ -1,0 +1,15 @@
+-- The changes of a commit, by the names of their elements.
+use Rattle.std.specs.Prelude.{ℕ, List, Option, find}
+use Rattle.std.specs.Str.{bytes_eq}
+use Rattle.per_base.specs.declared.elements.Change.{Change}
+use Rattle.per_base.specs.declared.elements.Change.TheVariants.{Put, Remove, Touch}
+
+-- the element that a change is of
+abbrev pub changed_name : Change → List ℕ
+changed_name (Put f) = f.name
+changed_name (Remove name) = name
+changed_name (Touch name info) = name
+
+-- the change of this name
+abbrev pub change_at : List ℕ → List Change → Option Change
+change_at name changes = find (λ change. bytes_eq (changed_name change) name) changes
