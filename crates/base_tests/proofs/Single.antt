@@ -9,11 +9,11 @@ use Rattle.std.proofs.lemmas.List.Sums.{sum_by-cons}
 use Rattle.per_base.specs.declared.elements.Entry.{Entry}
 use Rattle.per_base.specs.declared.elements.Fresh.{Fresh}
 use Rattle.per_base.specs.Names.{name_cmp}
-use Rattle.index_text.proofs.Order.{sorted_from_ascends}
+use Rattle.per_base.specs.declared.elements.Change.{Change}
+use Rattle.per_base.specs.declared.elements.Change.TheVariants.{Put, Remove, Touch}
+use Rattle.index_text.specs.lemmas.Order.{sorted_from_ascends}
 use Rattle.element_state.specs.declared.shapes.Shape.{Shape}
 use Rattle.element_state.specs.declared.shapes.View.{View}
-use Rattle.element_state.specs.declared.shapes.Change.{Change}
-use Rattle.element_state.specs.declared.shapes.Change.TheVariants.{Put, Remove, Touch}
 use Rattle.element_state.specs.Changes.{insert_item, without_item, entry_name}
 use Rattle.index_text.specs.Contents.{AreContents, IsFresh}
 use Rattle.element_state.specs.Conditions.{AreChanges, size_of}

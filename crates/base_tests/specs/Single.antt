@@ -1,8 +1,8 @@
 -- Changes of one element.
 use Rattle.std.specs.Prelude.{◌≤◌, ◌+◌, ℕ, length, ⊤}
+use Rattle.per_base.specs.declared.elements.Change.{Change}
+use Rattle.per_base.specs.declared.elements.Change.TheVariants.{Put, Remove, Touch}
 use Rattle.element_state.specs.declared.shapes.Shape.{Shape}
-use Rattle.element_state.specs.declared.shapes.Change.{Change}
-use Rattle.element_state.specs.declared.shapes.Change.TheVariants.{Put, Remove, Touch}
 use Rattle.index_text.specs.Contents.{IsFresh}
 
 -- an element of the right kind that fits beside all that a storage of this size has, or one that goes

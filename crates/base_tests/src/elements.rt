@@ -5,8 +5,8 @@ ghost use Rattle.index_text.specs.Contents.{AreContents, IsFresh};
 ghost use Rattle.base_tests.specs.Single.{IsAddition};
 
 use case_words::{Trouble, bytes_of, cut};
-use element_store::{Change, Shape};
-use per_base::{Bytes, Cause, FileInfo, Fresh, Name, PerError, StoreKind};
+use element_store::Shape;
+use per_base::{Bytes, Cause, Change, FileInfo, Fresh, Name, PerError, StoreKind};
 use std::alloc::Global;
 
 /// A name.

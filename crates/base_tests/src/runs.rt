@@ -95,7 +95,7 @@ fn apart(
 fn texts(alloc: Global, plan: Plan, disk: &mut MemDisk) -> Result<String, Trouble> {
     let shape = plan.shape(alloc)?;
     match look(alloc, disk, shape.place) {
-        Ok(seens) => seens_text(alloc, &seens),
+        Ok(looked) => seens_text(alloc, &looked.seens),
         Err(CellError::OutOfMemory) => Err(Trouble::OutOfMemory),
         Err(_) => text(alloc, "failed"),
     }

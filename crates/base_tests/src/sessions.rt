@@ -7,10 +7,9 @@ use case_words::{
     Trouble, add, bytes_of, bytes_text, cut, number, numbers, numbers_text, small, text,
 };
 use disk_model::{Disk, MemDisk, Place};
-use guarded_cell::{
-    Cell, CellError, Seen, WriteFault, adopt, format_cell, keep_only, look, open_cell,
-};
+use guarded_cell::{Cell, CellError, Seen, adopt, format_cell, keep_only, look, open_cell};
 use hash_guard::{MAX_BODY, seal};
+use per_base::Fault;
 use std::alloc::Global;
 use std::fmt::Write;
 
@@ -94,8 +93,8 @@ fn put(alloc: Global, run: Run, word: &str) -> Result<(Run, String), Trouble>
             let cell = Some(cell);
             Ok((Run { disk, cell }, text(alloc, "ok")?))
         }
-        Err(WriteFault::Device) => Ok((Run { disk, cell: None }, text(alloc, "failed")?)),
-        Err(WriteFault::OutOfMemory(_)) => Err(Trouble::OutOfMemory),
+        Err(Fault::Device) => Ok((Run { disk, cell: None }, text(alloc, "failed")?)),
+        Err(Fault::OutOfMemory(_)) => Err(Trouble::OutOfMemory),
     }
 }
 
@@ -265,7 +264,7 @@ fn files(alloc: Global, disk: &mut MemDisk) -> Result<String, Trouble> {
 // `look`: the texts that copies hold.
 fn looked(alloc: Global, disk: &mut MemDisk) -> Result<String, Trouble> {
     match look(alloc, disk, place()) {
-        Ok(seens) => seens_text(alloc, &seens),
+        Ok(looked) => seens_text(alloc, &looked.seens),
         Err(error) => fault(alloc, error),
     }
 }

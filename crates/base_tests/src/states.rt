@@ -33,8 +33,8 @@ fn put_texts(
     place: Place,
 ) -> Result<(), Trouble> {
     match look(alloc, disk, place) {
-        Ok(seens) => {
-            for seen in seens.iter() {
+        Ok(looked) => {
+            for seen in looked.seens.iter() {
                 put_text(alloc, said, seen)?;
             }
             Ok(())

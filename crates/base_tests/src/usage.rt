@@ -11,10 +11,8 @@ use crate::plans::Plan;
 use crate::views::{fault, put_reports, store_text, view_text};
 use case_words::{Trouble, cut, number, small, text};
 use disk_model::MemDisk;
-use element_store::{
-    Change, CommitFault, OpenedStore, Shape, Store, create, inspect, open_store, rebuild, salvage,
-};
-use per_base::StoreKind;
+use element_store::{OpenedStore, Shape, Store, create, inspect, open_store, rebuild, salvage};
+use per_base::{Change, Fault, StoreKind};
 use std::alloc::Global;
 
 /// A storage that is in use on a disk in memory.
@@ -203,8 +201,8 @@ impl InUse {
         } = self;
         match store.commit(&mut disk, changes) {
             Ok(store) => Ok(Kept::Open(InUse { disk, store, shape })),
-            Err(CommitFault::Device) => Ok(Kept::Closed(disk)),
-            Err(CommitFault::OutOfMemory(_)) => Err(Trouble::OutOfMemory),
+            Err(Fault::Device) => Ok(Kept::Closed(disk)),
+            Err(Fault::OutOfMemory(_)) => Err(Trouble::OutOfMemory),
         }
     }
 

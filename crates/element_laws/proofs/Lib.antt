@@ -1,16 +1,2 @@
-pub mod Lists
-pub mod Copies
-pub mod Fits
-pub mod Standing
-pub mod Left
-pub mod Keeping
-pub mod Frames
-pub mod Phases
-pub mod NewText
-pub mod TwoTexts
-pub mod IndexPhase
-pub mod IndexLaws
-pub mod AnewLaws
 pub mod MendLaws
-pub mod Refusals
 pub mod Unchanged

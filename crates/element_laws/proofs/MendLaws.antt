@@ -17,8 +17,8 @@ use Rattle.guarded_cell.specs.Register.{Holds, own}
 use Rattle.guarded_cell.specs.StopLaws.{alone_only}
 use Rattle.block_files.specs.Aside.{Where, AsideLaw}
 use Rattle.block_files.specs.Areas.{block, joined, within, IsFull, area_of}
-use Rattle.block_files.proofs.AsideLaws.{counting_same}
-use Rattle.block_files.proofs.Joined.{length-blocks}
+use Rattle.block_files.specs.lemmas.AsideLaws.{counting_same}
+use Rattle.block_files.specs.lemmas.Joined.{length-blocks}
 use Rattle.block_files.specs.Contents.{counting, AreCopies}
 use Rattle.block_files.specs.BlockSets.{IsApart}
 use Rattle.block_files.specs.Writes.{IsNoneOf}
@@ -31,16 +31,16 @@ use Rattle.m_of_n.specs.Vote.{voted}
 use Rattle.element_state.specs.Clean.{where_of, in_blocks, IsNamed, IsCounted, HasNoTwins}
 use Rattle.element_laws.specs.Phases.{KeepsBlocks, KeepsBlocksWhole, lacked, TakesMend, HasMended, IsSparing, IsMending}
 use Rattle.element_laws.specs.Phases.{MendStartLaw, MendStepLaw, MendSyncLaw, MendLaw}
-use Rattle.element_laws.proofs.Lists.{Contains-In, In, all_by, all_in, append-In, flat_map-In, map-In, not_false}
-use Rattle.element_laws.proofs.Lists.{not_none, some_is}
-use Rattle.element_laws.proofs.Copies.{Gives, named_Contains, Contains_named, voted_given}
-use Rattle.element_laws.proofs.Fits.{fit-spelled}
-use Rattle.element_laws.proofs.Standing.{gift_of}
-use Rattle.element_laws.proofs.Left.{is_whole_at, value_at, never_listed}
-use Rattle.element_laws.proofs.Keeping.{HoldsOnly, IsLess}
-use Rattle.element_laws.proofs.Frames.{slot_no_area, area_no_slot, its_blocks, given_piece, less_decays}
-use Rattle.element_laws.proofs.Phases.{less_kept, room, named_entry}
-use Rattle.element_laws.proofs.IndexLaws.{names_it}
+use Rattle.element_laws.specs.lemmas.Lists.{Contains-In, In, all_by, all_in, append-In, flat_map-In, map-In, not_false}
+use Rattle.element_laws.specs.lemmas.Lists.{not_none, some_is}
+use Rattle.element_laws.specs.lemmas.Copies.{Gives, named_Contains, Contains_named, voted_given}
+use Rattle.element_laws.specs.lemmas.Fits.{fit-spelled}
+use Rattle.element_laws.specs.lemmas.Standing.{gift_of}
+use Rattle.element_laws.specs.lemmas.Left.{is_whole_at, value_at, never_listed}
+use Rattle.element_laws.specs.lemmas.Keeping.{HoldsOnly, IsLess}
+use Rattle.element_laws.specs.lemmas.Frames.{slot_no_area, area_no_slot, its_blocks, given_piece, less_decays}
+use Rattle.element_laws.specs.lemmas.Phases.{less_kept, room, named_entry}
+use Rattle.element_laws.specs.lemmas.IndexLaws.{names_it}
 
 -- ---- blocks of different entries are apart
 

@@ -8,7 +8,7 @@ use Rattle.per_base.specs.declared.elements.Scope.TheVariants as scope
 use Rattle.per_base.specs.declared.elements.Entry.{Entry}
 use Rattle.disk_model.specs.Image.{Image}
 use Rattle.disk_model.specs.Place.{slot, area}
-use Rattle.disk_model.proofs.Frames.{settled_less}
+use Rattle.disk_model.specs.lemmas.Frames.{settled_less}
 use Rattle.hash_guard.specs.SealedText.{VerifiesAs, verified}
 use Rattle.m_of_n.specs.Vote.{voted}
 use Rattle.guarded_cell.specs.Register.{Holds, IsAlone, IsBlank, own, other}
@@ -21,16 +21,16 @@ use Rattle.index_text.specs.declared.entries.IndexEntry.{IndexEntry}
 use Rattle.index_text.specs.Spelling.{index_text}
 use Rattle.element_state.specs.declared.shapes.Shape.{Shape}
 use Rattle.element_state.specs.declared.shapes.View.{View}
-use Rattle.element_state.specs.Fit.{FitText, fit_among, fit_texts, is_settled}
+use Rattle.element_state.specs.Fit.{FitText, fit_among, fit_texts, is_sole}
 use Rattle.element_state.specs.Views.{holds_text, counts, holds_all, supporters, qualifies, given, content_of}
 use Rattle.element_state.specs.Views.{entry_view, entries_of, store_lacking, lacks_number, view_of}
 use Rattle.element_state.specs.States.{Opens, corrupt_state, store_at, state_of, picked, beside}
 use Rattle.element_state.specs.Clean.{counting_at, IsNamed, IsClean}
 use Rattle.element_state.specs.Conditions.{IsInUse}
-use Rattle.element_state.proofs.Supported.{copies_alike}
+use Rattle.element_state.specs.lemmas.Supported.{copies_alike}
 use Rattle.element_laws.specs.Phases.{IsOfPlace}
 use Rattle.element_laws.specs.Apart.{IsUnchanged, FrameLaw, OutsideLaw, ElsewhereLaw, ElsewhereCaseLaw}
-use Rattle.element_laws.proofs.Phases.{untouched}
+use Rattle.element_laws.specs.lemmas.Phases.{untouched}
 
 -- ---- lists by functions that agree
 
@@ -173,12 +173,12 @@ module _ (shape : Shape) (old new : Image) (same : (f : ℕ) → IsOfPlace shape
   view_same : (text : FitText) → view_of new shape text ≡ view_of old shape text
   unfolding view_of
   view_same text =
-      let view = λ (settled : List FitText) (entries : List Entry) (lacks_it : List ℕ).
+      let view = λ (texts : List FitText) (entries : List Entry) (lacks_it : List ℕ).
       (let v : View = record {
         generation = text.0.generation;
         lacking = lacks_it;
-        settled =
-            is_settled settled;
+        sole =
+            is_sole texts;
         entries = entries;
       } in v) in
       let lacks_by = λ (image : Image) (entries : List Entry).
@@ -252,7 +252,7 @@ module _ (shape : Shape) (old new : Image) (same : (f : ℕ) → IsOfPlace shape
     alone = alone_same v.generation (index_text index) is.alone;
     fit = is.fit;
     opens = state_same ∙ is.opens;
-    settled = is.settled;
+    sole = is.sole;
     entries = is.entries ∙ sym (entries_same index.entries);
     mended = is.mended;
   }

@@ -1,4 +1,5 @@
+pub mod Apart
 pub mod Phases
 pub mod Refused
 pub mod Weaker
-pub mod Apart
+pub mod lemmas

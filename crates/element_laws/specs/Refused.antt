@@ -25,7 +25,7 @@ abbrev pub one : (generation : ℕ) → Content → View
 one generation content = record {
   generation = generation;
   lacking = [];
-  settled = true;
+  sole = true;
   entries =
       element content [] ∷ [];
 }
@@ -34,7 +34,7 @@ abbrev pub lacking_one : (generation copy : ℕ) → Content → View
 lacking_one generation copy content = record {
   generation = generation;
   lacking = [];
-  settled = true;
+  sole = true;
   entries =
       element content ((copy + 1) ∷ []) ∷ [];
 }

@@ -71,7 +71,7 @@ pub fn places_are_clean()
 {}
 
 /// A stop while contents are mended in the copies that lacked them, after `adopting_keeps`, keeps a storage. A mend
-/// goes block by block, so that a copy may be half mended: no two contents lie under one hash, and so it gives the
+/// may stop in the midst of a copy, which is half mended then: no two contents lie under one hash, and so it gives the
 /// value or nothing.
 pub fn mending_keeps()
     ensures start { MendStartLaw }

@@ -11,25 +11,25 @@ use Rattle.per_base.specs.declared.elements.Element.{Element}
 use Rattle.per_base.specs.declared.elements.Entry.{Entry}
 use Rattle.per_base.specs.declared.elements.FileInfo.{FileInfo}
 use Rattle.per_base.specs.Maps.{Map, element_at}
+use Rattle.per_base.specs.declared.elements.Change.{Change}
+use Rattle.per_base.specs.declared.elements.Change.TheVariants.{Remove}
+use Rattle.per_base.specs.Changes.{changed_name, change_at}
 use Rattle.index_text.specs.Rules.{has_info}
 use Rattle.block_files.specs.Parts.{blocks_for, changed, changed_to, is_changed}
-use Rattle.element_state.specs.declared.shapes.Change.{Change}
-use Rattle.element_state.specs.declared.shapes.Change.TheVariants.{Remove}
 use Rattle.element_state.specs.declared.shapes.Shape.{Shape}
 use Rattle.element_state.specs.declared.shapes.View.{View}
 use Rattle.element_state.specs.Changes.{item_at, entry_at, entry_name, same_content, same_element, same_info}
-use Rattle.element_state.specs.Conditions.{changed_name}
 use Rattle.element_state.specs.Chosen.{HasLength}
 use Rattle.element_state.specs.Read.{IsEntryOf}
 use Rattle.element_state.specs.Views.{judged_content}
 use Rattle.element_state.specs.Written.{bytes_of, whole_cost, cost_over, cost_beside, change_cost, commit_cost}
 use Rattle.element_state.specs.Written.{element_cost, map_cost}
-use Rattle.element_maps.specs.Differences.{difference, replacement, touch, put, same_bytes, same_value, change_at}
+use Rattle.element_maps.specs.Differences.{difference, replacement, touch, put, same_bytes, same_value}
 use Rattle.element_maps.specs.Laws.{IsUntested}
 use Rattle.element_maps.specs.Sessions.{IsHeld, IsSync}
-use Rattle.element_maps.proofs.Names.{false_true, eq_itself}
-use Rattle.element_maps.proofs.InOrder.{item_each, item_named, weight_of, sum_by_names}
-use Rattle.element_maps.proofs.Same.{both, with_both, number_itself, content_is}
+use Rattle.element_maps.specs.lemmas.Names.{false_true, eq_itself}
+use Rattle.element_maps.specs.lemmas.InOrder.{item_each, item_named, weight_of, sum_by_names}
+use Rattle.element_maps.specs.lemmas.Same.{both, with_both, number_itself, content_is}
 use Rattle.element_maps.proofs.Points.{judged_element, judged_good, same_value_is, is_other, IsOther}
 use Rattle.element_maps.proofs.Synced.{pair_name, paired, item_in_map, found_in_map, held_at, held_new}
 

@@ -6,15 +6,14 @@ use Rattle.std.specs.Str.{bytes_eq}
 use Rattle.std.proofs.lemmas.Bool.{cases_Bool}
 use Rattle.per_base.specs.declared.elements.Entry.{Entry}
 use Rattle.per_base.specs.declared.elements.FileInfo.{FileInfo}
-use Rattle.element_state.specs.declared.shapes.Change.{Change}
-use Rattle.element_state.specs.declared.shapes.Change.TheVariants.{Put, Remove, Touch}
+use Rattle.per_base.specs.declared.elements.Change.{Change}
+use Rattle.per_base.specs.declared.elements.Change.TheVariants.{Put, Remove, Touch}
+use Rattle.per_base.specs.Changes.{changed_name, change_at}
 use Rattle.element_state.specs.Changes.{entry_at, entry_name, touched, after_change, after_changes}
-use Rattle.element_state.specs.Conditions.{changed_name}
 use Rattle.element_state.specs.States.{fresh_entry, fresh_element}
-use Rattle.element_maps.specs.Differences.{change_at}
-use Rattle.element_maps.proofs.Names.{same_names, eq_back}
-use Rattle.element_maps.proofs.InOrder.{NamesAscend, first, rest, item_named, item_above, item_put, item_without}
-use Rattle.element_maps.proofs.InOrder.{item_map, ascends_put, ascends_without, ascends_map}
+use Rattle.element_maps.specs.lemmas.Names.{same_names, eq_back}
+use Rattle.element_maps.specs.lemmas.InOrder.{NamesAscend, first, rest, item_named, item_above, item_put, item_without}
+use Rattle.element_maps.specs.lemmas.InOrder.{item_map, ascends_put, ascends_without, ascends_map}
 
 -- the entry of one name after a change of this name
 abbrev pub informed : (generation : ℕ) → FileInfo → Entry → Entry

@@ -1,6 +1,3 @@
-pub mod Names
-pub mod InOrder
-pub mod Same
 pub mod Entries
 pub mod Points
 pub mod Copies

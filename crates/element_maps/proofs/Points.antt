@@ -11,9 +11,9 @@ use Rattle.per_base.specs.declared.elements.Content.TheVariants.{Good, Bad}
 use Rattle.per_base.specs.declared.elements.Element.{Element}
 use Rattle.per_base.specs.declared.elements.Entry.{Entry}
 use Rattle.per_base.specs.declared.elements.FileInfo.{FileInfo}
+use Rattle.per_base.specs.declared.elements.Change.{Change}
+use Rattle.per_base.specs.declared.elements.Change.TheVariants.{Remove}
 use Rattle.index_text.specs.Rules.{has_info, max_len}
-use Rattle.element_state.specs.declared.shapes.Change.{Change}
-use Rattle.element_state.specs.declared.shapes.Change.TheVariants.{Remove}
 use Rattle.element_state.specs.Changes.{same_element, is_same, kept_or_fresh, entry_at}
 use Rattle.element_state.specs.Conditions.{IsChange, IsGoodEntry}
 use Rattle.element_state.specs.States.{fresh_entry, fresh_element}
@@ -21,8 +21,8 @@ use Rattle.element_state.specs.Views.{judged_content}
 use Rattle.element_state.specs.Written.{bytes_of}
 use Rattle.element_maps.specs.Differences.{difference, replacement, touch, put, same_bytes, same_value}
 use Rattle.element_maps.specs.Sessions.{IsHeld, IsWritable}
-use Rattle.element_maps.proofs.Names.{false_true}
-use Rattle.element_maps.proofs.Same.{both, same_number, element, same_is, same_from, is_same_from}
+use Rattle.element_maps.specs.lemmas.Names.{false_true}
+use Rattle.element_maps.specs.lemmas.Same.{both, same_number, element, same_is, same_from, is_same_from}
 use Rattle.element_maps.proofs.Entries.{changed_entry, entry_after}
 
 -- what a session holds of an entry

@@ -16,22 +16,23 @@ use Rattle.per_base.specs.declared.elements.Entry.{Entry}
 use Rattle.per_base.specs.Maps as maps
 use Rattle.per_base.specs.Maps.{Map, element_at}
 use Rattle.per_base.specs.Names.{IsName, name_cmp}
-use Rattle.element_state.specs.declared.shapes.Change.{Change}
+use Rattle.per_base.specs.declared.elements.Change.{Change}
+use Rattle.per_base.specs.Changes.{changed_name, change_at}
 use Rattle.element_state.specs.declared.shapes.Shape.{Shape}
 use Rattle.element_state.specs.declared.shapes.View.{View}
 use Rattle.element_state.specs.Changes.{item_at, entry_at, entry_name, is_same, kept_or_fresh, committed_entry}
 use Rattle.element_state.specs.Changes.{after_changes, committed_by, committed}
-use Rattle.element_state.specs.Conditions.{AreChanges, IsChange, changed_name, size_of}
+use Rattle.element_state.specs.Conditions.{AreChanges, IsChange, size_of}
 use Rattle.element_state.specs.Chosen.{HasLength}
 use Rattle.element_state.specs.Read.{IsEntryOf, IsView}
 use Rattle.element_state.specs.States.{fresh_entry, whole_view, lacking_by, greatest_generation}
 use Rattle.element_state.specs.Views.{element_of, judged_entry, judged_content, lacks_one, map_of}
-use Rattle.element_maps.specs.Differences.{difference, change_at}
+use Rattle.element_maps.specs.Differences.{difference}
 use Rattle.element_maps.specs.Sessions.{IsHeld, IsNext, IsSync, Passes, synchronised}
-use Rattle.element_maps.proofs.Names.{eq_back, same_names}
-use Rattle.element_maps.proofs.InOrder.{NamesAscend, item_each, item_named, item_first, each_item, item_map}
-use Rattle.element_maps.proofs.InOrder.{ascends_map, same_lists, names_apart}
-use Rattle.element_maps.proofs.Same.{element, is_same_is}
+use Rattle.element_maps.specs.lemmas.Names.{eq_back, same_names}
+use Rattle.element_maps.specs.lemmas.InOrder.{NamesAscend, item_each, item_named, item_first, each_item, item_map}
+use Rattle.element_maps.specs.lemmas.InOrder.{ascends_map, same_lists, names_apart}
+use Rattle.element_maps.specs.lemmas.Same.{element, is_same_is}
 use Rattle.element_maps.proofs.Entries.{ascends_after, after_all, entry_after}
 use Rattle.element_maps.proofs.Copies.{AreNumbers, no_numbers, numbers_passing}
 use Rattle.element_maps.proofs.Points.{judged_element, judged_good, point, point_taken, no_change, unchanged, is_other}

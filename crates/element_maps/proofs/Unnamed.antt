@@ -6,10 +6,10 @@ use Rattle.std.specs.Str.{bytes_eq}
 use Rattle.std.proofs.lemmas.Slice.Eq.{bytes_eq-Decides}
 use Rattle.per_base.specs.declared.elements.Element.{Element}
 use Rattle.per_base.specs.Maps.{Map, element_at}
-use Rattle.element_state.specs.declared.shapes.Change.{Change}
-use Rattle.element_state.specs.Conditions.{changed_name}
-use Rattle.element_state.proofs.Entrywise.{all_at}
-use Rattle.element_maps.specs.Differences.{MakeInto, change_at, difference}
+use Rattle.per_base.specs.declared.elements.Change.{Change}
+use Rattle.per_base.specs.Changes.{changed_name, change_at}
+use Rattle.element_state.specs.lemmas.Entrywise.{all_at}
+use Rattle.element_maps.specs.Differences.{MakeInto, difference}
 use Rattle.element_maps.proofs.Points.{unchanged}
 
 unnamed : (name : List ℕ) (changes : List Change) → change_at name changes ≡ None

@@ -8,10 +8,10 @@ use Rattle.per_base.specs.declared.elements.Element.{Element}
 use Rattle.per_base.specs.declared.elements.FileInfo.{FileInfo}
 use Rattle.per_base.specs.Maps.{Map, element_at}
 use Rattle.per_base.specs.Names.{name_cmp}
-use Rattle.element_state.specs.declared.shapes.Change.{Change}
-use Rattle.element_state.specs.declared.shapes.Change.TheVariants.{Put, Remove, Touch}
-use Rattle.element_state.specs.Changes.{item_at, same_element}
-use Rattle.element_state.specs.Conditions.{changed_name}
+use Rattle.per_base.specs.declared.elements.Change.{Change}
+use Rattle.per_base.specs.declared.elements.Change.TheVariants.{Put, Remove, Touch}
+use Rattle.per_base.specs.Changes.{changed_name, change_at}
+use Rattle.element_state.specs.Changes.{same_element}
 use Rattle.element_state.specs.Written.{bytes_of}
 
 -- both can be read, and have the same bytes
@@ -48,10 +48,6 @@ arrival name (Some old) new = cond (same_element old new) None (Some (replacemen
 abbrev pub difference : List ℕ → (old new : Option Element) → Option Change
 difference name old None = removal name old
 difference name old (Some new) = arrival name old new
-
--- the change of this name
-abbrev pub change_at : List ℕ → List Change → Option Change
-change_at name changes = item_at changed_name name changes
 
 -- the changes that make the first map into the second: in the order of the names, and exactly where the two differ
 pub record MakeInto (changes : List Change) (old new : Map) : Type 0 where

@@ -7,12 +7,13 @@ use Rattle.per_base.specs.declared.elements.Element.{Element}
 use Rattle.per_base.specs.Maps as maps
 use Rattle.per_base.specs.Maps.{Map, element_at, names_of}
 use Rattle.per_base.specs.Names.{IsName}
-use Rattle.element_state.specs.declared.shapes.Change.{Change}
+use Rattle.per_base.specs.declared.elements.Change.{Change}
+use Rattle.per_base.specs.Changes.{changed_name}
 use Rattle.element_state.specs.declared.shapes.Shape.{Shape}
 use Rattle.element_state.specs.declared.shapes.View.{View}
 use Rattle.element_state.specs.States.{greatest_generation}
 use Rattle.element_state.specs.Changes.{after_changes, committed_by, committed, same_element}
-use Rattle.element_state.specs.Conditions.{AreChanges, changed_name, size_of}
+use Rattle.element_state.specs.Conditions.{AreChanges, size_of}
 use Rattle.element_state.specs.Read.{IsView}
 use Rattle.element_state.specs.Views.{map_of}
 use Rattle.element_state.specs.Written.{commit_cost, map_cost}

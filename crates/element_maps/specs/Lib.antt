@@ -1,4 +1,5 @@
 pub mod Differences
-pub mod Sessions
 pub mod Laws
+pub mod Sessions
 pub mod Storages
+pub mod lemmas

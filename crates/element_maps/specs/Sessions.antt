@@ -8,8 +8,8 @@ use Rattle.per_base.specs.declared.elements.Content.TheVariants.{Good, Bad}
 use Rattle.per_base.specs.declared.elements.Element.{Element}
 use Rattle.per_base.specs.Maps.{Map, element_at, names_of, size_of}
 use Rattle.per_base.specs.Names.{name_cmp}
+use Rattle.per_base.specs.declared.elements.Change.{Change}
 use Rattle.index_text.specs.Rules.{has_info, max_len}
-use Rattle.element_state.specs.declared.shapes.Change.{Change}
 use Rattle.element_state.specs.declared.shapes.Shape.{Shape}
 use Rattle.element_state.specs.declared.shapes.View.{View}
 use Rattle.element_state.specs.Changes.{committed, same_element}

@@ -8,20 +8,22 @@ use Rattle.std.proofs.lemmas.Bool.{cond-true, cond-false}
 use Rattle.std.proofs.lemmas.List.{take_more}
 use Rattle.disk_model.specs.Image.{Image}
 use Rattle.guarded_cell.specs.declared.looking.Seen.{Seen}
+use Rattle.guarded_cell.specs.declared.slots.Slots.{Slots}
 use Rattle.guarded_cell.specs.Held.{held, holds, copies_that}
+use Rattle.guarded_cell.specs.Slots.{IsSlotsOf}
 use Rattle.guarded_cell.specs.ShownLaws.{held_shows}
 use Rattle.index_text.specs.declared.entries.Index.{Index}
 use Rattle.element_state.specs.declared.shapes.Shape.{Shape}
 use Rattle.element_state.specs.declared.shapes.View.{View}
 use Rattle.element_state.specs.declared.surveying.Found.{Found}
-use Rattle.element_state.specs.Fit.{FitText, fit_index, with_index, fit_among, fit_texts, is_settled}
+use Rattle.element_state.specs.Fit.{FitText, fit_index, with_index, fit_among, fit_texts, is_sole}
 use Rattle.element_state.specs.Views.{qualifies, view_of, entries_of}
 use Rattle.element_state.specs.States.{State, Corrupt, store_at, salvage_of, state_of, picked, beside}
 use Rattle.element_state.specs.Chosen.{chosen, or_first, first_of, opened_of, IsFit, IsReadBy}
 use Rattle.element_state.specs.Surveys.{IsFound, IsHeldOn, IsOf, IsViewedOn, opened_view, opened_if, text_of, view_by}
-use Rattle.element_state.proofs.Entrywise.{all_at}
+use Rattle.element_state.specs.lemmas.Entrywise.{all_at}
 use Rattle.element_state.proofs.Viewing.{view_is}
-use Rattle.element_state.proofs.ViewsRead.{AreNumbers, view_read, lacking_are}
+use Rattle.element_state.specs.lemmas.ViewsRead.{AreNumbers, view_read, lacking_are}
 use Rattle.disk_model.specs.Orders.{named_in}
 use Rattle.per_base.specs.declared.elements.Entry.{Entry}
 
@@ -187,10 +189,10 @@ found_chosen f b t eo et =
     ap (λ (o : Bool). let p : Bool × FitText = (o, (f.seen, f.index)) in Some p) eo
     ∙ ap (λ (x : FitText). let p : Bool × FitText = (b, x) in Some p) et
 
-module _ (shape : Shape) (texts : List FitText) (f : Found) (at : ℕ) (settled : Bool) (entries : List Entry)
+module _ (shape : Shape) (texts : List FitText) (f : Found) (at : ℕ) (sole : Bool) (entries : List Entry)
     (lt : at < length texts)
     (text : (f.seen, f.index) ≡ get_or texts at (f.seen, f.index))
-    (view : f.view ≡ view_by shape f.seen settled entries) where
+    (view : f.view ≡ view_by shape f.seen sole entries) where
   pub found_read : AllByRecursion (IsFit shape) texts → AllZip (IsReadBy shape.place.copies)
       (get_or texts at (f.seen, f.index)).1.entries entries → IsFound shape f
   found_read fit read =
@@ -209,13 +211,13 @@ module _ (shape : Shape) (texts : List FitText) (f : Found) (at : ℕ) (settled 
       }
 
   pub found_viewed : (image : Image) → texts ≡ fit_texts shape image → AllByRecursion (IsHeldOn image shape) texts
-      → settled ≡ is_settled texts
+      → sole ≡ is_sole texts
       → entries ≡ entries_of image shape (f.seen, f.index) → Some (text_of f) ≡ chosen image shape
       → IsViewedOn image shape f
   found_viewed image are held settles reads chose =
       let here = subst (IsHeldOn image shape) (sym text) (all_at (IsHeldOn image shape) texts at (f.seen, f.index) held
       lt) in
-      let is = view ∙ view_is image shape f.seen f.index settled entries here (settles ∙ ap is_settled are) reads in
+      let is = view ∙ view_is image shape f.seen f.index sole entries here (settles ∙ ap is_sole are) reads in
       record {
         view = is;
         copies = here;
@@ -223,3 +225,10 @@ module _ (shape : Shape) (texts : List FitText) (f : Found) (at : ℕ) (settled 
             (subst (λ (c : Option (Bool × FitText)). Matches (view_of image shape) c (store_at image shape)) (sym chose)
             (chosen_matches image shape));
       }
+
+-- the flags of the look
+pub found_slots : (image : Image) (first copies : ℕ) (slots : Slots) (found : Option Found)
+    → IfSome found (λ f. f.slots ≡ slots) → IsSlotsOf image first copies slots
+    → IfSome found (λ f. IsSlotsOf image first copies f.slots)
+found_slots image first copies slots None same are = tt
+found_slots image first copies slots (Some f) same are = subst (IsSlotsOf image first copies) (sym same) are

@@ -17,12 +17,13 @@ use Rattle.index_text.specs.declared.entries.Index.{Index}
 use Rattle.index_text.specs.declared.entries.IndexEntry.{IndexEntry}
 use Rattle.element_state.specs.declared.shapes.Shape.{Shape}
 use Rattle.element_state.specs.declared.shapes.View.{View}
-use Rattle.element_state.specs.Fit.{FitText, fit_texts, is_settled}
+use Rattle.element_state.specs.Fit.{FitText, fit_texts, is_sole}
 use Rattle.element_state.specs.Views.{holds_text, counts, given, entry_view, entries_of, lacks_number, store_lacking}
 use Rattle.element_state.specs.Views.{view_of}
 use Rattle.element_state.specs.Chosen.{Vouches}
 use Rattle.element_state.specs.Surveys.{IsHeldOn, view_by}
-use Rattle.element_state.proofs.Supported.{named_passing, copies_alike}
+use Rattle.element_state.specs.lemmas.Supported.{copies_alike}
+use Rattle.guarded_cell.specs.CopyLaws.{named_passing}
 
 -- ---- a copy that does not lack an element has its content
 
@@ -82,11 +83,11 @@ all_vouched image place m (e ∷ es) = (vouched image place m e, all_vouched ima
 -- ---- the view
 
 abbrev the_view : ℕ → List ℕ → Bool → List Entry → View
-the_view generation lacking settled entries = record {
+the_view generation lacking sole entries = record {
   generation = generation;
   lacking = lacking;
-  settled =
-      settled;
+  sole =
+      sole;
   entries = entries;
 }
 
@@ -96,12 +97,12 @@ view_alike generation l m a b es fs el ea ee =
     ap (λ x. the_view generation x a es) el ∙ ap (λ x. the_view generation m x es) ea
     ∙ ap (λ x. the_view generation m b x) ee
 
-pub view_is : (image : Image) (shape : Shape) (seen : Seen) (index : Index) (settled : Bool) (entries : List Entry)
-    → IsHeldOn image shape (seen, index) → settled ≡ is_settled (fit_texts shape image)
+pub view_is : (image : Image) (shape : Shape) (seen : Seen) (index : Index) (sole : Bool) (entries : List Entry)
+    → IsHeldOn image shape (seen, index) → sole ≡ is_sole (fit_texts shape image)
     → entries ≡ entries_of image shape (seen, index)
-    → view_by shape seen settled entries ≡ view_of image shape (seen, index)
+    → view_by shape seen sole entries ≡ view_of image shape (seen, index)
 unfolding view_of
-view_is image shape seen index settled entries are settles reads =
+view_is image shape seen index sole entries are settles reads =
     let text : FitText = (seen, index) in
     let lack = λ (es : List Entry). copies_alike
     (λ copy. lacks_number shape.scope (not (named_in seen.copies (copy + 1))) es (copy + 1))
@@ -113,7 +114,7 @@ view_is image shape seen index settled entries are settles reads =
     (store_lacking shape.scope (λ copy. not (named_in seen.copies (copy + 1))) entries shape.place.copies)
     (store_lacking shape.scope (λ copy. not (holds_text image shape.place text copy)) (entries_of image shape text)
     shape.place.copies)
-    settled (is_settled (fit_texts shape image)) entries (entries_of image shape text)
+    sole (is_sole (fit_texts shape image)) entries (entries_of image shape text)
     (lack entries ∙ ap (λ (es : List Entry). store_lacking shape.scope
     (λ copy. not (holds_text image shape.place text copy)) es shape.place.copies) reads)
     settles reads

@@ -8,6 +8,9 @@ use Rattle.per_base.specs.declared.elements.Content.{Content}
 use Rattle.per_base.specs.declared.elements.Content.TheVariants.{Good, Bad}
 use Rattle.per_base.specs.declared.elements.Entry.{Entry}
 use Rattle.per_base.specs.declared.elements.Fresh.{Fresh}
+use Rattle.per_base.specs.declared.elements.Change.{Change}
+use Rattle.per_base.specs.declared.elements.Change.TheVariants.{Put, Remove, Touch}
+use Rattle.per_base.specs.Changes.{changed_name}
 use Rattle.disk_model.specs.Image.{Image}
 use Rattle.guarded_cell.specs.Register.{IsAlone}
 use Rattle.index_text.specs.declared.entries.Index.{Index}
@@ -15,8 +18,6 @@ use Rattle.index_text.specs.Contents.{IsFresh}
 use Rattle.index_text.specs.Spelling.{index_text}
 use Rattle.element_state.specs.declared.shapes.Shape.{Shape}
 use Rattle.element_state.specs.declared.shapes.View.{View}
-use Rattle.element_state.specs.declared.shapes.Change.{Change}
-use Rattle.element_state.specs.declared.shapes.Change.TheVariants.{Put, Remove, Touch}
 use Rattle.element_state.specs.Fit.{fit_index}
 use Rattle.element_state.specs.Views.{entry_view}
 use Rattle.element_state.specs.States.{Opens, store_at, greatest_generation}
@@ -31,11 +32,6 @@ pub record IsShape (shape : Shape) : Type 0 where
 -- names and contents, in bytes
 abbrev pub size_of : List Entry → ℕ
 size_of entries = sum_by (λ (e : Entry). length e.name + e.len) entries
-
-abbrev pub changed_name : Change → List ℕ
-changed_name (Put f) = f.name
-changed_name (Remove name) = name
-changed_name (Touch name info) = name
 
 -- the entry is there, with a value
 abbrev pub IsGoodEntry : Option Entry → Type 0
@@ -71,6 +67,6 @@ pub record IsInUse (shape : Shape) (image : Image) (index : Index) (v : View) : 
   pub alone : IsAlone image shape.place.first shape.place.copies v.generation (index_text index)
   pub fit : fit_index shape (index_text index) ≡ Some index
   pub opens : store_at image shape ≡ Opens v []
-  pub settled : v.settled ≡ true
+  pub sole : v.sole ≡ true
   pub entries : v.entries ≡ map (entry_view image shape.place shape.m) index.entries
   pub mended : AllByRecursion (λ (e : Entry). IsMended e.content e.lacking) v.entries

@@ -33,5 +33,5 @@ unfoldable pub fit_texts : Shape → Image → List FitText
 fit_texts shape image = fit_among shape (held image shape.place.first shape.place.copies)
 
 -- no text that fits stands beside the first
-abbrev pub is_settled : List FitText → Bool
-is_settled texts = nat_le (length texts) 1
+abbrev pub is_sole : List FitText → Bool
+is_sole texts = nat_le (length texts) 1

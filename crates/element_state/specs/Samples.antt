@@ -16,11 +16,11 @@ use Rattle.block_files.specs.Contents.{counting}
 use Rattle.index_text.specs.declared.entries.Index.{Index}
 use Rattle.index_text.specs.Spelling.{index_text, entry_text}
 use Rattle.per_base.specs.Fields.{many, bytes_at, number_at}
+use Rattle.per_base.specs.declared.elements.Change.TheVariants.{Put}
 use Rattle.index_text.specs.Reading.{index_of, header_at, entry_at, name_at, info_at, file_info_at, cause_at}
 use Rattle.index_text.specs.Reading.{changed_at, len_at}
 use Rattle.element_state.specs.declared.shapes.Shape.{Shape}
 use Rattle.element_state.specs.declared.shapes.View.{View}
-use Rattle.element_state.specs.declared.shapes.Change.TheVariants.{Put}
 use Rattle.element_state.specs.Fit.{fit_index, fit_texts}
 use Rattle.element_state.specs.Views.{entry_view, view_of}
 use Rattle.element_state.specs.States.{Opens, Corrupt, store_at}
@@ -67,11 +67,11 @@ key format changed name value block = record {
 no_key : Index
 no_key = record { format = 2; kind = Keys; entries = [] }
 
-abbrev seen_key : (generation changed : ℕ) → (settled : Bool) → List ℕ → Content → List ℕ → View
-seen_key generation changed settled name content lacking = record {
+abbrev seen_key : (generation changed : ℕ) → (sole : Bool) → List ℕ → Content → List ℕ → View
+seen_key generation changed sole name content lacking = record {
   generation = generation;
   lacking = [];
-  settled = settled;
+  sole = sole;
   entries = record { name = name; info = None; changed = changed; len = 3; content = content; lacking = lacking } ∷ [];
 }
 
@@ -97,7 +97,7 @@ abbrev one_text : Image
 one_text f = cond (nat_eq f 0) [] (two_texts f)
 
 two_open : store_at two_texts one_copy
-    ≡ Opens (record { generation = 2; lacking = []; settled = false; entries = [] })
+    ≡ Opens (record { generation = 2; lacking = []; sole = false; entries = [] })
     (seen_key 1 1 false (codes "a") (Good (2 ∷ 1 ∷ 0 ∷ [])) [] ∷ [])
 unfolding computed no_key
 two_open = refl
@@ -125,7 +125,7 @@ both : committed_by one_copy home (Put (record { name = codes "work"; info = Non
     ≡ record {
       generation = 2;
       lacking = [];
-      settled = true;
+      sole = true;
       entries = record {
         name = codes "home";
         info = None;

@@ -78,7 +78,7 @@ abbrev pub whole_view : Shape → (generation : ℕ) → List Entry → View
 whole_view shape generation entries = record {
   generation = generation;
   lacking = lacking_by shape.scope entries shape.place.copies;
-  settled = true;
+  sole = true;
   entries = entries;
 }
 
@@ -118,7 +118,7 @@ abbrev pub fresh_view : (generation : ℕ) → Map → View
 fresh_view generation m = record {
   generation = generation;
   lacking = [];
-  settled = true;
+  sole = true;
   entries =
       map (fresh_entry generation) m;
 }

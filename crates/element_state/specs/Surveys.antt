@@ -71,10 +71,10 @@ IsAmong copies texts at = (at.0 < length texts) × ((d : FitText)
     → AllZip (IsReadBy copies) (slice_index_or texts at.0 d).1.entries at.1)
 
 -- the view of a text by the copies that hold it and by its elements
-abbrev pub view_by : Shape → Seen → (settled : Bool) → List Entry → View
-view_by shape seen settled entries = record {
+abbrev pub view_by : Shape → Seen → (sole : Bool) → List Entry → View
+view_by shape seen sole entries = record {
   generation = seen.generation;
   lacking = store_lacking shape.scope (λ copy. not (named_in seen.copies (copy + 1))) entries shape.place.copies;
-  settled = settled;
+  sole = sole;
   entries = entries;
 }

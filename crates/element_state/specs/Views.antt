@@ -20,7 +20,7 @@ use Rattle.block_files.specs.Contents.{counting, contents, first_content, lackin
 use Rattle.index_text.specs.declared.entries.IndexEntry.{IndexEntry}
 use Rattle.element_state.specs.declared.shapes.Shape.{Shape}
 use Rattle.element_state.specs.declared.shapes.View.{View}
-use Rattle.element_state.specs.Fit.{FitText, fit_texts, is_settled}
+use Rattle.element_state.specs.Fit.{FitText, fit_texts, is_sole}
 
 -- ---- the copies that support a text
 
@@ -88,7 +88,7 @@ view_of image shape text = record {
   generation = text.0.generation;
   lacking = store_lacking shape.scope (λ copy. not (holds_text image shape.place text copy))
       (entries_of image shape text) shape.place.copies;
-  settled = is_settled (fit_texts shape image);
+  sole = is_sole (fit_texts shape image);
   entries = entries_of image shape text;
 }
 

@@ -7,9 +7,9 @@ use Rattle.per_base.specs.declared.elements.Content.TheVariants.{Good, Bad}
 use Rattle.per_base.specs.declared.elements.Entry.{Entry}
 use Rattle.per_base.specs.declared.elements.Element.{Element}
 use Rattle.per_base.specs.Maps.{Map, element_at}
+use Rattle.per_base.specs.declared.elements.Change.{Change}
+use Rattle.per_base.specs.declared.elements.Change.TheVariants.{Put, Remove, Touch}
 use Rattle.block_files.specs.Parts.{blocks_for, changed}
-use Rattle.element_state.specs.declared.shapes.Change.{Change}
-use Rattle.element_state.specs.declared.shapes.Change.TheVariants.{Put, Remove, Touch}
 use Rattle.element_state.specs.Changes.{entry_at, same_content}
 
 -- whole blocks for a content

@@ -20,7 +20,7 @@ use crate::shapes::{Shape, View};
 use crate::supporting::count_whole;
 use crate::surveying::Found;
 use disk_model::{Disk, Place};
-use guarded_cell::Seen;
+use guarded_cell::{Seen, Slots};
 use index_text::Index;
 use per_base::{Entry, Numbers, Scope, Sequence};
 use std::alloc::{AllocError, Global};
@@ -30,6 +30,7 @@ pub(crate) fn choose<D: Disk>(
     alloc: Global,
     disk: &mut D,
     shape: &Shape,
+    slots: Slots,
     texts: Vec<(Seen, Index)>,
 ) -> Result<Option<Found>, StoreError>
     requires shape { IsShape shape.now }
@@ -40,17 +41,18 @@ pub(crate) fn choose<D: Disk>(
         ≡ chosen (D.medium disk.old).image shape.now) }
     ensures viewed { IsTrue D.told → IfOk result (λ found.
         IfSome found (IsViewedOn (D.medium disk.old).image shape.now)) }
+    ensures slots { IfOk result (λ found. IfSome found (λ f. f.slots ≡ slots)) }
     ensures found { IfOk result (λ found. IfSome found (IsFound shape.now)) }
     ensures reads { OnlyReads (D.medium disk.old) (D.medium disk.new) }
     ensures time { Elapses (D.medium disk.old) (D.medium disk.new) }
-    ensures never_corrupt { IsErrOf result StoreError.Corrupt → ⊥ }
+    ensures never_corrupt { ¬ (IsErrOf result StoreError.Corrupt) }
     ensures cause { IsErrOf result StoreError.Device → Rose (D.medium disk.old).faults (D.medium disk.new).faults }
     ensures passes { OnOk result ((D.medium disk.new).faults ≡ (D.medium disk.old).faults) }
     ensures fed { IsErrOf result StoreError.OutOfMemory → (D.medium disk.new).faults ≡ (D.medium disk.old).faults }
 {
-    let settled = texts.len() <= 1;
+    let sole = texts.len() <= 1;
     if let Some((at, entries)) = first_qualifying(alloc, disk, shape, &texts)? {
-        let found = found_at(alloc, shape, texts, at, true, settled, entries)?;
+        let found = found_at(alloc, shape, slots, texts, at, true, sole, entries)?;
         return Ok(Some(found));
     }
     if texts.is_empty() {
@@ -66,10 +68,11 @@ pub(crate) fn choose<D: Disk>(
     let found = found_at(
         alloc,
         shape,
+        slots,
         texts,
         0,
         false,
-        settled,
+        sole,
         Sequence::new(entries),
     )?;
     Ok(Some(found))
@@ -79,26 +82,29 @@ pub(crate) fn choose<D: Disk>(
 fn found_at(
     alloc: Global,
     shape: &Shape,
+    slots: Slots,
     texts: Vec<(Seen, Index)>,
     at: usize,
     opens: bool,
-    settled: bool,
+    sole: bool,
     entries: Sequence<Entry>,
 ) -> Result<Found, AllocError>
     requires { at < length texts.items }
     ensures opens { IfOk result (λ found. found.opens ≡ opens) }
+    ensures slots { IfOk result (λ found. found.slots ≡ slots) }
     ensures text { IfOk result (λ found. (found.seen, found.index)
         ≡ slice_index_or texts.items at (found.seen, found.index)) }
-    ensures view { IfOk result (λ found. found.view ≡ view_by shape.now found.seen settled entries) }
+    ensures view { IfOk result (λ found. found.view ≡ view_by shape.now found.seen sole entries) }
 {
     let mut texts = texts;
     let (seen, index) = texts.swap_remove(at);
-    let view = view_of(alloc, shape, &seen, settled, entries)?;
+    let view = view_of(alloc, shape, &seen, sole, entries)?;
     Ok(Found {
         opens,
         seen,
         index,
         view,
+        slots,
     })
 }
 
@@ -116,7 +122,7 @@ fn first_qualifying<D: Disk>(
     ensures among { IfOk result (λ found. IfSome found (IsAmong shape.now.place.copies texts.now)) }
     ensures reads { OnlyReads (D.medium disk.old) (D.medium disk.new) }
     ensures time { Elapses (D.medium disk.old) (D.medium disk.new) }
-    ensures never_corrupt { IsErrOf result StoreError.Corrupt → ⊥ }
+    ensures never_corrupt { ¬ (IsErrOf result StoreError.Corrupt) }
     ensures cause { IsErrOf result StoreError.Device → Rose (D.medium disk.old).faults (D.medium disk.new).faults }
     ensures passes { OnOk result ((D.medium disk.new).faults ≡ (D.medium disk.old).faults) }
     ensures fed { IsErrOf result StoreError.OutOfMemory → (D.medium disk.new).faults ≡ (D.medium disk.old).faults }
@@ -145,7 +151,7 @@ fn try_text<D: Disk>(
         AllZip (IsReadBy shape.now.place.copies) text.now.1.entries entries)) }
     ensures reads { OnlyReads (D.medium disk.old) (D.medium disk.new) }
     ensures time { Elapses (D.medium disk.old) (D.medium disk.new) }
-    ensures never_corrupt { IsErrOf result StoreError.Corrupt → ⊥ }
+    ensures never_corrupt { ¬ (IsErrOf result StoreError.Corrupt) }
     ensures cause { IsErrOf result StoreError.Device → Rose (D.medium disk.old).faults (D.medium disk.new).faults }
     ensures passes { OnOk result ((D.medium disk.new).faults ≡ (D.medium disk.old).faults) }
     ensures fed { IsErrOf result StoreError.OutOfMemory → (D.medium disk.new).faults ≡ (D.medium disk.old).faults }
@@ -179,7 +185,7 @@ fn is_supported<D: Disk>(
         ≡ qualifies (D.medium disk.old).image shape.now (seen.now, index.now)) }
     ensures reads { OnlyReads (D.medium disk.old) (D.medium disk.new) }
     ensures time { Elapses (D.medium disk.old) (D.medium disk.new) }
-    ensures never_corrupt { IsErrOf result StoreError.Corrupt → ⊥ }
+    ensures never_corrupt { ¬ (IsErrOf result StoreError.Corrupt) }
     ensures cause { IsErrOf result StoreError.Device → Rose (D.medium disk.old).faults (D.medium disk.new).faults }
     ensures passes { OnOk result ((D.medium disk.new).faults ≡ (D.medium disk.old).faults) }
     ensures fed { IsErrOf result StoreError.OutOfMemory → (D.medium disk.new).faults ≡ (D.medium disk.old).faults }
@@ -205,10 +211,10 @@ fn view_of(
     alloc: Global,
     shape: &Shape,
     seen: &Seen,
-    settled: bool,
+    sole: bool,
     entries: Sequence<Entry>,
 ) -> Result<View, AllocError>
-    ensures { IfOk result (λ view. view ≡ view_by shape.now seen.now settled entries) }
+    ensures { IfOk result (λ view. view ≡ view_by shape.now seen.now sole entries) }
 {
     let lacking = list_lacking(
         alloc,
@@ -220,7 +226,7 @@ fn view_of(
     Ok(View {
         generation: seen.generation,
         lacking,
-        settled,
+        sole,
         entries,
     })
 }

@@ -24,5 +24,5 @@ mod surveying;
 
 pub use errors::StoreError;
 pub use reporting::failed_report;
-pub use shapes::{Change, Shape, View};
+pub use shapes::{Shape, View};
 pub use surveying::{Found, inspect, salvage, survey};

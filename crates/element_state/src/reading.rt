@@ -29,7 +29,7 @@ pub(crate) fn read_entries<D: Disk>(
     ensures read { IfOk result (λ views. AllZip (IsReadBy place.copies) entries.now views.items) }
     ensures reads { OnlyReads (D.medium disk.old) (D.medium disk.new) }
     ensures time { Elapses (D.medium disk.old) (D.medium disk.new) }
-    ensures never_corrupt { IsErrOf result StoreError.Corrupt → ⊥ }
+    ensures never_corrupt { ¬ (IsErrOf result StoreError.Corrupt) }
     ensures cause { IsErrOf result StoreError.Device → Rose (D.medium disk.old).faults (D.medium disk.new).faults }
     ensures passes { OnOk result ((D.medium disk.new).faults ≡ (D.medium disk.old).faults) }
     ensures fed { IsErrOf result StoreError.OutOfMemory → (D.medium disk.new).faults ≡ (D.medium disk.old).faults }
@@ -57,7 +57,7 @@ fn read_entry<D: Disk>(
     ensures read { IfOk result (λ view. IsReadBy place.copies entry.now view) }
     ensures reads { OnlyReads (D.medium disk.old) (D.medium disk.new) }
     ensures time { Elapses (D.medium disk.old) (D.medium disk.new) }
-    ensures never_corrupt { IsErrOf result StoreError.Corrupt → ⊥ }
+    ensures never_corrupt { ¬ (IsErrOf result StoreError.Corrupt) }
     ensures cause { IsErrOf result StoreError.Device → Rose (D.medium disk.old).faults (D.medium disk.new).faults }
     ensures passes { OnOk result ((D.medium disk.new).faults ≡ (D.medium disk.old).faults) }
     ensures fed { IsErrOf result StoreError.OutOfMemory → (D.medium disk.new).faults ≡ (D.medium disk.old).faults }

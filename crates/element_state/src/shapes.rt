@@ -3,7 +3,7 @@
 ghost use Rattle.std.specs.Prelude.{◌≡◌, IfOk};
 
 use disk_model::Place;
-use per_base::{Entry, FileInfo, Fresh, Name, Numbers, Scope, Sequence, StoreKind};
+use per_base::{Entry, Name, Numbers, Scope, Sequence, StoreKind};
 use std::alloc::AllocError;
 
 /// A storage as a deployment gives it.
@@ -47,18 +47,7 @@ pub struct View {
     /// The copies that lack the storage, counted from 1 and ascending.
     pub lacking: Numbers,
     /// Whether no second text is held that could be this storage's.
-    pub settled: bool,
+    pub sole: bool,
     /// The elements, ascending by name.
     pub entries: Sequence<Entry>,
-}
-
-/// One change of a commit.
-#[derive(Debug, Drop)]
-pub enum Change {
-    /// A new element, or a new content and info of one.
-    Put(Fresh),
-    /// No such element from now on.
-    Remove(Name),
-    /// A new info of a file.
-    Touch(Name, FileInfo),
 }

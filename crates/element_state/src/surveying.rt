@@ -4,6 +4,7 @@ ghost use Rattle.std.specs.Prelude.{◌≡◌, IsTrue, IfOk, IfSome, OnOk, IsErr
 ghost use Rattle.std.specs.Option.{option_map};
 ghost use Rattle.per_base.specs.Causes.{Rose};
 ghost use Rattle.disk_model.specs.Medium.{Quiet, IsIdle, Elapses};
+ghost use Rattle.guarded_cell.specs.Slots.{IsSlotsOf};
 ghost use Rattle.element_state.specs.Conditions.{IsShape};
 ghost use Rattle.element_state.specs.States.{store_at, salvage_of};
 ghost use Rattle.element_state.specs.Chosen.{chosen, opened_of};
@@ -15,7 +16,7 @@ use crate::errors::StoreError;
 use crate::fitting::fit_texts;
 use crate::shapes::{Shape, View};
 use disk_model::Disk;
-use guarded_cell::{Seen, look};
+use guarded_cell::{Looked, Seen, Slots, look};
 use index_text::Index;
 use std::alloc::Global;
 
@@ -30,6 +31,8 @@ pub struct Found {
     pub index: Index,
     /// What it stands for.
     pub view: View,
+    /// Which slots of the place hold a text.
+    pub slots: Slots,
 }
 
 /// Finds the text at which the storage opens, or else the first that fits, and reads it: each content once. None where
@@ -55,6 +58,9 @@ pub fn survey<D: Disk>(
     ensures salvaged { IsTrue D.told → IfOk result (λ found. salvage_of (store_at (D.medium disk.old).image shape.now)
         ≡ option_map (λ f. f.view) found) }
 
+    ensures slots { IsTrue D.told → IfOk result (λ found. IfSome found (λ f.
+        IsSlotsOf (D.medium disk.old).image shape.now.place.first shape.now.place.copies f.slots)) }
+
     // Whether the disk tells its bytes or not.
     ensures found { IfOk result (λ found. IfSome found (IsFound shape.now)) }
 
@@ -62,15 +68,15 @@ pub fn survey<D: Disk>(
     ensures image { (D.medium disk.new).image ≡ (D.medium disk.old).image }
     ensures idle { Quiet (D.medium disk.old) → IsIdle (D.medium disk.old) (D.medium disk.new) }
     ensures written { (D.medium disk.new).written ≡ (D.medium disk.old).written }
-    ensures never_corrupt { IsErrOf result StoreError.Corrupt → ⊥ }
+    ensures never_corrupt { ¬ (IsErrOf result StoreError.Corrupt) }
     ensures cause { IsErrOf result StoreError.Device → Rose (D.medium disk.old).faults (D.medium disk.new).faults }
     ensures passes { OnOk result ((D.medium disk.new).faults ≡ (D.medium disk.old).faults) }
     ensures fed { IsErrOf result StoreError.OutOfMemory → (D.medium disk.new).faults ≡ (D.medium disk.old).faults }
     ensures time { Elapses (D.medium disk.old) (D.medium disk.new) }
 {
-    let seens = look(alloc, disk, shape.place)?;
+    let Looked { seens, slots } = look(alloc, disk, shape.place)?;
     let texts = fit_texts(alloc, shape, seens)?;
-    let found = choose(alloc, disk, shape, texts)?;
+    let found = choose(alloc, disk, shape, slots, texts)?;
     Ok(found)
 }
 
@@ -134,7 +140,7 @@ pub fn salvage<D: Disk>(
     ensures image { (D.medium disk.new).image ≡ (D.medium disk.old).image }
     ensures idle { Quiet (D.medium disk.old) → IsIdle (D.medium disk.old) (D.medium disk.new) }
     ensures written { (D.medium disk.new).written ≡ (D.medium disk.old).written }
-    ensures never_corrupt { IsErrOf result StoreError.Corrupt → ⊥ }
+    ensures never_corrupt { ¬ (IsErrOf result StoreError.Corrupt) }
     ensures cause { IsErrOf result StoreError.Device → Rose (D.medium disk.old).faults (D.medium disk.new).faults }
     ensures passes { OnOk result ((D.medium disk.new).faults ≡ (D.medium disk.old).faults) }
     ensures fed { IsErrOf result StoreError.OutOfMemory → (D.medium disk.new).faults ≡ (D.medium disk.old).faults }

@@ -17,7 +17,7 @@ use Rattle.guarded_cell.specs.StopLaws.{alone_only}
 use Rattle.index_text.specs.declared.entries.Index.{Index}
 use Rattle.element_state.specs.declared.shapes.Shape.{Shape}
 use Rattle.element_state.specs.declared.shapes.View.{View}
-use Rattle.element_state.specs.Fit.{FitText, fit_index, fit_texts, is_settled}
+use Rattle.element_state.specs.Fit.{FitText, fit_index, fit_texts, is_sole}
 use Rattle.element_state.specs.Views.{holds_text, supporters, qualifies, entry_view, lacks_one, store_lacking, view_of}
 use Rattle.element_state.specs.States.{Opens, store_at, state_of, picked, beside, whole_view, lacking_by}
 
@@ -162,12 +162,12 @@ module _ (image : Image) (shape : Shape) (g : ℕ) (text : List ℕ) (index : In
   unfolding view_of
   view_alone =
       let a = lacking_of shape.scope (map (entry_view image shape.place shape.m) index.entries) in
-      let b : is_settled (fit_texts shape image) ≡ true = ap is_settled texts_alone in
+      let b : is_sole (fit_texts shape image) ≡ true = ap is_sole texts_alone in
       ap (λ (xs : List ℕ). record {
         generation = g;
         lacking = xs;
-        settled =
-            is_settled (fit_texts shape image);
+        sole =
+            is_sole (fit_texts shape image);
         entries = map (entry_view image shape.place shape.m) index.entries;
       })
       a
@@ -175,7 +175,7 @@ module _ (image : Image) (shape : Shape) (g : ℕ) (text : List ℕ) (index : In
         generation = g;
         lacking =
             lacking_by shape.scope (map (entry_view image shape.place shape.m) index.entries) shape.place.copies;
-        settled = s;
+        sole = s;
         entries = map (entry_view image shape.place shape.m) index.entries;
       }) b
 

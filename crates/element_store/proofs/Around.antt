@@ -4,9 +4,9 @@ use Rattle.disk_model.specs.Image.{Image}
 use Rattle.disk_model.specs.Medium.{Medium, Quiet, Elapses, EachCase}
 use Rattle.disk_model.specs.Frame.{Spares, IsSettledOn}
 use Rattle.disk_model.specs.Place.{IsNoArea, IsNoSlot, IsOutside}
-use Rattle.disk_model.proofs.Frames.{settled_on, settled_before, settled_less, settled_keeps}
-use Rattle.disk_model.proofs.Moments.{cases_on}
-use Rattle.disk_model.proofs.Places.{outside_no_slot, outside_no_area}
+use Rattle.disk_model.specs.lemmas.Frames.{settled_on, settled_before, settled_less, settled_keeps}
+use Rattle.disk_model.specs.Laws.{cases_on}
+use Rattle.disk_model.specs.lemmas.Places.{outside_no_slot, outside_no_area}
 use Rattle.guarded_cell.specs.Stops.{FormatStops}
 use Rattle.element_store.specs.Spelled.{IsContentsCase}
 

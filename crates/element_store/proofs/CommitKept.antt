@@ -10,30 +10,30 @@ use Rattle.disk_model.specs.declared.place.Place.{Place}
 use Rattle.disk_model.specs.Medium.{Medium, Quiet, Elapses, EachCase, IsLawful}
 use Rattle.disk_model.specs.Frame.{Spares, IsSettledOn, Keeps}
 use Rattle.disk_model.specs.Place.{IsNoArea, IsNoSlot, IsOutside}
-use Rattle.disk_model.proofs.Frames.{case_less, keeps_less, settled_before, settled_less, settled_on}
-use Rattle.disk_model.proofs.Moments.{cases_on, goes_none}
-use Rattle.disk_model.proofs.Places.{outside_no_slot, outside_no_area}
+use Rattle.disk_model.specs.lemmas.Frames.{case_less, keeps_less, settled_before, settled_less, settled_on}
+use Rattle.disk_model.specs.Laws.{cases_on, goes_none}
+use Rattle.disk_model.specs.lemmas.Places.{outside_no_slot, outside_no_area}
 use Rattle.guarded_cell.specs.declared.cell.Cell.{Cell}
 use Rattle.guarded_cell.specs.Cells.{place_of, CellAt, IsCellOf}
 use Rattle.guarded_cell.specs.Register.{IsAlone}
 use Rattle.guarded_cell.specs.Stops.{PutStops}
 use Rattle.block_files.specs.Aside.{Where}
-use Rattle.block_files.specs.BlockSets.{holds, Ascend}
+use Rattle.block_files.specs.BlockSets.{contains, Ascend}
 use Rattle.block_files.specs.Contents.{AreCopies}
 use Rattle.index_text.specs.declared.entries.Index.{Index}
 use Rattle.index_text.specs.declared.entries.IndexEntry.{IndexEntry}
 use Rattle.index_text.specs.Rules.{IsIndex, IsEntry}
 use Rattle.index_text.specs.Sizes.{area_blocks, entry_length}
-use Rattle.index_text.proofs.Lengths.{length-index_text}
+use Rattle.index_text.specs.lemmas.Lengths.{length-index_text}
 use Rattle.block_files.specs.Parts.{blocks_for}
 use Rattle.std.specs.Prelude.{sum_by, Option}
 use Rattle.std.proofs.lemmas.List.Sums.{sum_by-cons}
 use Rattle.per_base.specs.declared.elements.StoreKind.{StoreKind}
 use Rattle.per_base.specs.declared.elements.FileInfo.{FileInfo}
+use Rattle.per_base.specs.declared.elements.Change.{Change}
 use Rattle.index_text.specs.Spelling.{index_text}
 use Rattle.element_state.specs.declared.shapes.Shape.{Shape}
 use Rattle.element_state.specs.declared.shapes.View.{View}
-use Rattle.element_state.specs.declared.shapes.Change.{Change}
 use Rattle.element_state.specs.Fit.{fit_index}
 use Rattle.element_state.specs.States.{State, Opens, store_at, whole_view}
 use Rattle.element_state.specs.Changes.{after_changes, committed_by}
@@ -44,7 +44,7 @@ use Rattle.element_state.specs.Kept.{IsKeptCase, KeptThroughout}
 use Rattle.element_state.specs.Written.{commit_cost, IsWithin}
 use Rattle.element_laws.specs.Phases.{IsOfPlace, UntouchedLaw, IsAdopted, ContentsLaw, ContentsDoneLaw, IndexLaw}
 use Rattle.element_laws.specs.Phases.{InUseLaw, CarriedLaw, IsWritten, IsCarried}
-use Rattle.element_laws.proofs.Lists.{zip_with}
+use Rattle.element_laws.specs.lemmas.Lists.{zip_with}
 use Rattle.element_store.specs.declared.jobs.Job.{Job}
 use Rattle.element_store.specs.declared.store.Store.{Store}
 use Rattle.element_store.specs.Jobs.{IsDone, HasShared, IsLeftByAll, IsJobsCase, jobs_cost}
@@ -61,18 +61,6 @@ use Rattle.element_store.proofs.Standing.{kind_is}
 use Rattle.element_store.proofs.Committed.{IsPut, IsStill, IsPutOrStill, entries_of_plan, plan_shares, after_in_use}
 use Rattle.element_store.proofs.Committed.{after_clean}
 
--- ---- where nothing is written
-
-pub none_kept : UntouchedLaw → (told : Bool) (shape : Shape) (state : State) (old : Medium) → IsShape shape
-    → IsLawful told old → KeptThroughout shape state old old
-none_kept untouched told shape state old is law quiet clean = goes_none (IsKeptCase shape old.image state) law
-    (λ c here. untouched shape old.image state c is.some clean (settled_on (IsOfPlace shape.place) (quiet c here)))
-
-pub none_around : (told : Bool) (first copies : ℕ) (old : Medium) → IsLawful told old → Quiet old
-    → EachCase (IsSettledOn (IsOutside first copies) old.image) old old
-none_around told first copies old law quiet = goes_none (IsSettledOn (IsOutside first copies) old.image) law
-    (λ c here. settled_on (IsOutside first copies) (quiet c here))
-
 -- ---- the laws, at a storage in use
 
 module _ (in_use : InUseLaw) (shape : Shape) (set now : List Bool) (index : Index) (v : View) (jobs : List Job)
@@ -82,12 +70,12 @@ module _ (in_use : InUseLaw) (shape : Shape) (set now : List Bool) (index : Inde
   adopted : IsClean shape old.image → IsAdopted shape old.image old.image v.generation (index_text index) index
   adopted clean = in_use shape old.image index v clean used
 
-  left : (k : ℕ) → holds set k ≡ true → IsLeftByAll jobs k
+  left : (k : ℕ) → contains set k ≡ true → IsLeftByAll jobs k
   left k taken = left_of_placed set now jobs placed k taken
 
   pub keeps_set : (mid : Medium) → Keeps (IsNoArea shape.place.first shape.place.copies) (IsLeftByAll jobs) old.image
       mid.image
-      → Keeps (IsNoArea shape.place.first shape.place.copies) (λ k. holds set k ≡ true) old.image mid.image
+      → Keeps (IsNoArea shape.place.first shape.place.copies) (λ k. contains set k ≡ true) old.image mid.image
   keeps_set mid keeps = keeps_less (λ f none. none) left keeps
 
   -- while the jobs are written
@@ -97,11 +85,11 @@ module _ (in_use : InUseLaw) (shape : Shape) (set now : List Bool) (index : Inde
       → KeptThroughout shape after old mid
   jobs_kept contents contents_done mid done after keeps each quiet clean c past = ⊎_elim
       (λ some. let (d, was, step) = some in
-      contents shape old.image old.image v.generation (index_text index) index (holds set) after d c is.some
+      contents shape old.image old.image v.generation (index_text index) index (contains set) after d c is.some
       (adopted clean) rules takes (quiet d was)
       (case_less (λ f none. none) left step))
       (λ all.
-      contents_done shape old.image old.image mid.image v.generation (index_text index) index (holds set) after c
+      contents_done shape old.image old.image mid.image v.generation (index_text index) index (contains set) after c
       is.some (adopted clean) rules takes
       (keeps_set mid (keeps all.0)) all.1)
       (each c past)
@@ -137,7 +125,8 @@ module _ (in_use : InUseLaw) (shape : Shape) (set now : List Bool) (index : Inde
         new
         → EachCase (IsKeptCase shape old.image (Opens (whole_view shape (v.generation + 1) entries) [])) mid new
     index_kept law new fit keeps clean stops c past =
-        law shape old.image old.image mid.image v.generation (index_text index) index (holds set) (index_text next) next
+        law shape old.image old.image mid.image v.generation (index_text index) index (contains set) (index_text next)
+        next
         (whole_view shape (v.generation + 1) entries) [] c is.some (adopted clean) rules takes (keeps_set mid keeps) fit
         refl of_laws (stops c past)
 

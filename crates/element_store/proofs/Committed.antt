@@ -16,23 +16,23 @@ use Rattle.disk_model.specs.declared.place.Place.{Place}
 use Rattle.disk_model.specs.Image.{Image}
 use Rattle.disk_model.specs.Frame.{Spares, Keeps}
 use Rattle.disk_model.specs.Place.{area, IsNoSlot, IsNoArea}
-use Rattle.disk_model.proofs.Places.{area_no_slot}
+use Rattle.disk_model.specs.lemmas.Places.{area_no_slot}
 use Rattle.m_of_n.specs.Vote.{voted}
 use Rattle.guarded_cell.specs.Register.{IsAlone}
 use Rattle.guarded_cell.specs.Held.{copies_that}
 use Rattle.guarded_cell.specs.CopyLaws.{enough_pass, passing_enough}
 use Rattle.guarded_cell.specs.StopLaws.{at_least_map}
 use Rattle.block_files.specs.Parts.{is_changed}
-use Rattle.block_files.specs.BlockSets.{holds}
+use Rattle.block_files.specs.BlockSets.{contains}
 use Rattle.block_files.specs.Areas.{block, joined, within, IsFull, AllFull, HoldsPart, HoldsShared}
 use Rattle.block_files.specs.Aside.{Where}
 use Rattle.block_files.specs.Contents.{counting, contents, first_content, lacks, lacking}
-use Rattle.block_files.proofs.AsideLaws.{joined_kept, within_grown, counting_same}
-use Rattle.block_files.proofs.Everywhere.{shared_none}
-use Rattle.block_files.proofs.Joined.{holds_from, length-blocks}
-use Rattle.block_files.proofs.PartLemmas.{same_part}
-use Rattle.block_files.proofs.Partly.{read_part}
-use Rattle.block_files.proofs.Sharing.{same_inside}
+use Rattle.block_files.specs.lemmas.AsideLaws.{joined_kept, within_grown, counting_same}
+use Rattle.block_files.specs.lemmas.Everywhere.{shared_none}
+use Rattle.block_files.specs.lemmas.Joined.{holds_from, length-blocks}
+use Rattle.block_files.specs.lemmas.PartLemmas.{same_part}
+use Rattle.block_files.specs.lemmas.Partly.{read_part}
+use Rattle.block_files.specs.lemmas.Sharing.{same_inside}
 use Rattle.index_text.specs.declared.entries.Index.{Index}
 use Rattle.index_text.specs.declared.entries.IndexEntry.{IndexEntry}
 use Rattle.index_text.specs.Rules.{IsIndex}
@@ -46,12 +46,13 @@ use Rattle.element_state.specs.States.{Opens, whole_view}
 use Rattle.element_state.specs.Clean.{where_of, counting_at, IsClean}
 use Rattle.element_state.specs.Conditions.{IsShape, IsMended, IsInUse, IsGoodEntry}
 use Rattle.element_laws.specs.Phases.{IsHeaded, AreAgreed}
-use Rattle.element_laws.proofs.Lists.{In, Contains-In, map-In, all_in, all_by, zip_with, zip_find, some_is, not_none}
-use Rattle.element_laws.proofs.Lists.{both_true, In-list_all, list_all-In}
-use Rattle.element_laws.proofs.Phases.{opens_pick, room}
-use Rattle.element_laws.proofs.Fits.{picked_parts}
-use Rattle.element_laws.proofs.IndexLaws.{names_it}
-use Rattle.element_laws.proofs.AnewLaws.{clean_alone}
+use Rattle.element_laws.specs.lemmas.Lists.{In, Contains-In, map-In, all_in, all_by, zip_with, zip_find, some_is}
+use Rattle.element_laws.specs.lemmas.Lists.{not_none}
+use Rattle.element_laws.specs.lemmas.Lists.{both_true, In-list_all, list_all-In}
+use Rattle.element_laws.specs.lemmas.Phases.{opens_pick, room}
+use Rattle.element_laws.specs.lemmas.Fits.{picked_parts}
+use Rattle.element_laws.specs.lemmas.IndexLaws.{names_it}
+use Rattle.element_laws.specs.lemmas.AnewLaws.{clean_alone}
 use Rattle.element_store.specs.declared.jobs.Job.{Job}
 use Rattle.element_store.specs.Jobs.{HasShared, IsDone}
 use Rattle.element_store.specs.Plans.{HasAll}
@@ -90,7 +91,7 @@ counted_full file blocks len hash bytes enough counts inside =
 
 -- the blocks of the set read as before
 module _ (first copies : ℕ) (set : List Bool) (old mid : Image)
-    (keeps : Keeps (IsNoArea first copies) (λ k. holds set k ≡ true) old mid) where
+    (keeps : Keeps (IsNoArea first copies) (λ k. contains set k ≡ true) old mid) where
   counting_stays : (f : ℕ) (blocks : List ℕ) (len : ℕ) (hash : List ℕ) → HasAll set blocks
       → counting (mid f) blocks len hash ≡ counting (old f) blocks len hash
   counting_stays f blocks len hash has = counting_same (old f) (mid f) blocks len hash
@@ -291,7 +292,7 @@ module _ (shape : Shape) (old : Image) (index : Index) (v : View) (used : IsInUs
 module _ (shape : Shape) (old mid new : Image) (set : List Bool) (index : Index) (v : View) (is : IsShape shape)
     (used : IsInUse shape old index v)
     (takes : AllByRecursion (λ (e : IndexEntry). HasAll set e.blocks) index.entries)
-    (keeps : Keeps (IsNoArea shape.place.first shape.place.copies) (λ k. holds set k ≡ true) old mid)
+    (keeps : Keeps (IsNoArea shape.place.first shape.place.copies) (λ k. contains set k ≡ true) old mid)
     (same : Spares (IsNoSlot shape.place.first shape.place.copies) mid new) where
   abbrev old_of : IndexEntry → Entry
   old_of e = entry_view old shape.place shape.m e
@@ -446,7 +447,7 @@ module _ (shape : Shape) (old mid new : Image) (set : List Bool) (index : Index)
               (supported shape.scope refl)
               ∙ ap (λ (fs : List Entry). Opens (whole_view shape (v.generation + 1) fs) [])
               (sym (shown next.entries entries zip));
-          settled = refl;
+          sole = refl;
           entries = shown next.entries entries zip;
           mended = all_mended next.entries entries zip;
         }

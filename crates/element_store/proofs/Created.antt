@@ -8,7 +8,7 @@ use Rattle.disk_model.specs.declared.place.Place.{Place}
 use Rattle.disk_model.specs.Image.{Image}
 use Rattle.disk_model.specs.Place.{area, IsNoSlot}
 use Rattle.disk_model.specs.Frame.{Spares}
-use Rattle.disk_model.proofs.Places.{area_no_slot}
+use Rattle.disk_model.specs.lemmas.Places.{area_no_slot}
 use Rattle.guarded_cell.specs.declared.cell.Cell.{Cell}
 use Rattle.guarded_cell.specs.Cells.{CellAt, IsCellOf}
 use Rattle.guarded_cell.specs.Register.{IsAlone}

@@ -1,8 +1,10 @@
 -- The text at which a storage opens, from what a survey hands up.
-use Rattle.std.proofs.Common.{◌≡◌, List, [], ◌∷◌, Bool, true, false, Option, Some, None, sym, ap, ◌∙◌, subst}
+use Rattle.std.proofs.Common.{◌≡◌, ℕ, List, [], ◌∷◌, Bool, true, false, Option, Some, None, sym, ap, ◌∙◌, subst}
 use Rattle.std.specs.Prelude.{find, IfSome}
 use Rattle.std.specs.Option.{option_map}
 use Rattle.disk_model.specs.Image.{Image}
+use Rattle.guarded_cell.specs.Seens.{IsSeenOn}
+use Rattle.guarded_cell.specs.Slots.{IsSlotsOf}
 use Rattle.element_state.specs.declared.shapes.Shape.{Shape}
 use Rattle.element_state.specs.declared.shapes.View.{View}
 use Rattle.element_state.specs.declared.surveying.Found.{Found}
@@ -59,3 +61,12 @@ module _ (image : Image) (shape : Shape) (found : Option Found) (f : Found) (is 
 
   pub found_opens : opened_of (store_at image shape) ≡ Some f.view
   found_opens = opens_is f.opens f.view (store_at image shape) opens its_view.state
+
+  pub found_copies : IsSeenOn image shape.place.first shape.place.copies f.seen
+  found_copies = its_view.copies
+
+-- its flags
+pub found_slots : (image : Image) (first copies : ℕ) (found : Option Found) (f : Found) → found ≡ Some f
+    → IfSome found (λ f. IsSlotsOf image first copies f.slots) → IsSlotsOf image first copies f.slots
+found_slots image first copies found f is are =
+    subst (λ (o : Option Found). IfSome o (λ f. IsSlotsOf image first copies f.slots)) is are

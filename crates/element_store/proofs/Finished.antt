@@ -5,6 +5,8 @@ use Rattle.std.specs.List.{AllByRecursion, AllZip}
 use Rattle.per_base.specs.declared.elements.StoreKind.{StoreKind}
 use Rattle.per_base.specs.declared.elements.StoreKind.TheVariants.{Keys, Files}
 use Rattle.per_base.specs.declared.elements.Entry.{Entry}
+use Rattle.per_base.specs.declared.elements.Change.{Change}
+use Rattle.per_base.specs.declared.elements.Change.TheVariants.{Put, Remove, Touch}
 use Rattle.guarded_cell.specs.declared.cell.Cell.{Cell}
 use Rattle.guarded_cell.specs.Cells.{place_of, IsCellOf}
 use Rattle.index_text.specs.declared.entries.Index.{Index}
@@ -12,8 +14,6 @@ use Rattle.index_text.specs.declared.entries.IndexEntry.{IndexEntry}
 use Rattle.index_text.specs.Sizes.{area_blocks}
 use Rattle.index_text.specs.Spelling.{index_text}
 use Rattle.element_state.specs.declared.shapes.View.{View}
-use Rattle.element_state.specs.declared.shapes.Change.{Change}
-use Rattle.element_state.specs.declared.shapes.Change.TheVariants.{Put, Remove, Touch}
 use Rattle.element_state.specs.Changes.{after_changes, committed_by, entry_name}
 use Rattle.element_state.specs.Chosen.{IsReadBy}
 use Rattle.element_state.specs.Conditions.{IsChange, IsInUse}
@@ -33,7 +33,7 @@ use Rattle.hash_guard.specs.SealedText.{VerifiesAs}
 use Rattle.disk_model.specs.Image.{Image}
 use Rattle.disk_model.specs.Frame.{Spares}
 use Rattle.disk_model.specs.Place.{slot, IsNoArea}
-use Rattle.disk_model.proofs.Places.{slot_no_area}
+use Rattle.disk_model.specs.lemmas.Places.{slot_no_area}
 use Rattle.guarded_cell.specs.Register.{IsAlone, IsBlank, own, other}
 
 -- a text that is held alone is so after writes to areas

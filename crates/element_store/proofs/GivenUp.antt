@@ -10,9 +10,9 @@ use Rattle.disk_model.specs.Case.{Case}
 use Rattle.disk_model.specs.Medium.{Medium, Quiet, IsLawful, Elapses, EachCase}
 use Rattle.disk_model.specs.Frame.{Spares, IsSettledOn}
 use Rattle.disk_model.specs.Place.{slot, area, IsNoArea, IsNoSlot, IsOutside}
-use Rattle.disk_model.proofs.Frames.{settled_on, settled_before, settled_less, settled_keeps}
-use Rattle.disk_model.proofs.Moments.{goes_on, elapses_on}
-use Rattle.disk_model.proofs.Places.{outside_no_slot, outside_no_area, slot_no_area, area_no_slot}
+use Rattle.disk_model.specs.lemmas.Frames.{settled_on, settled_before, settled_less, settled_keeps}
+use Rattle.disk_model.specs.Laws.{goes_on, elapses_on}
+use Rattle.disk_model.specs.lemmas.Places.{outside_no_slot, outside_no_area, slot_no_area, area_no_slot}
 use Rattle.guarded_cell.specs.Register.{Holds, IsKeptAlone, own, other}
 use Rattle.guarded_cell.specs.Stops.{SlotText, IsSlotPiece, KeepStops, FormatStops}
 use Rattle.disk_model.specs.Damage.{IsSoundFor}

@@ -17,8 +17,8 @@ use Rattle.disk_model.specs.Case.{Case, Follows}
 use Rattle.disk_model.specs.Medium.{Medium, Quiet, IsLawful, Elapses, EachCase, OnlyReads, WritesNothing}
 use Rattle.disk_model.specs.Frame.{Spares, KeepsCase}
 use Rattle.disk_model.specs.Place.{area, IsNoArea}
-use Rattle.disk_model.proofs.Frames.{keeps_none, keeps_tears}
-use Rattle.disk_model.proofs.Moments.{elapses_none, elapses_on, cases_on}
+use Rattle.disk_model.specs.lemmas.Frames.{keeps_none, keeps_tears}
+use Rattle.disk_model.specs.Laws.{elapses_none, elapses_on, cases_on}
 use Rattle.m_of_n.specs.Vote.{voted}
 use Rattle.block_files.specs.BlockSets.{IsApart, AreDistinct}
 use Rattle.block_files.specs.Areas.{NamedFull, area_of}

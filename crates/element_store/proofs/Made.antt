@@ -88,7 +88,7 @@ whole_fresh shape g contents =
     ap (λ (ls : List ℕ). record {
       generation = g;
       lacking = ls;
-      settled = true;
+      sole = true;
       entries =
           map (fresh_entry g) contents;
     }) (lacking_fresh shape.scope g shape.place.copies contents)
@@ -128,7 +128,7 @@ module _ (shape : Shape) (image : Image) (generation : ℕ) (contents : List Fre
     alone = alone;
     fit = fit;
     opens = made_opens;
-    settled = refl;
+    sole = refl;
     entries = shown_map image shape.place shape.m generation contents index.entries shown;
     mended = all_mended generation contents;
   }

@@ -6,9 +6,9 @@ use Rattle.disk_model.specs.Case.{Case}
 use Rattle.disk_model.specs.Medium.{Medium, IsIdle, Elapses, EachCase}
 use Rattle.disk_model.specs.Frame.{Spares, IsSettledOn}
 use Rattle.disk_model.specs.Place.{IsNoArea, IsNoSlot, IsOutside}
-use Rattle.disk_model.proofs.Frames.{settled_on, settled_before, settled_less}
-use Rattle.disk_model.proofs.Moments.{cases_on, elapses_on}
-use Rattle.disk_model.proofs.Places.{outside_no_slot, outside_no_area}
+use Rattle.disk_model.specs.lemmas.Frames.{settled_on, settled_before, settled_less}
+use Rattle.disk_model.specs.Laws.{cases_on, elapses_on}
+use Rattle.disk_model.specs.lemmas.Places.{outside_no_slot, outside_no_area}
 use Rattle.guarded_cell.specs.Register.{IsAlone}
 use Rattle.guarded_cell.specs.Stops.{PutStops}
 use Rattle.index_text.specs.declared.entries.Index.{Index}

@@ -29,7 +29,7 @@ use Rattle.guarded_cell.specs.CopyLaws.{enough_pass, passing_enough, passing_is}
 use Rattle.guarded_cell.specs.StopLaws.{at_least_map, alone_only}
 use Rattle.block_files.specs.Areas.{joined, within, IsFull, AllFull, area_of}
 use Rattle.block_files.specs.Contents.{counting, first_content, lacks, lacking}
-use Rattle.block_files.proofs.AsideLaws.{joined_kept, within_grown}
+use Rattle.block_files.specs.lemmas.AsideLaws.{joined_kept, within_grown}
 use Rattle.index_text.specs.declared.entries.Index.{Index}
 use Rattle.index_text.specs.declared.entries.IndexEntry.{IndexEntry}
 use Rattle.index_text.specs.Spelling.{index_text}
@@ -43,11 +43,12 @@ use Rattle.element_state.specs.States.{Opens, store_at, whole_view, mended_by, m
 use Rattle.element_state.specs.Chosen.{HasLength, IsReadBy, opened_of}
 use Rattle.element_state.specs.Conditions.{IsShape, IsMended, IsInUse}
 use Rattle.element_laws.specs.Phases.{CleanLaw, AreAgreed, IsSparing, TakesMend, KeepsBlocksWhole, OpensAt, OpenedLaw}
-use Rattle.element_laws.proofs.Copies.{filtered_that, named_Contains, Contains_named, voted_given}
-use Rattle.element_laws.proofs.Lists.{In, In-Contains, map-In, false_not_true, list_all-In, In-list_all, both_true}
-use Rattle.element_laws.proofs.Lists.{true_both, all_by, all_in}
-use Rattle.element_laws.proofs.Fits.{In-fit, fit-spelled}
-use Rattle.element_laws.proofs.Frames.{slot_no_area, area_no_slot}
+use Rattle.element_laws.specs.lemmas.Copies.{filtered_that, named_Contains, Contains_named, voted_given}
+use Rattle.element_laws.specs.lemmas.Lists.{In, In-Contains, map-In, false_not_true, list_all-In, In-list_all}
+use Rattle.element_laws.specs.lemmas.Lists.{both_true}
+use Rattle.element_laws.specs.lemmas.Lists.{true_both, all_by, all_in}
+use Rattle.element_laws.specs.lemmas.Fits.{In-fit, fit-spelled}
+use Rattle.element_laws.specs.lemmas.Frames.{slot_no_area, area_no_slot}
 use Rattle.element_store.specs.declared.opening.OpeningPlan.{OpeningPlan}
 use Rattle.element_store.specs.declared.store.Store.{Store}
 use Rattle.element_store.specs.Mends.{IsAsBefore, IsWholeIn, AreShown, SparesOthers}
@@ -502,7 +503,7 @@ module _ (told : Bool) (start now image : Image) (shape : Shape) (r : OpeningPla
         (whole tells)
         (r.seen, r.index) refl (find_passes (qualifies start shape) (fit_texts shape start) (r.seen, r.index)
         (found tells).first);
-    settled = refl;
+    sole = refl;
     entries = opened_entries shape start now image r.seen.generation (index_text r.index) r.index r.before.entries is
         fit (shown_at tells) (areas tells) (adopted_alone tells) ready.read (spared tells start (shown_at tells))
         (whole tells);

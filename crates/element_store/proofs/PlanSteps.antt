@@ -12,11 +12,11 @@ use Rattle.per_base.specs.declared.elements.Content.TheVariants.{Good}
 use Rattle.disk_model.specs.declared.place.Place.{Place}
 use Rattle.disk_model.specs.Image.{Image}
 use Rattle.block_files.specs.Parts.{blocks_for, is_changed}
-use Rattle.block_files.specs.BlockSets.{holds, AreDistinct, IsApart, AreFree, IsAdded}
+use Rattle.block_files.specs.BlockSets.{contains, AreDistinct, IsApart, AreFree, IsAdded}
 use Rattle.block_files.specs.Areas.{AllFull}
-use Rattle.block_files.proofs.PartLemmas.{same_part, changed_to-le}
-use Rattle.block_files.proofs.Partly.{length-part}
-use Rattle.block_files.proofs.Sharing.{free_distinct}
+use Rattle.block_files.specs.lemmas.PartLemmas.{same_part, changed_to-le}
+use Rattle.block_files.specs.lemmas.Partly.{length-part}
+use Rattle.block_files.specs.lemmas.Sharing.{free_distinct}
 use Rattle.index_text.specs.declared.entries.IndexEntry.{IndexEntry}
 use Rattle.element_state.specs.Views.{entry_view}
 use Rattle.element_state.specs.States.{fresh_entry, fresh_element}
@@ -24,9 +24,9 @@ use Rattle.element_store.specs.declared.jobs.Job.{Job}
 use Rattle.disk_model.specs.Place.{area}
 use Rattle.disk_model.specs.Case.{Case}
 use Rattle.disk_model.specs.Medium.{Medium}
-use Rattle.disk_model.proofs.Frames.{case_less}
+use Rattle.disk_model.specs.lemmas.Frames.{case_less}
 use Rattle.block_files.specs.Areas.{HoldsShared}
-use Rattle.block_files.proofs.Everywhere.{shared_none}
+use Rattle.block_files.specs.lemmas.Everywhere.{shared_none}
 use Rattle.element_store.specs.Spelled.{IsContentsCase}
 use Rattle.element_store.specs.Jobs.{IsRoomy, AreApart, IsDone, IsLeftBy, IsLeftByAll, HasShared, IsJobsCase, job_cost}
 use Rattle.element_store.specs.Jobs.{jobs_cost}
@@ -88,7 +88,7 @@ apart_or_one (x ∷ blocks) b = ⊎_elim
 pub added_keeps : (blocks : List ℕ) (old new : List Bool) → IsAdded blocks old new → KeepsBlocks old new
 added_keeps blocks old new added b is = ⊎_elim
     (λ apart. added.kept b apart ∙ is)
-    (λ one. let (i, lt, e) = one in ap (holds new) e ∙ added.added i lt)
+    (λ one. let (i, lt, e) = one in ap (contains new) e ∙ added.added i lt)
     (apart_or_one blocks b)
 
 pub keeps_all : (old new : List Bool) (blocks : List ℕ) → KeepsBlocks old new → HasAll old blocks → HasAll new blocks
@@ -96,9 +96,9 @@ keeps_all old new blocks keeps all i lt = keeps (get_or blocks i 0) (all i lt)
 
 -- what the set has, and what it lacks
 pub disjoint_by : (set : List Bool) (xs ys : List ℕ) → HasAll set xs
-    → ((j : ℕ) → j < length ys → holds set (get_or ys j 0) ≡ false) → AreDisjoint xs ys
-disjoint_by set xs ys has lacks i j lt less e = both_ways (holds set (get_or ys j 0))
-    (sym (ap (holds set) e) ∙ has i lt) (lacks j less)
+    → ((j : ℕ) → j < length ys → contains set (get_or ys j 0) ≡ false) → AreDisjoint xs ys
+disjoint_by set xs ys has lacks i j lt less e = both_ways (contains set (get_or ys j 0))
+    (sym (ap (contains set) e) ∙ has i lt) (lacks j less)
 
 -- ---- entries, one more
 
@@ -116,12 +116,12 @@ laid_push (f ∷ entries) e laid distinct all = (
 module _ (start now new : List Bool) (jobs : List Job) (job : Job) (keeps : KeepsBlocks start now)
     (added : IsAdded job.blocks now new) (roomy : IsRoomy job)
     (written : (i : ℕ) → i < length job.blocks → is_changed job.bytes.now job.was.now i ≡ true
-    → holds now (get_or job.blocks i 0) ≡ false)
+    → contains now (get_or job.blocks i 0) ≡ false)
     (shared : (i : ℕ) → i < length job.blocks → is_changed job.bytes.now job.was.now i ≡ false
-    → holds start (get_or job.blocks i 0) ≡ true) where
-  not_at_start : (b : ℕ) → holds now b ≡ false → holds start b ≡ false
-  not_at_start b out = ⊎_elim (λ was. absurd (both_ways (holds now b) (keeps b was) out)) (λ none. none)
-      (cases_Bool (holds start b))
+    → contains start (get_or job.blocks i 0) ≡ true) where
+  not_at_start : (b : ℕ) → contains now b ≡ false → contains start b ≡ false
+  not_at_start b out = ⊎_elim (λ was. absurd (both_ways (contains now b) (keeps b was) out)) (λ none. none)
+      (cases_Bool (contains start b))
 
   job_placed : IsPlaced start new job
   job_placed = record {
@@ -141,16 +141,16 @@ module _ (start now new : List Bool) (jobs : List Job) (job : Job) (keeps : Keep
 
   -- the blocks of an earlier job are none that the new one writes
   earlier_left : (x : Job) → IsPlaced start now x → (m : ℕ) → m < length x.blocks → IsLeftBy job (get_or x.blocks m 0)
-  earlier_left x placed m lt i less is e = both_ways (holds now (get_or job.blocks i 0))
-      (sym (ap (holds now) e) ∙ placed.taken m lt) (written i less is)
+  earlier_left x placed m lt i less is e = both_ways (contains now (get_or job.blocks i 0))
+      (sym (ap (contains now) e) ∙ placed.taken m lt) (written i less is)
 
   -- the blocks of the new one are none that an earlier job writes
   new_left : (x : Job) → IsPlaced start now x → (m : ℕ) → m < length job.blocks → IsLeftBy x (get_or job.blocks m 0)
   new_left x placed m lt i less is e = ⊎_elim
-      (λ differs. both_ways (holds now (get_or job.blocks m 0)) (ap (holds now) e ∙ placed.taken i less)
+      (λ differs. both_ways (contains now (get_or job.blocks m 0)) (ap (contains now) e ∙ placed.taken i less)
       (written m lt differs))
-      (λ same. both_ways (holds start (get_or job.blocks m 0)) (shared m lt same)
-      (ap (holds start) e ∙ placed.written i less is))
+      (λ same. both_ways (contains start (get_or job.blocks m 0)) (shared m lt same)
+      (ap (contains start) e ∙ placed.written i less is))
       (cases_Bool (is_changed job.bytes.now job.was.now m))
 
   at_old : (i : ℕ) (d : Job) → i < length jobs → get_or (jobs ++ job ∷ []) i d ≡ get_or jobs i d
@@ -236,7 +236,8 @@ plan_push generation contents start now new entries jobs f e job made free added
       (λ h has. keeps_all now new h.blocks grows has) plan.taken) added.added;
   placed = placed_push start now new jobs job plan.keeps
       (subst (λ (bs : List ℕ). IsAdded bs now new) (sym blocks) added) roomy
-      (λ i lt is. ap (holds now) (ap (λ (bs : List ℕ). get_or bs i 0) blocks) ∙ free.free i (omega (arith, lt, long)))
+      (λ i lt is. ap (contains now) (ap (λ (bs : List ℕ). get_or bs i 0) blocks) ∙ free.free i
+      (omega (arith, lt, long)))
       (λ i lt same. absurd (none_same f.bytes i (omega (arith, lt, long, made.count))
       (subst (λ (xs : List ℕ). is_changed f.bytes xs i ≡ false) was
       (subst (λ (xs : List ℕ). is_changed xs job.was.now i ≡ false) bytes same))))
@@ -343,9 +344,9 @@ shared_of_whole image first copies jobs whole k d lt c few =
 
 -- what was in the set at the start is written by no job
 pub left_of_placed : (start now : List Bool) (jobs : List Job) → ArePlaced start now jobs → (k : ℕ)
-    → holds start k ≡ true → IsLeftByAll jobs k
+    → contains start k ≡ true → IsLeftByAll jobs k
 left_of_placed start now jobs placed k taken x d lt i less is e =
-    both_ways (holds start k) taken (ap (holds start) e ∙ (placed.placed x d lt).written i less is)
+    both_ways (contains start k) taken (ap (contains start) e ∙ (placed.placed x d lt).written i less is)
 
 -- what is written whole is written in whole blocks
 pub written_of_plan : (copies blocks was now : ℕ) (jobs : List Job) → jobs_cost jobs ≤ 256 * blocks

@@ -7,7 +7,7 @@ use Rattle.disk_model.specs.Image.{Image}
 use Rattle.disk_model.specs.Frame.{Spares}
 use Rattle.disk_model.specs.Place.{IsNoSlot}
 use Rattle.guarded_cell.specs.declared.looking.Seen.{Seen}
-use Rattle.block_files.proofs.AsideLaws.{aside}
+use Rattle.block_files.specs.lemmas.AsideLaws.{aside}
 use Rattle.block_files.specs.BlockSets.{free_of}
 use Rattle.index_text.specs.declared.entries.Index.{Index}
 use Rattle.index_text.specs.declared.entries.IndexEntry.{IndexEntry}
@@ -22,14 +22,14 @@ use Rattle.element_state.specs.Fit.{fit_index}
 use Rattle.element_state.specs.Kept.{KeptThroughout}
 use Rattle.element_state.specs.States.{State, store_at, salvage_of}
 use Rattle.element_state.specs.Surveys.{IsFound, text_of}
-use Rattle.element_laws.proofs.Phases.{untouched, adopt as adopt_law, keep as keep_law, contents as contents_law}
-use Rattle.element_laws.proofs.Phases.{contents_done as contents_done_law, corrupt_found as corrupt_law}
-use Rattle.element_laws.proofs.IndexLaws.{index as index_law}
-use Rattle.element_laws.proofs.AnewLaws.{given_up, taken_named, anew_contents, anew_done, anew_index}
-use Rattle.element_laws.proofs.Refusals.{opened as opened_law}
+use Rattle.element_laws.specs.lemmas.Phases.{untouched, adopt as adopt_law, keep as keep_law, contents as contents_law}
+use Rattle.element_laws.specs.lemmas.Phases.{contents_done as contents_done_law, corrupt_found as corrupt_law}
+use Rattle.element_laws.specs.lemmas.IndexLaws.{index as index_law}
+use Rattle.element_laws.specs.lemmas.AnewLaws.{given_up, taken_named, anew_contents, anew_done, anew_index}
+use Rattle.element_laws.specs.lemmas.Refusals.{opened as opened_law}
 use Rattle.element_store.specs.Plans.{HasAll}
 use Rattle.element_store.specs.Stores.{AreTaken}
-use Rattle.element_store.specs.Rebuilds.{IsGround, IsLeftWith, SettleStops, HasNext}
+use Rattle.element_store.specs.Rebuilds.{IsGround, IsLeftWith, OneTextStops, HasNext}
 use Rattle.element_store.proofs.Rebuilt.{opened_at, ready_opened, ready_salvaged, ready_none, idle_kept, adopt_kept}
 use Rattle.element_store.proofs.Rebuilt.{keep_kept}
 use Rattle.element_store.proofs.Taken.{fits_below, taken_area}
@@ -49,7 +49,7 @@ module _ (shape : Shape) (is : IsShape shape) (old mid : Medium) (same : mid.ima
     settled_kept_by : (opens : Bool) (seen : Seen) (index : Index) (state : State) → Elapses old mid → Elapses mid new
         → (Quiet old → IsIdle old mid)
         → chosen old.image shape ≡ Some (opens, (seen, index))
-        → EachCase (SettleStops opens shape.place.first shape.place.copies seen.generation seen.text mid.image) mid new
+        → EachCase (OneTextStops opens shape.place.first shape.place.copies seen.generation seen.text mid.image) mid new
         → KeptThroughout shape state old new
     settled_kept_by true seen index state before later idle chose stops =
         adopt_kept shape is state untouched adopt_law opened_law old mid new (seen, index) before later idle same chose
@@ -59,7 +59,7 @@ module _ (shape : Shape) (is : IsShape shape) (old mid : Medium) (same : mid.ima
 
     pub settled_kept : (found : Found) (state : State) → Elapses old mid → Elapses mid new
         → (Quiet old → IsIdle old mid) → Some (text_of found) ≡ chosen old.image shape
-        → EachCase (SettleStops found.opens shape.place.first shape.place.copies found.seen.generation found.seen.text
+        → EachCase (OneTextStops found.opens shape.place.first shape.place.copies found.seen.generation found.seen.text
         mid.image) mid new → KeptThroughout shape state old new
     settled_kept found state before later idle chose stops =
         settled_kept_by found.opens found.seen found.index state before later idle (sym chose) stops

@@ -15,9 +15,9 @@ use Rattle.per_base.specs.declared.elements.Entry.{Entry}
 use Rattle.per_base.specs.declared.elements.Fresh.{Fresh}
 use Rattle.std.specs.Prelude.{IsTrue}
 use Rattle.block_files.specs.Parts.{blocks_for, is_changed}
-use Rattle.block_files.specs.BlockSets.{holds, AreDistinct, IsAdded, SharesBlocks}
-use Rattle.block_files.proofs.PartLemmas.{same_part}
-use Rattle.block_files.proofs.Partly.{length-part}
+use Rattle.block_files.specs.BlockSets.{contains, AreDistinct, IsAdded, SharesBlocks}
+use Rattle.block_files.specs.lemmas.PartLemmas.{same_part}
+use Rattle.block_files.specs.lemmas.Partly.{length-part}
 use Rattle.index_text.specs.declared.entries.IndexEntry.{IndexEntry}
 use Rattle.index_text.specs.Rules.{IsEntry, has_info}
 use Rattle.element_state.specs.Changes.{insert_item, without_item, entry_name}
@@ -140,9 +140,11 @@ module _ (kind : StoreKind) (standing : List IndexEntry) (views : List Entry) (s
   ]
 
   -- the blocks of what stands were in the set, and one that is chosen was not
-  chosen_apart : (b i : ℕ) → holds now b ≡ true → i < length job.blocks → is_changed job.bytes.now job.was.now i ≡ true
+  chosen_apart : (b i : ℕ) → contains now b ≡ true → i < length job.blocks → is_changed job.bytes.now job.was.now i ≡
+      true
       → b ≡ get_or job.blocks i 0 → ⊥
-  chosen_apart b i taken lt is same = both_ways (holds now (get_or job.blocks i 0)) (sym (ap (holds now) same) ∙ taken)
+  chosen_apart b i taken lt is same = both_ways (contains now (get_or job.blocks i 0))
+      (sym (ap (contains now) same) ∙ taken)
       (shared.fresh i lt is).1
 
   -- an entry of another name that has blocks of its own shares none with the new one
@@ -268,7 +270,7 @@ module _ (kind : StoreKind) (standing : List IndexEntry) (views : List Entry) (s
           let (was, seen, beside, named, content, within, there) = old_at i lt same in
           let taken : HasAll start was.blocks = subst (λ (x : IndexEntry). HasAll start x.blocks) beside.one
           (each_at (λ (x : IndexEntry). HasAll start x.blocks) standing beside.at was p.taken beside.inside) in
-          ap (holds start) there ∙ taken i within)
+          ap (contains start) there ∙ taken i within)
           p.placed
 
       shares_new : SharesWith standing views job

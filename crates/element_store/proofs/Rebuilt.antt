@@ -10,12 +10,12 @@ use Rattle.disk_model.specs.Image.{Image}
 use Rattle.disk_model.specs.Medium.{Medium, Quiet, Elapses, EachCase, IsIdle}
 use Rattle.disk_model.specs.Frame.{Spares, Keeps}
 use Rattle.disk_model.specs.Place.{area, IsNoArea, IsNoSlot}
-use Rattle.disk_model.proofs.Frames.{settled_on}
-use Rattle.disk_model.proofs.Moments.{goes_on}
-use Rattle.disk_model.proofs.Places.{area_no_slot}
+use Rattle.disk_model.specs.lemmas.Frames.{settled_on}
+use Rattle.disk_model.specs.Laws.{goes_on}
+use Rattle.disk_model.specs.lemmas.Places.{area_no_slot}
 use Rattle.guarded_cell.specs.Register.{Holds, IsAlone, IsKeptAlone}
 use Rattle.guarded_cell.specs.Stops.{PutStops, KeepStops}
-use Rattle.block_files.specs.BlockSets.{holds}
+use Rattle.block_files.specs.BlockSets.{contains}
 use Rattle.index_text.specs.declared.entries.Index.{Index}
 use Rattle.index_text.specs.declared.entries.IndexEntry.{IndexEntry}
 use Rattle.index_text.specs.Rules.{IsIndex}
@@ -31,8 +31,8 @@ use Rattle.element_laws.specs.Phases.{IsOfPlace, UntouchedLaw, OpensAt, OpenedLa
 use Rattle.element_laws.specs.Phases.{IsAdopted, IsGivenUp, AdoptLaw, KeepLaw, ContentsLaw, ContentsDoneLaw, IndexLaw}
 use Rattle.element_laws.specs.Phases.{GivenUpLaw, TakesNamed, TakenLaw, AnewContentsLaw, AnewDoneLaw, AnewIndexLaw}
 use Rattle.element_laws.specs.Phases.{IsHeaded, IsWritten, IsCarried}
-use Rattle.element_laws.proofs.Lists.{In, zip_with, some_is, not_false, not_none}
-use Rattle.element_laws.proofs.Fits.{fit_at, fit-In, fit-spelled}
+use Rattle.element_laws.specs.lemmas.Lists.{In, zip_with, some_is, not_false, not_none}
+use Rattle.element_laws.specs.lemmas.Fits.{fit_at, fit-In, fit-spelled}
 use Rattle.element_store.specs.Plans.{HasAll}
 use Rattle.element_store.specs.Spelled.{ShowsFresh, IsTextOf, IsContentsCase}
 use Rattle.element_store.specs.Rebuilds.{IsGround}
@@ -85,12 +85,14 @@ module _ (shape : Shape) (start now : Image) (set : List Bool) (is : IsShape sha
       → IsAdopted shape start now g text index → IsIndex index
       → AllByRecursion (λ (e : IndexEntry). HasAll set e.blocks) index.entries → IsGround shape start now set (g + 1)
   ready_opened contents contents_done law g text index adopted rules takes = record {
-    during = λ after old c settled keeps. contents shape start now g text index (holds set) after old c is.some adopted
+    during = λ after old c settled keeps. contents shape start now g text index (contains set) after old c is.some
+        adopted
         rules takes settled keeps;
-    done = λ then after c keeps settled. contents_done shape start now then g text index (holds set) after c is.some
+    done = λ then after c keeps settled. contents_done shape start now then g text index (contains set) after c is.some
         adopted rules takes keeps settled;
     index = λ then next new_index view others c keeps fit generation_is written stops.
-        law shape start now then g text index (holds set) next new_index view others c is.some adopted rules takes keeps
+        law shape start now then g text index (contains set) next new_index view others c is.some adopted rules takes
+        keeps
         fit generation_is
         (zip_with (IsWritten shape then) (λ e f. IsWritten shape then e f ⊎ IsCarried shape start index e f)
         new_index.entries view.entries (λ e f i j w. inl w) written) stops;
@@ -98,16 +100,18 @@ module _ (shape : Shape) (start now : Image) (set : List Bool) (is : IsShape sha
 
   -- beside what is held of a corrupt one
   pub ready_given_up : AnewContentsLaw → AnewDoneLaw → AnewIndexLaw → (g : ℕ) → IsGivenUp shape start now
-      → TakesNamed (holds set) shape.place now
+      → TakesNamed (contains set) shape.place now
       → ((copy h : ℕ) (u : List ℕ) → copy < shape.place.copies → Holds now shape.place.first copy h u → h < g)
       → ((text : FitText) → IsSalvageAt shape start text → g ≡ text.0.generation + 1) → IsGround shape start now set g
   ready_given_up contents contents_done law g given_up takes below next_is = record {
-    during = λ after old c settled keeps. contents shape start now (holds set) after old c is.some given_up takes
+    during = λ after old c settled keeps. contents shape start now (contains set) after old c is.some given_up takes
         settled keeps;
-    done = λ then after c keeps settled. contents_done shape start now then (holds set) after c is.some given_up takes
+    done = λ then after c keeps settled. contents_done shape start now then (contains set) after c is.some given_up
+        takes
         keeps settled;
     index = λ then next new_index view others c keeps fit generation_is written stops.
-        law shape start now then (holds set) g next new_index view others c is.some given_up takes below next_is keeps
+        law shape start now then (contains set) g next new_index view others c is.some given_up takes below next_is
+        keeps
         fit generation_is written stops;
   }
 
@@ -122,7 +126,7 @@ module _ (shape : Shape) (start now : Image) (set : List Bool) (is : IsShape sha
   ready_salvaged given_up taken contents contents_done law text clean salvage fit rules takes alone areas =
       let (up, only) = given_up shape start now text clean salvage alone areas in
       ready_given_up contents contents_done law (text.0.generation + 1) up
-      (taken shape.place now text.0.text text.1 (holds set) (λ copy h u lt held. (only copy h u lt held).1)
+      (taken shape.place now text.0.text text.1 (contains set) (λ copy h u lt held. (only copy h u lt held).1)
       (fit-spelled shape text.0.text text.1 fit) rules takes)
       (λ copy h u lt held. let e = (only copy h u lt held).0 in omega (arith, e))
       (λ other is. ap (λ (x : FitText). x.0.generation + 1)
@@ -206,7 +210,7 @@ written_fresh shape then g (f ∷ fs) (e ∷ es) zip = (
 module _ (shape : Shape) (start : Image) (set : List Bool) (g : ℕ) (contents : List Fresh) (old mid : Medium)
     (ready : IsGround shape start old.image set g) (quiet : Quiet old) where
   pub contents_kept : (state : State) (done : Type 0) → (done
-      → Keeps (IsNoArea shape.place.first shape.place.copies) (λ k. holds set k ≡ true) old.image mid.image)
+      → Keeps (IsNoArea shape.place.first shape.place.copies) (λ k. contains set k ≡ true) old.image mid.image)
       → EachCase (IsContentsCase shape.place.first shape.place.copies set old mid done) old mid
       → EachCase (IsKeptCase shape start state) old mid
   contents_kept state done keeps each c past = ⊎_elim
@@ -215,7 +219,7 @@ module _ (shape : Shape) (start : Image) (set : List Bool) (g : ℕ) (contents :
       (each c past)
 
   pub anew_kept : (new : Medium) (text : List ℕ) (index : Index) → IsTextOf shape text index
-      → Keeps (IsNoArea shape.place.first shape.place.copies) (λ k. holds set k ≡ true) old.image mid.image
+      → Keeps (IsNoArea shape.place.first shape.place.copies) (λ k. contains set k ≡ true) old.image mid.image
       → ShowsFresh mid.image shape.place shape.m g contents index.entries
       → EachCase (PutStops shape.place.first shape.place.copies g text mid.image) mid new
       → EachCase (IsKeptCase shape start (fresh_state g (fresh_map contents))) mid new

@@ -6,14 +6,14 @@ use Rattle.disk_model.specs.Image.{Image}
 use Rattle.disk_model.specs.Medium.{Medium, Quiet, Elapses, EachCase}
 use Rattle.disk_model.specs.Frame.{Spares, IsSettledOn, Keeps}
 use Rattle.disk_model.specs.Place.{IsNoArea, IsNoSlot, IsOutside}
-use Rattle.disk_model.proofs.Frames.{settled_before, settled_less}
-use Rattle.disk_model.proofs.Moments.{goes_on, elapses_on}
-use Rattle.disk_model.proofs.Places.{outside_no_slot, outside_no_area}
+use Rattle.disk_model.specs.lemmas.Frames.{settled_before, settled_less}
+use Rattle.disk_model.specs.Laws.{goes_on, elapses_on}
+use Rattle.disk_model.specs.lemmas.Places.{outside_no_slot, outside_no_area}
 use Rattle.guarded_cell.specs.declared.cell.Cell.{Cell}
 use Rattle.guarded_cell.specs.Cells.{CellAt, IsCellOf}
 use Rattle.guarded_cell.specs.Register.{IsAlone}
 use Rattle.guarded_cell.specs.Stops.{PutStops}
-use Rattle.block_files.specs.BlockSets.{holds}
+use Rattle.block_files.specs.BlockSets.{contains}
 use Rattle.index_text.specs.declared.entries.Index.{Index}
 use Rattle.element_state.specs.declared.shapes.Shape.{Shape}
 use Rattle.element_state.specs.Clean.{IsClean}
@@ -34,7 +34,7 @@ module _ (shape : Shape) (set : List Bool) (g : ℕ) (contents : List Fresh) (st
     (mid : Medium) (then : Elapses ready_at mid) where
   -- until the contents are there
   pub contents_anew : (state : State) (done : Type 0) → (done
-      → Keeps (IsNoArea shape.place.first shape.place.copies) (λ k. holds set k ≡ true) ready_at.image mid.image)
+      → Keeps (IsNoArea shape.place.first shape.place.copies) (λ k. contains set k ≡ true) ready_at.image mid.image)
       → EachCase (IsContentsCase shape.place.first shape.place.copies set ready_at mid done) ready_at mid
       → KeptThroughout shape state start mid
   contents_anew state done keeps each quiet clean = goes_on (IsKeptCase shape start.image state) before then
@@ -44,7 +44,7 @@ module _ (shape : Shape) (set : List Bool) (g : ℕ) (contents : List Fresh) (st
   -- until the index is there
   pub index_anew : (new : Medium) (text : List ℕ) (index : Index) (done : Type 0) → Elapses mid new
       → g ≡ next_generation (salvage_of (store_at start.image shape)) → IsTextOf shape text index
-      → Keeps (IsNoArea shape.place.first shape.place.copies) (λ k. holds set k ≡ true) ready_at.image mid.image
+      → Keeps (IsNoArea shape.place.first shape.place.copies) (λ k. contains set k ≡ true) ready_at.image mid.image
       → ShowsFresh mid.image shape.place shape.m g contents index.entries
       → EachCase (IsContentsCase shape.place.first shape.place.copies set ready_at mid done) ready_at mid
       → EachCase (PutStops shape.place.first shape.place.copies g text mid.image) mid new

@@ -11,13 +11,14 @@ use Rattle.std.proofs.lemmas.Slice.Eq.{bytes_eq-Decides}
 use Rattle.per_base.specs.declared.elements.Entry.{Entry}
 use Rattle.per_base.specs.declared.elements.FileInfo.{FileInfo}
 use Rattle.per_base.specs.Names.{name_cmp}
+use Rattle.per_base.specs.declared.elements.Change.{Change}
+use Rattle.per_base.specs.declared.elements.Change.TheVariants.{Put, Remove, Touch}
+use Rattle.per_base.specs.Changes.{changed_name}
 use Rattle.block_files.specs.Parts.{blocks_for}
 use Rattle.element_state.specs.declared.shapes.Shape.{Shape}
 use Rattle.element_state.specs.declared.shapes.View.{View}
-use Rattle.element_state.specs.declared.shapes.Change.{Change}
-use Rattle.element_state.specs.declared.shapes.Change.TheVariants.{Put, Remove, Touch}
 use Rattle.element_state.specs.Changes.{insert_item, without_item, entry_name, touched, after_change, after_changes}
-use Rattle.element_state.specs.Conditions.{AreChanges, changed_name, size_of}
+use Rattle.element_state.specs.Conditions.{AreChanges, size_of}
 use Rattle.element_state.specs.States.{fresh_entry, fresh_element}
 use Rattle.element_store.specs.Changing.{change_blocks, blocks_of_changes}
 use Rattle.element_store.proofs.InOrder.{eq_names}

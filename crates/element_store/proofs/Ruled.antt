@@ -14,7 +14,7 @@ use Rattle.per_base.specs.declared.elements.StoreKind.{StoreKind}
 use Rattle.per_base.specs.declared.elements.StoreKind.TheVariants.{Keys, Files}
 use Rattle.per_base.specs.Names.{name_cmp}
 use Rattle.block_files.specs.Parts.{blocks_for}
-use Rattle.block_files.specs.BlockSets.{holds, AreDistinct}
+use Rattle.block_files.specs.BlockSets.{contains, AreDistinct}
 use Rattle.index_text.specs.declared.entries.IndexEntry.{IndexEntry}
 use Rattle.index_text.specs.Rules.{IsEntry, IsIndex, blocks_of, names_of, max_len, has_info}
 use Rattle.index_text.specs.Sizes.{size_of, area_blocks, fits}
@@ -84,18 +84,18 @@ list_all_from p [] each = refl
 list_all_from p (x ∷ xs) each = and_from (p x) (list_all p xs) (each 0 (omega arith))
     (list_all_from p xs (λ i lt. each (suc i) (omega (arith, lt))))
 
-has_below : (set : List Bool) (b : ℕ) → holds set b ≡ true → b < length set
-has_below set b is = ⊎_elim (λ lt. lt) (λ past. absurd (both_ways (holds set b) is (get_or_past set b false past)))
+has_below : (set : List Bool) (b : ℕ) → contains set b ≡ true → b < length set
+has_below set b is = ⊎_elim (λ lt. lt) (λ past. absurd (both_ways (contains set b) is (get_or_past set b false past)))
     (cases_lt b (length set))
 
 pub has_joined : (set : List Bool) (es : List IndexEntry) → AllByRecursion (λ (e : IndexEntry). HasAll set e.blocks) es
     → HasAll set (blocks_of es)
 has_joined set [] all i lt = absurd (omega (arith, lt))
 has_joined set (e ∷ es) all i lt = ⊎_elim
-    (λ inside. ap (holds set) (get_or_append_left e.blocks (blocks_of es) 0 i inside) ∙ all.0 i inside)
+    (λ inside. ap (contains set) (get_or_append_left e.blocks (blocks_of es) 0 i inside) ∙ all.0 i inside)
     (λ out.
     let long = length-append e.blocks (blocks_of es) in
-    ap (holds set) (get_or-append_right e.blocks (blocks_of es) (length e.blocks) i 0 refl out)
+    ap (contains set) (get_or-append_right e.blocks (blocks_of es) (length e.blocks) i 0 refl out)
     ∙ has_joined set es all.1 (i - length e.blocks) (omega (arith, lt, long, out)))
     (cases_lt i (length e.blocks))
 

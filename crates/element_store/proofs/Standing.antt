@@ -11,6 +11,7 @@ use Rattle.per_base.specs.declared.elements.StoreKind.{StoreKind}
 use Rattle.per_base.specs.declared.elements.StoreKind.TheVariants.{Keys, Files}
 use Rattle.per_base.specs.declared.elements.FileInfo.{FileInfo}
 use Rattle.per_base.specs.declared.elements.Entry.{Entry}
+use Rattle.per_base.specs.declared.elements.Change.{Change}
 use Rattle.block_files.specs.BlockSets.{AreDistinct}
 use Rattle.index_text.specs.declared.entries.Index.{Index}
 use Rattle.index_text.specs.declared.entries.IndexEntry.{IndexEntry}
@@ -20,7 +21,6 @@ use Rattle.index_text.specs.Sizes.{Fits, fits, size_of, area_blocks}
 use Rattle.index_text.specs.Spelling.{kind_code, index_text}
 use Rattle.element_state.specs.declared.shapes.Shape.{Shape}
 use Rattle.element_state.specs.declared.shapes.View.{View}
-use Rattle.element_state.specs.declared.shapes.Change.{Change}
 use Rattle.element_state.specs.Changes.{after_changes}
 use Rattle.element_state.specs.Chosen.{IsReadBy}
 use Rattle.element_state.specs.Conditions.{AreChanges, IsChange}
@@ -42,7 +42,7 @@ use Rattle.element_store.proofs.TakenBlocks.{taken_all, taken_room}
 use Rattle.element_store.proofs.Room.{changes_fit}
 use Rattle.guarded_cell.specs.Cells.{generation_of}
 use Rattle.element_store.specs.Committing.{IsPrepared}
-use Rattle.index_text.proofs.Lengths.{text_is_short}
+use Rattle.index_text.specs.lemmas.Lengths.{text_is_short}
 use Rattle.hash_guard.specs.SealedText.{max_body}
 use Rattle.block_files.specs.BlockSets.{free_of}
 use Rattle.element_store.proofs.Changed.{Pair}

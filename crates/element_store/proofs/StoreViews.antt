@@ -7,7 +7,7 @@ use Rattle.element_state.specs.declared.shapes.Shape.{Shape}
 use Rattle.element_state.specs.Views.{lacks_one}
 use Rattle.element_state.specs.States.{lacking_by}
 use Rattle.element_state.specs.Read.{IsView}
-use Rattle.element_state.proofs.ViewsRead.{AreNumbers, no_numbers, numbers_passing, view_read}
+use Rattle.element_state.specs.lemmas.ViewsRead.{AreNumbers, no_numbers, numbers_passing, view_read}
 use Rattle.element_store.specs.declared.store.Store.{Store}
 use Rattle.element_store.specs.Stores.{IsStore, entries_of, view_in}
 

@@ -12,7 +12,7 @@ use Rattle.std.proofs.lemmas.List.Sums.{sum_by-cons, AllPass-from_list_all}
 use Rattle.std.proofs.lemmas.List.Folds.{list_any_at, length-flat_map-take}
 use Rattle.per_base.specs.declared.elements.StoreKind.{StoreKind}
 use Rattle.disk_model.specs.Orders.{named_in}
-use Rattle.block_files.specs.BlockSets.{holds, free_of, IsApart, IsAdded}
+use Rattle.block_files.specs.BlockSets.{contains, free_of, IsApart, IsAdded}
 use Rattle.index_text.specs.declared.entries.IndexEntry.{IndexEntry}
 use Rattle.index_text.specs.declared.entries.Index.{Index}
 use Rattle.index_text.specs.Rules.{blocks_of}
@@ -46,7 +46,7 @@ unnamed (x ∷ xs) b apart =
     let here = ne_eqb x b (λ same. apart 0 (omega arith) (sym same)) in
     ap (λ (t : Bool). t || named_in xs b) here ∙ unnamed xs b (λ i lt. apart (suc i) (omega (arith, lt)))
 
-none_held : (n b : ℕ) → holds (replicate n false) b ≡ false
+none_held : (n b : ℕ) → contains (replicate n false) b ≡ false
 none_held zero b = refl
 none_held (suc n) zero = refl
 none_held (suc n) (suc b) = none_held n b
@@ -63,8 +63,9 @@ added_both xs ys old now new one two =
     let long = length-append xs ys in
     record {
       added = λ i lt. ⊎_elim
-          (λ inside. ap (holds new) (get_or_append_left xs ys 0 i inside) ∙ stays (get_or xs i 0) (one.added i inside))
-          (λ out. ap (holds new) (get_or-append_right xs ys (length xs) i 0 refl out)
+          (λ inside. ap (contains new) (get_or_append_left xs ys 0 i inside) ∙ stays (get_or xs i 0)
+          (one.added i inside))
+          (λ out. ap (contains new) (get_or-append_right xs ys (length xs) i 0 refl out)
           ∙ two.added (i - length xs) (omega (arith, lt, long, out)))
           (cases_lt i (length xs));
       kept = λ b apart.
@@ -79,9 +80,9 @@ added_both xs ys old now new one two =
         let e : length xs + i - length xs ≡ i = omega arith in
         get_or-append_right xs ys (length xs) (length xs + i) 0 refl (omega arith) ∙ ap (λ k. get_or ys k 0) e
 
-    stays : (b : ℕ) → holds now b ≡ true → holds new b ≡ true
+    stays : (b : ℕ) → contains now b ≡ true → contains new b ≡ true
     stays b is = ⊎_elim
-        (λ found. let (i, lt, at) = found in subst (λ (k : ℕ). holds new k ≡ true) at (two.added i lt))
+        (λ found. let (i, lt, at) = found in subst (λ (k : ℕ). contains new k ≡ true) at (two.added i lt))
         (λ apart. two.kept b apart ∙ is)
         (cases_apart ys b)
 
@@ -114,7 +115,7 @@ pub taken_by : (capacity : ℕ) (es : List IndexEntry) (set : List Bool)
 taken_by capacity es set added = record {
   capacity = added.capacity ∙ length-replicate capacity false;
   exact = λ b. ⊎_elim
-      (λ found. let (i, lt, at) = found in subst (λ (k : ℕ). holds set k ≡ true) at (added.added i lt)
+      (λ found. let (i, lt, at) = found in subst (λ (k : ℕ). contains set k ≡ true) at (added.added i lt)
       ∙ sym (named_at (blocks_of es) b i lt at))
       (λ apart. added.kept b apart ∙ none_held capacity b ∙ sym (unnamed (blocks_of es) b apart))
       (cases_apart (blocks_of es) b);

@@ -13,7 +13,7 @@ use Rattle.index_text.specs.Rules.{IsEntry, IsIndex, blocks_of}
 use Rattle.index_text.specs.Sizes.{Fits, size_of, area_blocks}
 use Rattle.index_text.specs.Spelling.{kind_code}
 use Rattle.per_base.specs.declared.elements.StoreKind.{StoreKind}
-use Rattle.element_laws.proofs.Copies.{Contains_named}
+use Rattle.element_laws.specs.lemmas.Copies.{Contains_named}
 use Rattle.element_store.specs.Plans.{HasAll}
 use Rattle.element_store.specs.Stores.{AreTaken}
 

@@ -11,14 +11,14 @@ use Rattle.std.proofs.lemmas.List.Folds.{list_any-append}
 use Rattle.std.proofs.lemmas.Map.Keys.{apart_from_distinct}
 use Rattle.std.proofs.lemmas.Slice.Eq.{bytes_eq-Decides}
 use Rattle.disk_model.specs.Orders.{named_in}
-use Rattle.block_files.specs.BlockSets.{holds, IsAdded}
+use Rattle.block_files.specs.BlockSets.{contains, IsAdded}
 use Rattle.index_text.specs.declared.entries.IndexEntry.{IndexEntry}
 use Rattle.index_text.specs.Rules.{blocks_of}
 use Rattle.per_base.specs.Names.{name_cmp}
 use Rattle.per_base.specs.declared.elements.FileInfo.{FileInfo}
-use Rattle.element_state.specs.declared.shapes.Change.{Change}
+use Rattle.per_base.specs.declared.elements.Change.{Change}
+use Rattle.per_base.specs.Changes.{changed_name}
 use Rattle.element_state.specs.Changes.{item_at, insert_item, without_item}
-use Rattle.element_state.specs.Conditions.{changed_name}
 use Rattle.element_store.specs.Named.{NamesAscend}
 use Rattle.element_store.specs.Plans.{HasAll}
 use Rattle.element_store.specs.Changing.{named_by, entry_of_name, AreOfOthers, KeepsOthers, IsGrownBy, IsTraced}
@@ -138,9 +138,9 @@ insert_block e (x ∷ es) b has = elim (cases_Bool (is_lt (name_cmp x.name e.nam
     last false = refl
 
 pub named_held : (set : List Bool) (blocks : List ℕ) (b : ℕ) → HasAll set blocks → named_in blocks b ≡ true
-    → holds set b ≡ true
+    → contains set b ≡ true
 named_held set blocks b all is = ⊎_elim
-    (λ found. let (i, lt, at) = found in subst (λ (k : ℕ). holds set k ≡ true) at (all i lt))
+    (λ found. let (i, lt, at) = found in subst (λ (k : ℕ). contains set k ≡ true) at (all i lt))
     (λ apart. absurd (let e : true ≡ false = sym is ∙ unnamed blocks b apart in cc))
     (cases_apart blocks b)
 
@@ -180,7 +180,8 @@ traced_more standing es ns start old new done c apart ascend taken traced others
     all_last_of : (n : List ℕ) → AreOfOthers (done ++ c ∷ []) n → changed_name c ≢ n
     all_last_of n none = all_last (λ (x : Change). changed_name x ≢ n) done c none
 
-    from_old : (b : ℕ) → named_in (blocks_of es) b ≡ true → (holds start b ≡ true) ⊎ (named_in (blocks_of ns) b ≡ true)
+    from_old : (b : ℕ) → named_in (blocks_of es) b ≡ true → (contains start b ≡ true) ⊎
+        (named_in (blocks_of ns) b ≡ true)
     from_old b n =
         let (e, there, has) = block_entry es b n in
         let found = there_found es e ascend there in

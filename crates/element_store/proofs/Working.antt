@@ -12,8 +12,8 @@ use Rattle.disk_model.specs.Medium.{Medium, IsLawful}
 use Rattle.disk_model.specs.Frame.{Keeps}
 use Rattle.block_files.specs.Areas.{IsFull, HoldsShared}
 use Rattle.block_files.specs.Writes.{Wrote, Tore}
-use Rattle.block_files.proofs.Stretches.{wrote_none, wrote_on, wrote_tore, wrote_less, tore_less}
-use Rattle.block_files.proofs.AsideLaws.{joined_kept, within_grown}
+use Rattle.block_files.specs.lemmas.Stretches.{wrote_none, wrote_on, wrote_tore, wrote_less, tore_less}
+use Rattle.block_files.specs.lemmas.AsideLaws.{joined_kept, within_grown}
 use Rattle.element_store.specs.declared.jobs.Job.{Job}
 use Rattle.element_store.specs.Jobs.{IsLeftBy, IsLeftByAll, AreApart, HasShared, IsDone, job_cost, jobs_cost}
 

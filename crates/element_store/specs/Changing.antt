@@ -6,16 +6,16 @@ use Rattle.per_base.specs.declared.elements.StoreKind.{StoreKind}
 use Rattle.per_base.specs.declared.elements.FileInfo.{FileInfo}
 use Rattle.per_base.specs.declared.elements.Content.TheVariants.{Good}
 use Rattle.per_base.specs.declared.elements.Entry.{Entry}
+use Rattle.per_base.specs.declared.elements.Change.{Change}
+use Rattle.per_base.specs.declared.elements.Change.TheVariants.{Put, Remove, Touch}
+use Rattle.per_base.specs.Changes.{changed_name}
 use Rattle.disk_model.specs.Orders.{named_in}
 use Rattle.block_files.specs.Parts.{blocks_for, changed}
-use Rattle.block_files.specs.BlockSets.{holds}
+use Rattle.block_files.specs.BlockSets.{contains}
 use Rattle.index_text.specs.declared.entries.IndexEntry.{IndexEntry}
 use Rattle.index_text.specs.Rules.{IsEntry, blocks_of}
-use Rattle.element_state.specs.declared.shapes.Change.{Change}
-use Rattle.element_state.specs.declared.shapes.Change.TheVariants.{Put, Remove, Touch}
 use Rattle.element_state.specs.Changes.{item_at}
 use Rattle.element_state.specs.Chosen.{HasLength}
-use Rattle.element_state.specs.Conditions.{changed_name}
 use Rattle.element_state.specs.Written.{cost_beside, content_at}
 use Rattle.element_store.specs.declared.jobs.Job.{Job}
 use Rattle.element_store.specs.Plans.{HasAll, KeepsBlocks, AreDisjoint, AreLaidApart, ArePlaced}
@@ -94,8 +94,8 @@ KeepsOthers changes old new = (name : List ℕ) → AreOfOthers changes name
 
 -- what the set has now and did not have then is blocks of these entries
 abbrev pub IsGrownBy : List IndexEntry → (then now : List Bool) → Type 0
-IsGrownBy entries then now = (b : ℕ) → holds now b ≡ true
-    → (holds then b ≡ true) ⊎ (named_in (blocks_of entries) b ≡ true)
+IsGrownBy entries then now = (b : ℕ) → contains now b ≡ true
+    → (contains then b ≡ true) ⊎ (named_in (blocks_of entries) b ≡ true)
 
 -- what comes of standing entries and of the set of their blocks by changes: what no change names stays, and the set has
 -- grown by the next entries

@@ -3,6 +3,7 @@ use Rattle.std.specs.Prelude.{◌≡◌, ℕ, ◌*◌, ◌+◌, ◌≤◌, List,
 use Rattle.std.specs.List.{All}
 use Rattle.per_base.specs.declared.elements.StoreKind.{StoreKind}
 use Rattle.per_base.specs.declared.elements.Entry.{Entry}
+use Rattle.per_base.specs.declared.elements.Change.{Change}
 use Rattle.disk_model.specs.Medium.{Medium, Quiet, EachCase, Elapses}
 use Rattle.disk_model.specs.Frame.{Keeps, Spares}
 use Rattle.disk_model.specs.Place.{IsNoArea}
@@ -10,9 +11,6 @@ use Rattle.index_text.specs.declared.entries.Index.{Index}
 use Rattle.block_files.specs.Parts.{blocks_for}
 use Rattle.index_text.specs.Sizes.{area_blocks, info_length}
 use Rattle.index_text.specs.Spelling.{index_text}
-use Rattle.element_state.specs.declared.shapes.Change.{Change}
-use Rattle.element_store.specs.declared.committing.CommitFault.{CommitFault}
-use Rattle.element_store.specs.declared.committing.CommitFault.TheVariants.{Device, OutOfMemory}
 use Rattle.element_store.specs.declared.jobs.Job.{Job}
 use Rattle.element_store.specs.declared.store.Store.{Store}
 use Rattle.element_store.specs.Jobs.{IsDone, IsLeftByAll, IsJobsCase, jobs_cost}
@@ -31,16 +29,6 @@ listed_length kind f = 45 + info_length kind + length f.name + 4 * blocks_for f.
 
 abbrev pub index_length : StoreKind → List Entry → ℕ
 index_length kind entries = 4 + sum_by (listed_length kind) entries
-
--- a want of memory hands the storage back, and then this holds
-abbrev pub HandsBack : Store → CommitFault → Type 0 → Type 0
-HandsBack store Device P = Unit {0}
-HandsBack store (OutOfMemory same) P = (same ≡ store) × P
-
--- a failure of the device
-abbrev pub IsDeviceFault : CommitFault → Type 0
-IsDeviceFault Device = Unit {0}
-IsDeviceFault (OutOfMemory store) = ⊥
 
 -- The next index, the jobs that write its contents, and the set of its blocks and those of the standing index: all in
 -- memory.

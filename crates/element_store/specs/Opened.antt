@@ -3,6 +3,8 @@ use Rattle.std.specs.Prelude.{◌≡◌, map, true, Some, find}
 use Rattle.std.specs.List.{AllZip}
 use Rattle.disk_model.specs.Image.{Image}
 use Rattle.guarded_cell.specs.declared.looking.Seen.{Seen}
+use Rattle.guarded_cell.specs.Seens.{IsSeenOn}
+use Rattle.guarded_cell.specs.Slots.{IsSlotsOf}
 use Rattle.index_text.specs.declared.entries.Index.{Index}
 use Rattle.index_text.specs.Sizes.{area_blocks}
 use Rattle.element_state.specs.declared.shapes.Shape.{Shape}
@@ -27,11 +29,13 @@ pub record IsOpeningPlan (shape : Shape) (r : OpeningPlan) : Type 0 where
   pub reports : r.reports.items ≡ reports (λ bytes. true) shape r.before
   pub taken : AreTaken (area_blocks shape.allowed) r.index.entries r.used
 
--- the storage opens at the text, and at its view
+-- the storage opens at the text, which just its copies hold, and at its view, and the slots are those of a look
 pub record IsFoundOn (image : Image) (shape : Shape) (r : OpeningPlan) : Type 0 where
   pub first : find (qualifies image shape) (fit_texts shape image) ≡ Some (r.seen, r.index)
   pub view : r.before ≡ view_of image shape (r.seen, r.index)
   pub opens : opened_of (store_at image shape) ≡ Some r.before
+  pub copies : IsSeenOn image shape.place.first shape.place.copies r.seen
+  pub slots : IsSlotsOf image shape.place.first shape.place.copies r.slots
 
 -- the storage opens at a text that spells this index
 pub record OpensBy (image : Image) (shape : Shape) (index : Index) : Type 0 where

@@ -8,7 +8,7 @@ use Rattle.per_base.specs.Names.{IsName}
 use Rattle.disk_model.specs.declared.place.Place.{Place}
 use Rattle.disk_model.specs.Image.{Image}
 use Rattle.block_files.specs.Parts.{blocks_for, is_changed}
-use Rattle.block_files.specs.BlockSets.{holds, free_of, AreDistinct}
+use Rattle.block_files.specs.BlockSets.{contains, free_of, AreDistinct}
 use Rattle.index_text.specs.declared.entries.IndexEntry.{IndexEntry}
 use Rattle.element_state.specs.Views.{entry_view}
 use Rattle.element_state.specs.States.{fresh_entry, fresh_element}
@@ -17,11 +17,11 @@ use Rattle.element_store.specs.Jobs.{IsRoomy, AreApart, IsDone, jobs_cost}
 
 -- the set has all of these blocks
 abbrev pub HasAll : List Bool → List ℕ → Type 0
-HasAll set blocks = (i : ℕ) → i < length blocks → holds set (slice_index blocks i) ≡ true
+HasAll set blocks = (i : ℕ) → i < length blocks → contains set (slice_index blocks i) ≡ true
 
 -- the set keeps what it has
 abbrev pub KeepsBlocks : (old new : List Bool) → Type 0
-KeepsBlocks old new = (b : ℕ) → holds old b ≡ true → holds new b ≡ true
+KeepsBlocks old new = (b : ℕ) → contains old b ≡ true → contains new b ≡ true
 
 abbrev pub AreDisjoint : List ℕ → List ℕ → Type 0
 AreDisjoint xs ys = (i j : ℕ) → i < length xs → j < length ys → slice_index xs i ≢ slice_index ys j
@@ -37,9 +37,9 @@ AreLaidApart (e ∷ entries) = AreDistinct e.blocks × AllByRecursion (λ (f : I
 pub record IsPlaced (start now : List Bool) (job : Job) : Type 0 where
   pub taken : HasAll now job.blocks
   pub written : (i : ℕ) → i < length job.blocks → is_changed job.bytes.now job.was.now i ≡ true
-      → holds start (slice_index job.blocks i) ≡ false
+      → contains start (slice_index job.blocks i) ≡ false
   pub shared : (i : ℕ) → i < length job.blocks → is_changed job.bytes.now job.was.now i ≡ false
-      → holds start (slice_index job.blocks i) ≡ true
+      → contains start (slice_index job.blocks i) ≡ true
 
 pub record ArePlaced (start now : List Bool) (jobs : List Job) : Type 0 where
   pub roomy : All IsRoomy jobs

@@ -7,7 +7,7 @@ use Rattle.disk_model.specs.Frame.{Keeps, KeepsCase}
 use Rattle.disk_model.specs.Place.{IsNoArea}
 use Rattle.guarded_cell.specs.Register.{IsAlone, IsKeptAlone}
 use Rattle.guarded_cell.specs.Stops.{PutStops, KeepStops}
-use Rattle.block_files.specs.BlockSets.{holds}
+use Rattle.block_files.specs.BlockSets.{contains}
 use Rattle.index_text.specs.declared.entries.Index.{Index}
 use Rattle.element_state.specs.declared.shapes.Shape.{Shape}
 use Rattle.element_state.specs.declared.shapes.View.{View}
@@ -22,15 +22,15 @@ use Rattle.element_laws.specs.Phases.{IsWritten}
 pub record IsGround (shape : Shape) (start now : Image) (set : List Bool) (generation : ℕ) : Type 0 where
   -- while contents are written
   pub during : (after : State) (old c : Case) → IsSettledAt now old
-      → KeepsCase (IsNoArea shape.place.first shape.place.copies) (λ k. holds set k ≡ true) old c
+      → KeepsCase (IsNoArea shape.place.first shape.place.copies) (λ k. contains set k ≡ true) old c
       → IsKeptCase shape start after c
   -- after they were made durable
   pub done : (then : Image) (after : State) (c : Case)
-      → Keeps (IsNoArea shape.place.first shape.place.copies) (λ k. holds set k ≡ true) now then → IsSettledAt then c
+      → Keeps (IsNoArea shape.place.first shape.place.copies) (λ k. contains set k ≡ true) now then → IsSettledAt then c
       → IsKeptCase shape start after c
   -- while their index is written
   pub index : (then : Image) (next : List ℕ) (new_index : Index) (view : View) (others : List View) (c : Case)
-      → Keeps (IsNoArea shape.place.first shape.place.copies) (λ k. holds set k ≡ true) now then
+      → Keeps (IsNoArea shape.place.first shape.place.copies) (λ k. contains set k ≡ true) now then
       → fit_index shape next ≡ Some new_index → view.generation ≡ generation
       → AllZip (IsWritten shape then) new_index.entries view.entries
       → PutStops shape.place.first shape.place.copies generation next then c
@@ -42,9 +42,9 @@ IsLeftWith true first copies generation text old new = IsAlone new first copies 
 IsLeftWith false first copies generation text old new = IsKeptAlone first copies generation text old new
 
 -- a stop while the copies are brought to that
-abbrev pub SettleStops : (opens : Bool) → (first copies generation : ℕ) → List ℕ → Image → Case → Type 0
-SettleStops true first copies generation text start c = PutStops first copies generation text start c
-SettleStops false first copies generation text start c = KeepStops first copies generation text start c
+abbrev pub OneTextStops : (opens : Bool) → (first copies generation : ℕ) → List ℕ → Image → Case → Type 0
+OneTextStops true first copies generation text start c = PutStops first copies generation text start c
+OneTextStops false first copies generation text start c = KeepStops first copies generation text start c
 
 -- a storage in use at a view, by an index of format 2
 pub record IsMadeAnew (shape : Shape) (image : Image) (v : View) : Type 0 where

@@ -9,7 +9,7 @@ use Rattle.disk_model.specs.Case.{Case, IsSettledAt}
 use Rattle.disk_model.specs.Medium.{Medium}
 use Rattle.disk_model.specs.Frame.{KeepsCase}
 use Rattle.disk_model.specs.Place.{IsNoArea}
-use Rattle.block_files.specs.BlockSets.{holds}
+use Rattle.block_files.specs.BlockSets.{contains}
 use Rattle.index_text.specs.declared.entries.Index.{Index}
 use Rattle.index_text.specs.declared.entries.IndexEntry.{IndexEntry}
 use Rattle.index_text.specs.Rules.{IsIndex}
@@ -40,5 +40,5 @@ ShowsFresh image place m generation contents entries =
 -- a case while contents are written outside the blocks of a set, or one after they were made durable
 abbrev pub IsContentsCase : (first copies : ℕ) → List Bool → (old new : Medium) → (done : Type 0) → Case → Type 0
 IsContentsCase first copies set old new done c =
-    ((d : Case) × old.now d × KeepsCase (IsNoArea first copies) (λ k. holds set k ≡ true) d c)
+    ((d : Case) × old.now d × KeepsCase (IsNoArea first copies) (λ k. contains set k ≡ true) d c)
     ⊎ (done × IsSettledAt new.image c)

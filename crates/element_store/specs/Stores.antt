@@ -4,7 +4,7 @@ use Rattle.std.specs.List.{AllZip}
 use Rattle.per_base.specs.declared.elements.Entry.{Entry}
 use Rattle.disk_model.specs.Image.{Image}
 use Rattle.disk_model.specs.Orders.{named_in}
-use Rattle.block_files.specs.BlockSets.{holds, free_of}
+use Rattle.block_files.specs.BlockSets.{contains, free_of}
 use Rattle.guarded_cell.specs.Cells.{place_of, generation_of}
 use Rattle.index_text.specs.declared.entries.IndexEntry.{IndexEntry}
 use Rattle.index_text.specs.Rules.{blocks_of}
@@ -37,7 +37,7 @@ view_in store = whole_view store.shape (generation_of store.cell) store.entries.
 -- a set of so many blocks has exactly those of these entries, so all others are free
 pub record AreTaken (blocks : ℕ) (entries : List IndexEntry) (set : List Bool) : Type 0 where
   pub capacity : length set ≡ blocks
-  pub exact : (b : ℕ) → holds set b ≡ named_in (blocks_of entries) b
+  pub exact : (b : ℕ) → contains set b ≡ named_in (blocks_of entries) b
   pub free : blocks ≤ free_of set + length (blocks_of entries)
 
 -- what it keeps in memory, whatever the disk tells: a register at its place, and an index that fits, with its elements

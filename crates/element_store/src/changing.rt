@@ -6,11 +6,12 @@ ghost use Rattle.std.specs.Str.{bytes_eq};
 ghost use Rattle.std.specs.Vec.{vec_len, vec_capacity};
 ghost use Rattle.block_files.specs.BlockSets.{free_of};
 ghost use Rattle.per_base.specs.declared.elements.Entry.{Entry};
+ghost use Rattle.per_base.specs.declared.elements.Change.TheVariants.{Put};
+ghost use Rattle.per_base.specs.Changes.{changed_name};
 ghost use Rattle.element_state.specs.Changes.{after_change, after_changes};
 ghost use Rattle.index_text.specs.Contents.{IsFresh};
-ghost use Rattle.element_state.specs.Conditions.{IsChange, changed_name};
+ghost use Rattle.element_state.specs.Conditions.{IsChange};
 ghost use Rattle.element_state.specs.Written.{change_cost};
-ghost use Rattle.element_state.specs.declared.shapes.Change.TheVariants.{Put};
 ghost use Rattle.element_store.specs.Jobs.{jobs_cost};
 ghost use Rattle.element_store.specs.Named.{NamesAscend};
 ghost use Rattle.element_store.specs.Changing.{named_by, IsSeenAs, change_blocks, blocks_of_changes, IsStanding};
@@ -20,9 +21,8 @@ use crate::jobs::Job;
 use crate::named::{place_of, put_in, take_out};
 use crate::planning::{Plan, entry_of};
 use block_files::{BlockSet, reserve_shared};
-use element_state::Change;
 use index_text::IndexEntry;
-use per_base::{Content, Entry, FileInfo, Fresh, Name, StoreKind};
+use per_base::{Change, Content, Entry, FileInfo, Fresh, Name, StoreKind};
 use std::alloc::{AllocError, Global};
 
 /// What stands before the changes, and the generation that they make.

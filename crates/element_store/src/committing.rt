@@ -28,20 +28,11 @@ use crate::taking::release_replaced;
 use block_files::BlockSet;
 use disk_model::Disk;
 use element_laws::{contents_keep, index_keeps, untouched_is_kept, use_is_adopted};
-use element_state::{Change, StoreError};
+use element_state::StoreError;
 use guarded_cell::Cell;
 use index_text::Index;
-use per_base::{Bytes, Entry, FileInfo, Name, Numbers};
+use per_base::{Bytes, Change, Entry, Fault, FileInfo, Name, Numbers};
 use std::alloc::{AllocError, Global};
-
-/// Why a commit gave up.
-#[derive(Debug, Drop)]
-pub enum CommitFault {
-    /// The disk failed, and the storage is closed.
-    Device,
-    /// Want of memory hands the storage back, and nothing was written.
-    OutOfMemory(Store),
-}
 
 /// What the second half of a commit needs, which takes no more memory.
 #[derive(Drop)]
@@ -66,7 +57,8 @@ impl Store {
     ghost use Rattle.element_state.specs.Written.{commit_cost, IsWithin};
     ghost use Rattle.index_text.specs.Spelling.{index_text};
     ghost use Rattle.element_store.specs.Stores.{entries_of};
-    ghost use Rattle.element_store.specs.Committing.{HandsBack, IsDeviceFault, index_in, index_length};
+    ghost use Rattle.element_store.specs.Committing.{index_in, index_length};
+    ghost use Rattle.per_base.specs.Faults.{HandsBack, IsDeviceFault};
 
     /// Makes the changes all at once: a stop at any moment leaves the storage of before or that of after. Only what
     /// changed is written, and of a file that could be read only the blocks that differ.
@@ -75,7 +67,7 @@ impl Store {
     ///
     /// `OutOfMemory` hands the storage back before any call of the disk. `Device` closes it.
     #[tactic(none)]
-    pub fn commit<D: Disk>(self, disk: &mut D, changes: Vec<Change>) -> Result<Store, CommitFault>
+    pub fn commit<D: Disk>(self, disk: &mut D, changes: Vec<Change>) -> Result<Store, Fault<Store>>
         requires used { IsUsed D.told (D.medium disk.old).image self }
         requires changes { AreChanges (shape_of self) (view_in self) changes.items }
 
@@ -126,9 +118,9 @@ impl Store {
         index_keeps();
         let ready = match self.write_contents(disk, &changes) {
             Ok(ready) => ready,
-            Err(StoreError::OutOfMemory) => return Err(CommitFault::OutOfMemory(self)),
-            Err(StoreError::Device) => return Err(CommitFault::Device),
-            Err(StoreError::Corrupt) => return Err(CommitFault::Device),
+            Err(StoreError::OutOfMemory) => return Err(Fault::OutOfMemory(self)),
+            Err(StoreError::Device) => return Err(Fault::Device),
+            Err(StoreError::Corrupt) => return Err(Fault::Device),
         };
         let Ready {
             index,
@@ -146,7 +138,7 @@ impl Store {
             used: _,
         } = self;
         let Ok(cell) = cell.write_in(disk, text.as_slice(), &mut room) else {
-            return Err(CommitFault::Device);
+            return Err(Fault::Device);
         };
         release_replaced(
             &mut used,
@@ -175,7 +167,7 @@ impl Store {
             changes.now }
 
         ensures memory { IsErrOf result StoreError.OutOfMemory → disk.new ≡ disk.old }
-        ensures never_corrupt { IsErrOf result StoreError.Corrupt → ⊥ }
+        ensures never_corrupt { ¬ (IsErrOf result StoreError.Corrupt) }
         ensures cause { IsErrOf result StoreError.Device → Rose (D.medium disk.old).faults (D.medium disk.new).faults }
         ensures passes { OnOk result ((D.medium disk.new).faults ≡ (D.medium disk.old).faults) }
         ensures elsewhere { IsTrue D.told → Spares (IsOutside (shape_of self.now).place.first

@@ -53,7 +53,7 @@ pub fn create<D: Disk>(
     ensures clean { IsTrue D.told → OnOk result (IsClean shape (D.medium disk.new).image) }
     ensures quiet { OnOk result (Quiet (D.medium disk.new)) }
 
-    ensures never_corrupt { IsErrOf result StoreError.Corrupt → ⊥ }
+    ensures never_corrupt { ¬ (IsErrOf result StoreError.Corrupt) }
     ensures cause { IsErrOf result StoreError.Device → Rose (D.medium disk.old).faults (D.medium disk.new).faults }
     ensures passes { OnOk result ((D.medium disk.new).faults ≡ (D.medium disk.old).faults) }
     ensures fed { IsErrOf result StoreError.OutOfMemory → (D.medium disk.new).faults ≡ (D.medium disk.old).faults }

@@ -35,9 +35,8 @@ mod store;
 mod taking;
 mod writing;
 
-pub use committing::CommitFault;
 pub use creating::create;
-pub use element_state::{Change, Shape, StoreError, View, failed_report, inspect, salvage};
+pub use element_state::{Shape, StoreError, View, failed_report, inspect, salvage};
 pub use laws::use_stays;
 pub use opening::{OpenedStore, open_store};
 pub use rebuilding::rebuild;

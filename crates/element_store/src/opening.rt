@@ -28,7 +28,7 @@ use element_laws::{
     adopting_keeps, mending_keeps, places_are_clean, untouched_is_kept, use_is_adopted,
 };
 use element_state::{Found, Shape, StoreError, View, survey};
-use guarded_cell::{Seen, adopt};
+use guarded_cell::{Seen, Slots, adopt_seen};
 use index_text::Index;
 use per_base::{Entry, Report};
 use std::alloc::Global;
@@ -112,19 +112,14 @@ pub fn open_store<D: Disk>(
     places_are_clean();
     let OpeningPlan {
         seen,
+        slots,
         index,
         before,
         entries,
         reports,
         used,
     } = prepare(alloc, disk, &shape)?;
-    let cell = adopt(
-        alloc,
-        disk,
-        shape.place,
-        seen.generation,
-        seen.text.as_slice(),
-    )?;
+    let cell = adopt_seen(alloc, disk, shape.place, &seen, slots)?;
     mend_durably(disk, &shape, &index, before.entries.as_slice())?;
     Ok(OpenedStore {
         store: Store::new(alloc, shape, cell, index, entries, used),
@@ -137,6 +132,7 @@ pub fn open_store<D: Disk>(
 #[derive(Drop)]
 struct OpeningPlan {
     seen: Seen,
+    slots: Slots,
     index: Index,
     before: View,
     /// The elements once they are mended.
@@ -171,6 +167,7 @@ fn prepare<D: Disk>(alloc: Global, disk: &mut D, shape: &Shape) -> Result<Openin
             seen,
             index,
             view,
+            slots,
         },
     ) = survey(alloc, disk, shape)?
     else {
@@ -181,6 +178,7 @@ fn prepare<D: Disk>(alloc: Global, disk: &mut D, shape: &Shape) -> Result<Openin
     let used = blocks_taken_by(alloc, blocks_in_area(shape), index.entries.as_slice())?;
     Ok(OpeningPlan {
         seen,
+        slots,
         index,
         before: view,
         entries,

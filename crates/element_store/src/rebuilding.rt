@@ -14,7 +14,7 @@ ghost use Rattle.element_state.specs.Clean.{IsClean};
 ghost use Rattle.index_text.specs.Contents.{AreContents};
 ghost use Rattle.element_state.specs.Conditions.{IsShape};
 ghost use Rattle.element_state.specs.Kept.{KeptThroughout};
-ghost use Rattle.element_store.specs.Rebuilds.{IsGround, IsMadeAnew, IsLeftWith, SettleStops, HasNext};
+ghost use Rattle.element_store.specs.Rebuilds.{IsGround, IsMadeAnew, IsLeftWith, OneTextStops, HasNext};
 
 use crate::taking::blocks_taken_by;
 use crate::writing::{blocks_in_area, put_contents};
@@ -51,7 +51,7 @@ pub fn rebuild<D: Disk>(
     ensures clean { IsTrue D.told → OnOk result (IsClean shape.now (D.medium disk.new).image) }
     ensures quiet { OnOk result (Quiet (D.medium disk.new)) }
 
-    ensures never_corrupt { IsErrOf result StoreError.Corrupt → ⊥ }
+    ensures never_corrupt { ¬ (IsErrOf result StoreError.Corrupt) }
     ensures cause { IsErrOf result StoreError.Device → Rose (D.medium disk.old).faults (D.medium disk.new).faults }
     ensures passes { OnOk result ((D.medium disk.new).faults ≡ (D.medium disk.old).faults) }
     ensures fed { IsErrOf result StoreError.OutOfMemory → (D.medium disk.new).faults ≡ (D.medium disk.old).faults }
@@ -104,7 +104,7 @@ fn prepare<D: Disk>(alloc: Global, disk: &mut D, shape: &Shape) -> Result<Ground
     ensures capacity { IfOk result (λ ground. length ground.used ≡ area_blocks shape.now.allowed) }
     ensures free { IfOk result (λ ground. shape.now.allowed / 256 + 1024 ≤ free_of ground.used) }
     ensures quiet { OnOk result (Quiet (D.medium disk.new)) }
-    ensures never_corrupt { IsErrOf result StoreError.Corrupt → ⊥ }
+    ensures never_corrupt { ¬ (IsErrOf result StoreError.Corrupt) }
     ensures cause { IsErrOf result StoreError.Device → Rose (D.medium disk.old).faults (D.medium disk.new).faults }
     ensures passes { OnOk result ((D.medium disk.new).faults ≡ (D.medium disk.old).faults) }
     ensures fed { IsErrOf result StoreError.OutOfMemory → (D.medium disk.new).faults ≡ (D.medium disk.old).faults }
@@ -124,7 +124,7 @@ fn prepare<D: Disk>(alloc: Global, disk: &mut D, shape: &Shape) -> Result<Ground
     match survey(alloc, disk, shape)? {
         Some(found) => {
             let used = blocks_taken_by(alloc, blocks, found.index.entries.as_slice())?;
-            settle(alloc, disk, shape.place, &found)?;
+            leave_one_text(alloc, disk, shape.place, &found)?;
             let generation = found.view.generation.saturating_add(1);
             Ok(Ground { used, generation })
         }
@@ -139,7 +139,7 @@ fn prepare<D: Disk>(alloc: Global, disk: &mut D, shape: &Shape) -> Result<Ground
 }
 
 // Brings every copy to the text at which a storage opens, or takes away all texts but its salvage.
-fn settle<D: Disk>(
+fn leave_one_text<D: Disk>(
     alloc: Global,
     disk: &mut D,
     place: Place,
@@ -150,14 +150,14 @@ fn settle<D: Disk>(
         found.now.seen.generation found.now.seen.text
         (D.medium disk.old).image (D.medium disk.new).image) }
     ensures quiet { OnOk result (Quiet (D.medium disk.new)) }
-    ensures never_corrupt { IsErrOf result StoreError.Corrupt → ⊥ }
+    ensures never_corrupt { ¬ (IsErrOf result StoreError.Corrupt) }
     ensures cause { IsErrOf result StoreError.Device → Rose (D.medium disk.old).faults (D.medium disk.new).faults }
     ensures passes { OnOk result ((D.medium disk.new).faults ≡ (D.medium disk.old).faults) }
     ensures fed { IsErrOf result StoreError.OutOfMemory → (D.medium disk.new).faults ≡ (D.medium disk.old).faults }
     ensures elsewhere { IsTrue D.told → Spares (IsNoSlot place.first place.copies) (D.medium disk.old).image
         (D.medium disk.new).image }
     ensures any_moment { IsTrue D.told → Quiet (D.medium disk.old)
-        → EachCase (SettleStops found.now.opens place.first place.copies found.now.seen.generation found.now.seen.text
+        → EachCase (OneTextStops found.now.opens place.first place.copies found.now.seen.generation found.now.seen.text
         (D.medium disk.old).image)
         (D.medium disk.old) (D.medium disk.new) }
     ensures time { Elapses (D.medium disk.old) (D.medium disk.new) }

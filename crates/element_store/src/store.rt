@@ -60,7 +60,7 @@ impl Store {
 
     /// What a storage in use shows is a view of it, so that names ascend. For the proofs of callers: it does nothing
     /// when it runs.
-    pub fn holds(&self)
+    pub fn invariants(&self)
         requires { IsStore self.now }
         ensures { IsView (shape_of self.now) (view_in self.now) }
     {}

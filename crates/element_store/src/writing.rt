@@ -6,7 +6,7 @@ ghost use Rattle.per_base.specs.Causes.{Rose};
 ghost use Rattle.disk_model.specs.Frame.{Keeps, Spares};
 ghost use Rattle.disk_model.specs.Medium.{Quiet, EachCase, Elapses};
 ghost use Rattle.disk_model.specs.Place.{IsNoArea};
-ghost use Rattle.block_files.specs.BlockSets.{holds, free_of};
+ghost use Rattle.block_files.specs.BlockSets.{contains, free_of};
 ghost use Rattle.index_text.specs.Sizes.{area_blocks};
 ghost use Rattle.index_text.specs.Spelling.{index_text};
 ghost use Rattle.index_text.specs.Contents.{AreContents};
@@ -51,10 +51,10 @@ pub(crate) fn put_contents<D: Disk>(
     ensures shown { IsTrue D.told → IfOk result (λ s.
         ShowsFresh (D.medium disk.new).image shape.now.place shape.now.m generation contents.now s.index.entries) }
     ensures keeps { IsTrue D.told → OnOk result (Keeps (IsNoArea shape.now.place.first shape.now.place.copies)
-        (λ k. holds used.old k ≡ true)
+        (λ k. contains used.old k ≡ true)
         (D.medium disk.old).image (D.medium disk.new).image) }
     ensures quiet { OnOk result (Quiet (D.medium disk.new)) }
-    ensures never_corrupt { IsErrOf result StoreError.Corrupt → ⊥ }
+    ensures never_corrupt { ¬ (IsErrOf result StoreError.Corrupt) }
     ensures cause { IsErrOf result StoreError.Device → Rose (D.medium disk.old).faults (D.medium disk.new).faults }
     ensures passes { OnOk result ((D.medium disk.new).faults ≡ (D.medium disk.old).faults) }
     ensures fed { IsErrOf result StoreError.OutOfMemory → (D.medium disk.new).faults ≡ (D.medium disk.old).faults }

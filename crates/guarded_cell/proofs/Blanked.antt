@@ -8,7 +8,7 @@ use Rattle.disk_model.specs.Case.{Case, IsSettledAt, Follows}
 use Rattle.disk_model.specs.Medium.{Medium, Quiet, IsLawful, Elapses, EachCase}
 use Rattle.disk_model.specs.Frame.{Spares}
 use Rattle.disk_model.specs.Place.{slot, IsNoSlot}
-use Rattle.disk_model.proofs.Moments.{goes_on, case_now}
+use Rattle.disk_model.specs.Laws.{goes_on, case_now}
 use Rattle.guarded_cell.specs.Register.{Holds, IsBlank, IsKeptAlone, own, other}
 use Rattle.guarded_cell.specs.Slots.{Tells, Picks, HasNoOther}
 use Rattle.guarded_cell.specs.declared.slots.Pick.TheVariants.{Others, Verifying}

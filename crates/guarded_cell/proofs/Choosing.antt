@@ -8,7 +8,7 @@ use Rattle.std.proofs.lemmas.Bool.{cases_lt}
 use Rattle.hash_guard.specs.SealedText.{VerifiesAs}
 use Rattle.std.proofs.lemmas.List.{take-take, take_all, length-set}
 use Rattle.hash_guard.specs.Laws.{verifies-take, verifies_alike, body_short, verifies_once}
-use Rattle.disk_model.proofs.Moments.{reads_on, elapses_on}
+use Rattle.disk_model.specs.Laws.{reads_on, elapses_on}
 use Rattle.disk_model.specs.Image.{Image}
 use Rattle.disk_model.specs.Medium.{Medium, OnlyReads, Elapses}
 use Rattle.disk_model.specs.Place.{slot}

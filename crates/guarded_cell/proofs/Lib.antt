@@ -7,5 +7,7 @@ pub mod Choosing
 pub mod Blanked
 pub mod Anew
 pub mod Flags
+pub mod Marked
 pub mod Seeing
 pub mod Opened
+pub mod Changing

@@ -4,7 +4,7 @@ use Rattle.std.proofs.Math.Nat.{mul-le-mul_left}
 use Rattle.disk_model.specs.Image.{Image}
 use Rattle.disk_model.specs.Case.{Case, IsSettledAt}
 use Rattle.disk_model.specs.Medium.{Medium, Elapses, IsIdle, EachCase}
-use Rattle.disk_model.proofs.Moments.{goes_on}
+use Rattle.disk_model.specs.Laws.{goes_on}
 use Rattle.guarded_cell.specs.declared.looking.Seen.{Seen}
 use Rattle.guarded_cell.specs.Held.{standing}
 use Rattle.guarded_cell.specs.Stops.{PutStops}

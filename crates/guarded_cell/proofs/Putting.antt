@@ -8,7 +8,7 @@ use Rattle.disk_model.specs.Case.{Case, IsSettledAt}
 use Rattle.disk_model.specs.Medium.{Medium, Quiet, IsLawful, Elapses, OnlyReads, EachCase}
 use Rattle.disk_model.specs.Frame.{Spares}
 use Rattle.disk_model.specs.Place.{slot, IsNoSlot}
-use Rattle.disk_model.proofs.Moments.{goes_on}
+use Rattle.disk_model.specs.Laws.{goes_on}
 use Rattle.guarded_cell.specs.Register.{Holds, IsBlank, IsAlone, own, other}
 use Rattle.guarded_cell.specs.Slots.{Tells, Picks}
 use Rattle.guarded_cell.specs.declared.slots.Pick.TheVariants.{Lacking, Verifying}

@@ -188,7 +188,7 @@ same_that p q (suc n) same =
     ap (λ (xs : List ℕ). xs ++ cond (p n) ((n + 1) ∷ []) []) (same_that p q n (λ c lt. same c (omega (arith, lt))))
     ∙ ap (λ (b : Bool). copies_that q n ++ cond b ((n + 1) ∷ []) []) (same n (omega arith))
 
-unlike : (x y : Bool) → (x ≡ true → y ≡ true → ⊥) → true ≡ not (x && y)
+unlike : (x y : Bool) → (x ≡ true → ¬ (y ≡ true)) → true ≡ not (x && y)
 unlike true true differ = absurd (differ refl refl)
 unlike true false differ = refl
 unlike false true differ = refl

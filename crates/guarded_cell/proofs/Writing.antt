@@ -9,7 +9,7 @@ use Rattle.disk_model.specs.Case.{Case, IsSettledAt, WriteCase, WriteOrNot, Foll
 use Rattle.disk_model.specs.Medium.{Medium, IsLawful, Elapses, WritesNothing, EachCase}
 use Rattle.disk_model.specs.Frame.{Spares}
 use Rattle.disk_model.specs.Place.{slot}
-use Rattle.disk_model.proofs.Moments.{elapses_none, elapses_on, cases_on, case_now}
+use Rattle.disk_model.specs.Laws.{elapses_none, elapses_on, cases_on, case_now}
 use Rattle.guarded_cell.specs.Fronts.{IsChosen, IsNone, PutsSome, FrontsPut, FrontsCase, IsFrontsCase}
 use Rattle.guarded_cell.proofs.Texts.{put_twice}
 
@@ -93,7 +93,7 @@ module _ (first parity copies : ℕ) (chosen : List Bool) (bytes : List ℕ) whe
       ))
       (cases_on time next c past)
 
-  some_chosen : (k : ℕ) → k < copies → get_or chosen k false ≡ true → IsNone copies chosen → ⊥
+  some_chosen : (k : ℕ) → k < copies → get_or chosen k false ≡ true → ¬ (IsNone copies chosen)
   some_chosen k lt is_set none = false≢true (sym (none k lt) ∙ is_set)
 
   -- no turn was made

@@ -3,8 +3,6 @@ use Rattle.std.specs.Prelude.{◌≡◌, ℕ, List}
 use Rattle.disk_model.specs.declared.place.Place.{Place}
 use Rattle.disk_model.specs.Image.{Image}
 use Rattle.guarded_cell.specs.declared.cell.Cell.{Cell}
-use Rattle.guarded_cell.specs.declared.errors.WriteFault.{WriteFault}
-use Rattle.guarded_cell.specs.declared.errors.WriteFault.TheVariants.{Device, OutOfMemory}
 use Rattle.guarded_cell.specs.Register.{IsAlone}
 
 -- where a cell lies
@@ -23,13 +21,3 @@ CellAt image cell text = IsAlone image cell.place.first cell.place.copies cell.g
 pub record IsCellOf (place : Place) (generation : ℕ) (cell : Cell) : Type 0 where
   pub lies : place_of cell ≡ place
   pub counts : generation_of cell ≡ generation
-
--- a want of memory hands the cell back, and then this holds
-abbrev pub HandsBack : Cell → WriteFault → Type 0 → Type 0
-HandsBack cell Device P = Unit {0}
-HandsBack cell (OutOfMemory same) P = (same ≡ cell) × P
-
--- a failure of the device
-abbrev pub IsDeviceFault : WriteFault → Type 0
-IsDeviceFault Device = Unit {0}
-IsDeviceFault (OutOfMemory cell) = ⊥

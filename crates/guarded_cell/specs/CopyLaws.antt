@@ -2,12 +2,14 @@
 -- least so many copies pass.
 use Rattle.std.proofs.Common.{◌≡◌, ℕ, zero, suc, ◌+◌, ◌<◌, ◌≤◌, List, [], ◌∷◌, ◌++◌, length, get_or, Bool, true, false}
 use Rattle.std.proofs.Common.{cond, sym, ap, ◌∙◌, subst, inl, inr, ⊎_elim, length-append, refl, arith}
-use Rattle.std.proofs.lemmas.Bool.{cases_Bool, false_from_ne_true, cases_lt, cond-true, cond-false}
+use Rattle.std.proofs.lemmas.Bool.{cases_Bool, false_from_ne_true, cases_lt, cond-true, cond-false, eqb-true, eq-eqb}
 use Rattle.std.proofs.lemmas.List.Elements.{Contains-append_left, Contains-append_cases, Contains-push}
-use Rattle.std.proofs.lemmas.List.{get_or_append_left}
+use Rattle.std.proofs.lemmas.List.{get_or_append_left, get_or_default}
 use Rattle.std.specs.List.{Contains}
-use Rattle.std.specs.Prelude.{slice_index_or}
+use Rattle.std.proofs.lemmas.List.Folds.{list_any_at, Any-from_list_any}
+use Rattle.std.specs.Prelude.{slice_index_or, ◌==◌}
 use Rattle.disk_model.specs.Damage.{AtLeast}
+use Rattle.disk_model.specs.Orders.{named_in}
 use Rattle.guarded_cell.specs.Held.{copies_that}
 
 module _ (test : ℕ → Bool) where
@@ -124,3 +126,22 @@ module _ (test : ℕ → Bool) where
       alone : (xs : List ℕ) → length xs ≤ 0 → get_or (xs ++ (n + 1) ∷ []) 0 0 ≡ n + 1
       alone [] none = refl
       alone (x ∷ xs) none = absurd (omega (arith, none))
+
+-- ---- membership as a test
+
+pub named_contains : (xs : List ℕ) (n : ℕ) → named_in xs n ≡ true → Contains xs n
+named_contains xs n e =
+    let any = Any-from_list_any (λ x. x == n) xs e in
+    (any.0, any.2, get_or_default xs any.0 n any.1 any.2 ∙ any.3 ∙ eqb-true any.1 n any.4)
+
+pub contains_named : (xs : List ℕ) (n : ℕ) → Contains xs n → named_in xs n ≡ true
+contains_named xs n has = list_any_at (λ x. x == n) xs has.0 n has.1 (ap (λ x. x == n) has.2 ∙ eq-eqb n n refl)
+
+-- a copy is among those that pass exactly where it passes
+pub named_passing : (test : ℕ → Bool) (n copy : ℕ) → copy < n → named_in (copies_that test n) (copy + 1) ≡ test copy
+named_passing test n copy lt = ⊎_elim
+    (λ yes. contains_named (copies_that test n) (copy + 1) (passing_is test n copy lt yes) ∙ sym yes)
+    (λ no. false_from_ne_true (named_in (copies_that test n) (copy + 1)) (λ named.
+    let passed = (is_passing test n copy (named_contains (copies_that test n) (copy + 1) named)).1 in
+    let both : true ≡ false = sym passed ∙ no in cc) ∙ sym no)
+    (cases_Bool (test copy))

@@ -195,10 +195,10 @@ earlier_in u s (x ∷ xs) is some e = ⊎_elim
 
 found_first : (bound : ℕ → ℕ) (m : ℕ) (xs : List Seen) (s : Seen) (u : Text) → IsByFirst bound xs → 1 ≤ m
     → find (enough m) xs ≡ Some s
-    → m ≤ length (copies_in u xs) → u.0 ≡ s.generation → (u.1 ≡ s.text → ⊥) → first_of s < get_or (copies_in u xs) 0 0
+    → m ≤ length (copies_in u xs) → u.0 ≡ s.generation → ¬ (u.1 ≡ s.text) → first_of s < get_or (copies_in u xs) 0 0
 found_first bound m [] s u by positive e many = λ one differ. cc
 found_first bound m (x ∷ xs) s u by positive e many = ⊎_elim
-    (λ yes. subst (λ (y : Seen). u.0 ≡ y.generation → (u.1 ≡ y.text → ⊥)
+    (λ yes. subst (λ (y : Seen). u.0 ≡ y.generation → ¬ (u.1 ≡ y.text)
     → first_of y < get_or (copies_in u (x ∷ xs)) 0 0) (here m x xs s e yes)
     (λ one differ. ⊎_elim
     (λ same. absurd (differ (sym (alike (text_of x) u same).1)))
@@ -221,7 +221,7 @@ found_first bound m (x ∷ xs) s u by positive e many = ⊎_elim
 -- of the texts of its generation that at least m copies hold, what stands is the one that is held first
 pub standing_first : (image : Image) (first copies m : ℕ) (seen : Seen) (text : List ℕ) → 1 ≤ m
     → standing image first copies m ≡ Some seen
-    → IsHeldBy image first copies m seen.generation text → (text ≡ seen.text → ⊥)
+    → IsHeldBy image first copies m seen.generation text → ¬ (text ≡ seen.text)
     → (copy : ℕ) × (copy < copies) × Holds image first copy seen.generation seen.text
     × ((a : ℕ) → a ≤ copy → ¬ (Holds image first a seen.generation text))
 unfolding standing

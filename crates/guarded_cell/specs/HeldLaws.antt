@@ -114,7 +114,7 @@ copies_of image first (suc n) u =
     ∙ ap (λ (p : ℕ). is_text u (verified (image (slot first n p)))) (sym one)) ∙ earlier)
     (cases_eq (u.0 % 2) 0)
   where
-    is_odd : (g : ℕ) → (g % 2 ≡ 0 → ⊥) → g % 2 ≡ 1
+    is_odd : (g : ℕ) → ¬ (g % 2 ≡ 0) → g % 2 ≡ 1
     is_odd g odd = omega (arith, odd)
 
 -- a member's copies are just those that hold its text
@@ -144,7 +144,7 @@ held_descends image first copies i j d before lt = (descends (held image first c
 
 pub held_once : (image : Image) (first copies i j : ℕ) (d : Seen) → i < j → j < length (held image first copies)
     → (get_or (held image first copies) j d).generation ≡ (get_or (held image first copies) i d).generation
-    → (get_or (held image first copies) j d).text ≡ (get_or (held image first copies) i d).text → ⊥
+    → ¬ ((get_or (held image first copies) j d).text ≡ (get_or (held image first copies) i d).text)
 held_once image first copies i j d before lt = (descends (held image first copies) i j d before lt
     (held_in_order image first copies)).1
 

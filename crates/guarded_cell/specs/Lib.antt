@@ -8,6 +8,8 @@ pub mod Rights
 pub mod Fronts
 pub mod Seens
 pub mod Opens
+pub mod Changes
+pub mod Faults
 pub mod StopLaws
 pub mod CopyLaws
 pub mod SeenLaws

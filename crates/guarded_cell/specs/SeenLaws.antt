@@ -27,11 +27,11 @@ pub is_alike : (a b : Text) → a.0 ≡ b.0 → a.1 ≡ b.1 → (nat_eq a.0 b.0 
 is_alike a b one two =
     and_from (nat_eq a.0 b.0) (bytes_eq a.1 b.1) (eq-eqb a.0 b.0 one) ((bytes_eq-Decides a.1 b.1).1 two)
 
-pub unlike : (a b : Text) → (a.0 ≡ b.0 → a.1 ≡ b.1 → ⊥) → (nat_eq a.0 b.0 && bytes_eq a.1 b.1) ≡ false
+pub unlike : (a b : Text) → (a.0 ≡ b.0 → ¬ (a.1 ≡ b.1)) → (nat_eq a.0 b.0 && bytes_eq a.1 b.1) ≡ false
 unlike a b differ = false_from_ne_true (nat_eq a.0 b.0 && bytes_eq a.1 b.1)
     (λ e. let same = alike a b e in differ same.0 same.1)
 
-pub never_both : (b : Bool) → b ≡ true → b ≡ false → ⊥
+pub never_both : (b : Bool) → b ≡ true → ¬ (b ≡ false)
 never_both b passes fails = cc
 
 -- ---- the order of the texts
@@ -186,7 +186,7 @@ same_parity u parity (Some t) e = ⊎_elim
     ∙ sym (unlike t u (λ one two. eqb-false (t.0 % 2) parity differs (ap (λ (g : ℕ). g % 2) one ∙ e))))
     (cases_Bool (eqb (t.0 % 2) parity))
 
-pub other_parity : (u : Text) (parity : ℕ) (o : Option Text) → (u.0 % 2 ≡ parity → ⊥)
+pub other_parity : (u : Text) (parity : ℕ) (o : Option Text) → ¬ (u.0 % 2 ≡ parity)
     → is_text u (of_parity parity o) ≡ false
 other_parity u parity None e = refl
 other_parity u parity (Some t) e = ⊎_elim
@@ -247,7 +247,7 @@ member_of t (x ∷ xs) some = ⊎_elim
 
 pub descends : (xs : List Seen) (i j : ℕ) (d : Seen) → i < j → j < length xs → IsInOrder xs
     → ((get_or xs j d).generation ≤ (get_or xs i d).generation)
-    × ((get_or xs j d).generation ≡ (get_or xs i d).generation → (get_or xs j d).text ≡ (get_or xs i d).text → ⊥)
+    × ((get_or xs j d).generation ≡ (get_or xs i d).generation → ¬ ((get_or xs j d).text ≡ (get_or xs i d).text))
 descends [] i j d before lt order = absurd (omega (arith, lt))
 descends (x ∷ xs) i zero d before lt order = absurd (omega (arith, before))
 descends (x ∷ xs) zero (suc j) d before lt order =
@@ -311,7 +311,7 @@ module _ (m : ℕ) where
       (λ few. greatest_found xs s u order.1 positive (later x xs (Some s) e few) (in_rest u x xs many few))
       (cases_Bool (enough x))
 
-  pub none_found : (xs : List Seen) (u : Text) → 1 ≤ m → find enough xs ≡ None → m ≤ length (copies_in u xs) → ⊥
+  pub none_found : (xs : List Seen) (u : Text) → 1 ≤ m → find enough xs ≡ None → ¬ (m ≤ length (copies_in u xs))
   none_found [] u positive e many = omega (arith, positive, many)
   none_found (x ∷ xs) u positive e many = ⊎_elim
       (λ yes. let same : Some x ≡ None = sym (cond-true (enough x) (Some x) (find enough xs) yes) ∙ e in cc)

@@ -1,8 +1,9 @@
--- Where a text belongs among texts that were seen.
+-- Where a text belongs among texts that were seen, and which copies hold it.
 use Rattle.std.specs.Prelude.{◌≡◌, ◌⊎◌, ℕ, ◌<◌, ◌≤◌, List, length, true, false, slice_index_or}
 use Rattle.hash_guard.specs.SealedText.{max_body}
+use Rattle.disk_model.specs.Image.{Image}
 use Rattle.guarded_cell.specs.declared.looking.Seen.{Seen}
-use Rattle.guarded_cell.specs.Held.{Text, is_seen}
+use Rattle.guarded_cell.specs.Held.{Text, is_seen, holds, copies_that}
 
 -- it can be sealed again
 pub record IsSealable (seen : Seen) : Type 0 where
@@ -20,3 +21,8 @@ pub record IsPlaceOf (t : Text) (seens : List Seen) (at : ℕ) : Type 0 where
   pub before : (i : ℕ) → i < at → (d : Seen) → IsBefore t (slice_index_or seens i d)
   pub here : at < length seens → (d : Seen) → (is_seen t (slice_index_or seens at d) ≡ true)
       ⊎ ((slice_index_or seens at d).generation < t.0)
+
+-- just these copies hold it
+abbrev pub IsSeenOn : Image → (first copies : ℕ) → Seen → Type 0
+IsSeenOn image first copies seen = seen.copies
+    ≡ copies_that (λ copy. holds image first copy (seen.generation, seen.text)) copies

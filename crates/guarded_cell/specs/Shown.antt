@@ -34,6 +34,6 @@ pub record Chooses (image : Image) (first copies m : ℕ) (answer : Option Seen)
       → seen.copies ≡ copies_that (λ copy. holds image first copy (seen.generation, seen.text)) copies
   pub first_held : (seen : Seen) (text : List ℕ) → answer ≡ Some seen
       → IsHeldBy image first copies m seen.generation text
-      → (text ≡ seen.text → ⊥) → (copy : ℕ) × (copy < copies) × Holds image first copy seen.generation seen.text
+      → ¬ (text ≡ seen.text) → (copy : ℕ) × (copy < copies) × Holds image first copy seen.generation seen.text
       × ((a : ℕ) → a ≤ copy → ¬ (Holds image first a seen.generation text))
   pub nothing : answer ≡ None → HasNoStanding image first copies m

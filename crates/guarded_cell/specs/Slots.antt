@@ -1,11 +1,12 @@
 -- What is found in one slot, and which slots a pass over the copies picks.
-use Rattle.std.specs.Prelude.{◌≡◌, ℕ, ◌<◌, List, Bool, true, false, get_or}
-use Rattle.hash_guard.specs.SealedText.{VerifiesAs}
+use Rattle.std.specs.Prelude.{◌≡◌, ℕ, ◌<◌, ◌%◌, ◌==◌, List, Bool, true, false, get_or, is_some, if◌then◌else◌}
+use Rattle.hash_guard.specs.SealedText.{VerifiesAs, verified}
 use Rattle.disk_model.specs.Image.{Image}
 use Rattle.disk_model.specs.Place.{slot}
 use Rattle.guarded_cell.specs.declared.slots.Found.{Found}
 use Rattle.guarded_cell.specs.declared.slots.Found.TheVariants.{Nothing, Wanted, Another}
 use Rattle.guarded_cell.specs.declared.slots.Pick.{Pick}
+use Rattle.guarded_cell.specs.declared.slots.Slots.{Slots}
 use Rattle.guarded_cell.specs.declared.slots.Pick.TheVariants.{Lacking, Verifying, Others}
 use Rattle.guarded_cell.specs.Register.{IsBlank}
 
@@ -50,3 +51,23 @@ Tells pick false bytes generation text = IsSpared pick bytes generation text
 abbrev pub Picks : Pick → (chosen : List Bool) → Image → (first copies parity generation : ℕ) → List ℕ → Type 0
 Picks pick chosen image first copies parity generation text = (copy : ℕ) → copy < copies
     → Tells pick (get_or chosen copy false) (image (slot first copy parity)) generation text
+
+-- ---- which slots hold a text
+
+-- the flag says whether a text verifies in the slot
+abbrev pub IsFlag : List ℕ → Bool → Type 0
+IsFlag bytes flag = flag ≡ is_some (verified bytes)
+
+-- the flags are right for the slots of this parity
+abbrev pub AreFlags : Image → (first copies parity : ℕ) → List Bool → Type 0
+AreFlags image first copies parity flags = (copy : ℕ) → copy < copies
+    → IsFlag (image (slot first copy parity)) (get_or flags copy false)
+
+-- they are right for all slots
+pub record IsSlotsOf (image : Image) (first copies : ℕ) (slots : Slots) : Type 0 where
+  pub even : AreFlags image first copies 0 slots.even
+  pub odd : AreFlags image first copies 1 slots.odd
+
+-- the flags of the parity that is not the generation's
+abbrev pub others_of : Slots → (generation : ℕ) → List Bool
+others_of slots generation = if generation % 2 == 0 then slots.odd else slots.even

@@ -1,22 +1,21 @@
-//! Settling on a text that the caller chose.
+//! Bringing every copy to a text that the caller chose.
 
-ghost use Rattle.std.specs.Prelude.{◌≡◌, ◌≤◌, ◌<◌, ◌+◌, ◌*◌, ℕ, List, IsTrue, IfOk, OnOk, OnErr, IsErrOf, length};
-ghost use Rattle.per_base.specs.Causes.{Rose};
-ghost use Rattle.hash_guard.specs.SealedText.{max_body, header, sealed};
-ghost use Rattle.disk_model.specs.Frame.{Spares};
-ghost use Rattle.disk_model.specs.Medium.{Quiet, EachCase, Elapses};
-ghost use Rattle.disk_model.specs.Place.{IsNoSlot};
+ghost use Rattle.std.specs.Prelude.{◌≡◌, ◌≤◌, ◌<◌, IsTrue, IfOk, OnOk, IsErrOf, length};
+ghost use Rattle.hash_guard.specs.SealedText.{max_body, sealed};
+ghost use Rattle.disk_model.specs.Medium.{Quiet};
 ghost use Rattle.guarded_cell.specs.Register.{own, IsAlone};
-ghost use Rattle.guarded_cell.specs.Slots.{front, Picks};
+ghost use Rattle.guarded_cell.specs.Slots.{front, Picks, IsSlotsOf};
+ghost use Rattle.guarded_cell.specs.Seens.{IsSealable, IsSeenOn};
 ghost use Rattle.guarded_cell.specs.declared.slots.Pick.TheVariants.{Lacking};
 ghost use Rattle.guarded_cell.specs.Cells.{CellAt, IsCellOf};
-ghost use Rattle.guarded_cell.specs.Rights.{IsRight};
-ghost use Rattle.guarded_cell.specs.Stops.{PutStops};
+ghost use Rattle.guarded_cell.specs.Changes.{Brings};
+ghost use Rattle.guarded_cell.specs.Faults.{DiskFaults, CellFaults};
 
 use crate::cell::Cell;
 use crate::errors::CellError;
+use crate::looking::Seen;
 use crate::replacing::replace;
-use crate::slots::{Pick, choose, front_room};
+use crate::slots::{Pick, Slots, all_but, choose, front_room};
 use disk_model::{Disk, DiskFailed, Place};
 use hash_guard::seal;
 use std::alloc::Global;
@@ -42,25 +41,12 @@ pub fn adopt<D: Disk>(
     ensures quiet { OnOk result (Quiet (D.medium disk.new)) }
 
     ensures memory { IsErrOf result CellError.OutOfMemory → disk.new ≡ disk.old }
-    ensures never_corrupt { IsErrOf result CellError.Corrupt → ⊥ }
-    ensures cause { IsErrOf result CellError.Device → Rose (D.medium disk.old).faults (D.medium disk.new).faults }
-    ensures passes { OnOk result ((D.medium disk.new).faults ≡ (D.medium disk.old).faults) }
+    ensures never_corrupt { ¬ (IsErrOf result CellError.Corrupt) }
+    ensures faults { CellFaults result (D.medium disk.old) (D.medium disk.new) }
 
     // Only slots of the place change, and none that is right already; where every copy holds the text alone, nothing is
     // written. A stop at any moment leaves every copy what it held or every copy the text.
-    ensures elsewhere { IsTrue D.told → Spares (IsNoSlot place.first place.copies) (D.medium disk.old).image
-        (D.medium disk.new).image }
-    ensures right { IsTrue D.told → Spares (IsRight (D.medium disk.old).image place.first place.copies generation
-        text.now)
-        (D.medium disk.old).image (D.medium disk.new).image }
-    ensures already { IsTrue D.told → IsAlone (D.medium disk.old).image place.first place.copies generation text.now
-        → (D.medium disk.new).written ≡ (D.medium disk.old).written }
-    ensures any_moment { IsTrue D.told → Quiet (D.medium disk.old)
-        → EachCase (PutStops place.first place.copies generation text.now (D.medium disk.old).image)
-        (D.medium disk.old) (D.medium disk.new) }
-    ensures written { (D.medium disk.new).written ≤ (D.medium disk.old).written
-        + place.copies * (header + length text.now + header) }
-    ensures time { Elapses (D.medium disk.old) (D.medium disk.new) }
+    ensures brings { Brings D.told place generation text.now (D.medium disk.old) (D.medium disk.new) }
 {
     let sealed_text = seal(alloc, generation, text)?;
     let mut room = front_room(alloc)?;
@@ -68,7 +54,52 @@ pub fn adopt<D: Disk>(
     Ok(Cell::new(place, generation))
 }
 
-// The same with all memory taken.
+/// The same as [`adopt`], for a text that [`look`](crate::look) saw among the copies, on a disk that has not changed
+/// since: it reads nothing.
+///
+/// # Errors
+///
+/// `OutOfMemory` comes before any call of the disk. Never `Corrupt`.
+pub fn adopt_seen<D: Disk>(
+    alloc: Global,
+    disk: &mut D,
+    place: Place,
+    seen: &Seen,
+    slots: Slots,
+) -> Result<Cell, CellError>
+    requires sealable { IsSealable seen.now }
+    requires seen { IsTrue D.told → IsSeenOn (D.medium disk.old).image place.first place.copies seen.now }
+    requires slots { IsTrue D.told → IsSlotsOf (D.medium disk.old).image place.first place.copies slots }
+
+    ensures cell { IfOk result (IsCellOf place seen.now.generation) }
+    ensures held { IsTrue D.told → IfOk result (λ cell. CellAt (D.medium disk.new).image cell seen.now.text) }
+    ensures quiet { OnOk result (Quiet (D.medium disk.new)) }
+
+    ensures memory { IsErrOf result CellError.OutOfMemory → disk.new ≡ disk.old }
+    ensures never_corrupt { ¬ (IsErrOf result CellError.Corrupt) }
+    ensures faults { CellFaults result (D.medium disk.old) (D.medium disk.new) }
+
+    // Only slots of the place change, and none that is right already; where every copy holds the text alone, nothing is
+    // written. A stop at any moment leaves every copy what it held or every copy the text.
+    ensures brings { Brings D.told place seen.now.generation seen.now.text (D.medium disk.old) (D.medium disk.new) }
+{
+    let text = seen.text.as_slice();
+    let sealed_text = seal(alloc, seen.generation, text)?;
+    let lacking = all_but(place.copies, seen.copies.as_slice());
+    let stale = slots.others(seen.generation);
+    replace(
+        disk,
+        place,
+        seen.generation,
+        text,
+        &sealed_text,
+        &lacking,
+        &stale,
+    )?;
+    Ok(Cell::new(place, seen.generation))
+}
+
+// What `adopt` does, with all memory taken.
 fn adopt_in<D: Disk>(
     disk: &mut D,
     place: Place,
@@ -85,30 +116,17 @@ fn adopt_in<D: Disk>(
     ensures alone { IsTrue D.told → OnOk result (IsAlone (D.medium disk.new).image place.first place.copies generation
         text.now) }
     ensures quiet { OnOk result (Quiet (D.medium disk.new)) }
-    ensures elsewhere { IsTrue D.told → Spares (IsNoSlot place.first place.copies) (D.medium disk.old).image
-        (D.medium disk.new).image }
-    ensures right { IsTrue D.told → Spares (IsRight (D.medium disk.old).image place.first place.copies generation
-        text.now)
-        (D.medium disk.old).image (D.medium disk.new).image }
-    ensures already { IsTrue D.told → IsAlone (D.medium disk.old).image place.first place.copies generation text.now
-        → (D.medium disk.new).written ≡ (D.medium disk.old).written }
-    ensures any_moment { IsTrue D.told → Quiet (D.medium disk.old)
-        → EachCase (PutStops place.first place.copies generation text.now (D.medium disk.old).image)
-        (D.medium disk.old) (D.medium disk.new) }
-    ensures written { (D.medium disk.new).written ≤ (D.medium disk.old).written
-        + place.copies * (header + length text.now + header) }
-    ensures time { Elapses (D.medium disk.old) (D.medium disk.new) }
-    ensures cause { OnErr result (Rose (D.medium disk.old).faults (D.medium disk.new).faults) }
-    ensures passes { OnOk result ((D.medium disk.new).faults ≡ (D.medium disk.old).faults) }
+    ensures brings { Brings D.told place generation text.now (D.medium disk.old) (D.medium disk.new) }
+    ensures faults { DiskFaults result (D.medium disk.old) (D.medium disk.new) }
 {
     let parity = (generation % 2) as u32;
     let lacking = choose(disk, place, parity, Pick::Lacking, generation, text, room)?;
-    settle_on(disk, place, generation, text, sealed_text, &lacking, room)?;
+    bring_to(disk, place, generation, text, sealed_text, &lacking, room)?;
     Ok(())
 }
 
-/// The same, where it is known which copies lack the text.
-pub(crate) fn settle_on<D: Disk>(
+// Brings every copy to the text, where it is known which copies lack it.
+fn bring_to<D: Disk>(
     disk: &mut D,
     place: Place,
     generation: u64,
@@ -129,21 +147,8 @@ pub(crate) fn settle_on<D: Disk>(
     ensures alone { IsTrue D.told → OnOk result (IsAlone (D.medium disk.new).image place.first place.copies generation
         text.now) }
     ensures quiet { OnOk result (Quiet (D.medium disk.new)) }
-    ensures elsewhere { IsTrue D.told → Spares (IsNoSlot place.first place.copies) (D.medium disk.old).image
-        (D.medium disk.new).image }
-    ensures right { IsTrue D.told → Spares (IsRight (D.medium disk.old).image place.first place.copies generation
-        text.now)
-        (D.medium disk.old).image (D.medium disk.new).image }
-    ensures already { IsTrue D.told → IsAlone (D.medium disk.old).image place.first place.copies generation text.now
-        → (D.medium disk.new).written ≡ (D.medium disk.old).written }
-    ensures any_moment { IsTrue D.told → Quiet (D.medium disk.old)
-        → EachCase (PutStops place.first place.copies generation text.now (D.medium disk.old).image)
-        (D.medium disk.old) (D.medium disk.new) }
-    ensures written { (D.medium disk.new).written ≤ (D.medium disk.old).written
-        + place.copies * (header + length text.now + header) }
-    ensures time { Elapses (D.medium disk.old) (D.medium disk.new) }
-    ensures cause { OnErr result (Rose (D.medium disk.old).faults (D.medium disk.new).faults) }
-    ensures passes { OnOk result ((D.medium disk.new).faults ≡ (D.medium disk.old).faults) }
+    ensures brings { Brings D.told place generation text.now (D.medium disk.old) (D.medium disk.new) }
+    ensures faults { DiskFaults result (D.medium disk.old) (D.medium disk.new) }
 {
     let parity = (generation % 2) as u32;
     let stale = choose(

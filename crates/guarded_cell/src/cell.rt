@@ -1,18 +1,18 @@
 //! A register in use, and writing its next text.
 
-ghost use Rattle.std.specs.Prelude.{◌≡◌, ◌≤◌, ◌<◌, ◌+◌, ◌*◌, ◌^◌, ℕ, List, IsTrue, IfOk, IfErr, OnErr, OnOk, length};
+ghost use Rattle.std.specs.Prelude.{◌≡◌, ◌≤◌, ◌<◌, ◌+◌, ◌^◌, ℕ, List, IsTrue, IfOk, IfErr, OnOk, length};
 ghost use Rattle.per_base.specs.Causes.{Rose};
+ghost use Rattle.per_base.specs.Faults.{HandsBack, IsDeviceFault};
 ghost use Rattle.hash_guard.specs.SealedText.{max_body, header};
-ghost use Rattle.disk_model.specs.Frame.{Spares};
-ghost use Rattle.disk_model.specs.Medium.{Quiet, EachCase, Elapses};
-ghost use Rattle.disk_model.specs.Place.{IsNoSlot};
-ghost use Rattle.guarded_cell.specs.Stops.{PutStops};
+ghost use Rattle.disk_model.specs.Medium.{Quiet};
+ghost use Rattle.guarded_cell.specs.Changes.{Puts};
+ghost use Rattle.guarded_cell.specs.Faults.{DiskFaults};
 
-use crate::errors::WriteFault;
 use crate::replacing::replace;
 use crate::slots::MAX_COPIES;
 use disk_model::{Disk, DiskFailed, Place};
 use hash_guard::{HEADER, seal_into};
+use per_base::Fault;
 use std::alloc::{AllocError, Global};
 
 /// A register in use on its disk: where it lies, and under which generation each of its copies holds its text.
@@ -23,7 +23,7 @@ pub struct Cell {
 }
 
 impl Cell {
-    ghost use Rattle.guarded_cell.specs.Cells.{place_of, generation_of, CellAt, IsCellOf, HandsBack, IsDeviceFault};
+    ghost use Rattle.guarded_cell.specs.Cells.{place_of, generation_of, CellAt, IsCellOf};
 
     // The cell of this place and generation.
     pub(crate) fn new(place: Place, generation: u64) -> Cell
@@ -59,7 +59,7 @@ impl Cell {
         alloc: Global,
         disk: &mut D,
         text: &[u8],
-    ) -> Result<Cell, WriteFault>
+    ) -> Result<Cell, Fault<Cell>>
         requires short { length text.now ≤ max_body }
         requires generation { generation_of self + 1 < 2 ^ 64 }
         requires held { IsTrue D.told → (t : List ℕ) × CellAt (D.medium disk.old).image self t }
@@ -75,22 +75,14 @@ impl Cell {
         ensures passes { OnOk result ((D.medium disk.new).faults ≡ (D.medium disk.old).faults) }
 
         // Only slots of the place change, and a stop at any moment leaves the old text or the new one.
-        ensures elsewhere { IsTrue D.told
-            → Spares (IsNoSlot (place_of self).first (place_of self).copies) (D.medium disk.old).image
-            (D.medium disk.new).image }
-        ensures any_moment { IsTrue D.told → Quiet (D.medium disk.old)
-            → EachCase (PutStops (place_of self).first (place_of self).copies (generation_of self + 1) text.now
-            (D.medium disk.old).image)
-            (D.medium disk.old) (D.medium disk.new) }
-        ensures written { (D.medium disk.new).written
-            ≤ (D.medium disk.old).written + (place_of self).copies * (header + length text.now + header) }
-        ensures time { Elapses (D.medium disk.old) (D.medium disk.new) }
+        ensures puts { Puts D.told (place_of self) (generation_of self + 1) text.now (D.medium disk.old)
+            (D.medium disk.new) }
     {
         match Cell::room(alloc, text.len()) {
-            Err(_) => Err(WriteFault::OutOfMemory(self)),
+            Err(_) => Err(Fault::OutOfMemory(self)),
             Ok(mut room) => match self.write_in(disk, text, &mut room) {
                 Ok(cell) => Ok(cell),
-                Err(_) => Err(WriteFault::Device),
+                Err(_) => Err(Fault::Device),
             },
         }
     }
@@ -111,20 +103,11 @@ impl Cell {
         ensures next { IfOk result (IsCellOf (place_of self) (generation_of self + 1)) }
         ensures held { IsTrue D.told → IfOk result (λ cell. CellAt (D.medium disk.new).image cell text.now) }
         ensures quiet { OnOk result (Quiet (D.medium disk.new)) }
-        ensures cause { OnErr result (Rose (D.medium disk.old).faults (D.medium disk.new).faults) }
-        ensures passes { OnOk result ((D.medium disk.new).faults ≡ (D.medium disk.old).faults) }
+        ensures faults { DiskFaults result (D.medium disk.old) (D.medium disk.new) }
 
         // Only slots of the place change, and a stop at any moment leaves the old text or the new one.
-        ensures elsewhere { IsTrue D.told
-            → Spares (IsNoSlot (place_of self).first (place_of self).copies) (D.medium disk.old).image
-            (D.medium disk.new).image }
-        ensures any_moment { IsTrue D.told → Quiet (D.medium disk.old)
-            → EachCase (PutStops (place_of self).first (place_of self).copies (generation_of self + 1) text.now
-            (D.medium disk.old).image)
-            (D.medium disk.old) (D.medium disk.new) }
-        ensures written { (D.medium disk.new).written
-            ≤ (D.medium disk.old).written + (place_of self).copies * (header + length text.now + header) }
-        ensures time { Elapses (D.medium disk.old) (D.medium disk.new) }
+        ensures puts { Puts D.told (place_of self) (generation_of self + 1) text.now (D.medium disk.old)
+            (D.medium disk.new) }
     {
         let all = [true; MAX_COPIES];
         let next = self.generation + 1;

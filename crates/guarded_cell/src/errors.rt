@@ -2,7 +2,6 @@
 
 ghost use Rattle.std.specs.Prelude.{◌≡◌};
 
-use crate::cell::Cell;
 use disk_model::DiskFailed;
 use std::alloc::AllocError;
 
@@ -35,13 +34,4 @@ impl From<AllocError> for CellError {
     fn from(_failed: AllocError) -> CellError {
         CellError::OutOfMemory
     }
-}
-
-/// Why a text was not written.
-#[derive(Debug, Drop)]
-pub enum WriteFault {
-    /// The disk failed, and its count of faults rose. The cell is closed.
-    Device,
-    /// Memory ran out before anything was written. The cell is as it was.
-    OutOfMemory(Cell),
 }

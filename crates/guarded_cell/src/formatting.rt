@@ -1,14 +1,12 @@
 //! Beginning anew.
 
-ghost use Rattle.std.specs.Prelude.{◌≡◌, ◌≤◌, ◌+◌, ◌*◌, IsTrue, IfOk, OnOk, OnErr, IsErrOf, length};
-ghost use Rattle.per_base.specs.Causes.{Rose};
-ghost use Rattle.hash_guard.specs.SealedText.{max_body, header, sealed};
-ghost use Rattle.disk_model.specs.Frame.{Spares};
-ghost use Rattle.disk_model.specs.Medium.{Quiet, EachCase, Elapses};
-ghost use Rattle.disk_model.specs.Place.{IsNoSlot};
+ghost use Rattle.std.specs.Prelude.{◌≡◌, ◌≤◌, IsTrue, IfOk, OnOk, IsErrOf, length};
+ghost use Rattle.hash_guard.specs.SealedText.{max_body, sealed};
+ghost use Rattle.disk_model.specs.Medium.{Quiet};
 ghost use Rattle.guarded_cell.specs.Register.{IsAlone};
 ghost use Rattle.guarded_cell.specs.Cells.{CellAt, IsCellOf};
-ghost use Rattle.guarded_cell.specs.Stops.{FormatStops};
+ghost use Rattle.guarded_cell.specs.Changes.{Formats};
+ghost use Rattle.guarded_cell.specs.Faults.{DiskFaults, CellFaults};
 
 use crate::cell::Cell;
 use crate::errors::CellError;
@@ -37,19 +35,11 @@ pub fn format_cell<D: Disk>(
     ensures quiet { OnOk result (Quiet (D.medium disk.new)) }
 
     ensures memory { IsErrOf result CellError.OutOfMemory → disk.new ≡ disk.old }
-    ensures never_corrupt { IsErrOf result CellError.Corrupt → ⊥ }
-    ensures cause { IsErrOf result CellError.Device → Rose (D.medium disk.old).faults (D.medium disk.new).faults }
-    ensures passes { OnOk result ((D.medium disk.new).faults ≡ (D.medium disk.old).faults) }
+    ensures never_corrupt { ¬ (IsErrOf result CellError.Corrupt) }
+    ensures faults { CellFaults result (D.medium disk.old) (D.medium disk.new) }
 
     // Only slots of the place change, and a stop at any moment leaves only what was held or only the new text.
-    ensures elsewhere { IsTrue D.told → Spares (IsNoSlot place.first place.copies) (D.medium disk.old).image
-        (D.medium disk.new).image }
-    ensures any_moment { IsTrue D.told → Quiet (D.medium disk.old)
-        → EachCase (FormatStops place.first place.copies 1 text.now (D.medium disk.old).image) (D.medium disk.old)
-        (D.medium disk.new) }
-    ensures written { (D.medium disk.new).written
-        ≤ (D.medium disk.old).written + place.copies * (header + header + (header + length text.now)) }
-    ensures time { Elapses (D.medium disk.old) (D.medium disk.new) }
+    ensures formats { Formats D.told place text.now (D.medium disk.old) (D.medium disk.new) }
 {
     let sealed_text = seal(alloc, 1, text)?;
     format_in(disk, place, text, &sealed_text)?;
@@ -69,16 +59,8 @@ fn format_in<D: Disk>(
     ensures alone { IsTrue D.told → OnOk result (IsAlone (D.medium disk.new).image place.first place.copies 1
         text.now) }
     ensures quiet { OnOk result (Quiet (D.medium disk.new)) }
-    ensures elsewhere { IsTrue D.told → Spares (IsNoSlot place.first place.copies) (D.medium disk.old).image
-        (D.medium disk.new).image }
-    ensures any_moment { IsTrue D.told → Quiet (D.medium disk.old)
-        → EachCase (FormatStops place.first place.copies 1 text.now (D.medium disk.old).image) (D.medium disk.old)
-        (D.medium disk.new) }
-    ensures written { (D.medium disk.new).written
-        ≤ (D.medium disk.old).written + place.copies * (header + header + (header + length text.now)) }
-    ensures time { Elapses (D.medium disk.old) (D.medium disk.new) }
-    ensures cause { OnErr result (Rose (D.medium disk.old).faults (D.medium disk.new).faults) }
-    ensures passes { OnOk result ((D.medium disk.new).faults ≡ (D.medium disk.old).faults) }
+    ensures formats { Formats D.told place text.now (D.medium disk.old) (D.medium disk.new) }
+    ensures faults { DiskFaults result (D.medium disk.old) (D.medium disk.new) }
 {
     let all = [true; MAX_COPIES];
     write_fronts(disk, place, 0, &all, &BLANK)?;

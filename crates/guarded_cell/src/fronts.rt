@@ -1,11 +1,11 @@
 //! Writing over the fronts of slots.
 
-ghost use Rattle.std.specs.Prelude.{◌≡◌, ◌≤◌, ◌<◌, ◌+◌, ◌*◌, IsTrue, IsOk, OnErr, OnOk, length};
-ghost use Rattle.per_base.specs.Causes.{Rose};
+ghost use Rattle.std.specs.Prelude.{◌≡◌, ◌≤◌, ◌<◌, ◌+◌, ◌*◌, IsTrue, IsOk, OnOk, length};
 ghost use Rattle.disk_model.specs.Case.{Follows};
 ghost use Rattle.disk_model.specs.Frame.{Spares};
 ghost use Rattle.disk_model.specs.Medium.{Quiet, EachCase, Elapses};
 ghost use Rattle.guarded_cell.specs.Fronts.{IsChosen, IsNone, FrontsPut, FrontsCase, IsFrontsCase};
+ghost use Rattle.guarded_cell.specs.Faults.{DiskFaults};
 
 use disk_model::{Disk, DiskFailed, Place};
 
@@ -30,8 +30,7 @@ pub(crate) fn write_fronts<D: Disk>(
     ensures written { (D.medium disk.new).written ≤ (D.medium disk.old).written + place.copies * length bytes.now }
     ensures none { IsNone place.copies chosen.now → (D.medium disk.new).written ≡ (D.medium disk.old).written }
     ensures time { Elapses (D.medium disk.old) (D.medium disk.new) }
-    ensures cause { OnErr result (Rose (D.medium disk.old).faults (D.medium disk.new).faults) }
-    ensures passes { OnOk result ((D.medium disk.new).faults ≡ (D.medium disk.old).faults) }
+    ensures faults { DiskFaults result (D.medium disk.old) (D.medium disk.new) }
 {
     for copy in 0..place.copies {
         if !chosen[copy as usize] {
@@ -66,8 +65,7 @@ pub(crate) fn write_durably<D: Disk>(
     ensures written { (D.medium disk.new).written ≤ (D.medium disk.old).written + place.copies * length bytes.now }
     ensures none { IsNone place.copies chosen.now → (D.medium disk.new).written ≡ (D.medium disk.old).written }
     ensures time { Elapses (D.medium disk.old) (D.medium disk.new) }
-    ensures cause { OnErr result (Rose (D.medium disk.old).faults (D.medium disk.new).faults) }
-    ensures passes { OnOk result ((D.medium disk.new).faults ≡ (D.medium disk.old).faults) }
+    ensures faults { DiskFaults result (D.medium disk.old) (D.medium disk.new) }
 {
     write_fronts(disk, place, parity, chosen, bytes)?;
     disk.sync()?;

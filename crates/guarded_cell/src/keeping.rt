@@ -1,16 +1,12 @@
 //! Taking every text away but one.
 
-ghost use Rattle.std.specs.Prelude.{◌≡◌, ◌≤◌, ◌+◌, ◌*◌, IsTrue, OnOk, OnErr, IsErrOf, length};
-ghost use Rattle.per_base.specs.Causes.{Rose};
-ghost use Rattle.hash_guard.specs.SealedText.{header};
-ghost use Rattle.disk_model.specs.Frame.{Spares};
-ghost use Rattle.disk_model.specs.Medium.{Quiet, EachCase, Elapses};
-ghost use Rattle.disk_model.specs.Place.{IsNoSlot};
+ghost use Rattle.std.specs.Prelude.{◌≡◌, ◌≤◌, IsTrue, OnOk, IsErrOf, length};
+ghost use Rattle.disk_model.specs.Medium.{Quiet};
 ghost use Rattle.guarded_cell.specs.Register.{IsKeptAlone, own, other};
 ghost use Rattle.guarded_cell.specs.Slots.{front, Picks};
 ghost use Rattle.guarded_cell.specs.declared.slots.Pick.TheVariants.{Others, Verifying};
-ghost use Rattle.guarded_cell.specs.Rights.{IsClear};
-ghost use Rattle.guarded_cell.specs.Stops.{KeepStops};
+ghost use Rattle.guarded_cell.specs.Changes.{Clears};
+ghost use Rattle.guarded_cell.specs.Faults.{DiskFaults, CellFaults};
 
 use crate::errors::CellError;
 use crate::fronts::{write_durably, write_fronts};
@@ -37,22 +33,12 @@ pub fn keep_only<D: Disk>(
     ensures quiet { OnOk result (Quiet (D.medium disk.new)) }
 
     ensures memory { IsErrOf result CellError.OutOfMemory → disk.new ≡ disk.old }
-    ensures never_corrupt { IsErrOf result CellError.Corrupt → ⊥ }
-    ensures cause { IsErrOf result CellError.Device → Rose (D.medium disk.old).faults (D.medium disk.new).faults }
-    ensures passes { OnOk result ((D.medium disk.new).faults ≡ (D.medium disk.old).faults) }
+    ensures never_corrupt { ¬ (IsErrOf result CellError.Corrupt) }
+    ensures faults { CellFaults result (D.medium disk.old) (D.medium disk.new) }
 
     // Only slots of the place change, and none that is clear already. At any moment the copies that held the text hold
     // it.
-    ensures elsewhere { IsTrue D.told → Spares (IsNoSlot place.first place.copies) (D.medium disk.old).image
-        (D.medium disk.new).image }
-    ensures right { IsTrue D.told → Spares (IsClear (D.medium disk.old).image place.first place.copies generation
-        text.now)
-        (D.medium disk.old).image (D.medium disk.new).image }
-    ensures any_moment { IsTrue D.told → Quiet (D.medium disk.old)
-        → EachCase (KeepStops place.first place.copies generation text.now (D.medium disk.old).image)
-        (D.medium disk.old) (D.medium disk.new) }
-    ensures written { (D.medium disk.new).written ≤ (D.medium disk.old).written + place.copies * (header + header) }
-    ensures time { Elapses (D.medium disk.old) (D.medium disk.new) }
+    ensures clears { Clears D.told place generation text.now (D.medium disk.old) (D.medium disk.new) }
 {
     let mut room = front_room(alloc)?;
     keep_in(disk, place, generation, text, &mut room)?;
@@ -72,18 +58,8 @@ fn keep_in<D: Disk>(
     ensures alone { IsTrue D.told → OnOk result
         (IsKeptAlone place.first place.copies generation text.now (D.medium disk.old).image (D.medium disk.new).image) }
     ensures quiet { OnOk result (Quiet (D.medium disk.new)) }
-    ensures elsewhere { IsTrue D.told → Spares (IsNoSlot place.first place.copies) (D.medium disk.old).image
-        (D.medium disk.new).image }
-    ensures right { IsTrue D.told → Spares (IsClear (D.medium disk.old).image place.first place.copies generation
-        text.now)
-        (D.medium disk.old).image (D.medium disk.new).image }
-    ensures any_moment { IsTrue D.told → Quiet (D.medium disk.old)
-        → EachCase (KeepStops place.first place.copies generation text.now (D.medium disk.old).image)
-        (D.medium disk.old) (D.medium disk.new) }
-    ensures written { (D.medium disk.new).written ≤ (D.medium disk.old).written + place.copies * (header + header) }
-    ensures time { Elapses (D.medium disk.old) (D.medium disk.new) }
-    ensures cause { OnErr result (Rose (D.medium disk.old).faults (D.medium disk.new).faults) }
-    ensures passes { OnOk result ((D.medium disk.new).faults ≡ (D.medium disk.old).faults) }
+    ensures clears { Clears D.told place generation text.now (D.medium disk.old) (D.medium disk.new) }
+    ensures faults { DiskFaults result (D.medium disk.old) (D.medium disk.new) }
 {
     let parity = (generation % 2) as u32;
     let others = choose(disk, place, parity, Pick::Others, generation, text, room)?;
@@ -121,18 +97,8 @@ fn blank_both<D: Disk>(
     ensures alone { IsTrue D.told → OnOk result
         (IsKeptAlone place.first place.copies generation text.now (D.medium disk.old).image (D.medium disk.new).image) }
     ensures quiet { OnOk result (Quiet (D.medium disk.new)) }
-    ensures elsewhere { IsTrue D.told → Spares (IsNoSlot place.first place.copies) (D.medium disk.old).image
-        (D.medium disk.new).image }
-    ensures right { IsTrue D.told → Spares (IsClear (D.medium disk.old).image place.first place.copies generation
-        text.now)
-        (D.medium disk.old).image (D.medium disk.new).image }
-    ensures any_moment { IsTrue D.told → Quiet (D.medium disk.old)
-        → EachCase (KeepStops place.first place.copies generation text.now (D.medium disk.old).image)
-        (D.medium disk.old) (D.medium disk.new) }
-    ensures written { (D.medium disk.new).written ≤ (D.medium disk.old).written + place.copies * (header + header) }
-    ensures time { Elapses (D.medium disk.old) (D.medium disk.new) }
-    ensures cause { OnErr result (Rose (D.medium disk.old).faults (D.medium disk.new).faults) }
-    ensures passes { OnOk result ((D.medium disk.new).faults ≡ (D.medium disk.old).faults) }
+    ensures clears { Clears D.told place generation text.now (D.medium disk.old) (D.medium disk.new) }
+    ensures faults { DiskFaults result (D.medium disk.old) (D.medium disk.new) }
 {
     let parity = (generation % 2) as u32;
     write_fronts(disk, place, parity, others, &BLANK)?;

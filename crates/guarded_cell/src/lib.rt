@@ -7,8 +7,9 @@
 //! damaged.
 //!
 //! [`open_cell`] finds the text that stands and brings every copy to it, [`look`] only shows what the
-//! copies hold, [`standing_among`] chooses of that what stands, [`adopt`] and [`keep_only`] settle on
-//! a text that the caller chose, and [`format_cell`] begins anew. Each call changes slots of its place alone.
+//! copies hold, [`standing_among`] chooses of that what stands, [`adopt`] brings every copy to a text that
+//! the caller chose, [`adopt_seen`] to one that was seen, [`keep_only`] takes every other text away, and
+//! [`format_cell`] begins anew. Each call changes slots of its place alone.
 //!
 //! Limits: a body of at most 524,244 bytes, generations up to the greatest `u64`, and one caller at a
 //! time. The hash guards against damage, not against malice.
@@ -26,11 +27,12 @@ mod opening;
 mod replacing;
 mod slots;
 
-pub use adopting::adopt;
+pub use adopting::{adopt, adopt_seen};
 pub use cell::Cell;
-pub use errors::{CellError, WriteFault};
+pub use errors::CellError;
 pub use formatting::format_cell;
 pub use keeping::keep_only;
 pub use laws::{held_is_lawful, stops_are_lawful};
-pub use looking::{Seen, look};
+pub use looking::{Looked, Seen, look};
 pub use opening::{OpenedCell, open_cell, standing_among};
+pub use slots::Slots;

@@ -1,15 +1,16 @@
 //! What the copies hold.
 
 ghost use Rattle.std.specs.Prelude.{◌≡◌, ◌≤◌, ◌<◌, ◌+◌, ◌-◌, ◌++◌, ◌∷◌, [], IsTrue, IfOk, OnOk, IsErrOf, All, length};
-ghost use Rattle.per_base.specs.Causes.{Rose};
 ghost use Rattle.disk_model.specs.Medium.{Quiet, IsIdle, OnlyReads, Elapses};
-ghost use Rattle.guarded_cell.specs.Slots.{front};
+ghost use Rattle.disk_model.specs.Place.{slot};
+ghost use Rattle.guarded_cell.specs.Slots.{front, IsFlag, IsSlotsOf};
 ghost use Rattle.guarded_cell.specs.Held.{held, of_parity, text_in, is_seen, with_copy, with_slot};
 ghost use Rattle.hash_guard.specs.SealedText.{verified, max_body};
 ghost use Rattle.guarded_cell.specs.Seens.{IsSealable, IsPlaceOf};
+ghost use Rattle.guarded_cell.specs.Faults.{CellFaults};
 
 use crate::errors::CellError;
-use crate::slots::{front_room, read_front, settle};
+use crate::slots::{MAX_COPIES, Slots, front_room, read_front, settle};
 use disk_model::{Disk, Place};
 use hash_guard::verify;
 use per_base::{Bytes, Numbers};
@@ -27,61 +28,75 @@ pub struct Seen {
     pub copies: Numbers,
 }
 
-/// Every text that some copy holds, greatest generation first, then by first copy. It begins with a sync and writes
-/// nothing.
+/// What the copies of a place hold.
+#[derive(Debug, Drop)]
+pub struct Looked {
+    /// Every text that some copy holds, greatest generation first, then by first copy.
+    pub seens: Vec<Seen>,
+    /// Which slots hold a text.
+    pub slots: Slots,
+}
+
+/// Every text that some copy holds, greatest generation first, then by first copy, and which slots hold one. It begins
+/// with a sync, reads each slot once and writes nothing.
 ///
 /// # Errors
 ///
 /// Never `Corrupt`.
-pub fn look<D: Disk>(alloc: Global, disk: &mut D, place: Place) -> Result<Vec<Seen>, CellError>
-    ensures held { IsTrue D.told → IfOk result (λ seens. seens.items
+pub fn look<D: Disk>(alloc: Global, disk: &mut D, place: Place) -> Result<Looked, CellError>
+    ensures held { IsTrue D.told → IfOk result (λ looked. looked.seens.items
         ≡ held (D.medium disk.old).image place.first place.copies) }
-    ensures sealable { IfOk result (λ seens. All IsSealable seens.items) }
+    ensures slots { IsTrue D.told → IfOk result (λ looked.
+        IsSlotsOf (D.medium disk.old).image place.first place.copies looked.slots) }
+    ensures sealable { IfOk result (λ looked. All IsSealable looked.seens.items) }
 
     ensures quiet { OnOk result (Quiet (D.medium disk.new)) }
     ensures image { (D.medium disk.new).image ≡ (D.medium disk.old).image }
     ensures idle { Quiet (D.medium disk.old) → IsIdle (D.medium disk.old) (D.medium disk.new) }
     ensures written { (D.medium disk.new).written ≡ (D.medium disk.old).written }
 
-    ensures never_corrupt { IsErrOf result CellError.Corrupt → ⊥ }
-    ensures cause { IsErrOf result CellError.Device → Rose (D.medium disk.old).faults (D.medium disk.new).faults }
-    ensures passes { OnOk result ((D.medium disk.new).faults ≡ (D.medium disk.old).faults) }
-    ensures fed { IsErrOf result CellError.OutOfMemory → (D.medium disk.new).faults ≡ (D.medium disk.old).faults }
+    ensures never_corrupt { ¬ (IsErrOf result CellError.Corrupt) }
+    ensures faults { CellFaults result (D.medium disk.old) (D.medium disk.new) }
     ensures time { Elapses (D.medium disk.old) (D.medium disk.new) }
 {
     settle(disk)?;
     let mut room = front_room(alloc)?;
-    let seens = see_all(alloc, disk, place, &mut room)?;
-    Ok(seens)
+    let looked = see_all(alloc, disk, place, &mut room)?;
+    Ok(looked)
 }
 
-// The texts of all copies.
+// The texts and the slots of all copies.
 fn see_all<D: Disk>(
     alloc: Global,
     disk: &mut D,
     place: Place,
     room: &mut [u8],
-) -> Result<Vec<Seen>, CellError>
+) -> Result<Looked, CellError>
     requires { length room.old ≡ front }
-    ensures held { IsTrue D.told → IfOk result (λ seens. seens.items
+    ensures held { IsTrue D.told → IfOk result (λ looked. looked.seens.items
         ≡ held (D.medium disk.old).image place.first place.copies) }
-    ensures sealable { IfOk result (λ seens. All IsSealable seens.items) }
+    ensures slots { IsTrue D.told → IfOk result (λ looked.
+        IsSlotsOf (D.medium disk.old).image place.first place.copies looked.slots) }
+    ensures sealable { IfOk result (λ looked. All IsSealable looked.seens.items) }
     ensures reads { OnlyReads (D.medium disk.old) (D.medium disk.new) }
-    ensures never_corrupt { IsErrOf result CellError.Corrupt → ⊥ }
-    ensures cause { IsErrOf result CellError.Device → Rose (D.medium disk.old).faults (D.medium disk.new).faults }
-    ensures passes { OnOk result ((D.medium disk.new).faults ≡ (D.medium disk.old).faults) }
-    ensures fed { IsErrOf result CellError.OutOfMemory → (D.medium disk.new).faults ≡ (D.medium disk.old).faults }
+    ensures never_corrupt { ¬ (IsErrOf result CellError.Corrupt) }
+    ensures faults { CellFaults result (D.medium disk.old) (D.medium disk.new) }
     ensures time { Elapses (D.medium disk.old) (D.medium disk.new) }
 {
     let mut seens = Vec::new(alloc);
+    let mut even = [false; MAX_COPIES];
+    let mut odd = [false; MAX_COPIES];
     for copy in 0..place.copies {
-        see_slot(alloc, disk, place, copy, 0, room, &mut seens)?;
-        see_slot(alloc, disk, place, copy, 1, room, &mut seens)?;
+        even[copy as usize] = see_slot(alloc, disk, place, copy, 0, room, &mut seens)?;
+        odd[copy as usize] = see_slot(alloc, disk, place, copy, 1, room, &mut seens)?;
     }
-    Ok(seens)
+    Ok(Looked {
+        seens,
+        slots: Slots { even, odd },
+    })
 }
 
-// Adds what one slot holds.
+// Adds what one slot holds, and says whether it holds a text.
 fn see_slot<D: Disk>(
     alloc: Global,
     disk: &mut D,
@@ -90,7 +105,7 @@ fn see_slot<D: Disk>(
     parity: u32,
     room: &mut [u8],
     seens: &mut Vec<Seen>,
-) -> Result<(), CellError>
+) -> Result<bool, CellError>
     requires room { length room.old ≡ front }
     requires copy { copy < place.copies }
     requires parity { parity < 2 }
@@ -98,41 +113,41 @@ fn see_slot<D: Disk>(
     ensures seen { IsTrue D.told → OnOk result
         (seens.new.items ≡ with_slot (copy + 1) (text_in (D.medium disk.old).image place.first copy parity)
         seens.old.items) }
+    ensures flag { IsTrue D.told → IfOk result (IsFlag ((D.medium disk.old).image (slot place.first copy parity))) }
     ensures sealable { OnOk result (All IsSealable seens.new.items) }
     ensures reads { OnlyReads (D.medium disk.old) (D.medium disk.new) }
-    ensures never_corrupt { IsErrOf result CellError.Corrupt → ⊥ }
-    ensures cause { IsErrOf result CellError.Device → Rose (D.medium disk.old).faults (D.medium disk.new).faults }
-    ensures passes { OnOk result ((D.medium disk.new).faults ≡ (D.medium disk.old).faults) }
-    ensures fed { IsErrOf result CellError.OutOfMemory → (D.medium disk.new).faults ≡ (D.medium disk.old).faults }
+    ensures never_corrupt { ¬ (IsErrOf result CellError.Corrupt) }
+    ensures faults { CellFaults result (D.medium disk.old) (D.medium disk.new) }
     ensures time { Elapses (D.medium disk.old) (D.medium disk.new) }
 {
     let count = read_front(disk, place.slot(copy, parity), room)?;
-    note_front(alloc, &room[..count], copy, parity, seens)?;
-    Ok(())
+    let verifies = note_front(alloc, &room[..count], copy, parity, seens)?;
+    Ok(verifies)
 }
 
-// Adds what the front of a slot holds, if its generation has the slot's parity.
+// Adds what the front of a slot holds, if its generation has the slot's parity, and says whether it holds a text.
 fn note_front(
     alloc: Global,
     bytes: &[u8],
     copy: u32,
     parity: u32,
     seens: &mut Vec<Seen>,
-) -> Result<(), AllocError>
+) -> Result<bool, AllocError>
     requires copy { copy < 8 }
     requires sealable { All IsSealable seens.old.items }
     ensures seen { OnOk result (seens.new.items ≡ with_slot (copy + 1) (of_parity parity (verified bytes.now))
         seens.old.items) }
+    ensures flag { IfOk result (IsFlag bytes.now) }
     ensures sealable { OnOk result (All IsSealable seens.new.items) }
 {
     match verify(bytes) {
-        None => Ok(()),
+        None => Ok(false),
         Some(found) => {
             if found.generation % 2 != u64::from(parity) {
-                return Ok(());
+                return Ok(true);
             }
             note(alloc, copy + 1, found.generation, found.body, seens)?;
-            Ok(())
+            Ok(true)
         }
     }
 }

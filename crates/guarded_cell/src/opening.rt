@@ -2,26 +2,22 @@
 
 ghost use Rattle.std.specs.Prelude.{◌≡◌, ◌≤◌, ◌<◌, ◌+◌, ◌*◌, IsTrue, IfOk, OnOk, IsErrOf, length, nat_le, None, get_or};
 ghost use Rattle.std.specs.Prelude.{false};
-ghost use Rattle.per_base.specs.Causes.{Rose};
-ghost use Rattle.disk_model.specs.Frame.{Spares};
-ghost use Rattle.disk_model.specs.Medium.{Quiet, EachCase, Elapses};
-ghost use Rattle.disk_model.specs.Place.{IsNoSlot};
+ghost use Rattle.disk_model.specs.Medium.{Quiet};
 ghost use Rattle.guarded_cell.specs.Held.{standing, standing_in, lacking, copies_that};
-ghost use Rattle.guarded_cell.specs.Seens.{IsSealable};
-ghost use Rattle.guarded_cell.specs.Register.{IsAlone};
-ghost use Rattle.hash_guard.specs.SealedText.{max_body, header};
-ghost use Rattle.guarded_cell.specs.Opens.{StandsAs, OpenStops};
-ghost use Rattle.guarded_cell.specs.Rights.{IsRight, IsRightFor};
-ghost use Rattle.guarded_cell.specs.Stops.{PutStops};
+ghost use Rattle.guarded_cell.specs.Seens.{IsSealable, IsSeenOn};
+ghost use Rattle.guarded_cell.specs.Slots.{IsSlotsOf};
+ghost use Rattle.hash_guard.specs.SealedText.{header};
+ghost use Rattle.guarded_cell.specs.Opens.{StandsAs};
 ghost use Rattle.guarded_cell.specs.Cells.{CellAt, IsCellOf, place_of, generation_of};
+ghost use Rattle.guarded_cell.specs.Changes.{Brings, Opens};
+ghost use Rattle.guarded_cell.specs.Faults.{CellFaults};
 
-use crate::adopting::settle_on;
+use crate::adopting::adopt_seen;
 use crate::cell::Cell;
 use crate::errors::CellError;
-use crate::looking::{Seen, look};
-use crate::slots::{Pick, choose, front_room};
+use crate::looking::{Looked, Seen, look};
+use crate::slots::{Slots, all_but};
 use disk_model::{Disk, Place};
-use hash_guard::seal;
 use per_base::{Bytes, Numbers};
 use std::alloc::{AllocError, Global};
 
@@ -69,41 +65,28 @@ pub fn open_cell<D: Disk>(
     ensures memory { IsErrOf result CellError.OutOfMemory
         → ((D.medium disk.new).image ≡ (D.medium disk.old).image)
         × ((D.medium disk.new).written ≡ (D.medium disk.old).written) }
-    ensures cause { IsErrOf result CellError.Device → Rose (D.medium disk.old).faults (D.medium disk.new).faults }
-    ensures passes { OnOk result ((D.medium disk.new).faults ≡ (D.medium disk.old).faults) }
-    ensures fed { IsErrOf result CellError.OutOfMemory → (D.medium disk.new).faults ≡ (D.medium disk.old).faults }
+    ensures faults { CellFaults result (D.medium disk.old) (D.medium disk.new) }
     ensures unfailed { IsErrOf result CellError.Corrupt → (D.medium disk.new).faults ≡ (D.medium disk.old).faults }
 
     // Only slots of the place change, and none that is right already. A stop at any moment leaves every copy what it
     // held or every copy the text that stood.
-    ensures elsewhere { IsTrue D.told → Spares (IsNoSlot place.first place.copies) (D.medium disk.old).image
-        (D.medium disk.new).image }
-    ensures right { IsTrue D.told → Spares
-        (IsRightFor (standing (D.medium disk.old).image place.first place.copies m) (D.medium disk.old).image
-        place.first place.copies)
-        (D.medium disk.old).image (D.medium disk.new).image }
-    ensures any_moment { IsTrue D.told → Quiet (D.medium disk.old)
-        → EachCase (OpenStops place.first place.copies m (D.medium disk.old).image) (D.medium disk.old)
-        (D.medium disk.new) }
+    ensures opens { Opens D.told place m (D.medium disk.old) (D.medium disk.new) }
     ensures written { IfOk result (λ opened.
         (D.medium disk.new).written ≤ (D.medium disk.old).written
         + place.copies * (header + length opened.text + header)) }
-    ensures at_most { (D.medium disk.new).written ≤ (D.medium disk.old).written
-        + place.copies * (header + max_body + header) }
-    ensures time { Elapses (D.medium disk.old) (D.medium disk.new) }
 {
-    let seens = look(alloc, disk, place)?;
+    let Looked { seens, slots } = look(alloc, disk, place)?;
     match standing_among(seens, m) {
         None => Err(CellError::Corrupt),
         Some(seen) => {
-            let opened = open_at(alloc, disk, place, seen)?;
+            let opened = open_at(alloc, disk, place, seen, slots)?;
             Ok(opened)
         }
     }
 }
 
 /// The text that stands among those that [`look`] gave: the first that at least `m` copies hold. Takes no memory and no
-/// disk, so that a text can be judged before [`adopt`](crate::adopt) brings every copy to it.
+/// disk, so that a text can be judged before [`adopt_seen`](crate::adopt_seen) brings every copy to it.
 pub fn standing_among(seens: Vec<Seen>, m: u32) -> Option<Seen>
     ensures { result ≡ standing_in m seens.items }
 {
@@ -123,103 +106,31 @@ fn open_at<D: Disk>(
     disk: &mut D,
     place: Place,
     seen: Seen,
+    slots: Slots,
 ) -> Result<OpenedCell, CellError>
-    requires { IsSealable seen }
+    requires sealable { IsSealable seen }
+    requires seen { IsTrue D.told → IsSeenOn (D.medium disk.old).image place.first place.copies seen }
+    requires slots { IsTrue D.told → IsSlotsOf (D.medium disk.old).image place.first place.copies slots }
     ensures cell { IfOk result (λ opened. IsCellOf place seen.generation opened.cell) }
     ensures text { IfOk result (λ opened. opened.text ≡ seen.text) }
     ensures lacking { IsTrue D.told → IfOk result (λ opened.
         opened.lacking ≡ lacking (D.medium disk.old).image place.first place.copies seen.generation seen.text) }
     ensures held { IsTrue D.told → IfOk result (λ opened. CellAt (D.medium disk.new).image opened.cell seen.text) }
     ensures quiet { OnOk result (Quiet (D.medium disk.new)) }
-    ensures never_corrupt { IsErrOf result CellError.Corrupt → ⊥ }
-    ensures memory { IsErrOf result CellError.OutOfMemory
-        → ((D.medium disk.new).image ≡ (D.medium disk.old).image)
-        × ((D.medium disk.new).written ≡ (D.medium disk.old).written) }
-    ensures cause { IsErrOf result CellError.Device → Rose (D.medium disk.old).faults (D.medium disk.new).faults }
-    ensures passes { OnOk result ((D.medium disk.new).faults ≡ (D.medium disk.old).faults) }
-    ensures fed { IsErrOf result CellError.OutOfMemory → (D.medium disk.new).faults ≡ (D.medium disk.old).faults }
-    ensures elsewhere { IsTrue D.told → Spares (IsNoSlot place.first place.copies) (D.medium disk.old).image
-        (D.medium disk.new).image }
-    ensures right { IsTrue D.told → Spares (IsRight (D.medium disk.old).image place.first place.copies seen.generation
-        seen.text)
-        (D.medium disk.old).image (D.medium disk.new).image }
-    ensures any_moment { IsTrue D.told → Quiet (D.medium disk.old)
-        → EachCase (PutStops place.first place.copies seen.generation seen.text (D.medium disk.old).image)
-        (D.medium disk.old) (D.medium disk.new) }
-    ensures written { (D.medium disk.new).written ≤ (D.medium disk.old).written
-        + place.copies * (header + length seen.text + header) }
-    ensures time { Elapses (D.medium disk.old) (D.medium disk.new) }
+    ensures never_corrupt { ¬ (IsErrOf result CellError.Corrupt) }
+    ensures memory { IsErrOf result CellError.OutOfMemory → disk.new ≡ disk.old }
+    ensures faults { CellFaults result (D.medium disk.old) (D.medium disk.new) }
+    ensures brings { Brings D.told place seen.generation seen.text (D.medium disk.old) (D.medium disk.new) }
 {
-    let lacking = open_text(alloc, disk, place, seen.generation, seen.text.as_slice())?;
-    let Seen {
-        generation,
-        text,
-        ..
-    } = seen;
+    let chosen = all_but(place.copies, seen.copies.as_slice());
+    let lacking = numbers_of(alloc, place.copies, &chosen)?;
+    let cell = adopt_seen(alloc, disk, place, &seen, slots)?;
+    let Seen { text, .. } = seen;
     Ok(OpenedCell {
-        cell: Cell::new(place, generation),
+        cell,
         text,
         lacking,
     })
-}
-
-// Brings every copy to this text, and says which copies lacked it.
-fn open_text<D: Disk>(
-    alloc: Global,
-    disk: &mut D,
-    place: Place,
-    generation: u64,
-    text: &[u8],
-) -> Result<Numbers, CellError>
-    requires positive { 1 ≤ generation }
-    requires short { length text.now ≤ max_body }
-    ensures lacking { IsTrue D.told → IfOk result (λ numbers.
-        numbers ≡ lacking (D.medium disk.old).image place.first place.copies generation text.now) }
-    ensures alone { IsTrue D.told → OnOk result (IsAlone (D.medium disk.new).image place.first place.copies generation
-        text.now) }
-    ensures quiet { OnOk result (Quiet (D.medium disk.new)) }
-    ensures never_corrupt { IsErrOf result CellError.Corrupt → ⊥ }
-    ensures memory { IsErrOf result CellError.OutOfMemory
-        → ((D.medium disk.new).image ≡ (D.medium disk.old).image)
-        × ((D.medium disk.new).written ≡ (D.medium disk.old).written) }
-    ensures cause { IsErrOf result CellError.Device → Rose (D.medium disk.old).faults (D.medium disk.new).faults }
-    ensures passes { OnOk result ((D.medium disk.new).faults ≡ (D.medium disk.old).faults) }
-    ensures fed { IsErrOf result CellError.OutOfMemory → (D.medium disk.new).faults ≡ (D.medium disk.old).faults }
-    ensures elsewhere { IsTrue D.told → Spares (IsNoSlot place.first place.copies) (D.medium disk.old).image
-        (D.medium disk.new).image }
-    ensures right { IsTrue D.told → Spares (IsRight (D.medium disk.old).image place.first place.copies generation
-        text.now)
-        (D.medium disk.old).image (D.medium disk.new).image }
-    ensures any_moment { IsTrue D.told → Quiet (D.medium disk.old)
-        → EachCase (PutStops place.first place.copies generation text.now (D.medium disk.old).image)
-        (D.medium disk.old) (D.medium disk.new) }
-    ensures written { (D.medium disk.new).written ≤ (D.medium disk.old).written
-        + place.copies * (header + length text.now + header) }
-    ensures time { Elapses (D.medium disk.old) (D.medium disk.new) }
-{
-    let sealed_text = seal(alloc, generation, text)?;
-    let mut room = front_room(alloc)?;
-    let parity = (generation % 2) as u32;
-    let chosen = choose(
-        disk,
-        place,
-        parity,
-        Pick::Lacking,
-        generation,
-        text,
-        &mut room,
-    )?;
-    let lacking = numbers_of(alloc, place.copies, &chosen)?;
-    settle_on(
-        disk,
-        place,
-        generation,
-        text,
-        &sealed_text,
-        &chosen,
-        &mut room,
-    )?;
-    Ok(lacking)
 }
 
 // The chosen ones among the first copies, ascending.

@@ -1,16 +1,13 @@
 //! Putting a text into every copy: first where it lacks, then, once that is durable, alone.
 
-ghost use Rattle.std.specs.Prelude.{◌≡◌, ◌≤◌, ◌<◌, ◌+◌, ◌*◌, IsTrue, OnErr, OnOk, length};
-ghost use Rattle.per_base.specs.Causes.{Rose};
-ghost use Rattle.hash_guard.specs.SealedText.{sealed, max_body, header};
-ghost use Rattle.disk_model.specs.Frame.{Spares};
-ghost use Rattle.disk_model.specs.Medium.{Quiet, EachCase, Elapses};
-ghost use Rattle.disk_model.specs.Place.{IsNoSlot};
+ghost use Rattle.std.specs.Prelude.{◌≡◌, ◌≤◌, ◌<◌, IsTrue, OnOk, length};
+ghost use Rattle.hash_guard.specs.SealedText.{sealed, max_body};
+ghost use Rattle.disk_model.specs.Medium.{Quiet};
 ghost use Rattle.guarded_cell.specs.Register.{IsAlone, own, other};
 ghost use Rattle.guarded_cell.specs.Slots.{Picks};
 ghost use Rattle.guarded_cell.specs.declared.slots.Pick.TheVariants.{Lacking, Verifying};
-ghost use Rattle.guarded_cell.specs.Rights.{IsRight};
-ghost use Rattle.guarded_cell.specs.Stops.{PutStops};
+ghost use Rattle.guarded_cell.specs.Changes.{Brings};
+ghost use Rattle.guarded_cell.specs.Faults.{DiskFaults};
 
 use crate::fronts::write_durably;
 use disk_model::{Disk, DiskFailed, Place};
@@ -42,21 +39,8 @@ pub(crate) fn replace<D: Disk>(
     ensures alone { IsTrue D.told → OnOk result (IsAlone (D.medium disk.new).image place.first place.copies generation
         text.now) }
     ensures quiet { OnOk result (Quiet (D.medium disk.new)) }
-    ensures elsewhere { IsTrue D.told → Spares (IsNoSlot place.first place.copies) (D.medium disk.old).image
-        (D.medium disk.new).image }
-    ensures right { IsTrue D.told → Spares (IsRight (D.medium disk.old).image place.first place.copies generation
-        text.now)
-        (D.medium disk.old).image (D.medium disk.new).image }
-    ensures already { IsTrue D.told → IsAlone (D.medium disk.old).image place.first place.copies generation text.now
-        → (D.medium disk.new).written ≡ (D.medium disk.old).written }
-    ensures any_moment { IsTrue D.told → Quiet (D.medium disk.old)
-        → EachCase (PutStops place.first place.copies generation text.now (D.medium disk.old).image)
-        (D.medium disk.old) (D.medium disk.new) }
-    ensures written { (D.medium disk.new).written ≤ (D.medium disk.old).written
-        + place.copies * (header + length text.now + header) }
-    ensures time { Elapses (D.medium disk.old) (D.medium disk.new) }
-    ensures cause { OnErr result (Rose (D.medium disk.old).faults (D.medium disk.new).faults) }
-    ensures passes { OnOk result ((D.medium disk.new).faults ≡ (D.medium disk.old).faults) }
+    ensures brings { Brings D.told place generation text.now (D.medium disk.old) (D.medium disk.new) }
+    ensures faults { DiskFaults result (D.medium disk.old) (D.medium disk.new) }
 {
     let parity = (generation % 2) as u32;
     write_durably(disk, place, parity, lacking, sealed_text)?;

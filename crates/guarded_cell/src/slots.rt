@@ -1,11 +1,12 @@
-//! Reading slots: what one slot holds, and which copies a pass picks.
+//! Reading slots: what one slot holds, which slots hold a text, and which copies a pass picks.
 
-ghost use Rattle.std.specs.Prelude.{◌≡◌, ◌≤◌, ◌<◌, IsTrue, IfOk, OnErr, OnOk, length, take, nat_eq, ◌&&◌};
+ghost use Rattle.std.specs.Prelude.{◌≡◌, ◌≤◌, ◌<◌, ◌+◌, ℕ, IsTrue, IfOk, OnOk, length, take, nat_eq, ◌&&◌, not};
+ghost use Rattle.std.specs.Prelude.{get_or, false};
 ghost use Rattle.std.specs.Str.{bytes_eq};
-ghost use Rattle.per_base.specs.Causes.{Rose};
 ghost use Rattle.disk_model.specs.Medium.{Quiet, IsIdle, OnlyReads, Elapses};
-ghost use Rattle.disk_model.specs.Place.{slot};
-ghost use Rattle.guarded_cell.specs.Slots.{front, IsFound, Tells, Picks, picked};
+ghost use Rattle.disk_model.specs.Orders.{named_in};
+ghost use Rattle.guarded_cell.specs.Slots.{front, IsFound, Picks, picked};
+ghost use Rattle.guarded_cell.specs.Faults.{DiskFaults};
 
 use disk_model::{Disk, DiskFailed, Place};
 use hash_guard::{HEADER, MAX_BODY, Sealed, verify};
@@ -16,6 +17,28 @@ pub(crate) const FRONT: usize = HEADER + MAX_BODY;
 
 /// The greatest number of copies of a place.
 pub(crate) const MAX_COPIES: usize = 8;
+
+/// Which slots of a place hold a text, be its generation of the slot's parity or not.
+#[derive(Clone, Copy, Debug)]
+pub struct Slots {
+    pub(crate) even: [bool; MAX_COPIES],
+    pub(crate) odd: [bool; MAX_COPIES],
+}
+
+impl Slots {
+    ghost use Rattle.guarded_cell.specs.Slots.{others_of};
+
+    // Those of the parity in which no text of this generation belongs.
+    pub(crate) fn others(self, generation: u64) -> [bool; MAX_COPIES]
+        ensures { result ≡ others_of self generation }
+    {
+        if generation % 2 == 0 {
+            self.odd
+        } else {
+            self.even
+        }
+    }
+}
 
 /// What is found in a slot, where one text is wanted.
 #[derive(Clone, Copy, PartialEq, Eq)]
@@ -54,8 +77,7 @@ pub(crate) fn settle<D: Disk>(disk: &mut D) -> Result<(), DiskFailed>
     ensures idle { Quiet (D.medium disk.old) → IsIdle (D.medium disk.old) (D.medium disk.new) }
     ensures written { (D.medium disk.new).written ≡ (D.medium disk.old).written }
     ensures time { Elapses (D.medium disk.old) (D.medium disk.new) }
-    ensures cause { OnErr result (Rose (D.medium disk.old).faults (D.medium disk.new).faults) }
-    ensures passes { OnOk result ((D.medium disk.new).faults ≡ (D.medium disk.old).faults) }
+    ensures faults { DiskFaults result (D.medium disk.old) (D.medium disk.new) }
 {
     disk.sync()?;
     Ok(())
@@ -72,8 +94,7 @@ pub(crate) fn read_front<D: Disk>(
     ensures bytes { IsTrue D.told → IfOk result (λ n. take n room.new ≡ take front ((D.medium disk.old).image file)) }
     ensures reads { OnlyReads (D.medium disk.old) (D.medium disk.new) }
     ensures time { Elapses (D.medium disk.old) (D.medium disk.new) }
-    ensures cause { OnErr result (Rose (D.medium disk.old).faults (D.medium disk.new).faults) }
-    ensures passes { OnOk result ((D.medium disk.new).faults ≡ (D.medium disk.old).faults) }
+    ensures faults { DiskFaults result (D.medium disk.old) (D.medium disk.new) }
 {
     let count = disk.read(file, 0, room)?;
     Ok(count)
@@ -115,8 +136,7 @@ fn look_at<D: Disk>(
         IsFound found ((D.medium disk.old).image file) generation text.now) }
     ensures reads { OnlyReads (D.medium disk.old) (D.medium disk.new) }
     ensures time { Elapses (D.medium disk.old) (D.medium disk.new) }
-    ensures cause { OnErr result (Rose (D.medium disk.old).faults (D.medium disk.new).faults) }
-    ensures passes { OnOk result ((D.medium disk.new).faults ≡ (D.medium disk.old).faults) }
+    ensures faults { DiskFaults result (D.medium disk.old) (D.medium disk.new) }
 {
     let count = read_front(disk, file, room)?;
     let found = find_text(&room[..count], generation, text);
@@ -159,8 +179,7 @@ pub(crate) fn choose<D: Disk>(
         Picks pick chosen (D.medium disk.old).image place.first place.copies parity generation text.now) }
     ensures reads { OnlyReads (D.medium disk.old) (D.medium disk.new) }
     ensures time { Elapses (D.medium disk.old) (D.medium disk.new) }
-    ensures cause { OnErr result (Rose (D.medium disk.old).faults (D.medium disk.new).faults) }
-    ensures passes { OnOk result ((D.medium disk.new).faults ≡ (D.medium disk.old).faults) }
+    ensures faults { DiskFaults result (D.medium disk.old) (D.medium disk.new) }
 {
     let mut chosen = [false; MAX_COPIES];
     for copy in 0..place.copies {
@@ -168,4 +187,16 @@ pub(crate) fn choose<D: Disk>(
         chosen[copy as usize] = is_picked(pick, found);
     }
     Ok(chosen)
+}
+
+/// The flags of those among the first copies that these numbers, counted from 1, do not name.
+pub(crate) fn all_but(copies: u32, numbers: &[u32]) -> [bool; MAX_COPIES]
+    requires { copies ≤ 8 }
+    ensures { (copy : ℕ) → copy < copies → get_or result copy false ≡ not (named_in numbers.now (copy + 1)) }
+{
+    let mut chosen = [false; MAX_COPIES];
+    for copy in 0..copies {
+        chosen[copy as usize] = !numbers.contains(&(copy + 1));
+    }
+    chosen
 }

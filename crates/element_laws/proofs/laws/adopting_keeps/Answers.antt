@@ -1,4 +1,4 @@
-use Rattle.element_laws.proofs.Phases.{adopt, keep}
+use Rattle.element_laws.specs.lemmas.Phases.{adopt, keep}
 use Rattle.element_laws.proofs.laws.adopting_keeps.Goals as goal
 
 pub returns-clause-adopt : goal.returns-clause-adopt

@@ -1,4 +1,4 @@
-use Rattle.element_laws.proofs.Phases.{contents, contents_done}
+use Rattle.element_laws.specs.lemmas.Phases.{contents, contents_done}
 use Rattle.element_laws.proofs.laws.contents_keep.Goals as goal
 
 pub returns-clause-during : goal.returns-clause-during

@@ -1,4 +1,4 @@
-use Rattle.element_laws.proofs.IndexLaws.{index}
+use Rattle.element_laws.specs.lemmas.IndexLaws.{index}
 use Rattle.element_laws.proofs.laws.index_keeps.Goals as goal
 
 pub returns : goal.returns

@@ -1,5 +1,5 @@
-use Rattle.element_laws.proofs.Refusals.{index_first, index_first_anew, old_overwritten, other_value, planted}
-use Rattle.element_laws.proofs.Refusals.{copy_eaten, other_raised, salvage_raised, salvage_lost}
+use Rattle.element_laws.specs.lemmas.Refusals.{index_first, index_first_anew, old_overwritten, other_value, planted}
+use Rattle.element_laws.specs.lemmas.Refusals.{copy_eaten, other_raised, salvage_raised, salvage_lost}
 use Rattle.element_laws.proofs.laws.outcomes_are_refused.Goals as goal
 
 pub returns-clause-index_first : goal.returns-clause-index_first

@@ -1,4 +1,4 @@
-use Rattle.element_laws.proofs.Phases.{damage, untouched}
+use Rattle.element_laws.specs.lemmas.Phases.{damage, untouched}
 use Rattle.element_laws.proofs.laws.untouched_is_kept.Goals as goal
 
 pub returns-clause-damage : goal.returns-clause-damage

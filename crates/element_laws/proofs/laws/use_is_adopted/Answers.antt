@@ -1,5 +1,5 @@
-use Rattle.element_laws.proofs.Phases.{corrupt_found}
-use Rattle.element_laws.proofs.Refusals.{in_use, carried, whole, opened}
+use Rattle.element_laws.specs.lemmas.Phases.{corrupt_found}
+use Rattle.element_laws.specs.lemmas.Refusals.{in_use, carried, whole, opened}
 use Rattle.element_laws.proofs.laws.use_is_adopted.Goals as goal
 
 pub returns-clause-adopted : goal.returns-clause-adopted

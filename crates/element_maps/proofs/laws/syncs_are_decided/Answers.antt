@@ -1,4 +1,4 @@
-use Rattle.element_maps.proofs.Same.{next_view, same_map_from, same_map_is, view_stays}
+use Rattle.element_maps.specs.lemmas.Same.{next_view, same_map_from, same_map_is, view_stays}
 use Rattle.element_maps.proofs.laws.syncs_are_decided.Goals as goal
 
 pub returns-clause-decides : goal.returns-clause-decides

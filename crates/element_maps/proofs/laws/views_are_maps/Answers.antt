@@ -1,4 +1,4 @@
-use Rattle.element_maps.proofs.Same.{same_is, same_from}
+use Rattle.element_maps.specs.lemmas.Same.{same_is, same_from}
 use Rattle.element_maps.proofs.Synced.{untested, owed}
 use Rattle.element_maps.proofs.laws.views_are_maps.Goals as goal
 

@@ -13,7 +13,7 @@ use Rattle.element_state.specs.Fit.{FitText}
 use Rattle.element_state.specs.Views.{entry_view, entries_of}
 use Rattle.element_state.specs.Chosen.{HasBlocks, IsFit, IsReadBy}
 use Rattle.element_state.specs.Surveys.{IsFirst, IsAmong}
-use Rattle.element_state.proofs.Entrywise.{all_at, all_less}
+use Rattle.element_state.specs.lemmas.Entrywise.{all_at, all_less}
 use Rattle.element_state.proofs.Finding.{chosen_by, chosen_first, chosen_none, found_chosen, found_read, found_viewed}
 use Rattle.element_state.proofs.choosing.choose.Goals as goal
 
@@ -47,10 +47,10 @@ returns-in-Some-clause-viewed g c = λ tells.
     c.in-Some.is c.in_ok-at.ensures.among in
     let among = subst (λ (ts : List FitText). IsAmong shape.place.copies ts (at, c.in-Some.entries))
     c.deref.ensures.value inside in
-    let long : c.len-settled.result ≡ length texts = omega (arith, c.len-settled.ensures, c.args.texts.ok) in
+    let long : c.len-sole.result ≡ length texts = omega (arith, c.len-sole.ensures, c.args.texts.ok) in
     let chose = found_chosen f true (get_or texts at d) c.in_ok-found.ensures.opens c.in_ok-found.ensures.text
     ∙ sym (chosen_by old shape texts (c.requires.texts tells) (Some (get_or texts at d)) (first d).0) in
-    found_viewed shape texts f at (nat_le c.len-settled.result 1) c.in-Some.entries among.0 c.in_ok-found.ensures.text
+    found_viewed shape texts f at (nat_le c.len-sole.result 1) c.in-Some.entries among.0 c.in_ok-found.ensures.text
     c.in_ok-found.ensures.view old
     (c.requires.texts tells) (c.requires.held tells) (ap (λ (n : ℕ). nat_le n 1) long)
     ((first d).1 ∙ ap (λ (t : FitText). entries_of old shape t) (sym c.in_ok-found.ensures.text)) chose
@@ -65,7 +65,7 @@ returns-in-Some-clause-found g c =
     c.in-Some.is c.in_ok-at.ensures.among in
     let among = subst (λ (ts : List FitText). IsAmong shape.place.copies ts (at, c.in-Some.entries))
     c.deref.ensures.value inside in
-    found_read shape texts f at (nat_le c.len-settled.result 1) c.in-Some.entries among.0 c.in_ok-found.ensures.text
+    found_read shape texts f at (nat_le c.len-sole.result 1) c.in-Some.entries among.0 c.in_ok-found.ensures.text
     c.in_ok-found.ensures.view
     c.requires.fit (among.1 (f.seen, f.index))
 
@@ -125,14 +125,14 @@ returns-clause-viewed g c = λ tells.
     let lt : 0 < length texts = omega (arith, some, c.args.texts.ok) in
     let chose = found_chosen f false (get_or texts 0 d) c.in_ok-found-2.ensures.opens c.in_ok-found-2.ensures.text
     ∙ sym (chosen_first old shape texts (c.requires.texts tells) d first lt) in
-    let long : c.len-settled.result ≡ length texts = omega (arith, c.len-settled.ensures, c.args.texts.ok) in
+    let long : c.len-sole.result ≡ length texts = omega (arith, c.len-sole.ensures, c.args.texts.ok) in
     let same : x ≡ d = c.index.ensures ∙ get_or_default texts 0 x d lt ∙ sym c.in_ok-found-2.ensures.text in
     let reads = c.new.ensures ∙ c.in_ok-entries.ensures.views tells
     ∙ ap (λ (image : Image). map (entry_view image shape.place shape.m) c.as_slice.result.now)
     c.first_qualifying.ensures.reads.image
     ∙ ap (λ (es : List IndexEntry). map (entry_view old shape.place shape.m) es) c.as_slice.ensures
     ∙ ap (λ (t : FitText). entries_of old shape t) same in
-    found_viewed shape texts f 0 (nat_le c.len-settled.result 1) c.new.result lt c.in_ok-found-2.ensures.text
+    found_viewed shape texts f 0 (nat_le c.len-sole.result 1) c.new.result lt c.in_ok-found-2.ensures.text
     c.in_ok-found-2.ensures.view old
     (c.requires.texts tells) (c.requires.held tells) (ap (λ (n : ℕ). nat_le n 1) long) reads chose
 
@@ -151,6 +151,6 @@ returns-clause-found g c =
     let read = subst (λ (fs : List Entry). R x.1.entries fs) (sym c.new.ensures)
     (subst (λ (es : List IndexEntry). R es c.in_ok-entries.entries.items) c.as_slice.ensures
     c.in_ok-entries.ensures.read) in
-    found_read shape texts f 0 (nat_le c.len-settled.result 1) c.new.result lt c.in_ok-found-2.ensures.text
+    found_read shape texts f 0 (nat_le c.len-sole.result 1) c.new.result lt c.in_ok-found-2.ensures.text
     c.in_ok-found-2.ensures.view
     c.requires.fit (subst (λ (t : FitText). R t.1.entries c.new.result) same read)

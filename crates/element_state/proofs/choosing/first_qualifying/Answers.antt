@@ -8,7 +8,7 @@ use Rattle.element_state.specs.Fit.{FitText}
 use Rattle.element_state.specs.Views.{qualifies, entries_of}
 use Rattle.element_state.specs.Chosen.{IsFit, IsReadBy}
 use Rattle.element_state.specs.Surveys.{IsHeldOn, IsTried}
-use Rattle.element_state.proofs.Entrywise.{read_on, all_at}
+use Rattle.element_state.specs.lemmas.Entrywise.{read_on, all_at}
 use Rattle.element_state.proofs.Finding.{none_more, found_at}
 use Rattle.element_state.proofs.choosing.first_qualifying.Goals as goal
 

@@ -1,6 +1,6 @@
 use Rattle.std.proofs.Common.{◌≡◌, IsTrue, None, find, take}
 use Rattle.element_state.specs.Views.{qualifies}
-use Rattle.element_state.proofs.Entrywise.{IsRead}
+use Rattle.element_state.specs.lemmas.Entrywise.{IsRead}
 use Rattle.element_state.proofs.choosing.first_qualifying.Given as goal
 
 abbrev pub invariant-loop-at : goal.invariant-loop-at

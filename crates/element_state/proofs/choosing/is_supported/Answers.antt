@@ -7,7 +7,7 @@ use Rattle.index_text.specs.declared.entries.IndexEntry.{IndexEntry}
 use Rattle.element_state.specs.Fit.{FitText}
 use Rattle.element_state.specs.Views.{supporters}
 use Rattle.element_state.specs.Chosen.{Vouches, is_whole_of}
-use Rattle.element_state.proofs.Supported.{all_alike}
+use Rattle.element_state.specs.lemmas.Supported.{all_alike}
 use Rattle.element_state.proofs.Viewing.{all_vouched}
 use Rattle.element_state.proofs.choosing.is_supported.Goals as goal
 

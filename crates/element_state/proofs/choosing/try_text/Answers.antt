@@ -2,8 +2,8 @@ use Rattle.std.proofs.Common.{length, sym, ap, subst, ◌∙◌, arith}
 use Rattle.std.specs.List.{AllByRecursion}
 use Rattle.index_text.specs.Rules.{IsEntry}
 use Rattle.element_state.specs.Chosen.{HasBlocks, IsReadBy}
-use Rattle.element_state.proofs.Entrywise.{all_less, length_zip}
-use Rattle.element_state.proofs.Supported.{too_few}
+use Rattle.element_state.specs.lemmas.Entrywise.{all_less, length_zip}
+use Rattle.element_state.specs.lemmas.Supported.{too_few}
 use Rattle.element_state.proofs.choosing.try_text.Goals as goal
 
 pub returns-then-as_slice-shape-clause-tried : goal.returns-then-as_slice-shape-clause-tried

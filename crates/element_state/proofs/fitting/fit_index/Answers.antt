@@ -1,6 +1,6 @@
 use Rattle.std.proofs.Common.{Some, None, sym, subst, ◌∙◌}
 use Rattle.index_text.specs.Reading.{Refuses, index_of}
-use Rattle.element_state.proofs.Entrywise.{fit_index_by, if_fits_yes, if_fits_no}
+use Rattle.element_state.specs.lemmas.Entrywise.{fit_index_by, if_fits_yes, if_fits_no}
 use Rattle.element_state.proofs.fitting.fit_index.Goals as goal
 
 pub returns-then-fits-clause-index : goal.returns-then-fits-clause-index

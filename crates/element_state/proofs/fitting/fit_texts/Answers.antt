@@ -6,7 +6,7 @@ use Rattle.guarded_cell.specs.declared.looking.Seen.{Seen}
 use Rattle.index_text.specs.declared.entries.Index.{Index}
 use Rattle.element_state.specs.Fit.{FitText, fit_among, fit_index}
 use Rattle.element_state.specs.Chosen.{IsFitIndex}
-use Rattle.element_state.proofs.Entrywise.{fit_more, fit_skip, all_push}
+use Rattle.element_state.specs.lemmas.Entrywise.{fit_more, fit_skip, all_push}
 use Rattle.element_state.proofs.fitting.fit_texts.Goals as goal
 
 pub loop-seen-init : goal.loop-seen-init

@@ -4,7 +4,7 @@ use Rattle.std.specs.List.{list_all}
 use Rattle.std.proofs.lemmas.Bool.{le-leb}
 use Rattle.index_text.specs.declared.entries.IndexEntry.{IndexEntry}
 use Rattle.index_text.specs.Sizes.{area_blocks, size_of}
-use Rattle.element_state.proofs.Entrywise.{fits_by}
+use Rattle.element_state.specs.lemmas.Entrywise.{fits_by}
 use Rattle.element_state.proofs.fitting.fits.Goals as goal
 
 pub returns : goal.returns

@@ -1,9 +1,9 @@
 use Rattle.std.proofs.Common.{◌<◌, length, take, [], ◌+◌, ap, sym, subst, ◌∙◌, arith}
 use Rattle.std.specs.List.{AllZip}
-use Rattle.disk_model.proofs.Moments.{reads_on, elapses_on}
+use Rattle.disk_model.specs.Laws.{reads_on, elapses_on}
 use Rattle.element_state.specs.Views.{entry_view}
 use Rattle.element_state.specs.Chosen.{IsReadBy, HasBlocks}
-use Rattle.element_state.proofs.Entrywise.{read_none, read_on, all_at, zip_more, map_push}
+use Rattle.element_state.specs.lemmas.Entrywise.{read_none, read_on, all_at, zip_more, map_push}
 use Rattle.element_state.proofs.reading.read_entries.Goals as goal
 
 pub loop-entry-init : goal.loop-entry-init

@@ -2,7 +2,7 @@ use Rattle.std.proofs.Common.{◌≡◌, IsTrue, map, take}
 use Rattle.std.specs.List.{AllZip}
 use Rattle.element_state.specs.Views.{entry_view}
 use Rattle.element_state.specs.Chosen.{IsReadBy}
-use Rattle.element_state.proofs.Entrywise.{IsRead}
+use Rattle.element_state.specs.lemmas.Entrywise.{IsRead}
 use Rattle.element_state.proofs.reading.read_entries.Given as goal
 
 abbrev pub invariant-loop-entry : goal.invariant-loop-entry

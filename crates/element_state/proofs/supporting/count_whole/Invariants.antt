@@ -1,7 +1,7 @@
 use Rattle.std.proofs.Common.{◌≡◌, ◌≤◌, IsTrue, length}
 use Rattle.guarded_cell.specs.Held.{copies_that}
 use Rattle.element_state.specs.Chosen.{is_whole_of}
-use Rattle.element_state.proofs.Entrywise.{IsRead}
+use Rattle.element_state.specs.lemmas.Entrywise.{IsRead}
 use Rattle.element_state.proofs.supporting.count_whole.Given as goal
 
 abbrev pub invariant-loop-copy : goal.invariant-loop-copy

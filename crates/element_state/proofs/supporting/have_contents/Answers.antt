@@ -3,7 +3,7 @@ use Rattle.disk_model.specs.Image.{Image}
 use Rattle.per_base.specs.declared.elements.Entry.{Entry}
 use Rattle.index_text.specs.declared.entries.IndexEntry.{IndexEntry}
 use Rattle.element_state.specs.Chosen.{Vouches}
-use Rattle.element_state.proofs.Entrywise.{zip_at}
+use Rattle.element_state.specs.lemmas.Entrywise.{zip_at}
 use Rattle.element_state.proofs.supporting.have_contents.Goals as goal
 
 pub has_content-requires-clause-vouched : goal.has_content-requires-clause-vouched

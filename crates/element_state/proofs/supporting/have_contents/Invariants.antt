@@ -1,7 +1,7 @@
 use Rattle.std.proofs.Common.{◌≡◌, IsTrue, true, take}
 use Rattle.std.specs.List.{list_all}
 use Rattle.element_state.specs.Views.{counts}
-use Rattle.element_state.proofs.Entrywise.{IsRead}
+use Rattle.element_state.specs.lemmas.Entrywise.{IsRead}
 use Rattle.element_state.proofs.supporting.have_contents.Given as goal
 
 abbrev pub invariant-loop-i : goal.invariant-loop-i

@@ -1,8 +1,9 @@
 use Rattle.std.proofs.Common.{◌≢◌, List, [], ◌∷◌, map, sym, ap, subst, ◌∙◌, inl, arith}
+use Rattle.per_base.specs.declared.elements.Change.{Change}
+use Rattle.per_base.specs.Changes.{changed_name}
 use Rattle.index_text.specs.declared.entries.IndexEntry.{IndexEntry}
-use Rattle.element_state.specs.declared.shapes.Change.{Change}
 use Rattle.element_state.specs.Changes.{after_change, without_item, entry_name, touched}
-use Rattle.element_state.specs.Conditions.{IsChange, changed_name}
+use Rattle.element_state.specs.Conditions.{IsChange}
 use Rattle.element_store.specs.Changing.{named_by, entry_of_name, IsPlanned, KeepsOthers}
 use Rattle.element_store.proofs.Traced.{other_without, other_touched}
 use Rattle.element_store.proofs.Changed.{planned_remove, planned_touch}

@@ -3,7 +3,7 @@ use Rattle.std.specs.Prelude.{sum_by}
 use Rattle.std.proofs.lemmas.List.{take_more}
 use Rattle.index_text.specs.declared.entries.IndexEntry.{IndexEntry}
 use Rattle.per_base.specs.declared.elements.Entry.{Entry}
-use Rattle.element_state.specs.declared.shapes.Change.{Change}
+use Rattle.per_base.specs.declared.elements.Change.{Change}
 use Rattle.element_state.specs.Changes.{after_change, after_changes}
 use Rattle.element_state.specs.Written.{change_cost}
 use Rattle.element_store.specs.declared.jobs.Job.{Job}

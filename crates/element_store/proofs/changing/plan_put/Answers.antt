@@ -1,11 +1,11 @@
 use Rattle.std.proofs.Common.{ℕ, ◌∷◌, ◌++◌, List, [], length, sym, ap, subst, ◌∙◌, arith}
+use Rattle.per_base.specs.declared.elements.Change.TheVariants.{Put}
 use Rattle.block_files.specs.Parts.{blocks_for}
 use Rattle.block_files.specs.BlockSets.{AreDistinct, IsAdded, SharesBlocks}
 use Rattle.index_text.specs.declared.entries.IndexEntry.{IndexEntry}
 use Rattle.element_state.specs.Changes.{insert_item, without_item, entry_name}
 use Rattle.element_state.specs.States.{fresh_entry, fresh_element}
 use Rattle.element_store.specs.declared.jobs.Job.{Job}
-use Rattle.element_state.specs.declared.shapes.Change.TheVariants.{Put}
 use Rattle.element_store.specs.Changing.{named_by, IsPlanned, KeepsOthers, IsGrownBy}
 use Rattle.element_store.proofs.Traced.{put_others, put_grown}
 use Rattle.element_store.proofs.Earlier.{changed_at_most}

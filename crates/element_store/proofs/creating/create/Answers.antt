@@ -4,8 +4,9 @@ use Rattle.per_base.specs.declared.elements.Fresh.{Fresh}
 use Rattle.std.specs.List.{AllZip}
 use Rattle.disk_model.specs.Case.{Case}
 use Rattle.disk_model.specs.Medium.{EachCase}
-use Rattle.disk_model.proofs.Places.{outside_no_slot}
-use Rattle.index_text.proofs.Lengths.{text_is_short}
+use Rattle.disk_model.specs.Laws.{elapses_on}
+use Rattle.disk_model.specs.lemmas.Places.{outside_no_slot}
+use Rattle.index_text.specs.lemmas.Lengths.{text_is_short}
 use Rattle.index_text.specs.Spelling.{index_text}
 use Rattle.element_store.specs.Creates.{IsUntorn}
 use Rattle.element_store.specs.Plans.{IsMade, blocks_of_all}
@@ -49,7 +50,7 @@ returns-clause-clean g c = λ tells. created_clean g.D.Disk.told (g.D.Disk.mediu
     c.requires.shape c.in_ok-cell.ensures.cell
     (subst (λ (t : List ℕ). IsTextOf c.args.shape t c.in_ok-spelled.spelled.index) (sym c.as_slice-2.ensures)
     c.in_ok-spelled.ensures.fit)
-    c.in_ok-cell.ensures.held c.in_ok-cell.ensures.elsewhere c.in_ok-spelled.ensures.shown tells
+    c.in_ok-cell.ensures.held c.in_ok-cell.ensures.formats.elsewhere c.in_ok-spelled.ensures.shown tells
 
 pub returns-clause-used : goal.returns-clause-used
 returns-clause-used g c =
@@ -63,7 +64,7 @@ returns-clause-used g c =
     c.requires.shape c.in_ok-cell.ensures.cell
     (subst (λ (t : List ℕ). IsTextOf c.args.shape t c.in_ok-spelled.spelled.index) (sym c.as_slice-2.ensures)
     c.in_ok-spelled.ensures.fit)
-    c.in_ok-cell.ensures.held c.in_ok-cell.ensures.elsewhere
+    c.in_ok-cell.ensures.held c.in_ok-cell.ensures.formats.elsewhere
     (subst Q c.deref.ensures.value c.in_ok-spelled.ensures.shown)
     c.args.alloc c.in_ok-entries.entries c.in_ok-taken.taken
     (taken_area c.args.shape c.in_ok-spelled.spelled.index c.as_slice.result.now c.blocks_in_area-2.result
@@ -86,7 +87,7 @@ returns-clause-view g c =
     c.requires.shape c.in_ok-cell.ensures.cell
     (subst (λ (t : List ℕ). IsTextOf c.args.shape t c.in_ok-spelled.spelled.index) (sym c.as_slice-2.ensures)
     c.in_ok-spelled.ensures.fit)
-    c.in_ok-cell.ensures.held c.in_ok-cell.ensures.elsewhere
+    c.in_ok-cell.ensures.held c.in_ok-cell.ensures.formats.elsewhere
     (subst Q c.deref.ensures.value c.in_ok-spelled.ensures.shown)
     c.args.alloc c.in_ok-entries.entries c.in_ok-taken.taken
     (taken_area c.args.shape c.in_ok-spelled.spelled.index c.as_slice.result.now c.blocks_in_area-2.result
@@ -96,39 +97,40 @@ returns-clause-view g c =
 
 pub returns-in_err-keep_only-clause-elsewhere : goal.returns-in_err-keep_only-clause-elsewhere
 returns-in_err-keep_only-clause-elsewhere g c = λ tells f out.
-    c.in_err-keep_only.ensures.elsewhere tells f (outside_no_slot c.args.shape.place.first c.args.shape.place.copies f
-    out)
+    c.in_err-keep_only.ensures.clears.elsewhere tells f
+    (outside_no_slot c.args.shape.place.first c.args.shape.place.copies f out)
 
 pub returns-in_err-keep_only-clause-outside : goal.returns-in_err-keep_only-clause-outside
 returns-in_err-keep_only-clause-outside g c = λ tells quiet.
     given_up_outside c.args.shape.place [] (g.D.Disk.medium c.args.disk.now) (g.D.Disk.medium c.keep_only.new.disk)
-    c.in_err-keep_only.ensures.time (c.in_err-keep_only.ensures.any_moment tells quiet)
+    c.in_err-keep_only.ensures.clears.time (c.in_err-keep_only.ensures.clears.any_moment tells quiet)
 
 pub returns-in_err-keep_only-clause-untorn : goal.returns-in_err-keep_only-clause-untorn
 returns-in_err-keep_only-clause-untorn g c = λ tells quiet.
     given_up_untorn c.args.shape.place [] (g.D.Disk.medium c.args.disk.now) (g.D.Disk.medium c.keep_only.new.disk)
-    c.in_err-keep_only.ensures.time (c.in_err-keep_only.ensures.any_moment tells quiet)
+    c.in_err-keep_only.ensures.clears.time (c.in_err-keep_only.ensures.clears.any_moment tells quiet)
 
 pub returns-in_err-spelled-clause-elsewhere : goal.returns-in_err-spelled-clause-elsewhere
 returns-in_err-spelled-clause-elsewhere g c = λ tells.
     contents_elsewhere c.args.shape.place.first c.args.shape.place.copies [] (g.D.Disk.medium c.args.disk.now)
-    (g.D.Disk.medium c.keep_only.new.disk) (g.D.Disk.medium c.put_contents.new.disk) c.in_ok-keep_only.ensures.time
+    (g.D.Disk.medium c.keep_only.new.disk) (g.D.Disk.medium c.put_contents.new.disk)
+    c.in_ok-keep_only.ensures.clears.time
     c.in_err-spelled.ensures.time
-    (c.in_ok-keep_only.ensures.elsewhere tells) (c.in_err-spelled.ensures.elsewhere tells)
+    (c.in_ok-keep_only.ensures.clears.elsewhere tells) (c.in_err-spelled.ensures.elsewhere tells)
 
 pub returns-in_err-spelled-clause-outside : goal.returns-in_err-spelled-clause-outside
 returns-in_err-spelled-clause-outside g c = λ tells quiet.
     put_outside c.args.shape.place _ (g.D.Disk.medium c.args.disk.now) (g.D.Disk.medium c.keep_only.new.disk)
-    c.in_ok-keep_only.ensures.time (c.in_ok-keep_only.ensures.any_moment tells quiet)
-    (c.in_ok-keep_only.ensures.elsewhere tells) c.in_ok-keep_only.ensures.quiet
+    c.in_ok-keep_only.ensures.clears.time (c.in_ok-keep_only.ensures.clears.any_moment tells quiet)
+    (c.in_ok-keep_only.ensures.clears.elsewhere tells) c.in_ok-keep_only.ensures.quiet
     (g.D.Disk.medium c.put_contents.new.disk) c.in_err-spelled.ensures.time
     (c.in_err-spelled.ensures.elsewhere tells) _ c.in_err-spelled.ensures.during
 
 pub returns-in_err-spelled-clause-untorn : goal.returns-in_err-spelled-clause-untorn
 returns-in_err-spelled-clause-untorn g c = λ tells quiet.
     put_untorn c.args.shape.place _ (g.D.Disk.medium c.args.disk.now) (g.D.Disk.medium c.keep_only.new.disk)
-    c.in_ok-keep_only.ensures.time (c.in_ok-keep_only.ensures.any_moment tells quiet)
-    (c.in_ok-keep_only.ensures.elsewhere tells) c.in_ok-keep_only.ensures.quiet
+    c.in_ok-keep_only.ensures.clears.time (c.in_ok-keep_only.ensures.clears.any_moment tells quiet)
+    (c.in_ok-keep_only.ensures.clears.elsewhere tells) c.in_ok-keep_only.ensures.quiet
     (g.D.Disk.medium c.put_contents.new.disk) c.in_err-spelled.ensures.time
     (c.in_err-spelled.ensures.elsewhere tells) _ c.in_err-spelled.ensures.during
     (kept_names_nothing c.args.shape.place _ _ (c.in_ok-keep_only.ensures.alone tells))
@@ -136,22 +138,22 @@ returns-in_err-spelled-clause-untorn g c = λ tells quiet.
 pub returns-in_err-taken-clause-elsewhere : goal.returns-in_err-taken-clause-elsewhere
 returns-in_err-taken-clause-elsewhere g c = λ tells. contents_elsewhere c.args.shape.place.first
     c.args.shape.place.copies [] (g.D.Disk.medium c.args.disk.now) (g.D.Disk.medium c.keep_only.new.disk)
-    (g.D.Disk.medium c.put_contents.new.disk) c.in_ok-keep_only.ensures.time c.in_ok-spelled.ensures.time
-    (c.in_ok-keep_only.ensures.elsewhere tells) (c.in_ok-spelled.ensures.elsewhere tells)
+    (g.D.Disk.medium c.put_contents.new.disk) c.in_ok-keep_only.ensures.clears.time c.in_ok-spelled.ensures.time
+    (c.in_ok-keep_only.ensures.clears.elsewhere tells) (c.in_ok-spelled.ensures.elsewhere tells)
 
 pub returns-in_err-taken-clause-outside : goal.returns-in_err-taken-clause-outside
 returns-in_err-taken-clause-outside g c = λ tells quiet.
     put_outside c.args.shape.place _ (g.D.Disk.medium c.args.disk.now) (g.D.Disk.medium c.keep_only.new.disk)
-    c.in_ok-keep_only.ensures.time (c.in_ok-keep_only.ensures.any_moment tells quiet)
-    (c.in_ok-keep_only.ensures.elsewhere tells) c.in_ok-keep_only.ensures.quiet
+    c.in_ok-keep_only.ensures.clears.time (c.in_ok-keep_only.ensures.clears.any_moment tells quiet)
+    (c.in_ok-keep_only.ensures.clears.elsewhere tells) c.in_ok-keep_only.ensures.quiet
     (g.D.Disk.medium c.put_contents.new.disk) c.in_ok-spelled.ensures.time (c.in_ok-spelled.ensures.elsewhere tells)
     _ c.in_ok-spelled.ensures.during
 
 pub returns-in_err-taken-clause-untorn : goal.returns-in_err-taken-clause-untorn
 returns-in_err-taken-clause-untorn g c = λ tells quiet.
     put_untorn c.args.shape.place _ (g.D.Disk.medium c.args.disk.now) (g.D.Disk.medium c.keep_only.new.disk)
-    c.in_ok-keep_only.ensures.time (c.in_ok-keep_only.ensures.any_moment tells quiet)
-    (c.in_ok-keep_only.ensures.elsewhere tells) c.in_ok-keep_only.ensures.quiet
+    c.in_ok-keep_only.ensures.clears.time (c.in_ok-keep_only.ensures.clears.any_moment tells quiet)
+    (c.in_ok-keep_only.ensures.clears.elsewhere tells) c.in_ok-keep_only.ensures.quiet
     (g.D.Disk.medium c.put_contents.new.disk) c.in_ok-spelled.ensures.time (c.in_ok-spelled.ensures.elsewhere tells)
     _ c.in_ok-spelled.ensures.during
     (kept_names_nothing c.args.shape.place _ _ (c.in_ok-keep_only.ensures.alone tells))
@@ -159,23 +161,24 @@ returns-in_err-taken-clause-untorn g c = λ tells quiet.
 pub returns-in_err-entries-clause-elsewhere : goal.returns-in_err-entries-clause-elsewhere
 returns-in_err-entries-clause-elsewhere g c = λ tells.
     contents_elsewhere c.args.shape.place.first c.args.shape.place.copies [] (g.D.Disk.medium c.args.disk.now)
-    (g.D.Disk.medium c.keep_only.new.disk) (g.D.Disk.medium c.put_contents.new.disk) c.in_ok-keep_only.ensures.time
+    (g.D.Disk.medium c.keep_only.new.disk) (g.D.Disk.medium c.put_contents.new.disk)
+    c.in_ok-keep_only.ensures.clears.time
     c.in_ok-spelled.ensures.time
-    (c.in_ok-keep_only.ensures.elsewhere tells) (c.in_ok-spelled.ensures.elsewhere tells)
+    (c.in_ok-keep_only.ensures.clears.elsewhere tells) (c.in_ok-spelled.ensures.elsewhere tells)
 
 pub returns-in_err-entries-clause-outside : goal.returns-in_err-entries-clause-outside
 returns-in_err-entries-clause-outside g c = λ tells quiet.
     put_outside c.args.shape.place _ (g.D.Disk.medium c.args.disk.now) (g.D.Disk.medium c.keep_only.new.disk)
-    c.in_ok-keep_only.ensures.time (c.in_ok-keep_only.ensures.any_moment tells quiet)
-    (c.in_ok-keep_only.ensures.elsewhere tells) c.in_ok-keep_only.ensures.quiet
+    c.in_ok-keep_only.ensures.clears.time (c.in_ok-keep_only.ensures.clears.any_moment tells quiet)
+    (c.in_ok-keep_only.ensures.clears.elsewhere tells) c.in_ok-keep_only.ensures.quiet
     (g.D.Disk.medium c.put_contents.new.disk) c.in_ok-spelled.ensures.time (c.in_ok-spelled.ensures.elsewhere tells)
     _ c.in_ok-spelled.ensures.during
 
 pub returns-in_err-entries-clause-untorn : goal.returns-in_err-entries-clause-untorn
 returns-in_err-entries-clause-untorn g c = λ tells quiet.
     put_untorn c.args.shape.place _ (g.D.Disk.medium c.args.disk.now) (g.D.Disk.medium c.keep_only.new.disk)
-    c.in_ok-keep_only.ensures.time (c.in_ok-keep_only.ensures.any_moment tells quiet)
-    (c.in_ok-keep_only.ensures.elsewhere tells) c.in_ok-keep_only.ensures.quiet
+    c.in_ok-keep_only.ensures.clears.time (c.in_ok-keep_only.ensures.clears.any_moment tells quiet)
+    (c.in_ok-keep_only.ensures.clears.elsewhere tells) c.in_ok-keep_only.ensures.quiet
     (g.D.Disk.medium c.put_contents.new.disk) c.in_ok-spelled.ensures.time (c.in_ok-spelled.ensures.elsewhere tells)
     _ c.in_ok-spelled.ensures.during
     (kept_names_nothing c.args.shape.place _ _ (c.in_ok-keep_only.ensures.alone tells))
@@ -183,60 +186,60 @@ returns-in_err-entries-clause-untorn g c = λ tells quiet.
 pub returns-in_err-cell-clause-elsewhere : goal.returns-in_err-cell-clause-elsewhere
 returns-in_err-cell-clause-elsewhere g c = λ tells. index_elsewhere c.args.shape.place.first c.args.shape.place.copies
     [] (g.D.Disk.medium c.args.disk.now) (g.D.Disk.medium c.keep_only.new.disk)
-    (g.D.Disk.medium c.put_contents.new.disk) c.in_ok-keep_only.ensures.time c.in_ok-spelled.ensures.time
-    (c.in_ok-keep_only.ensures.elsewhere tells) (c.in_ok-spelled.ensures.elsewhere tells)
-    (g.D.Disk.medium c.format_cell.new.disk) (c.in_err-cell.ensures.elsewhere tells)
+    (g.D.Disk.medium c.put_contents.new.disk) c.in_ok-keep_only.ensures.clears.time c.in_ok-spelled.ensures.time
+    (c.in_ok-keep_only.ensures.clears.elsewhere tells) (c.in_ok-spelled.ensures.elsewhere tells)
+    (g.D.Disk.medium c.format_cell.new.disk) (c.in_err-cell.ensures.formats.elsewhere tells)
 
 pub returns-in_err-cell-clause-outside : goal.returns-in_err-cell-clause-outside
 returns-in_err-cell-clause-outside g c = λ tells quiet.
     made_outside c.args.shape.place _ (g.D.Disk.medium c.args.disk.now) (g.D.Disk.medium c.keep_only.new.disk)
-    c.in_ok-keep_only.ensures.time (c.in_ok-keep_only.ensures.any_moment tells quiet)
-    (c.in_ok-keep_only.ensures.elsewhere tells) c.in_ok-keep_only.ensures.quiet
+    c.in_ok-keep_only.ensures.clears.time (c.in_ok-keep_only.ensures.clears.any_moment tells quiet)
+    (c.in_ok-keep_only.ensures.clears.elsewhere tells) c.in_ok-keep_only.ensures.quiet
     (g.D.Disk.medium c.put_contents.new.disk) c.in_ok-spelled.ensures.time (c.in_ok-spelled.ensures.elsewhere tells)
     _ c.in_ok-spelled.ensures.during
     (kept_names_nothing c.args.shape.place _ _ (c.in_ok-keep_only.ensures.alone tells))
-    (g.D.Disk.medium c.format_cell.new.disk) c.in_err-cell.ensures.time c.as_slice-2.result.now
-    (c.in_err-cell.ensures.any_moment tells c.in_ok-spelled.ensures.quiet)
+    (g.D.Disk.medium c.format_cell.new.disk) c.in_err-cell.ensures.formats.time c.as_slice-2.result.now
+    (c.in_err-cell.ensures.formats.any_moment tells c.in_ok-spelled.ensures.quiet)
 
 pub returns-in_err-cell-clause-untorn : goal.returns-in_err-cell-clause-untorn
 returns-in_err-cell-clause-untorn g c = λ tells quiet.
     made_untorn c.args.shape.place _ (g.D.Disk.medium c.args.disk.now) (g.D.Disk.medium c.keep_only.new.disk)
-    c.in_ok-keep_only.ensures.time (c.in_ok-keep_only.ensures.any_moment tells quiet)
-    (c.in_ok-keep_only.ensures.elsewhere tells) c.in_ok-keep_only.ensures.quiet
+    c.in_ok-keep_only.ensures.clears.time (c.in_ok-keep_only.ensures.clears.any_moment tells quiet)
+    (c.in_ok-keep_only.ensures.clears.elsewhere tells) c.in_ok-keep_only.ensures.quiet
     (g.D.Disk.medium c.put_contents.new.disk) c.in_ok-spelled.ensures.time (c.in_ok-spelled.ensures.elsewhere tells)
     _ c.in_ok-spelled.ensures.during
     (kept_names_nothing c.args.shape.place _ _ (c.in_ok-keep_only.ensures.alone tells))
-    (g.D.Disk.medium c.format_cell.new.disk) c.in_err-cell.ensures.time c.as_slice-2.result.now
-    (c.in_err-cell.ensures.any_moment tells c.in_ok-spelled.ensures.quiet)
+    (g.D.Disk.medium c.format_cell.new.disk) c.in_err-cell.ensures.formats.time c.as_slice-2.result.now
+    (c.in_err-cell.ensures.formats.any_moment tells c.in_ok-spelled.ensures.quiet)
 
 pub returns-clause-elsewhere : goal.returns-clause-elsewhere
 returns-clause-elsewhere g c = λ tells. index_elsewhere c.args.shape.place.first c.args.shape.place.copies []
     (g.D.Disk.medium c.args.disk.now) (g.D.Disk.medium c.keep_only.new.disk) (g.D.Disk.medium c.put_contents.new.disk)
-    c.in_ok-keep_only.ensures.time c.in_ok-spelled.ensures.time
-    (c.in_ok-keep_only.ensures.elsewhere tells) (c.in_ok-spelled.ensures.elsewhere tells)
-    (g.D.Disk.medium c.format_cell.new.disk) (c.in_ok-cell.ensures.elsewhere tells)
+    c.in_ok-keep_only.ensures.clears.time c.in_ok-spelled.ensures.time
+    (c.in_ok-keep_only.ensures.clears.elsewhere tells) (c.in_ok-spelled.ensures.elsewhere tells)
+    (g.D.Disk.medium c.format_cell.new.disk) (c.in_ok-cell.ensures.formats.elsewhere tells)
 
 pub returns-clause-outside : goal.returns-clause-outside
 returns-clause-outside g c = λ tells quiet. made_outside c.args.shape.place _ (g.D.Disk.medium c.args.disk.now)
-    (g.D.Disk.medium c.keep_only.new.disk) c.in_ok-keep_only.ensures.time
-    (c.in_ok-keep_only.ensures.any_moment tells quiet)
-    (c.in_ok-keep_only.ensures.elsewhere tells) c.in_ok-keep_only.ensures.quiet
+    (g.D.Disk.medium c.keep_only.new.disk) c.in_ok-keep_only.ensures.clears.time
+    (c.in_ok-keep_only.ensures.clears.any_moment tells quiet)
+    (c.in_ok-keep_only.ensures.clears.elsewhere tells) c.in_ok-keep_only.ensures.quiet
     (g.D.Disk.medium c.put_contents.new.disk) c.in_ok-spelled.ensures.time (c.in_ok-spelled.ensures.elsewhere tells)
     _ c.in_ok-spelled.ensures.during
     (kept_names_nothing c.args.shape.place _ _ (c.in_ok-keep_only.ensures.alone tells))
-    (g.D.Disk.medium c.format_cell.new.disk) c.in_ok-cell.ensures.time c.as_slice-2.result.now
-    (c.in_ok-cell.ensures.any_moment tells c.in_ok-spelled.ensures.quiet)
+    (g.D.Disk.medium c.format_cell.new.disk) c.in_ok-cell.ensures.formats.time c.as_slice-2.result.now
+    (c.in_ok-cell.ensures.formats.any_moment tells c.in_ok-spelled.ensures.quiet)
 
 pub returns-clause-untorn : goal.returns-clause-untorn
 returns-clause-untorn g c = λ tells quiet. made_untorn c.args.shape.place _ (g.D.Disk.medium c.args.disk.now)
-    (g.D.Disk.medium c.keep_only.new.disk) c.in_ok-keep_only.ensures.time
-    (c.in_ok-keep_only.ensures.any_moment tells quiet)
-    (c.in_ok-keep_only.ensures.elsewhere tells) c.in_ok-keep_only.ensures.quiet
+    (g.D.Disk.medium c.keep_only.new.disk) c.in_ok-keep_only.ensures.clears.time
+    (c.in_ok-keep_only.ensures.clears.any_moment tells quiet)
+    (c.in_ok-keep_only.ensures.clears.elsewhere tells) c.in_ok-keep_only.ensures.quiet
     (g.D.Disk.medium c.put_contents.new.disk) c.in_ok-spelled.ensures.time (c.in_ok-spelled.ensures.elsewhere tells)
     _ c.in_ok-spelled.ensures.during
     (kept_names_nothing c.args.shape.place _ _ (c.in_ok-keep_only.ensures.alone tells))
-    (g.D.Disk.medium c.format_cell.new.disk) c.in_ok-cell.ensures.time c.as_slice-2.result.now
-    (c.in_ok-cell.ensures.any_moment tells c.in_ok-spelled.ensures.quiet)
+    (g.D.Disk.medium c.format_cell.new.disk) c.in_ok-cell.ensures.formats.time c.as_slice-2.result.now
+    (c.in_ok-cell.ensures.formats.any_moment tells c.in_ok-spelled.ensures.quiet)
 
 pub returns-in_err-used-clause-untorn : goal.returns-in_err-used-clause-untorn
 returns-in_err-used-clause-untorn g c = λ tells quiet.
@@ -278,7 +281,7 @@ returns-clause-opens g c = λ tells. anew_opens (g.D.Disk.medium c.put_contents.
     c.requires.shape c.in_ok-cell.ensures.cell
     (subst (λ (t : List ℕ). IsTextOf c.args.shape t c.in_ok-spelled.spelled.index) (sym c.as_slice-2.ensures)
     c.in_ok-spelled.ensures.fit)
-    (c.in_ok-cell.ensures.held tells) (c.in_ok-cell.ensures.elsewhere tells)
+    (c.in_ok-cell.ensures.held tells) (c.in_ok-cell.ensures.formats.elsewhere tells)
     (subst (λ (fs : List Fresh). ShowsFresh (g.D.Disk.medium c.put_contents.new.disk).image c.args.shape.place
     c.args.shape.m 1 fs c.in_ok-spelled.spelled.index.entries) c.deref.ensures.value
     (c.in_ok-spelled.ensures.shown tells))
@@ -287,12 +290,12 @@ returns-clause-opens g c = λ tells. anew_opens (g.D.Disk.medium c.put_contents.
 pub returns-in_err-keep_only-clause-at_most : goal.returns-in_err-keep_only-clause-at_most
 returns-in_err-keep_only-clause-at_most g c =
     most_kept c.args.shape.place.copies (blocks_of_all c.args.contents.items) (g.D.Disk.medium c.args.disk.now).written
-    (g.D.Disk.medium c.keep_only.new.disk).written c.in_err-keep_only.ensures.written
+    (g.D.Disk.medium c.keep_only.new.disk).written c.in_err-keep_only.ensures.clears.written
 
 pub returns-in_err-spelled-clause-at_most : goal.returns-in_err-spelled-clause-at_most
 returns-in_err-spelled-clause-at_most g c =
     most_put c.args.shape.place.copies (blocks_of_all c.args.contents.items) (g.D.Disk.medium c.args.disk.now).written
-    (g.D.Disk.medium c.keep_only.new.disk).written c.in_ok-keep_only.ensures.written
+    (g.D.Disk.medium c.keep_only.new.disk).written c.in_ok-keep_only.ensures.clears.written
     (g.D.Disk.medium c.put_contents.new.disk).written
     (subst (λ (fs : List Fresh). (g.D.Disk.medium c.put_contents.new.disk).written
     ≤ (g.D.Disk.medium c.keep_only.new.disk).written + c.args.shape.place.copies * (256 * blocks_of_all fs))
@@ -301,7 +304,7 @@ returns-in_err-spelled-clause-at_most g c =
 pub returns-in_err-taken-clause-at_most : goal.returns-in_err-taken-clause-at_most
 returns-in_err-taken-clause-at_most g c =
     most_put c.args.shape.place.copies (blocks_of_all c.args.contents.items) (g.D.Disk.medium c.args.disk.now).written
-    (g.D.Disk.medium c.keep_only.new.disk).written c.in_ok-keep_only.ensures.written
+    (g.D.Disk.medium c.keep_only.new.disk).written c.in_ok-keep_only.ensures.clears.written
     (g.D.Disk.medium c.put_contents.new.disk).written
     (subst (λ (fs : List Fresh). (g.D.Disk.medium c.put_contents.new.disk).written
     ≤ (g.D.Disk.medium c.keep_only.new.disk).written + c.args.shape.place.copies * (256 * blocks_of_all fs))
@@ -310,7 +313,7 @@ returns-in_err-taken-clause-at_most g c =
 pub returns-in_err-entries-clause-at_most : goal.returns-in_err-entries-clause-at_most
 returns-in_err-entries-clause-at_most g c =
     most_put c.args.shape.place.copies (blocks_of_all c.args.contents.items) (g.D.Disk.medium c.args.disk.now).written
-    (g.D.Disk.medium c.keep_only.new.disk).written c.in_ok-keep_only.ensures.written
+    (g.D.Disk.medium c.keep_only.new.disk).written c.in_ok-keep_only.ensures.clears.written
     (g.D.Disk.medium c.put_contents.new.disk).written
     (subst (λ (fs : List Fresh). (g.D.Disk.medium c.put_contents.new.disk).written
     ≤ (g.D.Disk.medium c.keep_only.new.disk).written + c.args.shape.place.copies * (256 * blocks_of_all fs))
@@ -324,12 +327,13 @@ returns-in_err-cell-clause-at_most g c =
     let a = ap length c.as_slice-2.ensures in
     let b = ap length fit.spelled in
     most_made c.args.shape.place.copies (blocks_of_all c.args.contents.items) (g.D.Disk.medium c.args.disk.now).written
-    (g.D.Disk.medium c.keep_only.new.disk).written c.in_ok-keep_only.ensures.written
+    (g.D.Disk.medium c.keep_only.new.disk).written c.in_ok-keep_only.ensures.clears.written
     (g.D.Disk.medium c.put_contents.new.disk).written
     (subst (λ (fs : List Fresh). (g.D.Disk.medium c.put_contents.new.disk).written
     ≤ (g.D.Disk.medium c.keep_only.new.disk).written + c.args.shape.place.copies * (256 * blocks_of_all fs))
     c.deref.ensures.value c.in_ok-spelled.ensures.written)
-    (length c.as_slice-2.result.now) (g.D.Disk.medium c.format_cell.new.disk).written c.in_err-cell.ensures.written
+    (length c.as_slice-2.result.now) (g.D.Disk.medium c.format_cell.new.disk).written
+    c.in_err-cell.ensures.formats.written
     (omega (arith, short, a, b))
 
 pub returns-clause-at_most : goal.returns-clause-at_most
@@ -340,12 +344,13 @@ returns-clause-at_most g c =
     let a = ap length c.as_slice-2.ensures in
     let b = ap length fit.spelled in
     most_made c.args.shape.place.copies (blocks_of_all c.args.contents.items) (g.D.Disk.medium c.args.disk.now).written
-    (g.D.Disk.medium c.keep_only.new.disk).written c.in_ok-keep_only.ensures.written
+    (g.D.Disk.medium c.keep_only.new.disk).written c.in_ok-keep_only.ensures.clears.written
     (g.D.Disk.medium c.put_contents.new.disk).written
     (subst (λ (fs : List Fresh). (g.D.Disk.medium c.put_contents.new.disk).written
     ≤ (g.D.Disk.medium c.keep_only.new.disk).written + c.args.shape.place.copies * (256 * blocks_of_all fs))
     c.deref.ensures.value c.in_ok-spelled.ensures.written)
-    (length c.as_slice-2.result.now) (g.D.Disk.medium c.format_cell.new.disk).written c.in_ok-cell.ensures.written
+    (length c.as_slice-2.result.now) (g.D.Disk.medium c.format_cell.new.disk).written
+    c.in_ok-cell.ensures.formats.written
     (omega (arith, short, a, b))
 
 pub returns-clause-written : goal.returns-clause-written
@@ -354,14 +359,19 @@ returns-clause-written g c =
     c.as_slice-2.ensures ∙ c.in_ok-spelled.ensures.fit.spelled in
     let written = made_written c.args.shape.place.copies (blocks_of_all c.args.contents.items)
     (g.D.Disk.medium c.args.disk.now).written (g.D.Disk.medium c.keep_only.new.disk).written
-    c.in_ok-keep_only.ensures.written (g.D.Disk.medium c.put_contents.new.disk).written
+    c.in_ok-keep_only.ensures.clears.written (g.D.Disk.medium c.put_contents.new.disk).written
     (subst (λ (fs : List Fresh). (g.D.Disk.medium c.put_contents.new.disk).written
     ≤ (g.D.Disk.medium c.keep_only.new.disk).written + c.args.shape.place.copies * (256 * blocks_of_all fs))
     c.deref.ensures.value c.in_ok-spelled.ensures.written)
-    (length c.as_slice-2.result.now) (g.D.Disk.medium c.format_cell.new.disk).written c.in_ok-cell.ensures.written in
+    (length c.as_slice-2.result.now) (g.D.Disk.medium c.format_cell.new.disk).written
+    c.in_ok-cell.ensures.formats.written in
     subst (λ (s : Store). (g.D.Disk.medium c.format_cell.new.disk).written
     ≤ (g.D.Disk.medium c.args.disk.now).written + c.args.shape.place.copies
     * (256 * (blocks_of_all c.args.contents.items) + length (index_text s.index) + 5 * 44)) (sym c.new-2.ensures)
     (subst (λ (t : List ℕ). (g.D.Disk.medium c.format_cell.new.disk).written
     ≤ (g.D.Disk.medium c.args.disk.now).written + c.args.shape.place.copies
     * (256 * (blocks_of_all c.args.contents.items) + length t + 5 * 44)) text_is written)
+
+pub returns-clause-time : goal.returns-clause-time
+returns-clause-time g c = elapses_on (elapses_on c.in_ok-keep_only.ensures.clears.time c.in_ok-spelled.ensures.time)
+    c.in_ok-cell.ensures.formats.time

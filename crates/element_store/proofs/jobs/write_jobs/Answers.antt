@@ -1,6 +1,6 @@
 use Rattle.std.proofs.Common.{ℕ, ◌*◌, List, sym, subst, arith}
 use Rattle.disk_model.specs.Place.{area, IsNoArea}
-use Rattle.block_files.proofs.Outcomes.{on_err}
+use Rattle.block_files.specs.lemmas.Outcomes.{on_err}
 use Rattle.block_files.specs.Parts.{changed}
 use Rattle.block_files.specs.Areas.{AllFull, HoldsShared}
 use Rattle.block_files.specs.Writes.{Wrote, Tore, IsApartFromChanged}

@@ -1,4 +1,4 @@
-use Rattle.element_store.proofs.Finds.{found_first, found_view, found_opens}
+use Rattle.element_store.proofs.Finds.{found_first, found_view, found_opens, found_copies, found_slots}
 use Rattle.element_store.proofs.opening.prepare.Goals as goal
 
 pub returns-clause-found : goal.returns-clause-found
@@ -13,4 +13,8 @@ returns-clause-found g c = λ tells.
           viewed;
       opens = found_opens image c.args.shape.now c.in_ok-seen.field-0 c.in-Some-true.field-0 c.in-Some-true.is (cc)
           chose viewed;
+      copies = found_copies image c.args.shape.now c.in_ok-seen.field-0 c.in-Some-true.field-0 c.in-Some-true.is (cc)
+          chose viewed;
+      slots = found_slots image c.args.shape.now.place.first c.args.shape.now.place.copies c.in_ok-seen.field-0
+          c.in-Some-true.field-0 c.in-Some-true.is (c.in_ok-seen.ensures.slots tells);
     }

@@ -25,18 +25,20 @@ returns-in_err-used-in-Some-clause-kept g c = λ tells state.
     (g.D.Disk.medium c.survey.new.disk)
     c.in_ok-found.ensures.image state c.in_ok-found.ensures.idle
 
-pub returns-in_err-settle-in-Some-clause-kept : goal.returns-in_err-settle-in-Some-clause-kept
-returns-in_err-settle-in-Some-clause-kept g c = λ tells state.
+pub returns-in_err-leave_one_text-in-Some-clause-kept : goal.returns-in_err-leave_one_text-in-Some-clause-kept
+returns-in_err-leave_one_text-in-Some-clause-kept g c = λ tells state.
     settled_kept c.args.shape.now c.requires.shape (g.D.Disk.medium c.args.disk.now) (g.D.Disk.medium c.survey.new.disk)
-    c.in_ok-found.ensures.image (g.D.Disk.medium c.settle.new.disk) c.in-Some.found state c.in_ok-found.ensures.time
-    c.in_err-settle-in-Some.ensures.time
+    c.in_ok-found.ensures.image (g.D.Disk.medium c.leave_one_text.new.disk) c.in-Some.found state
+    c.in_ok-found.ensures.time
+    c.in_err-leave_one_text-in-Some.ensures.time
     c.in_ok-found.ensures.idle (sym (ap (option_map text_of) c.in-Some.is) ∙ c.in_ok-found.ensures.chosen tells)
-    (c.in_err-settle-in-Some.ensures.any_moment tells c.in_ok-found.ensures.quiet)
+    (c.in_err-leave_one_text-in-Some.ensures.any_moment tells c.in_ok-found.ensures.quiet)
 
-pub returns-in_err-settle-in-Some-clause-elsewhere :
-    goal.returns-in_err-settle-in-Some-clause-elsewhere
-returns-in_err-settle-in-Some-clause-elsewhere g c = λ tells f out.
-    c.in_err-settle-in-Some.ensures.elsewhere tells f out ∙ ap (λ (im : Image). im f) c.in_ok-found.ensures.image
+pub returns-in_err-leave_one_text-in-Some-clause-elsewhere :
+    goal.returns-in_err-leave_one_text-in-Some-clause-elsewhere
+returns-in_err-leave_one_text-in-Some-clause-elsewhere g c = λ tells f out.
+    c.in_err-leave_one_text-in-Some.ensures.elsewhere tells f out ∙ ap (λ (im : Image). im f)
+    c.in_ok-found.ensures.image
 
 pub returns-in_err-used-in-None-clause-kept : goal.returns-in_err-used-in-None-clause-kept
 returns-in_err-used-in-None-clause-kept g c = λ tells state.
@@ -44,11 +46,11 @@ returns-in_err-used-in-None-clause-kept g c = λ tells state.
     (g.D.Disk.medium c.survey.new.disk)
     c.in_ok-found.ensures.image state c.in_ok-found.ensures.idle
 
-pub returns-in_ok-settle-in-Some-clause-ready : goal.returns-in_ok-settle-in-Some-clause-ready
-returns-in_ok-settle-in-Some-clause-ready g c = λ tells clean.
+pub returns-in_ok-leave_one_text-in-Some-clause-ready : goal.returns-in_ok-leave_one_text-in-Some-clause-ready
+returns-in_ok-leave_one_text-in-Some-clause-ready g c = λ tells clean.
     settled_ready c.args.shape.now c.requires.shape (g.D.Disk.medium c.args.disk.now)
     (g.D.Disk.medium c.survey.new.disk)
-    c.in_ok-found.ensures.image (g.D.Disk.medium c.settle.new.disk) c.in-Some.found
+    c.in_ok-found.ensures.image (g.D.Disk.medium c.leave_one_text.new.disk) c.in-Some.found
     (subst (λ (o : Option Found). IfSome o (IsFound c.args.shape.now)) c.in-Some.is c.in_ok-found.ensures.found)
     c.in_ok-used-in-Some.used
     (found_taken c.args.shape.now c.in-Some.found (subst (λ (o : Option Found). IfSome o (IsFound c.args.shape.now))
@@ -59,26 +61,28 @@ returns-in_ok-settle-in-Some-clause-ready g c = λ tells clean.
     (c.in_ok-found.ensures.salvaged tells ∙ ap (option_map (λ (f : Found). f.view)) c.in-Some.is)
     c.saturating_add-generation.ensures clean (sym (ap (option_map text_of) c.in-Some.is)
     ∙ c.in_ok-found.ensures.chosen tells)
-    (c.in_ok-settle-in-Some.ensures.left tells) (c.in_ok-settle-in-Some.ensures.elsewhere tells)
+    (c.in_ok-leave_one_text-in-Some.ensures.left tells) (c.in_ok-leave_one_text-in-Some.ensures.elsewhere tells)
 
-pub returns-in_ok-settle-in-Some-clause-free : goal.returns-in_ok-settle-in-Some-clause-free
-returns-in_ok-settle-in-Some-clause-free g c = found_room c.args.shape.now c.in-Some.found
+pub returns-in_ok-leave_one_text-in-Some-clause-free : goal.returns-in_ok-leave_one_text-in-Some-clause-free
+returns-in_ok-leave_one_text-in-Some-clause-free g c = found_room c.args.shape.now c.in-Some.found
     (subst (λ (o : Option Found). IfSome o (IsFound c.args.shape.now)) c.in-Some.is c.in_ok-found.ensures.found)
     c.as_slice.result.now c.as_slice.ensures
     c.blocks_in_area-blocks.result c.blocks_in_area-blocks.ensures c.in_ok-used-in-Some.used
     c.in_ok-used-in-Some.ensures
 
-pub returns-in_ok-settle-in-Some-clause-kept : goal.returns-in_ok-settle-in-Some-clause-kept
-returns-in_ok-settle-in-Some-clause-kept g c = λ tells state.
+pub returns-in_ok-leave_one_text-in-Some-clause-kept : goal.returns-in_ok-leave_one_text-in-Some-clause-kept
+returns-in_ok-leave_one_text-in-Some-clause-kept g c = λ tells state.
     settled_kept c.args.shape.now c.requires.shape (g.D.Disk.medium c.args.disk.now) (g.D.Disk.medium c.survey.new.disk)
-    c.in_ok-found.ensures.image (g.D.Disk.medium c.settle.new.disk) c.in-Some.found state c.in_ok-found.ensures.time
-    c.in_ok-settle-in-Some.ensures.time
+    c.in_ok-found.ensures.image (g.D.Disk.medium c.leave_one_text.new.disk) c.in-Some.found state
+    c.in_ok-found.ensures.time
+    c.in_ok-leave_one_text-in-Some.ensures.time
     c.in_ok-found.ensures.idle (sym (ap (option_map text_of) c.in-Some.is) ∙ c.in_ok-found.ensures.chosen tells)
-    (c.in_ok-settle-in-Some.ensures.any_moment tells c.in_ok-found.ensures.quiet)
+    (c.in_ok-leave_one_text-in-Some.ensures.any_moment tells c.in_ok-found.ensures.quiet)
 
-pub returns-in_ok-settle-in-Some-clause-elsewhere :
-    goal.returns-in_ok-settle-in-Some-clause-elsewhere
-returns-in_ok-settle-in-Some-clause-elsewhere g c = λ tells f out. c.in_ok-settle-in-Some.ensures.elsewhere tells f out
+pub returns-in_ok-leave_one_text-in-Some-clause-elsewhere :
+    goal.returns-in_ok-leave_one_text-in-Some-clause-elsewhere
+returns-in_ok-leave_one_text-in-Some-clause-elsewhere g c = λ tells f out.
+    c.in_ok-leave_one_text-in-Some.ensures.elsewhere tells f out
     ∙ ap (λ (im : Image). im f) c.in_ok-found.ensures.image
 
 pub returns-in_ok-used-in-None-clause-ready : goal.returns-in_ok-used-in-None-clause-ready

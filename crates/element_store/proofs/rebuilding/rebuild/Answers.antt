@@ -1,10 +1,10 @@
 use Rattle.std.proofs.Common.{◌≡◌, ℕ, List, length, false, true, sym, ap, subst, arith}
 use Rattle.per_base.specs.declared.elements.Fresh.{Fresh}
-use Rattle.disk_model.proofs.Frames.{settled_less}
-use Rattle.disk_model.proofs.Places.{outside_no_slot}
-use Rattle.index_text.proofs.Lengths.{text_is_short}
+use Rattle.disk_model.specs.lemmas.Frames.{settled_less}
+use Rattle.disk_model.specs.lemmas.Places.{outside_no_slot}
+use Rattle.index_text.specs.lemmas.Lengths.{text_is_short}
 use Rattle.element_state.specs.States.{store_at, salvage_of, next_generation, fresh_map, fresh_state}
-use Rattle.element_laws.proofs.Lists.{not_false}
+use Rattle.element_laws.specs.lemmas.Lists.{not_false}
 use Rattle.element_store.specs.Plans.{blocks_of_all}
 use Rattle.element_store.specs.Spelled.{ShowsFresh, IsTextOf}
 use Rattle.element_store.proofs.Created.{created_clean}
@@ -77,7 +77,8 @@ returns-in_err-adopt-clause-any_moment g c = λ tells. index_anew c.args.shape.n
     (g.D.Disk.medium c.prepare.new.disk) c.in_ok-used.ensures.time (c.in_ok-used.ensures.kept tells)
     (c.in_ok-used.ensures.ready tells) c.in_ok-used.ensures.quiet (g.D.Disk.medium c.put_contents.new.disk)
     c.in_ok-spelled.ensures.time
-    (g.D.Disk.medium c.adopt.new.disk) c.as_slice.result.now c.in_ok-spelled.spelled.index _ c.in_err-adopt.ensures.time
+    (g.D.Disk.medium c.adopt.new.disk) c.as_slice.result.now c.in_ok-spelled.spelled.index _
+    c.in_err-adopt.ensures.brings.puts.time
     (c.in_ok-used.ensures.generation tells)
     (subst (λ (t : List ℕ). IsTextOf c.args.shape.now t c.in_ok-spelled.spelled.index) (sym c.as_slice.ensures)
     c.in_ok-spelled.ensures.fit)
@@ -85,14 +86,14 @@ returns-in_err-adopt-clause-any_moment g c = λ tells. index_anew c.args.shape.n
     (subst (λ (fs : List Fresh). ShowsFresh (g.D.Disk.medium c.put_contents.new.disk).image c.args.shape.now.place
     c.args.shape.now.m c.in_ok-used.field-0.generation fs c.in_ok-spelled.spelled.index.entries)
     c.deref.ensures.value (c.in_ok-spelled.ensures.shown tells))
-    c.in_ok-spelled.ensures.during (c.in_err-adopt.ensures.any_moment tells c.in_ok-spelled.ensures.quiet)
+    c.in_ok-spelled.ensures.during (c.in_err-adopt.ensures.brings.puts.any_moment tells c.in_ok-spelled.ensures.quiet)
 
 pub returns-in_err-adopt-clause-elsewhere : goal.returns-in_err-adopt-clause-elsewhere
 returns-in_err-adopt-clause-elsewhere g c = λ tells. index_elsewhere c.args.shape.now.place.first
     c.args.shape.now.place.copies c.in_ok-used.field-0.used (g.D.Disk.medium c.args.disk.now)
     (g.D.Disk.medium c.prepare.new.disk) (g.D.Disk.medium c.put_contents.new.disk) c.in_ok-used.ensures.time
     c.in_ok-spelled.ensures.time (c.in_ok-used.ensures.elsewhere tells) (c.in_ok-spelled.ensures.elsewhere tells)
-    (g.D.Disk.medium c.adopt.new.disk) (c.in_err-adopt.ensures.elsewhere tells)
+    (g.D.Disk.medium c.adopt.new.disk) (c.in_err-adopt.ensures.brings.puts.elsewhere tells)
 
 pub returns-in_err-adopt-clause-outside : goal.returns-in_err-adopt-clause-outside
 returns-in_err-adopt-clause-outside g c = λ tells quiet.
@@ -102,7 +103,8 @@ returns-in_err-adopt-clause-outside g c = λ tells quiet.
     (c.in_ok-spelled.ensures.elsewhere tells)
     (c.in_ok-used.ensures.any_moment tells quiet) c.in_ok-used.ensures.quiet _ c.in_ok-spelled.ensures.during
     (g.D.Disk.medium c.adopt.new.disk) c.in_ok-used.field-0.generation c.as_slice.result.now
-    c.in_err-adopt.ensures.time (c.in_err-adopt.ensures.any_moment tells c.in_ok-spelled.ensures.quiet)
+    c.in_err-adopt.ensures.brings.puts.time (c.in_err-adopt.ensures.brings.puts.any_moment tells
+    c.in_ok-spelled.ensures.quiet)
 
 pub returns-clause-any_moment : goal.returns-clause-any_moment
 returns-clause-any_moment g c = λ tells. index_anew c.args.shape.now c.in_ok-used.field-0.used
@@ -110,7 +112,8 @@ returns-clause-any_moment g c = λ tells. index_anew c.args.shape.now c.in_ok-us
     (g.D.Disk.medium c.prepare.new.disk) c.in_ok-used.ensures.time (c.in_ok-used.ensures.kept tells)
     (c.in_ok-used.ensures.ready tells) c.in_ok-used.ensures.quiet (g.D.Disk.medium c.put_contents.new.disk)
     c.in_ok-spelled.ensures.time
-    (g.D.Disk.medium c.adopt.new.disk) c.as_slice.result.now c.in_ok-spelled.spelled.index _ c.in_ok-adopt.ensures.time
+    (g.D.Disk.medium c.adopt.new.disk) c.as_slice.result.now c.in_ok-spelled.spelled.index _
+    c.in_ok-adopt.ensures.brings.puts.time
     (c.in_ok-used.ensures.generation tells)
     (subst (λ (t : List ℕ). IsTextOf c.args.shape.now t c.in_ok-spelled.spelled.index) (sym c.as_slice.ensures)
     c.in_ok-spelled.ensures.fit)
@@ -118,14 +121,14 @@ returns-clause-any_moment g c = λ tells. index_anew c.args.shape.now c.in_ok-us
     (subst (λ (fs : List Fresh). ShowsFresh (g.D.Disk.medium c.put_contents.new.disk).image c.args.shape.now.place
     c.args.shape.now.m c.in_ok-used.field-0.generation fs c.in_ok-spelled.spelled.index.entries)
     c.deref.ensures.value (c.in_ok-spelled.ensures.shown tells))
-    c.in_ok-spelled.ensures.during (c.in_ok-adopt.ensures.any_moment tells c.in_ok-spelled.ensures.quiet)
+    c.in_ok-spelled.ensures.during (c.in_ok-adopt.ensures.brings.puts.any_moment tells c.in_ok-spelled.ensures.quiet)
 
 pub returns-clause-elsewhere : goal.returns-clause-elsewhere
 returns-clause-elsewhere g c = λ tells. index_elsewhere c.args.shape.now.place.first c.args.shape.now.place.copies
     c.in_ok-used.field-0.used (g.D.Disk.medium c.args.disk.now) (g.D.Disk.medium c.prepare.new.disk)
     (g.D.Disk.medium c.put_contents.new.disk) c.in_ok-used.ensures.time c.in_ok-spelled.ensures.time
     (c.in_ok-used.ensures.elsewhere tells) (c.in_ok-spelled.ensures.elsewhere tells) (g.D.Disk.medium c.adopt.new.disk)
-    (c.in_ok-adopt.ensures.elsewhere tells)
+    (c.in_ok-adopt.ensures.brings.puts.elsewhere tells)
 
 pub returns-clause-outside : goal.returns-clause-outside
 returns-clause-outside g c = λ tells quiet. index_outside c.args.shape.now.place.first c.args.shape.now.place.copies
@@ -134,7 +137,8 @@ returns-clause-outside g c = λ tells quiet. index_outside c.args.shape.now.plac
     (c.in_ok-used.ensures.elsewhere tells) (c.in_ok-spelled.ensures.elsewhere tells)
     (c.in_ok-used.ensures.any_moment tells quiet) c.in_ok-used.ensures.quiet _ c.in_ok-spelled.ensures.during
     (g.D.Disk.medium c.adopt.new.disk) c.in_ok-used.field-0.generation c.as_slice.result.now
-    c.in_ok-adopt.ensures.time (c.in_ok-adopt.ensures.any_moment tells c.in_ok-spelled.ensures.quiet)
+    c.in_ok-adopt.ensures.brings.puts.time (c.in_ok-adopt.ensures.brings.puts.any_moment tells
+    c.in_ok-spelled.ensures.quiet)
 
 pub returns-clause-opens : goal.returns-clause-opens
 returns-clause-opens g c = λ tells. anew_opens (g.D.Disk.medium c.put_contents.new.disk).image
@@ -143,7 +147,7 @@ returns-clause-opens g c = λ tells. anew_opens (g.D.Disk.medium c.put_contents.
     c.requires.shape c.in_ok-adopt.ensures.cell
     (subst (λ (t : List ℕ). IsTextOf c.args.shape.now t c.in_ok-spelled.spelled.index) (sym c.as_slice.ensures)
     c.in_ok-spelled.ensures.fit)
-    (c.in_ok-adopt.ensures.held tells) (c.in_ok-adopt.ensures.elsewhere tells)
+    (c.in_ok-adopt.ensures.held tells) (c.in_ok-adopt.ensures.brings.puts.elsewhere tells)
     (subst (λ (fs : List Fresh). ShowsFresh (g.D.Disk.medium c.put_contents.new.disk).image c.args.shape.now.place
     c.args.shape.now.m c.in_ok-used.field-0.generation fs c.in_ok-spelled.spelled.index.entries)
     c.deref.ensures.value (c.in_ok-spelled.ensures.shown tells))
@@ -157,7 +161,7 @@ returns-clause-in_use g c = λ tells. anew_in_use (g.D.Disk.medium c.put_content
     c.requires.shape c.in_ok-adopt.ensures.cell
     (subst (λ (t : List ℕ). IsTextOf c.args.shape.now t c.in_ok-spelled.spelled.index) (sym c.as_slice.ensures)
     c.in_ok-spelled.ensures.fit) c.in_ok-spelled.ensures.format
-    (c.in_ok-adopt.ensures.held tells) (c.in_ok-adopt.ensures.elsewhere tells)
+    (c.in_ok-adopt.ensures.held tells) (c.in_ok-adopt.ensures.brings.puts.elsewhere tells)
     (subst (λ (fs : List Fresh). ShowsFresh (g.D.Disk.medium c.put_contents.new.disk).image c.args.shape.now.place
     c.args.shape.now.m c.in_ok-used.field-0.generation fs c.in_ok-spelled.spelled.index.entries)
     c.deref.ensures.value (c.in_ok-spelled.ensures.shown tells))
@@ -171,4 +175,4 @@ returns-clause-clean g c = λ tells. created_clean g.D.Disk.told (g.D.Disk.mediu
     c.in_ok-spelled.spelled.index c.as_slice.result.now c.requires.shape c.in_ok-adopt.ensures.cell
     (subst (λ (t : List ℕ). IsTextOf c.args.shape.now t c.in_ok-spelled.spelled.index) (sym c.as_slice.ensures)
     c.in_ok-spelled.ensures.fit)
-    c.in_ok-adopt.ensures.held c.in_ok-adopt.ensures.elsewhere c.in_ok-spelled.ensures.shown tells
+    c.in_ok-adopt.ensures.held c.in_ok-adopt.ensures.brings.puts.elsewhere c.in_ok-spelled.ensures.shown tells

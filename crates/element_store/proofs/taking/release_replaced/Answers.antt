@@ -3,7 +3,7 @@ use Rattle.std.specs.Prelude.{not, ◌&&◌, ◌||◌}
 use Rattle.std.specs.List.{All}
 use Rattle.std.proofs.lemmas.List.{take_all}
 use Rattle.disk_model.specs.Orders.{named_in}
-use Rattle.block_files.specs.BlockSets.{holds, IsAdded}
+use Rattle.block_files.specs.BlockSets.{contains, IsAdded}
 use Rattle.index_text.specs.declared.entries.IndexEntry.{IndexEntry}
 use Rattle.index_text.specs.Rules.{blocks_of}
 use Rattle.element_store.specs.Taking.{Loses}
@@ -39,7 +39,7 @@ loop-entry-preserved c = (
 pub loop-entry-2-preserved : goal.loop-entry-2-preserved
 loop-entry-2-preserved c = (
   entry_gained c.args.later.now c.loop-entry-2.entry-index c.entry-item-in-loop-entry-2.result
-      (λ b. holds c.args.taken.now b && not (named_in (blocks_of c.args.earlier.now) b)) c.loop-entry-2.taken
+      (λ b. contains c.args.taken.now b && not (named_in (blocks_of c.args.earlier.now) b)) c.loop-entry-2.taken
       c.take.new.taken (omega arith) c.entry-item-in-loop-entry-2.is
       (subst (λ (bs : List ℕ). IsAdded bs c.loop-entry-2.taken c.take.new.taken) c.as_slice-in-loop-entry-2.ensures
       c.take.ensures) c.loop-entry-2.invariant.0,
@@ -48,17 +48,17 @@ loop-entry-2-preserved c = (
 
 pub loop-entry-2-init : goal.loop-entry-2-init
 loop-entry-2-init c = (
-  λ b. subst (λ (es : List IndexEntry). holds c.loop-entry.taken b
-      ≡ (holds c.args.taken.now b && not (named_in (blocks_of es) b)))
+  λ b. subst (λ (es : List IndexEntry). contains c.loop-entry.taken b
+      ≡ (contains c.args.taken.now b && not (named_in (blocks_of es) b)))
       (take_all c.loop-entry.entry-index c.args.earlier.now (omega arith)) (c.loop-entry.invariant.0 b)
-      ∙ gained_none (holds c.args.taken.now b && not (named_in (blocks_of c.args.earlier.now) b)),
+      ∙ gained_none (contains c.args.taken.now b && not (named_in (blocks_of c.args.earlier.now) b)),
   c.loop-entry.invariant.1,
 )
 
 pub returns : goal.returns
 returns c = released c.args.earlier.now c.args.later.now c.args.taken.now c.loop-entry-2.taken c.requires.either
     c.loop-entry-2.invariant.1
-    (subst (λ (es : List IndexEntry). (b : ℕ) → holds c.loop-entry-2.taken b
-    ≡ ((holds c.args.taken.now b && not (named_in (blocks_of c.args.earlier.now) b))
+    (subst (λ (es : List IndexEntry). (b : ℕ) → contains c.loop-entry-2.taken b
+    ≡ ((contains c.args.taken.now b && not (named_in (blocks_of c.args.earlier.now) b))
     || named_in (blocks_of es) b))
     (take_all c.loop-entry-2.entry-index c.args.later.now (omega arith)) c.loop-entry-2.invariant.0)

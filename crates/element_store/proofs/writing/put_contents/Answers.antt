@@ -1,6 +1,6 @@
 use Rattle.std.proofs.Common.{◌≡◌, ◌≤◌, ◌*◌, List, true, sym, subst}
 use Rattle.std.specs.List.{All, AllZip}
-use Rattle.disk_model.proofs.Frames.{keeps_less}
+use Rattle.disk_model.specs.lemmas.Frames.{keeps_less}
 use Rattle.index_text.specs.declared.entries.Index.{Index}
 use Rattle.index_text.specs.Rules.{IsIndex}
 use Rattle.index_text.specs.Sizes.{fits}

@@ -1,6 +1,7 @@
 use Rattle.std.proofs.Common.{◌≡◌, ◌≢◌, ◌∙◌, ◌+◌, ◌%◌, arith}
 use Rattle.hash_guard.specs.Laws.{verified-none}
 use Rattle.guarded_cell.proofs.Seeing.{noted_none, noted_other, noted_same}
+use Rattle.guarded_cell.proofs.Marked.{flag_of_none, flag_of_some}
 use Rattle.guarded_cell.proofs.looking.note_front.Goals as goal
 
 pub returns-then-found-from-clause-seen : goal.returns-then-found-from-clause-seen
@@ -19,3 +20,15 @@ returns-in_ok-note-in-Some-clause-seen c =
     c.in_ok-note-in-Some.ensures.seen
     ∙ noted_same (c.args.copy + 1) c.args.parity c.in-Some.found.generation c.args.bytes.now c.in-Some.found.body.now
     c.args.seens.now.items c.in-Some.ensures.some same
+
+pub returns-in-None-clause-flag : goal.returns-in-None-clause-flag
+returns-in-None-clause-flag c =
+    flag_of_none c.args.bytes.now (verified-none c.args.bytes.now c.in-None.ensures.none)
+
+pub returns-then-found-from-clause-flag : goal.returns-then-found-from-clause-flag
+returns-then-found-from-clause-flag c =
+    flag_of_some c.args.bytes.now c.in-Some.found.generation c.in-Some.found.body.now c.in-Some.ensures.some
+
+pub returns-in_ok-note-in-Some-clause-flag : goal.returns-in_ok-note-in-Some-clause-flag
+returns-in_ok-note-in-Some-clause-flag c =
+    flag_of_some c.args.bytes.now c.in-Some.found.generation c.in-Some.found.body.now c.in-Some.ensures.some

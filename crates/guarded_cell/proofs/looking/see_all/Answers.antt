@@ -1,5 +1,10 @@
-use Rattle.std.proofs.Common.{◌∙◌, refl, sym, arith}
-use Rattle.disk_model.proofs.Moments.{reads_none, reads_on, elapses_none, elapses_on}
+use Rattle.std.proofs.Common.{◌≡◌, ◌∙◌, ℕ, refl, sym, subst, arith}
+use Rattle.std.proofs.lemmas.List.{length-set}
+use Rattle.disk_model.specs.Image.{Image}
+use Rattle.disk_model.specs.Laws.{reads_none, reads_on, elapses_none, elapses_on}
+use Rattle.disk_model.specs.Place.{slot}
+use Rattle.guarded_cell.specs.Slots.{IsFlag}
+use Rattle.guarded_cell.proofs.Marked.{flags_more}
 use Rattle.guarded_cell.proofs.Seeing.{held_none, held_more}
 use Rattle.guarded_cell.proofs.looking.see_all.Goals as goal
 
@@ -7,6 +12,10 @@ pub loop-copy-init : goal.loop-copy-init
 loop-copy-init g c = record {
   held = λ tells. c.new-seens.ensures.items ∙ sym (held_none (g.D.Disk.medium c.args.disk.now).image
       c.args.place.first);
+  even = λ tells copy lt. absurd (omega (arith, lt));
+  odd = λ tells copy lt. absurd (omega (arith, lt));
+  evens = refl;
+  odds = refl;
   sealable = λ k d lt. absurd (omega (arith, lt, c.new-seens.ensures.len));
   reads = reads_none (g.met.D.Disk.lawful c.args.disk.now);
   time = elapses_none (g.met.D.Disk.lawful c.args.disk.now);
@@ -24,10 +33,21 @@ loop-copy-preserved g c =
           (g.D.Disk.medium c.see_slot.new.disk).image c.args.place.first c.loop-copy.copy
           c.loop-copy.seens.items c.see_slot.new.seens.items c.see_slot-in-loop-copy.new.seens.items
           c.loop-copy.invariant.reads.image first_reads.image (c.loop-copy.invariant.held tells)
-          (c.in_ok-see_slot.ensures.seen tells) (c.in_ok-see_slot-2.ensures.seen tells);
-      sealable = c.in_ok-see_slot-2.ensures.sealable;
+          (c.in_ok-even.ensures.seen tells) (c.in_ok-odd.ensures.seen tells);
+      even = λ tells. flags_more start c.args.place.first 0 c.loop-copy.copy c.loop-copy.even c.in_ok-even.field-0
+          c.loop-copy.invariant.evens (omega arith) (c.loop-copy.invariant.even tells)
+          (subst (λ (im : Image). IsFlag (im (slot c.args.place.first c.loop-copy.copy 0)) c.in_ok-even.field-0)
+          c.loop-copy.invariant.reads.image (c.in_ok-even.ensures.flag tells));
+      odd = λ tells. flags_more start c.args.place.first 1 c.loop-copy.copy c.loop-copy.odd c.in_ok-odd.field-0
+          c.loop-copy.invariant.odds (omega arith) (c.loop-copy.invariant.odd tells)
+          (subst (λ (im : Image). IsFlag (im (slot c.args.place.first c.loop-copy.copy 1)) c.in_ok-odd.field-0)
+          first_reads.image (c.in_ok-odd.ensures.flag tells));
+      evens = length-set c.loop-copy.even c.loop-copy.copy c.in_ok-even.field-0 ∙ c.loop-copy.invariant.evens;
+      odds = length-set c.loop-copy.odd c.loop-copy.copy c.in_ok-odd.field-0 ∙ c.loop-copy.invariant.odds;
+      sealable = c.in_ok-odd.ensures.sealable;
       reads = reads_on first_time first_reads c.see_slot-in-loop-copy.ensures.time
           c.see_slot-in-loop-copy.ensures.reads;
       time = elapses_on first_time c.see_slot-in-loop-copy.ensures.time;
-      passes = c.in_ok-see_slot-2.ensures.passes ∙ c.in_ok-see_slot.ensures.passes ∙ c.loop-copy.invariant.passes;
+      passes = c.in_ok-odd.ensures.faults.passes ∙ c.in_ok-even.ensures.faults.passes
+          ∙ c.loop-copy.invariant.passes;
     }

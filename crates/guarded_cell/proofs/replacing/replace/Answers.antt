@@ -1,7 +1,7 @@
 use Rattle.std.proofs.lemmas.Bool.{false≢true}
 use Rattle.std.proofs.Common.{◌∙◌, length, ap, arith}
 use Rattle.hash_guard.specs.Laws.{length-sealed}
-use Rattle.disk_model.proofs.Moments.{goes_on}
+use Rattle.disk_model.specs.Laws.{goes_on, elapses_on}
 use Rattle.disk_model.specs.Place.{IsNoSlot}
 use Rattle.guarded_cell.specs.Register.{own, other}
 use Rattle.guarded_cell.specs.Stops.{PutStops}
@@ -10,64 +10,135 @@ use Rattle.guarded_cell.proofs.Putting.{first_written, both_written}
 use Rattle.guarded_cell.proofs.Sparing.{right_first, right_both, none_lacking, none_stale}
 use Rattle.guarded_cell.proofs.replacing.replace.Goals as goal
 
-pub returns-in_err-write_durably-clause-elsewhere : goal.returns-in_err-write_durably-clause-elsewhere
-returns-in_err-write_durably-clause-elsewhere g c = λ tells.
-    chosen_elsewhere c.args.place.first c.args.place.copies (own c.args.generation) c.args.lacking.now
-    (g.D.Disk.medium c.args.disk.now).image (g.D.Disk.medium c.write_durably.new.disk).image (omega arith)
-    (c.write_durably.ensures.elsewhere tells)
+pub returns-in_err-write_durably-clause-brings : goal.returns-in_err-write_durably-clause-brings
+returns-in_err-write_durably-clause-brings g c = record {
+  puts = record {
+    elsewhere = λ tells.
+        chosen_elsewhere c.args.place.first c.args.place.copies (own c.args.generation) c.args.lacking.now
+        (g.D.Disk.medium c.args.disk.now).image (g.D.Disk.medium c.write_durably.new.disk).image (omega arith)
+        (c.write_durably.ensures.elsewhere tells);
+    any_moment = λ tells quiet.
+        let old = g.D.Disk.medium c.args.disk.now in
+        let mid = g.D.Disk.medium c.write_durably.new.disk in
+        first_moment c.args.place.first c.args.place.copies c.args.generation c.args.text.now old mid mid
+        c.requires.positive (omega arith) c.requires.short c.args.lacking.now c.args.stale.now c.args.sealed_text.now
+        c.requires.text
+        (c.requires.lacking tells) (c.requires.stale tells) _ quiet (λ x. absurd (false≢true x))
+        c.in_err-write_durably.ensures.during;
+    written = first_written c.args.place.copies (length c.args.text.now) (length c.args.sealed_text.now)
+        (g.D.Disk.medium c.args.disk.now).written (g.D.Disk.medium c.write_durably.new.disk).written
+        (ap length c.requires.text ∙ length-sealed c.args.generation c.args.text.now) c.write_durably.ensures.written;
+    time = c.write_durably.ensures.time;
+  };
+  right = λ tells.
+      right_first c.args.place.first c.args.place.copies c.args.generation c.args.text.now
+      (g.D.Disk.medium c.args.disk.now).image c.args.lacking.now c.args.stale.now
+      (g.D.Disk.medium c.write_durably.new.disk).image (c.requires.lacking tells)
+      (c.write_durably.ensures.elsewhere tells);
+  already = λ tells alone. c.write_durably.ensures.none
+      (none_lacking c.args.place.first c.args.place.copies c.args.generation c.args.text.now
+      (g.D.Disk.medium c.args.disk.now).image alone c.args.lacking.now (c.requires.lacking tells));
+}
 
-pub returns-in_err-write_durably-clause-any_moment : goal.returns-in_err-write_durably-clause-any_moment
-returns-in_err-write_durably-clause-any_moment g c = λ tells quiet.
-    let old = g.D.Disk.medium c.args.disk.now in
-    let mid = g.D.Disk.medium c.write_durably.new.disk in
-    first_moment c.args.place.first c.args.place.copies c.args.generation c.args.text.now old mid mid
-    c.requires.positive (omega arith) c.requires.short c.args.lacking.now c.args.stale.now c.args.sealed_text.now
-    c.requires.text
-    (c.requires.lacking tells) (c.requires.stale tells) _ quiet (λ x. absurd (false≢true x))
-    c.in_err-write_durably.ensures.during
+pub returns-in_err-write_durably-2-clause-brings : goal.returns-in_err-write_durably-2-clause-brings
+returns-in_err-write_durably-2-clause-brings g c = record {
+  puts = record {
+    elsewhere = λ tells.
+        let old = (g.D.Disk.medium c.args.disk.now).image in
+        let mid = (g.D.Disk.medium c.write_durably.new.disk).image in
+        let new = (g.D.Disk.medium c.write_durably-2.new.disk).image in
+        spares_on (IsNoSlot c.args.place.first c.args.place.copies) old mid new
+        (chosen_elsewhere c.args.place.first c.args.place.copies (own c.args.generation) c.args.lacking.now old mid
+        (omega arith) (c.write_durably.ensures.elsewhere tells))
+        (chosen_elsewhere c.args.place.first c.args.place.copies (other c.args.generation) c.args.stale.now mid new
+        (omega arith) (c.write_durably-2.ensures.elsewhere tells));
+    any_moment = λ tells quiet.
+        let old = g.D.Disk.medium c.args.disk.now in
+        let mid = g.D.Disk.medium c.write_durably.new.disk in
+        let new = g.D.Disk.medium c.write_durably-2.new.disk in
+        let put = c.in_ok-write_durably.ensures.put tells in
+        goes_on (PutStops c.args.place.first c.args.place.copies c.args.generation c.args.text.now old.image)
+        c.write_durably.ensures.time c.write_durably-2.ensures.time
+        (first_moment c.args.place.first c.args.place.copies c.args.generation c.args.text.now old mid new
+        c.requires.positive (omega arith) c.requires.short c.args.lacking.now c.args.stale.now c.args.sealed_text.now
+        c.requires.text
+        (c.requires.lacking tells) (c.requires.stale tells) _ quiet (λ x. put) c.in_ok-write_durably.ensures.during)
+        (second_moment c.args.place.first c.args.place.copies c.args.generation c.args.text.now old mid new
+        c.requires.positive (omega arith) c.requires.short c.args.lacking.now c.args.stale.now c.args.sealed_text.now
+        c.requires.text
+        (c.requires.lacking tells) (c.requires.stale tells) _ c.in_ok-write_durably.ensures.quiet put
+        (λ x. absurd (false≢true x)) c.in_err-write_durably-2.ensures.during);
+    written = both_written c.args.place.copies (length c.args.text.now) (length c.args.sealed_text.now)
+        (g.D.Disk.medium c.args.disk.now).written (g.D.Disk.medium c.write_durably.new.disk).written
+        (g.D.Disk.medium c.write_durably-2.new.disk).written
+        (ap length c.requires.text ∙ length-sealed c.args.generation c.args.text.now) c.write_durably.ensures.written
+        c.write_durably-2.ensures.written;
+    time = elapses_on c.write_durably.ensures.time c.write_durably-2.ensures.time;
+  };
+  right = λ tells.
+      right_both c.args.place.first c.args.place.copies c.args.generation c.args.text.now
+      (g.D.Disk.medium c.args.disk.now).image c.args.lacking.now c.args.stale.now
+      (g.D.Disk.medium c.write_durably.new.disk).image (g.D.Disk.medium c.write_durably-2.new.disk).image
+      (c.requires.lacking tells) (c.requires.stale tells)
+      (c.write_durably.ensures.elsewhere tells) (c.write_durably-2.ensures.elsewhere tells);
+  already = λ tells alone.
+      c.write_durably-2.ensures.none
+      (none_stale c.args.place.first c.args.place.copies c.args.generation c.args.text.now
+      (g.D.Disk.medium c.args.disk.now).image alone c.args.stale.now (c.requires.stale tells))
+      ∙ c.write_durably.ensures.none
+      (none_lacking c.args.place.first c.args.place.copies c.args.generation c.args.text.now
+      (g.D.Disk.medium c.args.disk.now).image alone c.args.lacking.now (c.requires.lacking tells));
+}
 
-pub returns-in_err-write_durably-clause-written : goal.returns-in_err-write_durably-clause-written
-returns-in_err-write_durably-clause-written g c =
-    first_written c.args.place.copies (length c.args.text.now) (length c.args.sealed_text.now)
-    (g.D.Disk.medium c.args.disk.now).written (g.D.Disk.medium c.write_durably.new.disk).written
-    (ap length c.requires.text ∙ length-sealed c.args.generation c.args.text.now) c.write_durably.ensures.written
-
-pub returns-in_err-write_durably-2-clause-elsewhere : goal.returns-in_err-write_durably-2-clause-elsewhere
-returns-in_err-write_durably-2-clause-elsewhere g c = λ tells.
-    let old = (g.D.Disk.medium c.args.disk.now).image in
-    let mid = (g.D.Disk.medium c.write_durably.new.disk).image in
-    let new = (g.D.Disk.medium c.write_durably-2.new.disk).image in
-    spares_on (IsNoSlot c.args.place.first c.args.place.copies) old mid new
-    (chosen_elsewhere c.args.place.first c.args.place.copies (own c.args.generation) c.args.lacking.now old mid
-    (omega arith) (c.write_durably.ensures.elsewhere tells))
-    (chosen_elsewhere c.args.place.first c.args.place.copies (other c.args.generation) c.args.stale.now mid new
-    (omega arith) (c.write_durably-2.ensures.elsewhere tells))
-
-pub returns-in_err-write_durably-2-clause-any_moment : goal.returns-in_err-write_durably-2-clause-any_moment
-returns-in_err-write_durably-2-clause-any_moment g c = λ tells quiet.
-    let old = g.D.Disk.medium c.args.disk.now in
-    let mid = g.D.Disk.medium c.write_durably.new.disk in
-    let new = g.D.Disk.medium c.write_durably-2.new.disk in
-    let put = c.in_ok-write_durably.ensures.put tells in
-    goes_on (PutStops c.args.place.first c.args.place.copies c.args.generation c.args.text.now old.image)
-    c.write_durably.ensures.time c.write_durably-2.ensures.time
-    (first_moment c.args.place.first c.args.place.copies c.args.generation c.args.text.now old mid new
-    c.requires.positive (omega arith) c.requires.short c.args.lacking.now c.args.stale.now c.args.sealed_text.now
-    c.requires.text
-    (c.requires.lacking tells) (c.requires.stale tells) _ quiet (λ x. put) c.in_ok-write_durably.ensures.during)
-    (second_moment c.args.place.first c.args.place.copies c.args.generation c.args.text.now old mid new
-    c.requires.positive (omega arith) c.requires.short c.args.lacking.now c.args.stale.now c.args.sealed_text.now
-    c.requires.text
-    (c.requires.lacking tells) (c.requires.stale tells) _ c.in_ok-write_durably.ensures.quiet put
-    (λ x. absurd (false≢true x)) c.in_err-write_durably-2.ensures.during)
-
-pub returns-in_err-write_durably-2-clause-written : goal.returns-in_err-write_durably-2-clause-written
-returns-in_err-write_durably-2-clause-written g c =
-    both_written c.args.place.copies (length c.args.text.now) (length c.args.sealed_text.now)
-    (g.D.Disk.medium c.args.disk.now).written (g.D.Disk.medium c.write_durably.new.disk).written
-    (g.D.Disk.medium c.write_durably-2.new.disk).written
-    (ap length c.requires.text ∙ length-sealed c.args.generation c.args.text.now) c.write_durably.ensures.written
-    c.write_durably-2.ensures.written
+pub returns-clause-brings : goal.returns-clause-brings
+returns-clause-brings g c = record {
+  puts = record {
+    elsewhere = λ tells.
+        let old = (g.D.Disk.medium c.args.disk.now).image in
+        let mid = (g.D.Disk.medium c.write_durably.new.disk).image in
+        let new = (g.D.Disk.medium c.write_durably-2.new.disk).image in
+        spares_on (IsNoSlot c.args.place.first c.args.place.copies) old mid new
+        (chosen_elsewhere c.args.place.first c.args.place.copies (own c.args.generation) c.args.lacking.now old mid
+        (omega arith) (c.write_durably.ensures.elsewhere tells))
+        (chosen_elsewhere c.args.place.first c.args.place.copies (other c.args.generation) c.args.stale.now mid new
+        (omega arith) (c.write_durably-2.ensures.elsewhere tells));
+    any_moment = λ tells quiet.
+        let old = g.D.Disk.medium c.args.disk.now in
+        let mid = g.D.Disk.medium c.write_durably.new.disk in
+        let new = g.D.Disk.medium c.write_durably-2.new.disk in
+        let put = c.in_ok-write_durably.ensures.put tells in
+        goes_on (PutStops c.args.place.first c.args.place.copies c.args.generation c.args.text.now old.image)
+        c.write_durably.ensures.time c.write_durably-2.ensures.time
+        (first_moment c.args.place.first c.args.place.copies c.args.generation c.args.text.now old mid new
+        c.requires.positive (omega arith) c.requires.short c.args.lacking.now c.args.stale.now c.args.sealed_text.now
+        c.requires.text
+        (c.requires.lacking tells) (c.requires.stale tells) _ quiet (λ x. put) c.in_ok-write_durably.ensures.during)
+        (second_moment c.args.place.first c.args.place.copies c.args.generation c.args.text.now old mid new
+        c.requires.positive (omega arith) c.requires.short c.args.lacking.now c.args.stale.now c.args.sealed_text.now
+        c.requires.text
+        (c.requires.lacking tells) (c.requires.stale tells) _ c.in_ok-write_durably.ensures.quiet put
+        (λ x. c.in_ok-write_durably-2.ensures.put tells) c.in_ok-write_durably-2.ensures.during);
+    written = both_written c.args.place.copies (length c.args.text.now) (length c.args.sealed_text.now)
+        (g.D.Disk.medium c.args.disk.now).written (g.D.Disk.medium c.write_durably.new.disk).written
+        (g.D.Disk.medium c.write_durably-2.new.disk).written
+        (ap length c.requires.text ∙ length-sealed c.args.generation c.args.text.now) c.write_durably.ensures.written
+        c.write_durably-2.ensures.written;
+    time = elapses_on c.write_durably.ensures.time c.write_durably-2.ensures.time;
+  };
+  right = λ tells.
+      right_both c.args.place.first c.args.place.copies c.args.generation c.args.text.now
+      (g.D.Disk.medium c.args.disk.now).image c.args.lacking.now c.args.stale.now
+      (g.D.Disk.medium c.write_durably.new.disk).image (g.D.Disk.medium c.write_durably-2.new.disk).image
+      (c.requires.lacking tells) (c.requires.stale tells)
+      (c.write_durably.ensures.elsewhere tells) (c.write_durably-2.ensures.elsewhere tells);
+  already = λ tells alone.
+      c.write_durably-2.ensures.none
+      (none_stale c.args.place.first c.args.place.copies c.args.generation c.args.text.now
+      (g.D.Disk.medium c.args.disk.now).image alone c.args.stale.now (c.requires.stale tells))
+      ∙ c.write_durably.ensures.none
+      (none_lacking c.args.place.first c.args.place.copies c.args.generation c.args.text.now
+      (g.D.Disk.medium c.args.disk.now).image alone c.args.lacking.now (c.requires.lacking tells));
+}
 
 pub returns-clause-alone : goal.returns-clause-alone
 returns-clause-alone g c = λ tells.
@@ -79,86 +150,3 @@ returns-clause-alone g c = λ tells.
     c.requires.text
     (c.requires.lacking tells) (c.requires.stale tells) mid.image (c.in_ok-write_durably.ensures.put tells) new.image
     (c.in_ok-write_durably-2.ensures.put tells)
-
-pub returns-clause-elsewhere : goal.returns-clause-elsewhere
-returns-clause-elsewhere g c = λ tells.
-    let old = (g.D.Disk.medium c.args.disk.now).image in
-    let mid = (g.D.Disk.medium c.write_durably.new.disk).image in
-    let new = (g.D.Disk.medium c.write_durably-2.new.disk).image in
-    spares_on (IsNoSlot c.args.place.first c.args.place.copies) old mid new
-    (chosen_elsewhere c.args.place.first c.args.place.copies (own c.args.generation) c.args.lacking.now old mid
-    (omega arith) (c.write_durably.ensures.elsewhere tells))
-    (chosen_elsewhere c.args.place.first c.args.place.copies (other c.args.generation) c.args.stale.now mid new
-    (omega arith) (c.write_durably-2.ensures.elsewhere tells))
-
-pub returns-clause-any_moment : goal.returns-clause-any_moment
-returns-clause-any_moment g c = λ tells quiet.
-    let old = g.D.Disk.medium c.args.disk.now in
-    let mid = g.D.Disk.medium c.write_durably.new.disk in
-    let new = g.D.Disk.medium c.write_durably-2.new.disk in
-    let put = c.in_ok-write_durably.ensures.put tells in
-    goes_on (PutStops c.args.place.first c.args.place.copies c.args.generation c.args.text.now old.image)
-    c.write_durably.ensures.time c.write_durably-2.ensures.time
-    (first_moment c.args.place.first c.args.place.copies c.args.generation c.args.text.now old mid new
-    c.requires.positive (omega arith) c.requires.short c.args.lacking.now c.args.stale.now c.args.sealed_text.now
-    c.requires.text
-    (c.requires.lacking tells) (c.requires.stale tells) _ quiet (λ x. put) c.in_ok-write_durably.ensures.during)
-    (second_moment c.args.place.first c.args.place.copies c.args.generation c.args.text.now old mid new
-    c.requires.positive (omega arith) c.requires.short c.args.lacking.now c.args.stale.now c.args.sealed_text.now
-    c.requires.text
-    (c.requires.lacking tells) (c.requires.stale tells) _ c.in_ok-write_durably.ensures.quiet put
-    (λ x. c.in_ok-write_durably-2.ensures.put tells) c.in_ok-write_durably-2.ensures.during)
-
-pub returns-clause-written : goal.returns-clause-written
-returns-clause-written g c =
-    both_written c.args.place.copies (length c.args.text.now) (length c.args.sealed_text.now)
-    (g.D.Disk.medium c.args.disk.now).written (g.D.Disk.medium c.write_durably.new.disk).written
-    (g.D.Disk.medium c.write_durably-2.new.disk).written
-    (ap length c.requires.text ∙ length-sealed c.args.generation c.args.text.now) c.write_durably.ensures.written
-    c.write_durably-2.ensures.written
-
-pub returns-in_err-write_durably-clause-right : goal.returns-in_err-write_durably-clause-right
-returns-in_err-write_durably-clause-right g c = λ tells.
-    right_first c.args.place.first c.args.place.copies c.args.generation c.args.text.now
-    (g.D.Disk.medium c.args.disk.now).image c.args.lacking.now c.args.stale.now
-    (g.D.Disk.medium c.write_durably.new.disk).image (c.requires.lacking tells)
-    (c.write_durably.ensures.elsewhere tells)
-
-pub returns-in_err-write_durably-2-clause-right : goal.returns-in_err-write_durably-2-clause-right
-returns-in_err-write_durably-2-clause-right g c = λ tells.
-    right_both c.args.place.first c.args.place.copies c.args.generation c.args.text.now
-    (g.D.Disk.medium c.args.disk.now).image c.args.lacking.now c.args.stale.now
-    (g.D.Disk.medium c.write_durably.new.disk).image (g.D.Disk.medium c.write_durably-2.new.disk).image
-    (c.requires.lacking tells) (c.requires.stale tells)
-    (c.write_durably.ensures.elsewhere tells) (c.write_durably-2.ensures.elsewhere tells)
-
-pub returns-clause-right : goal.returns-clause-right
-returns-clause-right g c = λ tells.
-    right_both c.args.place.first c.args.place.copies c.args.generation c.args.text.now
-    (g.D.Disk.medium c.args.disk.now).image c.args.lacking.now c.args.stale.now
-    (g.D.Disk.medium c.write_durably.new.disk).image (g.D.Disk.medium c.write_durably-2.new.disk).image
-    (c.requires.lacking tells) (c.requires.stale tells)
-    (c.write_durably.ensures.elsewhere tells) (c.write_durably-2.ensures.elsewhere tells)
-
-pub returns-in_err-write_durably-clause-already : goal.returns-in_err-write_durably-clause-already
-returns-in_err-write_durably-clause-already g c = λ tells alone. c.write_durably.ensures.none
-    (none_lacking c.args.place.first c.args.place.copies c.args.generation c.args.text.now
-    (g.D.Disk.medium c.args.disk.now).image alone c.args.lacking.now (c.requires.lacking tells))
-
-pub returns-in_err-write_durably-2-clause-already : goal.returns-in_err-write_durably-2-clause-already
-returns-in_err-write_durably-2-clause-already g c = λ tells alone.
-    c.write_durably-2.ensures.none
-    (none_stale c.args.place.first c.args.place.copies c.args.generation c.args.text.now
-    (g.D.Disk.medium c.args.disk.now).image alone c.args.stale.now (c.requires.stale tells))
-    ∙ c.write_durably.ensures.none
-    (none_lacking c.args.place.first c.args.place.copies c.args.generation c.args.text.now
-    (g.D.Disk.medium c.args.disk.now).image alone c.args.lacking.now (c.requires.lacking tells))
-
-pub returns-clause-already : goal.returns-clause-already
-returns-clause-already g c = λ tells alone.
-    c.write_durably-2.ensures.none
-    (none_stale c.args.place.first c.args.place.copies c.args.generation c.args.text.now
-    (g.D.Disk.medium c.args.disk.now).image alone c.args.stale.now (c.requires.stale tells))
-    ∙ c.write_durably.ensures.none
-    (none_lacking c.args.place.first c.args.place.copies c.args.generation c.args.text.now
-    (g.D.Disk.medium c.args.disk.now).image alone c.args.lacking.now (c.requires.lacking tells))

@@ -7,4 +7,4 @@ loop-copy-preserved g c = chooses_on c.args.pick c.loop-copy.chosen c.args.place
     c.args.generation c.args.text.now
     c.in_ok-found.found c.is_picked.result c.slot.result (omega arith) c.is_picked.ensures c.slot.ensures
     c.loop-copy.invariant
-    c.in_ok-found.ensures.found c.look_at.ensures.reads c.look_at.ensures.time c.in_ok-found.ensures.passes
+    c.in_ok-found.ensures.found c.look_at.ensures.reads c.look_at.ensures.time c.in_ok-found.ensures.faults.passes

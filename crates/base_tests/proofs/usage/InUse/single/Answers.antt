@@ -1,7 +1,7 @@
 use Rattle.std.proofs.Common.{◌≡◌, ℕ, ◌<◌, List, length, sym, ap, subst, arith}
+use Rattle.per_base.specs.declared.elements.Change.{Change}
 use Rattle.element_state.specs.declared.shapes.Shape.{Shape}
 use Rattle.element_state.specs.declared.shapes.View.{View}
-use Rattle.element_state.specs.declared.shapes.Change.{Change}
 use Rattle.element_state.specs.Conditions.{AreChanges, size_of}
 use Rattle.element_state.specs.States.{greatest_generation}
 use Rattle.element_store.specs.Stores.{shape_of, view_in, entries_of}

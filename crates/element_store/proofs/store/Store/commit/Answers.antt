@@ -4,8 +4,7 @@ use Rattle.disk_model.specs.Frame.{Spares}
 use Rattle.disk_model.specs.Place.{IsNoSlot}
 use Rattle.guarded_cell.specs.Register.{IsAlone}
 use Rattle.index_text.specs.Spelling.{index_text}
-use Rattle.index_text.proofs.Lengths.{text_is_short}
-use Rattle.element_state.specs.declared.shapes.Change.{Change}
+use Rattle.index_text.specs.lemmas.Lengths.{text_is_short}
 use Rattle.element_store.specs.Committing.{IsReady, index_length}
 use Rattle.std.proofs.Common.{[], refl, Err}
 use Rattle.index_text.specs.declared.entries.Index.{Index}
@@ -25,8 +24,9 @@ use Rattle.element_store.proofs.CommitKept.{commit_read, commit_length}
 use Rattle.element_store.proofs.Finished.{alone_still, small_changes, store_ascends, finished_view, finished_used}
 use Rattle.element_store.proofs.Finished.{of_either, contents_within}
 use Rattle.element_store.proofs.InOrder.{ascends_as}
-use Rattle.disk_model.proofs.Moments.{elapses_on}
+use Rattle.disk_model.specs.Laws.{elapses_on}
 use Rattle.per_base.specs.declared.elements.Entry.{Entry}
+use Rattle.per_base.specs.declared.elements.Change.{Change}
 use Rattle.element_store.proofs.store.Store.commit.Goals as goal
 
 pub write_in-requires-clause-short : goal.write_in-requires-clause-short
@@ -76,7 +76,7 @@ returns-in_default-clause-elsewhere g c = λ tells. (
     (g.D.Disk.medium c.write_contents.new.disk).image _ (ready.elsewhere tells)
     (subst (λ (p : Place). Spares (IsNoSlot p.first p.copies) (g.D.Disk.medium c.write_contents.new.disk).image
     (g.D.Disk.medium c.write_in.new.disk).image) c.requires.used.memory.place
-    (c.in_default.ensures.elsewhere tells)))
+    (c.in_default.ensures.puts.elsewhere tells)))
 
 pub returns-in_default-clause-outside : goal.returns-in_default-clause-outside
 returns-in_default-clause-outside g c = λ tells quiet. (
@@ -87,8 +87,8 @@ returns-in_default-clause-outside g c = λ tells quiet. (
     commit_around g.D.Disk.told c.args.self c.args.changes.items c.in-Ok.ready.used c.in-Ok.ready.index ready.jobs
     (g.D.Disk.medium c.args.disk.now) c.requires.used prep.plan tells (g.D.Disk.medium c.write_contents.new.disk)
     (g.D.Disk.medium c.write_in.new.disk) c.as_slice.result.now (c.as_slice.ensures ∙ prep.spelled)
-    (ready.keeps tells) (ready.done tells) ready.time c.in_default.ensures.time (Unit {0}) ready.each
-    (c.in_default.ensures.any_moment tells ready.quiet) quiet (ready.elsewhere tells))
+    (ready.keeps tells) (ready.done tells) ready.time c.in_default.ensures.puts.time (Unit {0}) ready.each
+    (c.in_default.ensures.puts.any_moment tells ready.quiet) quiet (ready.elsewhere tells))
 
 pub returns-in_default-clause-any_moment : goal.returns-in_default-clause-any_moment
 returns-in_default-clause-any_moment g c = λ tells. (
@@ -99,8 +99,8 @@ returns-in_default-clause-any_moment g c = λ tells. (
     commit_keeps g.D.Disk.told c.args.self c.args.changes.items c.in-Ok.ready.used c.in-Ok.ready.index ready.jobs
     (g.D.Disk.medium c.args.disk.now) c.requires.used prep.plan tells (g.D.Disk.medium c.write_contents.new.disk)
     (g.D.Disk.medium c.write_in.new.disk) c.as_slice.result.now (c.as_slice.ensures ∙ prep.spelled)
-    (ready.keeps tells) (ready.done tells) ready.time c.in_default.ensures.time (Unit {0}) ready.each
-    (c.in_default.ensures.any_moment tells ready.quiet)
+    (ready.keeps tells) (ready.done tells) ready.time c.in_default.ensures.puts.time (Unit {0}) ready.each
+    (c.in_default.ensures.puts.any_moment tells ready.quiet)
     c.use_is_adopted.ensures.adopted c.contents_keep.ensures.during c.contents_keep.ensures.done
     c.use_is_adopted.ensures.carried c.index_keeps.ensures)
 
@@ -114,7 +114,7 @@ returns-clause-elsewhere g c = λ tells. (
     (g.D.Disk.medium c.write_contents.new.disk).image _ (ready.elsewhere tells)
     (subst (λ (p : Place). Spares (IsNoSlot p.first p.copies) (g.D.Disk.medium c.write_contents.new.disk).image
     (g.D.Disk.medium c.write_in.new.disk).image) c.requires.used.memory.place
-    (c.in-Ok-write_in.ensures.elsewhere tells)))
+    (c.in-Ok-write_in.ensures.puts.elsewhere tells)))
 
 pub returns-clause-outside : goal.returns-clause-outside
 returns-clause-outside g c = λ tells quiet. (
@@ -125,8 +125,8 @@ returns-clause-outside g c = λ tells quiet. (
     commit_around g.D.Disk.told c.args.self c.args.changes.items c.in-Ok.ready.used c.in-Ok.ready.index ready.jobs
     (g.D.Disk.medium c.args.disk.now) c.requires.used prep.plan tells (g.D.Disk.medium c.write_contents.new.disk)
     (g.D.Disk.medium c.write_in.new.disk) c.as_slice.result.now (c.as_slice.ensures ∙ prep.spelled)
-    (ready.keeps tells) (ready.done tells) ready.time c.in-Ok-write_in.ensures.time (Unit {0}) ready.each
-    (c.in-Ok-write_in.ensures.any_moment tells ready.quiet) quiet (ready.elsewhere tells))
+    (ready.keeps tells) (ready.done tells) ready.time c.in-Ok-write_in.ensures.puts.time (Unit {0}) ready.each
+    (c.in-Ok-write_in.ensures.puts.any_moment tells ready.quiet) quiet (ready.elsewhere tells))
 
 pub returns-clause-any_moment : goal.returns-clause-any_moment
 returns-clause-any_moment g c = λ tells. (
@@ -137,8 +137,8 @@ returns-clause-any_moment g c = λ tells. (
     commit_keeps g.D.Disk.told c.args.self c.args.changes.items c.in-Ok.ready.used c.in-Ok.ready.index ready.jobs
     (g.D.Disk.medium c.args.disk.now) c.requires.used prep.plan tells (g.D.Disk.medium c.write_contents.new.disk)
     (g.D.Disk.medium c.write_in.new.disk) c.as_slice.result.now (c.as_slice.ensures ∙ prep.spelled)
-    (ready.keeps tells) (ready.done tells) ready.time c.in-Ok-write_in.ensures.time (Unit {0}) ready.each
-    (c.in-Ok-write_in.ensures.any_moment tells ready.quiet)
+    (ready.keeps tells) (ready.done tells) ready.time c.in-Ok-write_in.ensures.puts.time (Unit {0}) ready.each
+    (c.in-Ok-write_in.ensures.puts.any_moment tells ready.quiet)
     c.use_is_adopted.ensures.adopted c.contents_keep.ensures.during c.contents_keep.ensures.done
     c.use_is_adopted.ensures.carried c.index_keeps.ensures)
 
@@ -181,11 +181,11 @@ returns-in_default-clause-cause g c = λ u. (
     c.deref.ensures.value c.in-Ok.ensures.ready in
     let prep = ready.prepared in
     let f = ready.time.faults in
-    let r = c.in_default.ensures.cause in
+    let r = c.in_default.ensures.faults.cause in
     omega (arith, f, r))
 
 pub returns-in_default-clause-time : goal.returns-in_default-clause-time
-returns-in_default-clause-time g c = elapses_on c.in-Ok.ensures.ready.time c.in_default.ensures.time
+returns-in_default-clause-time g c = elapses_on c.in-Ok.ensures.ready.time c.in_default.ensures.puts.time
 
 pub moved-requires-clause-empty : goal.moved-requires-clause-empty
 moved-requires-clause-empty g c = c.in-Ok.ensures.empty
@@ -231,7 +231,7 @@ returns-clause-used g c = (
     (g.D.Disk.medium c.write_contents.new.disk) (g.D.Disk.medium c.write_in.new.disk) c.as_slice.result.now
     (c.as_slice.ensures ∙ prep.spelled) (ready.keeps tells) (ready.done tells) c.in-Ok-write_in.cell
     c.in-Ok-write_in.ensures.next (c.in-Ok-write_in.ensures.held tells)
-    (c.in-Ok-write_in.ensures.elsewhere tells)))
+    (c.in-Ok-write_in.ensures.puts.elsewhere tells)))
 
 pub returns-clause-shape : goal.returns-clause-shape
 returns-clause-shape g c = ap (λ (st : Store). st.shape) c.new.ensures
@@ -245,7 +245,7 @@ returns-clause-view g c = finished_view g.D.Disk.told c.args.self c.new.result c
     c.args.changes.items) c.moved.ensures.items)
 
 pub returns-clause-passes : goal.returns-clause-passes
-returns-clause-passes g c = c.in-Ok-write_in.ensures.passes ∙ c.in-Ok.ensures.passes
+returns-clause-passes g c = c.in-Ok-write_in.ensures.faults.passes ∙ c.in-Ok.ensures.passes
 
 pub returns-clause-quiet : goal.returns-clause-quiet
 returns-clause-quiet g c = c.in-Ok-write_in.ensures.quiet
@@ -260,7 +260,7 @@ returns-clause-clean g c = λ tells clean. (
     (g.D.Disk.medium c.args.disk.now) c.requires.used prep.plan tells (g.D.Disk.medium c.write_contents.new.disk)
     (g.D.Disk.medium c.write_in.new.disk) c.as_slice.result.now (c.as_slice.ensures ∙ prep.spelled)
     (ready.keeps tells) (ready.done tells) c.in-Ok-write_in.cell c.in-Ok-write_in.ensures.next
-    (c.in-Ok-write_in.ensures.held tells) (c.in-Ok-write_in.ensures.elsewhere tells) clean)
+    (c.in-Ok-write_in.ensures.held tells) (c.in-Ok-write_in.ensures.puts.elsewhere tells) clean)
 
 pub returns-clause-written : goal.returns-clause-written
 returns-clause-written g c = (
@@ -275,10 +275,10 @@ returns-clause-written g c = (
     (commit_written g.D.Disk.told c.args.self c.args.changes.items c.in-Ok.ready.used c.in-Ok.ready.index ready.jobs
     (g.D.Disk.medium c.args.disk.now) c.requires.used prep.plan (g.D.Disk.medium c.write_contents.new.disk)
     ready.cost (g.D.Disk.medium c.write_in.new.disk) c.as_slice.result.now (c.as_slice.ensures ∙ prep.spelled)
-    c.in-Ok-write_in.ensures.written))
+    c.in-Ok-write_in.ensures.puts.written))
 
 pub returns-clause-time : goal.returns-clause-time
-returns-clause-time g c = elapses_on c.in-Ok.ensures.ready.time c.in-Ok-write_in.ensures.time
+returns-clause-time g c = elapses_on c.in-Ok.ensures.ready.time c.in-Ok-write_in.ensures.puts.time
 
 pub returns-in-Err-Device-clause-cause : goal.returns-in-Err-Device-clause-cause
 returns-in-Err-Device-clause-cause g c = λ u. c.in-Err-Device.ensures.cause (ap Err c.in-Err-Device.field-0-is)
@@ -393,7 +393,7 @@ returns-clause-at_most g c = (
     (commit_written g.D.Disk.told c.args.self c.args.changes.items c.in-Ok.ready.used c.in-Ok.ready.index ready.jobs
     (g.D.Disk.medium c.args.disk.now) c.requires.used prep.plan (g.D.Disk.medium c.write_contents.new.disk)
     ready.cost (g.D.Disk.medium c.write_in.new.disk) c.as_slice.result.now (c.as_slice.ensures ∙ prep.spelled)
-    c.in-Ok-write_in.ensures.written))
+    c.in-Ok-write_in.ensures.puts.written))
 
 pub returns-in_default-clause-at_most : goal.returns-in_default-clause-at_most
 returns-in_default-clause-at_most g c = (
@@ -409,7 +409,7 @@ returns-in_default-clause-at_most g c = (
     (commit_written g.D.Disk.told c.args.self c.args.changes.items c.in-Ok.ready.used c.in-Ok.ready.index ready.jobs
     (g.D.Disk.medium c.args.disk.now) c.requires.used prep.plan (g.D.Disk.medium c.write_contents.new.disk)
     ready.cost (g.D.Disk.medium c.write_in.new.disk) c.as_slice.result.now (c.as_slice.ensures ∙ prep.spelled)
-    c.in_default.ensures.written))
+    c.in_default.ensures.puts.written))
 
 pub returns-in-Err-OutOfMemory-clause-at_most : goal.returns-in-Err-OutOfMemory-clause-at_most
 returns-in-Err-OutOfMemory-clause-at_most g c = contents_within c.args.self c.args.changes.items c.deref.result.now _ _

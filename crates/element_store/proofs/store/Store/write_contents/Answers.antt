@@ -2,7 +2,8 @@ use Rattle.std.proofs.Common.{List, sym, subst, ⊎_elim, inl, inr, arith}
 use Rattle.element_store.specs.declared.jobs.Job.{Job}
 use Rattle.element_store.specs.Committing.{IsPrepared}
 use Rattle.element_store.proofs.Around.{areas_around}
-use Rattle.element_store.proofs.CommitKept.{none_kept, commit_shares, commit_keeps_jobs, commit_around_jobs}
+use Rattle.element_laws.specs.lemmas.Untouched.{none_kept}
+use Rattle.element_store.proofs.CommitKept.{commit_shares, commit_keeps_jobs, commit_around_jobs}
 use Rattle.element_store.proofs.CommitKept.{commit_written_jobs}
 use Rattle.element_store.proofs.store.Store.write_contents.Goals as goal
 

@@ -20,11 +20,11 @@ use Rattle.element_state.specs.Views.{holds_text, counts, holds_all, supporters,
 use Rattle.element_state.specs.Clean.{where_of}
 use Rattle.element_state.specs.Kept.{heading, IsSpared, CostsNoCopy}
 use Rattle.element_laws.specs.Phases.{IsHeaded}
-use Rattle.element_laws.proofs.Lists.{true_both, In-list_all, zip_left, zip_with, zip_find}
-use Rattle.element_laws.proofs.Copies.{Gives, Backed}
-use Rattle.element_laws.proofs.Fits.{fit_at}
-use Rattle.element_laws.proofs.Standing.{gift_of, StandsFor, HasValue, index_heading}
-use Rattle.element_laws.proofs.Left.{is_whole_at, never_listed, that_many}
+use Rattle.element_laws.specs.lemmas.Lists.{true_both, In-list_all, zip_left, zip_with, zip_find}
+use Rattle.element_laws.specs.lemmas.Copies.{Gives, Backed}
+use Rattle.element_laws.specs.lemmas.Fits.{fit_at}
+use Rattle.element_laws.specs.lemmas.Standing.{gift_of, StandsFor, HasValue, index_heading}
+use Rattle.element_laws.specs.lemmas.Left.{is_whole_at, never_listed, that_many}
 
 -- what stands under an entry: the content is backed, and a good one is given whole by each copy outside the damage
 pub record EntryStands (shape : Shape) (image : Image) (damaged : List ℕ) (e : IndexEntry) (f : Entry) : Type 0 where

@@ -4,8 +4,6 @@ use Rattle.std.proofs.Common.{◌&&◌, length-append, refl, sym, ap, ◌∙◌,
 use Rattle.std.specs.List.{Contains, list_all}
 use Rattle.std.specs.Prelude.{◌==◌}
 use Rattle.std.proofs.lemmas.Bool.{cases_Bool, false_from_ne_true, eqb-true, eq-eqb, lt-leb}
-use Rattle.std.proofs.lemmas.List.Folds.{list_any_at, Any-from_list_any}
-use Rattle.std.proofs.lemmas.List.{get_or_default}
 use Rattle.per_base.specs.declared.elements.Scope.{Scope}
 use Rattle.per_base.specs.declared.elements.Scope.TheVariants as scope
 use Rattle.element_state.specs.declared.shapes.Shape.{Shape}
@@ -14,29 +12,10 @@ use Rattle.disk_model.specs.declared.place.Place.{Place}
 use Rattle.disk_model.specs.Image.{Image}
 use Rattle.disk_model.specs.Orders.{named_in}
 use Rattle.guarded_cell.specs.Held.{copies_that}
-use Rattle.guarded_cell.specs.CopyLaws.{passing_is, is_passing}
+use Rattle.guarded_cell.specs.CopyLaws.{named_passing}
 use Rattle.element_state.specs.Fit.{FitText}
 use Rattle.element_state.specs.Views.{holds_text, holds_all, counts, supporters, qualifies}
 use Rattle.element_state.specs.Chosen.{is_whole_of}
-
--- ---- membership as a test
-
-pub named_contains : (xs : List ℕ) (n : ℕ) → named_in xs n ≡ true → Contains xs n
-named_contains xs n e =
-    let any = Any-from_list_any (λ x. x == n) xs e in
-    (any.0, any.2, get_or_default xs any.0 n any.1 any.2 ∙ any.3 ∙ eqb-true any.1 n any.4)
-
-pub contains_named : (xs : List ℕ) (n : ℕ) → Contains xs n → named_in xs n ≡ true
-contains_named xs n has = list_any_at (λ x. x == n) xs has.0 n has.1 (ap (λ x. x == n) has.2 ∙ eq-eqb n n refl)
-
--- a copy is among those that pass exactly where it passes
-pub named_passing : (test : ℕ → Bool) (n copy : ℕ) → copy < n → named_in (copies_that test n) (copy + 1) ≡ test copy
-named_passing test n copy lt = ⊎_elim
-    (λ yes. contains_named (copies_that test n) (copy + 1) (passing_is test n copy lt yes) ∙ sym yes)
-    (λ no. false_from_ne_true (named_in (copies_that test n) (copy + 1)) (λ named.
-    let passed = (is_passing test n copy (named_contains (copies_that test n) (copy + 1) named)).1 in
-    let both : true ≡ false = sym passed ∙ no in cc) ∙ sym no)
-    (cases_Bool (test copy))
 
 -- tests that agree below n pass the same copies
 pub copies_alike : (s t : ℕ → Bool) (n : ℕ) → ((copy : ℕ) → copy < n → s copy ≡ t copy)

@@ -26,7 +26,7 @@ use Rattle.element_state.specs.Views.{store_lacking, lacks_number}
 use Rattle.element_state.specs.Chosen.{HasLength, IsReadBy}
 use Rattle.element_state.specs.Conditions as conditions
 use Rattle.element_state.specs.Read.{IsEntryOf, IsView}
-use Rattle.element_state.proofs.Entrywise.{length_zip}
+use Rattle.element_state.specs.lemmas.Entrywise.{length_zip}
 
 -- ---- an index that fits
 

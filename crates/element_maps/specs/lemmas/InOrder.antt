@@ -14,8 +14,9 @@ use Rattle.std.proofs.lemmas.List.Sums.{sum_by-cons}
 use Rattle.std.proofs.lemmas.Map.Keys.{IsDistinct-cons}
 use Rattle.per_base.specs.Names.{name_cmp}
 use Rattle.element_state.specs.Changes.{item_at, insert_item, without_item}
-use Rattle.element_maps.proofs.Names.{same_names, eq_names, eq_itself, eq_back, false_true, tied_names, less_apart}
-use Rattle.element_maps.proofs.Names.{greater_less, less_less, less_from, above_from}
+use Rattle.element_maps.specs.lemmas.Names.{same_names, eq_names, eq_itself, eq_back, false_true, tied_names}
+use Rattle.element_maps.specs.lemmas.Names.{less_apart}
+use Rattle.element_maps.specs.lemmas.Names.{greater_less, less_less, less_from, above_from}
 
 abbrev pub NamesAscend : {X : Type 0} → (X → List ℕ) → List X → Type 0
 NamesAscend name_of xs = IsStrictlySortedBy name_cmp (map name_of xs)

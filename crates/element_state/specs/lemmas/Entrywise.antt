@@ -17,7 +17,7 @@ use Rattle.index_text.specs.Rules.{blocks_of}
 use Rattle.index_text.specs.Sizes.{size_of, area_blocks, fits}
 use Rattle.index_text.specs.Spelling.{kind_code}
 use Rattle.disk_model.specs.Medium.{Medium, IsLawful, Elapses, OnlyReads}
-use Rattle.disk_model.proofs.Moments.{reads_none, reads_on, elapses_none, elapses_on}
+use Rattle.disk_model.specs.Laws.{reads_none, reads_on, elapses_none, elapses_on}
 
 -- ---- calls that only read, in a row
 

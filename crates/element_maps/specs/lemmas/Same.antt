@@ -15,7 +15,7 @@ use Rattle.element_state.specs.declared.shapes.Shape.{Shape}
 use Rattle.element_state.specs.declared.shapes.View.{View}
 use Rattle.element_state.specs.Changes.{committed, same_info, same_content, same_element, is_same}
 use Rattle.element_maps.specs.Sessions.{same_map, synced_view}
-use Rattle.element_maps.proofs.Names.{eq_itself, same_names}
+use Rattle.element_maps.specs.lemmas.Names.{eq_itself, same_names}
 
 pub both : (a b : Bool) → (a && b) ≡ true → (a ≡ true) × (b ≡ true)
 both true b e = (refl, e)

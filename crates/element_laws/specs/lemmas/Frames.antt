@@ -11,10 +11,10 @@ use Rattle.block_files.specs.Contents.{counting}
 use Rattle.block_files.specs.Areas.{within}
 use Rattle.element_state.specs.declared.shapes.Shape.{Shape}
 use Rattle.element_state.specs.Clean.{where_of, IsNamed, IsPiece, in_slot, in_blocks, BlockText, IsBlockPiece}
-use Rattle.element_laws.proofs.Copies.{Gives}
-use Rattle.element_laws.proofs.Standing.{gift_of}
-use Rattle.element_laws.proofs.Left.{is_whole_at}
-use Rattle.element_laws.proofs.Keeping.{IsLess, IsFewer, KeepsAll}
+use Rattle.element_laws.specs.lemmas.Copies.{Gives}
+use Rattle.element_laws.specs.lemmas.Standing.{gift_of}
+use Rattle.element_laws.specs.lemmas.Left.{is_whole_at}
+use Rattle.element_laws.specs.lemmas.Keeping.{IsLess, IsFewer, KeepsAll}
 
 pub own_small : (g : ℕ) → own g < 2
 own_small g = omega arith

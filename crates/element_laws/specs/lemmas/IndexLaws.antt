@@ -27,18 +27,19 @@ use Rattle.element_state.specs.Views.{qualifies, supporters, entry_view, content
 use Rattle.element_state.specs.Clean.{where_of, IsNamed, IsClean}
 use Rattle.element_state.specs.Conditions.{IsMended}
 use Rattle.element_laws.specs.Phases.{OpensAt, IsWritten, IsCarried, IndexLaw}
-use Rattle.element_laws.proofs.Lists.{In, In-Contains, Contains-In, In-map, map-In, some_is, zip_with, zip_find}
-use Rattle.element_laws.proofs.Lists.{nothing_listed}
-use Rattle.element_laws.proofs.Copies.{Gift, Gives, gifts, Backed, backed_now, backed_less, backed_alike, good_same}
-use Rattle.element_laws.proofs.Fits.{fit_at, fit-spelled}
-use Rattle.element_laws.proofs.Standing.{gift_of}
-use Rattle.element_laws.proofs.Left.{is_whole_at, value_at, with_values, spared_has, good_is}
-use Rattle.element_laws.proofs.Keeping.{HoldsOnly, IsLess}
-use Rattle.element_laws.proofs.Frames.{slot_no_area, area_no_slot}
-use Rattle.element_laws.proofs.Phases.{opens_pick, opened_on, sound_slots, decays_slots, given_then, whole_then}
-use Rattle.element_laws.proofs.Phases.{contents_then}
-use Rattle.element_laws.proofs.NewText.{EntryStands}
-use Rattle.element_laws.proofs.IndexPhase.{open_at, opened_two, opened_clean}
+use Rattle.element_laws.specs.lemmas.Lists.{In, In-Contains, Contains-In, In-map, map-In, some_is, zip_with, zip_find}
+use Rattle.element_laws.specs.lemmas.Lists.{nothing_listed}
+use Rattle.element_laws.specs.lemmas.Copies.{Gift, Gives, gifts, Backed, backed_now, backed_less, backed_alike}
+use Rattle.element_laws.specs.lemmas.Copies.{good_same}
+use Rattle.element_laws.specs.lemmas.Fits.{fit_at, fit-spelled}
+use Rattle.element_laws.specs.lemmas.Standing.{gift_of}
+use Rattle.element_laws.specs.lemmas.Left.{is_whole_at, value_at, with_values, spared_has, good_is}
+use Rattle.element_laws.specs.lemmas.Keeping.{HoldsOnly, IsLess}
+use Rattle.element_laws.specs.lemmas.Frames.{slot_no_area, area_no_slot}
+use Rattle.element_laws.specs.lemmas.Phases.{opens_pick, opened_on, sound_slots, decays_slots, given_then, whole_then}
+use Rattle.element_laws.specs.lemmas.Phases.{contents_then}
+use Rattle.element_laws.specs.lemmas.NewText.{EntryStands}
+use Rattle.element_laws.specs.lemmas.IndexPhase.{open_at, opened_two, opened_clean}
 
 -- an entry of an index that is held names its content
 pub names_it : (shape : Shape) (image : Image) (copy g : ℕ) (t : List ℕ) (i : Index) → copy < shape.place.copies

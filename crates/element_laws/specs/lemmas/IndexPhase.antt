@@ -18,16 +18,18 @@ use Rattle.element_state.specs.States.{Opens, store_at}
 use Rattle.element_state.specs.Clean.{where_of, IsNamed, IsClean}
 use Rattle.element_state.specs.Kept.{HasEnough, CostsNoCopy, Kept}
 use Rattle.element_laws.specs.Phases.{OpensAt}
-use Rattle.element_laws.proofs.Lists.{In, some_is, not_false}
-use Rattle.element_laws.proofs.Copies.{Gives, AreAlike}
-use Rattle.element_laws.proofs.Fits.{fit_at, In-fit, fit-In, picked_parts}
-use Rattle.element_laws.proofs.Standing.{gift_of, one_fit, generation_of, EachStands, SparesCopies, Found, kept_opens}
-use Rattle.element_laws.proofs.Left.{is_whole_at, value_at, named, stands_left, costs_left, enough_left, enough_held}
-use Rattle.element_laws.proofs.Left.{qualifies_left, qualified_held}
-use Rattle.element_laws.proofs.Keeping.{WasHeld}
-use Rattle.element_laws.proofs.Phases.{opens_pick}
-use Rattle.element_laws.proofs.NewText.{EntryStands, new_enough, new_costs, new_qualifies}
-use Rattle.element_laws.proofs.TwoTexts.{two_clean, each_two, stands_new}
+use Rattle.element_laws.specs.lemmas.Lists.{In, some_is, not_false}
+use Rattle.element_laws.specs.lemmas.Copies.{Gives, AreAlike}
+use Rattle.element_laws.specs.lemmas.Fits.{fit_at, In-fit, fit-In, picked_parts}
+use Rattle.element_laws.specs.lemmas.Standing.{gift_of, one_fit, generation_of, EachStands, SparesCopies, Found}
+use Rattle.element_laws.specs.lemmas.Standing.{kept_opens}
+use Rattle.element_laws.specs.lemmas.Left.{is_whole_at, value_at, named, stands_left, costs_left, enough_left}
+use Rattle.element_laws.specs.lemmas.Left.{enough_held}
+use Rattle.element_laws.specs.lemmas.Left.{qualifies_left, qualified_held}
+use Rattle.element_laws.specs.lemmas.Keeping.{WasHeld}
+use Rattle.element_laws.specs.lemmas.Phases.{opens_pick}
+use Rattle.element_laws.specs.lemmas.NewText.{EntryStands, new_enough, new_costs, new_qualifies}
+use Rattle.element_laws.specs.lemmas.TwoTexts.{two_clean, each_two, stands_new}
 
 -- ---- the text at which a storage opens
 

@@ -31,13 +31,13 @@ use Rattle.element_state.specs.Views.{holds_text, counts, holds_all, supporters,
 use Rattle.element_state.specs.Views.{entries_of, lacks_one, store_lacking, view_of}
 use Rattle.element_state.specs.Clean.{where_of, IsNamed, IsClean}
 use Rattle.element_state.specs.Kept.{IsSpared, HasEnough, CostsNoCopy}
-use Rattle.element_laws.proofs.Lists.{In, In-Contains, map-In, not_none, some_is, not_false, both_true, true_both}
-use Rattle.element_laws.proofs.Lists.{or_false, not_is_false, false_not_true, there_is, none_any, list_all-In}
-use Rattle.element_laws.proofs.Lists.{In-list_all, zip_map, zip_right}
-use Rattle.element_laws.proofs.Copies.{Gift, Gives, gifts, AreAlike, Backed, backed_now, backed_less, voted_given}
-use Rattle.element_laws.proofs.Copies.{good_now, filtered_that, Contains_named, good_same, bad_good}
-use Rattle.element_laws.proofs.Fits.{fit_at, fit-spelled}
-use Rattle.element_laws.proofs.Standing.{gift_of, StandsFor, headings_of, generation_of, HasValue, HasEach}
+use Rattle.element_laws.specs.lemmas.Lists.{In, In-Contains, map-In, not_none, some_is, not_false, both_true, true_both}
+use Rattle.element_laws.specs.lemmas.Lists.{or_false, not_is_false, false_not_true, there_is, none_any, list_all-In}
+use Rattle.element_laws.specs.lemmas.Lists.{In-list_all, zip_map, zip_right}
+use Rattle.element_laws.specs.lemmas.Copies.{Gift, Gives, gifts, AreAlike, Backed, backed_now, backed_less, voted_given}
+use Rattle.element_laws.specs.lemmas.Copies.{good_now, filtered_that, Contains_named, good_same, bad_good}
+use Rattle.element_laws.specs.lemmas.Fits.{fit_at, fit-spelled}
+use Rattle.element_laws.specs.lemmas.Standing.{gift_of, StandsFor, headings_of, generation_of, HasValue, HasEach}
 
 -- the copy has all bytes of a content within its area
 abbrev pub is_whole_at : Image → Shape → ℕ → Where → Bool

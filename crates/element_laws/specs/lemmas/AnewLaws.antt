@@ -24,19 +24,21 @@ use Rattle.element_state.specs.Clean.{where_of, counting_at, IsNamed, IsPiece, i
 use Rattle.element_laws.specs.Phases.{IsSalvageAt, IsGivenUp, GivenUpLaw, IsWritten, TakesNamed, TakenLaw}
 use Rattle.element_laws.specs.Phases.{AnewContentsLaw, AnewDoneLaw, AnewIndexLaw, AreAgreed, CleanLaw, AdoptedLaw}
 use Rattle.element_laws.specs.Phases.{SoundLaw, SettledLaw}
-use Rattle.element_laws.proofs.Lists.{In, In-Contains, nothing_listed, all_by, all_in, Contains-In, In-map, map-In}
-use Rattle.element_laws.proofs.Lists.{some_is, zip_with, zip_find}
-use Rattle.element_laws.proofs.Copies.{Gives, backed_alike}
-use Rattle.element_laws.proofs.Fits.{fit-spelled}
-use Rattle.element_laws.proofs.Standing.{gift_of}
-use Rattle.element_laws.proofs.Left.{is_whole_at, value_at}
-use Rattle.element_laws.proofs.Keeping.{IsFewer, KeepsAll, WasHeld}
-use Rattle.element_laws.proofs.Frames.{slot_no_area, area_no_slot, its_blocks, given_piece, fewer_decays, keeps_decays}
-use Rattle.element_laws.proofs.Phases.{fewer_kept, salvage_corrupt, one_salvage, salvage_held, room, sound_slots}
-use Rattle.element_laws.proofs.Phases.{decays_slots, given_then, whole_then}
-use Rattle.element_laws.proofs.NewText.{EntryStands}
-use Rattle.element_laws.proofs.TwoTexts.{SalvageKept, two_clean, two_salvage, corrupt_two}
-use Rattle.element_laws.proofs.IndexLaws.{names_it, written_stands}
+use Rattle.element_laws.specs.lemmas.Lists.{In, In-Contains, nothing_listed, all_by, all_in, Contains-In, In-map}
+use Rattle.element_laws.specs.lemmas.Lists.{map-In}
+use Rattle.element_laws.specs.lemmas.Lists.{some_is, zip_with, zip_find}
+use Rattle.element_laws.specs.lemmas.Copies.{Gives, backed_alike}
+use Rattle.element_laws.specs.lemmas.Fits.{fit-spelled}
+use Rattle.element_laws.specs.lemmas.Standing.{gift_of}
+use Rattle.element_laws.specs.lemmas.Left.{is_whole_at, value_at}
+use Rattle.element_laws.specs.lemmas.Keeping.{IsFewer, KeepsAll, WasHeld}
+use Rattle.element_laws.specs.lemmas.Frames.{slot_no_area, area_no_slot, its_blocks, given_piece, fewer_decays}
+use Rattle.element_laws.specs.lemmas.Frames.{keeps_decays}
+use Rattle.element_laws.specs.lemmas.Phases.{fewer_kept, salvage_corrupt, one_salvage, salvage_held, room, sound_slots}
+use Rattle.element_laws.specs.lemmas.Phases.{decays_slots, given_then, whole_then}
+use Rattle.element_laws.specs.lemmas.NewText.{EntryStands}
+use Rattle.element_laws.specs.lemmas.TwoTexts.{SalvageKept, two_clean, two_salvage, corrupt_two}
+use Rattle.element_laws.specs.lemmas.IndexLaws.{names_it, written_stands}
 
 -- a text that is held after all but one were taken away is that one, and was held
 kept_alone : (first copies g : ℕ) (t : List ℕ) (old new : Image) → IsKeptAlone first copies g t old new

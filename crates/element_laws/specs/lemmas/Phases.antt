@@ -28,16 +28,18 @@ use Rattle.element_state.specs.Chosen.{chosen, or_first}
 use Rattle.element_state.specs.Kept.{Kept, IsKeptOn}
 use Rattle.element_laws.specs.Phases.{IsOfPlace, DamageLaw, UntouchedLaw, OpensAt, IsCorruptAt, CorruptLaw, IsSalvageAt}
 use Rattle.element_laws.specs.Phases.{IsAdopted, AdoptLaw, KeepLaw, TakesBlocks, ContentsLaw, ContentsDoneLaw}
-use Rattle.element_laws.proofs.Lists.{In, all_in, Contains-In, In-map, not_none, not_false, some_is}
-use Rattle.element_laws.proofs.Copies.{Gives}
-use Rattle.element_laws.proofs.Fits.{fit-spelled}
-use Rattle.element_laws.proofs.Standing.{gift_of, generation_of}
-use Rattle.element_laws.proofs.Left.{is_whole_at}
-use Rattle.element_laws.proofs.Keeping.{HoldsOnly, IsLess, IsFewer, KeepsAll, less_keeps, at_first, its, its_generation}
-use Rattle.element_laws.proofs.Keeping.{its_only, less_opens, less_clean, salvage_first, fewer_corrupt, fewer_salvage}
-use Rattle.element_laws.proofs.Keeping.{fewer_clean}
-use Rattle.element_laws.proofs.Frames.{own_small, slot_no_area, area_no_slot, its_blocks, given_piece, given_back}
-use Rattle.element_laws.proofs.Frames.{whole_on, less_decays, fewer_decays}
+use Rattle.element_laws.specs.lemmas.Lists.{In, all_in, Contains-In, In-map, not_none, not_false, some_is}
+use Rattle.element_laws.specs.lemmas.Copies.{Gives}
+use Rattle.element_laws.specs.lemmas.Fits.{fit-spelled}
+use Rattle.element_laws.specs.lemmas.Standing.{gift_of, generation_of}
+use Rattle.element_laws.specs.lemmas.Left.{is_whole_at}
+use Rattle.element_laws.specs.lemmas.Keeping.{HoldsOnly, IsLess, IsFewer, KeepsAll, less_keeps, at_first, its}
+use Rattle.element_laws.specs.lemmas.Keeping.{its_generation}
+use Rattle.element_laws.specs.lemmas.Keeping.{its_only, less_opens, less_clean, salvage_first, fewer_corrupt}
+use Rattle.element_laws.specs.lemmas.Keeping.{fewer_salvage}
+use Rattle.element_laws.specs.lemmas.Keeping.{fewer_clean}
+use Rattle.element_laws.specs.lemmas.Frames.{own_small, slot_no_area, area_no_slot, its_blocks, given_piece, given_back}
+use Rattle.element_laws.specs.lemmas.Frames.{whole_on, less_decays, fewer_decays}
 
 -- ---- at which text a storage opens
 

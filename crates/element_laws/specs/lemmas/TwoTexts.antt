@@ -29,16 +29,18 @@ use Rattle.element_state.specs.Chosen.{chosen}
 use Rattle.element_state.specs.Kept.{IsSpared, HasEnough, IsLeftAs, SalvageStays, HasHolder, KeepsSalvage, BecomesAs}
 use Rattle.element_state.specs.Kept.{all_views, Kept}
 use Rattle.element_laws.specs.Phases.{IsCorruptAt}
-use Rattle.element_laws.proofs.Lists.{In, Contains-In, In-map, append-In, some_is, zip_with}
-use Rattle.element_laws.proofs.Copies.{Gives, AreAlike, Backed, voted_given}
-use Rattle.element_laws.proofs.Fits.{fit_at, IsFit, In-fit, fit-In, fit-spelled, picked_parts, none_passes}
-use Rattle.element_laws.proofs.Standing.{gift_of, StandsFor, HasValue, HasEach, EachStands, one_fit, same_headings}
-use Rattle.element_laws.proofs.Standing.{keeps, keeps_each, corrupt_kept}
-use Rattle.element_laws.proofs.Left.{is_whole_at, value_at, named, counts_all, qualifies_back}
-use Rattle.element_laws.proofs.Keeping.{WasHeld, stood, left_as, at_first, first_greatest, first_held, first_chosen}
-use Rattle.element_laws.proofs.Keeping.{salvage_first}
-use Rattle.element_laws.proofs.NewText.{EntryStands, new_stands, new_costs}
-use Rattle.element_laws.proofs.Phases.{no_open, corrupt_pick}
+use Rattle.element_laws.specs.lemmas.Lists.{In, Contains-In, In-map, append-In, some_is, zip_with}
+use Rattle.element_laws.specs.lemmas.Copies.{Gives, AreAlike, Backed, voted_given}
+use Rattle.element_laws.specs.lemmas.Fits.{fit_at, IsFit, In-fit, fit-In, fit-spelled, picked_parts, none_passes}
+use Rattle.element_laws.specs.lemmas.Standing.{gift_of, StandsFor, HasValue, HasEach, EachStands, one_fit}
+use Rattle.element_laws.specs.lemmas.Standing.{same_headings}
+use Rattle.element_laws.specs.lemmas.Standing.{keeps, keeps_each, corrupt_kept}
+use Rattle.element_laws.specs.lemmas.Left.{is_whole_at, value_at, named, counts_all, qualifies_back}
+use Rattle.element_laws.specs.lemmas.Keeping.{WasHeld, stood, left_as, at_first, first_greatest, first_held}
+use Rattle.element_laws.specs.lemmas.Keeping.{first_chosen}
+use Rattle.element_laws.specs.lemmas.Keeping.{salvage_first}
+use Rattle.element_laws.specs.lemmas.NewText.{EntryStands, new_stands, new_costs}
+use Rattle.element_laws.specs.lemmas.Phases.{no_open, corrupt_pick}
 
 -- outside the damage the copies that held the text of the salvage hold it, or all hold the new one; and they give its
 -- contents as before

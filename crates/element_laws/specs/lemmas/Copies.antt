@@ -21,8 +21,9 @@ use Rattle.per_base.specs.declared.elements.Content.{Content}
 use Rattle.per_base.specs.declared.elements.Content.TheVariants.{Good, Bad}
 use Rattle.element_state.specs.Views.{content_of}
 use Rattle.element_state.specs.Kept.{IsLeftOf}
-use Rattle.element_laws.proofs.Lists.{In, In-Contains, Contains-In, In-map, map-In, not_none, not_false, list_any-In}
-use Rattle.element_laws.proofs.Lists.{In-list_any}
+use Rattle.element_laws.specs.lemmas.Lists.{In, In-Contains, Contains-In, In-map, map-In, not_none, not_false}
+use Rattle.element_laws.specs.lemmas.Lists.{list_any-In}
+use Rattle.element_laws.specs.lemmas.Lists.{In-list_any}
 
 pub good_same : (v w : List ℕ) → Good v ≡ Good w → v ≡ w
 good_same v w e = cc

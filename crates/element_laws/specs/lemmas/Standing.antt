@@ -24,9 +24,9 @@ use Rattle.element_state.specs.Clean.{where_of, counting_at, IsClean}
 use Rattle.element_state.specs.Kept.{heading, SameHeadings, IsLeftOf, IsFrom, IsFromOneOf, HasEnough, KeepsGood}
 use Rattle.element_state.specs.Kept.{KeepsEach, CostsNoCopy, SalvageStays, listed, all_views, BecomesAs, Stays}
 use Rattle.element_state.specs.Kept.{CopiesStay, Kept}
-use Rattle.element_laws.proofs.Lists.{In, all_by, some_is, zip_left, zip_with, zip_both}
-use Rattle.element_laws.proofs.Copies.{Gift, Gives, gifts, Backed, left_of, good_now}
-use Rattle.element_laws.proofs.Fits.{fit_at, In-fit, fit-In, fit_descends, pick_greatest, picked_parts, In-views}
+use Rattle.element_laws.specs.lemmas.Lists.{In, all_by, some_is, zip_left, zip_with, zip_both}
+use Rattle.element_laws.specs.lemmas.Copies.{Gift, Gives, gifts, Backed, left_of, good_now}
+use Rattle.element_laws.specs.lemmas.Fits.{fit_at, In-fit, fit-In, fit_descends, pick_greatest, picked_parts, In-views}
 
 -- what the copies give of a content
 abbrev pub gift_of : Image → Shape → Where → Gift

@@ -20,8 +20,8 @@ use Rattle.element_state.specs.declared.shapes.View.{View}
 use Rattle.element_state.specs.Fit.{FitText, fit_index, fit_texts, if_fits, with_index}
 use Rattle.element_state.specs.States.{beside, picked, corrupt_state, state_of}
 use Rattle.element_state.specs.Kept.{all_views}
-use Rattle.element_laws.proofs.Lists.{In, In-Contains, Contains-In, not_none, some_is, not_false, In-map, map-In}
-use Rattle.element_laws.proofs.Lists.{In-filter_map, filter_map-In}
+use Rattle.element_laws.specs.lemmas.Lists.{In, In-Contains, Contains-In, not_none, some_is, not_false, In-map, map-In}
+use Rattle.element_laws.specs.lemmas.Lists.{In-filter_map, filter_map-In}
 
 -- a text with the copies that hold it
 abbrev pub seen_at : Image → Shape → ℕ → List ℕ → Seen

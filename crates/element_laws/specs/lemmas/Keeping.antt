@@ -21,15 +21,16 @@ use Rattle.element_state.specs.Clean.{where_of, IsNamed, IsClean}
 use Rattle.element_state.specs.Chosen.{chosen, first_of, or_first}
 use Rattle.element_state.specs.Kept.{IsSpared, HasEnough, HasOne, CostsNoCopy, IsLeftAs, SalvageStays, HasHolder}
 use Rattle.element_state.specs.Kept.{KeepsSalvage, all_views, listed, Kept}
-use Rattle.element_laws.proofs.Lists.{In, append-In, some_is, not_none, not_false}
-use Rattle.element_laws.proofs.Copies.{Gives, voted_given}
-use Rattle.element_laws.proofs.Fits.{fit_at, IsFit, In-fit, fit-In, fit-spelled, fit_descends, nothing_beside}
-use Rattle.element_laws.proofs.Fits.{pick_greatest, picked_max, picked_parts, none_passes, views-In}
-use Rattle.element_laws.proofs.Standing.{gift_of, StandsFor, one_fit, EachStands, SparesCopies, Found, same_headings}
-use Rattle.element_laws.proofs.Standing.{keeps_each, kept_opens, corrupt_kept}
-use Rattle.element_laws.proofs.Left.{is_whole_at, value_at, named, numbers_lacking, spared_holds, lacking_view}
-use Rattle.element_laws.proofs.Left.{stands_left, costs_left, each_left, enough_left, enough_held, qualifies_left}
-use Rattle.element_laws.proofs.Left.{qualifies_back}
+use Rattle.element_laws.specs.lemmas.Lists.{In, append-In, some_is, not_none, not_false}
+use Rattle.element_laws.specs.lemmas.Copies.{Gives, voted_given}
+use Rattle.element_laws.specs.lemmas.Fits.{fit_at, IsFit, In-fit, fit-In, fit-spelled, fit_descends, nothing_beside}
+use Rattle.element_laws.specs.lemmas.Fits.{pick_greatest, picked_max, picked_parts, none_passes, views-In}
+use Rattle.element_laws.specs.lemmas.Standing.{gift_of, StandsFor, one_fit, EachStands, SparesCopies, Found}
+use Rattle.element_laws.specs.lemmas.Standing.{same_headings}
+use Rattle.element_laws.specs.lemmas.Standing.{keeps_each, kept_opens, corrupt_kept}
+use Rattle.element_laws.specs.lemmas.Left.{is_whole_at, value_at, named, numbers_lacking, spared_holds, lacking_view}
+use Rattle.element_laws.specs.lemmas.Left.{stands_left, costs_left, each_left, enough_left, enough_held, qualifies_left}
+use Rattle.element_laws.specs.lemmas.Left.{qualifies_back}
 
 -- copies hold no other text than this
 abbrev pub HoldsOnly : Shape → Image → ℕ → List ℕ → Type 0

@@ -24,13 +24,13 @@ use Rattle.element_state.specs.Kept.{HasEnough, IsSpared, KeepsGood}
 use Rattle.element_laws.specs.Phases.{InUseLaw, CarriedLaw, WholeLaw, OpenedLaw}
 use Rattle.element_laws.specs.Refused.{one, IndexFirst, IndexFirstAnew, OldOverwritten, OtherValue, Planted, CopyEaten}
 use Rattle.element_laws.specs.Refused.{OtherRaised, SalvageRaised, SalvageLost}
-use Rattle.element_laws.proofs.Lists.{In, Contains-In, In-Contains, map-In, Contains-head, all_in, nothing_listed}
-use Rattle.element_laws.proofs.Lists.{not_none, some_is}
-use Rattle.element_laws.proofs.Copies.{good_same, bad_good, gifts}
-use Rattle.element_laws.proofs.Standing.{gift_of, generation_of}
-use Rattle.element_laws.proofs.Left.{value_at, good_is, spared_has}
-use Rattle.element_laws.proofs.Fits.{In-fit, picked_parts}
-use Rattle.element_laws.proofs.Phases.{opens_pick}
+use Rattle.element_laws.specs.lemmas.Lists.{In, Contains-In, In-Contains, map-In, Contains-head, all_in, nothing_listed}
+use Rattle.element_laws.specs.lemmas.Lists.{not_none, some_is}
+use Rattle.element_laws.specs.lemmas.Copies.{good_same, bad_good, gifts}
+use Rattle.element_laws.specs.lemmas.Standing.{gift_of, generation_of}
+use Rattle.element_laws.specs.lemmas.Left.{value_at, good_is, spared_has}
+use Rattle.element_laws.specs.lemmas.Fits.{In-fit, picked_parts}
+use Rattle.element_laws.specs.lemmas.Phases.{opens_pick}
 
 at_least_all : (P : ℕ → Type 0) (n m : ℕ) → ((c : ℕ) → c < n → P c) → m ≤ n → AtLeast P n m
 at_least_all P n zero all le = tt

@@ -1,0 +1,15 @@
+pub mod AnewLaws
+pub mod Copies
+pub mod Fits
+pub mod Frames
+pub mod IndexLaws
+pub mod IndexPhase
+pub mod Keeping
+pub mod Left
+pub mod Lists
+pub mod NewText
+pub mod Phases
+pub mod Refusals
+pub mod Standing
+pub mod TwoTexts
+pub mod Untouched

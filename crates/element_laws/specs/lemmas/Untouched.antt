@@ -1,0 +1,24 @@
+-- What a call leaves that calls nothing of the disk.
+use Rattle.std.specs.Prelude.{ℕ, Bool}
+use Rattle.disk_model.specs.Medium.{Medium, Quiet, EachCase, IsLawful}
+use Rattle.disk_model.specs.Frame.{IsSettledOn}
+use Rattle.disk_model.specs.Place.{IsOutside}
+use Rattle.disk_model.specs.Laws.{goes_none}
+use Rattle.disk_model.specs.lemmas.Frames.{settled_on}
+use Rattle.element_state.specs.declared.shapes.Shape.{Shape}
+use Rattle.element_state.specs.States.{State}
+use Rattle.element_state.specs.Conditions.{IsShape}
+use Rattle.element_state.specs.Kept.{IsKeptCase, KeptThroughout}
+use Rattle.element_laws.specs.Phases.{IsOfPlace, UntouchedLaw}
+
+-- a clean storage is kept throughout
+pub none_kept : UntouchedLaw → (told : Bool) (shape : Shape) (state : State) (old : Medium) → IsShape shape
+    → IsLawful told old → KeptThroughout shape state old old
+none_kept untouched told shape state old is law quiet clean = goes_none (IsKeptCase shape old.image state) law
+    (λ c here. untouched shape old.image state c is.some clean (settled_on (IsOfPlace shape.place) (quiet c here)))
+
+-- what lies outside a place stays at every moment
+pub none_around : (told : Bool) (first copies : ℕ) (old : Medium) → IsLawful told old → Quiet old
+    → EachCase (IsSettledOn (IsOutside first copies) old.image) old old
+none_around told first copies old law quiet = goes_none (IsSettledOn (IsOutside first copies) old.image) law
+    (λ c here. settled_on (IsOutside first copies) (quiet c here))

@@ -1,0 +1,3 @@
+pub mod Entrywise
+pub mod Supported
+pub mod ViewsRead
