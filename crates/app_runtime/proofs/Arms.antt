@@ -21,7 +21,8 @@ use Rattle.deploy.specs.Roots.{root_says}
 use Rattle.deploy_laws.specs.Apps.{App, Says, absent, installed, nothing}
 use Rattle.deploy_laws.specs.Laws.{UntouchedAppLaw}
 use Rattle.deploy_rows.specs.Rows.{InProgress}
-use Rattle.run_model.specs.Calls.{Outcome, StepBeside, answered, app_step, beside_update, goes_beside, local_on, settle}
+use Rattle.run_model.specs.Calls.{Outcome, StepBeside, answered, app_step, beside_update, goes_beside, local_on}
+use Rattle.run_model.specs.Calls.{concluded}
 use Rattle.run_model.specs.Calls.{status_step}
 use Rattle.run_model.specs.Steps.{uses_device}
 use Rattle.run_model.specs.Worlds.{Application}
@@ -68,7 +69,7 @@ module _ (told : Bool) (rules : List Rule) (answers : Answers) (now : ℕ) (c : 
 
 -- ---- the status
 
-status_row : (r : Application) (says : Says) → (status_of says, r) ≡ settle r (status_step r says)
+status_row : (r : Application) (says : Says) → (status_of says, r) ≡ concluded r (status_step r says)
 status_row r nothing = refl
 status_row r (absent g) = refl
 status_row r (installed g active previous) = refl

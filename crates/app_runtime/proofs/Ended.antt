@@ -45,7 +45,7 @@ use Rattle.app_runtime.specs.declared.running.Stage.TheVariants.{ToOpen, AtRest,
 use Rattle.app_runtime.specs.Answers.{HasFailed, HasRow, HasStopped, IsAnswered}
 use Rattle.app_runtime.specs.Promises.{Promises}
 use Rattle.app_runtime.specs.Running.{IsRunning, IsStageAt, NoneOpen, application, stage_in}
-use Rattle.app_runtime.specs.Stages.{Settles, reply_of, root_of}
+use Rattle.app_runtime.specs.Stages.{Concludes, reply_of, root_of}
 use Rattle.app_runtime.proofs.Frames.{calls_none}
 use Rattle.app_runtime.proofs.InWorld.{closed}
 use Rattle.app_runtime.proofs.LeadOn.{still}
@@ -222,7 +222,7 @@ module _ (told : Bool) (rules : List Rule) (answers : Answers) (now : ℕ) (c : 
 
   pub rowed_promises : (made : Result Outcome Stop) → Made told row b.app root Untouched old new made
       → IfOk made (λ o. o.refused ≡ None → AreOpenOn told new.image b.app (root_says o.root) b.slots)
-      → (after' : Running) (result : Result Reply Stop) → Settles made (record b { stage = ToOpen }) after' result
+      → (after' : Running) (result : Result Reply Stop) → Concludes made (record b { stage = ToOpen }) after' result
       → Promises told rules answers now c before after' Untouched old new result
   rowed_promises (Ok o) m kept after' result s = subst (λ (x : Running).
       Promises told rules answers now c before x Untouched old new result) (sym s.0)
@@ -253,14 +253,14 @@ module _ (told : Bool) (rules : List Rule) (answers : Answers) (now : ℕ) (c : 
   pub word_promises : IsWord told rules answers s.app now c (resting_with old.image s.app s.slots) row
       → (made : Result Outcome Stop) → Made told row s.app root Untouched old new made
       → IfOk made (λ o. o.refused ≡ None → AreOpenOn told new.image s.app (root_says o.root) s.slots)
-      → (after' : Running) (result : Result Reply Stop) → Settles made taken after' result
+      → (after' : Running) (result : Result Reply Stop) → Concludes made taken after' result
       → Promises told rules answers now c s after' Untouched old new result
   word_promises word made m kept after' result settles =
       subst (λ (x : Running). Promises told rules answers now c x after' Untouched old new result)
       (stage_back s root rest root_is)
       (rowed_promises told rules answers now c s root old new Untouched unwritten
       (resting_in told old.image s root is rest root_is) in_use row word made m kept after' result
-      (subst (λ (x : Running). Settles made x after' result) taken_is settles))
+      (subst (λ (x : Running). Concludes made x after' result) taken_is settles))
 
 -- what is so of every end is so of one that ended well
 pub on_clean : {T E : Type 0} (P Q : Type 0) (made : Result T E) → (P → OnOk made Q) → IfOk made (λ o. P → Q)

@@ -19,7 +19,8 @@ use Rattle.deploy_rows.specs.Rows.{◌>>=◌, InProgress, finishing, installing,
 use Rattle.run_model.specs.Calls.{BeginsBy, CallStep, Outcome, StepBeside, answered, app_step, begun, beside_update}
 use Rattle.run_model.specs.Calls.{close_step, closing, done_with, durable, durable_state, flush_step, least_open}
 use Rattle.run_model.specs.Calls.{local_on, local_step, lowest_handle, may_flush, open_step, opened, opened_session}
-use Rattle.run_model.specs.Calls.{progress_of, rebuild_step, settle, status_step, sync_step, unless_held, unless_open}
+use Rattle.run_model.specs.Calls.{progress_of, rebuild_step, concluded, status_step, sync_step, unless_held}
+use Rattle.run_model.specs.Calls.{unless_open}
 use Rattle.run_model.specs.Calls.{updated, with_session, without_session}
 use Rattle.run_model.specs.Found.{Found, storage_in, with_state}
 use Rattle.run_model.specs.Laws.{StorageLaterLaw}
@@ -49,7 +50,7 @@ unless : {A : Type 0} (P : A → Type 0) (test : Bool) (e : PerError) (rest : Re
 unless P true e rest on = tt
 unless P false e rest on = on
 
-pub settled : (r : Application) (row : Result Outcome PerError) → OnFrom r row → IsLater r.disk (settle r row).1.disk
+pub settled : (r : Application) (row : Result Outcome PerError) → OnFrom r row → IsLater r.disk (concluded r row).1.disk
 settled r (Ok o) on = on
 settled r (Err e) on = still r.disk
 

@@ -23,7 +23,7 @@ use Rattle.deploy_rows.specs.Laws.{RefusesAlike}
 use Rattle.deploy_rows.specs.Rows as rows
 use Rattle.deploy_rows.specs.Rows.{after}
 use Rattle.run_model.specs.Calls as calls
-use Rattle.run_model.specs.Calls.{answered, done_with, settle}
+use Rattle.run_model.specs.Calls.{answered, done_with, concluded}
 use Rattle.run_model.specs.Runtimes.{is_durable}
 use Rattle.run_model.specs.Steps.{reaches_device, storage_named, uses_device}
 use Rattle.run_model.specs.Worlds.{Application}
@@ -52,7 +52,7 @@ module _ (row : App → Result App PerError) (alike : RefusesAlike row) where
   settled_by : (r : Application) (a' a : App) (refused : Option PerError) (x y : Result App PerError)
       → a.says ≡ r.disk.says → row a ≡ x → row r.disk ≡ y
       → rows.Answers refused x → a' ≡ after r.disk y → (reply_of refused, record r { disk = a' })
-      ≡ settle r (done_with r y)
+      ≡ concluded r (done_with r y)
   settled_by r a' a None (Ok x) (Ok y) same is_x is_y answers is_after =
       ap (λ (d : App). (reply_of None, record r { disk = d })) is_after
   settled_by r a' a (Some e) (Ok x) y same is_x is_y answers is_after = absurd answers
@@ -69,7 +69,7 @@ module _ (row : App → Result App PerError) (alike : RefusesAlike row) where
   pub settled_row : (r : Application) (a' a : App) (refused : Option PerError) → a.says ≡ r.disk.says
       → rows.Answers refused (row a)
       → a' ≡ after r.disk (row r.disk) → (reply_of refused, record r { disk = a' })
-      ≡ settle r (done_with r (row r.disk))
+      ≡ concluded r (done_with r (row r.disk))
   settled_row r a' a refused same answers is_after = settled_by r a' a refused (row a) (row r.disk) same refl refl
       answers is_after
 
@@ -80,7 +80,7 @@ pub record IsWord (told : Bool) (rules : List Rule) (answers : Answers) (app now
   pub alike : RefusesAlike row
   pub plain : (a : App) → IfErr (row a) IsPlain
   pub later : (a b : App) → row a ≡ Ok b → IsLater a b
-  pub has_row : IsTrue told → (o : calls.Outcome) → o ≡ settle r (done_with r (row r.disk))
+  pub has_row : IsTrue told → (o : calls.Outcome) → o ≡ concluded r (done_with r (row r.disk))
       → HasRow rules answers app now c r o
   pub reaches : IsTrue told → IsOk (row r.disk) → IsTrue (reaches_device app r now c)
   pub no_storage : storage_named c ≡ None
@@ -101,7 +101,7 @@ module _ (told : Bool) (rules : List Rule) (answers : Answers) (app now : ℕ) (
   leads_by tells (Ok b) is = inr (
     answered answer.Done (record r { disk = b }),
     word.has_row tells (answered answer.Done (record r { disk = b }))
-        (ap (λ (y : Result App PerError). settle r (done_with r y)) (sym is)),
+        (ap (λ (y : Result App PerError). concluded r (done_with r y)) (sym is)),
     refl,
   )
   leads_by tells (Err e) is = inl refl

@@ -35,7 +35,7 @@ use Rattle.deploy_rows.specs.Laws.{UpdateLaterLaw}
 use Rattle.deploy_rows.specs.Rows.{◌>>=◌, InProgress, installing, updated_app}
 use Rattle.run_model.specs.Calls as calls
 use Rattle.run_model.specs.Calls.{StepBeside, answered, app_step, beside_update, done_with, next_step, commit_step}
-use Rattle.run_model.specs.Calls.{abort_step, one_more, progress_of, remaining, settle}
+use Rattle.run_model.specs.Calls.{abort_step, one_more, progress_of, remaining, concluded}
 use Rattle.run_model.specs.Runtimes.{IsUnwritten, is_durable, is_refusal}
 use Rattle.run_model.specs.Steps.{after_failure, reaches_device, storage_named, uses_device}
 use Rattle.run_model.specs.Worlds.{Application}
@@ -167,30 +167,30 @@ module _ (told : Bool) (rules : List Rule) (answers : Answers) (now : ℕ) (c : 
 
 module _ (then : InProgress → Result calls.Outcome PerError) where
   without_row : (r : Application) (says : Says) → (reply_of (Some (without_update says)), r)
-      ≡ settle r (calls.progress_in says None >>= then)
+      ≡ concluded r (calls.progress_in says None >>= then)
   without_row r nothing = refl
   without_row r (absent g) = refl
   without_row r (installed g active previous) = refl
 
 pub next_refused : (r : Application) → worlds.update_in r.stage ≡ None
-    → (reply_of (Some (without_update r.disk.says)), r) ≡ settle r (next_step r)
+    → (reply_of (Some (without_update r.disk.says)), r) ≡ concluded r (next_step r)
 next_refused r none = without_row (λ p. Ok (answered (answer.Number (remaining (one_more p)))
     (record r { stage = worlds.updating (one_more p) }))) r r.disk.says
-    ∙ ap (λ (p : Option InProgress). settle r (calls.progress_in r.disk.says p >>= λ q.
+    ∙ ap (λ (p : Option InProgress). concluded r (calls.progress_in r.disk.says p >>= λ q.
     Ok (answered (answer.Number (remaining (one_more q))) (record r { stage = worlds.updating (one_more q) }))))
     (sym none)
 
 pub commit_refused : (r : Application) → worlds.update_in r.stage ≡ None
-    → (reply_of (Some (without_update r.disk.says)), r) ≡ settle r (commit_step r)
+    → (reply_of (Some (without_update r.disk.says)), r) ≡ concluded r (commit_step r)
 commit_refused r none = without_row (λ p. Ok (answered answer.Done
     (record r { disk = updated_app p r.disk; stage = worlds.at_rest }))) r r.disk.says
-    ∙ ap (λ (p : Option InProgress). settle r (calls.progress_in r.disk.says p >>= λ q.
+    ∙ ap (λ (p : Option InProgress). concluded r (calls.progress_in r.disk.says p >>= λ q.
     Ok (answered answer.Done (record r { disk = updated_app q r.disk; stage = worlds.at_rest })))) (sym none)
 
 pub abort_refused : (r : Application) → worlds.update_in r.stage ≡ None
-    → (reply_of (Some (without_update r.disk.says)), r) ≡ settle r (abort_step r)
+    → (reply_of (Some (without_update r.disk.says)), r) ≡ concluded r (abort_step r)
 abort_refused r none = without_row (λ p. Ok (answered answer.Done (record r { stage = worlds.at_rest }))) r r.disk.says
-    ∙ ap (λ (p : Option InProgress). settle r (calls.progress_in r.disk.says p >>= λ q.
+    ∙ ap (λ (p : Option InProgress). concluded r (calls.progress_in r.disk.says p >>= λ q.
     Ok (answered answer.Done (record r { stage = worlds.at_rest })))) (sym none)
 
 -- as rows of calls
@@ -258,7 +258,7 @@ module _ (told : Bool) (rules : List Rule) (answers : Answers) (now : ℕ) (b : 
       (record r { stage = worlds.updating (one_more (progress_in s)) })
       → HasRow rules answers b.app now call.UpdateNext r o
   unfolding app_step
-  next_row tells o is_o = is_o ∙ sym (ap (λ (row : Result calls.Outcome PerError). settle r row) (next_is tells))
+  next_row tells o is_o = is_o ∙ sym (ap (λ (row : Result calls.Outcome PerError). concluded r row) (next_is tells))
 
   next_reaches : IsTrue told → IsTrue (reaches_device b.app r now call.UpdateNext)
   unfolding app_step
@@ -268,7 +268,7 @@ module _ (told : Bool) (rules : List Rule) (answers : Answers) (now : ℕ) (b : 
       (record r { disk = updated_app (progress_in s) r.disk; stage = worlds.at_rest })
       → HasRow rules answers b.app now call.UpdateCommit r o
   unfolding app_step
-  commit_row tells o is_o = is_o ∙ sym (ap (λ (row : Result calls.Outcome PerError). settle r row) (commit_is tells))
+  commit_row tells o is_o = is_o ∙ sym (ap (λ (row : Result calls.Outcome PerError). concluded r row) (commit_is tells))
 
   commit_reaches : IsTrue told → IsTrue (reaches_device b.app r now call.UpdateCommit)
   unfolding app_step
@@ -277,13 +277,13 @@ module _ (told : Bool) (rules : List Rule) (answers : Answers) (now : ℕ) (b : 
   pub abort_row : IsTrue told → (o : calls.Outcome) → o ≡ answered answer.Done (record r { stage = worlds.at_rest })
       → HasRow rules answers b.app now call.UpdateAbort r o
   unfolding app_step
-  abort_row tells o is_o = is_o ∙ sym (ap (λ (row : Result calls.Outcome PerError). settle r row) (abort_is tells))
+  abort_row tells o is_o = is_o ∙ sym (ap (λ (row : Result calls.Outcome PerError). concluded r row) (abort_is tells))
 
   -- an install is refused
   pub install_row : (text : List ℕ) → IsTrue told → HasRow rules answers b.app now (call.Install text) r
       (reply_of (Some error.AlreadyInstalled), r)
   unfolding app_step
-  install_row text tells = sym (ap (λ (row : Result App PerError). settle r (done_with r row))
+  install_row text tells = sym (ap (λ (row : Result App PerError). concluded r (done_with r row))
       (installed_by now text r.disk.says r.disk.lacking r.disk.states (generation_of s.root.cell)
       (named s.root.bank (version_said s.root.active))
       (option_map (λ v. named (1 - s.root.bank) (version_said v)) s.root.previous)

@@ -15,7 +15,7 @@ use Rattle.deploy.specs.declared.errors.Stop.TheVariants as stop
 use Rattle.deploy.specs.declared.roots.Root.{Root}
 use Rattle.deploy_laws.specs.Apps.{App, app_at}
 use Rattle.deploy_laws.specs.Stands.{IsLater}
-use Rattle.run_model.specs.Calls.{CallStep, Outcome, app_step, beside_update, goes_beside, session_at, settle}
+use Rattle.run_model.specs.Calls.{CallStep, Outcome, app_step, beside_update, goes_beside, session_at, concluded}
 use Rattle.run_model.specs.Found.{Found}
 use Rattle.run_model.specs.Runtimes.{IsUnwritten, WritesWithin, is_durable, is_refusal}
 use Rattle.run_model.specs.Sessions.{Session}
@@ -33,7 +33,7 @@ use Rattle.app_runtime.proofs.LeadOn.{still}
 
 -- a call that names a storage begins no update
 call_step : (rules : List Rule) (answers : Answers) (app now : ℕ) (r : Application) (c : Call) (o : Outcome)
-    → IsTrue (is_on_storage c) → o ≡ settle r (app_step app r now c) → CallStep rules answers app now r c o
+    → IsTrue (is_on_storage c) → o ≡ concluded r (app_step app r now c) → CallStep rules answers app now r c o
 call_step rules answers app now r (call.Update text) o on row = absurd cc
 call_step rules answers app now r (call.UpdateBegin text) o on row = absurd cc
 call_step rules answers app now r other o on row = row
@@ -77,7 +77,7 @@ module _ (told : Bool) (rules : List Rule) (answers : Answers) (now : ℕ) (c : 
   r = resting_with old.image b.app b.slots
 
   abbrev o : Outcome
-  o = settle r (app_step b.app r now c)
+  o = concluded r (app_step b.app r now c)
 
   has_row : (x : Outcome) → x ≡ o → HasRow rules answers b.app now c r x
   has_row x is = call_step rules answers b.app now r c x on is

@@ -36,7 +36,7 @@ use Rattle.deploy_rows.specs.Rows as rows
 use Rattle.deploy_rows.specs.Rows.{◌>>=◌, Begins, BeginsWith, InProgress, Offer, after, deployment_of, newer}
 use Rattle.deploy_rows.specs.Rows.{offer_over, offered, updated_app}
 use Rattle.run_model.specs.Calls as calls
-use Rattle.run_model.specs.Calls.{active_storages, answered, begun, first_open, least_open, settle, updated}
+use Rattle.run_model.specs.Calls.{active_storages, answered, begun, first_open, least_open, concluded, updated}
 use Rattle.run_model.specs.Runtimes.{IsUnwritten, is_refusal}
 use Rattle.run_model.specs.Steps.{after_failure}
 use Rattle.run_model.specs.Worlds.{Application}
@@ -49,7 +49,7 @@ use Rattle.app_runtime.specs.declared.running.Stage.TheVariants.{ToOpen, AtRest,
 use Rattle.app_runtime.specs.Answers.{HasRow, MayLead}
 use Rattle.app_runtime.specs.Promises.{Promises}
 use Rattle.app_runtime.specs.Running.{IsRunning, NoneOpen, application}
-use Rattle.app_runtime.specs.Stages.{Settles, SettlesBegun, reply_of, root_of}
+use Rattle.app_runtime.specs.Stages.{Concludes, ConcludesBegun, reply_of, root_of}
 use Rattle.app_runtime.proofs.Ended.{failed_app, marked_running, refused_plain, resting_in, stage_back}
 use Rattle.app_runtime.proofs.Frames.{beside_next, calls_reading, calls_to}
 use Rattle.app_runtime.proofs.Kept.{free_kept, free_slots, none_taken}
@@ -179,7 +179,7 @@ module _ (told : Bool) (rules : List Rule) (answers : Answers) (now : ℕ) (text
     -- the reply and the application after it
     updated_row : IsTrue told → (refused : Option PerError) (a' : App) (row : Result InProgress PerError)
         → rows.Answers refused row → a' ≡ after r.disk (rows.updated r.disk row)
-        → (reply_of refused, record r { disk = a' }) ≡ settle r (row >>= updated r)
+        → (reply_of refused, record r { disk = a' }) ≡ concluded r (row >>= updated r)
     updated_row tells None a' (Ok p) answers is = ap (λ (d : App). (reply_of None, record r { disk = d })) is
     updated_row tells (Some e) a' (Ok p) answers is = absurd answers
     updated_row tells None a' (Err f) answers is = absurd answers
@@ -321,7 +321,7 @@ module _ (told : Bool) (rules : List Rule) (answers : Answers) (now : ℕ) (text
 
     pub updated_promises : (made : Result Outcome Stop) → Updates told rules answers now text b.app root busy old new
         made → (after' : Running) (result : Result Reply Stop)
-        → Settles made (record b { stage = ToOpen }) after' result
+        → Concludes made (record b { stage = ToOpen }) after' result
         → Promises told rules answers now (call.Update text) before after' Untouched old new result
     updated_promises (Ok o) u after' result s = subst (λ (x : Running).
         Promises told rules answers now (call.Update text) before x Untouched old new result) (sym s.0)
@@ -519,7 +519,7 @@ module _ (told : Bool) (rules : List Rule) (answers : Answers) (now : ℕ) (text
 
   pub begun_promises : (made : Result Begin Stop) → Beginning told rules answers now text b.app root busy old new made
       → (after' : Running) (result : Result Reply Stop)
-      → SettlesBegun made (record b { stage = ToOpen }) after' result
+      → ConcludesBegun made (record b { stage = ToOpen }) after' result
       → Promises told rules answers now c first after' Untouched old new result
   begun_promises (Ok (begin.Ready s)) x after' result settles =
       subst (λ (y : Running). Promises told rules answers now c first y Untouched old new result) (sym settles.0)

@@ -7,7 +7,7 @@ use Rattle.command_text.specs.declared.calls.Call.TheVariants as call
 use Rattle.deploy_laws.specs.Apps.{App}
 use Rattle.deploy_rows.specs.Laws.{FinishLaterLaw, InstallLaterLaw, RefusesAlike, RollbackLaterLaw, WipeLaterLaw}
 use Rattle.deploy_rows.specs.Rows.{finishing, installing, rolling_back, wiping}
-use Rattle.run_model.specs.Calls.{Outcome, app_step, done_with, least_open, settle}
+use Rattle.run_model.specs.Calls.{Outcome, app_step, done_with, least_open, concluded}
 use Rattle.run_model.specs.Worlds.{Application}
 use Rattle.app_storages.specs.declared.slots.Slots.{Slots}
 use Rattle.app_storages.specs.Slots.{resting_with}
@@ -57,7 +57,7 @@ module _ (told : Bool) (rules : List Rule) (answers : Answers) (app now : ℕ) (
       alike = alike;
       plain = rollback_plain busy;
       later = later busy;
-      has_row = λ tells o is. subst (λ (b : Option (List ℕ)). o ≡ settle r (done_with r (rolling_back b r.disk)))
+      has_row = λ tells o is. subst (λ (b : Option (List ℕ)). o ≡ concluded r (done_with r (rolling_back b r.disk)))
           (busy_is tells) is;
       reaches = λ tells is. done_ok r (rolling_back (least_open r) r.disk)
           (subst (λ (b : Option (List ℕ)). IsOk (rolling_back b r.disk)) (busy_is tells) is);
@@ -73,7 +73,7 @@ module _ (told : Bool) (rules : List Rule) (answers : Answers) (app now : ℕ) (
       alike = alike;
       plain = wipe_plain busy;
       later = later busy;
-      has_row = λ tells o is. subst (λ (b : Option (List ℕ)). o ≡ settle r (done_with r (wiping b r.disk)))
+      has_row = λ tells o is. subst (λ (b : Option (List ℕ)). o ≡ concluded r (done_with r (wiping b r.disk)))
           (busy_is tells) is;
       reaches = λ tells is. done_ok r (wiping (least_open r) r.disk)
           (subst (λ (b : Option (List ℕ)). IsOk (wiping b r.disk)) (busy_is tells) is);

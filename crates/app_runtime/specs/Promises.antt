@@ -24,7 +24,7 @@ use Rattle.app_runtime.specs.Running.{IsRunning, application}
 pub record Promises (told : Bool) (rules : List Rule) (answers : Answers) (now : ℕ) (c : Call) (before after : Running)
     (Untouched : Type 0) (old new : Medium) (result : Result Reply Stop) : Type 0 where
   pub app : after.app ≡ before.app
-  pub memory : (IsErrOf result stop.OutOfMemory → ⊥) → IsRunning told new.image after
+  pub memory : ¬ (IsErrOf result stop.OutOfMemory) → IsRunning told new.image after
   pub answered : IsTrue told → IfOk result (λ reply. IsAnswered rules answers before.app now c
       (application old.image before) (application new.image after) reply old new)
   pub failed : IsTrue told → IsErrOf result stop.Device

@@ -1,5 +1,5 @@
 -- The stage of an application in memory: its root, and how a call leaves it.
-use Rattle.std.specs.Prelude.{◌≡◌, List, [], Option, Some, None, option_map, Result, Ok, Err}
+use Rattle.std.specs.Prelude.{◌≡◌, List, [], Option, Some, None, option_map, Result, Ok, Err, IsErrOf}
 use Rattle.per_base.specs.declared.errors.PerError.{PerError}
 use Rattle.per_base.specs.declared.errors.PerError.TheVariants as error
 use Rattle.per_base.specs.declared.errors.Unit.TheVariants as unit
@@ -66,20 +66,20 @@ without_update (absent g) = error.NotInstalled
 without_update (installed g active previous) = error.NoUpdateInProgress
 
 -- What a call made of the root stands in memory, and is answered; where it did not end, all sessions end.
-abbrev pub Settles : Result Outcome Stop → (before after : Running) → Result Reply Stop → Type 0
-Settles (Ok o) before after result = (after ≡ record before { stage = AtRest o.root })
+abbrev pub Concludes : Result Outcome Stop → (before after : Running) → Result Reply Stop → Type 0
+Concludes (Ok o) before after result = (after ≡ record before { stage = AtRest o.root })
     × (result ≡ Ok (reply_of o.refused))
-Settles (Err e) before after result = (after.app ≡ before.app) × (after.stage ≡ before.stage) × NoneOpen after.slots
-    × (result ≡ Err e)
+Concludes (Err e) before after result = (after.app ≡ before.app) × (after.stage ≡ before.stage) × NoneOpen after.slots
+    × IsErrOf result e
 
 -- the same of the beginning of an update
-abbrev pub SettlesBegun : Result Begin Stop → (before after : Running) → Result Reply Stop → Type 0
-SettlesBegun (Ok (begin.Ready s)) before after result =
+abbrev pub ConcludesBegun : Result Begin Stop → (before after : Running) → Result Reply Stop → Type 0
+ConcludesBegun (Ok (begin.Ready s)) before after result =
     (after ≡ record before { stage = Updating s }) × (result ≡ Ok (reply_of None))
-SettlesBegun (Ok (begin.Refused root e)) before after result =
+ConcludesBegun (Ok (begin.Refused root e)) before after result =
     (after ≡ record before { stage = AtRest root }) × (result ≡ Ok (reply_of (Some e)))
-SettlesBegun (Err e) before after result = (after.app ≡ before.app) × (after.stage ≡ before.stage)
-    × NoneOpen after.slots × (result ≡ Err e)
+ConcludesBegun (Err e) before after result = (after.app ≡ before.app) × (after.stage ≡ before.stage)
+    × NoneOpen after.slots × IsErrOf result e
 
 -- an update in progress is given up: its root stands in memory again; where there is none, that is refused
 abbrev pub Aborts : Option Staged → (before after : Running) → Reply → Type 0

@@ -59,7 +59,7 @@ impl Running {
         roots_in_use();
         let root = self.take_root();
         let made = install(self.alloc, disk, self.app, root, manifest, now);
-        self.settle(made)
+        self.conclude(made)
     }
 
     /// Forgets the previous version. The storages that are open stay open: they are those of the active one.
@@ -81,7 +81,7 @@ impl Running {
         places_stand_apart();
         let root = self.take_root();
         let made = finish(self.alloc, disk, root);
-        self.settle(made)
+        self.conclude(made)
     }
 
     /// Makes the previous version active again, where no storage is open.
@@ -103,7 +103,7 @@ impl Running {
         let root = self.take_root();
         let busy = self.busy(&root)?;
         let made = rollback(self.alloc, disk, root, busy.as_ref());
-        self.settle(made)
+        self.conclude(made)
     }
 
     /// Takes everything that is installed away, where no storage is open.
@@ -125,6 +125,6 @@ impl Running {
         let root = self.take_root();
         let busy = self.busy(&root)?;
         let made = wipe(self.alloc, disk, self.app, root, busy.as_ref());
-        self.settle(made)
+        self.conclude(made)
     }
 }

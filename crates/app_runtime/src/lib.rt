@@ -10,10 +10,10 @@
 #![tactic(auto)]
 
 mod asking;
+mod concluding;
 mod installing;
 mod laws;
 mod running;
-mod settling;
 mod storing;
 mod updating;
 

@@ -103,7 +103,7 @@ impl Running {
         ensures app { self.new.app ≡ self.old.app }
         ensures memory { IsRunning D.told (D.medium disk.new).image self.new }
         ensures opened { OnOk result (running_in self.new ≡ record { stage = at_rest; sessions = none_open }) }
-        ensures failed { (e : Stop) → result ≡ Err e → running_in self.new ≡ running_in self.old }
+        ensures failed { (e : Stop) → IsErrOf result e → running_in self.new ≡ running_in self.old }
         ensures root { IsTrue D.told → OnOk result (OpensRoot self.old.app (D.medium disk.old) (D.medium disk.new)) }
         // Where every copy of the root holds one text and no other is held, nothing is written, however it ends.
         ensures already { IsTrue D.told → (generation : ℕ) (text : List ℕ)
@@ -139,7 +139,7 @@ impl Running {
         requires memory { IsRunning D.told (D.medium disk.old).image self.old }
         requires opened { is_to_open (stage_in self.old.stage) ≡ false }
         ensures app { self.new.app ≡ self.old.app }
-        ensures memory { (IsErrOf result Stop.OutOfMemory → ⊥) → IsRunning D.told (D.medium disk.new).image self.new }
+        ensures memory { ¬ (IsErrOf result Stop.OutOfMemory) → IsRunning D.told (D.medium disk.new).image self.new }
         ensures answered { IsTrue D.told → IfOk result (λ reply.
             IsAnswered (rules_of migrations.now) (answers_of migrations.now) self.old.app now call.now
             (application (D.medium disk.old).image self.old) (application (D.medium disk.new).image self.new) reply

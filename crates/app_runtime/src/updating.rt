@@ -6,7 +6,7 @@ ghost use Rattle.migrate_fns.specs.Stored.{answers_of, rules_of};
 ghost use Rattle.run_model.specs.Worlds.{at_rest, is_to_open};
 ghost use Rattle.app_runtime.specs.Promises.{Promises};
 ghost use Rattle.app_runtime.specs.Running.{IsRunning, stage_in};
-ghost use Rattle.app_runtime.specs.Stages.{Aborts, SettlesBegun, staged_in};
+ghost use Rattle.app_runtime.specs.Stages.{Aborts, ConcludesBegun, staged_in};
 
 use crate::running::{Running, Stage};
 use command_text::{Answer, Reply};
@@ -47,7 +47,7 @@ impl Running {
             migrations,
             now,
         );
-        self.settle(made)
+        self.conclude(made)
     }
 
     /// Begins an update in steps, where no storage is open.
@@ -80,14 +80,14 @@ impl Running {
             migrations,
             now,
         );
-        self.settle_begun(begun)
+        self.conclude_begun(begun)
     }
 
     // The update that was begun stands in memory, or the root where it was refused; where it did not end, all sessions
     // end.
-    fn settle_begun(&mut self, begun: Result<Begin, Stop>) -> Result<Reply, Stop>
+    fn conclude_begun(&mut self, begun: Result<Begin, Stop>) -> Result<Reply, Stop>
         requires room { length self.old.slots.open.items ≡ 16 }
-        ensures { SettlesBegun begun self.old self.new result }
+        ensures { ConcludesBegun begun self.old self.new result }
     {
         match begun {
             Ok(Begin::Ready(staged)) => {

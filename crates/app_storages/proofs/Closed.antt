@@ -36,7 +36,7 @@ use Rattle.open_storages.specs.declared.opens.Open.TheVariants.{Keys, Files}
 use Rattle.open_storages.specs.Durables.{IsClosed, OnClosed, WritesAtMost}
 use Rattle.open_storages.specs.Opens.{config_in, keys_of, session_in, store_in}
 use Rattle.open_storages.specs.Refusals.{close_refused, durable_view, is_still, sync_refused}
-use Rattle.run_model.specs.Calls.{Outcome, answered, app_step, lowest_handle, settle, without_session}
+use Rattle.run_model.specs.Calls.{Outcome, answered, app_step, lowest_handle, concluded, without_session}
 use Rattle.run_model.specs.Found.{Found, of_kind, storage_in, with_state}
 use Rattle.run_model.specs.Sessions.{KeySession, Session, keys, seen_of, synced_of}
 use Rattle.run_model.specs.Steps.{found_named, reaches_device, uses_device}
@@ -119,7 +119,7 @@ module _ (laws : StorageLaws) (texts : TextLaw) (told : Bool) (app now : ℕ) (r
           ))
               (sessions_set was is l.number None emptied)
               ∙ ap (λ (r : Reply). (r, without_session before l.number)) says
-              ∙ sym (ap (settle before) (dropped_row tells));
+              ∙ sym (ap (concluded before) (dropped_row tells));
           calls = idle_calls laws told old law app resting.below;
           clean = λ clean. clean;
         };

@@ -38,7 +38,7 @@ use Rattle.open_storages.specs.declared.syncing.Durable.TheVariants as made
 use Rattle.open_storages.specs.Durables.{IsMade, WritesAtMost}
 use Rattle.open_storages.specs.Opens.{config_in, session_in, store_in}
 use Rattle.open_storages.specs.Refusals.{durable_view, is_still}
-use Rattle.run_model.specs.Calls.{Outcome, answered, app_step, session_at, settle}
+use Rattle.run_model.specs.Calls.{Outcome, answered, app_step, session_at, concluded}
 use Rattle.run_model.specs.Found.{Found, of_kind, shape_in, with_state}
 use Rattle.run_model.specs.Runtimes.{WritesWithin, is_refusal}
 use Rattle.run_model.specs.Sessions.{Session, seen_of, synced_of}
@@ -204,12 +204,13 @@ module _ (laws : StorageLaws) (texts : TextLaw) (told : Bool) (app now : ℕ) (r
     row_err e due tells = row tells ∙ ap (λ (r : Option PerError). refused_by r (Ok (answered answer.Done after))) due
 
     leads : refused ≡ None → IsTrue told → MayLead app now c before (with_state (app_at old.image app) f next)
-    leads none tells = inr (sym disk ∙ sym (ap (λ (x : Result Outcome PerError). (settle before x).1.disk)
+    leads none tells = inr (sym disk ∙ sym (ap (λ (x : Result Outcome PerError). (concluded before x).1.disk)
         (row_ok none tells)))
 
     settles : (reply : Reply) → Says reply None → refused ≡ None → IsTrue told
-        → (reply, after) ≡ settle before (app_step app before now c)
-    settles reply says none tells = ap (λ (r : Reply). (r, after)) says ∙ sym (ap (settle before) (row_ok none tells))
+        → (reply, after) ≡ concluded before (app_step app before now c)
+    settles reply says none tells = ap (λ (r : Reply). (r, after)) says ∙ sym
+        (ap (concluded before) (row_ok none tells))
 
     module _ (new : Medium) (Same : Type 0) (idle : IsTrue told → uses_device (app_at old.image app) c ≡ false → Same)
         (written : IsTrue told → MayWrite app c before old new)

@@ -20,7 +20,7 @@ use Rattle.deploy.specs.declared.roots.Root.{Root}
 use Rattle.deploy.specs.Roots.{root_says}
 use Rattle.open_storages.specs.declared.opens.Open.{Open}
 use Rattle.open_storages.specs.Opens.{session_in}
-use Rattle.run_model.specs.Calls.{app_step, settle}
+use Rattle.run_model.specs.Calls.{app_step, concluded}
 use Rattle.run_model.specs.Found.{Found, with_state}
 use Rattle.run_model.specs.Sessions.{Session}
 use Rattle.run_model.specs.Steps.{after_failure, found_named, reaches_device}
@@ -154,7 +154,8 @@ module _ (laws : StorageLaws) (told : Bool) (app now : ℕ) (root : Root) (c : C
         (storing.elsewhere tells)).0
         ∙ ap (λ (state : State). with_state (app_at old.image app) f state) there
 
-    pub answered_so : (reply : Reply) (after : Application) → (reply, after) ≡ settle before (app_step app before now c)
+    pub answered_so : (reply : Reply) (after : Application) → (reply, after) ≡ concluded before
+        (app_step app before now c)
         → after.disk ≡ next_app → after.stage ≡ at_rest → sessions_in is ≡ after.sessions
         → (IsClean (shape_at l) old.image → IsClean (shape_at l) new.image)
         → IsAnswered app now c before (resting_with new.image app is) reply old new

@@ -20,7 +20,7 @@ use Rattle.deploy_laws.specs.Stands.{StandsCase}
 use Rattle.deploy.specs.declared.errors.Stop.{Stop}
 use Rattle.deploy.specs.declared.errors.Stop.TheVariants.{Device, OutOfMemory}
 use Rattle.deploy.specs.declared.roots.Root.{Root}
-use Rattle.run_model.specs.Calls.{app_step, settle}
+use Rattle.run_model.specs.Calls.{app_step, concluded}
 use Rattle.run_model.specs.Runtimes.{IsUnwritten, is_refusal}
 use Rattle.run_model.specs.Worlds.{Application}
 use Rattle.app_storages.specs.Answers.{CallsTo, HasFailed, HasStopped, IsAnswered}
@@ -117,8 +117,8 @@ none_written app c before m durable f s found there = record {
 -- a refusal that needs no device
 pub refused_row : (app now : ℕ) (c : Call) (before : Application) (e : PerError) (reply : Reply)
     → reply ≡ record { reports = []; answer = answer.Error e }
-    → app_step app before now c ≡ Err e → (reply, before) ≡ settle before (app_step app before now c)
-refused_row app now c before e reply is row = ap (λ (r : Reply). (r, before)) is ∙ sym (ap (settle before) row)
+    → app_step app before now c ≡ Err e → (reply, before) ≡ concluded before (app_step app before now c)
+refused_row app now c before e reply is row = ap (λ (r : Reply). (r, before)) is ∙ sym (ap (concluded before) row)
 
 plain : (e : PerError) → is_refusal (answer.Error e) ≡ true → answer.Error e ≢ answer.Error error.PhysicalStorageFailure
 plain e plainly same = absurd (true≢false (sym plainly ∙ ap is_refusal same))

@@ -26,14 +26,14 @@ use Rattle.deploy.specs.declared.roots.Root.{Root}
 use Rattle.deploy.specs.Roots.{IsRootOn, root_says}
 use Rattle.open_storages.specs.declared.opens.Open.{Open}
 use Rattle.open_storages.specs.Opens.{config_in, session_in, store_in}
-use Rattle.run_model.specs.Calls.{app_step, local_on, session_at, settle, with_session}
+use Rattle.run_model.specs.Calls.{app_step, local_on, session_at, concluded, with_session}
 use Rattle.run_model.specs.Found.{storage_in}
 use Rattle.run_model.specs.Sessions.{Session, in_session}
 use Rattle.run_model.specs.Worlds.{Application, Sessions, at_rest}
 use Rattle.app_storages.specs.Durables.{IsSet, IsShown}
 use Rattle.app_storages.specs.Finding.{IsEarly, IsLocated, config_of, found_on}
 use Rattle.app_storages.specs.Handled.{IsHandled}
-use Rattle.app_storages.specs.Openings.{Refuses, Settles}
+use Rattle.app_storages.specs.Openings.{Refuses, Concludes}
 use Rattle.app_storages.specs.Slots.{IsOpenAt, IsResting, resting_with, sessions_in, slot_at}
 use Rattle.app_storages.specs.StorageLaws.{StorageLaws}
 use Rattle.app_storages.specs.declared.finding.Located.{Located}
@@ -49,7 +49,7 @@ pub idle_handled : StorageLaws → (told : Bool) (app now : ℕ) (root : Root) (
     (Same : Type 0) → Same → IsLawful told m
     → IsResting told m.image app root was → IsResting told m.image app root is → (reply : Reply)
     → (IsTrue told → (reply, resting_with m.image app is)
-    ≡ settle (resting_with m.image app was) (app_step app (resting_with m.image app was) now c))
+    ≡ concluded (resting_with m.image app was) (app_step app (resting_with m.image app was) now c))
     → reply.answer ≢ answer.Error error.PhysicalStorageFailure → HasText reply.answer
     → IsHandled told app now root c was is m m Same (Ok reply)
 idle_handled laws told app now root c was is m Same same law was_resting is_resting reply row unfailed text = record {
@@ -181,7 +181,7 @@ module _ (laws : StorageLaws) (texts : TextLaw) (told : Bool) (app now : ℕ) (r
       is_resting reply
       (λ tells. ap (λ (r : Reply). (r, resting_with m.image app is)) says
       ∙ ap (λ (x : Application). (record { reports = []; answer = a }, x)) with_later
-      ∙ sym (ap (settle before) (local_answered app now before c name kind on (found_on m.image l)
+      ∙ sym (ap (concluded before) (local_answered app now before c name kind on (found_on m.image l)
       (found m.image (resting.root_at.disk tells)) (session_in o) session_is a (session_in later)
       (in_config _ row))))
       (λ failed. not_failed a (answers_plainly (config_in o) now (session_in o) c a (session_in later) row)
@@ -213,7 +213,7 @@ module _ (laws : StorageLaws) (texts : TextLaw) (told : Bool) (app now : ℕ) (r
       starved_handled laws told app now root c was m Same same law resting is
 
   -- as the call on the storage was answered
-  pub local_handled : (given : Result Answer PerError) (result : Result Reply Stop) → Settles given result
+  pub local_handled : (given : Result Answer PerError) (result : Result Reply Stop) → Concludes given result
       → IfOk given (λ a. in_session (config_in o) now (session_in o) c ≡ Ok (a, session_in later)) → IfOk given HasText
       → IfErr given (λ e. IsRefusal (in_session (config_in o) now (session_in o) c) e)
       → IfErr given (λ e. e ≢ error.PhysicalStorageFailure)

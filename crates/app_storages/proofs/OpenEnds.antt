@@ -32,7 +32,7 @@ use Rattle.open_storages.specs.declared.opening.Opening.TheVariants as given
 use Rattle.open_storages.specs.Openings.{IsOpeningOf, IsPlaced, Shows}
 use Rattle.open_storages.specs.Opens.{session_in, store_in}
 use Rattle.command_text.specs.Replies.{HasText}
-use Rattle.run_model.specs.Calls.{app_step, opened, session_at, settle}
+use Rattle.run_model.specs.Calls.{app_step, opened, session_at, concluded}
 use Rattle.run_model.specs.Runtimes.{is_refusal}
 use Rattle.run_model.specs.Steps.{uses_device}
 use Rattle.run_model.specs.Found.{Found, shape_in, storage_in, with_state}
@@ -160,7 +160,7 @@ module _ (laws : StorageLaws) (told : Bool) (app now : ℕ) (root : Root) (kind 
             tells (ap (λ (i : Image). store_at i (shape_at l)) untouched.0) reply before
             (ap (λ (r : Reply). (r, before)) (says ∙ ap (corrupt_reply (config_of l).name)
             (seen.3 ∙ ap failed_report (sym shape_same)))
-            ∙ sym (ap (opened app before f) seen.2) ∙ sym (ap (settle before) (row tells)))
+            ∙ sym (ap (opened app before f) seen.2) ∙ sym (ap (concluded before) (row tells)))
             (sym (same_app tells)) refl refl (λ clean. subst (λ (i : Image). IsClean (shape_at l) i) (sym untouched.0)
             clean);
         memory = subst (λ (i : Image). IsResting told i app root was) (sym untouched.0) resting;
@@ -210,7 +210,7 @@ module _ (laws : StorageLaws) (told : Bool) (app now : ℕ) (root : Root) (kind 
                     after.sessions;
               },
             )) (sym shape_same)
-            ∙ sym (ap (opened app before f) seen.2) ∙ sym (ap (settle before) (row tells)))
+            ∙ sym (ap (opened app before f) seen.2) ∙ sym (ap (concluded before) (row tells)))
             refl refl
             (sessions_set was is l.number (Some o) set ∙ ap (λ (s : Session).
             slice_set before.sessions l.number (Some s)) seen.3.session)

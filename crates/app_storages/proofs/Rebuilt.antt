@@ -36,7 +36,7 @@ use Rattle.deploy.specs.declared.errors.Stop.{Stop}
 use Rattle.deploy.specs.declared.errors.Stop.TheVariants.{Device, OutOfMemory}
 use Rattle.deploy.specs.declared.roots.Root.{Root}
 use Rattle.deploy.specs.Roots.{root_says}
-use Rattle.run_model.specs.Calls.{Outcome, answered, app_step, rebuild_step, session_at, settle, unless_open}
+use Rattle.run_model.specs.Calls.{Outcome, answered, app_step, rebuild_step, session_at, concluded, unless_open}
 use Rattle.run_model.specs.Found.{Found, storage_in, with_state}
 use Rattle.run_model.specs.Runtimes.{IsUnwritten, is_durable, is_refusal}
 use Rattle.run_model.specs.Steps.{found_named, reaches_device, uses_device}
@@ -176,7 +176,7 @@ module _ (laws : StorageLaws) (texts : TextLaw) (told : Bool) (app now : ℕ) (r
       where
         by : (answer_is : Result State PerError) → row f.state ≡ answer_is
             → MayLead app now c before (with_state (app_at old.image app) f (after_state f.state answer_is))
-        by (Ok state) is = inr (sym (ap (λ (x : Result Outcome PerError). (settle before x).1.disk)
+        by (Ok state) is = inr (sym (ap (λ (x : Result Outcome PerError). (concluded before x).1.disk)
             (row_at (Ok state) is tells)))
         by (Err e) is = inl (stays_so laws app root l located told tells old.image resting.root_at)
 
@@ -243,17 +243,17 @@ module _ (laws : StorageLaws) (texts : TextLaw) (told : Bool) (app now : ℕ) (r
             (rebuilds.clean tells) (inr clean)
 
         done_row : (r : Option PerError) → r ≡ refused → (state : State) → r ≡ None → row f.state ≡ Ok state
-            → IsTrue told → (reply, after state) ≡ settle before (app_step app before now c)
+            → IsTrue told → (reply, after state) ≡ concluded before (app_step app before now c)
         done_row r is state at_none at_row tells = ap (λ (x : Reply). (x, after state))
             (says ∙ ap (λ (o : Option PerError). record { reports = []; answer = done_or o }) (sym is ∙ at_none))
-            ∙ sym (ap (settle before) (row_at (Ok state) at_row tells))
+            ∙ sym (ap (concluded before) (row_at (Ok state) at_row tells))
 
         refused_so : (e g : PerError) → refused ≡ Some e → g ≡ e → row f.state ≡ Err g → IsTrue told
-            → (reply, before) ≡ settle before (app_step app before now c)
+            → (reply, before) ≡ concluded before (app_step app before now c)
         refused_so e g is same at_row tells = ap (λ (x : Reply). (x, before))
             (says ∙ ap (λ (o : Option PerError). record { reports = []; answer = done_or o })
             (is ∙ ap (λ (x : PerError). Some x) (sym same)))
-            ∙ sym (ap (settle before) (row_at (Err g) at_row tells))
+            ∙ sym (ap (concluded before) (row_at (Err g) at_row tells))
 
         by : (r : Option PerError) → r ≡ refused → (answer_is : Result State PerError) → row f.state ≡ answer_is
             → (tells : IsTrue told)

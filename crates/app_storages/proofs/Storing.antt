@@ -10,6 +10,7 @@ use Rattle.disk_model.specs.Image.{Image}
 use Rattle.disk_model.specs.Laws.{goes_none}
 use Rattle.disk_model.specs.Medium.{IsLawful, Medium}
 use Rattle.disk_model.specs.Place.{IsOutside}
+use Rattle.disk_model.specs.lemmas.Frames.{settled_less, settled_on}
 use Rattle.deployment_model.specs.Data.{StorageData}
 use Rattle.element_state.specs.Clean.{IsClean}
 use Rattle.element_state.specs.declared.shapes.Shape.{Shape}
@@ -36,21 +37,6 @@ use Rattle.app_storages.specs.StorageLaws.{StorageLaws}
 use Rattle.app_storages.proofs.SlotLaws.{all_at, get_append, get_set, get_set_other, length_set, set_same, there}
 
 -- ---- files
-
-settled_fewer : (Files Fewer : ℕ → Type 0) (image : Image) (c : Case) → ((f : ℕ) → Fewer f → Files f)
-    → IsSettledOn Files image c → IsSettledOn Fewer image c
-settled_fewer Files Fewer image c less settled = record {
-  base = λ f in_them. settled.base f (less f in_them);
-  full = λ f in_them. settled.full f (less f in_them);
-  left = λ f in_them. settled.left f (less f in_them);
-}
-
-settled_so : (Files : ℕ → Type 0) (image : Image) (c : Case) → IsSettledAt image c → IsSettledOn Files image c
-settled_so Files image c at = record {
-  base = λ f in_them. ap (λ (i : Image). i f) at.base;
-  full = λ f in_them. ap (λ (i : Image). i f) at.full;
-  left = λ f in_them. ap (λ (i : Image). i f) at.left;
-}
 
 module _ (app bank number : ℕ) (ltb : bank ≤ 1) (ltn : number < 16) where
   -- those of no other application, of the root and of another storage lie beside it
@@ -94,9 +80,9 @@ module _ (laws : StorageLaws) (told : Bool) (m : Medium) (law : IsLawful told m)
   pub idle_calls : CallsTo app (app_at m.image app) m m
   idle_calls = record {
     any_moment = λ quiet clean. goes_none (StandsCase app (app_at m.image app) (app_at m.image app)) law
-        (λ c now. laws.untouched app m.image c lt clean (settled_so (IsFileOf app) m.image c (quiet c now)));
+        (λ c now. laws.untouched app m.image c lt clean (settled_on (IsFileOf app) (quiet c now)));
     outside = λ quiet. goes_none (IsSettledOn (IsNoFileOf app) m.image) law
-        (λ c now. settled_so (IsNoFileOf app) m.image c (quiet c now));
+        (λ c now. settled_on (IsNoFileOf app) (quiet c now));
     elsewhere = λ f aside. refl;
   }
 
@@ -159,11 +145,10 @@ module _ (laws : StorageLaws) (app : ℕ) (lt : app < 8) (g : ℕ) (v : Named) (
       old new
   storing_here told tells after old new is storing = record {
     any_moment = λ quiet clean c since. laws.storing app g number old.image v previous s after c lt clean is at
-        (settled_fewer (IsOutside here.place.first here.place.copies)
-        (λ f. IsFileOf app f × IsBeside app v.bank number f) old.image c (λ f p. outside_of f p.1)
+        (settled_less (λ f p. outside_of f p.1)
         (storing.outside tells quiet c since))
         (storing.any_moment tells quiet (clean_there old.image is clean) c since);
-    outside = λ quiet c since. settled_fewer (IsOutside here.place.first here.place.copies) (IsNoFileOf app) old.image c
+    outside = λ quiet c since. settled_less
         (λ f aside. outside_of f (app_beside app v.bank number ltb ltn f aside)) (storing.outside tells quiet c since);
     elsewhere = elsewhere_spared old.image new.image (storing.elsewhere tells);
   }

@@ -8,7 +8,7 @@ use Rattle.deploy_laws.specs.Places.{IsNoFileOf}
 use Rattle.deploy_laws.specs.Apps.{App, app_at, IsCleanApp}
 use Rattle.deploy_laws.specs.Stands.{StandsThroughout}
 use Rattle.run_model.specs.Worlds.{Application}
-use Rattle.run_model.specs.Calls.{local_on, settle, app_step}
+use Rattle.run_model.specs.Calls.{local_on, concluded, app_step}
 use Rattle.run_model.specs.Steps.{storage_named, reaches_device, after_failure, found_named}
 
 -- the calls that name a storage
@@ -25,13 +25,13 @@ pub record CallsTo (app : ℕ) (next : App) (old new : Medium) : Type 0 where
 -- a call on a storage was answered, and the application is what its row says
 pub record IsAnswered (app now : ℕ) (c : Call) (before after : Application) (reply : Reply) (old new : Medium) : Type 0
   where
-    pub row : (reply, after) ≡ settle before (app_step app before now c)
+    pub row : (reply, after) ≡ concluded before (app_step app before now c)
     pub calls : CallsTo app after.disk old new
     pub clean : IsCleanApp app old.image → IsCleanApp app new.image
 
 -- what lies on the disk after a call that did not end: what its row leads to, or what lay there before
 abbrev pub MayLead : (app now : ℕ) → Call → (before : Application) → App → Type 0
-MayLead app now c before next = (next ≡ before.disk) ⊎ (next ≡ (settle before (app_step app before now c)).1.disk)
+MayLead app now c before next = (next ≡ before.disk) ⊎ (next ≡ (concluded before (app_step app before now c)).1.disk)
 
 -- its device failed, behind the refusals that need none: the application is what the failure leaves, and its files are
 -- on the way

@@ -34,9 +34,9 @@ Refuses e (Ok reply) = (e ≢ error.OutOfMemory) × (reply ≡ record { reports 
 Refuses e (Err Device) = ⊥
 Refuses e (Err OutOfMemory) = e ≡ error.OutOfMemory
 
-abbrev pub Settles : Result Answer PerError → Result Reply Stop → Type 0
-Settles (Ok a) result = result ≡ Ok (record { reports = []; answer = a })
-Settles (Err e) result = Refuses e result
+abbrev pub Concludes : Result Answer PerError → Result Reply Stop → Type 0
+Concludes (Ok a) result = result ≡ Ok (record { reports = []; answer = a })
+Concludes (Err e) result = Refuses e result
 
 -- the name and the kind that a call on an open storage asks for
 abbrev pub on_of : Bor (List ℕ) × Option StoreKind → List ℕ × Option StoreKind

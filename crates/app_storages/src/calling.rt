@@ -53,7 +53,7 @@ impl Slots {
             (resting_with (D.medium disk.old).image app self.old) (D.medium disk.old) (D.medium disk.new) }
 
         // What is kept in memory stays in use; after a failure too.
-        ensures memory { (IsErrOf result Stop.OutOfMemory → ⊥)
+        ensures memory { ¬ (IsErrOf result Stop.OutOfMemory)
             → IsResting D.told (D.medium disk.new).image app root.now self.new }
         ensures quiet { Quiet (D.medium disk.old) → OnOk result (Quiet (D.medium disk.new)) }
 

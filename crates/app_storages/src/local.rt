@@ -4,7 +4,7 @@ ghost use Rattle.std.specs.Prelude.{◌≡◌, IsTrue, Some, is_some, option_map
 ghost use Rattle.command_text.specs.declared.calls.Call.{Call};
 ghost use Rattle.run_model.specs.Calls.{local_on};
 ghost use Rattle.app_storages.specs.Handled.{IsHandled};
-ghost use Rattle.app_storages.specs.Openings.{Refuses, Settles, on_of};
+ghost use Rattle.app_storages.specs.Openings.{Refuses, Concludes, on_of};
 ghost use Rattle.app_storages.specs.Slots.{IsResting};
 
 use crate::finding::find;
@@ -53,15 +53,15 @@ impl Slots {
             return Ok(refusal(alloc, PerError::NotOpen));
         };
         let answer = storage.call(alloc, now, call);
-        storage.holds();
+        storage.invariants();
         self.put(located.number, storage);
-        settled(alloc, answer)
+        concluded(alloc, answer)
     }
 }
 
 /// The reply to a call, where memory sufficed.
-fn settled(alloc: Global, answer: Result<Answer, PerError>) -> Result<Reply, Stop>
-    ensures { Settles answer result }
+fn concluded(alloc: Global, answer: Result<Answer, PerError>) -> Result<Reply, Stop>
+    ensures { Concludes answer result }
 {
     match answer {
         Ok(answer) => Ok(answered(alloc, answer)),

@@ -57,7 +57,7 @@ impl Slots {
         };
         match open_storage(alloc, disk, shape, located.config) {
             Ok(Opening::Opened(storage, reports)) => {
-                storage.holds();
+                storage.invariants();
                 self.put(located.number, storage);
                 Ok(Reply {
                     reports: Sequence::new(reports),

@@ -97,7 +97,7 @@ impl Slots {
     {
         match made {
             Durable::Done(storage) => {
-                storage.holds();
+                storage.invariants();
                 self.put(number, storage);
                 answered(alloc, Answer::Done)
             }

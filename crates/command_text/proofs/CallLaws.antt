@@ -7,9 +7,9 @@ use Rattle.value_text.specs.Parsing.{kind_in, value_in}
 use Rattle.value_text.specs.Readers.{◌>>=◌}
 use Rattle.value_text.specs.Texts.{type_text, value_text, hex_text, hex_byte_text}
 use Rattle.value_text.specs.Whole.{unsigned_in, bytes_in}
-use Rattle.value_text.proofs.Public.{kind_in_takes, kind_in_again, value_in_takes, value_in_again}
-use Rattle.value_text.proofs.Steps.{branch_some}
-use Rattle.value_text.proofs.WholeLaws.{unsigned_in_takes, unsigned_in_again, bytes_in_takes, bytes_in_again}
+use Rattle.value_text.specs.lemmas.Public.{kind_in_takes, kind_in_again, value_in_takes, value_in_again}
+use Rattle.value_text.specs.lemmas.Steps.{branch_some}
+use Rattle.value_text.specs.lemmas.WholeLaws.{unsigned_in_takes, unsigned_in_again, bytes_in_takes, bytes_in_again}
 use Rattle.command_text.specs.declared.calls.Call.{Call}
 use Rattle.command_text.specs.declared.calls.Call.TheVariants as call
 use Rattle.command_text.specs.Grammar.{type, value, octets, one_byte, number, open_kind, open_mode, counted_from}

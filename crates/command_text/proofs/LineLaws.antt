@@ -8,8 +8,8 @@ use Rattle.std.proofs.lemmas.Bool.{and_parts, eqb-true, ne_eqb, leb-true, le-leb
 use Rattle.std.proofs.lemmas.Slice.Eq.{bytes_eq-Decides}
 use Rattle.value_text.specs.Readers.{◌>>=◌}
 use Rattle.value_text.specs.Whole.{unsigned_in}
-use Rattle.value_text.proofs.Steps.{bind_some, if_some, else_some, chosen, some_is}
-use Rattle.value_text.proofs.WholeLaws.{unsigned_in_takes, unsigned_in_again}
+use Rattle.value_text.specs.lemmas.Steps.{bind_some, if_some, else_some, chosen, some_is}
+use Rattle.value_text.specs.lemmas.WholeLaws.{unsigned_in_takes, unsigned_in_again}
 use Rattle.command_text.specs.declared.calls.Event.{Event}
 use Rattle.command_text.specs.declared.calls.Event.TheVariants as event
 use Rattle.command_text.specs.declared.errors.LineError.{LineError}

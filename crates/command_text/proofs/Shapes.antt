@@ -5,7 +5,7 @@ use Rattle.std.specs.Fmt.{decimal}
 use Rattle.std.specs.Str.{bytes_eq}
 use Rattle.std.proofs.lemmas.Slice.Eq.{bytes_eq-Decides}
 use Rattle.value_text.specs.Readers.{◌>>=◌}
-use Rattle.value_text.proofs.Steps.{bind_some, chosen, some_is}
+use Rattle.value_text.specs.lemmas.Steps.{bind_some, chosen, some_is}
 use Rattle.command_text.specs.declared.calls.Call.{Call}
 use Rattle.command_text.specs.Grammar.{Argument, name, handle, manifest, spelling, IsArgument, form, form_text}
 use Rattle.command_text.specs.Reading.{pick, name_in, manifest_in, element_in, handle_in, element_front, handle_front}

@@ -12,7 +12,7 @@ use Rattle.per_base.specs.declared.opening.OpenKind.TheVariants as kind
 use Rattle.per_base.specs.declared.opening.Origin.{Origin}
 use Rattle.per_base.specs.declared.opening.Origin.TheVariants as origin
 use Rattle.per_base.specs.Names.{IsName, in_name}
-use Rattle.value_text.proofs.Digits.{IsDigits, own}
+use Rattle.value_text.specs.lemmas.Digits.{IsDigits, own}
 use Rattle.command_text.specs.Grammar.{kind_text, origin_text}
 use Rattle.command_text.proofs.Splits.{has_space}
 

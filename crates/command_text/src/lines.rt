@@ -1,6 +1,6 @@
 //! Lines, whole.
 
-ghost use Rattle.std.specs.Prelude.{◌≡◌, IfOk};
+ghost use Rattle.std.specs.Prelude.{◌≡◌, IfOk, IsErrOf};
 ghost use Rattle.command_text.specs.Grammar.{IsLine};
 ghost use Rattle.command_text.specs.Reading.{Reads, application_in, event_in, line_in};
 ghost use Rattle.command_text.specs.declared.lines.Line.{Line};
@@ -33,7 +33,7 @@ pub const LINE_BYTES: usize = 262_144;
 pub fn parse_line(alloc: Global, line: &[u8]) -> Result<Line, LineError>
     // what is read is spelled so, and what is spelled so is read
     ensures line { IfOk result (IsLine line.now) }
-    ensures none { result ≡ Err LineError.NotALine → (said : Line) → ¬ IsLine line.now said }
+    ensures none { IsErrOf result LineError.NotALine → (said : Line) → ¬ IsLine line.now said }
 {
     if line.len() > LINE_BYTES {
         return Err(LineError::NotALine);

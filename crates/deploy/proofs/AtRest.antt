@@ -6,6 +6,7 @@ use Rattle.disk_model.specs.Image.{Image}
 use Rattle.disk_model.specs.Laws.{goes_none}
 use Rattle.disk_model.specs.Medium.{EachCase, IsLawful, Medium, Quiet}
 use Rattle.disk_model.specs.Place.{IsNoSlot}
+use Rattle.disk_model.specs.lemmas.Frames.{settled_on}
 use Rattle.guarded_cell.specs.Stops.{AfterStop, FormatStops, HoldsLess, KeepsText, PutStops}
 
 -- of guarded_cell
@@ -14,33 +15,26 @@ StillLaw = (first copies : ℕ) (start : Image) (c : Case) → IsSettledOn (λ f
     → AfterStop first copies (λ damaged image. HoldsLess first copies start image
     × ((g : ℕ) (text : List ℕ) → KeepsText first copies g text damaged start image)) c
 
-nowhere_pending : (Files : ℕ → Type 0) {image : Image} {c : Case} → IsSettledAt image c → IsSettledOn Files image c
-nowhere_pending Files settled = record {
-  base = λ f is. ap (λ (i : Image). i f) settled.base;
-  full = λ f is. ap (λ (i : Image). i f) settled.full;
-  left = λ f is. ap (λ (i : Image). i f) settled.left;
-}
-
 module _ (still : StillLaw) (first copies generation : ℕ) (text : List ℕ) where
   put_still : (start : Image) (c : Case) → IsSettledAt start c → PutStops first copies generation text start c
   put_still start c settled = record {
     slots = λ sound damaged image decays.
-        let left = still first copies start c (nowhere_pending (λ f. ¬ (IsNoSlot first copies f)) settled) sound damaged
+        let left = still first copies start c (settled_on (λ f. ¬ (IsNoSlot first copies f)) settled) sound damaged
         image decays in
         record {
           known = λ copy lt g t holds. inl (left.0 copy lt g t holds);
           kept = left.1 generation text;
           stands = inl (λ copy lt spared g t same holds. left.1 g t copy lt spared holds);
         };
-    elsewhere = nowhere_pending (IsNoSlot first copies) settled;
+    elsewhere = settled_on (IsNoSlot first copies) settled;
   }
 
   format_still : (start : Image) (c : Case) → IsSettledAt start c → FormatStops first copies generation text start c
   format_still start c settled = record {
     slots = λ sound damaged image decays.
-        inl (still first copies start c (nowhere_pending (λ f. ¬ (IsNoSlot first copies f)) settled) sound damaged image
+        inl (still first copies start c (settled_on (λ f. ¬ (IsNoSlot first copies f)) settled) sound damaged image
         decays).0;
-    elsewhere = nowhere_pending (IsNoSlot first copies) settled;
+    elsewhere = settled_on (IsNoSlot first copies) settled;
   }
 
   -- a register that was to be written

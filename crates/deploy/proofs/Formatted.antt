@@ -8,6 +8,7 @@ use Rattle.disk_model.specs.Image.{Image}
 use Rattle.disk_model.specs.Laws.{goes_on, goes_none}
 use Rattle.disk_model.specs.Medium.{EachCase, Elapses, IsLawful, Medium, Quiet}
 use Rattle.disk_model.specs.Place.{IsNoSlot}
+use Rattle.disk_model.specs.lemmas.Frames.{settled_before, settled_less, settled_on}
 use Rattle.guarded_cell.specs.declared.cell.Cell.{Cell}
 use Rattle.guarded_cell.specs.declared.looking.Seen.{Seen}
 use Rattle.guarded_cell.specs.Cells.{CellAt, IsCellOf}
@@ -16,13 +17,12 @@ use Rattle.guarded_cell.specs.Register.{IsAlone}
 use Rattle.guarded_cell.specs.Stops.{FormatStops}
 use Rattle.element_laws.specs.Phases.{IsOfPlace}
 use Rattle.root_text.specs.RootText.{absent, root_text}
-use Rattle.deploy_laws.specs.Apps.{IsCleanApp, app_at, root_settled, shapes_named}
+use Rattle.deploy_laws.specs.Apps.{IsCleanApp, app_at, root_sole, shapes_named}
 use Rattle.deploy_laws.specs.Laws.{AloneCleanLaw, AloneFrameLaw, AloneLaw, RootFilesLaw, RootSlotsLaw}
 use Rattle.deploy_laws.specs.Places.{IsNoRootFile, first_file, root_place}
 use Rattle.deploy_rows.specs.Rows.{empty_app}
 use Rattle.deploy.specs.Clauses.{IsNoRootSlot, Leaves}
 use Rattle.deploy.proofs.InUse.{AgainLaw, cell_alone, held_app}
-use Rattle.deploy.proofs.Opened.{settled_here, settled_of, settled_since}
 
 -- the root of this application says that nothing is installed, under generation 1
 abbrev pub IsEmptyRoot : Image → ℕ → Type 0
@@ -72,7 +72,7 @@ pub none_left : (told : Bool) (m : Medium) → IsLawful told m → Leaves told I
 none_left told m law = record {
   at_the_end = λ tells f no. refl;
   throughout = λ tells quiet. goes_none (IsSettledOn IsNoRoot m.image) law
-      (λ c now. settled_here IsNoRoot m.image c (quiet c now));
+      (λ c now. settled_on IsNoRoot (quiet c now));
 }
 
 pub one_left : (told : Bool) (app : ℕ) → app < 8 → (old mid new : Medium) → Elapses old mid → Elapses mid new
@@ -84,8 +84,8 @@ pub one_left : (told : Bool) (app : ℕ) → app < 8 → (old mid new : Medium) 
 one_left told app lt old mid new first next were still spared stops = record {
   at_the_end = λ tells f no. spared tells f (no app lt) ∙ were.at_the_end tells f no;
   throughout = λ tells quiet. goes_on (IsSettledOn IsNoRoot old.image) first next (were.throughout tells quiet)
-      (λ c past. settled_since IsNoRoot old.image mid.image c (were.at_the_end tells)
-      (settled_of (IsNoSlot (root_place app).first (root_place app).copies) IsNoRoot mid.image c (λ f no. no app lt)
+      (λ c past. settled_before (were.at_the_end tells)
+      (settled_less (λ f no. no app lt)
       (stops tells (still quiet) c past).elsewhere));
 }
 
@@ -102,7 +102,7 @@ module _ (image : Image) (app : ℕ) (empty : IsEmptyRoot image app) where
   unfolding shapes_named
   empty_is again alone = held_app again alone image app 1 absent tt empty
 
-  pub empty_settled : (held_alone : HeldAloneLaw) → IsTrue (root_settled image app)
+  pub empty_settled : (held_alone : HeldAloneLaw) → IsTrue (root_sole image app)
   empty_settled held_alone = ap (λ (seens : List Seen). nat_le (length seens) 1)
       (held_alone image (root_place app).first 3 1 (root_text absent) (omega arith) empty).0
 

@@ -1,7 +1,7 @@
 -- What stands in a root's place, by the texts that its copies hold.
 use Rattle.std.proofs.Common.{◌≡◌, ℕ, suc, ◌+◌, ◌≤◌, List, [], ◌∷◌, ◌++◌, Bool, true, false, not, cond, Option, Some}
 use Rattle.std.proofs.Common.{None, find, refl, sym, ap, ◌∙◌, subst, ⊎_elim, arith}
-use Rattle.std.specs.Prelude.{◌==◌}
+use Rattle.std.specs.Prelude.{◌==◌, IfSome}
 use Rattle.std.specs.List.{All, list_any}
 use Rattle.std.proofs.lemmas.Bool.{cases_Bool, cond-true, cond-false}
 use Rattle.disk_model.specs.Image.{Image}
@@ -14,10 +14,12 @@ use Rattle.root_text.specs.Views.{root_said}
 use Rattle.deployment_model.specs.Conditions.{IsDeployment}
 use Rattle.deployment_model.specs.Data.{DeploymentData}
 use Rattle.manifest.specs.Reading.{deployment_in}
-use Rattle.deploy_laws.specs.Apps.{Says, app_at, lacking_in, nothing, root_settled, says_at, says_by, says_in}
+use Rattle.deploy_laws.specs.Apps.{Says, app_at, lacking_in, nothing, root_sole, says_at, says_by, says_in}
 use Rattle.deploy_laws.specs.Places.{root_place}
 use Rattle.deploy.specs.declared.standing.Standing.{Standing}
 use Rattle.deploy.specs.Standing.{IfSpelled, IsAmong, IsFirst, IsSpelled}
+use Rattle.guarded_cell.specs.Slots.{IsSlotsOf}
+use Rattle.guarded_cell.specs.declared.slots.Slots.{Slots}
 use Rattle.deploy.specs.Views.{ShowsVersions, bad, seen_at, seen_by}
 use Rattle.deploy.proofs.InUse.{app_says}
 
@@ -40,6 +42,17 @@ no_first seens found is among = subst (λ (o : Option Standing). IsAmong seens o
 pub is_first : (seens : List Seen) (found : Option Standing) (s : Standing) → found ≡ Some s → IsAmong seens found
     → IsFirst seens s
 is_first seens found s is among = subst (λ (o : Option Standing). IsAmong seens o) is among
+
+pub is_marked : (P : Standing → Type 0) (found : Option Standing) (s : Standing) → found ≡ Some s → IfSome found P → P s
+is_marked P found s is marked = subst (λ (o : Option Standing). IfSome o P) is marked
+
+pub slots_at : (place : Place) (app : ℕ) (image : Image) (slots : Slots) (found : Option Standing)
+    → place ≡ root_place app → IsSlotsOf image place.first place.copies slots → IfSome found (λ s. s.slots ≡ slots)
+    → IfSome found (λ s. IsSlotsOf image (root_place app).first 3 s.slots)
+slots_at place app image slots None same are marked = tt
+slots_at place app image slots (Some s) same are marked =
+    subst (IsSlotsOf image (root_place app).first 3) (sym marked)
+    (subst (λ (p : Place). IsSlotsOf image p.first p.copies slots) same are)
 
 pub is_spelled : (found : Option Standing) (s : Standing) → found ≡ Some s → IfSpelled found → IsSpelled s
 is_spelled found s is spelled = subst IfSpelled is spelled
@@ -134,16 +147,16 @@ module _ (chooses : ChoosesLaw) (image : Image) (app : ℕ) (seen : Seen)
 -- ---- what is seen
 
 pub bad_seen : (image : Image) (app : ℕ) → says_at image app ≡ nothing → bad ≡ seen_at image app
-bad_seen image app none = sym (ap (λ (s : Says). seen_by s (app_at image app).lacking (root_settled image app))
+bad_seen image app none = sym (ap (λ (s : Says). seen_by s (app_at image app).lacking (root_sole image app))
     (app_says image app ∙ none))
 
-pub root_is_seen : (image : Image) (app : ℕ) (says : Says) (numbers : List ℕ) (settled : Bool)
+pub root_is_seen : (image : Image) (app : ℕ) (says : Says) (numbers : List ℕ) (sole : Bool)
     → says_at image app ≡ says
-    → numbers ≡ (app_at image app).lacking → settled ≡ root_settled image app
-    → seen_by says numbers settled ≡ seen_at image app
-root_is_seen image app says numbers settled is lacks alone =
-    ap (λ (s : Says). seen_by s numbers settled) (sym (app_says image app ∙ is))
-    ∙ ap (λ (ns : List ℕ). seen_by (app_at image app).says ns settled) lacks
+    → numbers ≡ (app_at image app).lacking → sole ≡ root_sole image app
+    → seen_by says numbers sole ≡ seen_at image app
+root_is_seen image app says numbers sole is lacks alone =
+    ap (λ (s : Says). seen_by s numbers sole) (sym (app_says image app ∙ is))
+    ∙ ap (λ (ns : List ℕ). seen_by (app_at image app).says ns sole) lacks
     ∙ ap (λ (b : Bool). seen_by (app_at image app).says (app_at image app).lacking b) alone
 
 -- ---- the versions that are seen
@@ -152,12 +165,12 @@ root_is_seen image app says numbers settled is lacks alone =
 abbrev pub KeepsLaw : Type 0
 KeepsLaw = (text : List ℕ) (d : DeploymentData) → deployment_in text ≡ Some d → IsDeployment d
 
-pub shows_versions : KeepsLaw → (r : text.Root) → text.IsRoot r → (g : ℕ) (lacking : List ℕ) (settled : Bool)
-    → ShowsVersions (seen_by (says_by g (Some r)) lacking settled)
-shows_versions keeps text.absent is g lacking settled = tt
-shows_versions keeps (text.installed bank active None) is g lacking settled =
+pub shows_versions : KeepsLaw → (r : text.Root) → text.IsRoot r → (g : ℕ) (lacking : List ℕ) (sole : Bool)
+    → ShowsVersions (seen_by (says_by g (Some r)) lacking sole)
+shows_versions keeps text.absent is g lacking sole = tt
+shows_versions keeps (text.installed bank active None) is g lacking sole =
     record { in_bank = is.in_bank; keeps = keeps active.text active.deployment is.of_active }
-shows_versions keeps (text.installed bank active (Some previous)) is g lacking settled = let low =
+shows_versions keeps (text.installed bank active (Some previous)) is g lacking sole = let low =
     is.in_bank in record {
       of_active = record { in_bank = is.in_bank; keeps = keeps active.text active.deployment is.of_active };
       of_previous = record {

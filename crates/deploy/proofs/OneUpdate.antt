@@ -6,6 +6,7 @@ use Rattle.per_base.specs.declared.errors.PerError.{PerError}
 use Rattle.disk_model.specs.Image.{Image}
 use Rattle.disk_model.specs.Laws.{goes_on}
 use Rattle.disk_model.specs.Medium.{EachCase, Elapses, IsIdle, Medium, Quiet}
+use Rattle.disk_model.specs.lemmas.Frames.{settled_on}
 use Rattle.element_state.specs.States.{State, store_at}
 use Rattle.migrate_fns.specs.Rules.{Rule}
 use Rattle.migrate_fns.specs.Rules as fns
@@ -30,7 +31,6 @@ use Rattle.deploy.proofs.Leaves.{leaves_on}
 use Rattle.deploy.proofs.NextVersion.{leaves_whole}
 use Rattle.deploy.proofs.Offers.{offered_alike}
 use Rattle.deploy.proofs.StagedMore.{few_storages}
-use Rattle.deploy.proofs.Still.{settled_so}
 
 -- ---- results
 
@@ -105,7 +105,7 @@ pub leaves_read : (told : Bool) (Files : ℕ → Type 0) (old mid : Medium) → 
     → mid.image ≡ old.image → Leaves told Files old mid
 leaves_read told Files old mid idle same = record {
   at_the_end = λ tells f is. ap (λ (i : Image). i f) same;
-  throughout = λ tells quiet c past. settled_so Files old.image c ((idle quiet).during c past);
+  throughout = λ tells quiet c past. settled_on Files ((idle quiet).during c past);
 }
 
 module _ (app : ℕ) (old mid new : Medium) (first : Elapses old mid) (next : Elapses mid new)
@@ -119,7 +119,7 @@ module _ (app : ℕ) (old mid new : Medium) (first : Elapses old mid) (next : El
       → StandsThroughout app after mid new
       → StandsThroughout app after old new
   stands_then still lt after later stands quiet clean = goes_on (StandsCase app (app_at old.image app) after) first next
-      (λ c past. still app old.image after c lt clean (settled_so (IsFileOf app) old.image c
+      (λ c past. still app old.image after c lt clean (settled_on (IsFileOf app)
       ((idle quiet).during c past)) later)
       (subst (λ (i : Image). EachCase (StandsCase app (app_at i app) after) mid new) same
       (stands (idle quiet).quiet (subst (λ (i : Image). IsCleanApp app i) (sym same) clean)))

@@ -8,6 +8,7 @@ use Rattle.disk_model.specs.Image.{Image}
 use Rattle.disk_model.specs.Laws.{goes_on}
 use Rattle.disk_model.specs.Medium.{EachCase, Elapses, IsIdle, Medium, Quiet}
 use Rattle.disk_model.specs.Place.{IsNoSlot}
+use Rattle.disk_model.specs.lemmas.Frames.{settled_on}
 use Rattle.guarded_cell.specs.declared.looking.Seen.{Seen}
 use Rattle.guarded_cell.specs.Held.{standing}
 use Rattle.guarded_cell.specs.Register.{IsAlone}
@@ -29,32 +30,6 @@ use Rattle.deploy.proofs.InUse.{AgainLaw, app_that, bad_app, written_app, writte
 
 -- ---- files of which nothing is pending
 
-pub settled_here : (Files : ℕ → Type 0) (image : Image) (c : Case) → IsSettledAt image c → IsSettledOn Files image c
-settled_here Files image c at = record {
-  base = λ f is. ap (λ (i : Image). i f) at.base;
-  full = λ f is. ap (λ (i : Image). i f) at.full;
-  left = λ f is. ap (λ (i : Image). i f) at.left;
-}
-
--- of fewer files
-pub settled_of : (Files Fewer : ℕ → Type 0) (image : Image) (c : Case) → ((f : ℕ) → Fewer f → Files f)
-    → IsSettledOn Files image c
-    → IsSettledOn Fewer image c
-settled_of Files Fewer image c less at = record {
-  base = λ f is. at.base f (less f is);
-  full = λ f is. at.full f (less f is);
-  left = λ f is. at.left f (less f is);
-}
-
--- since before a call that spares them
-pub settled_since : (Files : ℕ → Type 0) (old mid : Image) (c : Case) → Spares Files old mid → IsSettledOn Files mid c
-    → IsSettledOn Files old c
-settled_since Files old mid c spared at = record {
-  base = λ f is. at.base f is ∙ spared f is;
-  full = λ f is. at.full f is ∙ spared f is;
-  left = λ f is. at.left f is ∙ spared f is;
-}
-
 -- ---- looking
 
 pub look_leaves : (told : Bool) (Files : ℕ → Type 0) (old new : Medium) → new.image ≡ old.image
@@ -62,13 +37,13 @@ pub look_leaves : (told : Bool) (Files : ℕ → Type 0) (old new : Medium) → 
     → Leaves told Files old new
 look_leaves told Files old new same idle = record {
   at_the_end = λ tells f is. ap (λ (i : Image). i f) same;
-  throughout = λ tells quiet c past. settled_here Files old.image c ((idle quiet).during c past);
+  throughout = λ tells quiet c past. settled_on Files ((idle quiet).during c past);
 }
 
 pub look_stands : (still : StillAppLaw) (app : ℕ) → app < 8 → (old new : Medium) → (Quiet old → IsIdle old new)
     → StandsOnTheWay app old new
 look_stands still app lt old new idle quiet clean next later c past =
-    still app old.image next c lt clean (settled_here (IsFileOf app) old.image c ((idle quiet).during c past)) later
+    still app old.image next c lt clean (settled_on (IsFileOf app) ((idle quiet).during c past)) later
 
 -- ---- and then bringing every copy to the text that stands
 
@@ -96,7 +71,7 @@ module _ (app : ℕ) (lt : app < 8) (told : Bool) (seen : Seen) (old mid new : M
   brought_leaves elsewhere = record {
     at_the_end = λ tells f no. elsewhere tells f no ∙ ap (λ (i : Image). i f) same;
     throughout = λ tells quiet. goes_on (IsSettledOn (IsNoRootSlot app) old.image) first next
-        (λ c past. settled_here (IsNoRootSlot app) old.image c ((idle quiet).during c past))
+        (λ c past. settled_on (IsNoRootSlot app) ((idle quiet).during c past))
         (λ c past. (puts_then tells quiet c past).elsewhere);
   }
 

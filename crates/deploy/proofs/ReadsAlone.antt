@@ -9,6 +9,7 @@ use Rattle.disk_model.specs.Frame.{IsSettledOn}
 use Rattle.disk_model.specs.Image.{Image}
 use Rattle.disk_model.specs.Laws.{goes_none}
 use Rattle.disk_model.specs.Medium.{IsIdle, IsLawful, Medium, Quiet}
+use Rattle.disk_model.specs.lemmas.Frames.{settled_on}
 use Rattle.element_state.specs.States.{State}
 use Rattle.guarded_cell.specs.declared.cell.Cell.{Cell}
 use Rattle.migrate_fns.specs.Rules.{Rule}
@@ -27,24 +28,17 @@ use Rattle.deploy.specs.Roots.{root_app}
 use Rattle.deploy.proofs.FirstVersion.{if_ok}
 use Rattle.deploy.proofs.Offers.{begins_by}
 
-settled : (Files : ℕ → Type 0) {image : Image} {c : Case} → IsSettledAt image c → IsSettledOn Files image c
-settled Files at = record {
-  base = λ f is. ap (λ (i : Image). i f) at.base;
-  full = λ f is. ap (λ (i : Image). i f) at.full;
-  left = λ f is. ap (λ (i : Image). i f) at.left;
-}
-
 pub stands_reading : UntouchedAppLaw → (app : ℕ) (old new : Medium) → app < 8 → (Quiet old → IsIdle old new)
     → StandsThroughout app (app_at old.image app) old new
 stands_reading untouched app old new lt idle quiet clean c past =
-    untouched app old.image c lt clean (settled (IsFileOf app) ((idle quiet).during c past))
+    untouched app old.image c lt clean (settled_on (IsFileOf app) ((idle quiet).during c past))
 
 -- and so it does where nothing was done
 pub stands_unread : UntouchedAppLaw → (told : Bool) (app : ℕ) (m : Medium) → IsLawful told m → app < 8
     → StandsThroughout app (app_at m.image app) m m
 stands_unread untouched told app m law lt quiet clean =
     goes_none (StandsCase app (app_at m.image app) (app_at m.image app)) law
-    (λ c now. untouched app m.image c lt clean (settled (IsFileOf app) (quiet c now)))
+    (λ c now. untouched app m.image c lt clean (settled_on (IsFileOf app) (quiet c now)))
 
 -- ---- an offer over a root without a version
 

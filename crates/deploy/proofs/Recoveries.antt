@@ -14,6 +14,7 @@ use Rattle.per_base.specs.declared.errors.Limit.TheVariants as limit
 use Rattle.disk_model.specs.Case.{Case, IsSettledAt}
 use Rattle.disk_model.specs.Frame.{IsSettledOn}
 use Rattle.disk_model.specs.Image.{Image}
+use Rattle.disk_model.specs.lemmas.Frames.{settled_on}
 use Rattle.disk_model.specs.Laws.{goes_none, goes_on}
 use Rattle.disk_model.specs.Medium.{EachCase, Elapses, IsIdle, IsLawful, Medium, Quiet}
 use Rattle.index_text.specs.Contents.{AreContents, IsFresh, fresh_size}
@@ -228,25 +229,12 @@ at_shape shape s contents lies are = subst (λ (k : StoreKind). AreContents k sh
 
 -- ---- moments
 
-settled_at : (Apart : ℕ → Type 0) (image : Image) (c : Case) → IsSettledAt image c → IsSettledOn Apart image c
-settled_at Apart image c h = record {
-  base = λ f out. ap (λ (im : Image). im f) h.base;
-  full = λ f out. ap (λ (im : Image). im f) h.full;
-  left = λ f out. ap (λ (im : Image). im f) h.left;
-}
-
 -- while nothing is called
-pub none_kept : UntouchedLaw → (told : Bool) (shape : Shape) (state : State) (old : Medium) → IsShape shape
-    → IsLawful told old → KeptThroughout shape state old old
-none_kept untouched told shape state old is law quiet clean = goes_none (IsKeptCase shape old.image state) law
-    (λ c here. untouched shape old.image state c is.some clean
-    (settled_at (IsOfPlace shape.place) old.image c (quiet c here)))
-
 pub none_leaves : (told : Bool) (Apart : ℕ → Type 0) (old : Medium) → IsLawful told old → Leaves told Apart old old
 none_leaves told Apart old law = record {
   at_the_end = λ tells f out. refl;
   throughout = λ tells quiet. goes_none (IsSettledOn Apart old.image) law
-      (λ c here. settled_at Apart old.image c (quiet c here));
+      (λ c here. settled_on Apart (quiet c here));
 }
 
 -- nothing was changed where it was looked and then nothing was done
@@ -259,13 +247,13 @@ module _ (old mid : Medium) (same : mid.image ≡ old.image) (idle : Quiet old �
   -- while it looks
   pub look_kept : UntouchedLaw → (shape : Shape) → IsShape shape → (state : State) → KeptThroughout shape state old mid
   look_kept untouched shape is state quiet clean c past =
-      untouched shape old.image state c is.some clean (settled_at (IsOfPlace shape.place) old.image c
+      untouched shape old.image state c is.some clean (settled_on (IsOfPlace shape.place)
       ((idle quiet).during c past))
 
   pub look_leaves : (told : Bool) (Apart : ℕ → Type 0) → Leaves told Apart old mid
   look_leaves told Apart = record {
     at_the_end = λ tells f out. ap (λ (im : Image). im f) same;
-    throughout = λ tells quiet c past. settled_at Apart old.image c ((idle quiet).during c past);
+    throughout = λ tells quiet c past. settled_on Apart ((idle quiet).during c past);
   }
 
   -- and then

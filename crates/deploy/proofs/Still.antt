@@ -6,27 +6,13 @@ use Rattle.disk_model.specs.Frame.{IsSettledOn}
 use Rattle.disk_model.specs.Image.{Image}
 use Rattle.disk_model.specs.Laws.{goes_none}
 use Rattle.disk_model.specs.Medium.{IsLawful, Medium}
+use Rattle.disk_model.specs.lemmas.Frames.{settled_on}
 use Rattle.deploy_laws.specs.Apps.{App, app_at}
 use Rattle.deploy_laws.specs.Laws.{StillAppLaw}
 use Rattle.deploy_laws.specs.Places.{IsFileOf}
 use Rattle.deploy_laws.specs.Stands.{IsLater, StandsCase, StandsThroughout, same_root}
 use Rattle.deploy_rows.specs.Rows.{after}
 use Rattle.deploy.specs.Clauses.{Leaves}
-
-pub settled_so : (Files : ℕ → Type 0) (image : Image) (c : Case) → IsSettledAt image c → IsSettledOn Files image c
-settled_so Files image c at = record {
-  base = λ f in_them. ap (λ (i : Image). i f) at.base;
-  full = λ f in_them. ap (λ (i : Image). i f) at.full;
-  left = λ f in_them. ap (λ (i : Image). i f) at.left;
-}
-
-pub settled_fewer : (Files Fewer : ℕ → Type 0) (image : Image) (c : Case) → ((f : ℕ) → Fewer f → Files f)
-    → IsSettledOn Files image c → IsSettledOn Fewer image c
-settled_fewer Files Fewer image c less settled = record {
-  base = λ f in_them. settled.base f (less f in_them);
-  full = λ f in_them. settled.full f (less f in_them);
-  left = λ f in_them. settled.left f (less f in_them);
-}
 
 -- what a row leads to, or the same, comes later
 by_row : (a : App) (r : Result App PerError) → ((b : App) → r ≡ Ok b → IsLater a b) → IsLater a (after a r)
@@ -42,10 +28,10 @@ module _ (told : Bool) (m : Medium) (law : IsLawful told m) where
   still_leaves Files = record {
     at_the_end = λ tells f in_them. refl;
     throughout = λ tells quiet. goes_none (IsSettledOn Files m.image) law
-        (λ c now. settled_so Files m.image c (quiet c now));
+        (λ c now. settled_on Files (quiet c now));
   }
 
   pub still_stands : StillAppLaw → (app : ℕ) → app < 8 → (next : App) → IsLater (app_at m.image app) next
       → StandsThroughout app next m m
   still_stands still app lt next later quiet clean = goes_none (StandsCase app (app_at m.image app) next) law
-      (λ c now. still app m.image next c lt clean (settled_so (IsFileOf app) m.image c (quiet c now)) later)
+      (λ c now. still app m.image next c lt clean (settled_on (IsFileOf app) (quiet c now)) later)

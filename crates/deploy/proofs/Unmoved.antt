@@ -7,6 +7,7 @@ use Rattle.disk_model.specs.Frame.{IsSettledOn}
 use Rattle.disk_model.specs.Image.{Image}
 use Rattle.disk_model.specs.Laws.{goes_none}
 use Rattle.disk_model.specs.Medium.{IsLawful, Medium}
+use Rattle.disk_model.specs.lemmas.Frames.{settled_on}
 use Rattle.deploy_laws.specs.Apps.{App, app_at}
 use Rattle.deploy_laws.specs.Laws.{AloneLaw, StillAppLaw}
 use Rattle.deploy_laws.specs.Places.{IsFileOf}
@@ -68,19 +69,12 @@ pub later_after : (a : App) (r : Result App PerError) → ((b : App) → r ≡ O
 later_after a (Ok b) leads = leads b refl
 later_after a (Err e) leads = same_root refl refl
 
-settled_here : (Files : ℕ → Type 0) {image : Image} {c : Case} → IsSettledAt image c → IsSettledOn Files image c
-settled_here Files settled = record {
-  base = λ f is. ap (λ (i : Image). i f) settled.base;
-  full = λ f is. ap (λ (i : Image). i f) settled.full;
-  left = λ f is. ap (λ (i : Image). i f) settled.left;
-}
-
 -- where nothing was done, the application stands on its way to whatever may come of it
 pub stands_still : StillAppLaw → (told : Bool) (app : ℕ) (m : Medium) (next : App) → IsLawful told m → app < 8
     → IsLater (app_at m.image app) next
     → StandsThroughout app next m m
 stands_still still told app m next law lt later quiet clean = goes_none (StandsCase app (app_at m.image app) next) law
-    (λ c now. still app m.image next c lt clean (settled_here (IsFileOf app) (quiet c now)) later)
+    (λ c now. still app m.image next c lt clean (settled_on (IsFileOf app) (quiet c now)) later)
 
 -- ---- a call that its row leads on
 

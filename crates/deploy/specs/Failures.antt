@@ -1,9 +1,10 @@
 -- The errors of the crates below, as reasons to stop. A corrupt text is never one: the calls below that could say it
 -- say that they do not.
+use Rattle.per_base.specs.declared.faults.Fault.{Fault}
+use Rattle.per_base.specs.declared.faults.Fault.TheVariants as fault
+use Rattle.guarded_cell.specs.declared.cell.Cell.{Cell}
 use Rattle.guarded_cell.specs.declared.errors.CellError.{CellError}
 use Rattle.guarded_cell.specs.declared.errors.CellError.TheVariants as cell
-use Rattle.guarded_cell.specs.declared.errors.WriteFault.{WriteFault}
-use Rattle.guarded_cell.specs.declared.errors.WriteFault.TheVariants as write
 use Rattle.element_state.specs.declared.errors.StoreError.{StoreError}
 use Rattle.element_state.specs.declared.errors.StoreError.TheVariants as store
 use Rattle.deploy.specs.declared.errors.Stop.{Stop}
@@ -19,6 +20,6 @@ of_store store.Device = Device
 of_store store.Corrupt = OutOfMemory
 of_store store.OutOfMemory = OutOfMemory
 
-abbrev pub of_write : WriteFault → Stop
-of_write write.Device = Device
-of_write (write.OutOfMemory same) = OutOfMemory
+abbrev pub of_write : Fault Cell → Stop
+of_write fault.Device = Device
+of_write (fault.OutOfMemory same) = OutOfMemory

@@ -22,7 +22,7 @@ IfSpelled (Some s) = IsSpelled s
 pub record IsFirst (seens : List Seen) (s : Standing) : Type 0 where
   pub stands : standing_in 2 seens ≡ Some s.seen
   pub said : root_of s.seen.text ≡ Some (root_said s.says)
-  pub settled : s.settled ≡ nat_le (length seens) 1
+  pub sole : s.sole ≡ nat_le (length seens) 1
 
 -- none is found where what stands says nothing
 abbrev pub IsAmong : List Seen → Option Standing → Type 0

@@ -5,33 +5,33 @@ use Rattle.deployment_model.specs.Data.{deployment_data}
 use Rattle.deploy.specs.declared.viewing.RootView.{RootView}
 use Rattle.deploy.specs.declared.viewing.RootView.TheVariants.{Bad, Absent, Installed}
 use Rattle.deploy_laws.specs.Places.{Named}
-use Rattle.deploy_laws.specs.Apps.{ArePlaced, IsPlaced, Says, nothing, absent, installed, app_at, root_settled}
+use Rattle.deploy_laws.specs.Apps.{ArePlaced, IsPlaced, Says, nothing, absent, installed, app_at, root_sole}
 
 -- nothing counts; or nothing is installed; or these versions; and which copies lack the root, and that no other text is
 -- held
 pub data RootSeen : Type 0 where
   bad : RootSeen
-  no_version : (lacking : List ℕ) (settled : Bool) → RootSeen
-  versions : (active : Named) (previous : Option Named) (lacking : List ℕ) (settled : Bool) → RootSeen
+  no_version : (lacking : List ℕ) (sole : Bool) → RootSeen
+  versions : (active : Named) (previous : Option Named) (lacking : List ℕ) (sole : Bool) → RootSeen
 
 abbrev pub root_seen : RootView → RootSeen
 root_seen Bad = bad
-root_seen (Absent lacking settled) = no_version lacking settled
+root_seen (Absent lacking sole) = no_version lacking sole
 root_seen (Installed s) = versions (record { bank = s.bank; deployment = deployment_data s.active })
-    (option_map (λ d. record { bank = 1 - s.bank; deployment = deployment_data d }) s.previous) s.lacking s.settled
+    (option_map (λ d. record { bank = 1 - s.bank; deployment = deployment_data d }) s.previous) s.lacking s.sole
 
-abbrev pub seen_by : Says → (lacking : List ℕ) → (settled : Bool) → RootSeen
-seen_by nothing lacking settled = bad
-seen_by (absent g) lacking settled = no_version lacking settled
-seen_by (installed g active previous) lacking settled = versions active previous lacking settled
+abbrev pub seen_by : Says → (lacking : List ℕ) → (sole : Bool) → RootSeen
+seen_by nothing lacking sole = bad
+seen_by (absent g) lacking sole = no_version lacking sole
+seen_by (installed g active previous) lacking sole = versions active previous lacking sole
 
 -- what an image shows of a root
 abbrev pub seen_at : Image → ℕ → RootSeen
-seen_at image app = seen_by (app_at image app).says (app_at image app).lacking (root_settled image app)
+seen_at image app = seen_by (app_at image app).says (app_at image app).lacking (root_sole image app)
 
 -- the versions that are seen lie in their banks and keep what every deployment keeps
 abbrev pub ShowsVersions : RootSeen → Type 0
 ShowsVersions bad = ⊤
-ShowsVersions (no_version lacking settled) = ⊤
-ShowsVersions (versions active None lacking settled) = IsPlaced active
-ShowsVersions (versions active (Some previous) lacking settled) = ArePlaced active previous
+ShowsVersions (no_version lacking sole) = ⊤
+ShowsVersions (versions active None lacking sole) = IsPlaced active
+ShowsVersions (versions active (Some previous) lacking sole) = ArePlaced active previous

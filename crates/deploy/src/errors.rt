@@ -4,7 +4,8 @@ ghost use Rattle.std.specs.Prelude.{◌≡◌};
 ghost use Rattle.deploy.specs.declared.errors.Stop.{Stop};
 
 use element_state::StoreError;
-use guarded_cell::{CellError, WriteFault};
+use guarded_cell::{Cell, CellError};
+use per_base::Fault;
 use std::alloc::{AllocError, AllocFailed};
 use thiserror::Error;
 
@@ -45,15 +46,15 @@ impl From<StoreError> for Stop {
     }
 }
 
-impl From<WriteFault> for Stop {
+impl From<Fault<Cell>> for Stop {
     ghost use Rattle.deploy.specs.Failures.{of_write};
 
     ghost from_gives = { λ failed stop. stop ≡ of_write failed };
 
-    fn from(failed: WriteFault) -> Stop {
+    fn from(failed: Fault<Cell>) -> Stop {
         match failed {
-            WriteFault::Device => Stop::Device,
-            WriteFault::OutOfMemory(_) => Stop::OutOfMemory,
+            Fault::Device => Stop::Device,
+            Fault::OutOfMemory(_) => Stop::OutOfMemory,
         }
     }
 }

@@ -8,7 +8,7 @@ ghost use Rattle.disk_model.specs.Place.{IsNoSlot};
 ghost use Rattle.guarded_cell.specs.Cells.{CellAt, IsCellOf};
 ghost use Rattle.guarded_cell.specs.Stops.{FormatStops};
 ghost use Rattle.root_text.specs.RootText.{absent, root_text};
-ghost use Rattle.deploy_laws.specs.Apps.{IsCleanApp, app_at, root_settled};
+ghost use Rattle.deploy_laws.specs.Apps.{IsCleanApp, app_at, root_sole};
 ghost use Rattle.deploy_laws.specs.Places.{root_place};
 ghost use Rattle.deploy_rows.specs.Rows.{empty_app};
 ghost use Rattle.deploy.specs.Clauses.{IsNoRootSlot, Leaves};
@@ -33,7 +33,7 @@ pub fn format_all<D: Disk>(alloc: Global, disk: &mut D) -> Result<(), Stop>
     ensures apps { IsTrue D.told → OnOk result ((app : ℕ) → app < 8
         → app_at (D.medium disk.new).image app ≡ empty_app 1) }
     ensures settled { IsTrue D.told → OnOk result ((app : ℕ) → app < 8
-        → IsTrue (root_settled (D.medium disk.new).image app)) }
+        → IsTrue (root_sole (D.medium disk.new).image app)) }
     ensures clean { IsTrue D.told → OnOk result ((app : ℕ) → app < 8 → IsCleanApp app (D.medium disk.new).image) }
     ensures quiet { OnOk result (Quiet (D.medium disk.new)) }
     ensures cause { IsErrOf result Stop.Device → Rose (D.medium disk.old).faults (D.medium disk.new).faults }

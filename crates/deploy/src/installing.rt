@@ -1,7 +1,7 @@
 //! Installing a first version.
 
 ghost use Rattle.std.specs.Prelude.{◌≡◌, ◌≤◌, ◌<◌, ◌+◌, ◌⊎◌, [], ◌∷◌, Err, IfOk, IsErrOf, IsOk, IsTrue, None, Ok, OnOk};
-ghost use Rattle.std.specs.Prelude.{length, map, option_map, take};
+ghost use Rattle.std.specs.Prelude.{length, map, option_map, take, ◌≢◌};
 ghost use Rattle.std.specs.Option.{ForSome};
 ghost use Rattle.per_base.specs.Causes.{Rose};
 ghost use Rattle.per_base.specs.declared.errors.PerError.{PerError};
@@ -67,7 +67,7 @@ pub fn install<D: Disk>(
     ensures clean { IsTrue D.told → IfOk result (λ o. (o.refused ≡ None) ⊎ IsCleanApp app (D.medium disk.old).image
         → IsCleanApp app (D.medium disk.new).image) }
     ensures quiet { Quiet (D.medium disk.old) → OnOk result (Quiet (D.medium disk.new)) }
-    ensures unchanged { IfOk result (λ o. (o.refused ≡ None → ⊥) → (disk.new ≡ disk.old) × (o.root ≡ root)) }
+    ensures unchanged { IfOk result (λ o. o.refused ≢ None → (disk.new ≡ disk.old) × (o.root ≡ root)) }
     ensures early { (e : PerError) → installing now manifest.now (root_app root []) ≡ Err e → disk.new ≡ disk.old }
     ensures due { (e : PerError) → installing now manifest.now (root_app root []) ≡ Err e → TakesNoMemory e
         → IsOk result }
@@ -122,7 +122,7 @@ fn install_first<D: Disk>(
     ensures clean { IsTrue D.told → IfOk result (λ o. (o.refused ≡ None) ⊎ IsCleanApp app (D.medium disk.old).image
         → IsCleanApp app (D.medium disk.new).image) }
     ensures quiet { Quiet (D.medium disk.old) → OnOk result (Quiet (D.medium disk.new)) }
-    ensures unchanged { IfOk result (λ o. (o.refused ≡ None → ⊥)
+    ensures unchanged { IfOk result (λ o. o.refused ≢ None
         → (disk.new ≡ disk.old) × (o.root ≡ Root.Absent cell)) }
     ensures early { (e : PerError) → installing now manifest.now (root_app (Root.Absent cell) []) ≡ Err e
         → disk.new ≡ disk.old }

@@ -1,7 +1,7 @@
 //! Leaving one of two versions behind: the previous one is forgotten, or it is active again.
 
 ghost use Rattle.std.specs.Prelude.{◌≡◌, ◌≤◌, ◌<◌, ◌⊎◌, ℕ, List, [], ◌∷◌, Err, IfErr, IfNone, IfOk, IsErrOf, IsOk};
-ghost use Rattle.std.specs.Prelude.{IsTrue, None, Ok, OnOk, Result, drop, option_map, take};
+ghost use Rattle.std.specs.Prelude.{IsTrue, None, Ok, OnOk, Result, drop, option_map, take, ◌≢◌};
 ghost use Rattle.per_base.specs.Causes.{Rose};
 ghost use Rattle.per_base.specs.declared.errors.PerError.{PerError};
 ghost use Rattle.disk_model.specs.Medium.{Elapses, Quiet};
@@ -51,7 +51,7 @@ pub fn finish<D: Disk>(alloc: Global, disk: &mut D, root: Root) -> Result<Outcom
     ensures clean { IsTrue D.told → (app : ℕ) → app < 8 → RootAt D.told (D.medium disk.old).image app root
         → IsCleanApp app (D.medium disk.old).image → OnOk result (IsCleanApp app (D.medium disk.new).image) }
     ensures quiet { Quiet (D.medium disk.old) → OnOk result (Quiet (D.medium disk.new)) }
-    ensures unchanged { IfOk result (λ o. (o.refused ≡ None → ⊥) → (disk.new ≡ disk.old) × (o.root ≡ root)) }
+    ensures unchanged { IfOk result (λ o. o.refused ≢ None → (disk.new ≡ disk.old) × (o.root ≡ root)) }
     ensures early { (e : PerError) → finishing (root_app root []) ≡ Err e → disk.new ≡ disk.old }
     ensures cause { IsErrOf result Stop.Device → Rose (D.medium disk.old).faults (D.medium disk.new).faults }
     ensures device_only { IsErrOf result Stop.Device → IsOk (finishing (root_app root [])) }
@@ -109,7 +109,7 @@ pub fn rollback<D: Disk>(
     ensures clean { IsTrue D.told → (app : ℕ) → app < 8 → RootAt D.told (D.medium disk.old).image app root
         → IsCleanApp app (D.medium disk.old).image → OnOk result (IsCleanApp app (D.medium disk.new).image) }
     ensures quiet { Quiet (D.medium disk.old) → OnOk result (Quiet (D.medium disk.new)) }
-    ensures unchanged { IfOk result (λ o. (o.refused ≡ None → ⊥) → (disk.new ≡ disk.old) × (o.root ≡ root)) }
+    ensures unchanged { IfOk result (λ o. o.refused ≢ None → (disk.new ≡ disk.old) × (o.root ≡ root)) }
     ensures early { (e : PerError) → rolling_back (option_map (λ n. n.now) busy.entry) (root_app root []) ≡ Err e
         → disk.new ≡ disk.old }
 
@@ -149,7 +149,7 @@ pub(crate) fn busy_or_worn(busy: Option<&Name>, generation: u64) -> Result<Optio
         not_busy (option_map (λ n. n.now) busy.entry) (not_worn generation x) ≡ refused_or refused x) }
     ensures left { IfOk result (λ refused. IfNone refused (generation < greatest_generation)) }
     ensures due { busy.entry ≡ None → IsOk result }
-    ensures memory { IsErrOf result Stop.Device → ⊥ }
+    ensures memory { ¬ (IsErrOf result Stop.Device) }
 {
     if let Some(name) = busy {
         return Ok(Some(is_open(name)?));
@@ -163,7 +163,7 @@ pub(crate) fn busy_or_worn(busy: Option<&Name>, generation: u64) -> Result<Optio
 /// The storage is open.
 pub(crate) fn is_open(storage: &Name) -> Result<PerError, Stop>
     ensures refused { IfOk result (λ e. e ≡ PerError.ResourceBusy (Holder.Storage storage.now)) }
-    ensures memory { IsErrOf result Stop.Device → ⊥ }
+    ensures memory { ¬ (IsErrOf result Stop.Device) }
 {
     Ok(PerError::ResourceBusy {
         holder: Holder::Storage(storage.copy()?),
@@ -203,7 +203,7 @@ impl Root {
             self)) }
         ensures due { (e : PerError) → rolling_back (option_map (λ n. n.now) busy.entry) (root_app self []) ≡ Err e
             → TakesNoMemory e ⊎ (busy.entry ≡ None) → IsOk result }
-        ensures memory { IsErrOf result Stop.Device → ⊥ }
+        ensures memory { ¬ (IsErrOf result Stop.Device) }
     {
         match self {
             Root::Bad => Ok(Err(Root::Bad.refuses(PerError::IntegrityCorrupted {
@@ -248,7 +248,7 @@ impl Installed {
         ensures due { (e : PerError) → rolling_back (option_map (λ n. n.now) busy.entry)
             (root_app (Root.Installed self) []) ≡ Err e
             → TakesNoMemory e ⊎ (busy.entry ≡ None) → IsOk result }
-        ensures memory { IsErrOf result Stop.Device → ⊥ }
+        ensures memory { ¬ (IsErrOf result Stop.Device) }
     {
         let Installed {
             cell,

@@ -8,6 +8,8 @@ ghost use Rattle.disk_model.specs.Medium.{EachCase, Elapses, Quiet};
 ghost use Rattle.disk_model.specs.Place.{IsNoSlot};
 ghost use Rattle.guarded_cell.specs.Cells.{CellAt, generation_of};
 ghost use Rattle.guarded_cell.specs.Register.{IsAlone};
+ghost use Rattle.guarded_cell.specs.Seens.{IsSeenOn};
+ghost use Rattle.guarded_cell.specs.Slots.{IsSlotsOf};
 ghost use Rattle.guarded_cell.specs.Stops.{PutStops};
 ghost use Rattle.root_text.specs.RootText.{IsRoot, root_text};
 ghost use Rattle.root_text.specs.Views.{root_said};
@@ -24,7 +26,7 @@ use crate::shapes::root_place;
 use crate::standing::{Standing, find_standing};
 use deploy_laws::{deploying_stands, files_lie_apart, others_stand, roots_say, untouched_stands};
 use disk_model::Disk;
-use guarded_cell::{Cell, adopt, held_is_lawful};
+use guarded_cell::{Cell, adopt_seen, held_is_lawful};
 use manifest::said_is_kept;
 use root_text::{RootSays, one_root};
 use std::alloc::Global;
@@ -77,12 +79,12 @@ pub fn open_root<D: Disk>(alloc: Global, disk: &mut D, app: u32) -> Result<Root,
     let Some(standing) = find_standing(alloc, disk, app)? else {
         return Ok(Root::Bad);
     };
-    let root = settle_on(alloc, disk, app, standing)?;
+    let root = bring_to(alloc, disk, app, standing)?;
     Ok(root)
 }
 
 // Brings every copy of the root to the text that stands.
-fn settle_on<D: Disk>(
+fn bring_to<D: Disk>(
     alloc: Global,
     disk: &mut D,
     app: u32,
@@ -90,6 +92,10 @@ fn settle_on<D: Disk>(
 ) -> Result<Root, Stop>
     requires app { app < 8 }
     requires spelled { IsSpelled standing }
+    requires seen { IsTrue D.told
+        → IsSeenOn (D.medium disk.old).image (root_place app).first 3 standing.seen }
+    requires slots { IsTrue D.told
+        → IsSlotsOf (D.medium disk.old).image (root_place app).first 3 standing.slots }
 
     ensures root { IfOk result (RootAt D.told (D.medium disk.new).image app) }
     ensures says { IfOk result (λ root. root_says root ≡ says_by standing.seen.generation
@@ -115,14 +121,13 @@ fn settle_on<D: Disk>(
         (D.medium disk.old) (D.medium disk.new) }
     ensures time { Elapses (D.medium disk.old) (D.medium disk.new) }
 {
-    let Standing { seen, says, .. } = standing;
-    let cell = adopt(
-        alloc,
-        disk,
-        root_place(app),
-        seen.generation,
-        seen.text.as_slice(),
-    )?;
+    let Standing {
+        seen,
+        slots,
+        says,
+        ..
+    } = standing;
+    let cell = adopt_seen(alloc, disk, root_place(app), &seen, slots)?;
     Ok(Root::of(cell, says))
 }
 

@@ -1,7 +1,7 @@
 //! Making a closed storage anew: recovered, reset, or with contents that are given.
 
 ghost use Rattle.std.specs.Prelude.{◌≡◌, ◌≤◌, ◌⊎◌, IfOk, IfSome, IsErr, IsErrOf, IsSome, IsTrue, None, OnOk, Some, []};
-ghost use Rattle.std.specs.Prelude.{filter_map, length, option_map, sum_by, true};
+ghost use Rattle.std.specs.Prelude.{filter_map, length, option_map, sum_by, true, ◌≢◌};
 ghost use Rattle.std.specs.List.{AllByRecursion};
 ghost use Rattle.per_base.specs.Causes.{Rose};
 ghost use Rattle.file_core.specs.Infos as infos;
@@ -61,7 +61,7 @@ pub fn recover_storage<D: Disk>(
     ensures state { IsTrue D.told → OnOk result (store_at (D.medium disk.new).image shape.now
         ≡ after_state (store_at (D.medium disk.old).image shape.now)
         (recovering (storage_data config.now) now (store_at (D.medium disk.old).image shape.now))) }
-    ensures unchanged { IfOk result (λ refused. (refused ≡ None → ⊥)
+    ensures unchanged { IfOk result (λ refused. refused ≢ None
         → ((D.medium disk.new).image ≡ (D.medium disk.old).image)
         × ((D.medium disk.new).written ≡ (D.medium disk.old).written)) }
     ensures clean { IsTrue D.told → IfOk result (λ refused. (refused ≡ None)
@@ -118,7 +118,7 @@ pub fn reset_storage<D: Disk>(
     ensures state { IsTrue D.told → OnOk result (store_at (D.medium disk.new).image shape.now
         ≡ after_state (store_at (D.medium disk.old).image shape.now)
         (resetting (storage_data config.now) now (store_at (D.medium disk.old).image shape.now))) }
-    ensures unchanged { IfOk result (λ refused. (refused ≡ None → ⊥)
+    ensures unchanged { IfOk result (λ refused. refused ≢ None
         → ((D.medium disk.new).image ≡ (D.medium disk.old).image)
         × ((D.medium disk.new).written ≡ (D.medium disk.old).written)) }
     ensures clean { IsTrue D.told → IfOk result (λ refused. (refused ≡ None)
@@ -220,7 +220,7 @@ fn rebuild_over<D: Disk>(
     ensures state { IsTrue D.told → OnOk result (store_at (D.medium disk.new).image shape.now
         ≡ after_state (store_at (D.medium disk.old).image shape.now)
         (rebuilding (store_at (D.medium disk.old).image shape.now) contents.items)) }
-    ensures untouched { IfOk result (λ refused. (refused ≡ None → ⊥) → disk.new ≡ disk.old) }
+    ensures untouched { IfOk result (λ refused. refused ≢ None → disk.new ≡ disk.old) }
     ensures worn { is_worn_out view.now ≡ true → disk.new ≡ disk.old }
     ensures clean { IsTrue D.told → IfOk result (λ refused. (refused ≡ None)
         ⊎ IsClean shape.now (D.medium disk.old).image

@@ -1,18 +1,19 @@
 //! What stands in the place of a root, found without a change.
 
-ghost use Rattle.std.specs.Prelude.{◌≡◌, ◌<◌, IfOk, IsErrOf, IsTrue, OnOk};
+ghost use Rattle.std.specs.Prelude.{◌≡◌, ◌<◌, IfOk, IfSome, IsErrOf, IsTrue, OnOk};
 ghost use Rattle.std.specs.List.{All};
 ghost use Rattle.per_base.specs.Causes.{Rose};
 ghost use Rattle.disk_model.specs.Medium.{Elapses, IsIdle, Quiet};
 ghost use Rattle.guarded_cell.specs.Held.{held};
 ghost use Rattle.guarded_cell.specs.Seens.{IsSealable};
+ghost use Rattle.guarded_cell.specs.Slots.{IsSlotsOf};
 ghost use Rattle.deploy_laws.specs.Places.{root_place};
 ghost use Rattle.deploy.specs.Standing.{IfSpelled, IsAmong};
 
 use crate::errors::Stop;
 use crate::shapes::root_place;
 use disk_model::Disk;
-use guarded_cell::{Seen, look, standing_among};
+use guarded_cell::{Looked, Seen, Slots, look, standing_among};
 use root_text::{RootError, RootSays, read_root};
 use std::alloc::Global;
 
@@ -20,9 +21,11 @@ use std::alloc::Global;
 #[derive(Drop)]
 pub(crate) struct Standing {
     pub(crate) seen: Seen,
+    /// Which slots of the root hold a text.
+    pub(crate) slots: Slots,
     pub(crate) says: RootSays,
     /// Whether no copy holds any other text.
-    pub(crate) settled: bool,
+    pub(crate) sole: bool,
 }
 
 /// Looks for the root of an application and changes nothing. Where no two copies hold one text, or what they hold is no
@@ -34,6 +37,8 @@ pub(crate) fn find_standing<D: Disk>(
 ) -> Result<Option<Standing>, Stop>
     requires { app < 8 }
     ensures among { IsTrue D.told → IfOk result (IsAmong (held (D.medium disk.old).image (root_place app).first 3)) }
+    ensures slots { IsTrue D.told → IfOk result (λ found. IfSome found (λ s.
+        IsSlotsOf (D.medium disk.old).image (root_place app).first 3 s.slots)) }
     ensures spelled { IfOk result IfSpelled }
     ensures quiet { OnOk result (Quiet (D.medium disk.new)) }
     ensures image { (D.medium disk.new).image ≡ (D.medium disk.old).image }
@@ -44,27 +49,29 @@ pub(crate) fn find_standing<D: Disk>(
     ensures fed { IsErrOf result Stop.OutOfMemory → (D.medium disk.new).faults ≡ (D.medium disk.old).faults }
     ensures time { Elapses (D.medium disk.old) (D.medium disk.new) }
 {
-    let seens = look(alloc, disk, root_place(app))?;
-    let found = root_among(alloc, seens)?;
+    let Looked { seens, slots } = look(alloc, disk, root_place(app))?;
+    let found = root_among(alloc, seens, slots)?;
     Ok(found)
 }
 
 // The first of the texts that two copies hold, where it says a root.
-fn root_among(alloc: Global, seens: Vec<Seen>) -> Result<Option<Standing>, Stop>
+fn root_among(alloc: Global, seens: Vec<Seen>, slots: Slots) -> Result<Option<Standing>, Stop>
     requires { All IsSealable seens.items }
     ensures among { IfOk result (IsAmong seens.items) }
+    ensures slots { IfOk result (λ found. IfSome found (λ s. s.slots ≡ slots)) }
     ensures spelled { IfOk result IfSpelled }
-    ensures memory { IsErrOf result Stop.Device → ⊥ }
+    ensures memory { ¬ (IsErrOf result Stop.Device) }
 {
-    let settled = seens.len() <= 1;
+    let sole = seens.len() <= 1;
     let Some(seen) = standing_among(seens, 2) else {
         return Ok(None);
     };
     match read_root(alloc, seen.text.as_slice()) {
         Ok(says) => Ok(Some(Standing {
             seen,
+            slots,
             says,
-            settled,
+            sole,
         })),
         Err(RootError::NotARoot) => Ok(None),
         Err(RootError::OutOfMemory) => Err(Stop::OutOfMemory),

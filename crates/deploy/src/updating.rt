@@ -1,7 +1,7 @@
 //! Updates: the next version is made in the other bank, storage by storage, and then the root is written once.
 
 ghost use Rattle.std.specs.Prelude.{◌≡◌, ◌≤◌, ◌<◌, ◌-◌, ℕ, List, [], ◌∷◌, Err, IfOk, IsErrOf, IsOk, IsTrue, None, Ok};
-ghost use Rattle.std.specs.Prelude.{OnOk, length, map, option_map};
+ghost use Rattle.std.specs.Prelude.{OnOk, length, map, option_map, ◌≢◌};
 ghost use Rattle.std.specs.List.{AllByRecursion};
 ghost use Rattle.per_base.specs.Causes.{Rose};
 ghost use Rattle.per_base.specs.declared.errors.PerError.{PerError};
@@ -189,7 +189,7 @@ fn offer(
     ensures alone { IfOk result (λ offer. IfOk offer (λ version. root.now.previous ≡ None)) }
     ensures text { IfOk result (λ offer. IfOk offer (λ version. version.text ≡ manifest.now)) }
     ensures kept { IfOk result (λ offer. IfOk offer IsKept) }
-    ensures memory { IsErrOf result Stop.Device → ⊥ }
+    ensures memory { ¬ (IsErrOf result Stop.Device) }
 {
     if let Some(previous) = &root.previous {
         return Ok(Err(PerError::UpdateNotFinished {
@@ -272,8 +272,8 @@ fn begin_with<D: Disk>(
 // A want of memory is no refusal.
 fn refusal(failed: PerError) -> Result<PerError, Stop>
     ensures refused { IfOk result (λ refused. refused ≡ failed) }
-    ensures fed { IfOk result (λ refused. refused ≡ PerError.OutOfMemory → ⊥) }
-    ensures memory { IsErrOf result Stop.Device → ⊥ }
+    ensures fed { IfOk result (λ refused. refused ≢ PerError.OutOfMemory) }
+    ensures memory { ¬ (IsErrOf result Stop.Device) }
 {
     match failed {
         PerError::OutOfMemory => Err(Stop::OutOfMemory),

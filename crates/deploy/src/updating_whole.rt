@@ -1,6 +1,6 @@
 //! An update in one call.
 
-ghost use Rattle.std.specs.Prelude.{◌≡◌, ◌<◌, [], ◌∷◌, Err, IfOk, IsErrOf, IsOk, IsTrue, None, OnOk, option_map};
+ghost use Rattle.std.specs.Prelude.{◌≡◌, ◌<◌, [], ◌∷◌, Err, IfOk, IsErrOf, IsOk, IsTrue, None, OnOk, option_map, ◌≢◌};
 ghost use Rattle.per_base.specs.Causes.{Rose};
 ghost use Rattle.per_base.specs.declared.errors.PerError.{PerError};
 ghost use Rattle.disk_model.specs.Medium.{Elapses, Quiet};
@@ -57,7 +57,7 @@ pub fn update<D: Disk>(
     ensures clean { IsTrue D.told → IsCleanApp app (D.medium disk.old).image
         → OnOk result (IsCleanApp app (D.medium disk.new).image) }
     ensures quiet { Quiet (D.medium disk.old) → OnOk result (Quiet (D.medium disk.new)) }
-    ensures unchanged { IfOk result (λ o. (o.refused ≡ None → ⊥)
+    ensures unchanged { IfOk result (λ o. o.refused ≢ None
         → ((D.medium disk.new).image ≡ (D.medium disk.old).image)
         × ((D.medium disk.new).written ≡ (D.medium disk.old).written) × (o.root ≡ root)) }
     ensures early { (e : PerError) → offered (option_map (λ n. n.now) busy.entry) manifest.now (root_app root [])

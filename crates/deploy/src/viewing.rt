@@ -29,7 +29,7 @@ pub struct RootState {
     /// The copies that lack the root, counted from 1 and ascending.
     pub lacking: Numbers,
     /// Whether no copy holds any other text.
-    pub settled: bool,
+    pub sole: bool,
 }
 
 /// What is seen of a root.
@@ -42,7 +42,7 @@ pub enum RootView {
         /// The copies that lack the root, counted from 1 and ascending.
         lacking: Numbers,
         /// Whether no copy holds any other text.
-        settled: bool,
+        sole: bool,
     },
     /// A version is installed.
     Installed(RootState),
@@ -75,10 +75,11 @@ pub fn view_root<D: Disk>(alloc: Global, disk: &mut D, app: u32) -> Result<RootV
     let Standing {
         seen,
         says,
-        settled,
+        sole,
+        ..
     } = standing;
     let lacking = lacking_of(alloc, seen.copies.as_slice())?;
-    Ok(RootView::of(says, lacking, settled))
+    Ok(RootView::of(says, lacking, sole))
 }
 
 impl RootView {
@@ -87,18 +88,18 @@ impl RootView {
     ghost use Rattle.deploy.specs.Views.{seen_by};
 
     // The view of a root that says this.
-    fn of(says: RootSays, lacking: Numbers, settled: bool) -> RootView
+    fn of(says: RootSays, lacking: Numbers, sole: bool) -> RootView
         ensures { (generation : ℕ) → root_seen result ≡ seen_by (says_by generation (Some (root_said says))) lacking
-            settled }
+            sole }
     {
         match says {
-            RootSays::Absent => RootView::Absent { lacking, settled },
+            RootSays::Absent => RootView::Absent { lacking, sole },
             RootSays::Installed(bank, active, previous) => RootView::Installed(RootState {
                 bank,
                 active: active.deployment,
                 previous: previous.map(|version| version.deployment),
                 lacking,
-                settled,
+                sole,
             }),
         }
     }

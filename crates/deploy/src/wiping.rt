@@ -1,7 +1,7 @@
 //! Wiping an application.
 
 ghost use Rattle.std.specs.Prelude.{◌≡◌, ◌<◌, ◌+◌, ◌^◌, ◌⊎◌, ℕ, List, [], Err, IfErr, IfOk, IsErrOf, IsOk, IsTrue};
-ghost use Rattle.std.specs.Prelude.{None, Ok, OnOk, option_map};
+ghost use Rattle.std.specs.Prelude.{None, Ok, OnOk, option_map, ◌≢◌};
 ghost use Rattle.per_base.specs.Causes.{Rose};
 ghost use Rattle.per_base.specs.declared.errors.PerError.{PerError};
 ghost use Rattle.disk_model.specs.Frame.{Spares};
@@ -60,7 +60,7 @@ pub fn wipe<D: Disk>(
     ensures clean { IsTrue D.told → IfOk result (λ o. (o.refused ≡ None) ⊎ IsCleanApp app (D.medium disk.old).image
         → IsCleanApp app (D.medium disk.new).image) }
     ensures quiet { Quiet (D.medium disk.old) → OnOk result (Quiet (D.medium disk.new)) }
-    ensures unchanged { IfOk result (λ o. (o.refused ≡ None → ⊥) → (disk.new ≡ disk.old) × (o.root ≡ root)) }
+    ensures unchanged { IfOk result (λ o. o.refused ≢ None → (disk.new ≡ disk.old) × (o.root ≡ root)) }
     ensures early { (e : PerError) → wiping (option_map (λ n. n.now) busy.entry) (root_app root []) ≡ Err e
         → disk.new ≡ disk.old }
 
@@ -100,7 +100,7 @@ impl Root {
         ensures refused { IfOk result (λ left. IfErr left (IsRefused (wiping (option_map (λ n. n.now) busy.entry))
             self)) }
         ensures due { busy.entry ≡ None → IsOk result }
-        ensures memory { IsErrOf result Stop.Device → ⊥ }
+        ensures memory { ¬ (IsErrOf result Stop.Device) }
     {
         let Some(refused) = busy_or_worn(busy, self.generation())? else {
             return Ok(Ok(self.register()));

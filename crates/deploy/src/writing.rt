@@ -32,7 +32,7 @@ pub(crate) fn read_version(
     ensures told { IfOk result (Told (deployment_of manifest.now)) }
     ensures text { IfOk result (λ version. IfOk version (λ v. v.text ≡ manifest.now)) }
     ensures kept { IfOk result (λ version. IfOk version IsKept) }
-    ensures memory { IsErrOf result Stop.Device → ⊥ }
+    ensures memory { ¬ (IsErrOf result Stop.Device) }
 {
     said_is_kept();
     let deployment = match read_manifest(alloc, manifest) {

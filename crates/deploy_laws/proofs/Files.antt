@@ -7,7 +7,7 @@ use Rattle.disk_model.specs.Image.{Image}
 use Rattle.disk_model.specs.Case.{Case}
 use Rattle.disk_model.specs.Frame.{Spares, IsSettledOn}
 use Rattle.disk_model.specs.Place.{IsNoSlot, IsOutside}
-use Rattle.disk_model.proofs.Frames.{settled_less}
+use Rattle.disk_model.specs.lemmas.Frames.{settled_less}
 use Rattle.deployment_model.specs.Data.{StorageData}
 use Rattle.deployment_model.specs.Conditions.{IsStorage}
 use Rattle.element_state.specs.declared.shapes.Shape.{Shape}

@@ -8,7 +8,7 @@ use Rattle.std.proofs.lemmas.List.{length-map}
 use Rattle.disk_model.specs.Image.{Image}
 use Rattle.disk_model.specs.Case.{Case}
 use Rattle.disk_model.specs.Frame.{IsSettledOn, Spares}
-use Rattle.disk_model.proofs.Frames.{settled_less}
+use Rattle.disk_model.specs.lemmas.Frames.{settled_less}
 use Rattle.deployment_model.specs.Conditions.{IsStorage}
 use Rattle.deployment_model.specs.Data.{StorageData}
 use Rattle.element_state.specs.declared.shapes.Shape.{Shape}

@@ -77,8 +77,8 @@ app_at image app = record {
 }
 
 -- no text is held in the root's place beside the one that stands
-abbrev pub root_settled : Image → ℕ → Bool
-root_settled image app = nat_le (length (held image (root_place app).first 3)) 1
+abbrev pub root_sole : Image → ℕ → Bool
+root_sole image app = nat_le (length (held image (root_place app).first 3)) 1
 
 -- ---- versions
 

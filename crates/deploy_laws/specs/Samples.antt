@@ -28,7 +28,7 @@ use Rattle.root_text.specs.RootText.{Root, root_of, root_in}
 use Rattle.root_text.specs.RootText as text
 use Rattle.deploy_laws.specs.Places.{shape_of}
 use Rattle.deploy_laws.specs.Apps.{Says, nothing, absent, installed, App, says_by, says_at, app_at, shapes_named}
-use Rattle.deploy_laws.specs.Apps.{root_settled}
+use Rattle.deploy_laws.specs.Apps.{root_sole}
 use Rattle.deploy_laws.specs.Laws.{AloneLaw}
 
 -- all that the samples compute with
@@ -75,7 +75,7 @@ next_in_one : app_at (beside (0 ∷ []) (absent_in 2)) 0 ≡ without (absent 1) 
 unfolding computed
 next_in_one = refl
 
-not_settled : root_settled (beside (0 ∷ []) (absent_in 2)) 0 ≡ false
+not_settled : root_sole (beside (0 ∷ []) (absent_in 2)) 0 ≡ false
 unfolding computed
 not_settled = refl
 
@@ -159,7 +159,7 @@ abbrev seen : Content → (lacking : List ℕ) → View
 seen content lacking = record {
   generation = 2;
   lacking = lacking;
-  settled = true;
+  sole = true;
   entries = record { name = codes "home"; info = None; changed = 2; len = 3; content = content; lacking = lacking }
       ∷ [];
 }

@@ -1,6 +1,6 @@
 -- What a call makes of an application: the application after it, or the refusal.
 use Rattle.std.specs.Prelude.{◌≡◌, ◌⊎◌, ℕ, ◌+◌, ◌-◌, List, [], ◌∷◌, ◌++◌, length, map, take, drop, nat_le, cond, Option}
-use Rattle.std.specs.Prelude.{Some, None, Result, Ok, Err, ⊤}
+use Rattle.std.specs.Prelude.{Some, None, Result, Ok, Err, ⊤, IsErrOf}
 use Rattle.per_base.specs.declared.elements.Cause.TheVariants as cause
 use Rattle.per_base.specs.declared.elements.Fresh.{Fresh}
 use Rattle.per_base.specs.declared.errors.PerError.{PerError}
@@ -168,7 +168,7 @@ begun o plan = plan >>= (λ contents. not_worn o.generation
 
 abbrev pub BeginsWith : List Rule → fns.Answers → (now : ℕ) → List State → Result Offer PerError
     → Result InProgress PerError → Type 0
-BeginsWith rules answers now states (Err e) result = result ≡ Err e
+BeginsWith rules answers now states (Err e) result = IsErrOf result e
 BeginsWith rules answers now states (Ok o) result = (plan : Result (List (List Fresh)) PerError)
     × PlansAll rules answers now (stored_for o.active.deployment (stored_in o.active.deployment.storages states))
     o.deployment.storages plan

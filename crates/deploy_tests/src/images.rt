@@ -70,8 +70,8 @@ fn sealed(alloc: Global, generation: u64, text: &[u8]) -> Result<Vec<u8>, Fault>
 pub fn wear(alloc: Global, disk: &mut MemDisk, rest: &str) -> Result<(), Fault> {
     let (first, copies) = cut(rest, ':');
     let place = place_of(small(first)?, small(copies)?)?;
-    let seens = look(alloc, disk, place)?;
-    let Some(seen) = seens.first() else {
+    let looked = look(alloc, disk, place)?;
+    let Some(seen) = looked.seens.first() else {
         return Err(Fault::NoCase);
     };
     let sealed = sealed(alloc, u64::MAX, seen.text.as_slice())?;

@@ -72,8 +72,8 @@ pub fn viewed(alloc: Global, disk: &mut MemDisk, app: u32, said: &mut String) ->
 fn view_text(alloc: Global, view: &RootView) -> Result<String, Fault> {
     match view {
         RootView::Bad => Ok(text(alloc, "bad")?),
-        RootView::Absent { lacking, settled } => {
-            let copies = copies_text(alloc, lacking, *settled)?;
+        RootView::Absent { lacking, sole } => {
+            let copies = copies_text(alloc, lacking, *sole)?;
             Ok(format!(in alloc; "absent{copies}")?)
         }
         RootView::Installed(state) => state_text(alloc, state),
@@ -81,7 +81,7 @@ fn view_text(alloc: Global, view: &RootView) -> Result<String, Fault> {
 }
 
 fn state_text(alloc: Global, state: &RootState) -> Result<String, Fault> {
-    let copies = copies_text(alloc, &state.lacking, state.settled)?;
+    let copies = copies_text(alloc, &state.lacking, state.sole)?;
     let active = state.active.version;
     let bank = state.bank;
     match &state.previous {
@@ -94,14 +94,14 @@ fn state_text(alloc: Global, state: &RootState) -> Result<String, Fault> {
 }
 
 // Behind a comma each, the copies that lack the root, and that another text is held.
-fn copies_text(alloc: Global, lacking: &Numbers, settled: bool) -> Result<String, Fault> {
+fn copies_text(alloc: Global, lacking: &Numbers, sole: bool) -> Result<String, Fault> {
     let mut said = String::new(alloc);
     if !lacking.as_slice().is_empty() {
         let copies = numbers_text(alloc, lacking.as_slice())?;
         said.push_str(", lacking in ")?;
         said.push_str(copies.as_str())?;
     }
-    if !settled {
+    if !sole {
         said.push_str(", unsettled")?;
     }
     Ok(said)

@@ -1,4 +1,3 @@
-pub mod Moments
 pub mod Puts
 pub mod Records
 pub mod Synced
@@ -7,5 +6,3 @@ pub mod Pushed
 pub mod Answering
 pub mod Ordered
 pub mod Outcomes
-pub mod Frames
-pub mod Places

@@ -1,6 +1,6 @@
 //! Reading an export from its text.
 
-ghost use Rattle.std.specs.Prelude.{◌≡◌, ◌≢◌, IfOk};
+ghost use Rattle.std.specs.Prelude.{◌≡◌, ◌≢◌, IfOk, IsErrOf};
 ghost use Rattle.per_base.specs.Fields.{many};
 ghost use Rattle.export_text.specs.declared.exports.Export.{Export};
 ghost use Rattle.export_text.specs.Exports.{IsExport, body_hashed, body_read, export_by, export_of, export_text};
@@ -26,7 +26,7 @@ pub fn read_export(alloc: Global, bytes: &[u8]) -> Result<Export, ExportError>
     ensures spelled { IfOk result (λ x. bytes.now ≡ export_text x) }
 
     // What is refused is the text of no export.
-    ensures refused { result ≡ Err ExportError.NotAnExport
+    ensures refused { IsErrOf result ExportError.NotAnExport
         → (x : Export) → IsExport x → bytes.now ≢ export_text x }
 
     // Which export it is, as a function of the bytes.

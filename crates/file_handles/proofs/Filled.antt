@@ -31,8 +31,8 @@ use Rattle.file_handles.specs.Opening.{would_fit}
 use Rattle.file_handles.specs.Sessions.{Handles, Session, blocking, free_number, handle_at, open_at, room_for}
 use Rattle.file_handles.specs.Sessions.{with_handle, without_handle}
 use Rattle.file_handles.specs.Whole.{and_then, put, released, truncating}
-use Rattle.file_handles.proofs.Asked.{handle_there, no_place, put_is, refused_ok, same_others, writer_allowed}
-use Rattle.file_handles.proofs.Opens.{allowed, put_removed, put_there}
+use Rattle.file_handles.specs.lemmas.Asked.{handle_there, no_place, put_is, refused_ok, same_others, writer_allowed}
+use Rattle.file_handles.specs.lemmas.Opens.{allowed, put_removed, put_there}
 
 -- ---- the file as the opening leaves it
 

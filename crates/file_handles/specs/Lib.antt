@@ -4,3 +4,4 @@ pub mod Opening
 pub mod Sessions
 pub mod Tables
 pub mod Whole
+pub mod lemmas

@@ -55,7 +55,7 @@ impl FileTable {
         ensures moment { OnOk result (self.new.moment ≡ now) }
     {
         whole_contents_are_given();
-        self.holds();
+        self.invariants();
         if let Err(error) = self.can_open(name, OpenKind::Write, OpenMode::TRUNCATE) {
             return Err(error);
         }

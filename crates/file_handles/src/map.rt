@@ -24,7 +24,7 @@ use std::alloc::Global;
 use std::collections::BTreeMap;
 
 /// Puts the handle of this number at another place.
-#[tactic(auto, using(crate::proofs::Entries::handle_set))]
+#[tactic(auto, using(crate::specs::lemmas::Entries::handle_set))]
 pub fn set_cursor(handles: &mut BTreeMap<u32, Handle>, number: u32, cursor: Cursor)
     requires { IsSome (handle_at handles.old.entries number) }
     ensures moved { (handle : Handle) → handle_at handles.old.entries number ≡ Some handle
@@ -37,7 +37,7 @@ pub fn set_cursor(handles: &mut BTreeMap<u32, Handle>, number: u32, cursor: Curs
 }
 
 /// The length of the file of this name, or 0.
-#[tactic(auto, using(crate::proofs::Entries::len_fits))]
+#[tactic(auto, using(crate::specs::lemmas::Entries::len_fits))]
 pub fn len_of(files: &BTreeMap<Name, File>, name: &Name) -> u64
     ensures len { (file : Element) → element_at files.now.entries name.now ≡ Some file → result ≡ file.len }
     ensures fits { result ≤ size_of files.now.entries }
@@ -49,7 +49,7 @@ pub fn len_of(files: &BTreeMap<Name, File>, name: &Name) -> u64
 }
 
 /// Writes a piece into the readable file of this name, and gives its new length.
-#[tactic(auto, using(crate::proofs::Entries::file_set, crate::proofs::Entries::size_set, std::proofs::lemmas::Map::Steps::set_value_same))]
+#[tactic(auto, using(crate::specs::lemmas::Entries::file_set, crate::specs::lemmas::Entries::size_set, std::proofs::lemmas::Map::Steps::set_value_same))]
 pub fn write_file(
     files: &mut BTreeMap<Name, File>,
     name: &Name,
@@ -90,7 +90,7 @@ pub fn write_file(
 }
 
 /// Cuts the readable file of this name, and gives its new length.
-#[tactic(auto, using(crate::proofs::Entries::file_set, crate::proofs::Entries::size_set, std::proofs::lemmas::Map::Steps::set_value_same))]
+#[tactic(auto, using(crate::specs::lemmas::Entries::file_set, crate::specs::lemmas::Entries::size_set, std::proofs::lemmas::Map::Steps::set_value_same))]
 pub fn cut_file(
     files: &mut BTreeMap<Name, File>,
     name: &Name,
@@ -138,7 +138,7 @@ fn reopen(alloc: Global, file: &mut File, read_only: bool, mode: OpenMode, now: 
 }
 
 /// Opens the file of this name at a moment, and empties it where the flags say so; a read-only storage keeps it.
-#[tactic(auto, using(crate::proofs::Entries::file_set))]
+#[tactic(auto, using(crate::specs::lemmas::Entries::file_set))]
 pub fn reopen_file(
     alloc: Global,
     files: &mut BTreeMap<Name, File>,
@@ -210,7 +210,7 @@ pub fn opened_len(before: u64, read_only: bool, mode: OpenMode) -> u64
 }
 
 /// Adds a file under a name that is missing, and a handle on it: both, or neither where memory is wanting.
-#[tactic(auto, using(crate::proofs::Opens::file_put_removed))]
+#[tactic(auto, using(crate::specs::lemmas::Opens::file_put_removed))]
 pub fn add_file_and_handle(
     files: &mut BTreeMap<Name, File>,
     handles: &mut BTreeMap<u32, Handle>,
@@ -257,7 +257,7 @@ pub fn empty_file(alloc: Global, now: u64) -> File
 }
 
 /// The number of bytes of a name.
-#[tactic(auto, using(crate::proofs::Entries::name_fits))]
+#[tactic(auto, using(crate::specs::lemmas::Entries::name_fits))]
 pub fn name_len(name: &Name) -> u64
     ensures exact { result ≡ length name.now }
     ensures small { result ≤ 255 }
@@ -266,7 +266,7 @@ pub fn name_len(name: &Name) -> u64
 }
 
 /// Makes the salvage of an unreadable file its content, where there is a salvage; its length stays.
-#[tactic(auto, using(crate::proofs::Named::salvage_len))]
+#[tactic(auto, using(crate::specs::lemmas::Named::salvage_len))]
 fn recover(file: &mut File, now: u64) -> bool
     ensures recovered { OnTrue result (file.new ≡ salvaged now file.old) }
     ensures some { OnTrue result (HasSalvage file.old.content) }
@@ -281,7 +281,7 @@ fn recover(file: &mut File, now: u64) -> bool
 
 /// Makes the salvage of the file of this name its content, where it is unreadable and there is a salvage; its length
 /// stays.
-#[tactic(auto, using(crate::proofs::Entries::file_set, crate::proofs::Entries::size_set, std::proofs::lemmas::Map::Steps::set_value_same))]
+#[tactic(auto, using(crate::specs::lemmas::Entries::file_set, crate::specs::lemmas::Entries::size_set, std::proofs::lemmas::Map::Steps::set_value_same))]
 pub fn recover_in(files: &mut BTreeMap<Name, File>, name: &Name, now: u64) -> bool
     ensures recovered { OnTrue result ((old : Element) → element_at files.old.entries name.now ≡ Some old
         → files.new.entries ≡ with_element files.old.entries name.now (salvaged now old)) }
@@ -302,7 +302,7 @@ pub fn recover_in(files: &mut BTreeMap<Name, File>, name: &Name, now: u64) -> bo
 }
 
 /// Gives the file of this name other bytes.
-#[tactic(auto, using(crate::proofs::Entries::file_set))]
+#[tactic(auto, using(crate::specs::lemmas::Entries::file_set))]
 pub fn replace_in(
     files: &mut BTreeMap<Name, File>,
     name: &Name,

@@ -64,7 +64,7 @@ impl FileTable {
     /// # Errors
     ///
     /// Those of `can_open`, then `OutOfStorageSpace` where an empty file of a missing name would exceed the maximum.
-    #[tactic(auto, using(crate::proofs::Opens::refused_first, crate::proofs::Opens::refused_space))]
+    #[tactic(auto, using(crate::specs::lemmas::Opens::refused_first, crate::specs::lemmas::Opens::refused_space))]
     pub fn open_file(
         &mut self,
         name: &Name,
@@ -166,7 +166,7 @@ impl FileTable {
     }
 
     /// What refuses to create an empty file of a missing name.
-    #[tactic(auto, using(crate::proofs::Entries::name_fits))]
+    #[tactic(auto, using(crate::specs::lemmas::Entries::name_fits))]
     fn no_room_to_create(&self, name: &Name) -> Option<PerError>
         ensures { result ≡ opening.no_room_to_create self.now.storage self.now.session.files name.now }
     {
@@ -201,7 +201,7 @@ impl FileTable {
     }
 
     /// What all else takes beside the content of this name, and what the storage is allowed.
-    #[tactic(auto, using(crate::proofs::Entries::len_fits, crate::proofs::Entries::name_fits))]
+    #[tactic(auto, using(crate::specs::lemmas::Entries::len_fits, crate::specs::lemmas::Entries::name_fits))]
     pub(crate) fn room_for(&self, name: &Name) -> Room
         ensures room { result ≡ room_for self.now.session.files name.now self.now.storage.maximum }
         ensures bounded { result.others ≤ 2 ^ 32 }

@@ -60,7 +60,7 @@ impl FileTable {
     }
 
     /// The same of a file that is there and has no handle.
-    #[tactic(auto, using(crate::proofs::Named::recovers_good, crate::proofs::Named::recovers_salvage, crate::proofs::Named::recovers_initial, crate::proofs::Named::recovers_none))]
+    #[tactic(auto, using(crate::specs::lemmas::Named::recovers_good, crate::specs::lemmas::Named::recovers_salvage, crate::specs::lemmas::Named::recovers_initial, crate::specs::lemmas::Named::recovers_none))]
     fn recover_free(
         &mut self,
         name: &Name,
@@ -245,7 +245,7 @@ impl FileTable {
     }
 
     /// Takes a file without a handle away.
-    #[tactic(auto, using(crate::proofs::Entries::len_fits))]
+    #[tactic(auto, using(crate::specs::lemmas::Entries::len_fits))]
     pub(crate) fn vanish(&mut self, name: &Name)
         requires free { opening.busy (blocking OpenKind.Write name.now self.old.session.handles) ≡ None }
         requires there { IsTrue (has self.old.session.files name.now) }

@@ -80,8 +80,8 @@ impl FileTable {
 
     /// What always holds of a table: among it, that a new handle gets the lowest number from 1 that no handle has, and
     /// that a number is not open just where no handle has it.
-    #[tactic(auto, using(crate::proofs::Numbers::lower_are_taken, crate::proofs::Numbers::lowest_is_free, crate::proofs::Sound::closed_without_handle))]
-    pub fn holds(&self)
+    #[tactic(auto, using(crate::specs::lemmas::Numbers::lower_are_taken, crate::specs::lemmas::Numbers::lowest_is_free, crate::specs::lemmas::Sound::closed_without_handle))]
+    pub fn invariants(&self)
         ensures table { IsTable self.now.storage self.now.session.files self.now.session.handles }
         ensures taken { (number : ℕ) → 1 ≤ number → number < free_number self.now.session.handles
             → IsSome (handle_at self.now.session.handles number) }
@@ -114,7 +114,7 @@ impl FileTable {
     }
 
     /// The lowest open handle of all. Takes no memory.
-    #[tactic(auto, using(crate::proofs::Numbers::lowest_first, crate::proofs::Numbers::lowest_none))]
+    #[tactic(auto, using(crate::specs::lemmas::Numbers::lowest_first, crate::specs::lemmas::Numbers::lowest_none))]
     pub fn lowest_handle(&self) -> Option<u32>
         ensures { result ≡ lowest self.now.session.handles }
     {

@@ -32,8 +32,8 @@ use Rattle.file_handles.specs.Handling as calls
 use Rattle.file_handles.specs.Opening as opening
 use Rattle.file_handles.specs.ByName as named
 use Rattle.file_handles.specs.Tables.{Table}
-use Rattle.file_handles.proofs.Lookups.{file_put, file_gone}
-use Rattle.file_handles.proofs.Opens.{first_none, when_none}
+use Rattle.file_handles.specs.lemmas.Lookups.{file_put, file_gone}
+use Rattle.file_handles.specs.lemmas.Opens.{first_none, when_none}
 use Rattle.deployment_model.specs.Data.{StorageData}
 use Rattle.element_store.specs.declared.store.Store.{Store}
 use Rattle.file_storage.proofs.Others.{others_moved, others_opened, gone_none}

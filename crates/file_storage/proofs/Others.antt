@@ -14,7 +14,7 @@ use Rattle.std.proofs.lemmas.Map.Entries.{none_below_head}
 use Rattle.std.proofs.lemmas.Map.Keys.{sorted_tail}
 use Rattle.file_handles.specs.declared.handle.Handle.{Handle}
 use Rattle.file_handles.specs.Sessions.{Handles, handle_at, with_handle, without_handle}
-use Rattle.file_handles.proofs.Opens.{put_removed}
+use Rattle.file_handles.specs.lemmas.Opens.{put_removed}
 
 -- an entry that is put in the place of another, and removed, leaves what is left without the other
 put_there : {K X : Type 0} {R : K → K → Ordering} → IsTotalOrder R → (k : K) (es : List (K × X)) (w v : X)

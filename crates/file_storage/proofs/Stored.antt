@@ -42,7 +42,7 @@ use Rattle.element_store.specs.Stores.{entries_of, shape_of, view_in}
 use Rattle.element_maps.specs.Laws.{UntestedLaw}
 use Rattle.element_maps.specs.Storages.{IsConfigured, IsOpened}
 use Rattle.file_storage.specs.FileSessions.{stored_in}
-use Rattle.element_maps.proofs.InOrder.{Above}
+use Rattle.element_maps.specs.lemmas.InOrder.{Above}
 use Rattle.file_storage.specs.StoredFiles.{IsStoredFile}
 
 -- ---- entries are files

@@ -14,10 +14,11 @@ use Rattle.per_base.specs.declared.errors.PerError.{PerError}
 use Rattle.per_base.specs.Maps as maps
 use Rattle.per_base.specs.Maps.{Map, element_at, names_of}
 use Rattle.per_base.specs.Names.{name_cmp}
+use Rattle.per_base.specs.declared.elements.Change.{Change}
 use Rattle.disk_model.specs.Frame.{IsSettledOn, Spares}
 use Rattle.disk_model.specs.Medium.{EachCase, Elapses, Medium, Quiet, IsLawful}
 use Rattle.disk_model.specs.Place.{IsOutside}
-use Rattle.disk_model.proofs.Moments.{elapses_none}
+use Rattle.disk_model.specs.Laws.{elapses_none}
 use Rattle.file_core.specs.Files as core
 use Rattle.file_core.specs.Files.{IsFile, is_good}
 use Rattle.file_handles.specs.Opening as opening
@@ -27,7 +28,6 @@ use Rattle.file_handles.specs.declared.storage.Storage.{Storage}
 use Rattle.index_text.specs.Rules.{has_info, max_len}
 use Rattle.index_text.specs.Spelling.{index_text}
 use Rattle.deployment_model.specs.Data.{StorageData}
-use Rattle.element_state.specs.declared.shapes.Change.{Change}
 use Rattle.element_state.specs.declared.shapes.Shape.{Shape}
 use Rattle.element_state.specs.declared.shapes.View.{View}
 use Rattle.element_state.specs.Changes.{committed, committed_by}
@@ -43,13 +43,13 @@ use Rattle.element_maps.specs.Differences.{MakeInto}
 use Rattle.element_maps.specs.Laws.{CommittedLaw, CostLaw, DecidesLaw, HeldLaw, OthersLaw, UntestedLaw}
 use Rattle.element_maps.specs.Sessions.{IsHeld, IsSync, Passes}
 use Rattle.element_maps.specs.Storages.{IsConfigured, IsDurable, IsStoring, KeepsEqual}
-use Rattle.element_maps.proofs.Names.{same_names}
-use Rattle.element_maps.proofs.Same.{both, same_is}
+use Rattle.element_maps.specs.lemmas.Names.{same_names}
+use Rattle.element_maps.specs.lemmas.Same.{both, same_is}
 use Rattle.element_store.specs.declared.store.Store.{Store}
 use Rattle.element_store.specs.Changing.{KeepsOthers}
 use Rattle.element_store.specs.Committing.{index_in, index_length}
 use Rattle.element_store.specs.Stores.{IsUsed, entries_of, shape_of, view_in}
-use Rattle.element_store.proofs.CommitKept.{none_around, none_kept}
+use Rattle.element_laws.specs.lemmas.Untouched.{none_around, none_kept}
 use Rattle.file_storage.specs.FileSessions.{AreAsStored, FileSession, IsOpen, storage_of, stored_in}
 use Rattle.file_storage.specs.Syncs.{IsSynced, WritesAtMost, is_synced, synced_view, worn}
 use Rattle.file_storage.specs.Walks.{walked}

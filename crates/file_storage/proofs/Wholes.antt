@@ -9,7 +9,7 @@ use Rattle.file_handles.specs.Handling.{write}
 use Rattle.file_handles.specs.Opening.{can_open, open_file, would_fit}
 use Rattle.file_handles.specs.Sessions.{Session}
 use Rattle.file_handles.specs.Whole.{and_then, bytes_at, cat, plain, put, released, truncating}
-use Rattle.file_handles.proofs.Asked.{refused_ok}
+use Rattle.file_handles.specs.lemmas.Asked.{refused_ok}
 use Rattle.file_storage.proofs.Keeping.{Keeps, keeps_same, open_opens, write_changes}
 
 -- an answer made of an answer: what was made first, and then

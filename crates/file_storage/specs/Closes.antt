@@ -3,8 +3,6 @@ use Rattle.std.specs.Prelude.{◌≡◌, ⊤}
 use Rattle.per_base.specs.declared.errors.PerError.{PerError}
 use Rattle.file_storage.specs.declared.syncing.Closed.{Closed}
 use Rattle.file_storage.specs.declared.syncing.Closed.TheVariants.{Done, Refused}
-use Rattle.file_storage.specs.declared.syncing.FilesFault.{FilesFault}
-use Rattle.file_storage.specs.declared.syncing.FilesFault.TheVariants.{Device, OutOfMemory}
 use Rattle.file_storage.specs.FileSessions.{FileSession}
 
 -- this holds where the storage was closed, and that of the session and the error where it was refused
@@ -15,13 +13,3 @@ MatchClosed (Refused files error) P Q = Q files error
 -- it was closed, and then this holds
 abbrev pub OnDone : Closed → Type 0 → Type 0
 OnDone closed P = MatchClosed closed P (λ files error. ⊤)
-
--- a want of memory hands the session back, and then this holds
-abbrev pub HandsBack : FileSession → FilesFault → Type 0 → Type 0
-HandsBack s Device P = ⊤
-HandsBack s (OutOfMemory same) P = (same ≡ s) × P
-
--- a failure of the device
-abbrev pub IsDeviceFault : FilesFault → Type 0
-IsDeviceFault Device = ⊤
-IsDeviceFault (OutOfMemory files) = ⊥

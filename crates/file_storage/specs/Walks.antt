@@ -5,8 +5,8 @@ use Rattle.std.specs.Ordering.{match_ordering}
 use Rattle.per_base.specs.declared.elements.Element.{Element}
 use Rattle.per_base.specs.Maps.{Map}
 use Rattle.per_base.specs.Names.{name_cmp}
-use Rattle.element_state.specs.declared.shapes.Change.{Change}
-use Rattle.element_state.specs.declared.shapes.Change.TheVariants.{Remove}
+use Rattle.per_base.specs.declared.elements.Change.{Change}
+use Rattle.per_base.specs.declared.elements.Change.TheVariants.{Remove}
 use Rattle.element_maps.specs.Differences.{arrival, put}
 
 abbrev pub removed : List ℕ × Element → Change

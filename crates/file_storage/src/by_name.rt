@@ -87,7 +87,7 @@ impl Files {
         ensures beside { self.new ≡ record self.old { session = self.new.session } }
         ensures unchanged { OnErr result (self.new ≡ self.old) }
     {
-        self.table.holds();
+        self.table.invariants();
         self.table.delete_file(name)
     }
 
@@ -114,7 +114,7 @@ impl Files {
         ensures unchanged { OnErr result (self.new ≡ self.old) }
     {
         let initial = initial_content(&self.config, name);
-        self.table.holds();
+        self.table.invariants();
         self.table.recover_file(name, now, initial)
     }
 

@@ -12,9 +12,8 @@ ghost use Rattle.element_maps.specs.Sessions.{same_map};
 ghost use Rattle.file_storage.specs.FileSessions.{AreAsStored};
 ghost use Rattle.file_storage.specs.Walks.{walked};
 
-use element_state::Change;
 use file_core::File;
-use per_base::{Bytes, Content, Entry, FileInfo, Fresh, Name};
+use per_base::{Bytes, Change, Content, Entry, FileInfo, Fresh, Name};
 use std::alloc::{AllocError, Global};
 use std::cmp::Ordering;
 use std::collections::BTreeMap;

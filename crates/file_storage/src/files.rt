@@ -49,11 +49,11 @@ impl Model for Files {
 
 impl Files {
     /// What always holds of an open storage.
-    pub fn holds(&self)
+    pub fn invariants(&self)
         ensures table { IsTable (storage_of self.now.config) self.now.session.files self.now.session.handles }
         ensures configured { IsConfigured kinds.Files self.now.config (shape_of self.now.store) }
         ensures unreadable { AreAsStored (stored_in self.now.store) self.now.session.files }
     {
-        self.table.holds();
+        self.table.invariants();
     }
 }

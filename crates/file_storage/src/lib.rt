@@ -25,4 +25,4 @@ mod whole;
 pub use files::Files;
 pub use opening::{OpenedFiles, open_files};
 pub use scoped::Scoped;
-pub use syncing::{Closed, FilesFault, FilesOutcome};
+pub use syncing::{Closed, FilesOutcome};

@@ -48,7 +48,7 @@ impl Files {
         ensures memory { IfErr result (λ error. error ≡ PerError.OutOfMemory
             → NeedsMemory (opening.open_file (storage_of self.old.config) self.old.session name.now kind mode now)) }
     {
-        self.table.holds();
+        self.table.invariants();
         let handle = self.open_file(name, kind, mode, now)?;
         Ok(Scoped {
             files: self,
@@ -62,7 +62,7 @@ impl Files {
     fn release(&mut self, handle: u32)
         ensures { self.new ≡ closed self.old handle }
     {
-        self.table.holds();
+        self.table.invariants();
         let _closed = self.close(handle);
     }
 }
@@ -87,7 +87,7 @@ impl<'a> Scoped<'a> {
             ≡ without_handle self.old.files.now.session.handles self.old.handle }
         ensures unchanged { OnErr result (self.new.files.now ≡ self.old.files.now) }
     {
-        self.files.holds();
+        self.files.invariants();
         self.files.read_all(self.handle)
     }
 
@@ -115,7 +115,7 @@ impl<'a> Scoped<'a> {
             ≡ without_handle self.old.files.now.session.handles self.old.handle }
         ensures unchanged { OnErr result (self.new.files.now ≡ self.old.files.now) }
     {
-        self.files.holds();
+        self.files.invariants();
         self.files.write(self.handle, bytes)
     }
 }

@@ -3,6 +3,7 @@
 ghost use Rattle.std.specs.Prelude.{◌≡◌, [], IsTrue, IfOk, IfErr, Some, None, IsSome, true, false, length, List, ℕ};
 ghost use Rattle.std.specs.Prelude.{◌<◌};
 ghost use Rattle.per_base.specs.Causes.{Rose};
+ghost use Rattle.per_base.specs.Faults.{HandsBack, IsDeviceFault};
 ghost use Rattle.guarded_cell.specs.Register.{IsAlone};
 ghost use Rattle.index_text.specs.Spelling.{index_text};
 ghost use Rattle.element_state.specs.States.{Opens, greatest_generation, store_at};
@@ -11,7 +12,7 @@ ghost use Rattle.element_maps.specs.Sessions.{IsSync};
 ghost use Rattle.element_maps.specs.Storages.{IsDurable, IsStoring, KeepsEqual};
 ghost use Rattle.element_store.specs.Committing.{index_in, index_length};
 ghost use Rattle.element_store.specs.Stores.{IsStore, IsUsed, shape_of, view_in};
-ghost use Rattle.file_storage.specs.Closes.{HandsBack, IsDeviceFault, MatchClosed, OnDone};
+ghost use Rattle.file_storage.specs.Closes.{MatchClosed, OnDone};
 ghost use Rattle.file_storage.specs.FileSessions.{stored_in};
 ghost use Rattle.file_storage.specs.Syncs.{IsSynced, WritesAtMost, close_refused, is_synced, sync_refused, synced_view};
 ghost use Rattle.file_storage.specs.Syncs.{worn};
@@ -21,10 +22,8 @@ use crate::files::Files;
 use disk_model::Disk;
 use element_laws::untouched_is_kept;
 use element_maps::{changes_make_maps, syncs_are_decided, views_are_maps};
-use element_state::Change;
-use element_store::CommitFault;
 use file_core::writes;
-use per_base::{Holder, Limit, PerError};
+use per_base::{Change, Fault, Holder, Limit, PerError};
 use std::alloc::AllocError;
 
 /// What a sync gives back.
@@ -33,15 +32,6 @@ pub struct FilesOutcome {
     pub files: Files,
     /// Why nothing was made durable.
     pub refused: Option<PerError>,
-}
-
-/// Why making the working files durable gave up.
-#[derive(Drop)]
-pub enum FilesFault {
-    /// The disk failed, and the storage is closed.
-    Device,
-    /// Want of memory hands the storage back, and nothing was written.
-    OutOfMemory(Files),
 }
 
 /// Whether the storage was closed.
@@ -69,7 +59,7 @@ impl Files {
         self,
         disk: &mut D,
         handle: u32,
-    ) -> Result<FilesOutcome, FilesFault>
+    ) -> Result<FilesOutcome, Fault<Files>>
         requires { IsUsed D.told (D.medium disk.old).image self.store }
 
         // What is due is given: a refusal hands all back, and where nothing differs nothing happens.
@@ -136,7 +126,7 @@ impl Files {
     /// # Errors
     ///
     /// `OutOfMemory` hands the storage back before any call of the disk. `Device` closes it.
-    pub fn close_storage<D: Disk>(self, disk: &mut D) -> Result<Closed, FilesFault>
+    pub fn close_storage<D: Disk>(self, disk: &mut D) -> Result<Closed, Fault<Files>>
         requires { IsUsed D.told (D.medium disk.old).image self.store }
 
         // What is due is given: a refusal hands all back, and where nothing differs the disk is not called.
@@ -179,7 +169,7 @@ impl Files {
     }
 
     /// Makes the working files durable, where a generation is left or nothing differs.
-    fn made_durable<D: Disk>(self, disk: &mut D) -> Result<Files, FilesFault>
+    fn made_durable<D: Disk>(self, disk: &mut D) -> Result<Files, Fault<Files>>
         requires used { IsUsed D.told (D.medium disk.old).image self.store }
         requires not_worn { worn self ≡ None }
         ensures synced { IfOk result (λ files. IsSynced D.told self files (D.medium disk.old) (D.medium disk.new)) }
@@ -198,12 +188,12 @@ impl Files {
         }
         match self.changes() {
             Ok(changes) => self.commit(disk, changes),
-            Err(_) => Err(FilesFault::OutOfMemory(self)),
+            Err(_) => Err(Fault::OutOfMemory(self)),
         }
     }
 
     /// Commits these changes, which make the stored files into the working ones.
-    fn commit<D: Disk>(self, disk: &mut D, changes: Vec<Change>) -> Result<Files, FilesFault>
+    fn commit<D: Disk>(self, disk: &mut D, changes: Vec<Change>) -> Result<Files, Fault<Files>>
         requires used { IsUsed D.told (D.medium disk.old).image self.store }
         requires changes { IsSync (shape_of self.store) (λ bytes. true) (view_in self.store) (stored_in self.store)
             self.session.files changes.items }
@@ -219,7 +209,7 @@ impl Files {
     {
         changes_make_maps();
         views_are_maps();
-        self.holds();
+        self.invariants();
         let Files {
             alloc,
             config,
@@ -233,8 +223,8 @@ impl Files {
                 store,
                 table,
             }),
-            Err(CommitFault::Device) => Err(FilesFault::Device),
-            Err(CommitFault::OutOfMemory(store)) => Err(FilesFault::OutOfMemory(Files {
+            Err(Fault::Device) => Err(Fault::Device),
+            Err(Fault::OutOfMemory(store)) => Err(Fault::OutOfMemory(Files {
                 alloc,
                 config,
                 store,
@@ -250,8 +240,8 @@ impl Files {
             (stored_in self.now.store) self.now.session.files changes.items) }
     {
         views_are_maps();
-        self.holds();
-        self.store.holds();
+        self.invariants();
+        self.store.invariants();
         let list = differences(self.alloc, self.store.entries(), self.table.files())?;
         Ok(list)
     }

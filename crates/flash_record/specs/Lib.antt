@@ -1,3 +1,4 @@
+pub mod Blank
 pub mod PageRecord
 pub mod Stated
-pub mod Blank
+pub mod lemmas

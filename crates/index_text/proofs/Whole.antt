@@ -22,7 +22,7 @@ use Rattle.per_base.specs.FieldLaws.{IsBytes, IsReader, Takes, Takes-then, bind_
 use Rattle.per_base.specs.FieldLaws.{many_reader, moved, number_reader, only_some, only_true, some_is, wide_16, wide_32}
 use Rattle.index_text.proofs.FieldReaders.{changed_reader, info_reader, coded_kind_again, kind_back, len_reader}
 use Rattle.index_text.proofs.FieldReaders.{name_reader}
-use Rattle.index_text.proofs.Order.{apart_from_test, ascends_from_sorted, sorted_from_ascends, test_from_apart}
+use Rattle.index_text.specs.lemmas.Order.{apart_from_test, ascends_from_sorted, sorted_from_ascends, test_from_apart}
 
 -- ---- an entry
 

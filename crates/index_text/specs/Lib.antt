@@ -1,6 +1,7 @@
 pub mod Contents
-pub mod Samples
 pub mod Reading
 pub mod Rules
+pub mod Samples
 pub mod Sizes
 pub mod Spelling
+pub mod lemmas

@@ -1,6 +1,6 @@
 //! Reading an index from its text.
 
-ghost use Rattle.std.specs.Prelude.{◌≡◌, ◌≢◌, IfOk};
+ghost use Rattle.std.specs.Prelude.{◌≡◌, ◌≢◌, IfOk, IsErrOf};
 ghost use Rattle.index_text.specs.declared.entries.Index.{Index};
 ghost use Rattle.index_text.specs.Rules.{IsIndex, InRange};
 ghost use Rattle.index_text.specs.Spelling.{index_text};
@@ -25,7 +25,7 @@ pub fn read_index(alloc: Global, bytes: &[u8]) -> Result<Index, IndexError>
     ensures spelled { IfOk result (λ index. bytes.now ≡ index_text index) }
 
     // What is refused is the text of no index.
-    ensures refused { result ≡ Err IndexError.NotAnIndex
+    ensures refused { IsErrOf result IndexError.NotAnIndex
         → (index : Index) → IsIndex index → InRange index → bytes.now ≢ index_text index }
 
     // Which index it is, as a function of the bytes.

@@ -19,7 +19,7 @@ use Rattle.value_model.specs.Validity.{IsValue}
 use Rattle.value_text.specs.Types.{IsType}
 use Rattle.value_text.specs.Parsing.{value_in}
 use Rattle.value_text.specs.Texts.{type_text}
-use Rattle.value_text.proofs.Public.{same_type, value_in_takes}
+use Rattle.value_text.specs.lemmas.Public.{same_type, value_in_takes}
 use Rattle.deployment_model.specs.declared.configs.Deployment.{Deployment}
 use Rattle.manifest.specs.declared.errors.ManifestError.{ManifestError}
 use Rattle.manifest.specs.Reading.{Judges, Refuses, broken_in, broken_rule, deployment_in, said_in, value_of}

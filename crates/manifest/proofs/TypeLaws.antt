@@ -10,11 +10,11 @@ use Rattle.value_model.specs.Kinds.{Kind}
 use Rattle.value_model.specs.Trees.{Tree, type_of}
 use Rattle.value_model.specs.Encoding.{encoding}
 use Rattle.value_model.specs.Validity.{IsValue}
-use Rattle.value_code.proofs.ValueLaws.{typed_fits}
+use Rattle.value_code.specs.lemmas.ValueLaws.{typed_fits}
 use Rattle.value_text.specs.Types.{IsType}
 use Rattle.value_text.specs.Parsing.{kind_in}
 use Rattle.value_text.specs.Texts.{type_text}
-use Rattle.value_text.proofs.Public.{same_type, kind_in_takes}
+use Rattle.value_text.specs.lemmas.Public.{same_type, kind_in_takes}
 use Rattle.deployment_model.specs.Conditions.{HasTypeFor}
 use Rattle.manifest.specs.Parts.{type_in, encoding_as}
 

@@ -1,6 +1,6 @@
 //! The odometer: a disk, the storage that is open on it, and the total.
 
-ghost use Rattle.std.specs.Prelude.{◌≡◌, ◌≢◌, ◌⊎◌, ◌<◌, ◌+◌, ◌↔◌, [], IfOk, IfSome, IsTrue, OnOk};
+ghost use Rattle.std.specs.Prelude.{◌≡◌, ◌⊎◌, ◌<◌, ◌+◌, ◌↔◌, [], IfOk, IfSome, IsErrOf, IsTrue, OnOk};
 ghost use Rattle.per_base.specs.Causes.{Rose};
 ghost use Rattle.disk_model.specs.Medium.{Quiet};
 ghost use Rattle.kvs_laws.specs.Values.{HasValue};
@@ -69,13 +69,13 @@ impl<D: Disk + Drop> Odometer<D> {
     /// to be opened again: `Device`, `WornOut`, `Refused`, `OutOfMemory`, and `Closed` where it was.
     pub(crate) fn drive(&mut self, kilometres: u32) -> Result<(), Refusal>
         ensures total { OnOk result (self.new.total ≡ self.old.total + kilometres) }
-        ensures too_far { (result ≡ Err Refusal.TooFar) ↔ (u32.MAX < self.old.total + kilometres) }
-        ensures refused { result ≡ Err Refusal.TooFar → self.new ≡ self.old }
+        ensures too_far { IsErrOf result Refusal.TooFar ↔ (u32.MAX < self.old.total + kilometres) }
+        ensures refused { IsErrOf result Refusal.TooFar → self.new ≡ self.old }
 
         // A stop at any moment, however the call ends, leaves the total of before or that of after.
         ensures any_moment { IsTrue D.told → TotalThroughout self.old.kvs self.old.total (self.old.total + kilometres)
             (D.medium self.old.disk) (D.medium self.new.disk) }
-        ensures cause { result ≡ Err Refusal.Device
+        ensures cause { IsErrOf result Refusal.Device
             → Rose (D.medium self.old.disk).faults (D.medium self.new.disk).faults }
     {
         values_stand();
@@ -85,12 +85,12 @@ impl<D: Disk + Drop> Odometer<D> {
     /// The same, by what the storage says of a stop.
     fn add(&mut self, kilometres: u32) -> Result<(), Refusal>
         ensures total { OnOk result (self.new.total ≡ self.old.total + kilometres) }
-        ensures too_far { (result ≡ Err Refusal.TooFar) ↔ (u32.MAX < self.old.total + kilometres) }
-        ensures refused { result ≡ Err Refusal.TooFar → self.new ≡ self.old }
+        ensures too_far { IsErrOf result Refusal.TooFar ↔ (u32.MAX < self.old.total + kilometres) }
+        ensures refused { IsErrOf result Refusal.TooFar → self.new ≡ self.old }
         ensures opened { IfOpen D.told (D.medium self.old.disk) self.old.kvs self.old.total }
         ensures saves { (self.new.disk ≡ self.old.disk) ⊎ IfSome self.old.kvs (λ kvs. Saves D.told kvs
             (self.old.total + kilometres) (D.medium self.old.disk) (D.medium self.new.disk)) }
-        ensures cause { result ≡ Err Refusal.Device
+        ensures cause { IsErrOf result Refusal.Device
             → Rose (D.medium self.old.disk).faults (D.medium self.new.disk).faults }
     {
         let Some(total) = self.total.checked_add(kilometres) else {
@@ -112,8 +112,8 @@ fn saved<D: Disk>(disk: &mut D, kvs: Kvs, key: &Name, total: u32) -> Result<Kvs,
     ensures rest { IfOk result (λ later. IsAtRest D.told (D.medium disk.new) later) }
     ensures total { IfOk result (λ later. HasValue (the_total later.config) later.session.synced (kilometres total)) }
     ensures saves { (disk.new ≡ disk.old) ⊎ Saves D.told kvs total (D.medium disk.old) (D.medium disk.new) }
-    ensures not_too_far { result ≢ Err Refusal.TooFar }
-    ensures cause { result ≡ Err Refusal.Device → Rose (D.medium disk.old).faults (D.medium disk.new).faults }
+    ensures not_too_far { ¬ (IsErrOf result Refusal.TooFar) }
+    ensures cause { IsErrOf result Refusal.Device → Rose (D.medium disk.old).faults (D.medium disk.new).faults }
 {
     let mut kvs = kvs;
     set(&mut kvs, key, total)?;
@@ -125,8 +125,8 @@ fn set(kvs: &mut Kvs, key: &Name, total: u32) -> Result<(), Refusal>
     requires { key.now ≡ KEY.now }
     ensures total { OnOk result (HasValue (the_total kvs.new.config) kvs.new.session.visible (kilometres total)) }
     ensures beside { kvs.new ≡ showing kvs.old kvs.new.session.visible }
-    ensures not_too_far { result ≢ Err Refusal.TooFar }
-    ensures not_device { result ≢ Err Refusal.Device }
+    ensures not_too_far { ¬ (IsErrOf result Refusal.TooFar) }
+    ensures not_device { ¬ (IsErrOf result Refusal.Device) }
 {
     scalars_have_trees();
     set_is_got();
@@ -143,12 +143,12 @@ fn synced<D: Disk>(disk: &mut D, kvs: Kvs) -> Result<Kvs, Refusal>
         × (later.session.synced ≡ kvs.session.visible)) }
     ensures storing { IsStoring D.told (shape_of kvs.store) (Opens (synced_view kvs) []) (D.medium disk.old)
         (D.medium disk.new) }
-    ensures not_too_far { result ≢ Err Refusal.TooFar }
-    ensures cause { result ≡ Err Refusal.Device → Rose (D.medium disk.old).faults (D.medium disk.new).faults }
+    ensures not_too_far { ¬ (IsErrOf result Refusal.TooFar) }
+    ensures cause { IsErrOf result Refusal.Device → Rose (D.medium disk.old).faults (D.medium disk.new).faults }
 {
     match kvs.sync_to_storage(disk) {
         Ok(kvs) => {
-            kvs.holds();
+            kvs.invariants();
             Ok(kvs)
         }
         Err(SyncFault::Device) => Err(Refusal::Device),

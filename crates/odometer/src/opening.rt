@@ -75,13 +75,13 @@ fn opened<D: Disk>(alloc: Global, disk: &mut D, version: &Installed) -> Result<K
     }
     let shape = shape_of(APP, version.bank, number as u32, config)?;
     let OpenedKvs { kvs, reports: _ } = open_kvs(alloc, disk, shape, config)?;
-    kvs.holds();
+    kvs.invariants();
     Ok(kvs)
 }
 
 /// The total that the storage shows.
 fn total_in(kvs: &Kvs, key: &Name) -> Result<u32, Refusal>
-    requires settled { kvs.now.session.visible ≡ kvs.now.session.synced }
+    requires synced { kvs.now.session.visible ≡ kvs.now.session.synced }
     requires key { key.now ≡ KEY.now }
     ensures { IfOk result (λ total. HasValue (the_total kvs.now.config) kvs.now.session.synced (kilometres total)) }
 {

@@ -7,7 +7,7 @@ use Rattle.disk_model.specs.Image.{Image}
 use Rattle.element_store.specs.Stores.{IsUsed, shape_of, view_in}
 use Rattle.file_storage.specs.declared.syncing.Closed.{Closed}
 use Rattle.file_storage.specs.declared.syncing.Closed.TheVariants as closed
-use Rattle.file_storage.specs.declared.syncing.FilesFault.{FilesFault}
+use Rattle.per_base.specs.declared.faults.Fault.{Fault}
 use Rattle.file_storage.specs.declared.syncing.FilesOutcome.{FilesOutcome}
 use Rattle.file_storage.specs.FileSessions.{FileSession, stored_in}
 use Rattle.file_storage.specs.Syncs as below
@@ -69,7 +69,7 @@ module _ (told : Bool) (image : Image) (f : FileSession) (handle : ℕ) (o : Fil
       ∙ ap (λ (x : FileSession). made.Refused (Files x) error) (same some)
 
 -- what is handed back is as it was
-pub same_files : (f : FileSession) (o : FilesOutcome) (result : Result FilesOutcome FilesFault)
+pub same_files : (f : FileSession) (o : FilesOutcome) (result : Result FilesOutcome (Fault FileSession))
     (refused : Option PerError) → result ≡ Ok o → result ≡ Ok (record { files = f; refused = refused }) → o.files ≡ f
 same_files f o result refused was due =
     let both = sym was ∙ due in
@@ -77,7 +77,7 @@ same_files f o result refused was due =
     ap (λ (x : FilesOutcome). x.files) same
 
 -- one refusal of a closing
-pub same_refusal : (f files : FileSession) (e error : PerError) (result : Result Closed FilesFault)
+pub same_refusal : (f files : FileSession) (e error : PerError) (result : Result Closed (Fault FileSession))
     → result ≡ Ok (closed.Refused files e) → result ≡ Ok (closed.Refused f error)
     → left.Refused (Files files) e ≡ left.Refused (Files f) error
 same_refusal f files e error result was due =

@@ -1,8 +1,7 @@
 -- Where no call of the disk is made.
-use Rattle.std.proofs.Common.{◌≤◌, ℕ, Bool, refl, ap, arith}
-use Rattle.disk_model.specs.Case.{Case, IsSettledAt}
+use Rattle.std.proofs.Common.{◌≤◌, ℕ, Bool, refl, arith}
 use Rattle.disk_model.specs.Frame.{IsSettledOn}
-use Rattle.disk_model.specs.Image.{Image}
+use Rattle.disk_model.specs.lemmas.Frames.{settled_on}
 use Rattle.disk_model.specs.Laws.{elapses_none, goes_none}
 use Rattle.disk_model.specs.Medium.{IsLawful, Medium}
 use Rattle.disk_model.specs.Place.{IsOutside}
@@ -13,23 +12,15 @@ use Rattle.element_state.specs.Kept.{IsKeptCase}
 use Rattle.element_state.specs.States.{State}
 use Rattle.element_state.specs.Written.{IsWithin}
 
--- what is settled is so on any files
-settled_on : (files : ℕ → Type 0) (image : Image) (c : Case) → IsSettledAt image c → IsSettledOn files image c
-settled_on files image c settled = record {
-  base = λ f is. ap (λ (i : Image). i f) settled.base;
-  full = λ f is. ap (λ (i : Image). i f) settled.full;
-  left = λ f is. ap (λ (i : Image). i f) settled.left;
-}
-
 pub none_storing : UntouchedLaw → (told : Bool) (shape : Shape) (after : State) (m : Medium) → 1 ≤ shape.m
     → IsLawful told m → IsStoring told shape after m m
 none_storing untouched told shape after m some law = record {
   elsewhere = λ tells file spared. refl;
   outside = λ tells quiet. goes_none (IsSettledOn (IsOutside shape.place.first shape.place.copies) m.image) law
-      (λ c here. settled_on (IsOutside shape.place.first shape.place.copies) m.image c (quiet c here));
+      (λ c here. settled_on (IsOutside shape.place.first shape.place.copies) (quiet c here));
   any_moment = λ tells quiet clean. goes_none (IsKeptCase shape m.image after) law
       (λ c here. untouched shape m.image after c some clean
-      (settled_on (IsOfPlace shape.place) m.image c (quiet c here)));
+      (settled_on (IsOfPlace shape.place) (quiet c here)));
   time = elapses_none law;
 }
 

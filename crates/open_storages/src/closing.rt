@@ -17,8 +17,8 @@ use crate::opens::Open;
 use deploy::Stop;
 use disk_model::Disk;
 use element_laws::untouched_is_kept;
-use file_storage::{Closed, FilesFault};
-use per_base::PerError;
+use file_storage::Closed;
+use per_base::{Fault, PerError};
 
 /// Whether a storage was closed.
 #[derive(Drop)]
@@ -67,7 +67,7 @@ impl Open {
             (D.medium disk.new) }
     {
         untouched_is_kept();
-        self.holds();
+        self.invariants();
         match self {
             Open::Keys(_kvs) => Ok(Closing::Done),
             Open::Files(files) => match files.close_storage(disk) {
@@ -75,8 +75,8 @@ impl Open {
                 Ok(Closed::Refused(files, error)) => {
                     Ok(Closing::Refused(Open::Files(files), error))
                 }
-                Err(FilesFault::Device) => Err(Stop::Device),
-                Err(FilesFault::OutOfMemory(_files)) => Err(Stop::OutOfMemory),
+                Err(Fault::Device) => Err(Stop::Device),
+                Err(Fault::OutOfMemory(_files)) => Err(Stop::OutOfMemory),
             },
         }
     }

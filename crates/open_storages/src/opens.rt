@@ -20,7 +20,7 @@ pub enum Open {
 impl Open {
     /// What always holds of an open storage: it lies as it is configured, its session is one of its kind, and what is
     /// synchronised is what the storage below shows.
-    pub fn holds(&self)
+    pub fn invariants(&self)
         ensures configured { IsConfigured (config_in self.now).kind (config_in self.now)
             (shape_of (store_in self.now)) }
         ensures kind { kind_of (session_in self.now) ≡ (config_in self.now).kind }
@@ -28,8 +28,8 @@ impl Open {
             (view_in (store_in self.now)) }
     {
         match self {
-            Open::Keys(kvs) => kvs.holds(),
-            Open::Files(files) => files.holds(),
+            Open::Keys(kvs) => kvs.invariants(),
+            Open::Files(files) => files.invariants(),
         }
     }
 
@@ -37,7 +37,7 @@ impl Open {
     pub fn kind(&self) -> StoreKind
         ensures { result ≡ (config_in self.now).kind }
     {
-        self.holds();
+        self.invariants();
         match self {
             Open::Keys(_) => StoreKind::Keys,
             Open::Files(_) => StoreKind::Files,

@@ -17,9 +17,9 @@ use crate::opens::Open;
 use deploy::Stop;
 use disk_model::Disk;
 use element_laws::untouched_is_kept;
-use file_storage::{FilesFault, FilesOutcome};
+use file_storage::FilesOutcome;
 use kvs_store::SyncFault;
-use per_base::{Limit, PerError};
+use per_base::{Fault, Limit, PerError};
 
 /// Whether what the calls see was made durable.
 #[derive(Drop)]
@@ -62,7 +62,7 @@ impl Open {
         ensures storing { IsStoring D.told (shape_of (store_in self)) (Opens (durable_view self) []) (D.medium disk.old)
             (D.medium disk.new) }
     {
-        self.holds();
+        self.invariants();
         match self {
             Open::Keys(kvs) => match kvs.sync_to_storage(disk) {
                 Ok(kvs) => Ok(Durable::Done(Open::Keys(kvs))),
@@ -111,13 +111,13 @@ impl Open {
             (D.medium disk.new) }
     {
         untouched_is_kept();
-        self.holds();
+        self.invariants();
         match self {
             Open::Keys(kvs) => { Ok(Durable::Refused(Open::Keys(kvs), PerError::StorageNotFound)) }
             Open::Files(files) => match files.sync_to_file(disk, handle) {
                 Ok(FilesOutcome { files, refused }) => Ok(made(Open::Files(files), refused)),
-                Err(FilesFault::Device) => Err(Stop::Device),
-                Err(FilesFault::OutOfMemory(_files)) => Err(Stop::OutOfMemory),
+                Err(Fault::Device) => Err(Stop::Device),
+                Err(Fault::OutOfMemory(_files)) => Err(Stop::OutOfMemory),
             },
         }
     }

@@ -10,14 +10,14 @@ use Rattle.deployment_model.specs.declared.configs.Deployment.{Deployment}
 use Rattle.element_state.specs.declared.shapes.Shape.{Shape}
 use Rattle.element_state.specs.States.{State, store_at}
 use Rattle.deploy.specs.Views.{ShowsVersions, seen_at, seen_by, versions}
-use Rattle.deploy_laws.specs.Apps.{IsPlaced, Says, nothing, absent, installed, app_at, root_settled, says_at}
+use Rattle.deploy_laws.specs.Apps.{IsPlaced, Says, nothing, absent, installed, app_at, root_sole, says_at}
 use Rattle.deploy_laws.specs.Apps.{shapes_named}
 use Rattle.deploy_laws.specs.Places.{Named, shape_of, shapes_from, shapes_if, shapes_in}
 use Rattle.per_audit.specs.declared.findings.Finding.{Finding}
 use Rattle.per_audit.specs.declared.findings.Listed.{Listed}
 use Rattle.per_audit.specs.declared.noting.Notes.{Notes}
 use Rattle.per_audit.specs.Audits.{damaged_by, each_storage, elements_of, findings_of, listed_of, of_storage}
-use Rattle.per_audit.specs.Audits.{storages_if, storages_of, unless_settled}
+use Rattle.per_audit.specs.Audits.{storages_if, storages_of, unless_sole}
 use Rattle.per_audit.specs.Noted.{Adds, elements_seen, findings_seen, named_in, of_previous, of_version, within}
 
 -- ---- the storages of both versions
@@ -45,59 +45,59 @@ module _ {A : Type 0} (f : ℕ → StorageData → State → List A) (image : Im
 -- ---- an application
 
 module _ (image : Image) (app : ℕ) where
-  elements_by_says : (says : Says) (lacking : List ℕ) (settled : Bool)
+  elements_by_says : (says : Says) (lacking : List ℕ) (sole : Bool)
       → elements_of app (record {
         says = says;
         lacking = lacking;
         states =
             map (store_at image) (shapes_named app says);
       })
-      ≡ elements_seen image app (seen_by says lacking settled)
+      ≡ elements_seen image app (seen_by says lacking sole)
   unfolding elements_of shapes_named
-  elements_by_says nothing lacking settled = refl
-  elements_by_says (absent g) lacking settled = refl
-  elements_by_says (installed g active previous) lacking settled =
+  elements_by_says nothing lacking sole = refl
+  elements_by_says (absent g) lacking sole = refl
+  elements_by_says (installed g active previous) lacking sole =
       versions_each (listed_of app) image app active previous
 
-  findings_by_says : (says : Says) (lacking : List ℕ) (settled : Bool)
-      → findings_of app settled (record {
+  findings_by_says : (says : Says) (lacking : List ℕ) (sole : Bool)
+      → findings_of app sole (record {
         says = says;
         lacking = lacking;
         states =
             map (store_at image) (shapes_named app says);
       })
-      ≡ findings_seen image app (seen_by says lacking settled)
+      ≡ findings_seen image app (seen_by says lacking sole)
   unfolding findings_of shapes_named
-  findings_by_says nothing lacking settled = refl
-  findings_by_says (absent g) lacking settled = append-nil
-      (damaged_by app None Root lacking ++ unless_settled settled app None Root)
-  findings_by_says (installed g active previous) lacking settled =
-      let of_root = damaged_by app None Root lacking ++ unless_settled settled app None Root in
+  findings_by_says nothing lacking sole = refl
+  findings_by_says (absent g) lacking sole = append-nil
+      (damaged_by app None Root lacking ++ unless_sole sole app None Root)
+  findings_by_says (installed g active previous) lacking sole =
+      let of_root = damaged_by app None Root lacking ++ unless_sole sole app None Root in
       ap (λ (xs : List Finding). of_root ++ xs) (versions_each (of_storage app) image app active previous)
       ∙ sym (append_assoc of_root (of_version (of_storage app) image app active)
       (of_previous (of_storage app) image app previous))
 
   pub app_elements : elements_seen image app (seen_at image app) ≡ elements_of app (app_at image app)
   unfolding app_at
-  app_elements = sym (elements_by_says (says_at image app) (app_at image app).lacking (root_settled image app))
+  app_elements = sym (elements_by_says (says_at image app) (app_at image app).lacking (root_sole image app))
 
   pub app_findings : findings_seen image app (seen_at image app)
-      ≡ findings_of app (root_settled image app) (app_at image app)
+      ≡ findings_of app (root_sole image app) (app_at image app)
   unfolding app_at
-  app_findings = sym (findings_by_says (says_at image app) (app_at image app).lacking (root_settled image app))
+  app_findings = sym (findings_by_says (says_at image app) (app_at image app).lacking (root_sole image app))
 
 -- ---- the versions that are seen
 
-pub shown_active : (active : Named) (previous : Option Named) (lacking : List ℕ) (settled : Bool)
-    → ShowsVersions (versions active previous lacking settled) → IsPlaced active
-shown_active active None lacking settled shown = shown
-shown_active active (Some v) lacking settled shown = shown.of_active
+pub shown_active : (active : Named) (previous : Option Named) (lacking : List ℕ) (sole : Bool)
+    → ShowsVersions (versions active previous lacking sole) → IsPlaced active
+shown_active active None lacking sole shown = shown
+shown_active active (Some v) lacking sole shown = shown.of_active
 
-pub shown_previous : (active : Named) (bank : ℕ) (previous : Option Deployment) (lacking : List ℕ) (settled : Bool)
-    → ShowsVersions (versions active (named_in bank previous) lacking settled)
+pub shown_previous : (active : Named) (bank : ℕ) (previous : Option Deployment) (lacking : List ℕ) (sole : Bool)
+    → ShowsVersions (versions active (named_in bank previous) lacking sole)
     → IfSome previous (λ d. IsDeployment (deployment_data d))
-shown_previous active bank None lacking settled shown = tt
-shown_previous active bank (Some d) lacking settled shown = shown.of_previous.keeps
+shown_previous active bank None lacking sole shown = tt
+shown_previous active bank (Some d) lacking sole shown = shown.of_previous.keeps
 
 pub kept_some : (previous : Option Deployment) (d : Deployment) → previous ≡ Some d
     → IfSome previous (λ x. IsDeployment (deployment_data x)) → IsDeployment (deployment_data d)

@@ -10,7 +10,7 @@ use Rattle.deployment_model.specs.Data.{StorageData}
 use Rattle.element_state.specs.declared.shapes.Shape.{Shape}
 use Rattle.element_state.specs.declared.shapes.View.{View}
 use Rattle.element_state.specs.declared.surveying.Found.{Found}
-use Rattle.element_state.specs.Fit.{FitText, fit_texts, is_settled}
+use Rattle.element_state.specs.Fit.{FitText, fit_texts, is_sole}
 use Rattle.element_state.specs.Views.{qualifies, view_of}
 use Rattle.element_state.specs.States.{State, Corrupt, store_at, state_of, picked, beside, others_of, salvage_of}
 use Rattle.element_state.specs.Surveys.{IsOf, IsViewedOn}
@@ -18,7 +18,7 @@ use Rattle.per_audit.specs.declared.findings.FindingKind.TheVariants.{Lost}
 use Rattle.per_audit.specs.declared.noting.Notes.{Notes}
 use Rattle.per_audit.specs.declared.findings.Finding.{Finding}
 use Rattle.per_audit.specs.declared.findings.Listed.{Listed}
-use Rattle.per_audit.specs.Audits.{damaged_by, finding, is_none_left, listed_of, of_element, of_storage, unless_settled}
+use Rattle.per_audit.specs.Audits.{damaged_by, finding, is_none_left, listed_of, of_element, of_storage, unless_sole}
 use Rattle.per_audit.specs.Noted.{Adds, elements_by, elements_found, findings_by, findings_found}
 
 -- ---- whether other texts are held
@@ -36,19 +36,19 @@ more_left view t u texts false None = refl
 more_left view t u texts false (Some found) = refl
 
 state_settled : (view : FitText → View) (test : FitText → Bool) (texts : List FitText)
-    → is_none_left (others_of (state_of view texts (picked test texts))) ≡ is_settled texts
+    → is_none_left (others_of (state_of view texts (picked test texts))) ≡ is_sole texts
 state_settled view test [] = refl
 state_settled view test (t ∷ []) = one_left view t (test t)
 state_settled view test (t ∷ u ∷ texts) = more_left view t u texts (test t) (picked test (u ∷ texts))
     ∙ sym (lt-leb (length (t ∷ u ∷ texts)) 1 (omega arith))
 
 store_settled : (image : Image) (shape : Shape) → is_none_left (others_of (store_at image shape))
-    ≡ is_settled (fit_texts shape image)
+    ≡ is_sole (fit_texts shape image)
 unfolding store_at
 store_settled image shape = state_settled (view_of image shape) (qualifies image shape) (fit_texts shape image)
 
 view_settled : (image : Image) (shape : Shape) (text : FitText)
-    → (view_of image shape text).settled ≡ is_settled (fit_texts shape image)
+    → (view_of image shape text).sole ≡ is_sole (fit_texts shape image)
 unfolding view_of
 view_settled image shape text = refl
 
@@ -71,17 +71,17 @@ none_seen image shape e = no_text (view_of image shape) (fit_texts shape image)
 
 module _ (app bank : ℕ) (s : StorageData) where
   findings_as : (opens : Bool) (v : View) (state : State) → IsOf opens v state
-      → v.settled ≡ is_none_left (others_of state)
+      → v.sole ≡ is_none_left (others_of state)
       → findings_by app bank s opens v ≡ of_storage app bank s state
-  findings_as true v state of settled =
+  findings_as true v state of sole =
       ap (λ (b : Bool). damaged_by app (Some bank) (Whole s.name) v.lacking
-      ++ unless_settled b app (Some bank) (Whole s.name) ++ flat_map (of_element app bank s) v.entries)
-      (settled ∙ ap (λ (st : State). is_none_left (others_of st)) of.1)
+      ++ unless_sole b app (Some bank) (Whole s.name) ++ flat_map (of_element app bank s) v.entries)
+      (sole ∙ ap (λ (st : State). is_none_left (others_of st)) of.1)
       ∙ sym (ap (of_storage app bank s) of.1)
-  findings_as false v state of settled =
+  findings_as false v state of sole =
       ap (λ (b : Bool). finding app (Some bank) Lost (Whole s.name) (range_with_len 1 s.n)
-      ∷ unless_settled b app (Some bank) (Whole s.name))
-      (settled ∙ ap (λ (st : State). is_none_left (others_of st)) of.1)
+      ∷ unless_sole b app (Some bank) (Whole s.name))
+      (sole ∙ ap (λ (st : State). is_none_left (others_of st)) of.1)
       ∙ sym (ap (of_storage app bank s) of.1)
 
   elements_as : (opens : Bool) (v : View) (state : State) → IsOf opens v state
@@ -95,7 +95,7 @@ module _ (app bank : ℕ) (s : StorageData) where
         → findings_found app bank s found ≡ of_storage app bank s (store_at image shape)
     findings_stand None salvage viewed = sym (ap (of_storage app bank s) (none_seen image shape salvage))
     findings_stand (Some found) salvage viewed = findings_as found.opens found.view (store_at image shape) viewed.state
-        (ap (λ (v : View). v.settled) viewed.view ∙ view_settled image shape (found.seen, found.index)
+        (ap (λ (v : View). v.sole) viewed.view ∙ view_settled image shape (found.seen, found.index)
         ∙ sym (store_settled image shape))
 
     pub elements_stand : (found : Option Found) → salvage_of (store_at image shape)

@@ -12,7 +12,7 @@ use Rattle.deployment_model.specs.Data.{StorageData, storage_data}
 use Rattle.deployment_model.specs.declared.configs.StorageConfig.{StorageConfig}
 use Rattle.element_state.specs.States.{State, store_at}
 use Rattle.deploy_laws.specs.Places.{shape_of}
-use Rattle.deploy_laws.specs.Apps.{app_at, root_settled}
+use Rattle.deploy_laws.specs.Apps.{app_at, root_sole}
 use Rattle.per_audit.specs.Audits.{elements_at, elements_of, findings_at, findings_of, listed_of, of_storage}
 use Rattle.per_audit.specs.Noted.{Adds, within}
 use Rattle.per_audit.specs.declared.findings.Finding.{Finding}
@@ -108,7 +108,7 @@ abbrev pub app_elements_at : Image → ℕ → List Listed
 app_elements_at image app = elements_of app (app_at image app)
 
 abbrev pub app_findings_at : Image → ℕ → List Finding
-app_findings_at image app = findings_of app (root_settled image app) (app_at image app)
+app_findings_at image app = findings_of app (root_sole image app) (app_at image app)
 
 pub elements_whole : (image : Image) → flat_map (app_elements_at image) (range_with_len 0 8) ≡ elements_at image
 unfolding elements_at

@@ -16,13 +16,13 @@ use Rattle.element_state.specs.declared.shapes.View.{View}
 use Rattle.element_state.specs.Reports.{element_failed, element_recovered, element_reports, is_readable}
 use Rattle.element_state.specs.Reports.{recovered_reports, report_of, report_some, reports, store_recovered}
 use Rattle.element_state.specs.States.{State, Opens, Corrupt, store_at}
-use Rattle.deploy_laws.specs.Apps.{Says, nothing, absent, installed, app_at, root_settled, says_at, shapes_named}
+use Rattle.deploy_laws.specs.Apps.{Says, nothing, absent, installed, app_at, root_sole, says_at, shapes_named}
 use Rattle.deploy_laws.specs.Places.{Named, shape_of, shapes_from, shapes_if, shapes_in}
 use Rattle.deploy_rows.specs.Recovering.{is_content}
 use Rattle.per_audit.specs.declared.findings.Finding.{Finding}
 use Rattle.per_audit.specs.declared.findings.FindingKind.TheVariants.{Lost}
 use Rattle.per_audit.specs.Audits.{damaged_by, each_storage, finding, findings_at, findings_of, is_none_left}
-use Rattle.per_audit.specs.Audits.{lacking_by, of_element, of_storage, storages_if, storages_of, unless_settled}
+use Rattle.per_audit.specs.Audits.{lacking_by, of_element, of_storage, storages_if, storages_of, unless_sole}
 use Rattle.element_state.specs.Chosen.{opened_of}
 use Rattle.per_audit.specs.Laws.{IntactIsSoundLaw, IsIntactApp, IsIntactStorage, SilentOpeningLaw, SoundIsIntactLaw}
 use Rattle.per_audit.proofs.Lists.{all_silent, flat_silent, nil_join, nil_left, nil_right, range_silent}
@@ -34,10 +34,10 @@ lacks_none : (app : ℕ) (bank : Option ℕ) (unit : Unit) (lacking : List ℕ) 
 lacks_none app bank unit [] e = refl
 lacks_none app bank unit (copy ∷ copies) e = cc
 
-is_settled : (settled : Bool) (app : ℕ) (bank : Option ℕ) (unit : Unit) → unless_settled settled app bank unit ≡ []
-    → settled ≡ true
-is_settled true app bank unit e = refl
-is_settled false app bank unit e = cc
+is_sole : (sole : Bool) (app : ℕ) (bank : Option ℕ) (unit : Unit) → unless_sole sole app bank unit ≡ []
+    → sole ≡ true
+is_sole true app bank unit e = refl
+is_sole false app bank unit e = cc
 
 none_other : (others : List View) → is_none_left others ≡ true → others ≡ []
 none_other [] e = refl
@@ -103,11 +103,11 @@ module _ (image : Image) (app bank number : ℕ) (s : StorageData) where
   state_sound (Corrupt salvage others) is none = cc
   state_sound (Opens v others) is none =
       let damaged = damaged_by app (Some bank) (Whole s.name) v.lacking in
-      let unsettled = unless_settled (is_none_left others) app (Some bank) (Whole s.name) in
+      let unsettled = unless_sole (is_none_left others) app (Some bank) (Whole s.name) in
       let elements = flat_map (of_element app bank s) v.entries in
       let front = nil_left (damaged ++ unsettled) elements none in
       let whole = lacks_none app (Some bank) (Whole s.name) v.lacking (nil_left damaged unsettled front) in
-      let alone = none_other others (is_settled (is_none_left others) app (Some bank) (Whole s.name)
+      let alone = none_other others (is_sole (is_none_left others) app (Some bank) (Whole s.name)
       (nil_right damaged unsettled front)) in
       record {
         view = v;
@@ -197,88 +197,88 @@ module _ (image : Image) (app : ℕ) where
 
   -- ---- an application
 
-  pub record IsSound (says : Says) (lacking : List ℕ) (settled : Bool) : Type 0 where
+  pub record IsSound (says : Says) (lacking : List ℕ) (sole : Bool) : Type 0 where
     pub says_some : ¬ (says ≡ nothing)
     pub whole : lacking ≡ []
-    pub is_settled : settled ≡ true
+    pub is_sole : sole ≡ true
     pub storages : AreSound (shapes_named app says)
 
   -- what is found of an application whose root says this
-  abbrev found_of : Says → (lacking : List ℕ) → (settled : Bool) → List Finding
-  found_of says lacking settled = findings_of app settled
+  abbrev found_of : Says → (lacking : List ℕ) → (sole : Bool) → List Finding
+  found_of says lacking sole = findings_of app sole
       (record { says = says; lacking = lacking; states = map (store_at image) (shapes_named app says) })
 
-  says_sound : (says : Says) (lacking : List ℕ) (settled : Bool) → found_of says lacking settled ≡ []
-      → IsSound says lacking settled
+  says_sound : (says : Says) (lacking : List ℕ) (sole : Bool) → found_of says lacking sole ≡ []
+      → IsSound says lacking sole
   unfolding findings_of shapes_named
-  says_sound nothing lacking settled none = cc
-  says_sound (absent g) lacking settled none =
+  says_sound nothing lacking sole none = cc
+  says_sound (absent g) lacking sole none =
       let damaged = damaged_by app None Root lacking in
-      let unsettled = unless_settled settled app None Root in
+      let unsettled = unless_sole sole app None Root in
       let front = nil_left (damaged ++ unsettled) [] none in
       record {
         says_some = λ e. let same : absent g ≡ nothing = e in cc;
         whole = lacks_none app None Root lacking (nil_left damaged unsettled front);
-        is_settled = is_settled settled app None Root (nil_right damaged unsettled front);
+        is_sole = is_sole sole app None Root (nil_right damaged unsettled front);
         storages = tt;
       }
-  says_sound (installed g active previous) lacking settled none =
+  says_sound (installed g active previous) lacking sole none =
       let damaged = damaged_by app None Root lacking in
-      let unsettled = unless_settled settled app None Root in
+      let unsettled = unless_sole sole app None Root in
       let rest = found (storages_of active ++ storages_if previous) (shapes_in app active ++ shapes_if app previous) in
       let front = nil_left (damaged ++ unsettled) rest none in
       record {
         says_some = λ e. let same : installed g active previous ≡ nothing = e in cc;
         whole = lacks_none app None Root lacking (nil_left damaged unsettled front);
-        is_settled = is_settled settled app None Root (nil_right damaged unsettled front);
+        is_sole = is_sole sole app None Root (nil_right damaged unsettled front);
         storages = each_sound active.bank 0 active.deployment.storages (storages_if previous) (shapes_if app previous)
             (previous_sound previous)
             (nil_right (damaged ++ unsettled) rest none);
       }
 
-  root_silent : (lacking : List ℕ) (settled : Bool) → lacking ≡ [] → settled ≡ true
-      → damaged_by app None Root lacking ++ unless_settled settled app None Root ≡ []
-  root_silent lacking settled whole alone = nil_join (damaged_by app None Root lacking)
-      (unless_settled settled app None Root)
-      (ap (damaged_by app None Root) whole) (ap (λ (b : Bool). unless_settled b app None Root) alone)
+  root_silent : (lacking : List ℕ) (sole : Bool) → lacking ≡ [] → sole ≡ true
+      → damaged_by app None Root lacking ++ unless_sole sole app None Root ≡ []
+  root_silent lacking sole whole alone = nil_join (damaged_by app None Root lacking)
+      (unless_sole sole app None Root)
+      (ap (damaged_by app None Root) whole) (ap (λ (b : Bool). unless_sole b app None Root) alone)
 
-  sound_says : (says : Says) (lacking : List ℕ) (settled : Bool) → IsSound says lacking settled
-      → found_of says lacking settled ≡ []
+  sound_says : (says : Says) (lacking : List ℕ) (sole : Bool) → IsSound says lacking sole
+      → found_of says lacking sole ≡ []
   unfolding findings_of shapes_named
-  sound_says nothing lacking settled is = absurd (is.says_some refl)
-  sound_says (absent g) lacking settled is =
-      nil_join (damaged_by app None Root lacking ++ unless_settled settled app None Root) []
-      (root_silent lacking settled is.whole is.is_settled) refl
-  sound_says (installed g active previous) lacking settled is =
-      nil_join (damaged_by app None Root lacking ++ unless_settled settled app None Root)
+  sound_says nothing lacking sole is = absurd (is.says_some refl)
+  sound_says (absent g) lacking sole is =
+      nil_join (damaged_by app None Root lacking ++ unless_sole sole app None Root) []
+      (root_silent lacking sole is.whole is.is_sole) refl
+  sound_says (installed g active previous) lacking sole is =
+      nil_join (damaged_by app None Root lacking ++ unless_sole sole app None Root)
       (found (storages_of active ++ storages_if previous) (shapes_in app active ++ shapes_if app previous))
-      (root_silent lacking settled is.whole is.is_settled)
+      (root_silent lacking sole is.whole is.is_sole)
       (sound_each active.bank 0 active.deployment.storages (storages_if previous) (shapes_if app previous)
       (sound_previous previous) is.storages)
 
-  app_sound : findings_of app (root_settled image app) (app_at image app) ≡ [] → IsIntactApp image app
+  app_sound : findings_of app (root_sole image app) (app_at image app) ≡ [] → IsIntactApp image app
   unfolding app_at
   app_sound none =
-      let is = says_sound (says_at image app) (app_at image app).lacking (root_settled image app) none in
-      record { says = is.says_some; whole = is.whole; settled = is.is_settled; storages = is.storages }
+      let is = says_sound (says_at image app) (app_at image app).lacking (root_sole image app) none in
+      record { says = is.says_some; whole = is.whole; sole = is.is_sole; storages = is.storages }
 
-  sound_app : IsIntactApp image app → findings_of app (root_settled image app) (app_at image app) ≡ []
+  sound_app : IsIntactApp image app → findings_of app (root_sole image app) (app_at image app) ≡ []
   unfolding app_at
-  sound_app is = sound_says (says_at image app) (app_at image app).lacking (root_settled image app)
-      (record { says_some = is.says; whole = is.whole; is_settled = is.settled; storages = is.storages })
+  sound_app is = sound_says (says_at image app) (app_at image app).lacking (root_sole image app)
+      (record { says_some = is.says; whole = is.whole; is_sole = is.sole; storages = is.storages })
 
 -- ---- a disk
 
 pub intact_disk : SoundIsIntactLaw
 unfolding findings_at
 intact_disk image none app lt = app_sound image app
-    (range_silent (λ app. findings_of app (root_settled image app) (app_at image app)) 0 8 app none (omega arith)
+    (range_silent (λ app. findings_of app (root_sole image app) (app_at image app)) 0 8 app none (omega arith)
     (omega (arith, lt)))
 
 pub sound_disk : IntactIsSoundLaw
 unfolding findings_at
 sound_disk image every =
-    all_silent (λ app. findings_of app (root_settled image app) (app_at image app)) 0 8
+    all_silent (λ app. findings_of app (root_sole image app) (app_at image app)) 0 8
     (λ app low lt. sound_app image app (every app (omega (arith, lt))))
 
 -- ---- an opening

@@ -11,7 +11,7 @@ use Rattle.deployment_model.specs.Data.{StorageData}
 use Rattle.element_state.specs.declared.shapes.View.{View}
 use Rattle.element_state.specs.Reports.{is_readable}
 use Rattle.element_state.specs.States.{State, Opens, Corrupt}
-use Rattle.deploy_laws.specs.Apps.{App, Says, nothing, absent, installed, app_at, root_settled}
+use Rattle.deploy_laws.specs.Apps.{App, Says, nothing, absent, installed, app_at, root_sole}
 use Rattle.deploy_laws.specs.Places.{Named}
 use Rattle.deploy_rows.specs.Recovering.{is_content}
 use Rattle.per_audit.specs.declared.findings.Finding.{Finding}
@@ -30,18 +30,18 @@ damaged_by app bank unit [] = []
 damaged_by app bank unit (copy ∷ copies) = finding app bank Damaged unit (copy ∷ copies) ∷ []
 
 -- and unsettled where a text is held besides the one that counts
-abbrev pub unless_settled : (settled : Bool) → (app : ℕ) → (bank : Option ℕ) → Unit → List Finding
-unless_settled true app bank unit = []
-unless_settled false app bank unit = finding app bank Unsettled unit [] ∷ []
+abbrev pub unless_sole : (sole : Bool) → (app : ℕ) → (bank : Option ℕ) → Unit → List Finding
+unless_sole true app bank unit = []
+unless_sole false app bank unit = finding app bank Unsettled unit [] ∷ []
 
 -- ---- a root
 
 -- a root that says nothing is lost in its three copies
-abbrev pub of_root : (app : ℕ) → (settled : Bool) → Says → (lacking : List ℕ) → List Finding
-of_root app settled nothing lacking = finding app None Lost Root (1 ∷ 2 ∷ 3 ∷ []) ∷ []
-of_root app settled (absent g) lacking = damaged_by app None Root lacking ++ unless_settled settled app None Root
-of_root app settled (installed g active previous) lacking =
-    damaged_by app None Root lacking ++ unless_settled settled app None Root
+abbrev pub of_root : (app : ℕ) → (sole : Bool) → Says → (lacking : List ℕ) → List Finding
+of_root app sole nothing lacking = finding app None Lost Root (1 ∷ 2 ∷ 3 ∷ []) ∷ []
+of_root app sole (absent g) lacking = damaged_by app None Root lacking ++ unless_sole sole app None Root
+of_root app sole (installed g active previous) lacking =
+    damaged_by app None Root lacking ++ unless_sole sole app None Root
 
 -- ---- a storage, in its bank
 
@@ -64,9 +64,9 @@ is_none_left (v ∷ others) = false
 abbrev pub of_storage : (app bank : ℕ) → StorageData → State → List Finding
 of_storage app bank s (Corrupt salvage others) =
     finding app (Some bank) Lost (Whole s.name) (range_with_len 1 s.n)
-    ∷ unless_settled (is_none_left others) app (Some bank) (Whole s.name)
+    ∷ unless_sole (is_none_left others) app (Some bank) (Whole s.name)
 of_storage app bank s (Opens v others) = damaged_by app (Some bank) (Whole s.name) v.lacking
-    ++ unless_settled (is_none_left others) app (Some bank) (Whole s.name)
+    ++ unless_sole (is_none_left others) app (Some bank) (Whole s.name)
     ++ flat_map (of_element app bank s) v.entries
 
 -- every element of a storage that opens is listed
@@ -99,8 +99,8 @@ each_storage f [] states = []
 each_storage f (s ∷ storages) [] = []
 each_storage f (s ∷ storages) (state ∷ states) = f s.0 s.1 state ++ each_storage f storages states
 
-unfoldable pub findings_of : (app : ℕ) → (settled : Bool) → App → List Finding
-findings_of app settled a = of_root app settled a.says a.lacking
+unfoldable pub findings_of : (app : ℕ) → (sole : Bool) → App → List Finding
+findings_of app sole a = of_root app sole a.says a.lacking
     ++ each_storage (of_storage app) (storages_named a.says) a.states
 
 unfoldable pub elements_of : (app : ℕ) → App → List Listed
@@ -110,7 +110,7 @@ elements_of app a = each_storage (listed_of app) (storages_named a.says) a.state
 
 -- of its eight applications, in their order
 unfoldable pub findings_at : Image → List Finding
-findings_at image = flat_map (λ app. findings_of app (root_settled image app) (app_at image app)) (range_with_len 0 8)
+findings_at image = flat_map (λ app. findings_of app (root_sole image app) (app_at image app)) (range_with_len 0 8)
 
 unfoldable pub elements_at : Image → List Listed
 elements_at image = flat_map (λ app. elements_of app (app_at image app)) (range_with_len 0 8)

@@ -7,7 +7,7 @@ use Rattle.element_state.specs.declared.shapes.Shape.{Shape}
 use Rattle.element_state.specs.declared.shapes.View.{View}
 use Rattle.element_state.specs.Reports.{reports}
 use Rattle.element_state.specs.States.{Opens, store_at}
-use Rattle.deploy_laws.specs.Apps.{nothing, app_at, root_settled, says_at, shapes_named}
+use Rattle.deploy_laws.specs.Apps.{nothing, app_at, root_sole, says_at, shapes_named}
 use Rattle.deploy_rows.specs.Recovering.{is_content}
 use Rattle.per_audit.specs.Audits.{findings_at}
 
@@ -22,7 +22,7 @@ pub record IsIntactStorage (image : Image) (shape : Shape) : Type 0 where
 pub record IsIntactApp (image : Image) (app : ℕ) : Type 0 where
   pub says : ¬ (says_at image app ≡ nothing)
   pub whole : (app_at image app).lacking ≡ []
-  pub settled : root_settled image app ≡ true
+  pub sole : root_sole image app ≡ true
   pub storages : AllByRecursion (IsIntactStorage image) (shapes_named app (says_at image app))
 
 -- where nothing is found every application is intact

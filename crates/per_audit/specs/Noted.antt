@@ -15,7 +15,7 @@ use Rattle.per_audit.specs.declared.findings.FindingKind.TheVariants.{Lost}
 use Rattle.per_audit.specs.declared.findings.Listed.{Listed}
 use Rattle.per_audit.specs.declared.noting.Notes.{Notes}
 use Rattle.per_audit.specs.Audits.{damaged_by, each_storage, finding, listed, listed_of, of_element, of_storage}
-use Rattle.per_audit.specs.Audits.{unless_settled}
+use Rattle.per_audit.specs.Audits.{unless_sole}
 
 -- these elements and these findings were added to the notes
 pub record Adds (elements : List Listed) (findings : List Finding) (old new : Notes) : Type 0 where
@@ -24,19 +24,19 @@ pub record Adds (elements : List Listed) (findings : List Finding) (old new : No
 
 -- ---- a storage, by the text that is found of it
 
-abbrev pub of_corrupt : (app bank : ℕ) → StorageData → (settled : Bool) → List Finding
-of_corrupt app bank s settled =
+abbrev pub of_corrupt : (app bank : ℕ) → StorageData → (sole : Bool) → List Finding
+of_corrupt app bank s sole =
     finding app (Some bank) Lost (Whole s.name) (range_with_len 1 s.n)
-    ∷ unless_settled settled app (Some bank) (Whole s.name)
+    ∷ unless_sole sole app (Some bank) (Whole s.name)
 
 abbrev pub of_view : (app bank : ℕ) → StorageData → View → List Finding
 of_view app bank s v = damaged_by app (Some bank) (Whole s.name) v.lacking
-    ++ unless_settled v.settled app (Some bank) (Whole s.name)
+    ++ unless_sole v.sole app (Some bank) (Whole s.name)
     ++ flat_map (of_element app bank s) v.entries
 
 abbrev pub findings_by : (app bank : ℕ) → StorageData → (opens : Bool) → View → List Finding
 findings_by app bank s true v = of_view app bank s v
-findings_by app bank s false v = of_corrupt app bank s v.settled
+findings_by app bank s false v = of_corrupt app bank s v.sole
 
 abbrev pub findings_found : (app bank : ℕ) → StorageData → Option Found → List Finding
 findings_found app bank s None = of_corrupt app bank s true
@@ -72,14 +72,14 @@ of_previous f image app (Some v) = of_version f image app v
 
 abbrev pub elements_seen : Image → (app : ℕ) → RootSeen → List Listed
 elements_seen image app bad = []
-elements_seen image app (no_version lacking settled) = []
-elements_seen image app (versions active previous lacking settled) =
+elements_seen image app (no_version lacking sole) = []
+elements_seen image app (versions active previous lacking sole) =
     of_version (listed_of app) image app active ++ of_previous (listed_of app) image app previous
 
 abbrev pub findings_seen : Image → (app : ℕ) → RootSeen → List Finding
 findings_seen image app bad = finding app None Lost Root (1 ∷ 2 ∷ 3 ∷ []) ∷ []
-findings_seen image app (no_version lacking settled) =
-    damaged_by app None Root lacking ++ unless_settled settled app None Root
-findings_seen image app (versions active previous lacking settled) =
-    (damaged_by app None Root lacking ++ unless_settled settled app None Root)
+findings_seen image app (no_version lacking sole) =
+    damaged_by app None Root lacking ++ unless_sole sole app None Root
+findings_seen image app (versions active previous lacking sole) =
+    (damaged_by app None Root lacking ++ unless_sole sole app None Root)
     ++ of_version (of_storage app) image app active ++ of_previous (of_storage app) image app previous

@@ -28,8 +28,8 @@ unfolding elements_at elements_of findings_at findings_of audit_text app_at says
 computed = 0
 
 -- the text of an audit of this application alone
-abbrev text_of : (app : ℕ) → (settled : Bool) → App → List ℕ
-text_of app settled a = audit_text (elements_of app a) (findings_of app settled a)
+abbrev text_of : (app : ℕ) → (sole : Bool) → App → List ℕ
+text_of app sole a = audit_text (elements_of app a) (findings_of app sole a)
 
 -- ---- roots
 
@@ -90,7 +90,7 @@ home content lacking = record {
 }
 
 abbrev seen : (lacking : List ℕ) → Entry → View
-seen lacking entry = record { generation = 1; lacking = lacking; settled = true; entries = entry ∷ [] }
+seen lacking entry = record { generation = 1; lacking = lacking; sole = true; entries = entry ∷ [] }
 
 -- the encoding of u16:513
 abbrev good : Content

@@ -9,7 +9,7 @@ ghost use Rattle.deployment_model.specs.Data.{deployment_data, storage_data};
 ghost use Rattle.element_state.specs.States.{store_at};
 ghost use Rattle.deploy.specs.Views.{ShowsVersions, root_seen};
 ghost use Rattle.deploy.specs.declared.viewing.RootView.TheVariants.{Installed};
-ghost use Rattle.deploy_laws.specs.Apps.{app_at, root_settled};
+ghost use Rattle.deploy_laws.specs.Apps.{app_at, root_sole};
 ghost use Rattle.deploy_laws.specs.Places.{shape_of};
 ghost use Rattle.per_audit.specs.Audits.{elements_at, elements_of, findings_at, findings_of, listed_of, of_storage};
 ghost use Rattle.per_audit.specs.Noted.{Adds, elements_seen, findings_seen, named_in, of_previous, within};
@@ -54,7 +54,7 @@ pub fn audit<D: Disk>(alloc: Global, disk: &mut D) -> Result<Audit, Stop>
 fn audit_app<D: Disk>(alloc: Global, disk: &mut D, app: u32, notes: &mut Notes) -> Result<(), Stop>
     requires { app < 8 }
     ensures adds { IsTrue D.told → OnOk result (Adds (elements_of app (app_at (D.medium disk.old).image app))
-        (findings_of app (root_settled (D.medium disk.old).image app) (app_at (D.medium disk.old).image app)) notes.old
+        (findings_of app (root_sole (D.medium disk.old).image app) (app_at (D.medium disk.old).image app)) notes.old
         notes.new) }
     ensures quiet { OnOk result (Quiet (D.medium disk.new)) }
     ensures image { (D.medium disk.new).image ≡ (D.medium disk.old).image }
@@ -95,8 +95,8 @@ fn audit_view<D: Disk>(
             note_bad_root(alloc, notes, app)?;
             Ok(())
         }
-        RootView::Absent { lacking, settled } => {
-            note_root(alloc, notes, app, lacking, *settled)?;
+        RootView::Absent { lacking, sole } => {
+            note_root(alloc, notes, app, lacking, *sole)?;
             Ok(())
         }
         RootView::Installed(state) => audit_versions(alloc, disk, app, state, notes),
@@ -125,7 +125,7 @@ fn audit_versions<D: Disk>(
     ensures fed { IsErrOf result Stop.OutOfMemory → (D.medium disk.new).faults ≡ (D.medium disk.old).faults }
     ensures time { Elapses (D.medium disk.old) (D.medium disk.new) }
 {
-    note_root(alloc, notes, app, &state.lacking, state.settled)?;
+    note_root(alloc, notes, app, &state.lacking, state.sole)?;
     audit_storages(
         alloc,
         disk,

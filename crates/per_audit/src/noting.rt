@@ -8,7 +8,7 @@ ghost use Rattle.deployment_model.specs.Data.{storage_data};
 ghost use Rattle.element_state.specs.Reports.{is_readable};
 ghost use Rattle.deploy_rows.specs.Recovering.{is_content};
 ghost use Rattle.per_audit.specs.declared.findings.FindingKind.TheVariants.{Lost};
-ghost use Rattle.per_audit.specs.Audits.{damaged_by, finding, lacking_by, listed, of_element, unless_settled};
+ghost use Rattle.per_audit.specs.Audits.{damaged_by, finding, lacking_by, listed, of_element, unless_sole};
 ghost use Rattle.per_audit.specs.Noted.{Adds, elements_found, findings_found, of_corrupt, of_view};
 
 use crate::findings::{Audit, Finding, FindingKind, Listed};
@@ -72,14 +72,14 @@ pub(crate) fn note_root(
     notes: &mut Notes,
     app: u32,
     lacking: &Numbers,
-    settled: bool,
+    sole: bool,
 ) -> Result<(), AllocError>
-    ensures { OnOk result (Adds [] (damaged_by app None Root lacking.now ++ unless_settled settled app None Root)
+    ensures { OnOk result (Adds [] (damaged_by app None Root lacking.now ++ unless_sole sole app None Root)
         notes.old notes.new) }
 {
     let findings = &mut notes.findings;
     push_damaged(findings, app, None, Unit::Root, lacking)?;
-    push_unless_settled(alloc, findings, settled, app, None, Unit::Root)
+    push_unless_sole(alloc, findings, sole, app, None, Unit::Root)
 }
 
 // ---- storages
@@ -114,7 +114,7 @@ pub(crate) fn note_storage(
             app,
             bank,
             config,
-            view.settled,
+            view.sole,
         ),
         None => push_corrupt(alloc, &mut notes.findings, app, bank, config, true),
     }
@@ -158,16 +158,16 @@ fn push_corrupt(
     app: u32,
     bank: u32,
     config: &StorageConfig,
-    settled: bool,
+    sole: bool,
 ) -> Result<(), AllocError>
     ensures { OnOk result (findings.new.items ≡ findings.old.items
-        ++ of_corrupt app bank (storage_data config.now) settled) }
+        ++ of_corrupt app bank (storage_data config.now) sole) }
 {
     let copies = all_copies(alloc, config.n)?;
     let unit = Unit::Whole(config.name.copy()?);
     push_lost(findings, app, bank, unit, copies)?;
     let unit = Unit::Whole(config.name.copy()?);
-    push_unless_settled(alloc, findings, settled, app, Some(bank), unit)
+    push_unless_sole(alloc, findings, sole, app, Some(bank), unit)
 }
 
 // What is found of a storage that opens, and of its elements.
@@ -185,7 +185,7 @@ fn push_view(
     let unit = Unit::Whole(config.name.copy()?);
     push_damaged(findings, app, Some(bank), unit, &view.lacking)?;
     let unit = Unit::Whole(config.name.copy()?);
-    push_unless_settled(alloc, findings, view.settled, app, Some(bank), unit)?;
+    push_unless_sole(alloc, findings, view.sole, app, Some(bank), unit)?;
     push_elements(alloc, findings, app, bank, config, view.entries.as_slice())
 }
 
@@ -298,17 +298,17 @@ fn push_damaged(
 }
 
 // The unit is unsettled where another text is held besides.
-fn push_unless_settled(
+fn push_unless_sole(
     alloc: Global,
     findings: &mut Vec<Finding>,
-    settled: bool,
+    sole: bool,
     app: u32,
     bank: Option<u32>,
     unit: Unit,
 ) -> Result<(), AllocError>
-    ensures { OnOk result (findings.new.items ≡ findings.old.items ++ unless_settled settled app bank unit) }
+    ensures { OnOk result (findings.new.items ≡ findings.old.items ++ unless_sole sole app bank unit) }
 {
-    if settled {
+    if sole {
         return Ok(());
     }
     findings.push(Finding {

@@ -7,6 +7,7 @@ use Rattle.disk_model.specs.Frame.{IsSettledOn, Spares}
 use Rattle.disk_model.specs.Image.{Image}
 use Rattle.disk_model.specs.Laws.{goes_on, idle_on}
 use Rattle.disk_model.specs.Medium.{EachCase, Elapses, IsIdle, Medium, Quiet}
+use Rattle.disk_model.specs.lemmas.Frames.{settled_on}
 use Rattle.deployment_model.specs.Data.{StorageData}
 use Rattle.element_laws.specs.Phases.{IsOfPlace}
 use Rattle.element_state.specs.Clean.{IsClean}
@@ -25,7 +26,6 @@ use Rattle.per_backup.specs.Clauses.{ImportKeeps, Imported, IsSeen}
 use Rattle.per_backup.specs.Finding.{IsLocated, IsMissing, config_of, found_as}
 use Rattle.per_backup.specs.StorageLaws.{StorageLaws}
 use Rattle.per_backup.proofs.Rows.{importing_found, importing_missing, later_import, row_goes, some_agree, with_row}
-use Rattle.per_backup.proofs.Stored.{settled_so}
 
 pub nothing_on : {old mid new : Medium} → Elapses old mid → ChangesNothing old mid → Elapses mid new
     → ChangesNothing mid new → ChangesNothing old new
@@ -41,16 +41,16 @@ module _ (laws : StorageLaws) (app : ℕ) (lt : app < 8) (name text : List ℕ) 
     (nothing : ChangesNothing old new) where
   kept_so : (shape : Shape) (state : State) → 1 ≤ shape.m → KeptThroughout shape state old new
   kept_so shape state some quiet clean c past = laws.untouched shape old.image state c some clean
-      (settled_so (IsOfPlace shape.place) old.image c ((nothing.idle quiet).during c past))
+      (settled_on (IsOfPlace shape.place) ((nothing.idle quiet).during c past))
 
   -- each moment of an import
   pub nothing_keeps : ImportKeeps app name text old new
   nothing_keeps = record {
     kept = λ f found. kept_so (shape_in app f) _ (some_agree laws old.image app name f found);
     elsewhere = λ f found file out. ap (λ (im : Image). im file) nothing.image;
-    outside = λ f found quiet c past. settled_so _ old.image c ((nothing.idle quiet).during c past);
+    outside = λ f found quiet c past. settled_on _ ((nothing.idle quiet).during c past);
     stands = λ quiet clean c past. laws.still app old.image _ c lt clean
-        (settled_so (IsFileOf app) old.image c ((nothing.idle quiet).during c past))
+        (settled_on (IsFileOf app) ((nothing.idle quiet).during c past))
         (later_import (app_at old.image app) name text);
     refused = λ err. nothing;
   }
@@ -73,14 +73,14 @@ module _ (laws : StorageLaws) (old mid new : Medium) (before : Elapses old mid) 
       → KeptThroughout shape state old new
   then_kept shape state some keeps quiet clean = goes_on (IsKeptCase shape old.image state) before later
       (λ c past. laws.untouched shape old.image state c some clean
-      (settled_so (IsOfPlace shape.place) old.image c ((nothing.idle quiet).during c past)))
+      (settled_on (IsOfPlace shape.place) ((nothing.idle quiet).during c past)))
       (subst (λ (im : Image). EachCase (IsKeptCase shape im state) mid new) nothing.image
       (keeps (nothing.idle quiet).quiet (subst (λ (im : Image). IsClean shape im) (sym nothing.image) clean)))
 
   pub then_outside : (Files : ℕ → Type 0) → (Quiet mid → EachCase (IsSettledOn Files mid.image) mid new) → Quiet old
       → EachCase (IsSettledOn Files old.image) old new
   then_outside Files outside quiet = goes_on (IsSettledOn Files old.image) before later
-      (λ c past. settled_so Files old.image c ((nothing.idle quiet).during c past))
+      (λ c past. settled_on Files ((nothing.idle quiet).during c past))
       (subst (λ (im : Image). EachCase (IsSettledOn Files im) mid new) nothing.image
       (outside (nothing.idle quiet).quiet))
 

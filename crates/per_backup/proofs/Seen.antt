@@ -10,7 +10,7 @@ use Rattle.deployment_model.specs.declared.configs.StorageConfig.{StorageConfig}
 use Rattle.element_state.specs.declared.shapes.Shape.{Shape}
 use Rattle.element_state.specs.States.{State, store_at}
 use Rattle.deploy_laws.specs.Places.{Named}
-use Rattle.deploy_laws.specs.Apps.{App, Says, absent, app_at, installed, nothing, root_settled, says_at}
+use Rattle.deploy_laws.specs.Apps.{App, Says, absent, app_at, installed, nothing, root_sole, says_at}
 use Rattle.deploy.specs.Views.{RootSeen, bad, no_version, seen_at, seen_by, versions}
 use Rattle.run_model.specs.Found.{found_at, found_in, found_with, storage_in}
 use Rattle.per_backup.specs.Clauses.{IsSeen}
@@ -23,8 +23,8 @@ use Rattle.per_backup.proofs.Stored.{says_of, state_there}
 
 abbrev says_so : RootSeen → Says
 says_so bad = nothing
-says_so (no_version lacking settled) = absent 0
-says_so (versions active previous lacking settled) = installed 0 active previous
+says_so (no_version lacking sole) = absent 0
+says_so (versions active previous lacking sole) = installed 0 active previous
 
 abbrev app_so : RootSeen → List State → App
 app_so look states = record { says = says_so look; lacking = []; states = states }
@@ -32,21 +32,21 @@ app_so look states = record { says = says_so look; lacking = []; states = states
 -- ---- none is found
 
 out_by : (look : RootSeen) (name : List ℕ) (e : PerError) → IsOut name look e
-    → (says : Says) (lacking : List ℕ) (settled : Bool) → look ≡ seen_by says lacking settled
+    → (says : Says) (lacking : List ℕ) (sole : Bool) → look ≡ seen_by says lacking sole
     → (states : List State) → found_in says states name None ≡ Err e
-out_by look name e out nothing lacking settled is states =
+out_by look name e out nothing lacking sole is states =
     ap (λ (x : PerError). Err x) (sym (subst (λ (l : RootSeen). IsOut name l e) is out))
-out_by look name e out (absent g) lacking settled is states =
+out_by look name e out (absent g) lacking sole is states =
     ap (λ (x : PerError). Err x) (sym (subst (λ (l : RootSeen). IsOut name l e) is out))
-out_by look name e out (installed g active previous) lacking settled is states =
+out_by look name e out (installed g active previous) lacking sole is states =
     let so = subst (λ (l : RootSeen). IsOut name l e) is out in
     ap (found_at active states None) so.0 ∙ ap (λ (x : PerError). Err x) (sym so.1)
 
 out_so : (look : RootSeen) (name : List ℕ) (e : PerError) → IsOut name look e
     → found_in (says_so look) [] name None ≡ Err e
 out_so bad name e out = ap (λ (x : PerError). Err x) (sym out)
-out_so (no_version lacking settled) name e out = ap (λ (x : PerError). Err x) (sym out)
-out_so (versions active previous lacking settled) name e out =
+out_so (no_version lacking sole) name e out = ap (λ (x : PerError). Err x) (sym out)
+out_so (versions active previous lacking sole) name e out =
     ap (found_at active [] None) out.0 ∙ ap (λ (x : PerError). Err x) (sym out.1)
 
 pub missing : (told : Bool) (image : Image) (app : ℕ) (name : List ℕ) (look : RootSeen)
@@ -55,7 +55,7 @@ pub missing : (told : Bool) (image : Image) (app : ℕ) (name : List ℕ) (look 
 missing true image app name look seen e out = (
   app_at image app,
   λ tells. refl,
-  out_by look name e out (app_at image app).says (app_at image app).lacking (root_settled image app) (seen refl)
+  out_by look name e out (app_at image app).says (app_at image app).lacking (root_sole image app) (seen refl)
       (app_at image app).states,
 )
 missing false image app name look seen e out = (
@@ -67,13 +67,13 @@ missing false image app name look seen e out = (
 -- ---- one is found
 
 -- the root says what was seen
-says_seen : (active : Named) (previous : Option Named) (lacking : List ℕ) (settled : Bool) (says : Says)
+says_seen : (active : Named) (previous : Option Named) (lacking : List ℕ) (sole : Bool) (says : Says)
     (others : List ℕ) (alone : Bool)
-    → versions active previous lacking settled ≡ seen_by says others alone
+    → versions active previous lacking sole ≡ seen_by says others alone
     → (g : ℕ) × (before : Option Named) × (says ≡ installed g active before)
-says_seen active previous lacking settled nothing others alone is = absurd cc
-says_seen active previous lacking settled (absent g) others alone is = absurd cc
-says_seen active previous lacking settled (installed g v before) others alone is = let e : v ≡ active =
+says_seen active previous lacking sole nothing others alone is = absurd cc
+says_seen active previous lacking sole (absent g) others alone is = absurd cc
+says_seen active previous lacking sole (installed g v before) others alone is = let e : v ≡ active =
     cc in (g, before, ap (λ (x : Named). installed g x before) e)
 
 found_so : (active : Named) (states : List State) (found : Option ℕ) (number : ℕ) (s : StorageData) (state : State)
@@ -95,11 +95,11 @@ module _ (laws : StorageLaws) (image : Image) (app : ℕ) (name : List ℕ) (act
       (state_there laws app g active previous of.number (config_of l) of.config image says
       ∙ ap (λ (x : State). Some x) (ap (store_at image) (sym of.shape) ∙ sym is))
 
-  named_so : (previous : Option Named) (lacking : List ℕ) (settled : Bool) (state : State)
-      → storage_in (app_so (versions active previous lacking settled)
+  named_so : (previous : Option Named) (lacking : List ℕ) (sole : Bool) (state : State)
+      → storage_in (app_so (versions active previous lacking sole)
       (map (λ (s : StorageData). state) active.deployment.storages)) name None
       ≡ Ok (found_as active of.number l state)
-  named_so previous lacking settled state = found_so active
+  named_so previous lacking sole state = found_so active
       (map (λ (s : StorageData). state) active.deployment.storages) _ of.number (config_of l) state of.by_name of.config
       (slice_get-map (λ (s : StorageData). state) active.deployment.storages of.number
       ∙ ap (option_map (λ (s : StorageData). state)) of.config)
@@ -108,8 +108,8 @@ pub located : StorageLaws → (told : Bool) (image : Image) (app : ℕ) (name : 
     → (IsTrue told → look ≡ seen_at image app)
     → (l : Located) → IsIn app name look l → IsLocated told image app name l
 located laws told image app name bad seen l of = absurd of
-located laws told image app name (no_version lacking settled) seen l of = absurd of
-located laws told image app name (versions active previous lacking settled) seen l of = record {
+located laws told image app name (no_version lacking sole) seen l of = absurd of
+located laws told image app name (versions active previous lacking sole) seen l of = record {
   active = active;
   of = of;
   says = says;
@@ -117,8 +117,8 @@ located laws told image app name (versions active previous lacking settled) seen
 }
   where
     says : IsTrue told → (g : ℕ) × (before : Option Named) × (says_at image app ≡ installed g active before)
-    says tells = let s = says_seen active previous lacking settled (app_at image app).says (app_at image app).lacking
-        (root_settled image app) (seen tells) in
+    says tells = let s = says_seen active previous lacking sole (app_at image app).says (app_at image app).lacking
+        (root_sole image app) (seen tells) in
         (s.0, s.1, sym (says_of image app) ∙ s.2)
 
     named : (b : Bool) → b ≡ told → (state : State) → (IsTrue told → state ≡ store_at image l.shape)
@@ -126,9 +126,9 @@ located laws told image app name (versions active previous lacking settled) seen
     named true is state at = let s = says (sym is) in
         (app_at image app, λ tells. refl, named_there laws image app name active l of s.0 s.1 s.2 state (at (sym is)))
     named false is state at = (
-      app_so (versions active previous lacking settled) (map (λ (s : StorageData). state) active.deployment.storages),
+      app_so (versions active previous lacking sole) (map (λ (s : StorageData). state) active.deployment.storages),
       λ tells. absurd (true≢false (sym (is ∙ tells))),
-      named_so laws image app name active l of previous lacking settled state,
+      named_so laws image app name active l of previous lacking sole state,
     )
 
 -- ---- by their numbers

@@ -7,6 +7,7 @@ use Rattle.disk_model.specs.Frame.{IsSettledOn, Spares}
 use Rattle.disk_model.specs.Image.{Image}
 use Rattle.disk_model.specs.Medium.{EachCase, Medium, Quiet}
 use Rattle.disk_model.specs.Place.{IsOutside}
+use Rattle.disk_model.specs.lemmas.Frames.{settled_less}
 use Rattle.deployment_model.specs.Data.{StorageData}
 use Rattle.element_state.specs.Clean.{IsClean}
 use Rattle.element_state.specs.Kept.{KeptThroughout}
@@ -17,21 +18,6 @@ use Rattle.deploy_laws.specs.Apps.{App, IsCleanApp, Says, app_at, installed, say
 use Rattle.deploy_laws.specs.Stands.{StandsThroughout}
 use Rattle.per_backup.specs.StorageLaws.{StorageLaws}
 use Rattle.per_backup.proofs.Lists.{all_at, get_append, set_same}
-
-settled_fewer : (Files Fewer : ℕ → Type 0) (image : Image) (c : Case) → ((f : ℕ) → Fewer f → Files f)
-    → IsSettledOn Files image c → IsSettledOn Fewer image c
-settled_fewer Files Fewer image c less settled = record {
-  base = λ f in_them. settled.base f (less f in_them);
-  full = λ f in_them. settled.full f (less f in_them);
-  left = λ f in_them. settled.left f (less f in_them);
-}
-
-pub settled_so : (Files : ℕ → Type 0) (image : Image) (c : Case) → IsSettledAt image c → IsSettledOn Files image c
-settled_so Files image c at = record {
-  base = λ f in_them. ap (λ (i : Image). i f) at.base;
-  full = λ f in_them. ap (λ (i : Image). i f) at.full;
-  left = λ f in_them. ap (λ (i : Image). i f) at.left;
-}
 
 pub says_of : (image : Image) (app : ℕ) → (app_at image app).says ≡ says_at image app
 unfolding app_at
@@ -101,7 +87,6 @@ module _ (laws : StorageLaws) (app g : ℕ) (v : Named) (previous : Option Named
         }) old new
     storing_here after old new is outside kept quiet clean c since =
         laws.storing app g number old.image v previous s after c lt clean is at
-        (settled_fewer (IsOutside here.place.first here.place.copies)
-        (λ f. IsFileOf app f × IsBeside app v.bank number f) old.image c (λ f p. outside_of f p.1)
+        (settled_less (λ f p. outside_of f p.1)
         (outside quiet c since))
         (kept quiet (clean_there old.image is clean) c since)

@@ -37,14 +37,14 @@ pub record IsOf (app : ℕ) (name : List ℕ) (active : Named) (l : Located) : T
 -- a version is seen, and it has the storage
 abbrev pub IsIn : (app : ℕ) (name : List ℕ) → RootSeen → Located → Type 0
 IsIn app name bad l = ⊥
-IsIn app name (no_version lacking settled) l = ⊥
-IsIn app name (versions active previous lacking settled) l = IsOf app name active l
+IsIn app name (no_version lacking sole) l = ⊥
+IsIn app name (versions active previous lacking sole) l = IsOf app name active l
 
 -- the first that stands in the way: the root is bad, nothing is installed, there is no such storage
 abbrev pub IsOut : (name : List ℕ) → RootSeen → PerError → Type 0
 IsOut name bad e = e ≡ error.IntegrityCorrupted unit.Root
-IsOut name (no_version lacking settled) e = e ≡ error.NotInstalled
-IsOut name (versions active previous lacking settled) e =
+IsOut name (no_version lacking sole) e = e ≡ error.NotInstalled
+IsOut name (versions active previous lacking sole) e =
     (storage_number active.deployment name ≡ None) × (e ≡ error.StorageNotFound)
 
 -- ---- of the application that was seen

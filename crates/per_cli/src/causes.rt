@@ -58,9 +58,7 @@ pub(crate) fn say<R: Files + Eprint>(rt: &R, ended: &Ended<'_>) -> io::Result<()
         4 => rt.eprintln("per: memory ran out"),
         5 => say_stream(rt, "standard input", ended.source),
         6 => say_stream(rt, "standard output", ended.sink),
-        7 => rt.eprintln(
-            "per: the input has more than 67108864 bytes, or exactly as many and no line `end`",
-        ),
+        7 => rt.eprintln("per: the first 67108864 bytes of the input have no line `end`"),
         8 if !ended.has_files => say_of_folder(rt, ended),
         8 => rt.eprintln("per: the audit found something; its lines say what"),
         9 if !ended.has_files => say_of_folder(rt, ended),

@@ -105,14 +105,14 @@ Errors
  31 ExportRejected           the text is no export of a storage of this kind
 
 Status
-  0 all lines were handled and answered
+  0 all lines were handled and answered, or the job was done
   1 the words are refused
   2 a line is outside the grammar; bad-line and its number are the last reply
   3 the disk failed while the program started or formatted, or in an audit, an export or an import
   4 memory ran out
   5 the input failed
   6 the output failed
-  7 the input has 67108864 bytes or more
+  7 the first 67108864 bytes of the input have no line end
   8 the audit found something; its lines say what
   9 the export or the import was refused; its line says why
  10 the flash cannot be opened: too many pages of files, or no spare block

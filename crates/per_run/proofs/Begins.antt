@@ -2,6 +2,7 @@
 use Rattle.std.proofs.Common.{ℕ, List, [], ◌≡◌, refl, sym, subst, Option, Bool, false, IsTrue, arith}
 use Rattle.std.proofs.KnownBytes.{Appends-nil, Consumes-nil}
 use Rattle.disk_model.specs.Medium.{Medium, IsLawful, Elapses}
+use Rattle.disk_model.specs.lemmas.Frames.{settled_on}
 use Rattle.migrate_fns.specs.Rules.{Rule, Answers}
 use Rattle.per_base.specs.Causes.{Rose}
 use Rattle.deploy_laws.specs.Apps.{app_at}
@@ -11,7 +12,6 @@ use Rattle.deploy_rows.specs.Rows.{reopened}
 use Rattle.run_model.specs.AppLaws.{AppLaws}
 use Rattle.run_model.specs.Endings as endings
 use Rattle.run_model.specs.Endings.{HasCauseOf, status_of}
-use Rattle.run_model.specs.KeepLaws.{settled_on}
 use Rattle.run_model.specs.RunLaws.{start_disk}
 use Rattle.run_model.specs.Runs.{Run}
 use Rattle.run_model.specs.Runtimes.{Memory, Starts, StartKeeps}
@@ -54,7 +54,7 @@ pub unbegun : AppLaws → (told : Bool) (m : Medium) → IsLawful told m → Sta
 unbegun laws told m lawful quiet app lt clean c since =
     let stands : StandsCase app (app_at m.image app) (reopened (app_at m.image app)) c =
     laws.still app m.image (reopened (app_at m.image app)) c lt clean
-    (settled_on (IsFileOf app) m.image c (quiet c (lawful.only_now c since))) (same_root refl refl) in
+    (settled_on (IsFileOf app) (quiet c (lawful.only_now c since))) (same_root refl refl) in
     subst (λ x. StandsCase app x (disk_at (disks (started (world_at m.image))) app) c) (sym (at_entry m.image app lt))
     (subst (λ y. StandsCase app (app_at m.image app) y c) (sym (at_start m.image app lt)) stands)
 

@@ -49,11 +49,11 @@ pub record IsOpened {F : Type 0} (told : Bool) (medium : F → FlashMedium) (fla
 -- Why a flash was not opened, and the status that says so; back is what is handed back.
 pub data IsRefused (told : Bool) (status : ℕ) (flash back : FlashMedium) : Type 0 where
   wrong_size : IsWrongSize flash.blocks → status ≡ 11 → IsRefused told status flash back
-  unusable : (IsWrongSize flash.blocks → ⊥) → (IsTrue told → IsUnusable flash.state.pages flash.blocks)
+  unusable : ¬ (IsWrongSize flash.blocks) → (IsTrue told → IsUnusable flash.state.pages flash.blocks)
       → back.faults ≡ flash.faults → status ≡ 10 → IsRefused told status flash back
-  failed : (IsWrongSize flash.blocks → ⊥) → Rose flash.faults back.faults → status ≡ 3
+  failed : ¬ (IsWrongSize flash.blocks) → Rose flash.faults back.faults → status ≡ 3
       → IsRefused told status flash back
-  memory : (IsWrongSize flash.blocks → ⊥) → status ≡ 4 → IsRefused told status flash back
+  memory : ¬ (IsWrongSize flash.blocks) → status ≡ 4 → IsRefused told status flash back
 
 -- no page of what is handed back changed, also at no moment, and no count fell
 pub record IsHandedBack (told : Bool) (flash back : FlashMedium) : Type 0 where

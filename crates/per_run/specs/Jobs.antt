@@ -53,11 +53,11 @@ IsDone status = IsWritten status ⊎ (status ≡ 6)
 pub record Writes (status : ℕ) (before now : Option (List ℕ)) (text : List ℕ) : Type 0 where
   pub whole : IsWritten status → Appends before now text
   pub front : status ≡ 6 → IsFront before now text
-  pub none : (IsDone status → ⊥) → Keeps before now
+  pub none : ¬ (IsDone status) → Keeps before now
 
 -- where the status is not 3, no call of the disk failed
 abbrev pub FailsAtThree : (status : ℕ) → (before now : ℕ) → Type 0
-FailsAtThree status before now = (status ≡ 3 → ⊥) → now ≡ before
+FailsAtThree status before now = status ≢ 3 → now ≡ before
 
 -- ---- format
 

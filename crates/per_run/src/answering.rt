@@ -1,6 +1,6 @@
 //! One line: what it says, and its command's answer.
 
-ghost use Rattle.std.specs.Prelude.{◌≡◌, ℕ, List};
+ghost use Rattle.std.specs.Prelude.{◌≡◌, ℕ, List, ◌≢◌};
 ghost use Rattle.disk_model.specs.Medium.{Elapses};
 ghost use Rattle.migrate_fns.specs.Stored.{answers_of, rules_of};
 ghost use Rattle.command_text.specs.Grammar.{IsEvent, IsLine};
@@ -42,7 +42,7 @@ pub fn answer_line<D: Disk>(
     ensures came { Came D.told D.medium (rules_of migrations.now) (answers_of migrations.now) text.now
         (memory_of runtime.old) (memory_of runtime.new)
         disk.old disk.new result }
-    ensures memory { (result ≡ Outcome.OutOfMemory → ⊥) → IsRuntime D.told (D.medium disk.new) runtime.new }
+    ensures memory { result ≢ Outcome.OutOfMemory → IsRuntime D.told (D.medium disk.new) runtime.new }
     ensures time { Elapses (D.medium disk.old) (D.medium disk.new) }
 {
     match parse_line(alloc, text) {
@@ -67,7 +67,7 @@ fn answer<D: Disk>(
         → Came D.told D.medium (rules_of migrations.now) (answers_of migrations.now) text (memory_of runtime.old)
         (memory_of runtime.new)
         disk.old disk.new result }
-    ensures memory { (result ≡ Outcome.OutOfMemory → ⊥) → IsRuntime D.told (D.medium disk.new) runtime.new }
+    ensures memory { result ≢ Outcome.OutOfMemory → IsRuntime D.told (D.medium disk.new) runtime.new }
     ensures time { Elapses (D.medium disk.old) (D.medium disk.new) }
 {
     match runtime.step(disk, migrations, event) {

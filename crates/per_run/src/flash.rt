@@ -1,6 +1,6 @@
 //! The top call over raw flash.
 
-ghost use Rattle.std.specs.Prelude.{◌≡◌, ◌⊎◌, ◌+◌, IfSome, IsSomeAnd, false, map, string_bytes};
+ghost use Rattle.std.specs.Prelude.{◌≡◌, ◌⊎◌, ◌+◌, IfSome, IsSomeAnd, false, map, string_bytes, ◌≢◌};
 ghost use Rattle.migrate_fns.specs.Stored.{answers_of, rules_of};
 ghost use Rattle.per_base.specs.Causes.{Rose};
 ghost use Rattle.run_model.specs.Lines.{IsWellFormed};
@@ -64,8 +64,8 @@ pub fn per_flash<F: Flash, S: Source, K: Sink>(
     ensures complete { IfRan result (λ status disk. IfSome (job_of (map string_bytes words.now))
         (λ job. job.kind ≡ JobKind.Run
         → (Rose (F.medium flash).faults ((F.medium disk.flash).faults + disk.own) → ⊥)
-        → (Rose (S.faults source.old) (S.faults source.new) → ⊥)
-        → (Rose (K.faults sink.old) (K.faults sink.new) → ⊥)
+        → ¬ (Rose (S.faults source.old) (S.faults source.new))
+        → ¬ (Rose (K.faults sink.old) (K.faults sink.new))
         → IfSome (S.left source.old) (λ left. IsWellFormed left → (status ≡ 0) ⊎ (status ≡ 4)))) }
 
     // Why there was no run; then no input was read, no output written and no page of the flash changed.
@@ -102,7 +102,7 @@ fn run_over<F: Flash, S: Source, K: Sink>(
     ensures back { IfUnopened result (λ status back. IsHandedBack F.told (F.medium flash) (F.medium back)) }
     ensures untouched { IfUnopened result (λ status back. (source.new ≡ source.old) × (sink.new ≡ sink.old)) }
     ensures same { IfUnopened result (λ status back. (status ≡ 4) ⊎ (status ≡ 11) → back ≡ flash) }
-    ensures not_words { IfUnopened result (λ status back. status ≡ 1 → ⊥) }
+    ensures not_words { IfUnopened result (λ status back. status ≢ 1) }
 {
     match FlashDisk::open(alloc, flash) {
         Ok(mut disk) => {

@@ -69,8 +69,8 @@ pub fn per_run<D: Disk, S: Source, K: Sink>(
     // A run over lines that are all in the grammar, with no failure, handles them all, unless memory ran out.
     ensures complete { IfSome (job_of (map string_bytes words.now)) (λ job. job.kind ≡ JobKind.Run
         → (Rose (D.medium disk.old).faults (D.medium disk.new).faults → ⊥)
-        → (Rose (S.faults source.old) (S.faults source.new) → ⊥)
-        → (Rose (K.faults sink.old) (K.faults sink.new) → ⊥)
+        → ¬ (Rose (S.faults source.old) (S.faults source.new))
+        → ¬ (Rose (K.faults sink.old) (K.faults sink.new))
         → IfSome (S.left source.old) (λ left. IsWellFormed left → (result ≡ 0) ⊎ (result ≡ 4))) }
     ensures time { Elapses (D.medium disk.old) (D.medium disk.new) }
 {

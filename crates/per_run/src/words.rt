@@ -1,6 +1,6 @@
 //! The words of the command line.
 
-ghost use Rattle.std.specs.Prelude.{◌≡◌, ◌≢◌, Some, None, IfOk, false, map, option_map, string_bytes};
+ghost use Rattle.std.specs.Prelude.{◌≡◌, ◌≢◌, Some, None, IfOk, false, map, option_map, string_bytes, IsErrOf};
 ghost use Rattle.clap.specs.Words.{app_of, found_of, kind_of, rows_of, rule_of};
 ghost use Rattle.clap.specs.declared.error.kind.ErrorKind.{ErrorKind};
 ghost use Rattle.clap.specs.declared.builder.action.ArgAction.TheVariants.{Set, SetTrue};
@@ -68,7 +68,7 @@ impl From<AllocError> for WordsError {
 /// `Refused` only where they say none; `OutOfMemory`.
 pub fn read_words(alloc: Global, words: &[String]) -> Result<Job, WordsError>
     ensures job { IfOk result (λ job. job_of (map string_bytes words.now) ≡ Some job) }
-    ensures refused { result ≡ Err WordsError.Refused → job_of (map string_bytes words.now) ≡ None }
+    ensures refused { IsErrOf result WordsError.Refused → job_of (map string_bytes words.now) ≡ None }
 {
     match command(alloc) {
         Ok(command) => match command.try_get_matches_from(words) {

@@ -8,6 +8,7 @@ use Rattle.disk_model.specs.Case.{Case}
 use Rattle.disk_model.specs.Frame.{IsSettledOn}
 use Rattle.disk_model.specs.Laws.{cases_on, elapses_on, idle_sync}
 use Rattle.disk_model.specs.Medium.{Medium, Quiet, Elapses, EachCase, OnlyReads, WritesNothing}
+use Rattle.disk_model.specs.lemmas.Frames.{settled_on}
 use Rattle.deploy.specs.declared.errors.Stop.{Stop}
 use Rattle.deploy.specs.declared.errors.Stop.TheVariants.{Device, OutOfMemory}
 use Rattle.deploy_laws.specs.Apps.{App, app_at, IsCleanApp}
@@ -15,7 +16,6 @@ use Rattle.deploy_laws.specs.Places.{IsFileOf}
 use Rattle.deploy_laws.specs.Stands.{IsLater, StandsCase, same_root}
 use Rattle.deploy_rows.specs.Rows.{reopened}
 use Rattle.run_model.specs.AppLaws.{AppLaws, OpensRoot}
-use Rattle.run_model.specs.KeepLaws.{settled_on}
 use Rattle.run_model.specs.Runtimes.{StartKeeps, Starts, with_disk}
 use Rattle.run_model.specs.Runtimes as memory
 use Rattle.run_model.specs.Starting.{Opened, at_entry, at_start, open_next, open_none, opened_keeps, which}
@@ -48,7 +48,7 @@ is_reopened a = same_root refl refl
 pub unsynced_moments : AppLaws → (old new : Medium) → OnlyReads old new → Moments old new
 unsynced_moments laws old new reads quiet b lt clean c s =
     laws.still b old.image (reopened (app_at old.image b)) c lt clean
-    (settled_on (IsFileOf b) old.image c (quiet c (reads.during c s))) (is_reopened (app_at old.image b))
+    (settled_on (IsFileOf b) (quiet c (reads.during c s))) (is_reopened (app_at old.image b))
 
 -- what any opening promises, however it ends
 abbrev pub IsOnTheWay : ℕ → (old new : Medium) → Type 0

@@ -19,7 +19,7 @@ use Rattle.run_model.specs.Found.{Found}
 use Rattle.run_model.specs.KeepLaws.{call_fails, call_keeps, each_moment, idle_keeps}
 use Rattle.run_model.specs.Later.{set_length}
 use Rattle.run_model.specs.Lasting.{IsWorld}
-use Rattle.run_model.specs.Moments.{IsReady, Keeps}
+use Rattle.run_model.specs.Moments.{IsReady, KeepsApplication}
 use Rattle.run_model.specs.Runtimes.{Memory, IsDoubt, IsUnwritten, StaysAside, Stepped, Stopped, WritesWithin}
 use Rattle.run_model.specs.Runtimes.{WrittenBy, calls_none, is_durable, is_refusal, opens_root, writes_none}
 use Rattle.run_model.specs.Sessions.{Session}
@@ -292,7 +292,7 @@ module _ (laws : AppLaws) (rules : List Rule) (answers : Answers) (told : Bool) 
   -- ---- it was answered in a doubt, and called no device
 
   keeps_doubt : (d : Doubt) (w' : World) → w'.doubt ≡ Some d → OnlyReads old new → (k : ℕ)
-      → IsReady k (before (Some d)) old → Keeps k (before (Some d)) w' old new
+      → IsReady k (before (Some d)) old → KeepsApplication k (before (Some d)) w' old new
   unfolding before
   keeps_doubt d w' is reads k ready = record {
     any_moment = λ c s. inl (tt, reads.during c s);

@@ -8,6 +8,7 @@ use Rattle.disk_model.specs.Frame.{IsSettledOn}
 use Rattle.disk_model.specs.Image.{Image}
 use Rattle.disk_model.specs.Laws.{cases_on, elapses_on, rose_before}
 use Rattle.disk_model.specs.Medium.{Medium, Quiet, Elapses, EachCase, IsLawful, OnlyReads, WritesNothing}
+use Rattle.disk_model.specs.lemmas.Frames.{settled_on}
 use Rattle.element_maps.specs.Sessions.{synced_view}
 use Rattle.element_state.specs.Written.{IsWithin, map_cost}
 use Rattle.element_store.specs.Committing.{index_length}
@@ -21,7 +22,7 @@ use Rattle.command_text.specs.declared.replies.Reply.{Reply}
 use Rattle.deploy.specs.declared.errors.Stop.{Stop}
 use Rattle.deploy.specs.declared.errors.Stop.TheVariants.{Device, OutOfMemory}
 use Rattle.deploy_laws.specs.Apps.{IsCleanApp}
-use Rattle.run_model.specs.KeepLaws.{after_sync_keeps, failed_sync_keeps, settled_on}
+use Rattle.run_model.specs.KeepLaws.{after_sync_keeps, failed_sync_keeps}
 use Rattle.run_model.specs.Moments.{IsMoment, IsReady, StepKeeps, StopKeeps}
 use Rattle.run_model.specs.Runtimes.{Memory, IsDoubt, IsElsewhere, IsUnwritten, StaysAside, Stepped, StepsOn, Stopped}
 use Rattle.run_model.specs.Runtimes.{WrittenBy, WritesWithin, calls_none, world_of, writes_none}
@@ -74,7 +75,7 @@ module _ (rules : List Rule) (answers : Answers) (told : Bool) (n : ℕ) (c : Ca
   module _ (lawful : IsLawful told mid) (quiet : Quiet mid) (later : Elapses mid new) where
     -- a case of the sync, or one behind it: it might have come before the command, or leaves all as it was
     settled_case : (files : ℕ → Type 0) (x : Case) → mid.now x → IsSettledOn files old.image x
-    settled_case files x at = settled_on files old.image x
+    settled_case files x at = settled_on files
         (subst (λ (i : Image). IsSettledAt i x) nothing.image (quiet x at))
 
     moment_on : (P : Case → Type 0) → ((x : Case) → mid.now x → P x) → EachCase (λ x. P x) mid new

@@ -65,7 +65,7 @@ impl Runtime {
             event.now ≡ true → disk.new ≡ disk.old }
 
         // The device's failure is a reply, and has its cause in this command, whatever the disk tells.
-        ensures never { IsErrOf result Stop.Device → ⊥ }
+        ensures never { ¬ (IsErrOf result Stop.Device) }
         ensures blamed { IfOk result (IsBlamed (D.medium disk.old).faults (D.medium disk.new).faults) }
         ensures time { Elapses (D.medium disk.old) (D.medium disk.new) }
     {

@@ -1,6 +1,6 @@
 //! The trait of types whose things are values.
 
-ghost use Rattle.std.specs.Prelude.{◌≡◌, ◌≢◌, ◌<◌, ◌≤◌, IfOk, IsTrue, OnErr, length};
+ghost use Rattle.std.specs.Prelude.{◌≡◌, ◌≢◌, ◌<◌, ◌≤◌, IfOk, IsTrue, OnErr, length, IsErrOf};
 ghost use Rattle.value_model.specs.Encoding.{encoding};
 ghost use Rattle.value_model.specs.Kinds.{Kind, kind_depth, kind_fits};
 ghost use Rattle.value_model.specs.Trees.{Tree, type_of};
@@ -50,11 +50,11 @@ pub trait PerValue: Sized {
         ensures valid { IfOk result (λ value. IsValue value) }
 
         // each refusal comes where its rule fails and those before it hold
-        ensures too_deep { result ≡ Err ValueError.TooDeep → max_depth < kind_depth (type_of (tree self.now)) }
-        ensures too_long { result ≡ Err ValueError.TooLong
+        ensures too_deep { IsErrOf result ValueError.TooDeep → max_depth < kind_depth (type_of (tree self.now)) }
+        ensures too_long { IsErrOf result ValueError.TooLong
             → (kind_depth (type_of (tree self.now)) ≤ max_depth) × (max_length < length (encoding (tree self.now))) }
         ensures well_typed { result ≢ Err ValueError.IllTyped }
-        ensures memory { result ≡ Err ValueError.OutOfMemory → TakesMemory kind }
+        ensures memory { IsErrOf result ValueError.OutOfMemory → TakesMemory kind }
     {
         Value::new(self.to_node(alloc)?)
     }

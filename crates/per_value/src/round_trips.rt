@@ -1,6 +1,6 @@
 //! The two round trips, for every type of [`PerValue`].
 
-ghost use Rattle.std.specs.Prelude.{◌≡◌, ◌≢◌, ◌<◌, ◌≤◌, IfErr, IfOk, length};
+ghost use Rattle.std.specs.Prelude.{◌≡◌, ◌≢◌, ◌<◌, ◌≤◌, IfErr, IfOk, length, IsErrOf};
 ghost use Rattle.value_model.specs.Encoding.{encoding};
 ghost use Rattle.value_model.specs.Kinds.{kind_depth};
 ghost use Rattle.value_model.specs.Trees.{type_of};
@@ -19,8 +19,8 @@ pub fn there_and_back<T: PerValue>(alloc: Global, thing: &T) -> Result<T, ValueE
     ensures same { IfOk result (λ back. T.same thing.now back) }
 
     // the refusals are those of `to_value`
-    ensures too_deep { result ≡ Err ValueError.TooDeep → max_depth < kind_depth (type_of (T.tree thing.now)) }
-    ensures too_long { result ≡ Err ValueError.TooLong → (kind_depth (type_of (T.tree thing.now)) ≤ max_depth)
+    ensures too_deep { IsErrOf result ValueError.TooDeep → max_depth < kind_depth (type_of (T.tree thing.now)) }
+    ensures too_long { IsErrOf result ValueError.TooLong → (kind_depth (type_of (T.tree thing.now)) ≤ max_depth)
         × (max_length < length (encoding (T.tree thing.now))) }
     ensures well_typed { result ≢ Err ValueError.IllTyped }
 {

@@ -1,6 +1,6 @@
 //! Reading a root from its text.
 
-ghost use Rattle.std.specs.Prelude.{◌≡◌, ◌≢◌, ◌==◌, IfOk, length, option_map};
+ghost use Rattle.std.specs.Prelude.{◌≡◌, ◌≢◌, ◌==◌, IfOk, length, option_map, IsErrOf};
 ghost use Rattle.per_base.specs.Fields.{only_if};
 ghost use Rattle.root_text.specs.RootText.{IsRoot, Root, absent, installed_in, parts_at, parts_in, previous_at};
 ghost use Rattle.root_text.specs.RootText.{previous_in, root_in, root_of, root_text, some_root_in, some_text_at};
@@ -25,7 +25,7 @@ pub fn read_root(alloc: Global, text: &[u8]) -> Result<RootSays, RootError>
     ensures spelled { IfOk result (λ says. text.now ≡ root_text (root_said says)) }
 
     // What is refused is the text of no root.
-    ensures refused { result ≡ Err RootError.NotARoot → (r : Root) → IsRoot r → text.now ≢ root_text r }
+    ensures refused { IsErrOf result RootError.NotARoot → (r : Root) → IsRoot r → text.now ≢ root_text r }
 
     // Which root it is, as a function of the bytes.
     ensures read { Gives root_said result (root_of text.now) }

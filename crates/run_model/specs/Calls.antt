@@ -40,9 +40,9 @@ abbrev pub answered : Answer → Application → Outcome
 answered a r = (record { reports = []; answer = a }, r)
 
 -- a refusal changes nothing
-abbrev pub settle : Application → Result Outcome PerError → Outcome
-settle r (Ok outcome) = outcome
-settle r (Err e) = answered (answer.Error e) r
+abbrev pub concluded : Application → Result Outcome PerError → Outcome
+concluded r (Ok outcome) = outcome
+concluded r (Err e) = answered (answer.Error e) r
 
 abbrev pub found_or : {A : Type 0} → Option A → PerError → Result A PerError
 found_or None e = Err e
@@ -294,12 +294,12 @@ begun r p = Ok (answered answer.Done (record r { stage = updating p }))
 abbrev pub BeginsBy : List Rule → Answers → (now : ℕ) → Application → (text : List ℕ)
     → (InProgress → Result Outcome PerError) → Outcome → Type 0
 BeginsBy rules answers now r text after outcome = (row : Result InProgress PerError)
-    × Begins rules answers now (least_open r) text r.disk row × (outcome ≡ settle r (row >>= after))
+    × Begins rules answers now (least_open r) text r.disk row × (outcome ≡ concluded r (row >>= after))
 
 abbrev pub CallStep : List Rule → Answers → (app now : ℕ) → Application → Call → Outcome → Type 0
 CallStep rules answers app now r (call.Update text) outcome = BeginsBy rules answers now r text (updated r) outcome
 CallStep rules answers app now r (call.UpdateBegin text) outcome = BeginsBy rules answers now r text (begun r) outcome
-CallStep rules answers app now r other outcome = outcome ≡ settle r (app_step app r now other)
+CallStep rules answers app now r other outcome = outcome ≡ concluded r (app_step app r now other)
 
 abbrev pub StepBeside : List Rule → Answers → (app now : ℕ) → Application → Call → Option PerError → Outcome → Type 0
 StepBeside rules answers app now r c (Some e) outcome = outcome ≡ answered (answer.Error e) r

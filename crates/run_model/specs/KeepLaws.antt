@@ -6,29 +6,24 @@ use Rattle.disk_model.specs.Case.{Case, IsSettledAt}
 use Rattle.disk_model.specs.Frame.{IsSettledOn}
 use Rattle.disk_model.specs.Laws.{cases_on}
 use Rattle.disk_model.specs.Medium.{Medium, Quiet, IsLawful, EachCase, Elapses, OnlyReads, WritesNothing}
+use Rattle.disk_model.specs.lemmas.Frames.{settled_on}
 use Rattle.deploy_laws.specs.Places.{IsFileOf}
 use Rattle.deploy_laws.specs.Apps.{app_at, IsCleanApp}
 use Rattle.deploy_laws.specs.Pieces.{DecaysApp}
 use Rattle.deploy_laws.specs.Stands.{Stands, StandsCase, IsLater}
 use Rattle.deploy_rows.specs.Rows.{reopened}
 use Rattle.run_model.specs.AppLaws.{AppLaws, IsDiskOf, Calls, OpensRoot}
-use Rattle.run_model.specs.Moments.{AtMoment, Between, InDoubt, IsInDoubt, IsMoment, IsReady, Keeps, StepKeeps}
+use Rattle.run_model.specs.Moments.{AtMoment, Between, InDoubt, IsInDoubt, IsMoment, IsReady, KeepsApplication}
+use Rattle.run_model.specs.Moments.{StepKeeps}
 use Rattle.run_model.specs.Moments.{IsSoundDoubt}
 use Rattle.run_model.specs.Worlds.{Disks, Doubt, World, disks, disk_at, without_doubt}
-
-pub settled_on : (files : ℕ → Type 0) (image : Image) (c : Case) → IsSettledAt image c → IsSettledOn files image c
-settled_on files image c s = record {
-  base = λ f inside. subst (λ (i : Image). i f ≡ image f) (sym s.base) refl;
-  full = λ f inside. subst (λ (i : Image). i f ≡ image f) (sym s.full) refl;
-  left = λ f inside. subst (λ (i : Image). i f ≡ image f) (sym s.left) refl;
-}
 
 -- where nothing is pending a crash leaves the application as it is
 pub rests : AppLaws → (app : ℕ) → app < 8 → (ds : Disks) (m : Medium) → IsCleanApp app m.image → IsDiskOf app ds m
     → Quiet m → (c : Case) → m.now c
     → Between app ds ds c
 rests laws app lt ds m clean is quiet c now = subst (λ a. StandsCase app a a c) is
-    (laws.untouched app m.image c lt clean (settled_on (IsFileOf app) m.image c (quiet c now)))
+    (laws.untouched app m.image c lt clean (settled_on (IsFileOf app) (quiet c now)))
 
 doubtful : (doubt : Option Doubt) (d : Doubt) → doubt ≡ Some d → IsInDoubt doubt
 doubtful doubt d is = subst (λ x. IsInDoubt x) (sym is) tt
@@ -75,7 +70,7 @@ pub after_sync_keeps : (app : ℕ) (w w' : World) (d : Doubt) (told : Bool) (old
     → WritesNothing old now → Quiet now → Elapses now new → StepKeeps app (without_doubt w) w' now new
     → StepKeeps app w w' old new
 after_sync_keeps app w w' d told old now new doubt lawful time nothing quiet later keeps ready =
-    let kept : Keeps app (without_doubt w) w' now new = keeps
+    let kept : KeepsApplication app (without_doubt w) w' now new = keeps
     (record { clean = clean_on app old.image now.image nothing.image ready.clean; quiet = λ none. quiet }) in
     let after : (c : Case) → new.since now.moment c → IsMoment app w (disks w') w'.doubt old c =
     λ c s. ⊎_elim (λ x. absurd x.0) (λ m. inr m) (kept.any_moment c s) in
@@ -136,7 +131,7 @@ pub after_root_keeps : AppLaws → (app : ℕ) (w v w' : World) (old now new : M
     → StepKeeps app v w' now new → w'.doubt ≡ None
     → StepKeeps app w w' old new
 after_root_keeps laws app w v w' old now new to_come none none' disk time later opens ready_now keeps calm' ready =
-    let kept : Keeps app v w' now new = keeps ready_now in
+    let kept : KeepsApplication app v w' now new = keeps ready_now in
     record {
       any_moment = λ c s. inr (subst (λ x. AtMoment app (disks w) (disks w') x c) (sym calm')
           (root_then laws app (disks w) (disks v) (disks w') old now new to_come disk time later opens

@@ -39,7 +39,7 @@ use Rattle.run_model.specs.Worlds.{no_app, or_idle, app_of, with_app}
 use Rattle.run_model.specs.Lasting.{IsSessionOn, AreSessionsOn, IsStageOn, IsApplication, IsWorld, none_on, rests_so}
 use Rattle.run_model.specs.Later.{set_length}
 use Rattle.run_model.specs.OneApp.{none_there}
-use Rattle.run_model.specs.Calls.{Outcome, answered, settle, found_or, if_open, session_at, with_session}
+use Rattle.run_model.specs.Calls.{Outcome, answered, concluded, found_or, if_open, session_at, with_session}
 use Rattle.run_model.specs.Calls.{without_session, unless_open, opened_session, opened, open_step, durable_state}
 use Rattle.run_model.specs.Calls.{durable, lowest_handle, unless_held, closing, close_step, rebuild_step, local_step}
 use Rattle.run_model.specs.Calls.{active_storages}
@@ -104,10 +104,10 @@ unless_so Q false e row has = has refl
 abbrev pub Lasts : Outcome → Type 0
 Lasts o = IsApplication o.1
 
-pub settled : (r : Application) (row : Result Outcome PerError) → IsApplication r → IfOk row Lasts
-    → Lasts (settle r row)
-settled r (Ok o) is has = has
-settled r (Err e) is has = is
+pub lasts_on : (r : Application) (row : Result Outcome PerError) → IsApplication r → IfOk row Lasts
+    → Lasts (concluded r row)
+lasts_on r (Ok o) is has = has
+lasts_on r (Err e) is has = is
 
 -- ---- sessions in a row
 

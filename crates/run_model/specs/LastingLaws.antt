@@ -28,7 +28,7 @@ use Rattle.run_model.specs.Worlds.{World, app_of}
 use Rattle.run_model.specs.Lasting.{IsSessionOn, AreSessionsOn, IsStageOn, IsApplication, IsWorld}
 use Rattle.run_model.specs.Later.{set_length}
 use Rattle.run_model.specs.LastingCalls.{Lasts, IsFoundIn, app_so, with_so, root_so, not_to_open, on_ok, any_ok}
-use Rattle.run_model.specs.LastingCalls.{unless_so, settled, some_none, none_some, both_set, stage_set, open_is}
+use Rattle.run_model.specs.LastingCalls.{unless_so, lasts_on, some_none, none_some, both_set, stage_set, open_is}
 use Rattle.run_model.specs.LastingCalls.{stored_so, local_any, open_row, rebuild_row, close_row, marked_so}
 use Rattle.run_model.specs.LastingDeployments.{status_row, install_row, finish_row, rollback_row, wipe_row, next_row}
 use Rattle.run_model.specs.LastingDeployments.{commit_row, abort_row, update_row, begin_row}
@@ -149,45 +149,46 @@ call_so : (rules : List Rule) (answers : Answers) (app now : ℕ) (r : Applicati
     → (goes_beside c ≡ false → r.stage ≡ at_rest) → CallStep rules answers app now r c outcome → Lasts outcome
 unfolding app_step
 call_so rules answers app now r call.Status outcome again is rests step =
-    subst Lasts (sym step) (settled r (status_step r r.disk.says) is (status_row r r.disk.says is))
+    subst Lasts (sym step) (lasts_on r (status_step r r.disk.says) is (status_row r r.disk.says is))
 call_so rules answers app now r (call.Install text) outcome again is rests step =
-    subst Lasts (sym step) (settled r (done_with r (installing now text r.disk)) is (install_row r now text is))
+    subst Lasts (sym step) (lasts_on r (done_with r (installing now text r.disk)) is (install_row r now text is))
 call_so rules answers app now r (call.Update text) outcome again is rests step =
-    subst Lasts (sym step.2) (settled r (step.0 >>= updated r) is
+    subst Lasts (sym step.2) (lasts_on r (step.0 >>= updated r) is
     (update_row rules answers now r text outcome (rests refl) is step))
 call_so rules answers app now r call.Finish outcome again is rests step =
-    subst Lasts (sym step) (settled r (done_with r (finishing r.disk)) is (finish_row r (rests refl) is))
+    subst Lasts (sym step) (lasts_on r (done_with r (finishing r.disk)) is (finish_row r (rests refl) is))
 call_so rules answers app now r call.Rollback outcome again is rests step =
-    subst Lasts (sym step) (settled r (done_with r (rolling_back (least_open r) r.disk)) is
+    subst Lasts (sym step) (lasts_on r (done_with r (rolling_back (least_open r) r.disk)) is
     (rollback_row r (rests refl) is))
 call_so rules answers app now r call.Wipe outcome again is rests step =
-    subst Lasts (sym step) (settled r (done_with r (wiping (least_open r) r.disk)) is (wipe_row r (rests refl) is))
+    subst Lasts (sym step) (lasts_on r (done_with r (wiping (least_open r) r.disk)) is (wipe_row r (rests refl) is))
 call_so rules answers app now r (call.UpdateBegin text) outcome again is rests step =
-    subst Lasts (sym step.2) (settled r (step.0 >>= begun r) is (begin_row rules answers now r text outcome is step))
+    subst Lasts (sym step.2) (lasts_on r (step.0 >>= begun r) is (begin_row rules answers now r text outcome is step))
 call_so rules answers app now r call.UpdateNext outcome again is rests step =
-    subst Lasts (sym step) (settled r (next_step r) is (next_row r is))
+    subst Lasts (sym step) (lasts_on r (next_step r) is (next_row r is))
 call_so rules answers app now r call.UpdateCommit outcome again is rests step =
-    subst Lasts (sym step) (settled r (commit_step r) is (commit_row r is))
+    subst Lasts (sym step) (lasts_on r (commit_step r) is (commit_row r is))
 call_so rules answers app now r call.UpdateAbort outcome again is rests step =
-    subst Lasts (sym step) (settled r (abort_step r) is (abort_row r is))
+    subst Lasts (sym step) (lasts_on r (abort_step r) is (abort_row r is))
 call_so rules answers app now r (call.OpenKvs n) outcome again is rests step =
-    subst Lasts (sym step) (settled r (open_step app r n kinds.Keys) is (open_row app r n kinds.Keys is (rests refl)))
+    subst Lasts (sym step) (lasts_on r (open_step app r n kinds.Keys) is (open_row app r n kinds.Keys is (rests refl)))
 call_so rules answers app now r (call.OpenFiles n) outcome again is rests step =
-    subst Lasts (sym step) (settled r (open_step app r n kinds.Files) is (open_row app r n kinds.Files is (rests refl)))
+    subst Lasts (sym step) (lasts_on r (open_step app r n kinds.Files) is
+    (open_row app r n kinds.Files is (rests refl)))
 call_so rules answers app now r (call.Sync n) outcome again is rests step =
-    subst Lasts (sym step) (settled r (sync_step app r n) is (sync_row app r n is (again refl)))
+    subst Lasts (sym step) (lasts_on r (sync_step app r n) is (sync_row app r n is (again refl)))
 call_so rules answers app now r (call.Flush n h) outcome again is rests step =
-    subst Lasts (sym step) (settled r (flush_step app r n h) is (flush_row app r n h is (again refl)))
+    subst Lasts (sym step) (lasts_on r (flush_step app r n h) is (flush_row app r n h is (again refl)))
 call_so rules answers app now r (call.Close n) outcome again is rests step =
-    subst Lasts (sym step) (settled r (close_step app r n) is (close_row app r n is))
+    subst Lasts (sym step) (lasts_on r (close_step app r n) is (close_row app r n is))
 call_so rules answers app now r (call.RecoverStorage n) outcome again is rests step =
-    subst Lasts (sym step) (settled r (rebuild_step r n (λ f. recovering f.config now f.state)) is
+    subst Lasts (sym step) (lasts_on r (rebuild_step r n (λ f. recovering f.config now f.state)) is
     (rebuild_row r n (λ f. recovering f.config now f.state) is))
 call_so rules answers app now r (call.ResetStorage n) outcome again is rests step =
-    subst Lasts (sym step) (settled r (rebuild_step r n (λ f. resetting f.config now f.state)) is
+    subst Lasts (sym step) (lasts_on r (rebuild_step r n (λ f. resetting f.config now f.state)) is
     (rebuild_row r n (λ f. resetting f.config now f.state) is))
 call_so rules answers app now r other outcome again is rests step =
-    subst Lasts (sym step) (settled r (local_step r now (local_on other) other) is
+    subst Lasts (sym step) (lasts_on r (local_step r now (local_on other) other) is
     (local_any r now (local_on other) other is))
 
 -- a call that goes on, and not beside an update, is one at rest

@@ -213,7 +213,7 @@ RunBeginsLaw rules answers old new = (memory : Memory) → Elapses old new → S
 -- and one that did not is a run that ended there, before any line was taken
 abbrev pub StartStopsLaw : List Rule → Answers → (old new : Medium) → Type 0
 StartStopsLaw rules answers old new = (ending : Ending) (before after : Option (List ℕ)) → Elapses old new
-    → (HasStarted ending → ⊥) → StartKeeps old new
+    → ¬ (HasStarted ending) → StartKeeps old new
     → DiskSide rules answers ending [] [] [] before after old new
 
 -- a command that was answered is one turn more
@@ -238,7 +238,7 @@ RunEndsLaw rules answers old now = (ending : Ending) (lines all : List (List ℕ
 abbrev pub RunStopsLaw : List Rule → Answers → (old now new : Medium) → Type 0
 RunStopsLaw rules answers old now new = (ending : Ending) (lines all others : List (List ℕ)) (text : List ℕ)
     (turns : List Turn) (before after : Option (List ℕ)) (e : Event)
-    (memory : Memory) (doubt : Option Doubt) → Elapses now new → HasStarted ending → (HasEnded ending → ⊥)
+    (memory : Memory) (doubt : Option Doubt) → Elapses now new → HasStarted ending → ¬ (HasEnded ending)
     → Appends before after (text_of turns) → all ≡ lines ++ text ∷ others → IsLine text (line.Event e)
     → Going rules answers (world_at old.image) (started (world_at old.image)) turns memory doubt old now
     → Stopped rules answers e memory doubt now new

@@ -6,7 +6,8 @@ use Rattle.disk_model.specs.Case.{Case}
 use Rattle.disk_model.specs.Laws.{cases_on}
 use Rattle.disk_model.specs.Medium.{Medium, Elapses, Quiet, EachCase}
 use Rattle.run_model.specs.Worlds.{Disks, Doubt, World, disks}
-use Rattle.run_model.specs.Moments.{Between, InDoubt, AtMoment, IsMomentOf, IsPast, IsInDoubt, IsReady, Keeps}
+use Rattle.run_model.specs.Moments.{Between, InDoubt, AtMoment, IsMomentOf, IsPast, IsInDoubt, IsReady}
+use Rattle.run_model.specs.Moments.{KeepsApplication}
 use Rattle.run_model.specs.Moments.{StepKeeps, StopKeeps, Stayed, IsSoundDoubt, AreSoundDoubts, IsDecided, AreDecided}
 use Rattle.run_model.specs.Moments.{last_of}
 
@@ -113,7 +114,7 @@ pub step_stays : (app : ℕ) (entry w : World) (worlds : List World) (v : World)
     → Stayed app entry w worlds old now
     → Stayed app entry w (worlds ++ v ∷ []) old new
 step_stays app entry w worlds v old now new none time later quiet fresh sound keeps stayed =
-    let kept : Keeps app (last_of w worlds) v now new = keeps stayed.ready in
+    let kept : KeepsApplication app (last_of w worlds) v now new = keeps stayed.ready in
     let end : IsSoundDoubt app v.doubt = sound_end app worlds v sound in
     record {
       any_moment = λ c s. ⊎_elim

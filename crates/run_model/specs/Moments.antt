@@ -52,14 +52,14 @@ abbrev pub IsMoment : ℕ → (w : World) → (after : Disks) → (doubt : Optio
 IsMoment app w after doubt old c = (IsInDoubt w.doubt × old.now c) ⊎ AtMoment app (disks w) after doubt c
 
 -- A command that was answered, for an application with which all was well before it.
-pub record Keeps (app : ℕ) (w w' : World) (old new : Medium) : Type 0 where
+pub record KeepsApplication (app : ℕ) (w w' : World) (old new : Medium) : Type 0 where
   pub any_moment : EachCase (IsMoment app w (disks w') w'.doubt old) old new
   pub clean : IsSoundDoubt app w'.doubt → IsCleanApp app new.image
   -- behind it, in a doubt: one that stays has no new crash, and in one that is new each stands between its two sides
   pub calm : IsInDoubt w'.doubt → (c : Case) → new.now c → ((w'.doubt ≡ w.doubt) × old.now c) ⊎ InDoubt app w'.doubt c
 
 abbrev pub StepKeeps : ℕ → (w w' : World) → (old new : Medium) → Type 0
-StepKeeps app w w' old new = IsReady app w old → Keeps app w w' old new
+StepKeeps app w w' old new = IsReady app w old → KeepsApplication app w w' old new
 
 -- A command that was not answered: it is in progress, and leads to one world for every moment and every application.
 abbrev pub StopKeeps : ℕ → (w : World) → (after : Disks) → (old new : Medium) → Type 0

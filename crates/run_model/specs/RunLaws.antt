@@ -306,7 +306,7 @@ steps_going rules answers turns e reply memory memory' doubt told old now new te
 -- a run that ended in its start
 pub start_disk : (rules : List Rule) (answers : Answers) (ending : Ending) (before after : Option (List ℕ))
     (told : Bool) (old new : Medium) → IsLawful told new → Elapses old new
-    → (HasStarted ending → ⊥) → StartKeeps old new → DiskSide rules answers ending [] [] [] before after old new
+    → ¬ (HasStarted ending) → StartKeeps old new → DiskSide rules answers ending [] [] [] before after old new
 start_disk rules answers how before after told old new lawful time open_end keeps = record {
   follow = tt;
   worlds = (starts_so old.image, tt);
@@ -347,7 +347,7 @@ pub stops_disk : (rules : List Rule) (answers : Answers) (ending : Ending) (line
     (text : List ℕ) (turns : List Turn) (before after : Option (List ℕ))
     (e : Event) (memory : Memory) (doubt : Option Doubt) (told : Bool) (old now new : Medium) → IsLawful told new
     → Elapses now new → HasStarted ending
-    → (HasEnded ending → ⊥) → Appends before after (text_of turns) → all ≡ lines ++ text ∷ others
+    → ¬ (HasEnded ending) → Appends before after (text_of turns) → all ≡ lines ++ text ∷ others
     → IsLine text (line.Event e) → Going rules answers (world_at old.image) (started (world_at old.image)) turns
     memory doubt old now
     → Stopped rules answers e memory doubt now new → DiskSide rules answers ending lines all turns before after old new

@@ -69,13 +69,13 @@ pub data Progress (rules : List Rule) (answers : Answers) (ending : Ending) (sta
     (turns : List Turn) (before now : Option (List ℕ))
     (reached : List World) (next : Disks) : Type 0 where
   -- the start did not end: no line was taken, and nothing was handled
-  starting : (HasStarted ending → ⊥) → lines ≡ [] → all ≡ [] → turns ≡ [] → reached ≡ [] → next ≡ disks start
+  starting : ¬ (HasStarted ending) → lines ≡ [] → all ≡ [] → turns ≡ [] → reached ≡ [] → next ≡ disks start
       → Progress rules answers ending start lines all turns before now reached next
   -- nothing is in progress
   between : HasStarted ending → reached ≡ start ∷ worlds_of turns → next ≡ disks (last_of start (worlds_of turns))
       → Progress rules answers ending start lines all turns before now reached next
   -- the command of the next line is, and the text of every reply was written before it was begun
-  within : HasStarted ending → (HasEnded ending → ⊥) → Appends before now (text_of turns)
+  within : HasStarted ending → ¬ (HasEnded ending) → Appends before now (text_of turns)
       → reached ≡ start ∷ worlds_of turns
       → IsInProgress rules answers (last_of start (worlds_of turns)) lines all next
       → Progress rules answers ending start lines all turns before now reached next

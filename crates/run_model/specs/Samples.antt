@@ -46,7 +46,7 @@ use Rattle.deploy_rows.specs.Recovering.{recovering, resetting}
 use Rattle.run_model.specs.Sessions.{on_keys, on_working}
 use Rattle.run_model.specs.Worlds.{Application, World, world_at, update_in, disks, no_app, resting, app_of, with_app}
 use Rattle.run_model.specs.Worlds.{formatted, closed, started}
-use Rattle.run_model.specs.Calls.{Outcome, answered, settle, app_step, updated, begun, open_step, durable}
+use Rattle.run_model.specs.Calls.{Outcome, answered, concluded, app_step, updated, begun, open_step, durable}
 use Rattle.run_model.specs.Calls.{beside_update, CallStep, StepBeside}
 use Rattle.run_model.specs.Steps.{Step, Fails, failure, root_opened, doubt_after, calls_device, reaches_device}
 use Rattle.run_model.specs.Steps.{after_failure, found_named}
@@ -55,9 +55,9 @@ use Rattle.run_model.specs.Steps.{after_failure, found_named}
 
 -- what a call gives by itself; one that begins an update is given the plan
 abbrev pub given_step : (app now : ℕ) → Application → InProgress → Call → Outcome
-given_step app now r p (call.Update text) = settle r (updated r p)
-given_step app now r p (call.UpdateBegin text) = settle r (begun r p)
-given_step app now r p other = settle r (app_step app r now other)
+given_step app now r p (call.Update text) = concluded r (updated r p)
+given_step app now r p (call.UpdateBegin text) = concluded r (begun r p)
+given_step app now r p other = concluded r (app_step app r now other)
 
 -- and beside an update in progress
 abbrev pub given_beside : (app now : ℕ) → Application → InProgress → Call → Option PerError → Outcome
@@ -273,7 +273,7 @@ in_copies content lacking = with_app formatted 0 (resting
       states = Opens (record {
         generation = 2;
         lacking = [];
-        settled = true;
+        sole = true;
         entries = record { name = home; info = None; changed = 2; len = 3; content = content; lacking = lacking } ∷ [];
       }) [] ∷ [];
     }))

@@ -49,7 +49,7 @@ abbrev pub two_keys : (of_home of_work : Content) → (lacking : List ℕ) → S
 two_keys of_home of_work lacking = Opens (record {
   generation = 2;
   lacking = [];
-  settled = true;
+  sole = true;
   entries = record { name = home; info = None; changed = 1; len = 3; content = of_home; lacking = lacking }
       ∷ record { name = work; info = None; changed = 2; len = 2; content = of_work; lacking = lacking } ∷ [];
 }) []
@@ -79,7 +79,7 @@ abbrev pub whole_view : Content → (lacking : List ℕ) → View
 whole_view content lacking = record {
   generation = 2;
   lacking = lacking;
-  settled = true;
+  sole = true;
   entries = record { name = home; info = None; changed = 2; len = 3; content = content; lacking = lacking } ∷ [];
 }
 

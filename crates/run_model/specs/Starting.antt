@@ -9,12 +9,12 @@ use Rattle.disk_model.specs.Case.{Case}
 use Rattle.disk_model.specs.Frame.{IsSettledOn}
 use Rattle.disk_model.specs.Laws.{cases_on, elapses_on}
 use Rattle.disk_model.specs.Medium.{Medium, Quiet, EachCase, Elapses, IsIdle}
+use Rattle.disk_model.specs.lemmas.Frames.{settled_on}
 use Rattle.deploy_laws.specs.Places.{IsFileOf}
 use Rattle.deploy_laws.specs.Apps.{App, app_at, IsCleanApp}
 use Rattle.deploy_laws.specs.Stands.{StandsCase, IsLater, same_root}
 use Rattle.deploy_rows.specs.Rows.{reopened}
 use Rattle.run_model.specs.AppLaws.{AppLaws, OpensRoot}
-use Rattle.run_model.specs.KeepLaws.{settled_on}
 use Rattle.run_model.specs.Moments.{Between}
 use Rattle.run_model.specs.Worlds.{Application, disks, disk_at, all_resting, world_at, started}
 
@@ -131,7 +131,7 @@ pub open_none : AppLaws → (old now : Medium) → Elapses old now → now.image
     → (Quiet old → IsIdle old now) → Opened 0 old now
 open_none laws old now time same quiet idle = record {
   moments = λ was b lt clean c s. laws.still b old.image (reopened (app_at old.image b)) c lt clean
-      (settled_on (IsFileOf b) old.image c ((idle was).during c s)) (is_reopened (app_at old.image b));
+      (settled_on (IsFileOf b) ((idle was).during c s)) (is_reopened (app_at old.image b));
   opened = λ b below lt. absurd (omega (arith, below));
   closed = λ b above lt. ap (λ (i : Image). app_at i b) same;
   clean = λ b lt clean. subst (λ i. IsCleanApp b i) (sym same) clean;

@@ -37,8 +37,8 @@ pub fn failures_end_sessions(migrations: &Migrations)
     ensures session { SessionEndsLaw (rules_of migrations.now) (answers_of migrations.now) }
 {}
 
-/// A command that is answered keeps what is so of every world: that sessions hold settled states and stand beside no
-/// mark and no update.
+/// A command that is answered keeps what is so of every world: sessions hold states with no other text beside them, and
+/// stand beside no mark and no update.
 pub fn answers_keep_worlds(migrations: &Migrations)
     ensures now { NowLastsLaw (rules_of migrations.now) (answers_of migrations.now) }
     ensures answered { AnswersLastLaw (rules_of migrations.now) (answers_of migrations.now) }

@@ -7,7 +7,7 @@ use Rattle.value_model.specs.Kinds.{Kind}
 use Rattle.value_model.specs.Trees.{Tree}
 use Rattle.value_model.specs.Encoding.{encoding}
 use Rattle.migrate_fns.specs.Rules.{Answers, ConvertsTo}
-use Rattle.update_plan.specs.Fates.{GivesOnly, Keeps, by_chain, converted}
+use Rattle.update_plan.specs.Fates.{GivesOnly, Retains, by_chain, converted}
 
 -- what is told of an option that is there
 pub told : {A : Type 0} (f : A → List ℕ) (o : Option A) (x : A) (found : Option (List ℕ)) → o ≡ Some x
@@ -16,12 +16,14 @@ told f o x found is e = sym e ∙ ap (option_map f) is
 
 encoded_keeps : (answers : Answers) (name : List ℕ) (v w : Tree) (places : List ℕ) (r : Result Fresh PerError)
     → ConvertsTo answers places v w
-    → GivesOnly r (record { name = name; info = None; bytes = encoding w }) → Keeps answers name (converted v places) r
+    → GivesOnly r (record { name = name; info = None; bytes = encoding w }) → Retains answers name (converted v places)
+    r
 encoded_keeps answers name v w places (Ok x) to given = (w, to, ap (λ y. Some y) given)
 encoded_keeps answers name v w places (Err e) to given = λ memory. absurd (memory given)
 
 pub chain_keeps : (answers : Answers) (name : List ℕ) (v w : Tree) (to : Kind) (places : List ℕ)
     (found : Option (List ℕ)) (r : Result Fresh PerError) → found ≡ Some places → ConvertsTo answers places v w
-    → GivesOnly r (record { name = name; info = None; bytes = encoding w }) → Keeps answers name (by_chain v to found) r
+    → GivesOnly r (record { name = name; info = None; bytes = encoding w }) → Retains answers name
+    (by_chain v to found) r
 chain_keeps answers name v w to places found r is conv given =
-    subst (λ f. Keeps answers name (by_chain v to f) r) (sym is) (encoded_keeps answers name v w places r conv given)
+    subst (λ f. Retains answers name (by_chain v to f) r) (sym is) (encoded_keeps answers name v w places r conv given)

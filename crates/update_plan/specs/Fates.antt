@@ -1,5 +1,5 @@
 -- What an update makes of one name: what the rows give it, or why its stored element cannot be kept.
-use Rattle.std.specs.Prelude.{◌≡◌, ℕ, List, cond, Option, Some, None, option_and_then, option_map, Result, Ok, Err}
+use Rattle.std.specs.Prelude.{◌≡◌, ℕ, List, cond, Option, Some, None, option_and_then, option_map, Result, Ok, Err, ◌≢◌}
 use Rattle.std.specs.Prelude.{IsTrue, ⊤}
 use Rattle.per_base.specs.declared.elements.Cause.TheVariants.{Update}
 use Rattle.per_base.specs.declared.elements.Content.{Content}
@@ -109,15 +109,15 @@ Becomes answers name (refused e) new = ⊥
 
 -- an error is the refusal, or want of memory
 abbrev pub Refuses : Fate → PerError → Type 0
-Refuses f e = (e ≡ OutOfMemory → ⊥) → refusal f ≡ Some e
+Refuses f e = e ≢ OutOfMemory → refusal f ≡ Some e
 
 abbrev pub Renews : Answers → List ℕ → Fate → Result (Option Fresh) PerError → Type 0
 Renews answers name f (Ok new) = Becomes answers name f new
 Renews answers name f (Err e) = Refuses f e
 
-abbrev pub Keeps : Answers → List ℕ → Fate → Result Fresh PerError → Type 0
-Keeps answers name f (Ok x) = Becomes answers name f (Some x)
-Keeps answers name f (Err e) = Refuses f e
+abbrev pub Retains : Answers → List ℕ → Fate → Result Fresh PerError → Type 0
+Retains answers name f (Ok x) = Becomes answers name f (Some x)
+Retains answers name f (Err e) = Refuses f e
 
 -- this element, unless memory runs out
 abbrev pub GivesOnly : Result Fresh PerError → Fresh → Type 0

@@ -1,6 +1,6 @@
 -- The plan of an update: what each storage of the new version has, or the first refusal.
 use denote.Ref.{Bor}
-use Rattle.std.specs.Prelude.{◌≡◌, ◌≤◌, ℕ, List, [], ◌∷◌, length, map, filter_map, find, cond, nat_lt, Bool, true}
+use Rattle.std.specs.Prelude.{◌≡◌, ◌≤◌, ℕ, List, [], ◌∷◌, length, map, filter_map, find, cond, nat_lt, Bool, true, ◌≢◌}
 use Rattle.std.specs.Prelude.{false, Option, Some, None, Result, Ok, Err, IsTrue, sum_by, ⊤}
 use Rattle.std.specs.List.{AllByRecursion}
 use Rattle.std.specs.List.Sorted.{IsStrictlySortedBy}
@@ -154,4 +154,4 @@ AllFit (s ∷ ss) (x ∷ xs) = AreContents s.kind s.maximum x × AllFit ss xs
 
 abbrev pub Told : {A : Type 0} → Result A PerError → (Result A PerError → Type 0) → Type 0
 Told (Ok x) P = P (Ok x)
-Told (Err e) P = (e ≡ OutOfMemory → ⊥) → P (Err e)
+Told (Err e) P = e ≢ OutOfMemory → P (Err e)

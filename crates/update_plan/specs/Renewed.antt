@@ -1,5 +1,5 @@
 -- What the merged names of a storage become, one after another.
-use Rattle.std.specs.Prelude.{◌≡◌, ℕ, List, [], ◌∷◌, filter_map, Option, Some, Result, Ok, Err}
+use Rattle.std.specs.Prelude.{◌≡◌, ℕ, List, [], ◌∷◌, filter_map, Option, Some, Result, Ok, Err, ◌≢◌}
 use Rattle.std.specs.List.{cons_option}
 use Rattle.per_base.specs.declared.elements.Fresh.{Fresh}
 use Rattle.per_base.specs.declared.errors.PerError.{PerError}
@@ -26,4 +26,4 @@ refusals rules now s ps = filter_map (λ (p : Item). refusal (item_fate rules no
 
 abbrev pub RenewAll : List Rule → Answers → ℕ → StorageData → List Item → Result (List Fresh) PerError → Type 0
 RenewAll rules answers now s ps (Ok new) = (refusals rules now s ps ≡ []) × BecomeAll rules answers now s ps new
-RenewAll rules answers now s ps (Err e) = (e ≡ OutOfMemory → ⊥) → first_of (refusals rules now s ps) ≡ Some e
+RenewAll rules answers now s ps (Err e) = e ≢ OutOfMemory → first_of (refusals rules now s ps) ≡ Some e

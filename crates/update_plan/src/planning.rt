@@ -1,6 +1,6 @@
 //! The plan of an update.
 
-ghost use Rattle.std.specs.Prelude.{◌≡◌, ◌≤◌, IfOk, length, map, sum_by};
+ghost use Rattle.std.specs.Prelude.{◌≡◌, ◌≤◌, IfOk, length, map, sum_by, ◌≢◌};
 ghost use Rattle.std.specs.List.{AllByRecursion};
 ghost use Rattle.deployment_model.specs.Conditions.{IsDeployment, IsStorage};
 ghost use Rattle.deployment_model.specs.Data.{deployment_data, element_data, storage_data};
@@ -124,7 +124,7 @@ impl Update<'_> {
 
 /// The refusal of a storage that does not open, or that there is no memory for it.
 fn damaged(storage: &Name) -> PerError
-    ensures { (result ≡ PerError.OutOfMemory → ⊥) → result ≡ PerError.IntegrityCorrupted (Unit.Whole storage.now) }
+    ensures { result ≢ PerError.OutOfMemory → result ≡ PerError.IntegrityCorrupted (Unit.Whole storage.now) }
 {
     match storage.copy() {
         Ok(storage) => PerError::IntegrityCorrupted {

@@ -12,7 +12,7 @@ ghost use Rattle.value_model.specs.Encoding.{encoding};
 ghost use Rattle.value_model.specs.Kinds.{kind_fits};
 ghost use Rattle.value_model.specs.Trees.{type_of};
 ghost use Rattle.value_model.specs.Views.{kind_of};
-ghost use Rattle.update_plan.specs.Fates.{FitsType, Keeps, Refuses, Renews, GivesOnly, by_chain, fate, initial_in};
+ghost use Rattle.update_plan.specs.Fates.{FitsType, Retains, Refuses, Renews, GivesOnly, by_chain, fate, initial_in};
 ghost use Rattle.update_plan.specs.Fates.{of_bytes, of_content, of_type, of_value, strategy_of, type_in, unreadable};
 ghost use Rattle.update_plan.specs.Fates as fates;
 ghost use Rattle.update_plan.specs.Items.{item_of};
@@ -77,7 +77,7 @@ impl Update<'_> {
         requires stored { IsStored self.now.storage.now.kind entry.now }
         requires typed { FitsType (option_map (λ t. kind_of t.now) to) }
         ensures made { IfOk result (IsMade self.now.storage.now.kind name.now) }
-        ensures kept { Keeps (answers_of self.now.migrations.now) name.now
+        ensures kept { Retains (answers_of self.now.migrations.now) name.now
             (of_content (rules_of self.now.migrations.now) self.now.storage.now.kind self.now.storage.now.name name.now
             entry.now.info (option_map (λ t. kind_of t.now) to.entry) entry.now.content) result }
     {
@@ -98,7 +98,7 @@ impl Update<'_> {
         requires made { IsFresh StoreKind.Keys same }
         requires typed { FitsType (option_map (λ t. kind_of t.now) to) }
         ensures made { IfOk result (IsMade StoreKind.Keys same.name) }
-        ensures kept { Keeps (answers_of self.now.migrations.now) same.name
+        ensures kept { Retains (answers_of self.now.migrations.now) same.name
             (of_value (rules_of self.now.migrations.now) self.now.storage.now.name same
             (option_map (λ t. kind_of t.now) to.entry) (decoded same.bytes)) result }
     {
@@ -119,7 +119,7 @@ impl Update<'_> {
         requires made { IsFresh StoreKind.Keys same }
         requires typed { FitsType (option_map (λ t. kind_of t.now) to) }
         ensures made { IfOk result (IsMade StoreKind.Keys same.name) }
-        ensures kept { Keeps (answers_of self.now.migrations.now) same.name
+        ensures kept { Retains (answers_of self.now.migrations.now) same.name
             (of_type (rules_of self.now.migrations.now) same value.now (option_map (λ t. kind_of t.now) to.entry))
             result }
     {
@@ -133,11 +133,11 @@ impl Update<'_> {
     }
 
     /// What a chain of converters makes of a value of another type.
-    #[tactic(auto, using(value_code::proofs::ValueLaws::typed_fits))]
+    #[tactic(auto, using(value_code::specs::lemmas::ValueLaws::typed_fits))]
     fn converted(&self, name: Name, value: &Value, to: &ValueType) -> Result<Fresh, PerError>
         requires { IsTrue (kind_fits (kind_of to.now)) }
         ensures made { IfOk result (IsMade StoreKind.Keys name) }
-        ensures kept { Keeps (answers_of self.now.migrations.now) name
+        ensures kept { Retains (answers_of self.now.migrations.now) name
             (by_chain value.now (kind_of to.now) (chain_of (rules_of self.now.migrations.now) name (type_of value.now)
             (kind_of to.now))) result }
     {

@@ -6,7 +6,7 @@ use Rattle.value_model.specs.declared.types.ValueType as types
 use Rattle.value_model.specs.declared.types.ValueType.{ValueType}
 use Rattle.value_model.specs.Kinds.{kind_fits, kinds_fit, is_group}
 use Rattle.value_model.specs.Views.{kind_of, kinds_view}
-use Rattle.value_model.proofs.Members.{fits-Fields}
+use Rattle.value_model.specs.lemmas.Members.{fits-Fields}
 
 pub members_at_most : (v : Vec ValueType Global) → IsTrue (kind_fits (kind_of (types.Fields v))) → vec_len v ≤ 32
 members_at_most v fits =

@@ -1,6 +1,6 @@
 //! Reading values.
 
-ghost use Rattle.std.specs.Prelude.{◌≡◌, ◌≢◌, IfOk};
+ghost use Rattle.std.specs.Prelude.{◌≡◌, ◌≢◌, IfOk, IsErrOf};
 ghost use Rattle.value_code.specs.Reading.{Gives, decoded, is_encoding};
 ghost use Rattle.value_model.specs.Encoding.{encoding};
 ghost use Rattle.value_model.specs.Trees.{Tree};
@@ -20,7 +20,7 @@ use value_model::{DecodeError, MAX_DEPTH, MAX_LENGTH, Node, Value};
 pub fn decode(alloc: Global, bytes: &[u8]) -> Result<Value, DecodeError>
     // what is read is encoded so, and what is encoded so is read
     ensures found { IfOk result (λ v. IsValue v × (bytes.now ≡ encoding v)) }
-    ensures only { result ≡ Err DecodeError.NotAValue → (t : Tree) → IsValue t → bytes.now ≢ encoding t }
+    ensures only { IsErrOf result DecodeError.NotAValue → (t : Tree) → IsValue t → bytes.now ≢ encoding t }
 
     // the bytes alone decide
     ensures exact { Gives (λ v. v) result (decoded bytes.now) }

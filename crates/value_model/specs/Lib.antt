@@ -5,3 +5,4 @@ pub mod Samples
 pub mod Trees
 pub mod Validity
 pub mod Views
+pub mod lemmas

@@ -1,6 +1,6 @@
 //! Values: nodes that keep the rules.
 
-ghost use Rattle.std.specs.Prelude.{◌≡◌, ◌≢◌, ◌<◌, ◌≤◌, ◌↔◌, IfOk, IsTrue, length};
+ghost use Rattle.std.specs.Prelude.{◌≡◌, ◌≢◌, ◌<◌, ◌≤◌, ◌↔◌, IfOk, IsTrue, length, IsErrOf};
 ghost use Rattle.value_model.specs.Encoding.{encoding};
 ghost use Rattle.value_model.specs.Kinds.{kind_depth};
 ghost use Rattle.value_model.specs.Trees.{type_of};
@@ -50,10 +50,10 @@ impl Value {
         ensures value { IfOk result (λ v. (v ≡ tree_of node) × IsValue (tree_of node)) }
 
         // each refusal comes where its rule fails and those before it hold
-        ensures ill_typed { result ≡ Err ValueError.IllTyped → ¬ IsTyped (tree_of node) }
-        ensures too_deep { result ≡ Err ValueError.TooDeep
+        ensures ill_typed { IsErrOf result ValueError.IllTyped → ¬ IsTyped (tree_of node) }
+        ensures too_deep { IsErrOf result ValueError.TooDeep
             → IsTyped (tree_of node) × (8 < kind_depth (type_of (tree_of node))) }
-        ensures too_long { result ≡ Err ValueError.TooLong → IsTyped (tree_of node)
+        ensures too_long { IsErrOf result ValueError.TooLong → IsTyped (tree_of node)
             × ((kind_depth (type_of (tree_of node)) ≤ 8) × (65536 < length (encoding (tree_of node)))) }
         ensures no_memory { result ≢ Err ValueError.OutOfMemory }
     {

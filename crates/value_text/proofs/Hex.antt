@@ -4,7 +4,7 @@ use Rattle.std.proofs.Common.{refl, sym, ap, ◌∙◌, arith}
 use Rattle.std.specs.Prelude.{option_map}
 use Rattle.std.proofs.lemmas.List.{append-nil}
 use Rattle.value_text.specs.Readers.{with_front, byte_at, bytes_at}
-use Rattle.value_text.proofs.Loop.{with_front-with_front}
+use Rattle.value_text.specs.lemmas.Loop.{with_front-with_front}
 
 abbrev Read : Type 0
 Read = Option (List ℕ × List ℕ)

@@ -1,17 +1,5 @@
-pub mod Steps
-pub mod Words
-pub mod Loop
 pub mod Depth
-pub mod Lists
-pub mod TypeLaws
-pub mod LimitLaws
-pub mod Public
-pub mod Digits
 pub mod Quoted
 pub mod Hex
-pub mod NumberLaws
-pub mod StringLaws
-pub mod ValueLaws
 pub mod Printed
 pub mod Lines
-pub mod WholeLaws

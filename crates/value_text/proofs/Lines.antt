@@ -24,9 +24,9 @@ use Rattle.value_model.specs.Trees.{fields_tree, Trees, no_trees, tree_then}
 use Rattle.value_model.specs.Validity.{InRange, AllInRange}
 use Rattle.value_text.specs.Texts.{size_text, type_text, types_text, further_types_text, escaped_byte, escaped}
 use Rattle.value_text.specs.Texts.{hex_digit, hex_byte_text, hex_text, value_text, values_text, further_values_text}
-use Rattle.value_text.proofs.Digits.{IsDigits, own}
+use Rattle.value_text.specs.lemmas.Digits.{IsDigits, own}
 use Rattle.value_text.proofs.Printed.{plain_char}
-use Rattle.value_text.proofs.ValueLaws.{unsigned_limit_fits, signed_limit_fits, mag_fits}
+use Rattle.value_text.specs.lemmas.ValueLaws.{unsigned_limit_fits, signed_limit_fits, mag_fits}
 
 abbrev pub is_no_feed : ℕ → Bool
 is_no_feed b = not (nat_eq b 10)

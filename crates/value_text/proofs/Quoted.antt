@@ -10,7 +10,7 @@ use Rattle.value_model.specs.declared.errors.DecodeError.{DecodeError}
 use Rattle.value_model.specs.declared.errors.DecodeError.TheVariants as errors
 use Rattle.value_text.specs.Readers.{◌>>=◌, Fails, with_front, literal_at, meant_by, quoted_at}
 use Rattle.value_text.specs.Parsing.{text_at}
-use Rattle.value_text.proofs.Loop.{with_front-with_front}
+use Rattle.value_text.specs.lemmas.Loop.{with_front-with_front}
 
 abbrev Read : Type 0
 Read = Option (List ℕ × List ℕ)

@@ -1,7 +1,8 @@
-pub mod Types
-pub mod Texts
 pub mod Limits
-pub mod Readers
 pub mod Parsing
-pub mod Whole
+pub mod Readers
 pub mod Samples
+pub mod Texts
+pub mod Types
+pub mod Whole
+pub mod lemmas

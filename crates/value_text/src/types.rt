@@ -1,6 +1,6 @@
 //! Types as texts.
 
-ghost use Rattle.std.specs.Prelude.{◌≡◌, ◌≢◌, map, IfOk};
+ghost use Rattle.std.specs.Prelude.{◌≡◌, ◌≢◌, map, IfOk, IsErrOf};
 ghost use Rattle.value_model.specs.Kinds.{Kind};
 ghost use Rattle.value_model.specs.Views.{kind_of};
 ghost use Rattle.value_text.specs.Readers.{Finds, Gives, separated};
@@ -133,7 +133,7 @@ fn type_in(alloc: Global, text: &[u8]) -> Result<ValueType, DecodeError>
 pub fn parse_type(alloc: Global, text: &[u8]) -> Result<ValueType, DecodeError>
     // what is read is spelled so, and what is spelled so is read
     ensures found { IfOk result (λ t. IsType (kind_of t) × (text.now ≡ type_text (kind_of t))) }
-    ensures only { result ≡ Err DecodeError.NotAValue → (k : Kind) → IsType k → text.now ≢ type_text k }
+    ensures only { IsErrOf result DecodeError.NotAValue → (k : Kind) → IsType k → text.now ≢ type_text k }
 
     // the text alone decides
     ensures exact { Gives (λ t. kind_of t) result (kind_in text.now) }

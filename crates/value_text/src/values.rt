@@ -1,6 +1,6 @@
 //! Values as texts, read.
 
-ghost use Rattle.std.specs.Prelude.{◌≡◌, ◌≢◌, map, IfOk};
+ghost use Rattle.std.specs.Prelude.{◌≡◌, ◌≢◌, map, IfOk, IsErrOf};
 ghost use Rattle.value_model.specs.Trees.{Tree};
 ghost use Rattle.value_model.specs.Validity.{IsValue};
 ghost use Rattle.value_model.specs.Views.{kind_of, tree_of};
@@ -217,7 +217,7 @@ fn value_in(alloc: Global, text: &[u8]) -> Result<Value, DecodeError>
 pub fn parse_value(alloc: Global, text: &[u8]) -> Result<Value, DecodeError>
     // what is read is spelled so, and what is spelled so is read
     ensures found { IfOk result (λ v. IsValue v × (text.now ≡ value_text v)) }
-    ensures only { result ≡ Err DecodeError.NotAValue → (t : Tree) → IsValue t → text.now ≢ value_text t }
+    ensures only { IsErrOf result DecodeError.NotAValue → (t : Tree) → IsValue t → text.now ≢ value_text t }
 
     // the text alone decides
     ensures exact { Gives (λ v. v) result (value_in text.now) }

@@ -1,6 +1,6 @@
 //! Numbers and bytes that are the whole of a text.
 
-ghost use Rattle.std.specs.Prelude.{◌≡◌, ◌≢◌, ◌+◌, ◌<◌, ◌≤◌, ◌^◌, ℕ, ℤ, List, IfOk, slice_index};
+ghost use Rattle.std.specs.Prelude.{◌≡◌, ◌≢◌, ◌+◌, ◌<◌, ◌≤◌, ◌^◌, ℕ, ℤ, List, IfOk, slice_index, IsErrOf};
 ghost use Rattle.std.specs.Fmt.{decimal, signed_decimal};
 ghost use lib.Signed.{mag};
 ghost use Rattle.value_text.specs.Readers.{Gives};
@@ -32,7 +32,7 @@ fn unsigned_in(max: u64, text: &[u8]) -> Result<u64, DecodeError>
 /// `NotAValue` exactly where the text is that of no such number. It takes no memory.
 pub fn parse_unsigned(max: u64, text: &[u8]) -> Result<u64, DecodeError>
     ensures found { IfOk result (λ n. (n ≤ max) × (text.now ≡ decimal n)) }
-    ensures only { result ≡ Err DecodeError.NotAValue → (n : ℕ) → n ≤ max → text.now ≢ decimal n }
+    ensures only { IsErrOf result DecodeError.NotAValue → (n : ℕ) → n ≤ max → text.now ≢ decimal n }
 
     // the text alone decides
     ensures exact { Gives (λ n. n) result (unsigned_in (max + 1) text.now) }
@@ -62,7 +62,7 @@ fn signed_in(max: u64, text: &[u8]) -> Result<i64, DecodeError>
 pub fn parse_signed(max: u64, text: &[u8]) -> Result<i64, DecodeError>
     requires { max < 2 ^ 63 }
     ensures found { IfOk result (λ z. (mag z ≤ max) × (text.now ≡ signed_decimal z)) }
-    ensures only { result ≡ Err DecodeError.NotAValue → (z : ℤ) → mag z ≤ max → text.now ≢ signed_decimal z }
+    ensures only { IsErrOf result DecodeError.NotAValue → (z : ℤ) → mag z ≤ max → text.now ≢ signed_decimal z }
 
     // the text alone decides
     ensures exact { Gives (λ z. z) result (signed_in (max + 1) text.now) }
@@ -89,7 +89,7 @@ fn bytes_in(alloc: Global, text: &[u8]) -> Result<Bytes, DecodeError>
 /// `NotAValue` exactly where the text is that of no bytes; `OutOfMemory`.
 pub fn parse_hex(alloc: Global, text: &[u8]) -> Result<Bytes, DecodeError>
     ensures found { IfOk result (λ b. text.now ≡ hex_text b) }
-    ensures only { result ≡ Err DecodeError.NotAValue → (b : List ℕ) → ((i : ℕ) → slice_index b i < 256)
+    ensures only { IsErrOf result DecodeError.NotAValue → (b : List ℕ) → ((i : ℕ) → slice_index b i < 256)
         → text.now ≢ hex_text b }
 
     // the text alone decides

@@ -21,14 +21,14 @@ format_cell-requires g c =
 pub returns-in_err-cell-clause-elsewhere : goal.returns-in_err-cell-clause-elsewhere
 returns-in_err-cell-clause-elsewhere g c = λ tells. spares_at c.root_place.result c.args.app c.root_place.ensures
     (g.D.Disk.medium c.args.disk.now).image (g.D.Disk.medium c.format_cell.new.disk).image
-    (c.format_cell.ensures.elsewhere tells)
+    (c.format_cell.ensures.formats.elsewhere tells)
 
 pub returns-in_err-cell-clause-any_moment : goal.returns-in_err-cell-clause-any_moment
 returns-in_err-cell-clause-any_moment g c = λ tells quiet.
     formats_at c.root_place.result c.args.app c.root_place.ensures
     c.deref.result.now (root_text absent) (g.D.Disk.medium c.args.disk.now) (g.D.Disk.medium c.format_cell.new.disk)
     (c.deref.ensures.value ∙ c.in_ok-text.ensures.text)
-    (c.format_cell.ensures.any_moment tells quiet)
+    (c.format_cell.ensures.formats.any_moment tells quiet)
 
 pub returns-clause-cell : goal.returns-clause-cell
 returns-clause-cell g c = cell_at c.root_place.result c.args.app c.root_place.ensures 1 c.in_ok-cell.cell
@@ -42,10 +42,10 @@ returns-clause-held g c = λ tells. subst (λ (t : List ℕ).
 pub returns-clause-elsewhere : goal.returns-clause-elsewhere
 returns-clause-elsewhere g c = λ tells. spares_at c.root_place.result c.args.app c.root_place.ensures
     (g.D.Disk.medium c.args.disk.now).image (g.D.Disk.medium c.format_cell.new.disk).image
-    (c.format_cell.ensures.elsewhere tells)
+    (c.format_cell.ensures.formats.elsewhere tells)
 
 pub returns-clause-any_moment : goal.returns-clause-any_moment
 returns-clause-any_moment g c = λ tells quiet. formats_at c.root_place.result c.args.app c.root_place.ensures
     c.deref.result.now (root_text absent) (g.D.Disk.medium c.args.disk.now) (g.D.Disk.medium c.format_cell.new.disk)
     (c.deref.ensures.value ∙ c.in_ok-text.ensures.text)
-    (c.format_cell.ensures.any_moment tells quiet)
+    (c.format_cell.ensures.formats.any_moment tells quiet)

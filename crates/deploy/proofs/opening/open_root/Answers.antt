@@ -1,8 +1,13 @@
-use Rattle.std.proofs.Common.{sym, ◌∙◌}
+use Rattle.std.proofs.Common.{sym, ◌∙◌, subst, arith}
+use Rattle.disk_model.specs.Image.{Image}
+use Rattle.guarded_cell.specs.Seens.{IsSeenOn}
+use Rattle.guarded_cell.specs.Slots.{IsSlotsOf}
+use Rattle.deploy_laws.specs.Places.{root_place}
 use Rattle.root_text.specs.Views.{root_said}
 use Rattle.deploy.specs.Clauses.{IsNoRootSlot}
 use Rattle.deploy.proofs.Already.{already_then, found_alone}
-use Rattle.deploy.proofs.Found.{found_says, found_stands, is_first, is_spelled, no_first, none_says, texts_at}
+use Rattle.deploy.proofs.Found.{found_says, found_stands, is_first, is_marked, is_spelled, no_first, none_says}
+use Rattle.deploy.proofs.Found.{texts_at}
 use Rattle.deploy.proofs.Opened.{bad_at, bad_reopened, brought_app, brought_clean, brought_leaves, brought_stands}
 use Rattle.deploy.proofs.Opened.{look_leaves, look_stands, not_bad, still_clean}
 use Rattle.deploy.proofs.opening.open_root.Goals as goal
@@ -68,9 +73,29 @@ returns-in_default-clause-clean g c = λ tells.
 
 -- ---- a root stands
 
-pub settle_on-requires-clause-spelled : goal.settle_on-requires-clause-spelled
-settle_on-requires-clause-spelled g c = is_spelled c.in_ok-standing.field-0 c.in-Some.standing c.in-Some.is
+pub bring_to-requires-clause-spelled : goal.bring_to-requires-clause-spelled
+bring_to-requires-clause-spelled g c = is_spelled c.in_ok-standing.field-0 c.in-Some.standing c.in-Some.is
     c.in_ok-standing.ensures.spelled
+
+pub bring_to-requires-clause-seen : goal.bring_to-requires-clause-seen
+bring_to-requires-clause-seen g c = λ tells.
+    let old = (g.D.Disk.medium c.args.disk.now).image in
+    let s = c.in-Some.standing in
+    let first = is_first (texts_at old c.args.app) c.in_ok-standing.field-0 s c.in-Some.is
+    (c.in_ok-standing.ensures.among tells) in
+    subst (λ (image : Image). IsSeenOn image (root_place c.args.app).first 3 s.seen)
+    (sym c.find_standing.ensures.image)
+    ((c.held_is_lawful.ensures.standing old (root_place c.args.app).first 3 2 (omega arith)).copies_are s.seen
+    (found_stands c.held_is_lawful.ensures.among old c.args.app s first))
+
+pub bring_to-requires-clause-slots : goal.bring_to-requires-clause-slots
+bring_to-requires-clause-slots g c = λ tells.
+    let old = (g.D.Disk.medium c.args.disk.now).image in
+    let s = c.in-Some.standing in
+    subst (λ (image : Image). IsSlotsOf image (root_place c.args.app).first 3 s.slots)
+    (sym c.find_standing.ensures.image)
+    (is_marked (λ s. IsSlotsOf old (root_place c.args.app).first 3 s.slots) c.in_ok-standing.field-0 s c.in-Some.is
+    (c.in_ok-standing.ensures.slots tells))
 
 pub returns-in_err-root-clause-already : goal.returns-in_err-root-clause-already
 returns-in_err-root-clause-already g c = λ tells n t alone.
@@ -78,17 +103,17 @@ returns-in_err-root-clause-already g c = λ tells n t alone.
     let s = c.in-Some.standing in
     let first = is_first (texts_at old.image c.args.app) c.in_ok-standing.field-0 s c.in-Some.is
     (c.in_ok-standing.ensures.among tells) in
-    already_then old (g.D.Disk.medium c.find_standing.new.disk) (g.D.Disk.medium c.settle_on.new.disk) c.args.app
+    already_then old (g.D.Disk.medium c.find_standing.new.disk) (g.D.Disk.medium c.bring_to.new.disk) c.args.app
     s.seen.generation s.seen.text
-    c.find_standing.ensures.image c.find_standing.ensures.written (c.settle_on.ensures.already tells)
+    c.find_standing.ensures.image c.find_standing.ensures.written (c.bring_to.ensures.already tells)
     (found_alone c.held_is_lawful.ensures.alone old.image c.args.app n t s first alone)
 
 pub returns-in_err-root-clause-outside : goal.returns-in_err-root-clause-outside
 returns-in_err-root-clause-outside g c = brought_leaves c.args.app c.requires g.D.Disk.told c.in-Some.standing.seen
-    (g.D.Disk.medium c.args.disk.now) (g.D.Disk.medium c.find_standing.new.disk) (g.D.Disk.medium c.settle_on.new.disk)
-    c.find_standing.ensures.image c.find_standing.ensures.idle c.find_standing.ensures.time c.settle_on.ensures.time
-    c.settle_on.ensures.any_moment
-    c.settle_on.ensures.elsewhere
+    (g.D.Disk.medium c.args.disk.now) (g.D.Disk.medium c.find_standing.new.disk) (g.D.Disk.medium c.bring_to.new.disk)
+    c.find_standing.ensures.image c.find_standing.ensures.idle c.find_standing.ensures.time c.bring_to.ensures.time
+    c.bring_to.ensures.any_moment
+    c.bring_to.ensures.elsewhere
 
 pub returns-in_err-root-clause-any_moment : goal.returns-in_err-root-clause-any_moment
 returns-in_err-root-clause-any_moment g c = λ tells.
@@ -96,9 +121,9 @@ returns-in_err-root-clause-any_moment g c = λ tells.
     let first = is_first (texts_at old.image c.args.app) c.in_ok-standing.field-0 c.in-Some.standing c.in-Some.is
     (c.in_ok-standing.ensures.among tells) in
     brought_stands c.args.app c.requires g.D.Disk.told c.in-Some.standing.seen
-    old (g.D.Disk.medium c.find_standing.new.disk) (g.D.Disk.medium c.settle_on.new.disk)
-    c.find_standing.ensures.image c.find_standing.ensures.idle c.find_standing.ensures.time c.settle_on.ensures.time
-    c.settle_on.ensures.any_moment
+    old (g.D.Disk.medium c.find_standing.new.disk) (g.D.Disk.medium c.bring_to.new.disk)
+    c.find_standing.ensures.image c.find_standing.ensures.idle c.find_standing.ensures.time c.bring_to.ensures.time
+    c.bring_to.ensures.any_moment
     c.untouched_stands.ensures.still c.deploying_stands.ensures.opening tells
     (found_stands c.held_is_lawful.ensures.among old.image c.args.app c.in-Some.standing first)
 
@@ -108,17 +133,17 @@ returns-clause-already g c = λ tells n t alone.
     let s = c.in-Some.standing in
     let first = is_first (texts_at old.image c.args.app) c.in_ok-standing.field-0 s c.in-Some.is
     (c.in_ok-standing.ensures.among tells) in
-    already_then old (g.D.Disk.medium c.find_standing.new.disk) (g.D.Disk.medium c.settle_on.new.disk) c.args.app
+    already_then old (g.D.Disk.medium c.find_standing.new.disk) (g.D.Disk.medium c.bring_to.new.disk) c.args.app
     s.seen.generation s.seen.text
-    c.find_standing.ensures.image c.find_standing.ensures.written (c.settle_on.ensures.already tells)
+    c.find_standing.ensures.image c.find_standing.ensures.written (c.bring_to.ensures.already tells)
     (found_alone c.held_is_lawful.ensures.alone old.image c.args.app n t s first alone)
 
 pub returns-clause-outside : goal.returns-clause-outside
 returns-clause-outside g c = brought_leaves c.args.app c.requires g.D.Disk.told c.in-Some.standing.seen
-    (g.D.Disk.medium c.args.disk.now) (g.D.Disk.medium c.find_standing.new.disk) (g.D.Disk.medium c.settle_on.new.disk)
-    c.find_standing.ensures.image c.find_standing.ensures.idle c.find_standing.ensures.time c.settle_on.ensures.time
-    c.settle_on.ensures.any_moment
-    c.settle_on.ensures.elsewhere
+    (g.D.Disk.medium c.args.disk.now) (g.D.Disk.medium c.find_standing.new.disk) (g.D.Disk.medium c.bring_to.new.disk)
+    c.find_standing.ensures.image c.find_standing.ensures.idle c.find_standing.ensures.time c.bring_to.ensures.time
+    c.bring_to.ensures.any_moment
+    c.bring_to.ensures.elsewhere
 
 pub returns-clause-any_moment : goal.returns-clause-any_moment
 returns-clause-any_moment g c = λ tells.
@@ -126,9 +151,9 @@ returns-clause-any_moment g c = λ tells.
     let first = is_first (texts_at old.image c.args.app) c.in_ok-standing.field-0 c.in-Some.standing c.in-Some.is
     (c.in_ok-standing.ensures.among tells) in
     brought_stands c.args.app c.requires g.D.Disk.told c.in-Some.standing.seen
-    old (g.D.Disk.medium c.find_standing.new.disk) (g.D.Disk.medium c.settle_on.new.disk)
-    c.find_standing.ensures.image c.find_standing.ensures.idle c.find_standing.ensures.time c.settle_on.ensures.time
-    c.settle_on.ensures.any_moment
+    old (g.D.Disk.medium c.find_standing.new.disk) (g.D.Disk.medium c.bring_to.new.disk)
+    c.find_standing.ensures.image c.find_standing.ensures.idle c.find_standing.ensures.time c.bring_to.ensures.time
+    c.bring_to.ensures.any_moment
     c.untouched_stands.ensures.still c.deploying_stands.ensures.opening tells
     (found_stands c.held_is_lawful.ensures.among old.image c.args.app c.in-Some.standing first)
 
@@ -150,9 +175,9 @@ returns-clause-app g c = λ tells.
     brought_app c.one_root.ensures.again c.roots_say.ensures.alone c.roots_say.ensures.versions
     c.files_lie_apart.ensures.slots c.others_stand.ensures.root c.roots_say.ensures.clean
     c.args.app c.in-Some.standing.seen.generation (root_said c.in-Some.standing.says)
-    old.image (g.D.Disk.medium c.find_standing.new.disk).image (g.D.Disk.medium c.settle_on.new.disk).image c.requires
+    old.image (g.D.Disk.medium c.find_standing.new.disk).image (g.D.Disk.medium c.bring_to.new.disk).image c.requires
     spelled.rules c.find_standing.ensures.image
-    (c.settle_on.ensures.elsewhere tells) (c.in_ok-root.ensures.alone tells)
+    (c.bring_to.ensures.elsewhere tells) (c.in_ok-root.ensures.alone tells)
     (found_says c.held_is_lawful.ensures.among old.image c.args.app c.in-Some.standing first)
 
 pub returns-clause-clean : goal.returns-clause-clean
@@ -165,9 +190,9 @@ returns-clause-clean g c = λ tells.
     brought_clean c.one_root.ensures.again c.roots_say.ensures.alone c.roots_say.ensures.versions
     c.files_lie_apart.ensures.slots c.others_stand.ensures.root c.roots_say.ensures.clean
     c.args.app c.in-Some.standing.seen.generation (root_said c.in-Some.standing.says)
-    old.image (g.D.Disk.medium c.find_standing.new.disk).image (g.D.Disk.medium c.settle_on.new.disk).image c.requires
+    old.image (g.D.Disk.medium c.find_standing.new.disk).image (g.D.Disk.medium c.bring_to.new.disk).image c.requires
     spelled.rules c.find_standing.ensures.image
-    (c.settle_on.ensures.elsewhere tells) (c.in_ok-root.ensures.alone tells)
+    (c.bring_to.ensures.elsewhere tells) (c.in_ok-root.ensures.alone tells)
     (found_says c.held_is_lawful.ensures.among old.image c.args.app c.in-Some.standing first)
 
 pub returns-clause-untouched : goal.returns-clause-untouched

@@ -7,7 +7,8 @@ use Rattle.element_state.specs.Kept.{KeptThroughout}
 use Rattle.element_state.specs.States.{State, store_at}
 use Rattle.element_store.specs.Rebuilds.{HasNext}
 use Rattle.deploy_rows.specs.Recovering.{after_state, rebuilding}
-use Rattle.deploy.proofs.Recoveries.{has_next, next_answers, none_kept, none_leaves, rebuilt_next, worn_answers}
+use Rattle.element_laws.specs.lemmas.Untouched.{none_kept}
+use Rattle.deploy.proofs.Recoveries.{has_next, next_answers, none_leaves, rebuilt_next, worn_answers}
 use Rattle.deploy.proofs.Recoveries.{worn_stays}
 use Rattle.deploy.proofs.recovering.rebuild_over.Goals as goal
 

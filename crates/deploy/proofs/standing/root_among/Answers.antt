@@ -22,7 +22,7 @@ pub returns-in-Ok-clause-among : goal.returns-in-Ok-clause-among
 returns-in-Ok-clause-among c = record {
   stands = sym c.standing_among.ensures ∙ c.in-Some.is;
   said = ap root_of (sym c.as_slice.ensures) ∙ c.in-Ok.ensures.read;
-  settled = ap (λ (n : ℕ). nat_le n 1) (omega (arith, c.len-settled.ensures, c.args.seens.ok.0));
+  sole = ap (λ (n : ℕ). nat_le n 1) (omega (arith, c.len-sole.ensures, c.args.seens.ok.0));
 }
 
 pub returns-in-Ok-clause-spelled : goal.returns-in-Ok-clause-spelled

@@ -22,11 +22,11 @@ returns-clause-view g c = λ tells.
     let says = found_says c.held_is_lawful.ensures.among old c.args.app s first in
     c.of.ensures s.seen.generation
     ∙ root_is_seen old c.args.app (says_by s.seen.generation (Some (root_said s.says))) c.in_ok-lacking.lacking
-    s.settled says
+    s.sole says
     (c.in_ok-lacking.ensures ∙ ap others c.as_slice.ensures
     ∙ sym (app_lacks c.held_is_lawful.ensures.standing old c.args.app s.seen
     (found_stands c.held_is_lawful.ensures.among old c.args.app s first) (root_said s.says) says))
-    first.settled
+    first.sole
 
 pub returns-clause-versions : goal.returns-clause-versions
 returns-clause-versions g c =
@@ -34,4 +34,4 @@ returns-clause-versions g c =
     let spelled = is_spelled c.in_ok-standing.field-0 s c.in-Some.is c.in_ok-standing.ensures.spelled in
     subst (λ (seen : RootSeen). ShowsVersions seen) (sym (c.of.ensures s.seen.generation))
     (shows_versions c.said_is_kept.ensures.keeps (root_said s.says) spelled.rules s.seen.generation
-    c.in_ok-lacking.lacking s.settled)
+    c.in_ok-lacking.lacking s.sole)

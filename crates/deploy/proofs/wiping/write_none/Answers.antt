@@ -23,7 +23,7 @@ returns-clause-any_moment g c = λ tells quiet.
     let new = g.D.Disk.medium c.write.new.disk in
     subst (λ (t : List ℕ). EachCase (PutStops (place_of c.args.cell).first (place_of c.args.cell).copies
     (generation_of c.args.cell + 1) t old.image) old new)
-    (c.deref.ensures.value ∙ c.in_ok-text.ensures.text) (c.in_ok-next.ensures.any_moment tells quiet)
+    (c.deref.ensures.value ∙ c.in_ok-text.ensures.text) (c.in_ok-next.ensures.puts.any_moment tells quiet)
 
 pub returns-in_err-next-clause-any_moment : goal.returns-in_err-next-clause-any_moment
 returns-in_err-next-clause-any_moment g c = λ tells quiet.
@@ -31,7 +31,7 @@ returns-in_err-next-clause-any_moment g c = λ tells quiet.
     let new = g.D.Disk.medium c.write.new.disk in
     subst (λ (t : List ℕ). EachCase (PutStops (place_of c.args.cell).first (place_of c.args.cell).copies
     (generation_of c.args.cell + 1) t old.image) old new)
-    (c.deref.ensures.value ∙ c.in_ok-text.ensures.text) (c.in_err-next.ensures.any_moment tells quiet)
+    (c.deref.ensures.value ∙ c.in_ok-text.ensures.text) (c.in_err-next.ensures.puts.any_moment tells quiet)
 
 pub returns-in_err-text-clause-any_moment : goal.returns-in_err-text-clause-any_moment
 returns-in_err-text-clause-any_moment g c = λ tells quiet.

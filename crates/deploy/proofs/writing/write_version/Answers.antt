@@ -32,14 +32,14 @@ returns-in_err-next-clause-any_moment g c = λ tells quiet.
     let old = g.D.Disk.medium c.args.disk.now in
     subst (λ (t : List ℕ). EachCase (PutStops c.args.cell.place.first c.args.cell.place.copies
     (c.args.cell.generation + 1) t old.image) old (g.D.Disk.medium c.write.new.disk))
-    (c.deref.ensures.value ∙ c.in_ok-text.ensures.text) (c.in_err-next.ensures.any_moment tells quiet)
+    (c.deref.ensures.value ∙ c.in_ok-text.ensures.text) (c.in_err-next.ensures.puts.any_moment tells quiet)
 
 pub returns-clause-any_moment : goal.returns-clause-any_moment
 returns-clause-any_moment g c = λ tells quiet.
     let old = g.D.Disk.medium c.args.disk.now in
     subst (λ (t : List ℕ). EachCase (PutStops c.args.cell.place.first c.args.cell.place.copies
     (c.args.cell.generation + 1) t old.image) old (g.D.Disk.medium c.write.new.disk))
-    (c.deref.ensures.value ∙ c.in_ok-text.ensures.text) (c.in_ok-next.ensures.any_moment tells quiet)
+    (c.deref.ensures.value ∙ c.in_ok-text.ensures.text) (c.in_ok-next.ensures.puts.any_moment tells quiet)
 
 pub returns-clause-held : goal.returns-clause-held
 returns-clause-held g c = λ tells.

@@ -1,4 +1,4 @@
-use Rattle.disk_model.proofs.Frames.{settled_less}
+use Rattle.disk_model.specs.lemmas.Frames.{settled_less}
 use Rattle.deploy_laws.specs.Apps.{says_at}
 use Rattle.deploy_laws.proofs.Covered.{root_sound, root_decays}
 use Rattle.deploy_laws.proofs.Files.{all_fit, apart_untouched, beside_untouched, root_outside}

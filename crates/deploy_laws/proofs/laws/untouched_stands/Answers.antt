@@ -1,5 +1,5 @@
 use Rattle.std.proofs.Common.{refl}
-use Rattle.disk_model.proofs.Frames.{settled_less}
+use Rattle.disk_model.specs.lemmas.Frames.{settled_less}
 use Rattle.deploy_laws.specs.Apps.{app_at, says_at}
 use Rattle.deploy_laws.specs.Stands.{same_root}
 use Rattle.deploy_laws.proofs.Files.{all_fit, own_untouched, root_own}

@@ -1,4 +1,4 @@
-use Rattle.file_handles.proofs.Asked.{cat_due, put_due, same_content}
+use Rattle.file_handles.specs.lemmas.Asked.{cat_due, put_due, same_content}
 use Rattle.file_handles.proofs.laws.whole_contents_are_given.Goals as goal
 
 pub returns-clause-cat : goal.returns-clause-cat

@@ -1,7 +1,7 @@
 use Rattle.std.proofs.Common.{◌≡◌, ◌++◌, take}
 use Rattle.std.specs.Prelude.{map}
 use Rattle.per_base.specs.declared.elements.Entry.{Entry}
-use Rattle.element_state.specs.declared.shapes.Change.TheVariants.{Remove}
+use Rattle.per_base.specs.declared.elements.Change.TheVariants.{Remove}
 use Rattle.file_storage.proofs.differences.remove_all.Given as goal
 
 abbrev pub invariant-loop-entry : goal.invariant-loop-entry

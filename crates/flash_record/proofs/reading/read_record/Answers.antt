@@ -1,6 +1,6 @@
 use Rattle.std.proofs.Common.{◌≡◌, ◌-◌, ap, ◌∙◌, length, drop, take, take_all, Some, List, ℕ, arith, length-drop}
 use Rattle.byteorder.specs.Numbers.{little_from-take}
-use Rattle.flash_record.proofs.Bodies.{record_in-text, record_in-none, record_in-other, said}
+use Rattle.flash_record.specs.lemmas.Bodies.{record_in-text, record_in-none, record_in-other, said}
 use Rattle.flash_record.proofs.reading.read_record.Goals as goal
 
 pub returns-in-None-clause-record : goal.returns-in-None-clause-record

@@ -1,7 +1,7 @@
 use Rattle.std.proofs.Common.{rules, ◌≡◌, ap, ◌∙◌, length, replicate, Some, List, ℕ, ◌++◌}
 use Rattle.std.proofs.lemmas.List.{drop_at}
 use Rattle.flash_record.specs.PageRecord.{body_record}
-use Rattle.flash_record.proofs.Bodies.{length-record_body, body_reads_back, record_in-text}
+use Rattle.flash_record.specs.lemmas.Bodies.{length-record_body, body_reads_back, record_in-text}
 use Rattle.flash_record.proofs.writing.record_page.Goals as goal
 
 pub returns-clause-record : goal.returns-clause-record

@@ -1,6 +1,6 @@
 use Rattle.std.proofs.Common.{◌-◌, arith, drop, sym, ◌∙◌}
 use Rattle.std.proofs.lemmas.List.{length-drop}
-use Rattle.index_text.proofs.Order.{ascends_short}
+use Rattle.index_text.specs.lemmas.Order.{ascends_short}
 use Rattle.index_text.proofs.rules.names_ascend.Goals as goal
 
 pub returns : goal.returns

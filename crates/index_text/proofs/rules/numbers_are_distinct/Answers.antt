@@ -1,5 +1,5 @@
 use Rattle.std.proofs.Common.{ap, eqb, length, ◌∙◌, ℕ}
-use Rattle.index_text.proofs.Order.{set_size}
+use Rattle.index_text.specs.lemmas.Order.{set_size}
 use Rattle.index_text.proofs.rules.numbers_are_distinct.Goals as goal
 
 pub returns : goal.returns

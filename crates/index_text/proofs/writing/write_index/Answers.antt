@@ -4,7 +4,7 @@ use Rattle.index_text.specs.declared.entries.IndexEntry.{IndexEntry}
 use Rattle.index_text.specs.Rules.{EntryInRange}
 use Rattle.index_text.specs.Spelling.{entry_text, header_text, index_text}
 use Rattle.index_text.specs.Reading.{index_of}
-use Rattle.index_text.proofs.Lengths.{length-index_text}
+use Rattle.index_text.specs.lemmas.Lengths.{length-index_text}
 use Rattle.index_text.proofs.Whole.{all_written, index_again}
 use Rattle.index_text.proofs.writing.write_index.Goals as goal
 

@@ -8,7 +8,7 @@ sync_to_storage-requires g c = c.requires.used
 pub returns-in-Ok-clause-rest : goal.returns-in-Ok-clause-rest
 returns-in-Ok-clause-rest g c = record {
   used = c.in-Ok.ensures.used;
-  shown = c.holds.ensures.synced;
+  shown = c.invariants.ensures.synced;
   settled = ap (λ (k : KvsSession). k.session.visible) c.in-Ok.ensures.session
       ∙ sym (ap (λ (k : KvsSession). k.session.synced) c.in-Ok.ensures.session);
   quiet = c.in-Ok.ensures.durable.quiet c.requires.quiet;

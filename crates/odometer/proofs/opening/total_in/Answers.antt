@@ -17,4 +17,4 @@ shown kvs name kind tree total of_kind of_tree settled named is = rw (of_kind, o
 
 pub returns : goal.returns
 returns c = shown c.args.kvs.now c.args.key.now _ _ c.in_ok-get_value.field-0 c.scalars_have_trees.ensures.u32.0
-    c.scalars_have_trees.ensures.u32.1 c.requires.settled c.requires.key c.in_ok-get_value.ensures.ok
+    c.scalars_have_trees.ensures.u32.1 c.requires.synced c.requires.key c.in_ok-get_value.ensures.ok

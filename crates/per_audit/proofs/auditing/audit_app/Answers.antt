@@ -1,7 +1,7 @@
 use Rattle.std.proofs.Common.{ap, ◌∙◌}
 use Rattle.disk_model.specs.Image.{Image}
 use Rattle.deploy.specs.Views.{RootSeen, root_seen}
-use Rattle.deploy_laws.specs.Apps.{app_at, root_settled}
+use Rattle.deploy_laws.specs.Apps.{app_at, root_sole}
 use Rattle.per_audit.specs.Audits.{elements_of, findings_of}
 use Rattle.per_audit.specs.Noted.{elements_seen, findings_seen}
 use Rattle.per_audit.proofs.Applications.{app_elements, app_findings}
@@ -15,7 +15,7 @@ returns-clause-adds g c = λ tells.
     let app = c.args.app in
     let seen = root_seen c.in_ok-view.view in
     adds_as (elements_seen mid app seen) (elements_of app (app_at old app)) (findings_seen mid app seen)
-    (findings_of app (root_settled old app) (app_at old app))
+    (findings_of app (root_sole old app) (app_at old app))
     c.args.notes.now c.audit_view.new.notes
     (ap (λ (im : Image). elements_seen im app seen) c.in_ok-view.ensures.image
     ∙ ap (λ (s : RootSeen). elements_seen old app s) (c.in_ok-view.ensures.view tells) ∙ app_elements old app)

@@ -6,7 +6,7 @@ use Rattle.disk_model.specs.Image.{Image}
 use Rattle.deployment_model.specs.Conditions.{IsStorage}
 use Rattle.deployment_model.specs.Data.{deployment_data, storage_data}
 use Rattle.deployment_model.specs.declared.configs.StorageConfig.{StorageConfig}
-use Rattle.per_audit.specs.Audits.{damaged_by, listed_of, of_storage, unless_settled}
+use Rattle.per_audit.specs.Audits.{damaged_by, listed_of, of_storage, unless_sole}
 use Rattle.per_audit.specs.Noted.{Adds, named_in, of_previous, within}
 use Rattle.per_audit.proofs.Applications.{adds_on, shown_active, shown_previous}
 use Rattle.per_audit.proofs.Remaining.{few_storages}
@@ -16,14 +16,14 @@ pub audit_storages-requires-clause-bank : goal.audit_storages-requires-clause-ba
 audit_storages-requires-clause-bank g c =
     let s = c.args.state.now in
     let placed = shown_active (record { bank = s.bank; deployment = deployment_data s.active })
-    (named_in (1 - s.bank) s.previous) s.lacking s.settled c.requires.versions in
+    (named_in (1 - s.bank) s.previous) s.lacking s.sole c.requires.versions in
     placed.in_bank
 
 pub audit_storages-requires-clause-few : goal.audit_storages-requires-clause-few
 audit_storages-requires-clause-few g c =
     let s = c.args.state.now in
     let placed = shown_active (record { bank = s.bank; deployment = deployment_data s.active })
-    (named_in (1 - s.bank) s.previous) s.lacking s.settled c.requires.versions in
+    (named_in (1 - s.bank) s.previous) s.lacking s.sole c.requires.versions in
     subst (λ (ds : List StorageConfig). length ds ≤ 16) (sym c.as_slice.ensures)
     (few_storages s.active.storages placed.keeps.few)
 
@@ -31,7 +31,7 @@ pub audit_storages-requires-clause-each : goal.audit_storages-requires-clause-ea
 audit_storages-requires-clause-each g c =
     let s = c.args.state.now in
     let placed = shown_active (record { bank = s.bank; deployment = deployment_data s.active })
-    (named_in (1 - s.bank) s.previous) s.lacking s.settled c.requires.versions in
+    (named_in (1 - s.bank) s.previous) s.lacking s.sole c.requires.versions in
     subst (λ (ds : List StorageConfig). AllByRecursion IsStorage (map storage_data ds)) (sym c.as_slice.ensures)
     placed.keeps.each
 
@@ -39,14 +39,14 @@ pub audit_previous-requires-clause-deployment : goal.audit_previous-requires-cla
 audit_previous-requires-clause-deployment g c =
     let s = c.args.state.now in
     shown_previous (record { bank = s.bank; deployment = deployment_data s.active }) (1 - s.bank) s.previous s.lacking
-    s.settled c.requires.versions
+    s.sole c.requires.versions
 
 pub returns-clause-adds : goal.returns-clause-adds
 returns-clause-adds g c = λ tells.
     let s = c.args.state.now in
     let app = c.args.app in
     let old = (g.D.Disk.medium c.args.disk.now).image in
-    let of_root = damaged_by app None Root s.lacking ++ unless_settled s.settled app None Root in
+    let of_root = damaged_by app None Root s.lacking ++ unless_sole s.sole app None Root in
     let active = subst (λ (ds : List StorageConfig). Adds
     (within (listed_of app) old app s.bank 0 (map storage_data ds))
     (within (of_storage app) old app s.bank 0 (map storage_data ds))

@@ -1,6 +1,6 @@
 use Rattle.value_model.specs.Trees.{type_of}
 use Rattle.value_model.specs.Views.{kind_of}
-use Rattle.migrate_fns.proofs.SameKinds.{same_test}
+use Rattle.migrate_fns.specs.lemmas.SameKinds.{same_test}
 use Rattle.update_plan.proofs.renewing.has_type.Goals as goal
 
 pub returns : goal.returns

@@ -1,5 +1,5 @@
 use Rattle.std.proofs.Common.{arith}
-use Rattle.value_code.proofs.ValueLaws.{is_found, is_only}
+use Rattle.value_code.specs.lemmas.ValueLaws.{is_found, is_only}
 use Rattle.value_code.proofs.decoding.decode.Goals as goal
 
 pub returns-clause-found : goal.returns-clause-found

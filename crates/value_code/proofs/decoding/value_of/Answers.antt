@@ -1,6 +1,6 @@
 use Rattle.std.proofs.Common.{arith}
 use Rattle.value_model.specs.Views.{tree_of}
-use Rattle.value_code.proofs.ValueLaws.{decoded_takes, never_refused}
+use Rattle.value_code.specs.lemmas.ValueLaws.{decoded_takes, never_refused}
 use Rattle.value_code.proofs.decoding.value_of.Goals as goal
 
 pub returns-in-Err : goal.returns-in-Err

@@ -1,4 +1,4 @@
-use Rattle.value_code.proofs.ValueLaws.{typed_fits}
+use Rattle.value_code.specs.lemmas.ValueLaws.{typed_fits}
 use Rattle.value_code.proofs.encoding.encode.Goals as goal
 
 pub put_type-requires : goal.put_type-requires

@@ -1,4 +1,4 @@
-use Rattle.value_code.proofs.ValueLaws.{decoded_takes, decoded_again}
+use Rattle.value_code.specs.lemmas.ValueLaws.{decoded_takes, decoded_again}
 use Rattle.value_code.proofs.laws.decoded_is_exact.Goals as goal
 
 pub returns-clause-found : goal.returns-clause-found

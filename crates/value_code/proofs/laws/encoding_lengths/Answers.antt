@@ -1,4 +1,4 @@
-use Rattle.value_code.proofs.Lengths.{encoding_long}
+use Rattle.value_code.specs.lemmas.Lengths.{encoding_long}
 use Rattle.value_code.proofs.laws.encoding_lengths.Goals as goal
 
 pub returns-clause-shortest : goal.returns-clause-shortest

@@ -1,6 +1,6 @@
 use Rattle.std.proofs.Common.{rules, append_assoc}
-use Rattle.value_model.proofs.Members.{count_trees-view, len-items, tree_of-List}
-use Rattle.value_code.proofs.Lengths.{items_few}
+use Rattle.value_model.specs.lemmas.Members.{count_trees-view, len-items, tree_of-List}
+use Rattle.value_code.specs.lemmas.Lengths.{items_few}
 use Rattle.value_code.proofs.payloads.+put_payload.Goals as goal
 
 pub put_payload-put_length-requires : goal.put_payload-put_length-requires

@@ -1,5 +1,5 @@
 use Rattle.std.proofs.Common.{◌≤◌, rules, append_assoc}
-use Rattle.value_model.proofs.Members.{kind_of-Fields, kind_of-List, count_kinds-view, len-items}
+use Rattle.value_model.specs.lemmas.Members.{kind_of-Fields, kind_of-List, count_kinds-view, len-items}
 use Rattle.value_code.proofs.Groups.{members_at_most}
 use Rattle.value_code.proofs.types.+put_type.Goals as goal
 

@@ -1,5 +1,5 @@
 use Rattle.std.proofs.Common.{rules}
-use Rattle.value_model.proofs.Members.{fits-Fields}
+use Rattle.value_model.specs.lemmas.Members.{fits-Fields}
 use Rattle.value_model.proofs.types.+fits.Goals as goal
 
 pub ValueType::fits-returns-then-not-is_group_size : goal.ValueType::fits-returns-then-not-is_group_size

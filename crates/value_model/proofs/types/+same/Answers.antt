@@ -1,4 +1,4 @@
-use Rattle.value_model.proofs.Members.{types_differ}
+use Rattle.value_model.specs.lemmas.Members.{types_differ}
 use Rattle.value_model.proofs.types.+same.Goals as goal
 
 pub all_same-returns-then-types-others : goal.all_same-returns-then-types-others

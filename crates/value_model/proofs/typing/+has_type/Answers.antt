@@ -1,4 +1,4 @@
-use Rattle.value_model.proofs.Members.{members_differ}
+use Rattle.value_model.specs.lemmas.Members.{members_differ}
 use Rattle.value_model.proofs.typing.+has_type.Goals as goal
 
 pub have_types-returns-then-nodes-types : goal.have_types-returns-then-nodes-types

@@ -1,6 +1,6 @@
 use Rattle.std.proofs.Common.{sym, ◌∙◌, ap}
 use Rattle.value_model.specs.Kinds.{is_group}
-use Rattle.value_model.proofs.Members.{typed-Fields, untyped-Fields}
+use Rattle.value_model.specs.lemmas.Members.{typed-Fields, untyped-Fields}
 use Rattle.value_model.proofs.typing.+is_typed.Goals as goal
 
 pub is_typed-returns-then-not-is_group_size : goal.is_typed-returns-then-not-is_group_size

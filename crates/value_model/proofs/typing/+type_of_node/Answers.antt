@@ -1,4 +1,4 @@
-use Rattle.value_model.proofs.Members.{types_done}
+use Rattle.value_model.specs.lemmas.Members.{types_done}
 use Rattle.value_model.proofs.typing.+type_of_node.Goals as goal
 
 pub types_of_nodes-returns : goal.types_of_nodes-returns

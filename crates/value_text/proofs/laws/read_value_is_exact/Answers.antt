@@ -1,4 +1,4 @@
-use Rattle.value_text.proofs.Public.{value_in_takes, value_in_again}
+use Rattle.value_text.specs.lemmas.Public.{value_in_takes, value_in_again}
 use Rattle.value_text.proofs.laws.read_value_is_exact.Goals as goal
 
 pub returns-clause-found : goal.returns-clause-found

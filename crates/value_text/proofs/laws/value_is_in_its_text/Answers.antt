@@ -1,6 +1,6 @@
 use Rattle.std.proofs.Common.{ap}
 use Rattle.value_model.specs.Trees.{type_of}
-use Rattle.value_text.proofs.Public.{same_value}
+use Rattle.value_text.specs.lemmas.Public.{same_value}
 use Rattle.value_text.proofs.laws.value_is_in_its_text.Goals as goal
 
 pub returns-clause-value : goal.returns-clause-value

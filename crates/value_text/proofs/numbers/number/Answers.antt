@@ -1,6 +1,6 @@
 use Rattle.std.specs.Char.{is_ascii_digit}
 use Rattle.std.proofs.lemmas.List.Sums.{prefix_len-le-length}
-use Rattle.value_text.proofs.Digits.{digits_in_front}
+use Rattle.value_text.specs.lemmas.Digits.{digits_in_front}
 use Rattle.value_text.proofs.numbers.number.Goals as goal
 
 pub split_at-requires : goal.split_at-requires

@@ -1,5 +1,5 @@
 use Rattle.std.proofs.Common.{sym, ◌∙◌}
-use Rattle.value_text.proofs.Digits.{IsUtf8-digits, parsed, number_of-none}
+use Rattle.value_text.specs.lemmas.Digits.{IsUtf8-digits, parsed, number_of-none}
 use Rattle.value_text.proofs.numbers.number_of.Goals as goal
 
 pub returns-then-not-is_canonical : goal.returns-then-not-is_canonical

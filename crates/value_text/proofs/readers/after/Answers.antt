@@ -1,4 +1,4 @@
-use Rattle.value_text.proofs.Words.{stripped}
+use Rattle.value_text.specs.lemmas.Words.{stripped}
 use Rattle.value_text.proofs.readers.after.Goals as goal
 
 pub returns : goal.returns

@@ -5,7 +5,7 @@ use Rattle.value_model.specs.Views.{kind_of}
 use Rattle.value_text.specs.Readers.{punctuation_at}
 use Rattle.value_text.specs.Parsing.{kind_at}
 use Rattle.value_text.proofs.Depth.{kind_at-none, kind_at-more}
-use Rattle.value_text.proofs.Loop.{thing_fails, punctuation_fails, closes, continues, is_full}
+use Rattle.value_text.specs.lemmas.Loop.{thing_fails, punctuation_fails, closes, continues, is_full}
 use Rattle.value_text.proofs.types.+types.Goals as goal
 
 pub type_at-returns-then-depth-eq0 : goal.type_at-returns-then-depth-eq0

@@ -1,5 +1,5 @@
 use Rattle.value_model.specs.Views.{kind_of}
-use Rattle.value_text.proofs.Public.{type_found, type_only}
+use Rattle.value_text.specs.lemmas.Public.{type_found, type_only}
 use Rattle.value_text.proofs.types.parse_type.Goals as goal
 
 pub returns-clause-found : goal.returns-clause-found

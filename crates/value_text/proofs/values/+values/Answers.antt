@@ -5,7 +5,7 @@ use Rattle.value_model.specs.Views.{tree_of}
 use Rattle.value_text.specs.Readers.{punctuation_at}
 use Rattle.value_text.specs.Parsing.{tree_at}
 use Rattle.value_text.proofs.Depth.{tree_at-none, tree_at-more}
-use Rattle.value_text.proofs.Loop.{thing_fails, punctuation_fails, closes, continues, is_full}
+use Rattle.value_text.specs.lemmas.Loop.{thing_fails, punctuation_fails, closes, continues, is_full}
 use Rattle.value_text.proofs.values.+values.Goals as goal
 
 pub value_at-returns-then-depth-eq0 : goal.value_at-returns-then-depth-eq0

@@ -1,4 +1,4 @@
-use Rattle.value_text.proofs.Public.{value_found, value_only}
+use Rattle.value_text.specs.lemmas.Public.{value_found, value_only}
 use Rattle.value_text.proofs.values.parse_value.Goals as goal
 
 pub returns-clause-found : goal.returns-clause-found

@@ -1,5 +1,5 @@
 use Rattle.value_model.specs.Views.{tree_of}
-use Rattle.value_text.proofs.Public.{refused, kept_value}
+use Rattle.value_text.specs.lemmas.Public.{refused, kept_value}
 use Rattle.value_text.proofs.values.value_of.Goals as goal
 
 pub returns-in-Ok : goal.returns-in-Ok

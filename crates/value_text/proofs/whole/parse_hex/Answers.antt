@@ -1,7 +1,7 @@
 use Rattle.std.proofs.Common.{◌≡◌, ◌∙◌, ap}
 use Rattle.value_text.specs.Texts.{hex_text}
 use Rattle.value_text.specs.Whole.{bytes_in}
-use Rattle.value_text.proofs.WholeLaws.{bytes_in_takes, bytes_in_again, found, only}
+use Rattle.value_text.specs.lemmas.WholeLaws.{bytes_in_takes, bytes_in_again, found, only}
 use Rattle.value_text.proofs.whole.parse_hex.Goals as goal
 
 pub returns-clause-found : goal.returns-clause-found

@@ -2,7 +2,7 @@ use Rattle.std.proofs.Common.{◌≡◌, ◌∙◌, ◌+◌, ◌≤◌, arith, a
 use Rattle.std.specs.Fmt.{signed_decimal}
 use lib.Signed.{mag}
 use Rattle.value_text.specs.Whole.{signed_in}
-use Rattle.value_text.proofs.WholeLaws.{signed_in_takes, signed_in_again, found, only}
+use Rattle.value_text.specs.lemmas.WholeLaws.{signed_in_takes, signed_in_again, found, only}
 use Rattle.value_text.proofs.whole.parse_signed.Goals as goal
 
 pub returns-clause-found : goal.returns-clause-found

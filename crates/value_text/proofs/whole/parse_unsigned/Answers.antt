@@ -1,7 +1,7 @@
 use Rattle.std.proofs.Common.{◌≡◌, ◌∙◌, ◌+◌, ◌≤◌, arith, ap}
 use Rattle.std.specs.Fmt.{decimal}
 use Rattle.value_text.specs.Whole.{unsigned_in}
-use Rattle.value_text.proofs.WholeLaws.{unsigned_in_takes, unsigned_in_again, found, only}
+use Rattle.value_text.specs.lemmas.WholeLaws.{unsigned_in_takes, unsigned_in_again, found, only}
 use Rattle.value_text.proofs.whole.parse_unsigned.Goals as goal
 
 pub returns-clause-found : goal.returns-clause-found

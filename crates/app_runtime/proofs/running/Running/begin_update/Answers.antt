@@ -6,7 +6,7 @@ use Rattle.migrate_fns.specs.Stored.{answers_of, rules_of}
 use Rattle.app_runtime.specs.declared.running.Running.{Running}
 use Rattle.app_runtime.specs.declared.running.Stage.TheVariants.{AtRest}
 use Rattle.app_runtime.specs.Promises.{Promises}
-use Rattle.app_runtime.specs.Stages.{SettlesBegun}
+use Rattle.app_runtime.specs.Stages.{ConcludesBegun}
 use Rattle.app_runtime.proofs.Ended.{busy_here, resting_in, stage_back, starved, starved_promises}
 use Rattle.app_runtime.proofs.Updated.{Beginning, begun_promises}
 use Rattle.app_runtime.proofs.running.Running.begin_update.Goals as goal
@@ -47,8 +47,8 @@ returns g c =
     let resting = resting_in told old.image s root c.requires.memory c.requires.rests c.take_root-root.ensures.root in
     let busy_is = busy_here s taken root c.as_ref.result c.in_ok-busy.busy c.take_root-root.ensures.left
     c.as_ref.ensures.value c.in_ok-busy.ensures in
-    subst (λ (x : Running). Promises told rules answers c.args.now (call.UpdateBegin text) x c.settle_begun.new.self
-    (c.begin_update-begun.new.disk ≡ c.args.disk.now) old new c.settle_begun.result)
+    subst (λ (x : Running). Promises told rules answers c.args.now (call.UpdateBegin text) x c.conclude_begun.new.self
+    (c.begin_update-begun.new.disk ≡ c.args.disk.now) old new c.conclude_begun.result)
     (stage_back s root c.requires.rests c.take_root-root.ensures.root)
     (begun_promises told rules answers c.args.now text s root old new (c.begin_update-begun.new.disk ≡ c.args.disk.now)
     resting c.roots_in_use.ensures.app c.rows_read_the_root.ensures.offer busy busy_is
@@ -65,6 +65,6 @@ returns g c =
       any_moment = c.begin_update-begun.ensures.any_moment;
       time = c.begin_update-begun.ensures.time;
     }))
-    c.settle_begun.new.self c.settle_begun.result (subst
-    (λ (x : Running). SettlesBegun made x c.settle_begun.new.self c.settle_begun.result)
-    c.take_root-root.ensures.left c.settle_begun.ensures))
+    c.conclude_begun.new.self c.conclude_begun.result (subst
+    (λ (x : Running). ConcludesBegun made x c.conclude_begun.new.self c.conclude_begun.result)
+    c.take_root-root.ensures.left c.conclude_begun.ensures))

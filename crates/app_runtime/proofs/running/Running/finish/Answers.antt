@@ -53,4 +53,4 @@ returns g c = λ now.
     (finish_kept told s.app old.image new.image root s.slots resting c.places_stand_apart.ensures.frame
     c.files_lie_apart.ensures.storage outside.at_the_end made c.finish-made.ensures.refused
     c.finish-made.ensures.says)
-    c.settle.new.self c.settle.result c.settle.ensures
+    c.conclude.new.self c.conclude.result c.conclude.ensures

@@ -66,4 +66,4 @@ returns g c =
     }))
     (install_kept told s.app old.image new.image root s.slots resting c.args.now c.args.manifest.now made
     c.install-made.ensures.refused)
-    c.settle.new.self c.settle.result c.settle.ensures
+    c.conclude.new.self c.conclude.result c.conclude.ensures

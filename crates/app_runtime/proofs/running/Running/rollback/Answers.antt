@@ -70,4 +70,4 @@ returns g c = λ now.
     })
     (rollback_kept told s.app old.image new.image root s.slots resting busy busy_is made
     c.rollback-made.ensures.refused)
-    c.settle.new.self c.settle.result c.settle.ensures
+    c.conclude.new.self c.conclude.result c.conclude.ensures

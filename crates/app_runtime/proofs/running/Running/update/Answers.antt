@@ -7,7 +7,7 @@ use Rattle.migrate_fns.specs.Stored.{answers_of, rules_of}
 use Rattle.app_runtime.specs.declared.running.Running.{Running}
 use Rattle.app_runtime.specs.declared.running.Stage.TheVariants.{AtRest}
 use Rattle.app_runtime.specs.Promises.{Promises}
-use Rattle.app_runtime.specs.Stages.{Settles}
+use Rattle.app_runtime.specs.Stages.{Concludes}
 use Rattle.app_runtime.proofs.Ended.{busy_here, on_clean, resting_in, stage_back, starved, starved_promises}
 use Rattle.app_runtime.proofs.Updated.{Updates, updated_promises}
 use Rattle.app_runtime.proofs.running.Running.update.Goals as goal
@@ -48,8 +48,8 @@ returns g c =
     let resting = resting_in told old.image s root c.requires.memory c.requires.rests c.take_root-root.ensures.root in
     let busy_is = busy_here s taken root c.as_ref.result c.in_ok-busy.busy c.take_root-root.ensures.left
     c.as_ref.ensures.value c.in_ok-busy.ensures in
-    subst (λ (x : Running). Promises told rules answers c.args.now (call.Update text) x c.settle.new.self
-    (c.update-made.new.disk ≡ c.args.disk.now) old new c.settle.result)
+    subst (λ (x : Running). Promises told rules answers c.args.now (call.Update text) x c.conclude.new.self
+    (c.update-made.new.disk ≡ c.args.disk.now) old new c.conclude.result)
     (stage_back s root c.requires.rests c.take_root-root.ensures.root)
     (updated_promises told rules answers c.args.now text s root old new (c.update-made.new.disk ≡ c.args.disk.now)
     resting c.roots_in_use.ensures.app c.rows_read_the_root.ensures.offer busy busy_is
@@ -69,5 +69,6 @@ returns g c =
       any_moment = c.update-made.ensures.any_moment;
       time = c.update-made.ensures.time;
     }))
-    c.settle.new.self c.settle.result (subst (λ (x : Running). Settles made x c.settle.new.self c.settle.result)
-    c.take_root-root.ensures.left c.settle.ensures))
+    c.conclude.new.self c.conclude.result
+    (subst (λ (x : Running). Concludes made x c.conclude.new.self c.conclude.result)
+    c.take_root-root.ensures.left c.conclude.ensures))

@@ -76,4 +76,4 @@ returns g c = λ now.
       time = c.wipe-made.ensures.time;
     }))
     (wipe_kept told s.app old.image new.image root s.slots resting busy busy_is made c.wipe-made.ensures.refused)
-    c.settle.new.self c.settle.result c.settle.ensures
+    c.conclude.new.self c.conclude.result c.conclude.ensures

@@ -50,6 +50,6 @@ returns g c =
     c.in-Ok.located c.in-Ok.ensures.located c.in-Ok.ensures.found c.in-Some-take.storage c.call-answer.new.self
     (sym c.take.ensures.taken ∙ c.in-Some-take.is)
     (c.put.ensures ∙ ap (λ xs. slice_set xs c.in-Ok.located.number (Some c.call-answer.new.self)) c.take.ensures.rest)
-    asked.config asked.store (record { kind = c.holds.ensures.kind; shows = c.holds.ensures.synced })
-    c.call-answer.result c.settled.result c.settled.ensures asked.ok asked.text asked.refused asked.unfailed
+    asked.config asked.store (record { kind = c.invariants.ensures.kind; shows = c.invariants.ensures.synced })
+    c.call-answer.result c.concluded.result c.concluded.ensures asked.ok asked.text asked.refused asked.unfailed
     asked.unchanged

@@ -88,7 +88,7 @@ returns-in-Ok-Opened g c = λ now.
     (subst (λ (x : Opening). OnOpened x (IsPlaced c.in-Ok-shape.shape (config_of l))) given
     c.in-Ok-Opened.ensures.placed))
     (subst (λ (x : Opening). OnOpened x (λ o. IsUsed told new.image (store_in o))) given c.in-Ok-Opened.ensures.used)
-    (record { kind = c.holds.ensures.kind; shows = c.holds.ensures.synced })
+    (record { kind = c.invariants.ensures.kind; shows = c.invariants.ensures.synced })
     c.in-Ok-Opened.ensures.quiet c.put.ensures
     (λ tells clean. subst (λ (sh : Shape). IsClean sh new.image) placed_so
     (c.in-Ok-Opened.ensures.clean tells (subst (λ (sh : Shape). IsClean sh m.image) (sym placed_so) clean)))

@@ -1,5 +1,5 @@
 use Rattle.std.proofs.Common.{sym}
-use Rattle.file_handles.proofs.Sound.{held_inside}
+use Rattle.file_handles.specs.lemmas.Sound.{held_inside}
 use Rattle.file_handles.proofs.table.FileTable.at.Goals as goal
 
 pub returns-clause-inside : goal.returns-clause-inside

@@ -3,7 +3,7 @@ use Rattle.std.specs.Prelude.{Ok}
 use Rattle.file_handles.specs.Handling as calls
 use Rattle.file_handles.specs.Sessions.{Session}
 use Rattle.file_handles.specs.Tables.{Table}
-use Rattle.file_handles.proofs.Sound.{closed}
+use Rattle.file_handles.specs.lemmas.Sound.{closed}
 use Rattle.file_handles.proofs.Through.{closed_ok}
 use Rattle.file_handles.proofs.table.FileTable.close.Goals as goal
 

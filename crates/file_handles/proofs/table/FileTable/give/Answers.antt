@@ -6,7 +6,7 @@ use Rattle.file_core.specs.Files.{too_long}
 use Rattle.file_handles.specs.Opening.{busy}
 use Rattle.file_handles.specs.Sessions.{blocking, room_for}
 use Rattle.file_handles.specs.Tables.{Table}
-use Rattle.file_handles.proofs.Named.{give_sound}
+use Rattle.file_handles.specs.lemmas.Named.{give_sound}
 use Rattle.file_handles.proofs.table.FileTable.give.Goals as goal
 
 pub invariant_of-self : goal.invariant_of-self

@@ -5,8 +5,8 @@ use Rattle.file_core.specs.Files.{IsFile, too_long}
 use Rattle.file_handles.specs.Opening.{too_many}
 use Rattle.file_handles.specs.Sessions.{room_for}
 use Rattle.file_handles.specs.Tables.{Table}
-use Rattle.file_handles.proofs.Named.{make_sound}
-use Rattle.file_handles.proofs.Whole.{made_is_file}
+use Rattle.file_handles.specs.lemmas.Named.{make_sound}
+use Rattle.file_handles.specs.lemmas.Whole.{made_is_file}
 use Rattle.file_handles.proofs.table.FileTable.make.Goals as goal
 
 pub invariant_of-self-2 : goal.invariant_of-self-2

@@ -3,7 +3,7 @@ use Rattle.std.specs.Prelude.{None}
 use Rattle.per_base.specs.Maps.{element_at}
 use Rattle.file_handles.specs.Opening.{can_open, no_room_to_create}
 use Rattle.file_handles.specs.Tables.{Table}
-use Rattle.file_handles.proofs.Opens.{missing_sound}
+use Rattle.file_handles.specs.lemmas.Opens.{missing_sound}
 use Rattle.file_handles.proofs.table.FileTable.open_missing.Goals as goal
 
 pub invariant_of-self-2 : goal.invariant_of-self-2

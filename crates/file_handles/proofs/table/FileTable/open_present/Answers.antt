@@ -3,7 +3,7 @@ use Rattle.std.specs.Prelude.{None, IsTrue}
 use Rattle.per_base.specs.Maps.{has}
 use Rattle.file_handles.specs.Opening.{can_open}
 use Rattle.file_handles.specs.Tables.{Table}
-use Rattle.file_handles.proofs.Opens.{present_sound}
+use Rattle.file_handles.specs.lemmas.Opens.{present_sound}
 use Rattle.file_handles.proofs.table.FileTable.open_present.Goals as goal
 
 pub invariant_of-self-2 : goal.invariant_of-self-2

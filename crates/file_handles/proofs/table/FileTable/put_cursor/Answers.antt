@@ -4,7 +4,7 @@ use Rattle.per_base.specs.Maps.{element_at}
 use Rattle.file_handles.specs.declared.handle.Handle.{Handle}
 use Rattle.file_handles.specs.Sessions.{IsHeldAt, handle_at}
 use Rattle.file_handles.specs.Tables.{Table}
-use Rattle.file_handles.proofs.Sound.{moved_there}
+use Rattle.file_handles.specs.lemmas.Sound.{moved_there}
 use Rattle.file_handles.proofs.table.FileTable.put_cursor.Goals as goal
 
 pub invariant_of-self : goal.invariant_of-self

@@ -1,5 +1,5 @@
 use Rattle.std.proofs.Common.{◌≤◌, length, arith}
-use Rattle.file_handles.proofs.Sound.{closed}
+use Rattle.file_handles.specs.lemmas.Sound.{closed}
 use Rattle.file_handles.proofs.table.FileTable.release.Goals as goal
 
 pub invariant_of-self : goal.invariant_of-self

@@ -17,7 +17,7 @@ give-requires-clause-free c =
     subst (λ (t : Table). busy (blocking Write c.args.name.now t.session.handles) ≡ None) (sym c.release.ensures)
     (emptied_free c.args.self.now.storage c.args.self.now.session c.open_file.new.self.session c.args.name.now
     c.args.now c.in_ok-number.number c.in_default.ensures.ok
-    c.holds.ensures.free (is_emptied c.args.self.now.storage c.args.self.now.session c.open_file.new.self.session
+    c.invariants.ensures.free (is_emptied c.args.self.now.storage c.args.self.now.session c.open_file.new.self.session
     c.args.name.now c.args.now c.in_ok-number.number c.in_default.ensures.ok c.in_ok-number.ensures.ok))
 
 pub give-requires-clause-there : goal.give-requires-clause-there
@@ -40,7 +40,7 @@ give-requires-clause-fits c =
     (subst (λ (bytes : List ℕ). too_long (room_for c.open_file.new.self.session.files c.args.name.now
     c.args.self.now.storage.maximum) (length bytes) ≡ None) (sym same)
     (emptied_fits c.args.self.now.storage c.args.self.now.session c.open_file.new.self.session c.args.name.now
-    c.args.now c.in_ok-number.number (length c.args.bytes.now) c.holds.ensures.table.names
+    c.args.now c.in_ok-number.number (length c.args.bytes.now) c.invariants.ensures.table.names
     c.in_default-would_fit.ensures.ok e)))
 
 pub returns-clause-ok : goal.returns-clause-ok
@@ -48,7 +48,7 @@ returns-clause-ok c =
     let same : c.new.result ≡ c.args.bytes.now = c.new.ensures ∙ c.in_ok-copy.ensures.ok in
     put_filled c.args.self.now.storage c.args.self.now.session c.open_file.new.self.session c.give.new.self.session
     c.args.name.now c.args.bytes.now c.args.now c.in_ok-number.number
-    c.holds.ensures.table.names c.holds.ensures.free c.in_default.ensures.ok c.in_default-would_fit.ensures.ok
+    c.invariants.ensures.table.names c.invariants.ensures.free c.in_default.ensures.ok c.in_default-would_fit.ensures.ok
     c.in_ok-number.ensures.ok
     (subst (λ (bytes : List ℕ). (old : Element) → element_at c.open_file.new.self.session.files c.args.name.now
     ≡ Some old

@@ -8,8 +8,8 @@ use Rattle.per_base.specs.Names.{name_cmp}
 use Rattle.file_handles.specs.Opening.{busy}
 use Rattle.file_handles.specs.Sessions.{blocking}
 use Rattle.file_handles.specs.Tables.{Table}
-use Rattle.file_handles.proofs.Named.{busy_by_none, renamed}
-use Rattle.file_handles.proofs.Whole.{whole_beside}
+use Rattle.file_handles.specs.lemmas.Named.{busy_by_none, renamed}
+use Rattle.file_handles.specs.lemmas.Whole.{whole_beside}
 use Rattle.file_handles.proofs.table.FileTable.salvage.Goals as goal
 
 pub invariant_of-self : goal.invariant_of-self

@@ -5,8 +5,8 @@ use Rattle.file_core.specs.Files as core
 use Rattle.file_handles.specs.Handling as calls
 use Rattle.file_handles.specs.Sessions.{Session}
 use Rattle.file_handles.specs.Tables.{Table}
-use Rattle.file_handles.proofs.Entries.{len_fits}
-use Rattle.file_handles.proofs.Sound.{changed}
+use Rattle.file_handles.specs.lemmas.Entries.{len_fits}
+use Rattle.file_handles.specs.lemmas.Sound.{changed}
 use Rattle.file_handles.proofs.Through.{FileOf, file_of_handle, changed_ok}
 use Rattle.file_handles.proofs.table.FileTable.set_size.Goals as goal
 

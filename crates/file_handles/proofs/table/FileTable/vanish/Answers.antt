@@ -4,7 +4,7 @@ use Rattle.per_base.specs.declared.opening.OpenKind.TheVariants.{Write}
 use Rattle.file_handles.specs.Opening.{busy}
 use Rattle.file_handles.specs.Sessions.{blocking}
 use Rattle.file_handles.specs.Tables.{Table}
-use Rattle.file_handles.proofs.Named.{busy_by_none, deleted_sound}
+use Rattle.file_handles.specs.lemmas.Named.{busy_by_none, deleted_sound}
 use Rattle.file_handles.proofs.table.FileTable.vanish.Goals as goal
 
 pub invariant_of-self : goal.invariant_of-self

@@ -5,7 +5,7 @@ use Rattle.per_base.specs.declared.opening.OpenMode.{OpenMode}
 use Rattle.file_handles.specs.Opening.{open_file}
 use Rattle.file_handles.specs.Tables.{Table}
 use Rattle.file_handles.specs.Whole.{plain}
-use Rattle.file_handles.proofs.Asked.{cat_given}
+use Rattle.file_handles.specs.lemmas.Asked.{cat_given}
 use Rattle.file_handles.proofs.table.FileTable.whole_content.Goals as goal
 
 pub returns-clause-ok : goal.returns-clause-ok

@@ -6,8 +6,8 @@ use Rattle.file_core.specs.declared.room.Room.{Room}
 use Rattle.file_handles.specs.Handling as calls
 use Rattle.file_handles.specs.Sessions.{Session, room_for, with_changed}
 use Rattle.file_handles.specs.Tables.{Table}
-use Rattle.file_handles.proofs.Entries.{len_fits}
-use Rattle.file_handles.proofs.Sound.{changed}
+use Rattle.file_handles.specs.lemmas.Entries.{len_fits}
+use Rattle.file_handles.specs.lemmas.Sound.{changed}
 use Rattle.file_handles.proofs.Through.{FileOf, file_of_handle, changed_ok, room_is}
 use Rattle.file_handles.proofs.table.FileTable.write.Goals as goal
 

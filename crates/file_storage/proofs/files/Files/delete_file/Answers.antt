@@ -7,4 +7,4 @@ invariant_of-self c = stays_open c.self.inside.table c.delete_file.new.self c.de
     (storage_data c.self.inside.config) c.self.inside.store c.self.invariant c.delete_file.ensures.storage
     c.delete_file.ensures.unchanged
     (λ a e. delete_keeps c.self.inside.table.storage c.self.inside.table.session c.delete_file.new.self.session
-    c.args.name.now c.holds.ensures.table.names (rw e at c.delete_file.ensures.ok))
+    c.args.name.now c.invariants.ensures.table.names (rw e at c.delete_file.ensures.ok))

@@ -16,7 +16,7 @@ invariant_of-self c = stays_open c.self.inside.table c.recover_file.new.self c.r
     (storage_data c.self.inside.config) c.self.inside.store c.self.invariant c.recover_file.ensures.storage
     c.recover_file.ensures.unchanged
     (λ a e. recover_keeps c.self.inside.table.storage c.self.inside.table.session c.recover_file.new.self.session
-    c.args.name.now c.args.now (option_copied c.initial_content-initial.result) c.holds.ensures.table.names
+    c.args.name.now c.args.now (option_copied c.initial_content-initial.result) c.invariants.ensures.table.names
     (rw e at c.recover_file.ensures.ok))
 
 pub returns-clause-refused : goal.returns-clause-refused

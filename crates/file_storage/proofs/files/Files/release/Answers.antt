@@ -10,4 +10,4 @@ returns c = released c.args.self.now c.close-closed.new.self c.args.handle c.clo
     c.close-closed.ensures.ok c.close-closed.ensures.refused c.close-closed.ensures.beside
     c.close-closed.ensures.unchanged
     (subst (λ (s : FileSession). (number : ℕ) → open_at s.session number ≡ None
-    → handle_at s.session.handles number ≡ None) c.self.view_is c.holds.ensures.closed c.args.handle)
+    → handle_at s.session.handles number ≡ None) c.self.view_is c.invariants.ensures.closed c.args.handle)

@@ -21,7 +21,7 @@ returns c = (
     others = opened_others (storage_of c.args.self.now.config) c.args.self.now.session c.open_file.new.self.session
         c.args.name.now c.args.kind c.args.mode c.args.now c.in_ok-handle.handle
         (subst (λ (s : FileSession). handle_at s.session.handles (free_number s.session.handles) ≡ None) c.self.view_is
-        c.holds.ensures.free) c.in_ok-handle.ensures.ok;
+        c.invariants.ensures.free) c.in_ok-handle.ensures.ok;
     refused = tt;
     memory = tt;
   },

@@ -5,7 +5,7 @@ use Rattle.file_storage.proofs.scoped.Scoped.read_all.Goals as goal
 
 pub returns-clause-others : goal.returns-clause-others
 returns-clause-others c = same_others c.args.self.now.files.now c.read_all.new.self c.args.self.now.handle
-    c.read_all.result c.holds.ensures.table.numbers c.read_all.ensures.unchanged
+    c.read_all.result c.invariants.ensures.table.numbers c.read_all.ensures.unchanged
     (λ a e. (moving_moves c.args.self.now.files.now.session c.read_all.new.self.session c.args.self.now.handle
     (λ handle file. places.read_all handle.cursor (bytes_of file.content)) a.items
     (rw e at c.read_all.ensures.ok)).others)

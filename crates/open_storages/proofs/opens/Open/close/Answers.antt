@@ -5,7 +5,8 @@ use Rattle.element_state.specs.States.{Opens}
 use Rattle.element_store.specs.Stores.{shape_of}
 use Rattle.deploy.specs.declared.errors.Stop.{Stop}
 use Rattle.file_storage.specs.declared.syncing.Closed.{Closed}
-use Rattle.file_storage.specs.declared.syncing.FilesFault.{FilesFault}
+use Rattle.per_base.specs.declared.faults.Fault.{Fault}
+use Rattle.file_storage.specs.FileSessions.{FileSession}
 use Rattle.file_storage.specs.Syncs as below
 use Rattle.open_storages.specs.declared.opens.Open.{Open}
 use Rattle.open_storages.specs.declared.opens.Open.TheVariants.{Files}
@@ -22,6 +23,11 @@ returns-in-Keys-clause-storing g c = none_storing c.untouched_is_kept.ensures.un
     (shape_of (store_in c.args.self)) (Opens (durable_view c.args.self) []) (g.D.Disk.medium c.args.disk.now)
     c.requires.used.memory.shape.some (g.met.D.Disk.lawful c.args.disk.now)
 
+pub returns-in-Ok-Done-clause-quiet : goal.returns-in-Ok-Done-clause-quiet
+returns-in-Ok-Done-clause-quiet g c = λ quiet. let durable =
+    rw c.in-Ok-Done.field-0-is at c.in-Ok-Done.ensures.durable in
+    durable.2.quiet quiet
+
 pub returns-in-Ok-Refused-clause-due : goal.returns-in-Ok-Refused-clause-due
 returns-in-Ok-Refused-clause-due g c =
     let f = c.in-Files.files in
@@ -32,7 +38,7 @@ returns-in-Ok-Refused-clause-due g c =
     let told = c.close_storage.ensures.due error due in (
       ap (λ (d : Closing). let r : Result Closing Stop = Ok d in r)
           (same_refusal f c.in-Ok-Refused.files c.in-Ok-Refused.error error c.close_storage.result
-          (c.in-Ok-Refused.is ∙ ap (λ (d : Closed). let r : Result Closed FilesFault = Ok d in r)
+          (c.in-Ok-Refused.is ∙ ap (λ (d : Closed). let r : Result Closed (Fault FileSession) = Ok d in r)
           c.in-Ok-Refused.field-0-is) told.0),
       told.1,
     ))

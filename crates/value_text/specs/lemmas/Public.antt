@@ -17,10 +17,10 @@ use Rattle.value_text.specs.Texts.{type_text, value_text}
 use Rattle.value_text.specs.Readers.{Gives}
 use Rattle.value_text.specs.Parsing.{kind_at, kind_in, tree_at, tree_in, value_in}
 use Rattle.value_text.specs.Limits.{keeps_limits, kept}
-use Rattle.value_text.proofs.Steps.{bind_some, if_some, some_is}
-use Rattle.value_text.proofs.TypeLaws.{kind_takes, kind_again}
-use Rattle.value_text.proofs.ValueLaws.{tree_takes, tree_again}
-use Rattle.value_text.proofs.LimitLaws.{keeps_limits-true, keeps_limits-from, ill_typed, too_deep, too_long}
+use Rattle.value_text.specs.lemmas.Steps.{bind_some, if_some, some_is}
+use Rattle.value_text.specs.lemmas.TypeLaws.{kind_takes, kind_again}
+use Rattle.value_text.specs.lemmas.ValueLaws.{tree_takes, tree_again}
+use Rattle.value_text.specs.lemmas.LimitLaws.{keeps_limits-true, keeps_limits-from, ill_typed, too_deep, too_long}
 
 -- ---- types
 

@@ -11,9 +11,9 @@ use Rattle.value_model.specs.declared.errors.DecodeError.TheVariants as errors
 use Rattle.value_text.specs.Texts.{hex_text}
 use Rattle.value_text.specs.Readers.{Gives, unsigned_at, signed_at, bytes_at}
 use Rattle.value_text.specs.Whole.{unsigned_in, signed_in, bytes_in}
-use Rattle.value_text.proofs.Steps.{bind_some, if_some, some_is}
-use Rattle.value_text.proofs.NumberLaws.{unsigned_takes, unsigned_again, signed_takes, signed_again}
-use Rattle.value_text.proofs.StringLaws.{bytes_takes, bytes_again}
+use Rattle.value_text.specs.lemmas.Steps.{bind_some, if_some, some_is}
+use Rattle.value_text.specs.lemmas.NumberLaws.{unsigned_takes, unsigned_again, signed_takes, signed_again}
+use Rattle.value_text.specs.lemmas.StringLaws.{bytes_takes, bytes_again}
 
 -- the whole text is what was read, where nothing is left
 whole : (text front rest : List ℕ) → text ≡ front ++ rest → nat_eq (length rest) 0 ≡ true → text ≡ front

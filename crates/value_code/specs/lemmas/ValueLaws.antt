@@ -13,11 +13,11 @@ use Rattle.value_model.specs.Trees.{Tree, bool_tree, unsigned_tree, signed_tree,
 use Rattle.value_model.specs.Trees.{fields_tree, Trees, no_trees, tree_then, count_trees, type_of, types_of}
 use Rattle.value_model.specs.Encoding.{payload, encoding}
 use Rattle.value_model.specs.Validity.{IsTyped, AllTyped, IsValue}
-use Rattle.value_model.proofs.Members.{count_types}
+use Rattle.value_model.specs.lemmas.Members.{count_types}
 use Rattle.value_code.specs.Reading.{◌>>=◌, Gives, kind_at, tree_at, if_whole, decoded}
-use Rattle.value_code.proofs.Fronts.{AreBytes, bind_some, some_is, let_pass, not_stopped, Takes-then}
-use Rattle.value_code.proofs.KindLaws.{kind_takes, kind_again}
-use Rattle.value_code.proofs.TreeLaws.{tree_takes, tree_again}
+use Rattle.value_code.specs.lemmas.Fronts.{AreBytes, bind_some, some_is, let_pass, not_stopped, Takes-then}
+use Rattle.value_code.specs.lemmas.KindLaws.{kind_takes, kind_again}
+use Rattle.value_code.specs.lemmas.TreeLaws.{tree_takes, tree_again}
 
 group_fits : (ts : Trees) → 1 ≤ count_trees ts → count_trees ts ≤ 32 → is_group (count_kinds (types_of ts)) ≡ true
 group_fits ts least most = rw (count_types ts) (and_from (nat_le 1 (count_trees ts)) (nat_le (count_trees ts) 32)

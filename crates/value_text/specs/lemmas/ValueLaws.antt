@@ -17,12 +17,12 @@ use Rattle.value_text.specs.Texts.{type_text, escaped, hex_text, value_text, val
 use Rattle.value_text.specs.Readers.{◌>>=◌, branch, literal_at, unsigned_at, signed_at, bytes_at, separated}
 use Rattle.value_text.specs.Parsing.{scalar_at, kind_at, signed_limit, bool_at, text_at, content_at, scalar_tree_at}
 use Rattle.value_text.specs.Parsing.{items_at, list_tree_at, fields_tree_at, tree_here, tree_at}
-use Rattle.value_text.proofs.Steps.{bind_some, branch_some, some_is}
-use Rattle.value_text.proofs.Words.{literal_takes}
-use Rattle.value_text.proofs.Lists.{further, listed, Ends, Again, separated_takes, separated_again}
-use Rattle.value_text.proofs.TypeLaws.{scalar_takes, kind_takes, kind_again, kind_depth-positive}
-use Rattle.value_text.proofs.NumberLaws.{unsigned_takes, unsigned_again, signed_takes, signed_again}
-use Rattle.value_text.proofs.StringLaws.{text_takes, text_again, bytes_takes, bytes_again}
+use Rattle.value_text.specs.lemmas.Steps.{bind_some, branch_some, some_is}
+use Rattle.value_text.specs.lemmas.Words.{literal_takes}
+use Rattle.value_text.specs.lemmas.Lists.{further, listed, Ends, Again, separated_takes, separated_again}
+use Rattle.value_text.specs.lemmas.TypeLaws.{scalar_takes, kind_takes, kind_again, kind_depth-positive}
+use Rattle.value_text.specs.lemmas.NumberLaws.{unsigned_takes, unsigned_again, signed_takes, signed_again}
+use Rattle.value_text.specs.lemmas.StringLaws.{text_takes, text_again, bytes_takes, bytes_again}
 
 -- ---- items as a list
 

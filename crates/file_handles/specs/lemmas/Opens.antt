@@ -17,8 +17,8 @@ use Rattle.per_base.specs.declared.elements.Cause.TheVariants.{Application}
 use Rattle.per_base.specs.declared.opening.OpenMode.{OpenMode}
 use Rattle.per_base.specs.Modes.{at_beginning, at_end, truncates, appends}
 use Rattle.file_handles.specs.declared.storage.Storage.{Storage}
-use Rattle.file_handles.proofs.Entries.{size_set, size_insert, len_fits}
-use Rattle.file_handles.proofs.Sound.{Unheld, opened, unheld_missing}
+use Rattle.file_handles.specs.lemmas.Entries.{size_set, size_insert, len_fits}
+use Rattle.file_handles.specs.lemmas.Sound.{Unheld, opened, unheld_missing}
 use Rattle.std.specs.BTreeMap.{insert_entry, is_at}
 use Rattle.std.specs.Cmp.{Equal-is, IsTotalOrder}
 use Rattle.std.specs.Map.{keys_of, lookup, remove_entry}
@@ -40,9 +40,9 @@ use Rattle.file_handles.specs.Opening.{open_file, too_many, with_opened}
 use Rattle.file_handles.specs.Sessions.{Session, Handles, IsHeldAt, blocks, blocking, free_number, handle_at}
 use Rattle.file_handles.specs.Sessions.{with_handle}
 use Rattle.file_handles.specs.Tables.{AreFiles, Held, IsTable, Numbered}
-use Rattle.file_handles.proofs.Numbers.{free_from_few, one_or_more}
-use Rattle.file_handles.proofs.Lookups.{file_put}
-use Rattle.file_handles.proofs.Whole.{file_there, made_is_file, opened_is_file, whole_put}
+use Rattle.file_handles.specs.lemmas.Numbers.{free_from_few, one_or_more}
+use Rattle.file_handles.specs.lemmas.Lookups.{file_put}
+use Rattle.file_handles.specs.lemmas.Whole.{file_there, made_is_file, opened_is_file, whole_put}
 
 pub first_none : (a b : Option PerError) → first a b ≡ None → (a ≡ None) × (b ≡ None)
 first_none None b e = (refl, e)

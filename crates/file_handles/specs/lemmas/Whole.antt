@@ -15,7 +15,7 @@ use Rattle.per_base.specs.Names.{name_cmp}
 use Rattle.file_core.specs.Files.{IsFile, changed_to, file_of, opened_at}
 use Rattle.file_handles.specs.Sessions.{IsFileAt, SameBeside}
 use Rattle.file_handles.specs.Tables.{AreFiles}
-use Rattle.file_handles.proofs.Lookups.{file_put, file_gone}
+use Rattle.file_handles.specs.lemmas.Lookups.{file_put, file_gone}
 
 -- an empty map has no element
 pub whole_none : AreFiles []

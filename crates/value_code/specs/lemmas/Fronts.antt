@@ -13,7 +13,7 @@ use Rattle.std.proofs.lemmas.Str.{IsUtf8-from_is_utf8, is_utf8-from_IsUtf8}
 use Rattle.value_model.specs.Kinds.{Size, one, two, four, eight, width}
 use Rattle.value_model.specs.Validity.{unsigned_limit}
 use Rattle.value_code.specs.Reading.{◌>>=◌, byte_at, number_at, counted_at, text_of}
-use Rattle.value_code.proofs.Lengths.{number_length}
+use Rattle.value_code.specs.lemmas.Lengths.{number_length}
 
 -- ---- bytes
 

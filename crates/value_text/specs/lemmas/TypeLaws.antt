@@ -11,9 +11,9 @@ use Rattle.value_model.specs.Views.{kinds_of}
 use Rattle.value_text.specs.Texts.{type_text, types_text, further_types_text}
 use Rattle.value_text.specs.Readers.{◌>>=◌, branch, literal_at, separated}
 use Rattle.value_text.specs.Parsing.{words, first_word, scalar_at, list_kind_at, fields_kind_at, kind_here, kind_at}
-use Rattle.value_text.proofs.Steps.{bind_some, branch_some, some_is}
-use Rattle.value_text.proofs.Words.{literal_takes}
-use Rattle.value_text.proofs.Lists.{further, listed, Again, separated_takes, separated_again}
+use Rattle.value_text.specs.lemmas.Steps.{bind_some, branch_some, some_is}
+use Rattle.value_text.specs.lemmas.Words.{literal_takes}
+use Rattle.value_text.specs.lemmas.Lists.{further, listed, Again, separated_takes, separated_again}
 
 -- ---- members as a list
 

@@ -4,7 +4,7 @@ use Rattle.std.proofs.Common.{Some, None, MatchOption, inl, inr, refl, ap, sym, 
 use Rattle.std.specs.Cmp.Lexicographic.{pointwise}
 use Rattle.std.proofs.lemmas.Bool.{and_parts, and_cases, eqb-true}
 use Rattle.value_text.specs.Readers.{Finds, literal_at}
-use Rattle.value_text.proofs.Steps.{if_some}
+use Rattle.value_text.specs.lemmas.Steps.{if_some}
 
 literal_yes : (word bytes : List ℕ) → pointwise nat_eq (take (length word) bytes) word ≡ true
     → literal_at word bytes ≡ Some (drop (length word) bytes)

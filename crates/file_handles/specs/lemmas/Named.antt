@@ -27,11 +27,11 @@ use Rattle.file_handles.specs.Opening.{busy, too_many}
 use Rattle.file_handles.specs.declared.storage.Storage.{Storage}
 use Rattle.file_handles.specs.Sessions.{Session, Handles, SameBeside, blocking, others, room_for}
 use Rattle.file_handles.specs.Tables.{AreFiles, IsTable}
-use Rattle.file_handles.proofs.Entries.{len_fits, size_insert, size_remove, size_set}
-use Rattle.file_handles.proofs.Lookups.{file_put, file_gone}
-use Rattle.file_handles.proofs.Opens.{missing_few, not_blocked}
-use Rattle.file_handles.proofs.Sound.{Unheld, held_beside, unheld_missing}
-use Rattle.file_handles.proofs.Whole.{changed_is_file, file_there, whole_gone, whole_put}
+use Rattle.file_handles.specs.lemmas.Entries.{len_fits, size_insert, size_remove, size_set}
+use Rattle.file_handles.specs.lemmas.Lookups.{file_put, file_gone}
+use Rattle.file_handles.specs.lemmas.Opens.{missing_few, not_blocked}
+use Rattle.file_handles.specs.lemmas.Sound.{Unheld, held_beside, unheld_missing}
+use Rattle.file_handles.specs.lemmas.Whole.{changed_is_file, file_there, whole_gone, whole_put}
 
 -- a name that no handle blocks for a writer has no handle
 pub unheld : (name : List ℕ) (handles : Handles) → blocking Write name handles ≡ None → Unheld handles name

@@ -20,8 +20,8 @@ use Rattle.file_handles.specs.declared.storage.Storage.{Storage}
 use Rattle.file_handles.specs.Sessions.{Handles, IsFileAt, IsHeldAt, SameBeside, Session, handle_at, open_at, with_file}
 use Rattle.file_handles.specs.Sessions.{with_handle, without_handle}
 use Rattle.file_handles.specs.Tables.{Alone, AreFiles, Held, IsTable, Numbered}
-use Rattle.file_handles.proofs.Lookups.{handle_put, handle_gone}
-use Rattle.file_handles.proofs.Whole.{whole_beside}
+use Rattle.file_handles.specs.lemmas.Lookups.{handle_put, handle_gone}
+use Rattle.file_handles.specs.lemmas.Whole.{whole_beside}
 
 -- a handle of these stands among those, under the same number, on the same file and of the same kind
 pub record Stood (handles : Handles) (number : ℕ) (handle : Handle) : Type 0 where

@@ -2,7 +2,7 @@
 
 ghost use Rattle.std.specs.Prelude.{◌≡◌, Err, IfNone, IfSome, None, Some, length};
 ghost use Rattle.app_runtime.specs.Running.{NoneOpen};
-ghost use Rattle.app_runtime.specs.Stages.{Settles, reply_with, root_of, staged_in};
+ghost use Rattle.app_runtime.specs.Stages.{Concludes, reply_with, root_of, staged_in};
 
 use crate::running::{Running, Stage};
 use command_text::{Answer, Reply};
@@ -49,9 +49,9 @@ impl Running {
     }
 
     // What a call made of the root stands in memory, and is answered. Where it did not end, all sessions end.
-    pub(crate) fn settle(&mut self, made: Result<Outcome, Stop>) -> Result<Reply, Stop>
+    pub(crate) fn conclude(&mut self, made: Result<Outcome, Stop>) -> Result<Reply, Stop>
         requires room { length self.old.slots.open.items ≡ 16 }
-        ensures { Settles made self.old self.new result }
+        ensures { Concludes made self.old self.new result }
     {
         match made {
             Ok(Outcome { root, refused }) => {

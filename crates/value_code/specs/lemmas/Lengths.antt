@@ -11,7 +11,7 @@ use Rattle.value_model.specs.Trees.{fields_tree, Trees, no_trees, tree_then, cou
 use Rattle.value_model.specs.Encoding.{payload, payloads, encoding}
 use Rattle.value_model.specs.Validity.{IsTyped, AllTyped, IsValue}
 use Rattle.value_model.specs.Views.{tree_of, kind_of, trees_view}
-use Rattle.value_model.proofs.Members.{tree_of-List, counted}
+use Rattle.value_model.specs.lemmas.Members.{tree_of-List, counted}
 
 pub number_length : (s : Size) (n : ℕ) → length (to_le_bytes (width s) n) ≡ byte_len (width s)
 number_length one n = refl

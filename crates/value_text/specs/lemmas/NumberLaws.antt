@@ -16,10 +16,10 @@ use Rattle.std.proofs.lemmas.Fmt.{digits_value-decimal}
 use Rattle.std.proofs.lemmas.List.{take_at, drop_at, take-append-drop}
 use Rattle.value_text.specs.Readers.{◌>>=◌, literal_at, hex_value, digit_count, is_canonical, number_of, number_at}
 use Rattle.value_text.specs.Readers.{unsigned_at, negative, signed_at}
-use Rattle.value_text.proofs.Steps.{bind_some, if_some, branch_some, some_is}
-use Rattle.value_text.proofs.Words.{literal_takes}
-use Rattle.value_text.proofs.Lists.{Ends}
-use Rattle.value_text.proofs.Digits.{IsDigits, own, digits_in_front}
+use Rattle.value_text.specs.lemmas.Steps.{bind_some, if_some, branch_some, some_is}
+use Rattle.value_text.specs.lemmas.Words.{literal_takes}
+use Rattle.value_text.specs.lemmas.Lists.{Ends}
+use Rattle.value_text.specs.lemmas.Digits.{IsDigits, own, digits_in_front}
 
 -- ---- what is read is spelled so
 

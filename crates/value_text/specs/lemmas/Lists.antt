@@ -6,7 +6,7 @@ use Rattle.std.specs.List.{AllByRecursion}
 use Rattle.std.proofs.lemmas.Bool.{eqb-true, eq-eqb}
 use Rattle.std.proofs.lemmas.List.{append-nil}
 use Rattle.value_text.specs.Readers.{◌>>=◌, hex_value, with_front, punctuation_at, separated}
-use Rattle.value_text.proofs.Steps.{bind_some, if_some, chosen, some_is}
+use Rattle.value_text.specs.lemmas.Steps.{bind_some, if_some, chosen, some_is}
 
 -- the texts of things, separated by commas, and those of the things behind another one
 abbrev pub further : {A : Type 0} → (A → List ℕ) → List A → List ℕ

@@ -29,10 +29,10 @@ use Rattle.file_handles.specs.Opening.{would_fit}
 use Rattle.file_handles.specs.Sessions.{Handles, Session, free_number, handle_at, open_at, others, room_for}
 use Rattle.file_handles.specs.Sessions.{with_changed, with_handle}
 use Rattle.file_handles.specs.Whole.{SameContentLaw, and_then, bytes_at, cat, plain, put, released, truncating}
-use Rattle.file_handles.proofs.Entries.{size_insert, size_set}
-use Rattle.file_handles.proofs.Lookups.{handle_put}
-use Rattle.file_handles.proofs.Named.{fits_room}
-use Rattle.file_handles.proofs.Opens.{first_none, put_there, when_none}
+use Rattle.file_handles.specs.lemmas.Entries.{size_insert, size_set}
+use Rattle.file_handles.specs.lemmas.Lookups.{handle_put}
+use Rattle.file_handles.specs.lemmas.Named.{fits_room}
+use Rattle.file_handles.specs.lemmas.Opens.{first_none, put_there, when_none}
 
 -- ---- what an opening is allowed
 

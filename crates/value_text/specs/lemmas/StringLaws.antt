@@ -9,9 +9,9 @@ use Rattle.std.proofs.lemmas.Str.{is_utf8-from_IsUtf8, IsUtf8-from_is_utf8}
 use Rattle.value_text.specs.Texts.{escaped_byte, escaped, hex_digit, hex_byte_text, hex_text}
 use Rattle.value_text.specs.Readers.{◌>>=◌, literal_at, hex_value, byte_at, bytes_at, with_front, meant_by, quoted_at}
 use Rattle.value_text.specs.Parsing.{text_at}
-use Rattle.value_text.proofs.Steps.{bind_some, if_some, else_some, chosen, branch_some, some_is}
-use Rattle.value_text.proofs.Words.{literal_takes}
-use Rattle.value_text.proofs.Lists.{Ends}
+use Rattle.value_text.specs.lemmas.Steps.{bind_some, if_some, else_some, chosen, branch_some, some_is}
+use Rattle.value_text.specs.lemmas.Words.{literal_takes}
+use Rattle.value_text.specs.lemmas.Lists.{Ends}
 
 -- ---- texts in quotes
 

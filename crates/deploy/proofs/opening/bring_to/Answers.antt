@@ -1,0 +1,86 @@
+use Rattle.std.proofs.Common.{refl, sym, subst}
+use Rattle.disk_model.specs.declared.place.Place.{Place}
+use Rattle.guarded_cell.specs.Seens.{IsSeenOn}
+use Rattle.guarded_cell.specs.Slots.{IsSlotsOf}
+use Rattle.root_text.specs.Views.{root_said}
+use Rattle.deploy.proofs.Already.{already_at}
+use Rattle.deploy.proofs.Settled.{cell_at, puts_at, root_alone, root_in_use, root_says_so, spares_at}
+use Rattle.deploy.proofs.opening.bring_to.Goals as goal
+
+pub adopt_seen-requires-clause-seen : goal.adopt_seen-requires-clause-seen
+adopt_seen-requires-clause-seen g c = λ tells.
+    subst (λ (p : Place). IsSeenOn (g.D.Disk.medium c.args.disk.now).image p.first p.copies c.args.standing.seen)
+    (sym c.root_place.ensures) (c.requires.seen tells)
+
+pub adopt_seen-requires-clause-slots : goal.adopt_seen-requires-clause-slots
+adopt_seen-requires-clause-slots g c = λ tells.
+    subst (λ (p : Place). IsSlotsOf (g.D.Disk.medium c.args.disk.now).image p.first p.copies c.args.standing.slots)
+    (sym c.root_place.ensures) (c.requires.slots tells)
+
+pub returns-in_err-cell-clause-elsewhere : goal.returns-in_err-cell-clause-elsewhere
+returns-in_err-cell-clause-elsewhere g c = λ tells. spares_at c.root_place.result c.args.app c.root_place.ensures
+    (g.D.Disk.medium c.args.disk.now).image (g.D.Disk.medium c.adopt_seen.new.disk).image
+    (c.in_err-cell.ensures.brings.puts.elsewhere tells)
+
+pub returns-in_err-cell-clause-any_moment : goal.returns-in_err-cell-clause-any_moment
+returns-in_err-cell-clause-any_moment g c = λ tells quiet.
+    puts_at c.root_place.result c.args.app c.root_place.ensures c.args.standing.seen.generation
+    c.args.standing.seen.text c.args.standing.seen.text (g.D.Disk.medium c.args.disk.now)
+    (g.D.Disk.medium c.adopt_seen.new.disk)
+    refl
+    (c.in_err-cell.ensures.brings.puts.any_moment tells quiet)
+
+pub returns-in_err-cell-clause-already : goal.returns-in_err-cell-clause-already
+returns-in_err-cell-clause-already g c = λ tells. already_at c.root_place.result c.args.app
+    c.args.standing.seen.generation c.args.standing.seen.text c.args.standing.seen.text
+    (g.D.Disk.medium c.args.disk.now) (g.D.Disk.medium c.adopt_seen.new.disk) c.root_place.ensures refl
+    (c.in_err-cell.ensures.brings.right tells) (c.in_err-cell.ensures.brings.already tells)
+
+pub returns-clause-already : goal.returns-clause-already
+returns-clause-already g c = λ tells. already_at c.root_place.result c.args.app c.args.standing.seen.generation
+    c.args.standing.seen.text c.args.standing.seen.text
+    (g.D.Disk.medium c.args.disk.now) (g.D.Disk.medium c.adopt_seen.new.disk) c.root_place.ensures refl
+    (c.in_ok-cell.ensures.brings.right tells) (c.in_ok-cell.ensures.brings.already tells)
+
+pub returns-clause-elsewhere : goal.returns-clause-elsewhere
+returns-clause-elsewhere g c = λ tells. spares_at c.root_place.result c.args.app c.root_place.ensures
+    (g.D.Disk.medium c.args.disk.now).image (g.D.Disk.medium c.adopt_seen.new.disk).image
+    (c.in_ok-cell.ensures.brings.puts.elsewhere tells)
+
+pub returns-clause-any_moment : goal.returns-clause-any_moment
+returns-clause-any_moment g c = λ tells quiet. puts_at c.root_place.result c.args.app c.root_place.ensures
+    c.args.standing.seen.generation
+    c.args.standing.seen.text c.args.standing.seen.text (g.D.Disk.medium c.args.disk.now)
+    (g.D.Disk.medium c.adopt_seen.new.disk)
+    refl
+    (c.in_ok-cell.ensures.brings.puts.any_moment tells quiet)
+
+pub returns-clause-root : goal.returns-clause-root
+returns-clause-root g c =
+    let image = (g.D.Disk.medium c.adopt_seen.new.disk).image in
+    let s = c.args.standing in
+    let is = cell_at c.root_place.result c.args.app c.root_place.ensures s.seen.generation c.in_ok-cell.cell
+    c.in_ok-cell.ensures.cell in
+    root_in_use g.D.Disk.told image c.args.app s.seen.generation c.in_ok-cell.cell c.args.standing.seen.text
+    (root_said s.says) c.of.result is
+    c.requires.spelled.spelled c.requires.spelled.sealable.positive c.in_ok-cell.ensures.held
+    (λ cell. c.of.ensures.memory c.args.app cell c.requires.spelled.rules) (c.of.ensures.disk image c.args.app)
+
+pub returns-clause-says : goal.returns-clause-says
+returns-clause-says g c =
+    let s = c.args.standing in
+    let is = cell_at c.root_place.result c.args.app c.root_place.ensures s.seen.generation c.in_ok-cell.cell
+    c.in_ok-cell.ensures.cell in
+    root_says_so g.D.Disk.told (g.D.Disk.medium c.adopt_seen.new.disk).image c.args.app s.seen.generation
+    c.in_ok-cell.cell
+    c.args.standing.seen.text (root_said s.says) c.of.result is
+    c.requires.spelled.spelled c.of.ensures.says
+
+pub returns-clause-alone : goal.returns-clause-alone
+returns-clause-alone g c = λ tells.
+    let s = c.args.standing in
+    let is = cell_at c.root_place.result c.args.app c.root_place.ensures s.seen.generation c.in_ok-cell.cell
+    c.in_ok-cell.ensures.cell in
+    root_alone (g.D.Disk.medium c.adopt_seen.new.disk).image c.args.app s.seen.generation c.in_ok-cell.cell
+    c.args.standing.seen.text (root_said s.says) is
+    c.requires.spelled.spelled (c.in_ok-cell.ensures.held tells)

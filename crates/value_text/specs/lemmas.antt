@@ -1,0 +1,12 @@
+pub mod Digits
+pub mod LimitLaws
+pub mod Lists
+pub mod Loop
+pub mod NumberLaws
+pub mod Public
+pub mod Steps
+pub mod StringLaws
+pub mod TypeLaws
+pub mod ValueLaws
+pub mod WholeLaws
+pub mod Words
