@@ -107,7 +107,7 @@ impl Running {
         ensures root { IsTrue D.told → OnOk result (OpensRoot self.old.app (D.medium disk.old) (D.medium disk.new)) }
         // Where every copy of the root holds one text and no other is held, nothing is written, however it ends.
         ensures already { IsTrue D.told → (generation : ℕ) (text : List ℕ)
-            → IsAlone (D.medium disk.old).image (root_place self.old.app).first 3 generation text
+            → IsAlone (D.medium disk.old).image (root_place self.old.app) generation text
             → IsUnwritten (D.medium disk.old) (D.medium disk.new) }
         // However it ends: at every moment the application is on its way to whatever may come of it, and no other file
         // changes.

@@ -70,7 +70,7 @@ pub record Rebuilds (told : Bool) (shape : Shape) (row : State → Result State 
       → IsClean shape new.image)
   pub quiet : OnOk result (Quiet new)
   pub cause : IsErrOf result Device → Rose old.faults new.faults
-  pub outside : Leaves told (IsOutside shape.place.first shape.place.copies) old new
+  pub outside : Leaves told (IsOutside shape.place) old new
   pub any_moment : IsTrue told → KeptThroughout shape (after_state (store_at old.image shape)
       (row (store_at old.image shape))) old new
   pub time : Elapses old new

@@ -110,10 +110,10 @@ module _ (laws : StorageLaws) (app : ℕ) (lt : app < 8) (g : ℕ) (v : Named) (
   clean_there image is clean = all_at (λ shape. IsClean shape image) (shapes_named app (says_at image app)) number here
       clean.storages (shape_there (says_at image app) is)
 
-  outside_of : (f : ℕ) → IsBeside app v.bank number f → IsOutside here.place.first here.place.copies f
+  outside_of : (f : ℕ) → IsBeside app v.bank number f → IsOutside here.place f
   outside_of f beside = laws.beside app v.bank number f s lt ltb ltn beside
 
-  module _ (old new : Image) (spared : Spares (IsOutside here.place.first here.place.copies) old new) where
+  module _ (old new : Image) (spared : Spares (IsOutside here.place) old new) where
     elsewhere_spared : Spares (IsNoFileOf app) old new
     elsewhere_spared f aside = spared f (outside_of f (app_beside app v.bank number ltb ltn f aside))
 
@@ -156,7 +156,7 @@ module _ (laws : StorageLaws) (app : ℕ) (lt : app < 8) (g : ℕ) (v : Named) (
   -- ---- what is open
 
   module _ (told : Bool) (old new : Image) (spared : IsTrue told
-      → Spares (IsOutside here.place.first here.place.copies) old new) where
+      → Spares (IsOutside here.place) old new) where
     open_stays : (k : ℕ) (o : Open) → k < 16 → k ≢ number → IsOpenAt told old app v k o → IsOpenAt told new app v k o
     open_stays k o ltk ne is = record {
       configured = is.configured;
@@ -234,11 +234,10 @@ module _ (laws : StorageLaws) (app : ℕ) (root : Root) (l : Located) (located :
   in_bank = subst (λ (b : ℕ). b ≤ 1) (sym located.bank) located.within.in_bank
 
   told_spares : (told : Bool) (old new : Image) → (IsTrue told
-      → Spares (IsOutside (shape_at l).place.first (shape_at l).place.copies) old new)
-      → IsTrue told → Spares (IsOutside (shape_of app located.version.bank l.number (config_of l)).place.first
-      (shape_of app located.version.bank l.number (config_of l)).place.copies) old new
+      → Spares (IsOutside (shape_at l).place) old new)
+      → IsTrue told → Spares (IsOutside (shape_of app located.version.bank l.number (config_of l)).place) old new
   told_spares told old new spared tells = subst (λ (sh : Shape).
-      Spares (IsOutside sh.place.first sh.place.copies) old new) (sym (shape_is app (root_says root) l located))
+      Spares (IsOutside sh.place) old new) (sym (shape_is app (root_says root) l located))
       (spared tells)
 
   -- its shape is the one by its number of those that the root names
@@ -290,7 +289,7 @@ module _ (laws : StorageLaws) (app : ℕ) (root : Root) (l : Located) (located :
         storing))
 
     -- afterwards it is the same but for this storage
-    pub stored_app : (new : Image) → Spares (IsOutside (shape_at l).place.first (shape_at l).place.copies) image new
+    pub stored_app : (new : Image) → Spares (IsOutside (shape_at l).place) image new
         → (app_at new app ≡ with_state (app_at image app) (found_on image l) (store_at new (shape_at l)))
         × (IsCleanApp app image → IsClean (shape_at l) new → IsCleanApp app new)
     stored_app new spared = let i = installed_is in
@@ -306,7 +305,7 @@ module _ (laws : StorageLaws) (app : ℕ) (root : Root) (l : Located) (located :
 
   -- the application at rest with this slot set or emptied, after files of this storage alone changed
   pub resting_after : (told : Bool) (old new : Image) → (IsTrue told
-      → Spares (IsOutside (shape_at l).place.first (shape_at l).place.copies) old new)
+      → Spares (IsOutside (shape_at l).place) old new)
       → (was is : Slots) (x : Option Open) → IsResting told old app root was
       → is.open.items ≡ slice_set was.open.items l.number x
       → ((o : Open) → x ≡ Some o → IsOpenAt told new app located.version l.number o) → IsResting told new app root is

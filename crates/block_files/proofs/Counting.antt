@@ -12,6 +12,7 @@ use Rattle.std.proofs.lemmas.Bool.{cond-true, cond-false, cases_Bool}
 use Rattle.sha2.specs.Sha256.{sha256}
 use Rattle.disk_model.specs.Image.{Image}
 use Rattle.disk_model.specs.Place.{area}
+use Rattle.disk_model.specs.declared.place.Place.{Place}
 use Rattle.std.proofs.lemmas.Slice.Eq.{bytes_eq-Decides}
 use Rattle.m_of_n.specs.Vote.{texts_of, holders, voted}
 use Rattle.m_of_n.specs.Laws.{holders-cons, voted-held}
@@ -51,24 +52,29 @@ range_more n =
 
 -- ---- what several copies give
 
-pub texts_more : (first i : ℕ) (blocks : List ℕ) (len : ℕ) (hash : List ℕ) (image : Image)
+-- what each of the first n copies gives
+abbrev pub contents_of : Place → (n : ℕ) (blocks : List ℕ) (len : ℕ) (hash : List ℕ) → Image → List (Option (List ℕ))
+contents_of place n blocks len hash image = map (λ c. counting (image (area place c)) blocks len hash)
+    (range_with_len 0 n)
+
+pub texts_more : (place : Place) (i : ℕ) (blocks : List ℕ) (len : ℕ) (hash : List ℕ) (image : Image)
     (texts : List (Option (Vec ℕ Global))) (text : Option (Vec ℕ Global))
-    → texts_of texts ≡ contents first i blocks len hash image
-    → option_map (λ t. t.items) text ≡ counting (image (area first i)) blocks len hash
-    → texts_of (texts ++ text ∷ []) ≡ contents first (i + 1) blocks len hash image
-texts_more first i blocks len hash image texts text were is =
-    let give = λ (c : ℕ). counting (image (area first c)) blocks len hash in
+    → texts_of texts ≡ contents_of place i blocks len hash image
+    → option_map (λ t. t.items) text ≡ counting (image (area place i)) blocks len hash
+    → texts_of (texts ++ text ∷ []) ≡ contents_of place (i + 1) blocks len hash image
+texts_more place i blocks len hash image texts text were is =
+    let give = λ (c : ℕ). counting (image (area place c)) blocks len hash in
     map_push (λ (copy : Option (Vec ℕ Global)). option_map (λ t. t.items) copy) texts text
     ∙ ap (λ xs. xs ++ option_map (λ t. t.items) text ∷ []) were
-    ∙ ap (λ x. contents first i blocks len hash image ++ x ∷ []) is
+    ∙ ap (λ x. contents_of place i blocks len hash image ++ x ∷ []) is
     ∙ sym (map-range_with_len_more give 0 i i (omega arith))
 
-pub inside_more : (first i : ℕ) (blocks : List ℕ) (len : ℕ) (image : Image) (inside : List Bool) (here : Bool)
-    → inside ≡ map (λ c. within (image (area first c)) blocks len) (range_with_len 0 i)
-    → here ≡ within (image (area first i)) blocks len
-    → inside ++ here ∷ [] ≡ map (λ c. within (image (area first c)) blocks len) (range_with_len 0 (i + 1))
-inside_more first i blocks len image inside here were is =
-    let test = λ (c : ℕ). within (image (area first c)) blocks len in
+pub inside_more : (place : Place) (i : ℕ) (blocks : List ℕ) (len : ℕ) (image : Image) (inside : List Bool) (here : Bool)
+    → inside ≡ map (λ c. within (image (area place c)) blocks len) (range_with_len 0 i)
+    → here ≡ within (image (area place i)) blocks len
+    → inside ++ here ∷ [] ≡ map (λ c. within (image (area place c)) blocks len) (range_with_len 0 (i + 1))
+inside_more place i blocks len image inside here were is =
+    let test = λ (c : ℕ). within (image (area place c)) blocks len in
     ap (λ xs. xs ++ here ∷ []) were
     ∙ ap (λ x. map test (range_with_len 0 i) ++ x ∷ []) is
     ∙ sym (map-range_with_len_more test 0 i i (omega arith))
@@ -119,20 +125,22 @@ filter_same p q a (suc n) same =
     (same a (omega arith) (omega arith))
     ∙ ap (λ xs. cond (q a) (a ∷ xs) xs) (filter_same p q (a + 1) n (λ c le lt. same c (omega arith) (omega arith)))
 
-pub lacking_is : (value : Option (List ℕ)) (first copies : ℕ) (blocks : List ℕ) (len : ℕ) (hash : List ℕ)
+pub lacking_is : (value : Option (List ℕ)) (place : Place) (blocks : List ℕ) (len : ℕ) (hash : List ℕ)
     (image : Image) (given : List (Option (List ℕ))) (inside : List Bool)
-    → given ≡ contents first copies blocks len hash image
-    → inside ≡ map (λ c. within (image (area first c)) blocks len) (range_with_len 0 copies)
-    → lacking_in value given inside ≡ lacking value first copies blocks len hash image
-lacking_is value first copies blocks len hash image given inside given_is inside_is =
-    let give = λ (c : ℕ). counting (image (area first c)) blocks len hash in
-    let full = λ (c : ℕ). within (image (area first c)) blocks len in
-    let long : length given ≡ copies = ap length given_is ∙ length-map-range_with_len give 0 copies in
+    → given ≡ contents place blocks len hash image
+    → inside ≡ map (λ c. within (image (area place c)) blocks len) (range_with_len 0 place.copies)
+    → lacking_in value given inside ≡ lacking value place blocks len hash image
+lacking_is value place blocks len hash image given inside given_is inside_is =
+    let give = λ (c : ℕ). counting (image (area place c)) blocks len hash in
+    let full = λ (c : ℕ). within (image (area place c)) blocks len in
+    let long : length given ≡ place.copies = ap length given_is ∙ length-map-range_with_len give 0 place.copies in
     ap (λ n. lacking_to value given inside n) long
-    ∙ ap (map suc) (filter_same (lacks_at value given inside) (λ c. lacks value (give c) (full c)) 0 copies (λ c le lt.
-    let a = ap (λ xs. get_or xs c None) given_is ∙ get_or-map-range_with_len give 0 copies c c None (omega arith)
+    ∙ ap (map suc) (filter_same (lacks_at value given inside) (λ c. lacks value (give c) (full c)) 0 place.copies
+    (λ c le lt.
+    let a = ap (λ xs. get_or xs c None) given_is ∙ get_or-map-range_with_len give 0 place.copies c c None (omega arith)
     (omega arith) in
-    let b = ap (λ xs. get_or xs c false) inside_is ∙ get_or-map-range_with_len full 0 copies c c false (omega arith)
+    let b = ap (λ xs. get_or xs c false) inside_is ∙ get_or-map-range_with_len full 0 place.copies c c false
+    (omega arith)
     (omega arith) in
     ap (λ x. lacks value x (get_or inside c false)) a ∙ ap (lacks value (give c)) b))
 

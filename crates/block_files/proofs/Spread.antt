@@ -4,54 +4,55 @@ use Rattle.std.proofs.Common.{arith, ⊎_elim}
 use Rattle.std.proofs.Math.Nat.{mul-le-mul_right}
 use Rattle.std.proofs.lemmas.Bool.{cases_eq, cases_lt}
 use Rattle.disk_model.specs.Medium.{Medium, IsLawful}
+use Rattle.disk_model.specs.declared.place.Place.{Place}
 use Rattle.block_files.specs.Parts.{changed}
 use Rattle.block_files.specs.Areas.{area_of, HoldsBytes, HoldsShared, NamedFull}
 use Rattle.block_files.specs.Writes.{Wrote, Tore, IsNoneOf, IsApartFromChanged}
 use Rattle.block_files.specs.lemmas.Stretches.{wrote_none, wrote_on, wrote_tore, wrote_less, tore_less}
 use Rattle.block_files.specs.lemmas.Joined.{full_from}
 
-pub record IsSpread (told : Bool) (first : ℕ) (copies blocks bytes was : List ℕ) (i : ℕ) (old now : Medium) : Type 0
+pub record IsSpread (told : Bool) (place : Place) (copies blocks bytes was : List ℕ) (i : ℕ) (old now : Medium) : Type 0
   where
-    pub wrote : Wrote told (IsNoneOf first copies) (IsApartFromChanged blocks bytes was) (i * (256 * changed bytes was))
+    pub wrote : Wrote told (IsNoneOf place copies) (IsApartFromChanged blocks bytes was) (i * (256 * changed bytes was))
         old now
     pub holds : IsTrue told → (x : ℕ) → x < length copies → x < i
-        → HoldsBytes (now.image (area_of first (get_or copies x 0))) blocks bytes
+        → HoldsBytes (now.image (area_of place (get_or copies x 0))) blocks bytes
     pub shared : IsTrue told → (x : ℕ) → x < length copies
-        → HoldsShared (now.image (area_of first (get_or copies x 0))) blocks bytes was
+        → HoldsShared (now.image (area_of place (get_or copies x 0))) blocks bytes was
 
-module _ (told : Bool) (first : ℕ) (copies blocks bytes was : List ℕ) where
+module _ (told : Bool) (place : Place) (copies blocks bytes was : List ℕ) where
   abbrev area_at : ℕ → ℕ
-  area_at x = area_of first (get_or copies x 0)
+  area_at x = area_of place (get_or copies x 0)
 
   pub spread_none : (m : Medium) → IsLawful told m
-      → (IsTrue told → (x : ℕ) → x < length copies → HoldsShared (m.image (area_of first (get_or copies x 0))) blocks
+      → (IsTrue told → (x : ℕ) → x < length copies → HoldsShared (m.image (area_of place (get_or copies x 0))) blocks
       bytes was)
-      → IsSpread told first copies blocks bytes was 0 m m
+      → IsSpread told place copies blocks bytes was 0 m m
   spread_none m law shared = record {
     wrote = (let e : 0 ≡ 0 * (256 * changed bytes was) = omega arith in
-        let P : ℕ → Type 0 = λ n. Wrote told (IsNoneOf first copies) (IsApartFromChanged blocks bytes was) n m m in
-        subst P e (wrote_none told (IsNoneOf first copies) (IsApartFromChanged blocks bytes was) m law));
+        let P : ℕ → Type 0 = λ n. Wrote told (IsNoneOf place copies) (IsApartFromChanged blocks bytes was) n m m in
+        subst P e (wrote_none told (IsNoneOf place copies) (IsApartFromChanged blocks bytes was) m law));
     holds = λ tells x lt less. absurd (omega arith);
     shared = shared;
   }
 
   -- one copy more, in the file of copy i
-  pub spread_more : (i file : ℕ) (old mid new : Medium) → i < length copies → file ≡ area_of first (get_or copies i 0)
+  pub spread_more : (i file : ℕ) (old mid new : Medium) → i < length copies → file ≡ area_of place (get_or copies i 0)
       → Wrote told (λ f. f ≢ file) (IsApartFromChanged blocks bytes was) (256 * changed bytes was) mid new
       → (IsTrue told → HoldsBytes (new.image file) blocks bytes)
-      → IsSpread told first copies blocks bytes was i old mid
-      → IsSpread told first copies blocks bytes was (i + 1) old new
+      → IsSpread told place copies blocks bytes was i old mid
+      → IsSpread told place copies blocks bytes was (i + 1) old new
   spread_more i file old mid new lt file_is one now spread = record {
     wrote = (
         let n = 256 * changed bytes was in
-        let next = wrote_less told (λ f. f ≢ file) (IsApartFromChanged blocks bytes was) (IsNoneOf first copies)
+        let next = wrote_less told (λ f. f ≢ file) (IsApartFromChanged blocks bytes was) (IsNoneOf place copies)
         (IsApartFromChanged blocks bytes was)
         (λ f none. λ e. none i lt (e ∙ file_is)) (λ k apart. apart) n n (omega arith) mid new one in
-        let both = wrote_on told (IsNoneOf first copies) (IsApartFromChanged blocks bytes was) (i * n) n old mid new
+        let both = wrote_on told (IsNoneOf place copies) (IsApartFromChanged blocks bytes was) (i * n) n old mid new
         spread.wrote next in
         let e : i * (256 * changed bytes was) + 256 * changed bytes was ≡ (i + 1) * (256 * changed bytes was) =
         omega arith in
-        let P : ℕ → Type 0 = λ x. Wrote told (IsNoneOf first copies) (IsApartFromChanged blocks bytes was) x old new in
+        let P : ℕ → Type 0 = λ x. Wrote told (IsNoneOf place copies) (IsApartFromChanged blocks bytes was) x old new in
         subst P e both);
     holds = λ tells x below less. ⊎_elim
         (λ same. (let P : ℕ → Type 0 = λ f. HoldsBytes (new.image f) blocks bytes in subst P (sym same) (now tells)))
@@ -74,37 +75,37 @@ module _ (told : Bool) (first : ℕ) (copies blocks bytes was : List ℕ) where
         (cases_eq (area_at x) file);
   }
 
-  pub spread_failed : (i file : ℕ) (old mid new : Medium) → i < length copies → file ≡ area_of first (get_or copies i 0)
+  pub spread_failed : (i file : ℕ) (old mid new : Medium) → i < length copies → file ≡ area_of place (get_or copies i 0)
       → Tore told (λ f. f ≢ file) (IsApartFromChanged blocks bytes was) (256 * changed bytes was) mid new
-      → IsSpread told first copies blocks bytes was i old mid
-      → Tore told (IsNoneOf first copies) (IsApartFromChanged blocks bytes was)
+      → IsSpread told place copies blocks bytes was i old mid
+      → Tore told (IsNoneOf place copies) (IsApartFromChanged blocks bytes was)
       (length copies * (256 * changed bytes was)) old new
   spread_failed i file old mid new lt file_is one spread =
       let n = 256 * changed bytes was in
-      let next = tore_less told (λ f. f ≢ file) (IsApartFromChanged blocks bytes was) (IsNoneOf first copies)
+      let next = tore_less told (λ f. f ≢ file) (IsApartFromChanged blocks bytes was) (IsNoneOf place copies)
       (IsApartFromChanged blocks bytes was)
       (λ f none. λ e. none i lt (e ∙ file_is)) (λ k apart. apart) n n (omega arith) mid new one in
-      let both = wrote_tore told (IsNoneOf first copies) (IsApartFromChanged blocks bytes was) (i * n) n old mid new
+      let both = wrote_tore told (IsNoneOf place copies) (IsApartFromChanged blocks bytes was) (i * n) n old mid new
       spread.wrote next in
       let e : i * (256 * changed bytes was) + 256 * changed bytes was ≡ (i + 1) * (256 * changed bytes was) =
       omega arith in
       let few : i + 1 ≤ length copies = omega arith in
       let le = mul-le-mul_right (256 * changed bytes was) few in
-      tore_less told (IsNoneOf first copies) (IsApartFromChanged blocks bytes was) (IsNoneOf first copies)
+      tore_less told (IsNoneOf place copies) (IsApartFromChanged blocks bytes was) (IsNoneOf place copies)
       (IsApartFromChanged blocks bytes was) (λ f none. none) (λ k apart. apart)
       (i * n + n) (length copies * n) (omega (arith, e, le)) old new both
 
   pub spread_all : (i : ℕ) (old now : Medium) → i ≡ length copies
-      → IsSpread told first copies blocks bytes was i old now
-      → Wrote told (IsNoneOf first copies) (IsApartFromChanged blocks bytes was)
+      → IsSpread told place copies blocks bytes was i old now
+      → Wrote told (IsNoneOf place copies) (IsApartFromChanged blocks bytes was)
       (length copies * (256 * changed bytes was)) old now
   spread_all i old now all spread =
-      let P : ℕ → Type 0 = λ n. Wrote told (IsNoneOf first copies) (IsApartFromChanged blocks bytes was)
+      let P : ℕ → Type 0 = λ n. Wrote told (IsNoneOf place copies) (IsApartFromChanged blocks bytes was)
       (n * (256 * changed bytes was)) old now in
       subst P all spread.wrote
 
   pub spread_full : (i : ℕ) (old now : Medium) → i ≡ length copies → length bytes ≤ 256 * length blocks
-      → IsSpread told first copies blocks bytes was i old now
-      → IsTrue told → NamedFull first copies blocks bytes now.image
+      → IsSpread told place copies blocks bytes was i old now
+      → IsTrue told → NamedFull place copies blocks bytes now.image
   spread_full i old now all room spread tells x lt = full_from (now.image (area_at x)) blocks bytes room
       (spread.holds tells x lt (omega arith))

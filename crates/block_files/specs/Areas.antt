@@ -3,6 +3,7 @@ use Rattle.std.specs.Prelude.{◌≡◌, ℕ, ◌+◌, ◌-◌, ◌*◌, ◌<◌
 use Rattle.std.specs.Prelude.{slice_index, flat_map, Bool, true, false, ◌&&◌, ◌||◌, nat_eq, nat_le}
 use Rattle.disk_model.specs.Image.{Image}
 use Rattle.disk_model.specs.Place.{area}
+use Rattle.disk_model.specs.declared.place.Place.{Place}
 use Rattle.block_files.specs.Parts.{is_changed}
 
 -- a block of an area file, with zeros past the file's end
@@ -28,17 +29,17 @@ pub record IsFull (file blocks bytes : List ℕ) : Type 0 where
   pub inside : within file blocks (length bytes) ≡ true
 
 -- the area file of the copy of this number, counted from 1
-abbrev pub area_of : ℕ → ℕ → ℕ
-area_of first number = area first (number - 1)
+abbrev pub area_of : Place → (number : ℕ) → ℕ
+area_of place number = area place (number - 1)
 
 -- every copy of a place has these bytes within its area
-abbrev pub AllFull : (first copies : ℕ) (blocks bytes : List ℕ) → Image → Type 0
-AllFull first copies blocks bytes image = (c : ℕ) → c < copies → IsFull (image (area first c)) blocks bytes
+abbrev pub AllFull : Place → (blocks bytes : List ℕ) → Image → Type 0
+AllFull place blocks bytes image = (c : ℕ) → c < place.copies → IsFull (image (area place c)) blocks bytes
 
 -- so has each of these copies, counted from 1
-abbrev pub NamedFull : (first : ℕ) (copies blocks bytes : List ℕ) → Image → Type 0
-NamedFull first copies blocks bytes image = (i : ℕ) → i < length copies
-    → IsFull (image (area_of first (slice_index copies i))) blocks bytes
+abbrev pub NamedFull : Place → (copies blocks bytes : List ℕ) → Image → Type 0
+NamedFull place copies blocks bytes image = (i : ℕ) → i < length copies
+    → IsFull (image (area_of place (slice_index copies i))) blocks bytes
 
 -- ---- byte by byte
 

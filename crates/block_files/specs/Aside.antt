@@ -4,6 +4,7 @@ use Rattle.disk_model.specs.Image.{Image}
 use Rattle.disk_model.specs.Case.{Case, IsSettledAt}
 use Rattle.disk_model.specs.Place.{IsNoArea}
 use Rattle.disk_model.specs.Frame.{KeepsCase}
+use Rattle.disk_model.specs.declared.place.Place.{Place}
 use Rattle.block_files.specs.Areas.{within}
 use Rattle.block_files.specs.Contents.{counting}
 
@@ -25,8 +26,8 @@ pub record StandsAside (at : Where) (start base full left : List ℕ) : Type 0 w
 
 -- writes to areas of a place that spare the blocks of a set leave every content in these blocks so
 abbrev pub AsideLaw : Type 0
-AsideLaw = (first copies : ℕ) (taken : ℕ → Bool) (start : Image) (old new : Case) → IsSettledAt start old
-    → KeepsCase (IsNoArea first copies) (λ k. taken k ≡ true) old new
+AsideLaw = (place : Place) (taken : ℕ → Bool) (start : Image) (old new : Case) → IsSettledAt start old
+    → KeepsCase (IsNoArea place) (λ k. taken k ≡ true) old new
     → (at : Where) → ((m : ℕ) → m < length at.blocks → taken (slice_index at.blocks m) ≡ true)
     → at.len ≤ 256 * length at.blocks
     → (f : ℕ) → StandsAside at (start f) (new.base f) (new.full f) (new.left f)

@@ -6,6 +6,7 @@ use Rattle.std.specs.Str.{bytes_eq}
 use Rattle.sha2.specs.Sha256.{sha256}
 use Rattle.disk_model.specs.Image.{Image}
 use Rattle.disk_model.specs.Place.{area}
+use Rattle.disk_model.specs.declared.place.Place.{Place}
 use Rattle.block_files.specs.Areas.{joined, within}
 
 -- a copy counts where its bytes have the hash: what it gives then
@@ -14,9 +15,9 @@ counting file blocks len hash = cond (bytes_eq (sha256 (joined file blocks len))
     None
 
 -- what each copy of a place gives, in order
-abbrev pub contents : (first copies : ℕ) (blocks : List ℕ) (len : ℕ) (hash : List ℕ) → Image → List (Option (List ℕ))
-contents first copies blocks len hash image = map (λ c. counting (image (area first c)) blocks len hash)
-    (range_with_len 0 copies)
+abbrev pub contents : Place → (blocks : List ℕ) (len : ℕ) (hash : List ℕ) → Image → List (Option (List ℕ))
+contents place blocks len hash image = map (λ c. counting (image (area place c)) blocks len hash)
+    (range_with_len 0 place.copies)
 
 -- the first content that some copy gives
 abbrev pub first_content : List (Option (List ℕ)) → Option (List ℕ)
@@ -32,11 +33,10 @@ lacks (Some value) None inside = true
 lacks (Some value) (Some given) inside = not (inside && bytes_eq given value)
 
 -- the copies that lack the value, counted from 1 and ascending
-abbrev pub lacking : (value : Option (List ℕ)) (first copies : ℕ) (blocks : List ℕ) (len : ℕ) (hash : List ℕ) → Image
-    → List ℕ
-lacking value first copies blocks len hash image = map suc (filter
-    (λ c. lacks value (counting (image (area first c)) blocks len hash) (within (image (area first c)) blocks len))
-    (range_with_len 0 copies))
+abbrev pub lacking : (value : Option (List ℕ)) → Place → (blocks : List ℕ) (len : ℕ) (hash : List ℕ) → Image → List ℕ
+lacking value place blocks len hash image = map suc (filter
+    (λ c. lacks value (counting (image (area place c)) blocks len hash) (within (image (area place c)) blocks len))
+    (range_with_len 0 place.copies))
 
 -- the same, by what each copy gives and whether its file has it all
 abbrev pub lacking_in : (value : Option (List ℕ)) → List (Option (List ℕ)) → List Bool → List ℕ

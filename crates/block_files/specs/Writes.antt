@@ -4,6 +4,7 @@ use Rattle.per_base.specs.Causes.{Rose}
 use Rattle.disk_model.specs.Case.{Follows}
 use Rattle.disk_model.specs.Medium.{Medium, Elapses}
 use Rattle.disk_model.specs.Frame.{Keeps, Tears, KeepsCase}
+use Rattle.disk_model.specs.declared.place.Place.{Place}
 use Rattle.block_files.specs.BlockSets.{contains}
 use Rattle.block_files.specs.Parts.{is_changed, blocks_for}
 use Rattle.block_files.specs.Areas.{area_of}
@@ -30,8 +31,8 @@ pub record Tore (told : Bool) (spared apart : ℕ → Type 0) (n : ℕ) (old new
 -- ---- files that are spared
 
 -- the file is the area of none of these copies, counted from 1
-abbrev pub IsNoneOf : (first : ℕ) (copies : List ℕ) (file : ℕ) → Type 0
-IsNoneOf first copies file = (i : ℕ) → i < length copies → file ≢ area_of first (slice_index copies i)
+abbrev pub IsNoneOf : Place → (copies : List ℕ) (file : ℕ) → Type 0
+IsNoneOf place copies file = (i : ℕ) → i < length copies → file ≢ area_of place (slice_index copies i)
 
 -- ---- blocks that are apart
 

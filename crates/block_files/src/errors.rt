@@ -1,11 +1,11 @@
-//! Why a call on blobs did not end well.
+//! Why a call on contents did not end well.
 
 ghost use Rattle.std.specs.Prelude.{◌≡◌};
 
 use disk_model::DiskFailed;
 use std::alloc::{AllocError, AllocFailed};
 
-/// Why a call on blobs did not end well.
+/// Why a call on contents did not end well.
 #[derive(Clone, Copy, Debug, PartialEq, Eq)]
 pub enum BlobError {
     /// A call of the disk failed, and its count of faults rose.

@@ -45,11 +45,11 @@ pub fn get_blob<D: Disk>(
 ) -> Result<Blob, BlobError>
     requires { 1 ≤ m }
     ensures value { IsTrue D.told → IfOk result (λ blob. blob.value
-        ≡ voted m (contents place.first place.copies blocks.now len hash.now (D.medium disk.old).image)) }
+        ≡ voted m (contents place blocks.now len hash.now (D.medium disk.old).image)) }
     ensures salvage { IsTrue D.told → IfOk result (λ blob. blob.salvage
-        ≡ first_content (contents place.first place.copies blocks.now len hash.now (D.medium disk.old).image)) }
+        ≡ first_content (contents place blocks.now len hash.now (D.medium disk.old).image)) }
     ensures lacking { IsTrue D.told → IfOk result (λ blob. blob.lacking
-        ≡ lacking blob.value place.first place.copies blocks.now len hash.now (D.medium disk.old).image) }
+        ≡ lacking blob.value place blocks.now len hash.now (D.medium disk.old).image) }
 
     // Whether the disk tells its bytes or not.
     ensures size { IfOk result (λ blob. IfSome blob.value (λ value. length value ≡ min len (256 * length blocks.now))) }

@@ -27,10 +27,10 @@ pub fn mend<D: Disk>(
     requires room { length bytes.now ≤ 256 * length blocks.now }
     requires distinct { AreDistinct blocks.now }
     ensures whole { IsTrue D.told → OnOk result
-        (NamedFull place.first copies.now blocks.now bytes.now (D.medium disk.new).image) }
-    ensures done { OnOk result (Wrote D.told (IsNoneOf place.first copies.now) (IsApart blocks.now)
+        (NamedFull place copies.now blocks.now bytes.now (D.medium disk.new).image) }
+    ensures done { OnOk result (Wrote D.told (IsNoneOf place copies.now) (IsApart blocks.now)
         (length copies.now * (256 * length blocks.now)) (D.medium disk.old) (D.medium disk.new)) }
-    ensures failed { OnErr result (Tore D.told (IsNoneOf place.first copies.now) (IsApart blocks.now)
+    ensures failed { OnErr result (Tore D.told (IsNoneOf place copies.now) (IsApart blocks.now)
         (length copies.now * (256 * length blocks.now)) (D.medium disk.old) (D.medium disk.new)) }
     ensures device { IfErr result (λ error. error ≡ BlobError.Device) }
 {

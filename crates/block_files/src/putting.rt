@@ -72,13 +72,13 @@ pub fn put_blob<D: Disk>(
 
     // The disk.
     ensures whole { IsTrue D.told → IfOk result (λ blob.
-        AllFull place.first place.copies blob.blocks bytes.now (D.medium disk.new).image) }
-    ensures done { IfOk result (λ blob. Wrote D.told (IsNoArea place.first place.copies) (IsApart blob.blocks)
+        AllFull place blob.blocks bytes.now (D.medium disk.new).image) }
+    ensures done { IfOk result (λ blob. Wrote D.told (IsNoArea place) (IsApart blob.blocks)
         (place.copies * (256 * length blob.blocks)) (D.medium disk.old) (D.medium disk.new)) }
 
     // Errors.
     ensures memory { IsErrOf result BlobError.OutOfMemory → (used.new ≡ used.old) × (disk.new ≡ disk.old) }
-    ensures failed { IsErrOf result BlobError.Device → Tore D.told (IsNoArea place.first place.copies)
+    ensures failed { IsErrOf result BlobError.Device → Tore D.told (IsNoArea place)
         (IsTaken used.old)
         (place.copies * (256 * blocks_for (length bytes.now))) (D.medium disk.old) (D.medium disk.new) }
     ensures reserved { IsErrOf result BlobError.Device → (blocks : List ℕ)
@@ -140,7 +140,7 @@ pub fn put_shared<D: Disk>(
     old_blocks: &[u32],
 ) -> Result<PutBlob, BlobError>
     requires whole { IsTrue D.told
-        → AllFull place.first place.copies old_blocks.now old_bytes.now (D.medium disk.old).image }
+        → AllFull place old_blocks.now old_bytes.now (D.medium disk.old).image }
     requires room { length old_bytes.now ≤ 256 * length old_blocks.now }
     requires taken { (i : ℕ) → i < length old_blocks.now → contains used.old (slice_index old_blocks.now i) ≡ true }
     requires distinct { AreDistinct old_blocks.now }
@@ -155,14 +155,14 @@ pub fn put_shared<D: Disk>(
 
     // The disk.
     ensures whole { IsTrue D.told → IfOk result (λ blob.
-        AllFull place.first place.copies blob.blocks bytes.now (D.medium disk.new).image) }
+        AllFull place blob.blocks bytes.now (D.medium disk.new).image) }
     ensures done { IfOk result (λ blob.
-        Wrote D.told (IsNoArea place.first place.copies) (IsApartFromChanged blob.blocks bytes.now old_bytes.now)
+        Wrote D.told (IsNoArea place) (IsApartFromChanged blob.blocks bytes.now old_bytes.now)
         (place.copies * (256 * changed bytes.now old_bytes.now)) (D.medium disk.old) (D.medium disk.new)) }
 
     // Errors.
     ensures memory { IsErrOf result BlobError.OutOfMemory → (used.new ≡ used.old) × (disk.new ≡ disk.old) }
-    ensures failed { IsErrOf result BlobError.Device → Tore D.told (IsNoArea place.first place.copies)
+    ensures failed { IsErrOf result BlobError.Device → Tore D.told (IsNoArea place)
         (IsTaken used.old)
         (place.copies * (256 * changed bytes.now old_bytes.now)) (D.medium disk.old) (D.medium disk.new) }
     ensures reserved { IsErrOf result BlobError.Device → (blocks : List ℕ)

@@ -35,9 +35,9 @@ pub(crate) fn look<D: Disk>(
     hash: &[u8; 32],
 ) -> Result<Looked, BlobError>
     ensures texts { IsTrue D.told → IfOk result (λ looked. texts_of looked.texts.items
-        ≡ contents place.first place.copies blocks.now len hash.now (D.medium disk.old).image) }
+        ≡ contents place blocks.now len hash.now (D.medium disk.old).image) }
     ensures inside { IsTrue D.told → IfOk result (λ looked. looked.inside.items
-        ≡ map (λ c. within ((D.medium disk.old).image (area place.first c)) blocks.now len)
+        ≡ map (λ c. within ((D.medium disk.old).image (area place c)) blocks.now len)
         (range_with_len 0 place.copies)) }
     ensures copies { IfOk result (λ looked. (length looked.texts.items ≡ place.copies)
         × (length looked.inside.items ≡ place.copies)) }

@@ -31,10 +31,10 @@ pub fn write_blob<D: Disk>(
     requires room { length bytes.now ≤ 256 * length blocks.now }
     requires distinct { AreDistinct blocks.now }
     ensures whole { IsTrue D.told → OnOk result
-        (AllFull place.first place.copies blocks.now bytes.now (D.medium disk.new).image) }
-    ensures done { OnOk result (Wrote D.told (IsNoArea place.first place.copies) (IsApart blocks.now)
+        (AllFull place blocks.now bytes.now (D.medium disk.new).image) }
+    ensures done { OnOk result (Wrote D.told (IsNoArea place) (IsApart blocks.now)
         (place.copies * (256 * length blocks.now)) (D.medium disk.old) (D.medium disk.new)) }
-    ensures failed { OnErr result (Tore D.told (IsNoArea place.first place.copies) (IsApart blocks.now)
+    ensures failed { OnErr result (Tore D.told (IsNoArea place) (IsApart blocks.now)
         (place.copies * (256 * length blocks.now)) (D.medium disk.old) (D.medium disk.new)) }
 {
     write_shared(disk, place, blocks, bytes, &[])
@@ -56,13 +56,13 @@ pub fn write_shared<D: Disk>(
     requires room { length bytes.now ≤ 256 * length blocks.now }
     requires distinct { AreDistinct blocks.now }
     requires shared { IsTrue D.told → (c : ℕ) → c < place.copies
-        → HoldsShared ((D.medium disk.old).image (area place.first c)) blocks.now bytes.now was.now }
+        → HoldsShared ((D.medium disk.old).image (area place c)) blocks.now bytes.now was.now }
     ensures whole { IsTrue D.told → OnOk result
-        (AllFull place.first place.copies blocks.now bytes.now (D.medium disk.new).image) }
-    ensures done { OnOk result (Wrote D.told (IsNoArea place.first place.copies)
+        (AllFull place blocks.now bytes.now (D.medium disk.new).image) }
+    ensures done { OnOk result (Wrote D.told (IsNoArea place)
         (IsApartFromChanged blocks.now bytes.now was.now)
         (place.copies * (256 * changed bytes.now was.now)) (D.medium disk.old) (D.medium disk.new)) }
-    ensures failed { OnErr result (Tore D.told (IsNoArea place.first place.copies)
+    ensures failed { OnErr result (Tore D.told (IsNoArea place)
         (IsApartFromChanged blocks.now bytes.now was.now)
         (place.copies * (256 * changed bytes.now was.now)) (D.medium disk.old) (D.medium disk.new)) }
 {
@@ -89,14 +89,14 @@ pub(crate) fn write_copies<D: Disk>(
     requires room { length bytes.now ≤ 256 * length blocks.now }
     requires distinct { AreDistinct blocks.now }
     requires shared { IsTrue D.told → (i : ℕ) → i < length copies.now
-        → HoldsShared ((D.medium disk.old).image (area_of place.first (slice_index copies.now i))) blocks.now bytes.now
+        → HoldsShared ((D.medium disk.old).image (area_of place (slice_index copies.now i))) blocks.now bytes.now
         was.now }
     ensures whole { IsTrue D.told → OnOk result
-        (NamedFull place.first copies.now blocks.now bytes.now (D.medium disk.new).image) }
-    ensures done { OnOk result (Wrote D.told (IsNoneOf place.first copies.now)
+        (NamedFull place copies.now blocks.now bytes.now (D.medium disk.new).image) }
+    ensures done { OnOk result (Wrote D.told (IsNoneOf place copies.now)
         (IsApartFromChanged blocks.now bytes.now was.now)
         (length copies.now * (256 * changed bytes.now was.now)) (D.medium disk.old) (D.medium disk.new)) }
-    ensures failed { OnErr result (Tore D.told (IsNoneOf place.first copies.now)
+    ensures failed { OnErr result (Tore D.told (IsNoneOf place copies.now)
         (IsApartFromChanged blocks.now bytes.now was.now)
         (length copies.now * (256 * changed bytes.now was.now)) (D.medium disk.old) (D.medium disk.new)) }
 {

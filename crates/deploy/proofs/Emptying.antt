@@ -51,7 +51,7 @@ module _ (told : Bool) (app : ℕ) (lt : app < 8) (register : Option Cell) (old 
 
     module _ (next : Cell) (at_next : IsCellOf (place_of cell) (generation_of cell + 1) next)
         (held : IsTrue told → CellAt new.image next (root_text text.absent))
-        (spared : IsTrue told → Spares (IsNoSlot (place_of cell).first (place_of cell).copies) old.image new.image)
+        (spared : IsTrue told → Spares (IsNoSlot (place_of cell)) old.image new.image)
       where
         pub next_root : RootAt told new.image app (Absent next)
         next_root = record {
@@ -73,9 +73,9 @@ module _ (told : Bool) (app : ℕ) (lt : app < 8) (register : Option Cell) (old 
               laws.slots laws.aside laws.clean next at_next (held tells) (spared tells)
               (none_clean old.image app (generation_of cell + 1))
 
-    module _ (puts : IsTrue told → Quiet old → EachCase (PutStops (place_of cell).first (place_of cell).copies
+    module _ (puts : IsTrue told → Quiet old → EachCase (PutStops (place_of cell)
         (generation_of cell + 1) (root_text text.absent) old.image) old new) where
-      pub next_outside : AgainLaw → (IsTrue told → Spares (IsNoSlot (place_of cell).first (place_of cell).copies)
+      pub next_outside : AgainLaw → (IsTrue told → Spares (IsNoSlot (place_of cell))
           old.image new.image) → Leaves told (IsNoRootSlot app) old new
       next_outside again spared = put_outside again app lt cell at_some.0 text.absent tt old new told spared puts
 
@@ -93,7 +93,7 @@ module _ (told : Bool) (app : ℕ) (lt : app < 8) (register : Option Cell) (old 
 
     module _ (cell : Cell) (is : IsCellOf (root_place app) 1 cell)
         (held : IsTrue told → CellAt new.image cell (root_text text.absent))
-        (spared : IsTrue told → Spares (IsNoSlot (root_place app).first 3) old.image new.image) where
+        (spared : IsTrue told → Spares (IsNoSlot (root_place app)) old.image new.image) where
       pub first_root : RootAt told new.image app (Absent cell)
       first_root = record {
         memory = record {
@@ -108,8 +108,8 @@ module _ (told : Bool) (app : ℕ) (lt : app < 8) (register : Option Cell) (old 
       first_root_says = ap (λ (g : ℕ). absent g) is.counts ∙ sym says_first
 
       module _ (laws : AreLaws) (tells : IsTrue told) where
-        alone_first : IsAlone new.image (root_place app).first 3 1 (root_text text.absent)
-        alone_first = subst (λ (h : ℕ). IsAlone new.image (root_place app).first 3 h (root_text text.absent)) is.counts
+        alone_first : IsAlone new.image (root_place app) 1 (root_text text.absent)
+        alone_first = subst (λ (h : ℕ). IsAlone new.image (root_place app) h (root_text text.absent)) is.counts
             (cell_alone new.image app cell (root_text text.absent) is.lies (held tells))
 
         pub first_app : app_at new.image app ≡ app_saying old.image app (empty_says register)
@@ -123,8 +123,8 @@ module _ (told : Bool) (app : ℕ) (lt : app < 8) (register : Option Cell) (old 
             (none_clean old.image app 1)
 
     module _ (stops : IsTrue told → Quiet old → EachCase
-        (FormatStops (root_place app).first 3 1 (root_text text.absent) old.image) old new) where
-      pub first_outside : (IsTrue told → Spares (IsNoSlot (root_place app).first 3) old.image new.image)
+        (FormatStops (root_place app) 1 (root_text text.absent) old.image) old new) where
+      pub first_outside : (IsTrue told → Spares (IsNoSlot (root_place app)) old.image new.image)
           → Leaves told (IsNoRootSlot app) old new
       first_outside spared = format_leaves told app old new spared 1 (root_text text.absent) stops
 

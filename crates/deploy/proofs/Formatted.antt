@@ -9,6 +9,7 @@ use Rattle.disk_model.specs.Laws.{goes_on, goes_none}
 use Rattle.disk_model.specs.Medium.{EachCase, Elapses, IsLawful, Medium, Quiet}
 use Rattle.disk_model.specs.Place.{IsNoSlot}
 use Rattle.disk_model.specs.lemmas.Frames.{settled_before, settled_less, settled_on}
+use Rattle.disk_model.specs.declared.place.Place.{Place}
 use Rattle.guarded_cell.specs.declared.cell.Cell.{Cell}
 use Rattle.guarded_cell.specs.declared.looking.Seen.{Seen}
 use Rattle.guarded_cell.specs.Cells.{CellAt, IsCellOf}
@@ -26,7 +27,7 @@ use Rattle.deploy.proofs.InUse.{AgainLaw, cell_alone, held_app}
 
 -- the root of this application says that nothing is installed, under generation 1
 abbrev pub IsEmptyRoot : Image → ℕ → Type 0
-IsEmptyRoot image app = IsAlone image (root_place app).first 3 1 (root_text absent)
+IsEmptyRoot image app = IsAlone image (root_place app) 1 (root_text absent)
 
 -- the files that are no root's slots
 abbrev pub IsNoRoot : ℕ → Type 0
@@ -36,7 +37,7 @@ IsNoRoot file = (app : ℕ) → app < 8 → IsNoRootSlot app file
 
 pub formatted : (image : Image) (app : ℕ) (cell : Cell) → IsCellOf (root_place app) 1 cell
     → CellAt image cell (root_text absent) → IsEmptyRoot image app
-formatted image app cell is at = subst (λ (g : ℕ). IsAlone image (root_place app).first 3 g (root_text absent))
+formatted image app cell is at = subst (λ (g : ℕ). IsAlone image (root_place app) g (root_text absent))
     is.counts
     (cell_alone image app cell (root_text absent) is.lies at)
 
@@ -44,7 +45,7 @@ formatted image app cell is at = subst (λ (g : ℕ). IsAlone image (root_place 
 
 module _ (files : RootFilesLaw) (slots : RootSlotsLaw) (frame : AloneFrameLaw) (app : ℕ) (lt : app < 8)
     (old new : Image)
-    (spared : Spares (IsNoSlot (root_place app).first (root_place app).copies) old new) where
+    (spared : Spares (IsNoSlot (root_place app)) old new) where
   apart : (other f : ℕ) → ¬ (other ≡ app) → (first_file other ≤ f) × (f < first_file other + 12) → IsNoRootFile app f
   apart other f differs of = ⊎_elim
       (λ below. inl (omega (arith, below, of.1)))
@@ -77,8 +78,8 @@ none_left told m law = record {
 
 pub one_left : (told : Bool) (app : ℕ) → app < 8 → (old mid new : Medium) → Elapses old mid → Elapses mid new
     → Leaves told IsNoRoot old mid → (Quiet old → Quiet mid)
-    → (IsTrue told → Spares (IsNoSlot (root_place app).first (root_place app).copies) mid.image new.image)
-    → (IsTrue told → Quiet mid → EachCase (FormatStops (root_place app).first (root_place app).copies 1
+    → (IsTrue told → Spares (IsNoSlot (root_place app)) mid.image new.image)
+    → (IsTrue told → Quiet mid → EachCase (FormatStops (root_place app) 1
     (root_text absent) mid.image) mid new)
     → Leaves told IsNoRoot old new
 one_left told app lt old mid new first next were still spared stops = record {
@@ -93,9 +94,9 @@ one_left told app lt old mid new first next were still spared stops = record {
 
 -- of guarded_cell
 abbrev pub HeldAloneLaw : Type 0
-HeldAloneLaw = (image : Image) (first copies g : ℕ) (text : List ℕ) → 1 ≤ copies → IsAlone image first copies g text
-    → (held image first copies ≡ record { generation = g; text = text; copies = copies_that (λ c. true) copies } ∷ [])
-    × (lacking image first copies g text ≡ [])
+HeldAloneLaw = (image : Image) (place : Place) (g : ℕ) (text : List ℕ) → IsAlone image place g text
+    → (held image place ≡ record { generation = g; text = text; copies = copies_that (λ c. true) place.copies } ∷ [])
+    × (lacking image place g text ≡ [])
 
 module _ (image : Image) (app : ℕ) (empty : IsEmptyRoot image app) where
   pub empty_is : (again : AgainLaw) (alone : AloneLaw) → app_at image app ≡ empty_app 1
@@ -104,7 +105,7 @@ module _ (image : Image) (app : ℕ) (empty : IsEmptyRoot image app) where
 
   pub empty_settled : (held_alone : HeldAloneLaw) → IsTrue (root_sole image app)
   empty_settled held_alone = ap (λ (seens : List Seen). nat_le (length seens) 1)
-      (held_alone image (root_place app).first 3 1 (root_text absent) (omega arith) empty).0
+      (held_alone image (root_place app) 1 (root_text absent) empty).0
 
   pub empty_clean : (again : AgainLaw) (clean : AloneCleanLaw) → IsCleanApp app image
   unfolding shapes_named

@@ -47,12 +47,12 @@ pub is_marked : (P : Standing → Type 0) (found : Option Standing) (s : Standin
 is_marked P found s is marked = subst (λ (o : Option Standing). IfSome o P) is marked
 
 pub slots_at : (place : Place) (app : ℕ) (image : Image) (slots : Slots) (found : Option Standing)
-    → place ≡ root_place app → IsSlotsOf image place.first place.copies slots → IfSome found (λ s. s.slots ≡ slots)
-    → IfSome found (λ s. IsSlotsOf image (root_place app).first 3 s.slots)
+    → place ≡ root_place app → IsSlotsOf image place slots → IfSome found (λ s. s.slots ≡ slots)
+    → IfSome found (λ s. IsSlotsOf image (root_place app) s.slots)
 slots_at place app image slots None same are marked = tt
 slots_at place app image slots (Some s) same are marked =
-    subst (IsSlotsOf image (root_place app).first 3) (sym marked)
-    (subst (λ (p : Place). IsSlotsOf image p.first p.copies slots) same are)
+    subst (IsSlotsOf image (root_place app)) (sym marked)
+    (subst (λ (p : Place). IsSlotsOf image p slots) same are)
 
 pub is_spelled : (found : Option Standing) (s : Standing) → found ≡ Some s → IfSpelled found → IsSpelled s
 is_spelled found s is spelled = subst IfSpelled is spelled
@@ -62,34 +62,34 @@ is_spelled found s is spelled = subst IfSpelled is spelled
 -- what is found among the texts that a look at the root's place gave
 pub among_at : (place : Place) (app : ℕ) (image : Image) (seens : List Seen) (found : Option Standing)
     → place ≡ root_place app
-    → seens ≡ held image place.first place.copies → IsAmong seens found
-    → IsAmong (held image (root_place app).first 3) found
+    → seens ≡ held image place → IsAmong seens found
+    → IsAmong (held image (root_place app)) found
 among_at place app image seens found same are among =
-    subst (λ (xs : List Seen). IsAmong xs found) (are ∙ ap (λ (p : Place). held image p.first p.copies) same) among
+    subst (λ (xs : List Seen). IsAmong xs found) (are ∙ ap (λ (p : Place). held image p) same) among
 
 -- of guarded_cell
 abbrev pub AmongLaw : Type 0
-AmongLaw = (image : Image) (first copies m : ℕ) → standing image first copies m
-    ≡ standing_in m (held image first copies)
+AmongLaw = (image : Image) (place : Place) (m : ℕ) → standing image place m
+    ≡ standing_in m (held image place)
 
 abbrev pub ChoosesLaw : Type 0
-ChoosesLaw = (image : Image) (first copies m : ℕ) → 1 ≤ m → Chooses image first copies m (standing image first copies m)
+ChoosesLaw = (image : Image) (place : Place) (m : ℕ) → 1 ≤ m → Chooses image place m (standing image place m)
 
 -- the texts that the copies of the root hold
 abbrev pub texts_at : Image → ℕ → List Seen
-texts_at image app = held image (root_place app).first 3
+texts_at image app = held image (root_place app)
 
 module _ (among : AmongLaw) (image : Image) (app : ℕ) where
   says_among : says_at image app ≡ says_in (standing_in 2 (texts_at image app))
   unfolding says_at
-  says_among = ap says_in (among image (root_place app).first 3 2)
+  says_among = ap says_in (among image (root_place app) 2)
 
   pub none_says : IsAmong (texts_at image app) None → says_at image app ≡ nothing
   none_says none = says_among ∙ none
 
   module _ (s : Standing) (first : IsFirst (texts_at image app) s) where
-    pub found_stands : standing image (root_place app).first 3 2 ≡ Some s.seen
-    found_stands = among image (root_place app).first 3 2 ∙ first.stands
+    pub found_stands : standing image (root_place app) 2 ≡ Some s.seen
+    found_stands = among image (root_place app) 2 ∙ first.stands
 
     pub found_says : says_at image app ≡ says_by s.seen.generation (Some (root_said s.says))
     found_says = says_among ∙ ap says_in first.stands ∙ ap (λ (r : Option text.Root). says_by s.seen.generation r)
@@ -120,26 +120,26 @@ others_fail test = others_of (test 0) (test 1) (test 2)
 
 lacking_of : (image : Image) (app : ℕ) (r : text.Root) (g : ℕ) (seen : Seen)
     → lacking_in image app (says_by g (Some r)) (Some seen)
-    ≡ lacking image (root_place app).first 3 seen.generation seen.text
+    ≡ lacking image (root_place app) seen.generation seen.text
 lacking_of image app text.absent g seen = refl
 lacking_of image app (text.installed bank active previous) g seen = refl
 
 app_lacking : (image : Image) (app : ℕ) → (app_at image app).lacking
-    ≡ lacking_in image app (says_at image app) (standing image (root_place app).first 3 2)
+    ≡ lacking_in image app (says_at image app) (standing image (root_place app) 2)
 unfolding app_at
 app_lacking image app = refl
 
 module _ (chooses : ChoosesLaw) (image : Image) (app : ℕ) (seen : Seen)
-    (stands : standing image (root_place app).first 3 2 ≡ Some seen) where
-  lacking_is : others seen.copies ≡ lacking image (root_place app).first 3 seen.generation seen.text
+    (stands : standing image (root_place app) 2 ≡ Some seen) where
+  lacking_is : others seen.copies ≡ lacking image (root_place app) seen.generation seen.text
   unfolding lacking
-  lacking_is = ap others ((chooses image (root_place app).first 3 2 (omega arith)).copies_are seen stands)
-      ∙ others_fail (λ copy. holds image (root_place app).first copy (seen.generation, seen.text))
+  lacking_is = ap others ((chooses image (root_place app) 2 (omega arith)).copies_are seen stands)
+      ∙ others_fail (λ copy. holds image (root_place app) copy (seen.generation, seen.text))
 
   pub app_lacks : (r : text.Root) → says_at image app ≡ says_by seen.generation (Some r)
       → (app_at image app).lacking ≡ others seen.copies
   app_lacks r says = app_lacking image app
-      ∙ ap (λ (s : Says). lacking_in image app s (standing image (root_place app).first 3 2)) says
+      ∙ ap (λ (s : Says). lacking_in image app s (standing image (root_place app) 2)) says
       ∙ ap (λ (o : Option Seen). lacking_in image app (says_by seen.generation (Some r)) o) stands
       ∙ lacking_of image app r seen.generation seen
       ∙ sym lacking_is

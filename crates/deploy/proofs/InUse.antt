@@ -55,13 +55,13 @@ parts_say i = ap (λ (p : Option Named). installed (generation_of i.cell) (named
 
 pub cell_alone : (image : Image) (app : ℕ) (cell : Cell) (t : List ℕ) → place_of cell ≡ root_place app
     → CellAt image cell t
-    → IsAlone image (root_place app).first 3 (generation_of cell) t
-cell_alone image app cell t lies at = subst (λ (p : Place). IsAlone image p.first p.copies (generation_of cell) t) lies
+    → IsAlone image (root_place app) (generation_of cell) t
+cell_alone image app cell t lies at = subst (λ (p : Place). IsAlone image p (generation_of cell) t) lies
     at
 
 pub alone_cell : (image : Image) (app : ℕ) (cell : Cell) (t : List ℕ) → place_of cell ≡ root_place app
-    → IsAlone image (root_place app).first 3 (generation_of cell) t → CellAt image cell t
-alone_cell image app cell t lies at = subst (λ (p : Place). IsAlone image p.first p.copies (generation_of cell) t)
+    → IsAlone image (root_place app) (generation_of cell) t → CellAt image cell t
+alone_cell image app cell t lies at = subst (λ (p : Place). IsAlone image p (generation_of cell) t)
     (sym lies) at
 
 -- ---- what the image says
@@ -78,7 +78,7 @@ pub bad_app : (image : Image) (app : ℕ) → says_at image app ≡ nothing → 
 unfolding app_at
 bad_app image app none = ap (λ (s : Says). record {
   says = s;
-  lacking = lacking_in image app s (standing image (root_place app).first 3 2);
+  lacking = lacking_in image app s (standing image (root_place app) 2);
   states = map (store_at image) (shapes_named app s);
 }) none
 
@@ -88,7 +88,7 @@ AgainLaw = (r : text.Root) → IsRoot r → root_of (root_text r) ≡ Some r
 
 module _ (again : AgainLaw) (alone : AloneLaw) (image : Image) (app : ℕ) where
   -- a root's text that is held alone
-  pub held_app : (g : ℕ) (r : text.Root) → IsRoot r → IsAlone image (root_place app).first 3 g (root_text r)
+  pub held_app : (g : ℕ) (r : text.Root) → IsRoot r → IsAlone image (root_place app) g (root_text r)
       → app_at image app ≡ app_that image app (says_by g (Some r))
   held_app g r is held = alone app g (root_text r) image held
       ∙ ap (λ (o : Option text.Root). app_that image app (says_by g o)) (again r is)
@@ -112,8 +112,8 @@ module _ (again : AgainLaw) (alone : AloneLaw) (image : Image) (app : ℕ) where
 module _ (again : AgainLaw) (alone : AloneLaw) (versions : VersionsLaw) (slots : RootSlotsLaw) (aside : RootAloneLaw)
     (clean : AloneCleanLaw)
     (app g : ℕ) (r : text.Root) (old new : Image) (lt : app < 8) (is : IsRoot r)
-    (spared : Spares (IsNoSlot (root_place app).first 3) old new)
-    (held : IsAlone new (root_place app).first 3 g (root_text r)) where
+    (spared : Spares (IsNoSlot (root_place app)) old new)
+    (held : IsAlone new (root_place app) g (root_text r)) where
   abbrev pub next : Says
   next = says_by g (Some r)
 

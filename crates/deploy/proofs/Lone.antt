@@ -28,7 +28,7 @@ module _ (again : AgainLaw) (app : ℕ) (lt : app < 8) (cell : Cell) (of : IsRoo
       (clean : AloneCleanLaw)
       (next : Cell) (at_next : IsCellOf (place_of cell) (generation_of cell + 1) next)
       (held : CellAt new.image next (root_text r))
-      (spared : Spares (IsNoSlot (place_of cell).first (place_of cell).copies) old.image new.image) where
+      (spared : Spares (IsNoSlot (place_of cell)) old.image new.image) where
     pub put_app : app_at new.image app ≡ app_saying old.image app next_says
     put_app = written_app again alone versions slots aside clean app (generation_of cell + 1) r old.image new.image lt
         is
@@ -42,9 +42,9 @@ module _ (again : AgainLaw) (app : ℕ) (lt : app < 8) (cell : Cell) (of : IsRoo
         (next_alone app cell of new.image (generation_of cell + 1) next (root_text r) at_next held) were
 
   -- at any moment
-  pub put_outside : (told : Bool) → (IsTrue told → Spares (IsNoSlot (place_of cell).first (place_of cell).copies)
+  pub put_outside : (told : Bool) → (IsTrue told → Spares (IsNoSlot (place_of cell))
       old.image new.image)
-      → (IsTrue told → Quiet old → EachCase (PutStops (place_of cell).first (place_of cell).copies
+      → (IsTrue told → Quiet old → EachCase (PutStops (place_of cell)
       (generation_of cell + 1) (root_text r) old.image) old new)
       → Leaves told (IsNoRootSlot app) old new
   put_outside told spared puts = put_leaves told app old new
@@ -53,7 +53,7 @@ module _ (again : AgainLaw) (app : ℕ) (lt : app < 8) (cell : Cell) (of : IsRoo
       puts_here app cell of (generation_of cell + 1) (root_text r) old.image old new (puts tells quiet))
 
   pub put_stands : WritingLaw → (t : List ℕ) → CellAt old.image cell t
-      → (Quiet old → EachCase (PutStops (place_of cell).first (place_of cell).copies (generation_of cell + 1)
+      → (Quiet old → EachCase (PutStops (place_of cell) (generation_of cell + 1)
       (root_text r) old.image) old new)
       → AreClean old.image (shapes_named app next_says) → StandsThroughout app (app_saying old.image app next_says) old
       new

@@ -164,13 +164,13 @@ outside_rest told app bank built d cs old new keeps fit leaves =
 pub storage_outside : (told : Bool) (app bank number : ℕ) (s : StorageData) (shape : Shape) (old new : Medium)
     → BesideLaw → app < 8 → bank ≤ 1 → number < 16
     → shape ≡ shape_of app bank number s
-    → (IsTrue told → Spares (IsOutside shape.place.first shape.place.copies) old.image new.image)
-    → (IsTrue told → Quiet old → EachCase (IsSettledOn (IsOutside shape.place.first shape.place.copies) old.image) old
+    → (IsTrue told → Spares (IsOutside shape.place) old.image new.image)
+    → (IsTrue told → Quiet old → EachCase (IsSettledOn (IsOutside shape.place) old.image) old
     new)
     → Leaves told (IsBeside app bank number) old new
 storage_outside told app bank number s shape old new beside lt ltb ltn is elsewhere outside =
-    leaves_less told (IsOutside shape.place.first shape.place.copies) (IsBeside app bank number) old new
-    (λ f aside. subst (λ (it : Shape). IsOutside it.place.first it.place.copies f) (sym is)
+    leaves_less told (IsOutside shape.place) (IsBeside app bank number) old new
+    (λ f aside. subst (λ (it : Shape). IsOutside it.place f) (sym is)
     (beside app bank number f s lt ltb ltn aside))
     (record { at_the_end = elsewhere; throughout = outside })
 

@@ -24,25 +24,25 @@ module _ (app : ℕ) (cell : Cell) (of : IsRootCell app cell) where
 
   pub next_alone : (image : Image) (g : ℕ) (next : Cell) (t : List ℕ) → IsCellOf (place_of cell) g next
       → CellAt image next t
-      → IsAlone image (root_place app).first 3 g t
-  next_alone image g next t is at = subst (λ (h : ℕ). IsAlone image (root_place app).first 3 h t) is.counts
+      → IsAlone image (root_place app) g t
+  next_alone image g next t is at = subst (λ (h : ℕ). IsAlone image (root_place app) h t) is.counts
       (cell_alone image app next t (is.lies ∙ of.place) at)
 
-  pub slots_spared : (old new : Image) → Spares (IsNoSlot (place_of cell).first (place_of cell).copies) old new
-      → Spares (IsNoSlot (root_place app).first 3) old new
-  slots_spared old new spared = subst (λ (p : Place). Spares (IsNoSlot p.first p.copies) old new) of.place spared
+  pub slots_spared : (old new : Image) → Spares (IsNoSlot (place_of cell)) old new
+      → Spares (IsNoSlot (root_place app)) old new
+  slots_spared old new spared = subst (λ (p : Place). Spares (IsNoSlot p) old new) of.place spared
 
   pub puts_here : (g : ℕ) (t : List ℕ) (start : Image) (old new : Medium)
-      → EachCase (PutStops (place_of cell).first (place_of cell).copies g t start) old new
-      → EachCase (PutStops (root_place app).first 3 g t start) old new
-  puts_here g t start old new puts = subst (λ (p : Place). EachCase (PutStops p.first p.copies g t start) old new)
+      → EachCase (PutStops (place_of cell) g t start) old new
+      → EachCase (PutStops (root_place app) g t start) old new
+  puts_here g t start old new puts = subst (λ (p : Place). EachCase (PutStops p g t start) old new)
       of.place puts
 
 -- files that are no slots of the root change neither at the end nor at any moment
 module _ (told : Bool) (app : ℕ) (old new : Medium) (spared : IsTrue told
-    → Spares (IsNoSlot (root_place app).first 3) old.image new.image) where
+    → Spares (IsNoSlot (root_place app)) old.image new.image) where
   pub put_leaves : (g : ℕ) (t : List ℕ) → (IsTrue told → Quiet old
-      → EachCase (PutStops (root_place app).first 3 g t old.image) old new)
+      → EachCase (PutStops (root_place app) g t old.image) old new)
       → Leaves told (IsNoRootSlot app) old new
   put_leaves g t puts = record {
     at_the_end = spared;
@@ -51,7 +51,7 @@ module _ (told : Bool) (app : ℕ) (old new : Medium) (spared : IsTrue told
   }
 
   pub format_leaves : (g : ℕ) (t : List ℕ) → (IsTrue told → Quiet old
-      → EachCase (FormatStops (root_place app).first 3 g t old.image) old new)
+      → EachCase (FormatStops (root_place app) g t old.image) old new)
       → Leaves told (IsNoRootSlot app) old new
   format_leaves g t stops = record {
     at_the_end = spared;

@@ -139,7 +139,7 @@ module _ (again : AgainLaw) (alone : AloneLaw) (app g bank : ℕ) (v : Version) 
   abbrev pub after : Image → App
   after start = next_app (g + 1) bank v previous contents (app_at start app)
 
-  module _ (start : Image) (held : IsAlone start (root_place app).first 3 g (root_text before)) where
+  module _ (start : Image) (held : IsAlone start (root_place app) g (root_text before)) where
     pub app_before : app_at start app ≡ app_that start app (says_by g (Some before))
     app_before = held_app again alone start app g before (before_is_root bank previous has) held
 
@@ -170,9 +170,9 @@ module _ (again : AgainLaw) (alone : AloneLaw) (app g bank : ℕ) (v : Version) 
       inl (omega (arith, low))
 
   module _ (framed : AloneFrameLaw) (files : RootFilesLaw) (keeps : FreeBankLaw) (start mid : Image)
-      (held : IsAlone start (root_place app).first 3 g (root_text before))
+      (held : IsAlone start (root_place app) g (root_text before))
       (spared : Spares (IsOutsideBank app bank) start mid) where
-    pub held_still : IsAlone mid (root_place app).first 3 g (root_text before)
+    pub held_still : IsAlone mid (root_place app) g (root_text before)
     held_still = framed app g (root_text before) start mid (λ f of. spared f (root_outside files f of)) held
 
     pub app_still : app_at mid app ≡ app_at start app
@@ -214,8 +214,8 @@ module _ (again : AgainLaw) (alone : AloneLaw) (app g bank : ℕ) (v : Version) 
 
       module _ (versions : VersionsLaw) (slots : RootSlotsLaw) (aside : RootAloneLaw) (clean : AloneCleanLaw)
           (last : Image)
-          (written : Spares (IsNoSlot (root_place app).first 3) mid last)
-          (now : IsAlone last (root_place app).first 3 (g + 1) (root_text next)) where
+          (written : Spares (IsNoSlot (root_place app)) mid last)
+          (now : IsAlone last (root_place app) (g + 1) (root_text next)) where
         pub app_after : app_at last app ≡ after start
         app_after = written_app again alone versions slots aside clean app (g + 1) next mid last lt next_is_root written
             now
@@ -231,7 +231,7 @@ module _ (again : AgainLaw) (alone : AloneLaw) (app g bank : ℕ) (v : Version) 
 
   module _ (creating : CreatingLaw) (told : Bool) (old mid : Medium)
       (outside : Leaves told (IsOutsideBank app bank) old mid)
-      (held : IsTrue told → IsAlone old.image (root_place app).first 3 g (root_text before)) where
+      (held : IsTrue told → IsAlone old.image (root_place app) g (root_text before)) where
     pub stands_making : IsTrue told → StandsThroughout app (after old.image) old mid
     stands_making tells quiet clean c past = creating app bank old.image (after old.image) c lt le clean
         (free old.image (held tells))
@@ -241,7 +241,7 @@ module _ (again : AgainLaw) (alone : AloneLaw) (app g bank : ℕ) (v : Version) 
         (time : Elapses old mid)
         (later : Elapses mid new) (quiets : Quiet old → Quiet mid) (fit : AllFit v.deployment.storages contents)
         (made : IsTrue told → AreMade mid.image (shapes_from app bank 0 v.deployment.storages) contents)
-        (puts : IsTrue told → Quiet mid → EachCase (PutStops (root_place app).first 3 (g + 1) (root_text next)
+        (puts : IsTrue told → Quiet mid → EachCase (PutStops (root_place app) (g + 1) (root_text next)
         mid.image) mid new) where
       pub stands_written : IsTrue told → StandsThroughout app (after old.image) old new
       stands_written tells quiet clean =
@@ -258,8 +258,8 @@ module _ (again : AgainLaw) (alone : AloneLaw) (app g bank : ℕ) (v : Version) 
 -- ---- files
 
 pub leaves_writing : (told : Bool) (app g : ℕ) (t : List ℕ) (old new : Medium)
-    → (IsTrue told → Spares (IsNoSlot (root_place app).first 3) old.image new.image)
-    → (IsTrue told → Quiet old → EachCase (PutStops (root_place app).first 3 g t old.image) old new)
+    → (IsTrue told → Spares (IsNoSlot (root_place app)) old.image new.image)
+    → (IsTrue told → Quiet old → EachCase (PutStops (root_place app) g t old.image) old new)
     → Leaves told (IsNoRootSlot app) old new
 leaves_writing told app g t old new spared puts = record {
   at_the_end = spared;
@@ -299,10 +299,10 @@ module _ (told : Bool) (app bank built count : ℕ) where
 
 pub on_written : (r : Result Cell Stop) (P : Type 0) (image : Image) (app g : ℕ) (t : List ℕ)
     → IfOk r (IsCellOf (root_place app) g) → IfOk r (λ next. CellAt image next t)
-    → (IsAlone image (root_place app).first 3 g t → P) → OnOk r P
+    → (IsAlone image (root_place app) g t → P) → OnOk r P
 on_written (Err e) P image app g t lies held then = tt
 on_written (Ok next) P image app g t lies held then =
-    then (subst (λ (n : ℕ). IsAlone image (root_place app).first 3 n t) lies.counts
+    then (subst (λ (n : ℕ). IsAlone image (root_place app) n t) lies.counts
     (cell_alone image app next t lies.lies held))
 
 -- a register of the root keeps its text while only files of a bank change

@@ -50,23 +50,23 @@ look_stands still app lt old new idle quiet clean next later c past =
 module _ (app : ℕ) (lt : app < 8) (told : Bool) (seen : Seen) (old mid new : Medium) (same : mid.image ≡ old.image)
     (idle : Quiet old → IsIdle old mid)
     (first : Elapses old mid) (next : Elapses mid new)
-    (puts : IsTrue told → Quiet mid → EachCase (PutStops (root_place app).first 3 seen.generation seen.text mid.image)
+    (puts : IsTrue told → Quiet mid → EachCase (PutStops (root_place app) seen.generation seen.text mid.image)
     mid new) where
   puts_then : IsTrue told → Quiet old → (c : Case) → new.since mid.moment c
-      → PutStops (root_place app).first 3 seen.generation seen.text old.image c
+      → PutStops (root_place app) seen.generation seen.text old.image c
   puts_then tells quiet c past =
-      subst (λ (i : Image). PutStops (root_place app).first 3 seen.generation seen.text i c) same
+      subst (λ (i : Image). PutStops (root_place app) seen.generation seen.text i c) same
       (puts tells (idle quiet).quiet c past)
 
   pub brought_stands : (still : StillAppLaw) (opening : OpeningLaw) → IsTrue told
-      → standing old.image (root_place app).first 3 2 ≡ Some seen
+      → standing old.image (root_place app) 2 ≡ Some seen
       → StandsOnTheWay app old new
   brought_stands still opening tells stands quiet clean after later =
       goes_on (StandsCase app (app_at old.image app) after) first next
       (look_stands still app lt old mid idle quiet clean after later)
       (λ c past. opening app seen old.image after c lt clean stands (puts_then tells quiet c past) later)
 
-  pub brought_leaves : (IsTrue told → Spares (IsNoSlot (root_place app).first 3) mid.image new.image)
+  pub brought_leaves : (IsTrue told → Spares (IsNoSlot (root_place app)) mid.image new.image)
       → Leaves told (IsNoRootSlot app) old new
   brought_leaves elsewhere = record {
     at_the_end = λ tells f no. elsewhere tells f no ∙ ap (λ (i : Image). i f) same;
@@ -113,10 +113,10 @@ not_bad (Installed i) g r says is = absurd cc
 module _ (again : AgainLaw) (alone : AloneLaw) (versions : VersionsLaw) (slots : RootSlotsLaw) (aside : RootAloneLaw)
     (clean : AloneCleanLaw)
     (app g : ℕ) (r : text.Root) (old mid new : Image) (lt : app < 8) (is : IsRoot r) (same : mid ≡ old)
-    (spared : Spares (IsNoSlot (root_place app).first 3) mid new)
-    (held : IsAlone new (root_place app).first 3 g (root_text r)) (says : says_at old app ≡ says_by g (Some r)) where
-  spared_since : Spares (IsNoSlot (root_place app).first 3) old new
-  spared_since = subst (λ (i : Image). Spares (IsNoSlot (root_place app).first 3) i new) same spared
+    (spared : Spares (IsNoSlot (root_place app)) mid new)
+    (held : IsAlone new (root_place app) g (root_text r)) (says : says_at old app ≡ says_by g (Some r)) where
+  spared_since : Spares (IsNoSlot (root_place app)) old new
+  spared_since = subst (λ (i : Image). Spares (IsNoSlot (root_place app)) i new) same spared
 
   pub brought_app : app_at new app ≡ reopened (app_at old app)
   brought_app = written_app again alone versions slots aside clean app g r old new lt is spared_since held

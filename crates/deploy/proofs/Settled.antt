@@ -69,8 +69,8 @@ module _ (image : Image) (app g : ℕ) (cell : Cell) (t : List ℕ) (r : text.Ro
   pub cell_on : CellAt image cell t → CellAt image cell (root_text r)
   cell_on at = subst (λ (u : List ℕ). CellAt image cell u) spelled at
 
-  pub root_alone : CellAt image cell t → IsAlone image (root_place app).first 3 g (root_text r)
-  root_alone at = subst (λ (n : ℕ). IsAlone image (root_place app).first 3 n (root_text r)) is.counts
+  pub root_alone : CellAt image cell t → IsAlone image (root_place app) g (root_text r)
+  root_alone at = subst (λ (n : ℕ). IsAlone image (root_place app) n (root_text r)) is.counts
       (cell_alone image app cell (root_text r) is.lies (cell_on at))
 
 -- a root in memory that says what was read
@@ -93,20 +93,20 @@ module _ (place : Place) (app : ℕ) (same : place ≡ root_place app) where
   pub cell_at : (g : ℕ) (cell : Cell) → IsCellOf place g cell → IsCellOf (root_place app) g cell
   cell_at g cell is = subst (λ (p : Place). IsCellOf p g cell) same is
 
-  pub spares_at : (old new : Image) → Spares (IsNoSlot place.first place.copies) old new
-      → Spares (IsNoSlot (root_place app).first (root_place app).copies) old new
-  spares_at old new spared = subst (λ (p : Place). Spares (IsNoSlot p.first p.copies) old new) same spared
+  pub spares_at : (old new : Image) → Spares (IsNoSlot place) old new
+      → Spares (IsNoSlot (root_place app)) old new
+  spares_at old new spared = subst (λ (p : Place). Spares (IsNoSlot p) old new) same spared
 
   pub puts_at : (g : ℕ) (t u : List ℕ) (old new : Medium) → t ≡ u
-      → EachCase (PutStops place.first place.copies g t old.image) old new
-      → EachCase (PutStops (root_place app).first 3 g u old.image) old new
-  puts_at g t u old new written puts = subst (λ (p : Place). EachCase (PutStops p.first p.copies g u old.image) old new)
+      → EachCase (PutStops place g t old.image) old new
+      → EachCase (PutStops (root_place app) g u old.image) old new
+  puts_at g t u old new written puts = subst (λ (p : Place). EachCase (PutStops p g u old.image) old new)
       same
-      (subst (λ (v : List ℕ). EachCase (PutStops place.first place.copies g v old.image) old new) written puts)
+      (subst (λ (v : List ℕ). EachCase (PutStops place g v old.image) old new) written puts)
 
   pub formats_at : (t u : List ℕ) (old new : Medium) → t ≡ u
-      → EachCase (FormatStops place.first place.copies 1 t old.image) old new
-      → EachCase (FormatStops (root_place app).first (root_place app).copies 1 u old.image) old new
+      → EachCase (FormatStops place 1 t old.image) old new
+      → EachCase (FormatStops (root_place app) 1 u old.image) old new
   formats_at t u old new written formats = subst (λ (p : Place).
-      EachCase (FormatStops p.first p.copies 1 u old.image) old new) same
-      (subst (λ (v : List ℕ). EachCase (FormatStops place.first place.copies 1 v old.image) old new) written formats)
+      EachCase (FormatStops p 1 u old.image) old new) same
+      (subst (λ (v : List ℕ). EachCase (FormatStops place 1 v old.image) old new) written formats)

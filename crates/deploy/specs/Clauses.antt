@@ -14,7 +14,7 @@ pub record Leaves (told : Bool) (Files : ℕ → Type 0) (old new : Medium) : Ty
 
 -- the file is none of the six slots of the root
 abbrev pub IsNoRootSlot : ℕ → ℕ → Type 0
-IsNoRootSlot app file = IsNoSlot (root_place app).first 3 file
+IsNoRootSlot app file = IsNoSlot (root_place app) file
 
 -- the file is none that an install or an update in this bank writes: no slot of the root, and none of the bank
 abbrev pub IsBesideNext : (app bank : ℕ) → ℕ → Type 0

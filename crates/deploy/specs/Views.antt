@@ -7,8 +7,8 @@ use Rattle.deploy.specs.declared.viewing.RootView.TheVariants.{Bad, Absent, Inst
 use Rattle.deploy_laws.specs.Places.{Named}
 use Rattle.deploy_laws.specs.Apps.{ArePlaced, IsPlaced, Says, nothing, absent, installed, app_at, root_sole}
 
--- nothing counts; or nothing is installed; or these versions; and which copies lack the root, and that no other text is
--- held
+-- nothing counts; or nothing is installed; or these versions; and which copies lack the root, and whether no other text
+-- is held
 pub data RootSeen : Type 0 where
   bad : RootSeen
   no_version : (lacking : List ℕ) (sole : Bool) → RootSeen

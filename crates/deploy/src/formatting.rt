@@ -65,10 +65,10 @@ pub(crate) fn format_root<D: Disk>(alloc: Global, disk: &mut D, app: u32) -> Res
     ensures cause { IsErrOf result Stop.Device → Rose (D.medium disk.old).faults (D.medium disk.new).faults }
     ensures passes { OnOk result ((D.medium disk.new).faults ≡ (D.medium disk.old).faults) }
     ensures elsewhere { IsTrue D.told
-        → Spares (IsNoSlot (root_place app).first (root_place app).copies) (D.medium disk.old).image
+        → Spares (IsNoSlot (root_place app)) (D.medium disk.old).image
         (D.medium disk.new).image }
     ensures any_moment { IsTrue D.told → Quiet (D.medium disk.old)
-        → EachCase (FormatStops (root_place app).first (root_place app).copies 1 (root_text absent)
+        → EachCase (FormatStops (root_place app) 1 (root_text absent)
         (D.medium disk.old).image)
         (D.medium disk.old) (D.medium disk.new) }
     ensures time { Elapses (D.medium disk.old) (D.medium disk.new) }

@@ -3,6 +3,9 @@
 //! What is installed stands in the application's root, a register of three copies ([`Root`]). A version lies in one of
 //! two banks of storages; the next one is made in the other bank, and only then is the root written, once. So a stop at
 //! any moment leaves the application as it was or as the call leads to.
+//!
+//! Limits: eight applications; of each a manifest of at most 65,536 bytes with at most sixteen storages, and one update
+//! at a time; one caller at a time.
 #![tactic(auto)]
 
 mod errors;

@@ -59,7 +59,7 @@ pub fn open_root<D: Disk>(alloc: Global, disk: &mut D, app: u32) -> Result<Root,
 
     // Where every copy holds one text and no other is held, nothing is written, however it ends.
     ensures already { IsTrue D.told → (generation : ℕ) (text : List ℕ)
-        → IsAlone (D.medium disk.old).image (root_place app).first 3 generation text
+        → IsAlone (D.medium disk.old).image (root_place app) generation text
         → ((D.medium disk.new).image ≡ (D.medium disk.old).image)
         × ((D.medium disk.new).written ≡ (D.medium disk.old).written) }
 
@@ -93,14 +93,14 @@ fn bring_to<D: Disk>(
     requires app { app < 8 }
     requires spelled { IsSpelled standing }
     requires seen { IsTrue D.told
-        → IsSeenOn (D.medium disk.old).image (root_place app).first 3 standing.seen }
+        → IsSeenOn (D.medium disk.old).image (root_place app) standing.seen }
     requires slots { IsTrue D.told
-        → IsSlotsOf (D.medium disk.old).image (root_place app).first 3 standing.slots }
+        → IsSlotsOf (D.medium disk.old).image (root_place app) standing.slots }
 
     ensures root { IfOk result (RootAt D.told (D.medium disk.new).image app) }
     ensures says { IfOk result (λ root. root_says root ≡ says_by standing.seen.generation
         (Some (root_said standing.says))) }
-    ensures alone { IsTrue D.told → OnOk result (IsAlone (D.medium disk.new).image (root_place app).first 3
+    ensures alone { IsTrue D.told → OnOk result (IsAlone (D.medium disk.new).image (root_place app)
         standing.seen.generation (root_text (root_said standing.says))) }
     ensures quiet { OnOk result (Quiet (D.medium disk.new)) }
     ensures memory { IsErrOf result Stop.OutOfMemory → disk.new ≡ disk.old }
@@ -110,13 +110,13 @@ fn bring_to<D: Disk>(
     // Only slots of the root change, and none where every copy holds the text alone. A stop at any moment leaves every
     // copy what it held or every copy the text.
     ensures already { IsTrue D.told
-        → IsAlone (D.medium disk.old).image (root_place app).first 3 standing.seen.generation standing.seen.text
+        → IsAlone (D.medium disk.old).image (root_place app) standing.seen.generation standing.seen.text
         → ((D.medium disk.new).image ≡ (D.medium disk.old).image)
         × ((D.medium disk.new).written ≡ (D.medium disk.old).written) }
     ensures elsewhere { IsTrue D.told
-        → Spares (IsNoSlot (root_place app).first 3) (D.medium disk.old).image (D.medium disk.new).image }
+        → Spares (IsNoSlot (root_place app)) (D.medium disk.old).image (D.medium disk.new).image }
     ensures any_moment { IsTrue D.told → Quiet (D.medium disk.old)
-        → EachCase (PutStops (root_place app).first 3 standing.seen.generation standing.seen.text
+        → EachCase (PutStops (root_place app) standing.seen.generation standing.seen.text
         (D.medium disk.old).image)
         (D.medium disk.old) (D.medium disk.new) }
     ensures time { Elapses (D.medium disk.old) (D.medium disk.new) }

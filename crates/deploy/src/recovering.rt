@@ -73,7 +73,7 @@ pub fn recover_storage<D: Disk>(
     ensures fed { IsErrOf result Stop.OutOfMemory → (D.medium disk.new).faults ≡ (D.medium disk.old).faults }
 
     // Only files of the storage change, and at any moment it is as it was or as it is made anew.
-    ensures outside { Leaves D.told (IsOutside shape.now.place.first shape.now.place.copies) (D.medium disk.old)
+    ensures outside { Leaves D.told (IsOutside shape.now.place) (D.medium disk.old)
         (D.medium disk.new) }
     ensures any_moment { IsTrue D.told → KeptThroughout shape.now
         (after_state (store_at (D.medium disk.old).image shape.now)
@@ -130,7 +130,7 @@ pub fn reset_storage<D: Disk>(
     ensures fed { IsErrOf result Stop.OutOfMemory → (D.medium disk.new).faults ≡ (D.medium disk.old).faults }
 
     // Only files of the storage change, and at any moment it is as it was or as it is made anew.
-    ensures outside { Leaves D.told (IsOutside shape.now.place.first shape.now.place.copies) (D.medium disk.old)
+    ensures outside { Leaves D.told (IsOutside shape.now.place) (D.medium disk.old)
         (D.medium disk.new) }
     ensures any_moment { IsTrue D.told → KeptThroughout shape.now
         (after_state (store_at (D.medium disk.old).image shape.now)
@@ -184,7 +184,7 @@ pub fn replace_contents<D: Disk>(
     ensures fed { IsErrOf result Stop.OutOfMemory → (D.medium disk.new).faults ≡ (D.medium disk.old).faults }
 
     // Only files of the storage change, and at any moment it is as it was or as it is made anew.
-    ensures outside { Leaves D.told (IsOutside shape.now.place.first shape.now.place.copies) (D.medium disk.old)
+    ensures outside { Leaves D.told (IsOutside shape.now.place) (D.medium disk.old)
         (D.medium disk.new) }
     ensures any_moment { IsTrue D.told → KeptThroughout shape.now
         (after_state (store_at (D.medium disk.old).image shape.now)
@@ -230,7 +230,7 @@ fn rebuild_over<D: Disk>(
     ensures passes { OnOk result ((D.medium disk.new).faults ≡ (D.medium disk.old).faults) }
     ensures fed { IsErrOf result Stop.OutOfMemory → (D.medium disk.new).faults ≡ (D.medium disk.old).faults }
 
-    ensures outside { Leaves D.told (IsOutside shape.now.place.first shape.now.place.copies) (D.medium disk.old)
+    ensures outside { Leaves D.told (IsOutside shape.now.place) (D.medium disk.old)
         (D.medium disk.new) }
     ensures any_moment { IsTrue D.told → KeptThroughout shape.now
         (after_state (store_at (D.medium disk.old).image shape.now)

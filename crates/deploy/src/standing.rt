@@ -36,9 +36,9 @@ pub(crate) fn find_standing<D: Disk>(
     app: u32,
 ) -> Result<Option<Standing>, Stop>
     requires { app < 8 }
-    ensures among { IsTrue D.told → IfOk result (IsAmong (held (D.medium disk.old).image (root_place app).first 3)) }
+    ensures among { IsTrue D.told → IfOk result (IsAmong (held (D.medium disk.old).image (root_place app))) }
     ensures slots { IsTrue D.told → IfOk result (λ found. IfSome found (λ s.
-        IsSlotsOf (D.medium disk.old).image (root_place app).first 3 s.slots)) }
+        IsSlotsOf (D.medium disk.old).image (root_place app) s.slots)) }
     ensures spelled { IfOk result IfSpelled }
     ensures quiet { OnOk result (Quiet (D.medium disk.new)) }
     ensures image { (D.medium disk.new).image ≡ (D.medium disk.old).image }

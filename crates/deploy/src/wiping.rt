@@ -190,10 +190,10 @@ fn write_none<D: Disk>(alloc: Global, disk: &mut D, cell: Cell) -> Result<Cell, 
 
     // Only slots of the root change, and a stop at any moment leaves the old text or the new one.
     ensures elsewhere { IsTrue D.told
-        → Spares (IsNoSlot (place_of cell).first (place_of cell).copies) (D.medium disk.old).image
+        → Spares (IsNoSlot (place_of cell)) (D.medium disk.old).image
         (D.medium disk.new).image }
     ensures any_moment { IsTrue D.told → Quiet (D.medium disk.old)
-        → EachCase (PutStops (place_of cell).first (place_of cell).copies (generation_of cell + 1) (root_text absent)
+        → EachCase (PutStops (place_of cell) (generation_of cell + 1) (root_text absent)
         (D.medium disk.old).image)
         (D.medium disk.old) (D.medium disk.new) }
     ensures time { Elapses (D.medium disk.old) (D.medium disk.new) }

@@ -69,10 +69,10 @@ pub(crate) fn write_version<D: Disk>(
 
     // Only slots of the root change, and a stop at any moment leaves the old text or the new one.
     ensures elsewhere { IsTrue D.told
-        → Spares (IsNoSlot (place_of cell).first (place_of cell).copies) (D.medium disk.old).image
+        → Spares (IsNoSlot (place_of cell)) (D.medium disk.old).image
         (D.medium disk.new).image }
     ensures any_moment { IsTrue D.told → Quiet (D.medium disk.old)
-        → EachCase (PutStops (place_of cell).first (place_of cell).copies (generation_of cell + 1)
+        → EachCase (PutStops (place_of cell) (generation_of cell + 1)
         (root_text (installed bank (version_said active.now) (option_map (λ v. version_said v.now) previous.entry)))
         (D.medium disk.old).image)
         (D.medium disk.old) (D.medium disk.new) }

@@ -4,21 +4,21 @@ use Rattle.std.specs.List.{Contains}
 use Rattle.disk_model.specs.Image.{Image}
 use Rattle.disk_model.specs.Damage.{AtLeast}
 use Rattle.guarded_cell.specs.Register.{IsAlone}
-use Rattle.guarded_cell.specs.StopLaws.{at_least_map, alone_only}
+use Rattle.guarded_cell.specs.lemmas.StopLaws.{at_least_map, alone_only}
 use Rattle.root_text.specs.RootText.{Root, root_of}
 use Rattle.deploy_laws.specs.Apps.{Says, nothing, App, says_by, says_at, app_at, shapes_named, IsCleanApp, AreClean}
 use Rattle.deploy_laws.specs.Stands.{Stands, IsRootSpared}
-use Rattle.deploy_laws.proofs.Files.{first_of}
 use Rattle.deploy_laws.proofs.Said.{alone_says, is_nothing}
+use Rattle.deploy_laws.specs.Places.{root_place}
 
-pub alone_clean : (app g : ℕ) (text : List ℕ) (root : Root) (image : Image) → IsAlone image (first_of app) 3 g text
+pub alone_clean : (app g : ℕ) (text : List ℕ) (root : Root) (image : Image) → IsAlone image (root_place app) g text
     → root_of text ≡ Some root
     → AreClean image (shapes_named app (says_by g (Some root))) → IsCleanApp app image
 alone_clean app g text root image alone read storages = record {
   root = record {
-    one_each = λ a b h s u lta ltb va vb. (alone_only image (first_of app) 3 g text alone a lta h s va).1
-        ∙ sym (alone_only image (first_of app) 3 g text alone b ltb h u vb).1;
-    root = λ copy h t lt v. (root, ap root_of (alone_only image (first_of app) 3 g text alone copy lt h t v).1 ∙ read);
+    one_each = λ a b h s u lta ltb va vb. (alone_only image (root_place app) g text alone a lta h s va).1
+        ∙ sym (alone_only image (root_place app) g text alone b ltb h u vb).1;
+    root = λ copy h t lt v. (root, ap root_of (alone_only image (root_place app) g text alone copy lt h t v).1 ∙ read);
   };
   storages = subst (λ (s : Says). AreClean image (shapes_named app s))
       (sym (alone_says image app g text alone ∙ ap (says_by g) read)) storages;

@@ -13,11 +13,11 @@ use Rattle.element_state.specs.Clean.{IsPiece, in_slot}
 use Rattle.element_laws.specs.Phases.{IsOfPlace}
 
 pub slots_sound : (place : Place) (c : Case) → IsSoundFor (IsPiece place) c
-    → IsSoundFor (IsSlotPiece place.first place.copies) c
+    → IsSoundFor (IsSlotPiece place) c
 slots_sound place c sound x p = sound (in_slot x) p
 
 pub slots_decay : (place : Place) (damaged : List ℕ) (old new : Image) → DecaysFor (IsPiece place) damaged old new
-    → DecaysFor (IsSlotPiece place.first place.copies) damaged old new
+    → DecaysFor (IsSlotPiece place) damaged old new
 slots_decay place damaged old new d = record { others = d.others; pieces = λ x p. d.pieces (in_slot x) p }
 
 own_small : (g : ℕ) → own g < 2
@@ -25,30 +25,30 @@ own_small g = omega arith
 
 module _ (place : Place) (damaged : List ℕ) (left image : Image) (d : DecaysFor (IsPiece place) damaged left image)
   where
-    pub held_back : (copy g : ℕ) (t : List ℕ) → copy < place.copies → Holds image place.first copy g t
-        → Holds left place.first copy g t
+    pub held_back : (copy g : ℕ) (t : List ℕ) → copy < place.copies → Holds image place copy g t
+        → Holds left place copy g t
     held_back copy g t lt v =
         let piece : SlotText = record { copy = copy; parity = own g; generation = g; text = t } in
-        let there : IsSlotPiece place.first place.copies image piece =
+        let there : IsSlotPiece place image piece =
         record { copy = lt; parity = own_small g; verifies = v } in
-        let here : IsSlotPiece place.first place.copies left piece = d.pieces (in_slot piece) there in
+        let here : IsSlotPiece place left piece = d.pieces (in_slot piece) there in
         here.verifies
 
-    pub held_on : (copy g : ℕ) (t : List ℕ) → IsUndamaged damaged place.first copy → Holds left place.first copy g t
-        → Holds image place.first copy g t
+    pub held_on : (copy g : ℕ) (t : List ℕ) → IsUndamaged damaged place copy → Holds left place copy g t
+        → Holds image place copy g t
     held_on copy g t spared v =
         let small = own_small g in
         subst (λ (bytes : List ℕ). VerifiesAs bytes g t) (sym
-        (d.others (slot place.first copy (own g)) (spared (own g) (omega (arith, small))))) v
+        (d.others (slot place copy (own g)) (spared (own g) (omega (arith, small))))) v
 
     -- where nobody touched the place
     module _ (start : Image) (c : Case) (settled : IsSettledOn (IsOfPlace place) start c) (is : c.left ≡ left) where
-      same_slot : (copy g : ℕ) → copy < place.copies → left (slot place.first copy (own g))
-          ≡ start (slot place.first copy (own g))
+      same_slot : (copy g : ℕ) → copy < place.copies → left (slot place copy (own g))
+          ≡ start (slot place copy (own g))
       same_slot copy g lt =
           let small = own_small g in
-          subst (λ (i : Image). i (slot place.first copy (own g)) ≡ start (slot place.first copy (own g))) is
-          (settled.left (slot place.first copy (own g)) (record {
+          subst (λ (i : Image). i (slot place copy (own g)) ≡ start (slot place copy (own g))) is
+          (settled.left (slot place copy (own g)) (record {
             copy = copy;
             kind = own g;
             inside = lt;
@@ -57,12 +57,12 @@ module _ (place : Place) (damaged : List ℕ) (left image : Image) (d : DecaysFo
             is = omega arith;
           }))
 
-      pub untouched_back : (copy g : ℕ) (t : List ℕ) → copy < place.copies → Holds image place.first copy g t
-          → Holds start place.first copy g t
+      pub untouched_back : (copy g : ℕ) (t : List ℕ) → copy < place.copies → Holds image place copy g t
+          → Holds start place copy g t
       untouched_back copy g t lt v = subst (λ (bytes : List ℕ). VerifiesAs bytes g t) (same_slot copy g lt)
           (held_back copy g t lt v)
 
-      pub untouched_on : (copy g : ℕ) (t : List ℕ) → copy < place.copies → IsUndamaged damaged place.first copy
-          → Holds start place.first copy g t → Holds image place.first copy g t
+      pub untouched_on : (copy g : ℕ) (t : List ℕ) → copy < place.copies → IsUndamaged damaged place copy
+          → Holds start place copy g t → Holds image place copy g t
       untouched_on copy g t lt spared v = held_on copy g t spared
           (subst (λ (bytes : List ℕ). VerifiesAs bytes g t) (sym (same_slot copy g lt)) v)

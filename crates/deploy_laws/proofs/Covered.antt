@@ -5,14 +5,13 @@ use Rattle.disk_model.specs.Image.{Image}
 use Rattle.disk_model.specs.Case.{Case}
 use Rattle.disk_model.specs.Damage.{IsSoundFor, DecaysFor}
 use Rattle.guarded_cell.specs.Register.{Holds, own}
-use Rattle.guarded_cell.specs.StopLaws.{at_least_one}
+use Rattle.guarded_cell.specs.lemmas.StopLaws.{at_least_one}
 use Rattle.element_state.specs.declared.shapes.Shape.{Shape}
 use Rattle.element_state.specs.Clean.{IsPiece, IsSound, Piece, in_slot}
 use Rattle.root_text.specs.RootText.{root_of}
 use Rattle.deploy_laws.specs.Places.{root_place}
 use Rattle.deploy_laws.specs.Apps.{Says, nothing, says_by, says_at, shapes_named}
 use Rattle.deploy_laws.specs.Pieces.{IsPlaceOn, of_root, of_storage, IsSoundApp, DecaysApp}
-use Rattle.deploy_laws.proofs.Files.{first_of}
 use Rattle.deploy_laws.proofs.Said.{says_cases}
 
 -- sound places, and places decayed
@@ -39,7 +38,7 @@ module _ (app : ℕ) (c : Case) (sound : IsSoundApp app c) (damaged : List ℕ) 
   pub root_decays : DecaysFor (IsPiece (root_place app)) damaged c.left image
   root_decays = decays (root_place app) (of_root refl)
 
-  module _ (copy g : ℕ) (t : List ℕ) (lt : copy < 3) (v : Holds image (first_of app) copy g t) where
+  module _ (copy g : ℕ) (t : List ℕ) (lt : copy < 3) (v : Holds image (root_place app) copy g t) where
     abbrev piece : Piece
     piece = in_slot (record { copy = copy; parity = own g; generation = g; text = t })
 
@@ -84,7 +83,7 @@ module _ (app : ℕ) (c : Case) (sound : IsSoundApp app c) (damaged : List ℕ) 
   named_covers says is = ⊎_elim
       (λ none. subst (λ (s : Says). AreCovered c damaged image (shapes_named app s)) (sym none.0 ∙ is) none_covers)
       (λ some. let (h, t, it) = some in
-      let (copy, lt, v) = at_least_one (λ copy. Holds image (first_of app) copy h t) 3 2 (omega arith) it.held in
+      let (copy, lt, v) = at_least_one (λ copy. Holds image (root_place app) copy h t) 3 2 (omega arith) it.held in
       subst (λ (s : Says). AreCovered c damaged image (shapes_named app s)) (sym it.says ∙ is)
       (text_covers copy h t lt v))
       (says_cases image app)
@@ -99,7 +98,7 @@ module _ (app : ℕ) (c : Case) (sound : IsSoundApp app c) (damaged : List ℕ) 
   each_covered shape at = ⊎_elim
       (λ none. absurd (no_shape shape (subst (λ (s : Says). Contains (shapes_named app s) shape) none.0 at)))
       (λ some. let (h, t, it) = some in
-      let (copy, lt, v) = at_least_one (λ copy. Holds image (first_of app) copy h t) 3 2 (omega arith) it.held in
+      let (copy, lt, v) = at_least_one (λ copy. Holds image (root_place app) copy h t) 3 2 (omega arith) it.held in
       let there = subst (λ (s : Says). Contains (shapes_named app s) shape) it.says at in
       (sound shape.place (covered copy h t lt v shape there), decays shape.place (was_named copy h t lt v shape there)))
       (says_cases image app)

@@ -16,9 +16,6 @@ use Rattle.deploy_laws.specs.Places.{Named, root_place, first_file, storage_file
 use Rattle.deploy_laws.specs.Places.{IsFileOf, IsNoFileOf, IsNoRootFile, IsBeside, IsOutsideBank}
 use Rattle.deploy_laws.specs.Apps.{Says, nothing, absent, installed, shapes_named, IsPlaced, AreVersions, IsFree}
 
-abbrev pub first_of : ℕ → ℕ
-first_of app = (root_place app).first
-
 -- ---- lists of storages
 
 -- at least one copy must agree
@@ -49,7 +46,7 @@ pub root_beside : (app bank number f : ℕ) → app < 8 → IsOfPlace (root_plac
 root_beside app bank number f lt of = let files = root_files app f lt of in let below =
     files.1 in inl (omega (arith, below))
 
-pub root_no_slot : (app f : ℕ) → app < 8 → IsNoRootFile app f → IsNoSlot (first_of app) 3 f
+pub root_no_slot : (app f : ℕ) → app < 8 → IsNoRootFile app f → IsNoSlot (root_place app) f
 root_no_slot app f lt aside copy parity ltc ltp e = ⊎_elim (λ below. absurd (omega (arith, lt, below, ltc, ltp, e)))
     (λ above. absurd (omega (arith, lt, above, ltc, ltp, e))) aside
 
@@ -92,7 +89,7 @@ module _ (app bank number : ℕ) (s : StorageData) (lt : app < 8) (ltb : bank �
       (cases_lt bank other_bank))
       (cases_lt other_bank bank)
 
-  pub storage_no_slot : (f : ℕ) → IsOfPlace (shape_of app bank number s).place f → IsNoSlot (first_of app) 3 f
+  pub storage_no_slot : (f : ℕ) → IsOfPlace (shape_of app bank number s).place f → IsNoSlot (root_place app) f
   storage_no_slot f of copy parity ltc ltp e = let files = storage_files f of in let low =
       files.0 in absurd (omega (arith, lt, low, ltc, ltp, e))
 
@@ -100,7 +97,7 @@ module _ (app bank number : ℕ) (s : StorageData) (lt : app < 8) (ltb : bank �
   storage_no_root f of = let low = (storage_files f of).0 in inr (omega (arith, low))
 
   pub beside_outside : (f : ℕ) → IsBeside app bank number f
-      → IsOutside (shape_of app bank number s).place.first (shape_of app bank number s).place.copies f
+      → IsOutside (shape_of app bank number s).place f
   beside_outside f beside copy k ltc ltk e =
       let files = storage_files f (record { copy = copy; kind = k; inside = ltc; small = ltk; is = e }) in
       let low = files.0 in
@@ -180,7 +177,7 @@ module _ (app : ℕ) (lt : app < 8) (says : Says) (versions : AreVersions says) 
       (λ bank number s ltb ltn keeps f of. spared f (storage_own app bank number s lt ltb ltn f of)) says versions
 
   -- the same of all files but the slots of the root
-  pub beside_untouched : (start : Image) (c : Case) → IsSettledOn (IsNoSlot (first_of app) 3) start c
+  pub beside_untouched : (start : Image) (c : Case) → IsSettledOn (IsNoSlot (root_place app)) start c
       → AreUntouched start c (shapes_named app says)
   beside_untouched start c settled = all_named app (λ shape. IsSettledOn (IsOfPlace shape.place) start c)
       (λ bank number s ltb ltn keeps. settled_less (λ f of. storage_no_slot app bank number s lt ltb ltn f of) settled)

@@ -5,6 +5,7 @@ use Rattle.std.specs.Prelude.{map}
 use Rattle.disk_model.specs.Image.{Image}
 use Rattle.disk_model.specs.Place.{slot}
 use Rattle.disk_model.specs.Frame.{Spares}
+use Rattle.disk_model.specs.declared.place.Place.{Place}
 use Rattle.hash_guard.specs.SealedText.{VerifiesAs, verified}
 use Rattle.guarded_cell.specs.declared.looking.Seen.{Seen}
 use Rattle.guarded_cell.specs.Register.{Holds, IsAlone, IsBlank, own, other}
@@ -17,13 +18,13 @@ use Rattle.element_laws.specs.Phases.{IsOfPlace}
 use Rattle.deploy_laws.specs.Places.{root_place, IsFileOf, IsOutsideBank}
 use Rattle.deploy_laws.specs.Apps.{Says, nothing, absent, installed, App, says_in, says_at, app_at, lacking_in}
 use Rattle.deploy_laws.specs.Apps.{shapes_named, AreVersions, IsFree, IsCleanRoot, IsCleanApp, AreClean}
-use Rattle.deploy_laws.proofs.Files.{first_of, AreSpared, root_own, root_outside, own_spared, apart_spared}
+use Rattle.deploy_laws.proofs.Files.{AreSpared, root_own, root_outside, own_spared, apart_spared}
 use Rattle.deploy_laws.proofs.Said.{says_is}
 
 -- of guarded_cell
 abbrev pub StandingLaw : Type 0
-StandingLaw = (first copies m : ℕ) (old new : Image) → SameSlots first copies old new
-    → standing new first copies m ≡ standing old first copies m
+StandingLaw = (place : Place) (m : ℕ) (old new : Image) → SameSlots place old new
+    → standing new place m ≡ standing old place m
 
 -- ---- storages of which no file changes
 
@@ -57,21 +58,21 @@ other_small : (g : ℕ) → other g < 2
 other_small g = omega arith
 
 module _ (app : ℕ) (old new : Image) (spared : Spares (IsOfPlace (root_place app)) old new) where
-  same_slot : SameSlots (first_of app) 3 old new
-  same_slot copy parity lt ltp = spared (slot (first_of app) copy parity)
+  same_slot : SameSlots (root_place app) old new
+  same_slot copy parity lt ltp = spared (slot (root_place app) copy parity)
       (record { copy = copy; kind = parity; inside = omega (arith, lt); small = omega (arith, ltp); is = omega arith })
 
-  pub still_alone : (g : ℕ) (text : List ℕ) → IsAlone old (first_of app) 3 g text → IsAlone new (first_of app) 3 g text
+  pub still_alone : (g : ℕ) (text : List ℕ) → IsAlone old (root_place app) g text → IsAlone new (root_place app) g text
   still_alone g text alone = record {
     held = λ copy lt. subst (λ (bytes : List ℕ). VerifiesAs bytes g text)
         (sym (same_slot copy (own g) lt (own_small g))) (alone.held copy lt);
     blank = λ copy lt. subst IsBlank (sym (same_slot copy (other g) lt (other_small g))) (alone.blank copy lt);
   }
 
-  lacking_same : (g : ℕ) (t : List ℕ) → lacking new (first_of app) 3 g t ≡ lacking old (first_of app) 3 g t
+  lacking_same : (g : ℕ) (t : List ℕ) → lacking new (root_place app) g t ≡ lacking old (root_place app) g t
   unfolding lacking
-  lacking_same g t = same_copies (λ copy. not (holds new (first_of app) copy (g, t)))
-      (λ copy. not (holds old (first_of app) copy (g, t))) 3
+  lacking_same g t = same_copies (λ copy. not (holds new (root_place app) copy (g, t)))
+      (λ copy. not (holds old (root_place app) copy (g, t))) 3
       (λ copy lt. ap (λ (bytes : List ℕ). not (is_text (g, t) (verified bytes)))
       (same_slot copy (own g) lt (own_small g)))
 
@@ -82,8 +83,8 @@ module _ (app : ℕ) (old new : Image) (spared : Spares (IsOfPlace (root_place a
   lacking_in_same (installed g active previous) None = refl
   lacking_in_same (installed g active previous) (Some seen) = lacking_same seen.generation seen.text
 
-  was_held : (copy g : ℕ) (t : List ℕ) → copy < 3 → Holds new (first_of app) copy g t
-      → Holds old (first_of app) copy g t
+  was_held : (copy g : ℕ) (t : List ℕ) → copy < 3 → Holds new (root_place app) copy g t
+      → Holds old (root_place app) copy g t
   was_held copy g t lt v = subst (λ (bytes : List ℕ). VerifiesAs bytes g t) (same_slot copy (own g) lt (own_small g)) v
 
   pub root_still_clean : IsCleanRoot app old → IsCleanRoot app new
@@ -94,8 +95,8 @@ module _ (app : ℕ) (old new : Image) (spared : Spares (IsOfPlace (root_place a
   }
 
   module _ (standing_law : StandingLaw) where
-    found_same : standing new (first_of app) 3 2 ≡ standing old (first_of app) 3 2
-    found_same = standing_law (first_of app) 3 2 old new same_slot
+    found_same : standing new (root_place app) 2 ≡ standing old (root_place app) 2
+    found_same = standing_law (root_place app) 2 old new same_slot
 
     pub says_frame : says_at new app ≡ says_at old app
     says_frame = says_is new app ∙ ap says_in found_same ∙ sym (says_is old app)
@@ -110,7 +111,7 @@ module _ (app : ℕ) (old new : Image) (spared : Spares (IsOfPlace (root_place a
     app_with states same =
         ap (λ (s : Says). record {
           says = s;
-          lacking = lacking_in new app s (standing new (first_of app) 3 2);
+          lacking = lacking_in new app s (standing new (root_place app) 2);
           states =
               map (store_at new) (shapes_named app s);
         }) says_frame
@@ -127,11 +128,11 @@ module _ (app : ℕ) (old new : Image) (spared : Spares (IsOfPlace (root_place a
           states =
               map (store_at new) (shapes_named app (says_at old app));
         })
-        (lacking_in_same (says_at old app) (standing old (first_of app) 3 2))
+        (lacking_in_same (says_at old app) (standing old (root_place app) 2))
         ∙ ap (λ (ss : List State). record {
           says = says_at old app;
           lacking =
-              lacking_in old app (says_at old app) (standing old (first_of app) 3 2);
+              lacking_in old app (says_at old app) (standing old (root_place app) 2);
           states = ss;
         }) same
 

@@ -44,4 +44,4 @@ module _ (keeps : KeepsLaw) where
 
     pub versions : (image : Image) (app : ℕ) → AreVersions (says_at image app)
     unfolding says_at
-    versions image app = versions_in (standing image (root_place app).first 3 2)
+    versions image app = versions_in (standing image (root_place app) 2)

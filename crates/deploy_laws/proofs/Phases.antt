@@ -10,11 +10,12 @@ use Rattle.root_text.specs.RootText as text
 use Rattle.deploy_laws.specs.Apps.{App, says_by, app_at, shapes_named, generation_of, AreVersions, AreOn, IsCleanApp}
 use Rattle.deploy_laws.specs.Stands.{StandsCase}
 use Rattle.deploy_laws.proofs.Covered.{root_sound, root_decays, named_covers}
-use Rattle.deploy_laws.proofs.Files.{first_of, all_fit, beside_untouched}
+use Rattle.deploy_laws.proofs.Files.{all_fit, beside_untouched}
 use Rattle.deploy_laws.proofs.Kept.{stay_as}
 use Rattle.deploy_laws.proofs.Said.{alone_says, says_some}
 use Rattle.deploy_laws.proofs.Standing.{IsBetween, stands_putting}
 use Rattle.deploy_laws.proofs.Untouched.{app_says}
+use Rattle.deploy_laws.specs.Places.{root_place}
 
 -- of every text
 abbrev pub SaidLaw : Type 0
@@ -32,7 +33,7 @@ own_on app start clean = record { clean = clean.storages; states_are = refl }
 
 module _ (said : SaidLaw) (app g : ℕ) (lt : app < 8) (t next : List ℕ) (root : Root) (start : Image) (after : App)
     (clean : IsCleanApp app start)
-    (alone : IsAlone start (first_of app) 3 g t) (is_next : root_of next ≡ Some root)
+    (alone : IsAlone start (root_place app) g t) (is_next : root_of next ≡ Some root)
     (says_next : after.says ≡ says_by (g + 1) (Some root)) where
   abbrev before : App
   before = app_at start app
@@ -68,7 +69,7 @@ module _ (said : SaidLaw) (app g : ℕ) (lt : app < 8) (t next : List ℕ) (root
   }
 
   pub writing : UntouchedLaw → AreOn start (shapes_named app after.says) after.states → (c : Case)
-      → PutStops (first_of app) 3 (g + 1) next start c → StandsCase app before after c
+      → PutStops (root_place app) (g + 1) next start c → StandsCase app before after c
   writing untouched on_next c puts sound damaged image decays =
       let versions : AreVersions before.says = subst AreVersions (sym says_before) (said g t) in
       let versions_next : AreVersions after.says = subst AreVersions (sym next_says) (said (g + 1) next) in

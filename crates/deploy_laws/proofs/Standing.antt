@@ -5,7 +5,7 @@ use Rattle.disk_model.specs.Case.{Case}
 use Rattle.disk_model.specs.Damage.{IsUndamaged, AtLeast, IsSoundFor, DecaysFor}
 use Rattle.guarded_cell.specs.Register.{Holds, IsAlone}
 use Rattle.guarded_cell.specs.Stops.{PutStops, IsOldOrNew}
-use Rattle.guarded_cell.specs.StopLaws.{at_least_map, at_least_one, alone_only, write_stands}
+use Rattle.guarded_cell.specs.lemmas.StopLaws.{at_least_map, at_least_one, alone_only, write_stands}
 use Rattle.element_state.specs.Clean.{IsPiece}
 use Rattle.root_text.specs.RootText.{Root, root_of}
 use Rattle.deploy_laws.specs.Places.{root_place}
@@ -13,12 +13,11 @@ use Rattle.deploy_laws.specs.Apps.{Says, nothing, App, says_by, says_at, shapes_
 use Rattle.deploy_laws.specs.Stands.{Stands, IsRootSpared}
 use Rattle.deploy_laws.proofs.Copies.{slots_sound, slots_decay}
 use Rattle.deploy_laws.proofs.Said.{says_some, says_cases}
-use Rattle.deploy_laws.proofs.Files.{first_of}
 use Rattle.deploy_laws.proofs.Kept.{StayTo}
 
 -- the root is in use with a text, and the call in progress leads to another one
 pub record IsLeaving (app g : ℕ) (text : List ℕ) (before after : App) (start : Image) : Type 0 where
-  pub alone : IsAlone start (first_of app) 3 g text
+  pub alone : IsAlone start (root_place app) g text
   pub is_root : (root : Root) × (root_of text ≡ Some root)
   pub says : before.says ≡ says_by g (root_of text)
   pub something_next : ¬ (after.says ≡ nothing)
@@ -79,22 +78,22 @@ module _ (app g : ℕ) (text : List ℕ) (before after : App) (start : Image) (i
 
 module _ (app g : ℕ) (text next : List ℕ) (before after : App) (now : Image)
     (is : IsBetween app g text next before after now) (damaged : List ℕ) (image : Image) (c : Case)
-    (puts : PutStops (first_of app) 3 (g + 1) next now c) (sound : IsSoundFor (IsPiece (root_place app)) c)
+    (puts : PutStops (root_place app) (g + 1) next now c) (sound : IsSoundFor (IsPiece (root_place app)) c)
     (decays : DecaysFor (IsPiece (root_place app)) damaged c.left image) where
-  stop : IsOldOrNew (first_of app) 3 (g + 1) next damaged now image
+  stop : IsOldOrNew (root_place app) (g + 1) next damaged now image
   stop = puts.slots (slots_sound (root_place app) c sound) damaged image
       (slots_decay (root_place app) damaged c.left image decays)
 
-  known : (copy h : ℕ) (t : List ℕ) → copy < 3 → Holds image (first_of app) copy h t
+  known : (copy h : ℕ) (t : List ℕ) → copy < 3 → Holds image (root_place app) copy h t
       → ((h ≡ g) × (t ≡ text)) ⊎ ((h ≡ g + 1) × (t ≡ next))
-  known copy h t lt v = ⊎_elim (λ was. inl (alone_only now (first_of app) 3 g text is.leaves.alone copy lt h t was)) inr
+  known copy h t lt v = ⊎_elim (λ was. inl (alone_only now (root_place app) g text is.leaves.alone copy lt h t was)) inr
       (stop.known copy lt h t v)
 
   old_or_new : (says_at image app ≡ nothing) ⊎ ((says_at image app ≡ before.says) ⊎ (says_at image app ≡ after.says))
   old_or_new = ⊎_elim
       (λ none. inl none.0)
       (λ some. let (h, t, it) = some in
-      let (copy, lt, v) = at_least_one (λ copy. Holds image (first_of app) copy h t) 3 2 (omega arith) it.held in
+      let (copy, lt, v) = at_least_one (λ copy. Holds image (root_place app) copy h t) 3 2 (omega arith) it.held in
       inr (⊎_elim
       (λ same. inl (it.says ∙ ap (λ (x : ℕ). says_by x (root_of t)) same.0
       ∙ ap (λ (u : List ℕ). says_by g (root_of u)) same.1 ∙ sym is.leaves.says))
@@ -105,11 +104,11 @@ module _ (app g : ℕ) (text next : List ℕ) (before after : App) (now : Image)
 
   put_spared : AtLeast (IsRootSpared app damaged before.lacking) 3 2 → ¬ (says_at image app ≡ nothing)
   put_spared enough none = ⊎_elim
-      (λ no. write_stands (first_of app) 3 2 g text next damaged now image (omega arith) is.leaves.alone stop
-      (at_least_map (IsRootSpared app damaged before.lacking) (λ copy. IsUndamaged damaged (first_of app) copy) 3 2
+      (λ no. write_stands (root_place app) 2 g text next damaged now image (omega arith) is.leaves.alone stop
+      (at_least_map (IsRootSpared app damaged before.lacking) (λ copy. IsUndamaged damaged (root_place app) copy) 3 2
       (λ copy lt spared. spared.0) enough) no.1)
       (λ some. let (h, t, it) = some in
-      let (copy, lt, v) = at_least_one (λ copy. Holds image (first_of app) copy h t) 3 2 (omega arith) it.held in
+      let (copy, lt, v) = at_least_one (λ copy. Holds image (root_place app) copy h t) 3 2 (omega arith) it.held in
       ⊎_elim
       (λ same. leaving_something app g text before after now is.leaves
       (is.leaves.says ∙ ap (λ (u : List ℕ). says_by g (root_of u)) (sym same.1)

@@ -9,8 +9,8 @@ use Rattle.disk_model.specs.Damage.{AtLeast}
 use Rattle.guarded_cell.specs.declared.looking.Seen.{Seen}
 use Rattle.guarded_cell.specs.Register.{Holds, IsHeldBy, IsStanding}
 use Rattle.guarded_cell.specs.Held.{standing, lacking}
-use Rattle.guarded_cell.specs.StopLaws.{at_least_map}
-use Rattle.guarded_cell.specs.HeldLaws.{standing_stands, lacking_is}
+use Rattle.guarded_cell.specs.lemmas.StopLaws.{at_least_map}
+use Rattle.guarded_cell.specs.lemmas.HeldLaws.{standing_stands, lacking_is}
 use Rattle.disk_model.specs.Frame.{IsSettledOn}
 use Rattle.element_laws.specs.Phases.{IsOfPlace, UntouchedLaw}
 use Rattle.root_text.specs.RootText.{Root, root_of}
@@ -18,7 +18,7 @@ use Rattle.root_text.specs.RootText as text
 use Rattle.deploy_laws.specs.Places.{root_place}
 use Rattle.deploy_laws.specs.Apps.{Says, nothing, absent, installed, App, says_by, says_in, says_at, app_at, lacking_in}
 use Rattle.deploy_laws.specs.Apps.{shapes_named, generation_of, IsCleanApp}
-use Rattle.deploy_laws.proofs.Files.{first_of, IsFit, AreUntouched}
+use Rattle.deploy_laws.proofs.Files.{IsFit, AreUntouched}
 use Rattle.deploy_laws.specs.Pieces.{IsSoundApp, DecaysApp}
 use Rattle.deploy_laws.proofs.Covered.{root_sound, root_decays}
 use Rattle.deploy_laws.specs.Stands.{Stands, IsRootSpared, IsLater, same_root, next_root}
@@ -90,17 +90,17 @@ module _ (untouched : UntouchedLaw) (app : ℕ) (start : Image) (c : Case) (clea
     (storages : AreUntouched start c (shapes_named app (says_at start app))) where
   module _ (root : IsSettledOn (IsOfPlace (root_place app)) start c) where
     -- the generation of what is found is no greater
-    found_of : (answer : Option Seen) → standing start (first_of app) 3 2 ≡ answer → (found : Option Seen)
-        → standing image (first_of app) 3 2 ≡ found → ¬ (says_at start app ≡ nothing)
+    found_of : (answer : Option Seen) → standing start (root_place app) 2 ≡ answer → (found : Option Seen)
+        → standing image (root_place app) 2 ≡ found → ¬ (says_at start app ≡ nothing)
         → generation_of (says_at image app) ≤ generation_of (says_at start app)
     found_of None e found f some = absurd (some (says_is start app ∙ ap says_in e))
     found_of (Some seen) e None f some = subst (λ (s : Says). generation_of s ≤ generation_of (says_at start app))
         (sym (says_is image app ∙ ap says_in f)) (omega arith)
     found_of (Some seen) e (Some new) f some =
-        let stood : IsStanding start (first_of app) 3 2 seen.generation seen.text =
-        standing_stands start (first_of app) 3 2 seen (omega arith) e in
-        let there : IsStanding image (first_of app) 3 2 new.generation new.text =
-        standing_stands image (first_of app) 3 2 new (omega arith) f in
+        let stood : IsStanding start (root_place app) 2 seen.generation seen.text =
+        standing_stands start (root_place app) 2 seen (omega arith) e in
+        let there : IsStanding image (root_place app) 2 new.generation new.text =
+        standing_stands image (root_place app) 2 new (omega arith) f in
         let below : new.generation ≤ seen.generation = stood.greatest new.generation new.text
         (held_back untouched app start c clean fit sound damaged image decays root new.generation new.text there.enough)
         in
@@ -120,38 +120,38 @@ module _ (untouched : UntouchedLaw) (app : ℕ) (start : Image) (c : Case) (clea
     rests_later after (next_root greater) = stands_greater app start damaged image
         (stands_untouched untouched app start c clean fit sound damaged image decays root storages (app_at start app)
         (app_says start app) (states_count app start))
-        (λ some. found_of (standing start (first_of app) 3 2) refl (standing image (first_of app) 3 2) refl some) after
+        (λ some. found_of (standing start (root_place app) 2) refl (standing image (root_place app) 2) refl some) after
         greater
 
   -- ---- the text of its root is brought to every copy
 
-  module _ (seen : Seen) (stood : standing start (first_of app) 3 2 ≡ Some seen)
-      (puts : PutStops (first_of app) 3 seen.generation seen.text start c) where
-    at_start : IsStanding start (first_of app) 3 2 seen.generation seen.text
-    at_start = standing_stands start (first_of app) 3 2 seen (omega arith) stood
+  module _ (seen : Seen) (stood : standing start (root_place app) 2 ≡ Some seen)
+      (puts : PutStops (root_place app) seen.generation seen.text start c) where
+    at_start : IsStanding start (root_place app) 2 seen.generation seen.text
+    at_start = standing_stands start (root_place app) 2 seen (omega arith) stood
 
-    stopped : IsOldOrNew (first_of app) 3 seen.generation seen.text damaged start image
+    stopped : IsOldOrNew (root_place app) seen.generation seen.text damaged start image
     stopped = puts.slots (slots_sound (root_place app) c (root_sound app c sound damaged image decays)) damaged image
         (slots_decay (root_place app) damaged c.left image (root_decays app c sound damaged image decays))
 
     -- a text of a greater generation that two copies hold was held by two before
-    no_more : (h : ℕ) (t : List ℕ) → IsHeldBy image (first_of app) 3 2 h t → h ≤ seen.generation
+    no_more : (h : ℕ) (t : List ℕ) → IsHeldBy image (root_place app) 2 h t → h ≤ seen.generation
     no_more h t some = ⊎_elim
         (λ above. let le : h ≤ seen.generation = at_start.greatest h t
-        (at_least_map (λ copy. Holds image (first_of app) copy h t) (λ copy. Holds start (first_of app) copy h t)
+        (at_least_map (λ copy. Holds image (root_place app) copy h t) (λ copy. Holds start (root_place app) copy h t)
         3 2
         (λ copy lt v. ⊎_elim (λ was. was) (λ new. absurd (let same : h ≡ seen.generation =
         new.0 in omega (arith, above, same))) (stopped.known copy lt h t v)) some) in le)
         (λ not_above. omega (arith, not_above))
         (cases_lt seen.generation h)
 
-    found_so : (found : Option Seen) → standing image (first_of app) 3 2 ≡ found → ¬ (says_at start app ≡ nothing)
+    found_so : (found : Option Seen) → standing image (root_place app) 2 ≡ found → ¬ (says_at start app ≡ nothing)
         → generation_of (says_at image app) ≤ generation_of (says_at start app)
     found_so None f some = subst (λ (s : Says). generation_of s ≤ generation_of (says_at start app))
         (sym (says_is image app ∙ ap says_in f)) (omega arith)
     found_so (Some new) f some =
-        let there : IsStanding image (first_of app) 3 2 new.generation new.text =
-        standing_stands image (first_of app) 3 2 new (omega arith) f in
+        let there : IsStanding image (root_place app) 2 new.generation new.text =
+        standing_stands image (root_place app) 2 new (omega arith) f in
         let below : new.generation ≤ seen.generation = no_more new.generation new.text there.enough in
         let is : says_at image app ≡ says_by new.generation (root_of new.text) = says_is image app ∙ ap says_in f in
         let was : says_at start app ≡ says_by seen.generation (root_of seen.text) =
@@ -170,44 +170,44 @@ module _ (untouched : UntouchedLaw) (app : ℕ) (start : Image) (c : Case) (clea
     opens_later after (next_root greater) = stands_greater app start damaged image
         (stands_opening untouched app start c clean fit sound damaged image decays seen stood puts storages
         (app_at start app) (app_says start app) (states_count app start))
-        (λ some. found_so (standing image (first_of app) 3 2) refl some) after greater
+        (λ some. found_so (standing image (root_place app) 2) refl some) after greater
 
 -- ---- what stands in two copies is spared where nothing is damaged
 
 holders : (app : ℕ) (start : Image) (seen : Seen) → (copy : ℕ) → copy < 3
-    → Holds start (first_of app) copy seen.generation seen.text
-    → ¬ (Contains (lacking start (first_of app) 3 seen.generation seen.text) (copy + 1))
-holders app start seen copy lt v inside = (lacking_is start (first_of app) 3 seen.generation seen.text copy inside).1 v
+    → Holds start (root_place app) copy seen.generation seen.text
+    → ¬ (Contains (lacking start (root_place app) seen.generation seen.text) (copy + 1))
+holders app start seen copy lt v inside = (lacking_is start (root_place app) seen.generation seen.text copy inside).1 v
 
 none_in : (n : ℕ) → Contains [] n → ⊥
 none_in n found = omega (arith, found.1)
 
-lacks : (app : ℕ) (start : Image) (seen : Seen) → standing start (first_of app) 3 2 ≡ Some seen → (says : Says)
+lacks : (app : ℕ) (start : Image) (seen : Seen) → standing start (root_place app) 2 ≡ Some seen → (says : Says)
     → ¬ (says ≡ nothing)
-    → lacking_in start app says (standing start (first_of app) 3 2)
-    ≡ lacking start (first_of app) 3 seen.generation seen.text
+    → lacking_in start app says (standing start (root_place app) 2)
+    ≡ lacking start (root_place app) seen.generation seen.text
 lacks app start seen e nothing some = absurd (some refl)
 lacks app start seen e (absent g) some = ap (lacking_in start app (absent g)) e
 lacks app start seen e (installed g active previous) some = ap (lacking_in start app (installed g active previous)) e
 
 app_lacking : (app : ℕ) (start : Image) → (app_at start app).lacking
-    ≡ lacking_in start app (says_at start app) (standing start (first_of app) 3 2)
+    ≡ lacking_in start app (says_at start app) (standing start (root_place app) 2)
 unfolding app_at
 app_lacking app start = refl
 
-spared_of : (app : ℕ) (start : Image) (answer : Option Seen) → standing start (first_of app) 3 2 ≡ answer
+spared_of : (app : ℕ) (start : Image) (answer : Option Seen) → standing start (root_place app) 2 ≡ answer
     → ¬ (says_at start app ≡ nothing) → AtLeast (IsRootSpared app [] (app_at start app).lacking) 3 2
 spared_of app start None e some = absurd (some (says_is start app ∙ ap says_in e))
 spared_of app start (Some seen) e some =
-    let is : (app_at start app).lacking ≡ lacking start (first_of app) 3 seen.generation seen.text =
+    let is : (app_at start app).lacking ≡ lacking start (root_place app) seen.generation seen.text =
     app_lacking app start ∙ lacks app start seen e (says_at start app) some in
     subst (λ (l : List ℕ). AtLeast (IsRootSpared app [] l) 3 2) (sym is)
-    (at_least_map (λ copy. Holds start (first_of app) copy seen.generation seen.text)
-    (IsRootSpared app [] (lacking start (first_of app) 3 seen.generation seen.text)) 3 2
+    (at_least_map (λ copy. Holds start (root_place app) copy seen.generation seen.text)
+    (IsRootSpared app [] (lacking start (root_place app) seen.generation seen.text)) 3 2
     (λ copy lt v. ((λ k small found. none_in _ found), holders app start seen copy lt v))
-    (standing_stands start (first_of app) 3 2 seen (omega arith) e).enough)
+    (standing_stands start (root_place app) 2 seen (omega arith) e).enough)
 
 pub root_stands : (app : ℕ) (start : Image) → ¬ ((app_at start app).says ≡ nothing)
     → AtLeast (IsRootSpared app [] (app_at start app).lacking) 3 2
-root_stands app start some = spared_of app start (standing start (first_of app) 3 2) refl
+root_stands app start some = spared_of app start (standing start (root_place app) 2) refl
     (λ none. some (app_says start app ∙ none))

@@ -11,11 +11,12 @@ use Rattle.disk_model.specs.Frame.{IsSettledOn}
 use Rattle.guarded_cell.specs.declared.looking.Seen.{Seen}
 use Rattle.guarded_cell.specs.Register.{Holds, IsHeldBy, IsStanding, HasNoStanding}
 use Rattle.guarded_cell.specs.Held.{standing, lacking, holds}
-use Rattle.guarded_cell.specs.HeldLaws.{standing_stands, standing_none, stands_standing, none_standing, is_lacking}
-use Rattle.guarded_cell.specs.HeldLaws.{holds_is, is_holds}
-use Rattle.guarded_cell.specs.SeenLaws.{never_both}
+use Rattle.guarded_cell.specs.lemmas.HeldLaws.{standing_stands, standing_none, stands_standing, none_standing}
+use Rattle.guarded_cell.specs.lemmas.HeldLaws.{is_lacking}
+use Rattle.guarded_cell.specs.lemmas.HeldLaws.{holds_is, is_holds}
+use Rattle.guarded_cell.specs.lemmas.SeenLaws.{never_both}
 use Rattle.guarded_cell.specs.Stops.{PutStops, IsOldOrNew}
-use Rattle.guarded_cell.specs.StopLaws.{at_least_map, at_least_one, put_stands}
+use Rattle.guarded_cell.specs.lemmas.StopLaws.{at_least_map, at_least_one, put_stands}
 use Rattle.element_state.specs.declared.shapes.Shape.{Shape}
 use Rattle.element_state.specs.States.{State, store_at}
 use Rattle.element_state.specs.Clean.{IsPiece}
@@ -28,7 +29,7 @@ use Rattle.deploy_laws.specs.Pieces.{IsSoundApp, DecaysApp}
 use Rattle.deploy_laws.proofs.Covered.{root_sound, root_decays, named_covers}
 use Rattle.deploy_laws.specs.Stands.{Stands, IsRootSpared, AreKept}
 use Rattle.deploy_laws.proofs.Copies.{slots_sound, slots_decay, untouched_back, untouched_on}
-use Rattle.deploy_laws.proofs.Files.{first_of, IsFit, AreUntouched}
+use Rattle.deploy_laws.proofs.Files.{IsFit, AreUntouched}
 use Rattle.deploy_laws.proofs.Said.{says_some, says_is}
 use Rattle.deploy_laws.proofs.Kept.{StayTo, stay}
 
@@ -41,19 +42,19 @@ not_none x o e f = absurd cc
 -- ---- a root of which a stop leaves no more than was held
 
 module _ (app : ℕ) (start : Image) (clean : IsCleanApp app start) (damaged : List ℕ) (image : Image)
-    (known : (copy h : ℕ) (t : List ℕ) → copy < 3 → Holds image (first_of app) copy h t
-    → (a : ℕ) × (a < 3) × Holds start (first_of app) a h t)
-    (none : standing start (first_of app) 3 2 ≡ None → HasNoStanding image (first_of app) 3 2)
-    (still : (seen : Seen) → standing start (first_of app) 3 2 ≡ Some seen
-    → AtLeast (λ copy. IsUndamaged damaged (first_of app) copy
-    × Holds start (first_of app) copy seen.generation seen.text) 3 2
-    → IsStanding image (first_of app) 3 2 seen.generation seen.text)
+    (known : (copy h : ℕ) (t : List ℕ) → copy < 3 → Holds image (root_place app) copy h t
+    → (a : ℕ) × (a < 3) × Holds start (root_place app) a h t)
+    (none : standing start (root_place app) 2 ≡ None → HasNoStanding image (root_place app) 2)
+    (still : (seen : Seen) → standing start (root_place app) 2 ≡ Some seen
+    → AtLeast (λ copy. IsUndamaged damaged (root_place app) copy
+    × Holds start (root_place app) copy seen.generation seen.text) 3 2
+    → IsStanding image (root_place app) 2 seen.generation seen.text)
     (all_clean : says_at image app ≡ says_at start app → AreClean image (shapes_named app (says_at start app))) where
-  agree : (h : ℕ) (s u : List ℕ) → (a : ℕ) × (a < 3) × Holds start (first_of app) a h s
-      → (b : ℕ) × (b < 3) × Holds start (first_of app) b h u → s ≡ u
+  agree : (h : ℕ) (s u : List ℕ) → (a : ℕ) × (a < 3) × Holds start (root_place app) a h s
+      → (b : ℕ) × (b < 3) × Holds start (root_place app) b h u → s ≡ u
   agree h s u x y = let (a, lta, va) = x in let (b, ltb, vb) = y in clean.root.one_each a b h s u lta ltb va vb
 
-  reads : (h : ℕ) (t : List ℕ) → (a : ℕ) × (a < 3) × Holds start (first_of app) a h t
+  reads : (h : ℕ) (t : List ℕ) → (a : ℕ) × (a < 3) × Holds start (root_place app) a h t
       → (root : Root) × (root_of t ≡ Some root)
   reads h t x = let (a, lta, va) = x in clean.root.root a h t lta va
 
@@ -63,41 +64,41 @@ module _ (app : ℕ) (start : Image) (clean : IsCleanApp app start) (damaged : L
     root = λ copy h t lt v. reads h t (known copy h t lt v);
   }
 
-  none_left : standing start (first_of app) 3 2 ≡ None → says_at image app ≡ nothing
-  none_left e = says_is image app ∙ ap says_in (none_standing image (first_of app) 3 2 (none e))
+  none_left : standing start (root_place app) 2 ≡ None → says_at image app ≡ nothing
+  none_left e = says_is image app ∙ ap says_in (none_standing image (root_place app) 2 (none e))
 
   -- it stood, and two of its copies are spared
-  stays : (seen : Seen) → standing start (first_of app) 3 2 ≡ Some seen
-      → AtLeast (λ copy. IsUndamaged damaged (first_of app) copy
-      × Holds start (first_of app) copy seen.generation seen.text) 3 2 → says_at image app ≡ says_at start app
+  stays : (seen : Seen) → standing start (root_place app) 2 ≡ Some seen
+      → AtLeast (λ copy. IsUndamaged damaged (root_place app) copy
+      × Holds start (root_place app) copy seen.generation seen.text) 3 2 → says_at image app ≡ says_at start app
   stays seen e enough =
-      let (new, is, same_g, same_t) = stands_standing image (first_of app) 3 2 seen.generation seen.text (omega arith)
+      let (new, is, same_g, same_t) = stands_standing image (root_place app) 2 seen.generation seen.text (omega arith)
       root_clean.one_each (still seen e enough) in
       says_is image app ∙ ap says_in is ∙ ap (λ (h : ℕ). says_by h (root_of new.text)) same_g
       ∙ ap (λ (u : List ℕ). says_by seen.generation (root_of u)) same_t
       ∙ sym (says_is start app ∙ ap says_in e)
 
   -- the copies that lack the root are those that do not hold what stood
-  lacks : (seen : Seen) → standing start (first_of app) 3 2 ≡ Some seen → (says : Says) → ¬ (says ≡ nothing)
-      → lacking_in start app says (standing start (first_of app) 3 2)
-      ≡ lacking start (first_of app) 3 seen.generation seen.text
+  lacks : (seen : Seen) → standing start (root_place app) 2 ≡ Some seen → (says : Says) → ¬ (says ≡ nothing)
+      → lacking_in start app says (standing start (root_place app) 2)
+      ≡ lacking start (root_place app) seen.generation seen.text
   lacks seen e nothing some = absurd (some refl)
   lacks seen e (absent g) some = ap (lacking_in start app (absent g)) e
   lacks seen e (installed g active previous) some = ap (lacking_in start app (installed g active previous)) e
 
-  app_parts : (app_at start app).lacking ≡ lacking_in start app (says_at start app) (standing start (first_of app) 3 2)
+  app_parts : (app_at start app).lacking ≡ lacking_in start app (says_at start app) (standing start (root_place app) 2)
   unfolding app_at
   app_parts = refl
 
-  root_stays : (answer : Option Seen) → standing start (first_of app) 3 2 ≡ answer → ¬ (says_at start app ≡ nothing)
+  root_stays : (answer : Option Seen) → standing start (root_place app) 2 ≡ answer → ¬ (says_at start app ≡ nothing)
       → AtLeast (IsRootSpared app damaged (app_at start app).lacking) 3 2 → says_at image app ≡ says_at start app
   root_stays None e some enough = absurd (some (says_is start app ∙ ap says_in e))
   root_stays (Some seen) e some enough =
-      let is : (app_at start app).lacking ≡ lacking start (first_of app) 3 seen.generation seen.text =
+      let is : (app_at start app).lacking ≡ lacking start (root_place app) seen.generation seen.text =
       app_parts ∙ lacks seen e (says_at start app) some in
       stays seen e (at_least_map (IsRootSpared app damaged (app_at start app).lacking)
-      (λ copy. IsUndamaged damaged (first_of app) copy
-      × Holds start (first_of app) copy seen.generation seen.text) 3 2
+      (λ copy. IsUndamaged damaged (root_place app) copy
+      × Holds start (root_place app) copy seen.generation seen.text) 3 2
       (λ copy lt spared. (
         spared.0,
         holder seen copy lt (λ inside.
@@ -105,22 +106,22 @@ module _ (app : ℕ) (start : Image) (clean : IsCleanApp app start) (damaged : L
       )) enough)
     where
       holder : (seen : Seen) (copy : ℕ) → copy < 3 → ¬ (Contains
-          (lacking start (first_of app) 3 seen.generation seen.text) (copy + 1))
-          → Holds start (first_of app) copy seen.generation seen.text
+          (lacking start (root_place app) seen.generation seen.text) (copy + 1))
+          → Holds start (root_place app) copy seen.generation seen.text
       holder seen copy lt not_in = ⊎_elim
-          (λ yes. holds_is start (first_of app) copy (seen.generation, seen.text) yes)
-          (λ no. absurd (not_in (is_lacking start (first_of app) 3 seen.generation seen.text copy lt
-          (λ v. never_both (holds start (first_of app) copy (seen.generation, seen.text))
-          (is_holds start (first_of app) copy (seen.generation, seen.text) v) no))))
-          (cases_Bool (holds start (first_of app) copy (seen.generation, seen.text)))
+          (λ yes. holds_is start (root_place app) copy (seen.generation, seen.text) yes)
+          (λ no. absurd (not_in (is_lacking start (root_place app) seen.generation seen.text copy lt
+          (λ v. never_both (holds start (root_place app) copy (seen.generation, seen.text))
+          (is_holds start (root_place app) copy (seen.generation, seen.text) v) no))))
+          (cases_Bool (holds start (root_place app) copy (seen.generation, seen.text)))
 
   -- what is read says something
-  bad_stays : (answer : Option Seen) → standing start (first_of app) 3 2 ≡ answer → says_at start app ≡ nothing
+  bad_stays : (answer : Option Seen) → standing start (root_place app) 2 ≡ answer → says_at start app ≡ nothing
       → says_at image app ≡ nothing
   bad_stays None e none = none_left e
   bad_stays (Some seen) e none =
-      let (copy, lt, v) = at_least_one (λ copy. Holds start (first_of app) copy seen.generation seen.text) 3 2
-      (omega arith) (standing_stands start (first_of app) 3 2 seen (omega arith) e).enough in
+      let (copy, lt, v) = at_least_one (λ copy. Holds start (root_place app) copy seen.generation seen.text) 3 2
+      (omega arith) (standing_stands start (root_place app) 2 seen (omega arith) e).enough in
       let (root, read) = clean.root.root copy seen.generation seen.text lt v in
       absurd (says_some seen.generation root (sym (ap (says_by seen.generation) read)
       ∙ sym (says_is start app ∙ ap says_in e) ∙ none))
@@ -131,8 +132,8 @@ module _ (app : ℕ) (start : Image) (clean : IsCleanApp app start) (damaged : L
       → Stands app image damaged (app_at start app) after
   unfolding app_at
   stands_kept after says kept = record {
-    bad = λ none. inl (bad_stays (standing start (first_of app) 3 2) refl none);
-    root = λ some enough. inl (root_stays (standing start (first_of app) 3 2) refl some enough);
+    bad = λ none. inl (bad_stays (standing start (root_place app) 2) refl none);
+    root = λ some enough. inl (root_stays (standing start (root_place app) 2) refl some enough);
     same = λ e same. kept e;
     old = λ e differs. absurd (differs says);
     new = λ e differs. absurd (differs says);
@@ -170,13 +171,13 @@ module _ (untouched : UntouchedLaw) (app : ℕ) (start : Image) (c : Case) (clea
       (named_covers app c sound damaged image decays (says_at start app) e) fit clean.storages rest
 
   module _ (resting : IsSettledOn (IsOfPlace (root_place app)) start c) where
-    pub back : (copy h : ℕ) (t : List ℕ) → copy < 3 → Holds image (first_of app) copy h t
-        → Holds start (first_of app) copy h t
+    pub back : (copy h : ℕ) (t : List ℕ) → copy < 3 → Holds image (root_place app) copy h t
+        → Holds start (root_place app) copy h t
     back copy h t lt v = untouched_back (root_place app) damaged c.left image d start c resting refl copy h t lt v
 
-    pub held_back : (h : ℕ) (t : List ℕ) → IsHeldBy image (first_of app) 3 2 h t → IsHeldBy start (first_of app) 3 2 h t
-    held_back h t some = at_least_map (λ copy. Holds image (first_of app) copy h t)
-        (λ copy. Holds start (first_of app) copy h t) 3 2 (λ copy lt v. back copy h t lt v) some
+    pub held_back : (h : ℕ) (t : List ℕ) → IsHeldBy image (root_place app) 2 h t → IsHeldBy start (root_place app) 2 h t
+    held_back h t some = at_least_map (λ copy. Holds image (root_place app) copy h t)
+        (λ copy. Holds start (root_place app) copy h t) 3 2 (λ copy lt v. back copy h t lt v) some
 
     -- the root is at rest, and each storage is kept on its way to a state
     pub stands_resting : (after : App) → after.says ≡ says_at start app
@@ -185,13 +186,13 @@ module _ (untouched : UntouchedLaw) (app : ℕ) (start : Image) (c : Case) (clea
         after.states) → Stands app image damaged (app_at start app) after
     stands_resting after says all_clean kept = stands_kept app start clean damaged image
         (λ copy h t lt v. (copy, lt, back copy h t lt v))
-        (λ e h t some. standing_none start (first_of app) 3 2 (omega arith) e h t (held_back h t some))
+        (λ e h t some. standing_none start (root_place app) 2 (omega arith) e h t (held_back h t some))
         (λ seen e enough.
-        let stood = standing_stands start (first_of app) 3 2 seen (omega arith) e in
+        let stood = standing_stands start (root_place app) 2 seen (omega arith) e in
         record {
-          enough = at_least_map (λ copy. IsUndamaged damaged (first_of app) copy
-              × Holds start (first_of app) copy seen.generation seen.text)
-              (λ copy. Holds image (first_of app) copy seen.generation seen.text) 3 2
+          enough = at_least_map (λ copy. IsUndamaged damaged (root_place app) copy
+              × Holds start (root_place app) copy seen.generation seen.text)
+              (λ copy. Holds image (root_place app) copy seen.generation seen.text) 3 2
               (λ copy lt both. untouched_on (root_place app) damaged c.left image d start c resting refl copy
               seen.generation seen.text lt both.0 both.1) enough;
           greatest = λ h t some. stood.greatest h t (held_back h t some);
@@ -205,17 +206,17 @@ module _ (untouched : UntouchedLaw) (app : ℕ) (start : Image) (c : Case) (clea
         (λ e. (storages rest after.states count e).kept)
 
   -- the text that stands is brought to every copy
-  module _ (seen : Seen) (stood : standing start (first_of app) 3 2 ≡ Some seen)
-      (puts : PutStops (first_of app) 3 seen.generation seen.text start c)
+  module _ (seen : Seen) (stood : standing start (root_place app) 2 ≡ Some seen)
+      (puts : PutStops (root_place app) seen.generation seen.text start c)
       (beside : AreUntouched start c shapes) where
-    is_standing : IsStanding start (first_of app) 3 2 seen.generation seen.text
-    is_standing = standing_stands start (first_of app) 3 2 seen (omega arith) stood
+    is_standing : IsStanding start (root_place app) 2 seen.generation seen.text
+    is_standing = standing_stands start (root_place app) 2 seen (omega arith) stood
 
-    stop : IsOldOrNew (first_of app) 3 seen.generation seen.text damaged start image
+    stop : IsOldOrNew (root_place app) seen.generation seen.text damaged start image
     stop = puts.slots (slots_sound (root_place app) c (root_sound app c sound damaged image decays)) damaged image
         (slots_decay (root_place app) damaged c.left image d)
 
-    it_is : (other : Seen) → standing start (first_of app) 3 2 ≡ Some other → other ≡ seen
+    it_is : (other : Seen) → standing start (root_place app) 2 ≡ Some other → other ≡ seen
     it_is other e = some_same other seen (sym e ∙ stood)
 
     pub stands_opening : (after : App) → after.says ≡ says_at start app → length after.states ≡ length shapes
@@ -223,19 +224,20 @@ module _ (untouched : UntouchedLaw) (app : ℕ) (start : Image) (c : Case) (clea
     stands_opening after says count = stands_kept app start clean damaged image
         (λ copy h t lt v. ⊎_elim
         (λ was. (copy, lt, was))
-        (λ new. let (a, lta, va) = at_least_one (λ copy. Holds start (first_of app) copy seen.generation seen.text) 3 2
+        (λ new. let (a, lta, va) = at_least_one (λ copy. Holds start (root_place app) copy seen.generation seen.text)
+        3 2
         (omega arith) is_standing.enough in (
           a,
           lta,
-          subst (λ (x : ℕ). Holds start (first_of app) a x t) (sym new.0)
-              (subst (λ (u : List ℕ). Holds start (first_of app) a seen.generation u) (sym new.1) va),
+          subst (λ (x : ℕ). Holds start (root_place app) a x t) (sym new.0)
+              (subst (λ (u : List ℕ). Holds start (root_place app) a seen.generation u) (sym new.1) va),
         ))
         (stop.known copy lt h t v))
-        (λ e. absurd (not_none seen (standing start (first_of app) 3 2) e stood))
-        (λ other e enough. subst (λ (s : Seen). IsStanding image (first_of app) 3 2 s.generation s.text)
+        (λ e. absurd (not_none seen (standing start (root_place app) 2) e stood))
+        (λ other e enough. subst (λ (s : Seen). IsStanding image (root_place app) 2 s.generation s.text)
         (sym (it_is other e))
-        (put_stands (first_of app) 3 2 seen.generation seen.text damaged start image is_standing stop
-        (subst (λ (s : Seen). AtLeast (λ copy. IsUndamaged damaged (first_of app) copy
-        × Holds start (first_of app) copy s.generation s.text) 3 2) (it_is other e) enough)))
+        (put_stands (root_place app) 2 seen.generation seen.text damaged start image is_standing stop
+        (subst (λ (s : Seen). AtLeast (λ copy. IsUndamaged damaged (root_place app) copy
+        × Holds start (root_place app) copy s.generation s.text) 3 2) (it_is other e) enough)))
         (λ e. (storages beside after.states count e).clean) after says
         (λ e. (storages beside after.states count e).kept)

@@ -57,28 +57,28 @@ says_in (Some seen) = says_by seen.generation (root_of seen.text)
 
 -- what two of the three copies of a root say
 unfoldable pub says_at : Image → ℕ → Says
-says_at image app = says_in (standing image (root_place app).first 3 2)
+says_at image app = says_in (standing image (root_place app) 2)
 
 -- the copies that lack the text that stands, of a root that says something
 abbrev pub lacking_in : Image → ℕ → Says → Option Seen → List ℕ
 lacking_in image app nothing seen = []
 lacking_in image app (absent g) None = []
-lacking_in image app (absent g) (Some seen) = lacking image (root_place app).first 3 seen.generation seen.text
+lacking_in image app (absent g) (Some seen) = lacking image (root_place app) seen.generation seen.text
 lacking_in image app (installed g active previous) None = []
 lacking_in image app (installed g active previous) (Some seen) =
-    lacking image (root_place app).first 3 seen.generation seen.text
+    lacking image (root_place app) seen.generation seen.text
 
 -- the application, on every image
 unfoldable pub app_at : Image → ℕ → App
 app_at image app = record {
   says = says_at image app;
-  lacking = lacking_in image app (says_at image app) (standing image (root_place app).first 3 2);
+  lacking = lacking_in image app (says_at image app) (standing image (root_place app) 2);
   states = map (store_at image) (shapes_named app (says_at image app));
 }
 
 -- no text is held in the root's place beside the one that stands
 abbrev pub root_sole : Image → ℕ → Bool
-root_sole image app = nat_le (length (held image (root_place app).first 3)) 1
+root_sole image app = nat_le (length (held image (root_place app))) 1
 
 -- ---- versions
 
@@ -110,8 +110,8 @@ IsFree bank (installed g active (Some previous)) = ¬ (active.bank ≡ bank) × 
 
 -- every text that is held in the root's place is a root's, and no two have one generation
 pub record IsCleanRoot (app : ℕ) (image : Image) : Type 0 where
-  pub one_each : IsOneEach image (root_place app).first 3
-  pub root : (copy generation : ℕ) (text : List ℕ) → copy < 3 → Holds image (root_place app).first copy generation text
+  pub one_each : IsOneEach image (root_place app)
+  pub root : (copy generation : ℕ) (text : List ℕ) → copy < 3 → Holds image (root_place app) copy generation text
       → (root : Root) × (root_of text ≡ Some root)
 
 abbrev pub AreClean : Image → List Shape → Type 0

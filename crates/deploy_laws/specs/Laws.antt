@@ -34,7 +34,7 @@ VersionsLaw = (image : Image) (app : ℕ) → AreVersions (says_at image app)
 -- a text that is held alone stays so while none of the root's files changes
 abbrev pub AloneFrameLaw : Type 0
 AloneFrameLaw = (app g : ℕ) (text : List ℕ) (old new : Image) → Spares (IsOfPlace (root_place app)) old new
-    → IsAlone old (root_place app).first 3 g text → IsAlone new (root_place app).first 3 g text
+    → IsAlone old (root_place app) g text → IsAlone new (root_place app) g text
 
 -- what a root says depends on the files of its place alone
 abbrev pub SaysFrameLaw : Type 0
@@ -48,7 +48,7 @@ NumberLaw = (app number : ℕ) (v : Named) (s : StorageData) → slice_get v.dep
 
 -- where a root's text is held alone, the application is what it says
 abbrev pub AloneLaw : Type 0
-AloneLaw = (app g : ℕ) (text : List ℕ) (image : Image) → IsAlone image (root_place app).first 3 g text
+AloneLaw = (app g : ℕ) (text : List ℕ) (image : Image) → IsAlone image (root_place app) g text
     → app_at image app ≡ record {
       says = says_by g (root_of text);
       lacking = [];
@@ -58,7 +58,7 @@ AloneLaw = (app g : ℕ) (text : List ℕ) (image : Image) → IsAlone image (ro
 -- and its places are clean, where those that the text names are
 abbrev pub AloneCleanLaw : Type 0
 AloneCleanLaw = (app g : ℕ) (text : List ℕ) (root : Root) (image : Image)
-    → IsAlone image (root_place app).first 3 g text → root_of text ≡ Some root
+    → IsAlone image (root_place app) g text → root_of text ≡ Some root
     → AreClean image (shapes_named app (says_by g (Some root))) → IsCleanApp app image
 
 -- ---- files
@@ -76,13 +76,13 @@ StorageFilesLaw = (app bank number file : ℕ) (s : StorageData) → app < 8 →
 
 -- a file that is not among the root's is no slot of it
 abbrev pub RootSlotsLaw : Type 0
-RootSlotsLaw = (app file : ℕ) → app < 8 → IsNoRootFile app file → IsNoSlot (root_place app).first 3 file
+RootSlotsLaw = (app file : ℕ) → app < 8 → IsNoRootFile app file → IsNoSlot (root_place app) file
 
 -- a file beside those of a storage lies outside its place
 abbrev pub BesideLaw : Type 0
 BesideLaw = (app bank number file : ℕ) (s : StorageData) → app < 8 → bank ≤ 1 → number < 16
     → IsBeside app bank number file
-    → IsOutside (shape_of app bank number s).place.first (shape_of app bank number s).place.copies file
+    → IsOutside (shape_of app bank number s).place file
 
 -- where files of the root alone change, each storage that a root may name is as it was
 abbrev pub RootAloneLaw : Type 0
@@ -165,15 +165,15 @@ StillAppLaw = (app : ℕ) (start : Image) (after : App) (c : Case) → app < 8 �
 -- the text of the root that stands is brought to every copy, before whatever may come of the application
 abbrev pub OpeningLaw : Type 0
 OpeningLaw = (app : ℕ) (seen : Seen) (start : Image) (after : App) (c : Case) → app < 8 → IsCleanApp app start
-    → standing start (root_place app).first 3 2 ≡ Some seen
-    → PutStops (root_place app).first 3 seen.generation seen.text start c
+    → standing start (root_place app) 2 ≡ Some seen
+    → PutStops (root_place app) seen.generation seen.text start c
     → IsLater (app_at start app) after → StandsCase app (app_at start app) after c
 
 -- a bad root is made anew
 abbrev pub FormattingLaw : Type 0
 FormattingLaw = (app : ℕ) (next : List ℕ) (start : Image) (c : Case) → IsCleanApp app start
     → says_at start app ≡ nothing → root_of next ≡ Some text.absent
-    → FormatStops (root_place app).first 3 1 next start c
+    → FormatStops (root_place app) 1 next start c
     → StandsCase app (app_at start app) (record { says = absent 1; lacking = []; states = [] }) c
 
 -- storages are made in a bank in which no version lies, before whatever may come of the application
@@ -187,9 +187,9 @@ CreatingLaw = (app bank : ℕ) (start : Image) (after : App) (c : Case) → app 
 abbrev pub WritingLaw : Type 0
 WritingLaw = (app g : ℕ) (text next : List ℕ) (root : Root) (start : Image) (after : App) (c : Case) → app < 8
     → IsCleanApp app start
-    → IsAlone start (root_place app).first 3 g text → root_of next ≡ Some root
+    → IsAlone start (root_place app) g text → root_of next ≡ Some root
     → after.says ≡ says_by (g + 1) (Some root)
-    → AreOn start (shapes_named app after.says) after.states → PutStops (root_place app).first 3 (g + 1) next start c
+    → AreOn start (shapes_named app after.says) after.states → PutStops (root_place app) (g + 1) next start c
     → StandsCase app (app_at start app) after c
 
 -- a storage of the active version is on its way to another state, and nothing else of the application is touched

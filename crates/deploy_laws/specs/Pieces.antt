@@ -16,7 +16,7 @@ use Rattle.deploy_laws.specs.Apps.{shapes_named, says_by}
 pub data IsPlaceOn (app : ℕ) (image : Image) (place : Place) : Type 0 where
   of_root : place ≡ root_place app → IsPlaceOn app image place
   of_storage : (copy generation : ℕ) (text : List ℕ) (shape : Shape) → copy < 3
-      → Holds image (root_place app).first copy generation text
+      → Holds image (root_place app) copy generation text
       → Contains (shapes_named app (says_by generation (root_of text))) shape → place ≡ shape.place
       → IsPlaceOn app image place
 

@@ -12,7 +12,7 @@ use Rattle.hash_guard.specs.SealedText.{sealed, numbered, verified, generation_i
 use Rattle.disk_model.specs.Image.{Image}
 use Rattle.disk_model.specs.Orders.{named_in}
 use Rattle.m_of_n.specs.Vote.{voted}
-use Rattle.guarded_cell.specs.Held.{held, standing, lacking}
+use Rattle.guarded_cell.specs.Held.{held_in_first, standing, lacking}
 use Rattle.guarded_cell.specs.Register.{IsAlone}
 use Rattle.block_files.specs.Contents.{counting}
 use Rattle.deployment_model.specs.Data.{DeploymentData, StorageData}
@@ -26,14 +26,15 @@ use Rattle.element_state.specs.Views.{entry_view, view_of}
 use Rattle.element_state.specs.States.{Opens, Corrupt, store_at}
 use Rattle.root_text.specs.RootText.{Root, root_of, root_in}
 use Rattle.root_text.specs.RootText as text
-use Rattle.deploy_laws.specs.Places.{shape_of}
+use Rattle.deploy_laws.specs.Places.{root_place, shape_of}
 use Rattle.deploy_laws.specs.Apps.{Says, nothing, absent, installed, App, says_by, says_at, app_at, shapes_named}
 use Rattle.deploy_laws.specs.Apps.{root_sole}
 use Rattle.deploy_laws.specs.Laws.{AloneLaw}
 
 -- all that the samples compute with
 unfoldable computed : ℕ
-unfolding voted sealed numbered verified generation_in length_in held standing lacking counting index_text entry_text
+unfolding voted sealed numbered verified generation_in length_in held_in_first standing lacking counting index_text
+    entry_text
     index_of header_at entry_at name_at info_at changed_at len_at many bytes_at number_at fit_index fit_texts entry_view
     view_of store_at sha256 digest_bytes hash_after compress rounds schedule first_words root_of root_in says_at app_at
     shapes_named shape_of
@@ -119,7 +120,7 @@ place_of_fav = refl
 -- whatever the manifest's text is, where the root is held alone
 installed_app : AloneLaw → (image : Image) (manifest root : List ℕ)
     → root_of root ≡ Some (text.installed 0 (record { text = manifest; deployment = favourites }) None)
-    → IsAlone image 0 3 2 root → app_at image 0 ≡ record {
+    → IsAlone image (root_place 0) 2 root → app_at image 0 ≡ record {
       says = installed 2 (record { bank = 0; deployment = favourites }) None;
       lacking = [];
       states = store_at image (shape_of 0 0 0 fav) ∷ [];

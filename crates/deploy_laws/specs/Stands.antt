@@ -22,7 +22,7 @@ AreKept image damaged (shape ∷ shapes) (state ∷ before) (next ∷ after) =
 
 -- the damage spares this copy of the root, counted from 0, and it did not lack it
 abbrev pub IsRootSpared : ℕ → (damaged lacking : List ℕ) → ℕ → Type 0
-IsRootSpared app damaged lacking copy = IsUndamaged damaged (root_place app).first copy
+IsRootSpared app damaged lacking copy = IsUndamaged damaged (root_place app) copy
     × ¬ (Contains lacking (copy + 1))
 
 pub record Stands (app : ℕ) (image : Image) (damaged : List ℕ) (before after : App) : Type 0 where

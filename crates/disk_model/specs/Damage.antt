@@ -2,6 +2,7 @@
 use Rattle.std.specs.Prelude.{◌≡◌, ◌⊎◌, ℕ, suc, zero, ◌+◌, ◌*◌, ◌<◌, List, Contains}
 use Rattle.disk_model.specs.Image.{Image}
 use Rattle.disk_model.specs.Case.{Case}
+use Rattle.disk_model.specs.declared.place.Place.{Place}
 
 -- a crash makes no piece by chance: each one was there after the last sync, or the writes since then make it
 abbrev pub IsSoundFor : {X : Type 0} → (Piece : Image → X → Type 0) → Case → Type 0
@@ -13,8 +14,8 @@ pub record DecaysFor {X : Type 0} (Piece : Image → X → Type 0) (damaged : Li
   pub pieces : (x : X) → Piece new x → Piece old x
 
 -- none of the three files of a copy is damaged
-abbrev pub IsUndamaged : List ℕ → ℕ → ℕ → Type 0
-IsUndamaged damaged first copy = (k : ℕ) → k < 3 → ¬ (Contains damaged (first + 4 * copy + k))
+abbrev pub IsUndamaged : (damaged : List ℕ) → Place → (copy : ℕ) → Type 0
+IsUndamaged damaged place copy = (k : ℕ) → k < 3 → ¬ (Contains damaged (place.first + 4 * copy + k))
 
 -- P holds of at least m of the first n copies
 abbrev pub AtLeast : (P : ℕ → Type 0) → ℕ → ℕ → Type 0

@@ -19,6 +19,7 @@ mod history;
 mod memory;
 mod orders;
 mod place;
+mod place_files;
 
 pub use disk::{Disk, DiskFailed};
 pub use memory::MemDisk;

@@ -1,7 +1,6 @@
 //! A place: the numbers of the files that hold the copies of one thing.
 
-ghost use Rattle.std.specs.Prelude.{◌≡◌, ◌+◌, ◌*◌, ◌<◌, ◌≤◌};
-ghost use Rattle.disk_model.specs.Place.{slot, area};
+ghost use Rattle.std.specs.Prelude.{◌+◌, ◌*◌, ◌≤◌};
 
 /// The files of one thing that is kept in copies. Copy c, counted from 0, has four numbers from `first + 4 * c` on: the
 /// slot for texts of even generation, the slot for those of odd generation, the area, and one that is not used.
@@ -14,23 +13,4 @@ pub struct Place {
     pub ghost some: { 1 ≤ copies },
     pub ghost few: { copies ≤ 8 },
     pub ghost room: { first + 4 * copies ≤ 4294967295 },
-}
-
-impl Place {
-    /// The slot file of a copy, counted from 0, for texts of even (0) or odd (1) generation.
-    pub fn slot(self, copy: u32, parity: u32) -> u32
-        requires copy { copy < self.copies }
-        requires parity { parity < 2 }
-        ensures { result ≡ slot self.first copy parity }
-    {
-        self.first + 4 * copy + parity
-    }
-
-    /// The area file of a copy, counted from 0.
-    pub fn area(self, copy: u32) -> u32
-        requires { copy < self.copies }
-        ensures { result ≡ area self.first copy }
-    {
-        self.first + 4 * copy + 2
-    }
 }

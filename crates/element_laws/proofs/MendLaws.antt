@@ -12,9 +12,10 @@ use Rattle.disk_model.specs.Case.{Case, IsSettledAt}
 use Rattle.disk_model.specs.Frame.{Keeps, Tears}
 use Rattle.disk_model.specs.Orders.{named_in}
 use Rattle.disk_model.specs.Place.{slot, area, IsNoArea}
+use Rattle.disk_model.specs.declared.place.Place.{Place}
 use Rattle.hash_guard.specs.SealedText.{VerifiesAs}
 use Rattle.guarded_cell.specs.Register.{Holds, own}
-use Rattle.guarded_cell.specs.StopLaws.{alone_only}
+use Rattle.guarded_cell.specs.lemmas.StopLaws.{alone_only}
 use Rattle.block_files.specs.Aside.{Where, AsideLaw}
 use Rattle.block_files.specs.Areas.{block, joined, within, IsFull, area_of}
 use Rattle.block_files.specs.lemmas.AsideLaws.{counting_same}
@@ -111,18 +112,19 @@ whole_torn blocks old new keeps = record {
 }
 
 -- the copy's area is none of those of the numbers
-is_none : (first copies copy : ℕ) (numbers : List ℕ) → AreCopies copies numbers → ¬ (Contains numbers (copy + 1))
-    → IsNoneOf first numbers (area first copy)
-is_none first copies copy numbers are absent i lt e = absent
+is_none : (place : Place) (copy : ℕ) (numbers : List ℕ) → AreCopies place.copies numbers
+    → ¬ (Contains numbers (copy + 1))
+    → IsNoneOf place numbers (area place copy)
+is_none place copy numbers are absent i lt e = absent
     (subst (λ (n : ℕ). Contains numbers n) (same (slice_index numbers i) (are i lt).0 e)
     (Contains-get_or numbers i 0 lt))
   where
-    same : (n : ℕ) → 1 ≤ n → area first copy ≡ area_of first n → n ≡ copy + 1
+    same : (n : ℕ) → 1 ≤ n → area place copy ≡ area_of place n → n ≡ copy + 1
     same n some e = omega (arith, some, e)
 
-no_area_none : (first copies : ℕ) (numbers : List ℕ) (f : ℕ) → AreCopies copies numbers → IsNoArea first copies f
-    → IsNoneOf first numbers f
-no_area_none first copies numbers f are none i lt e = let r =
+no_area_none : (place : Place) (numbers : List ℕ) (f : ℕ) → AreCopies place.copies numbers → IsNoArea place f
+    → IsNoneOf place numbers f
+no_area_none place numbers f are none i lt e = let r =
     are i lt in none (slice_index numbers i - 1) (omega (arith, r.0, r.1)) e
 
 module _ (shape : Shape) (start now : Image) (index : Index) (e : IndexEntry) (value : List ℕ)
@@ -130,17 +132,17 @@ module _ (shape : Shape) (start now : Image) (index : Index) (e : IndexEntry) (v
     (agreed : voted shape.m (given start shape.place e) ≡ Some value)
     (are : AreCopies shape.place.copies (lacked shape start e)) where
   abbrev spared : ℕ → Type 0
-  spared = IsNoneOf shape.place.first (lacked shape start e)
+  spared = IsNoneOf shape.place (lacked shape start e)
 
   -- an entry beside the one that is mended: either it is that one, and the area is spared, or their blocks are apart
   beside : (f : IndexEntry) → In f index.entries → (copy : ℕ) → ¬ (TakesMend shape start f copy)
-      → spared (area shape.place.first copy) ⊎ ((i : ℕ) → i < length f.blocks
+      → spared (area shape.place copy) ⊎ ((i : ℕ) → i < length f.blocks
       → IsApart e.blocks (slice_index f.blocks i))
   beside f h copy untaken = elim (two_entries index.entries e f is_index.blocks_apart
       (Contains-In e index.entries there) h) [
         | inl same ↦
             let gone = subst (λ (x : IndexEntry). ¬ (TakesMend shape start x copy)) (sym same) untaken in
-            inl (is_none shape.place.first shape.place.copies copy (lacked shape start e) are
+            inl (is_none shape.place copy (lacked shape start e) are
             (λ listed. gone (record { value = value; agreed = agreed; listed = listed })))
         | inr apart ↦ inr (λ i lti k ltk same. apart (slice_index e.blocks k) (slice_index f.blocks i)
             (In-index e.blocks k ltk) (In-index f.blocks i lti) (sym same))
@@ -149,10 +151,10 @@ module _ (shape : Shape) (start now : Image) (index : Index) (e : IndexEntry) (v
   step_torn : (old new : Image) → Tears spared (IsApart e.blocks) old new
       → IsSparing KeepsBlocks shape start now index old → IsSparing KeepsBlocks shape start now index new
   step_torn old new tears sparing = record {
-    slots = λ f none. tears.files f (no_area_none shape.place.first shape.place.copies (lacked shape start e) f are
+    slots = λ f none. tears.files f (no_area_none shape.place (lacked shape start e) f are
         none) ∙ sparing.slots f none;
     kept = all_by _ index.entries (λ f h copy lt untaken.
-        let at = area shape.place.first copy in
+        let at = area shape.place copy in
         keeps_on f.blocks (now at) (old at) (new at) (all_in _ index.entries sparing.kept f h copy lt untaken)
         (elim (beside f h copy untaken) [
           | inl same ↦ subst (λ (file : List ℕ). KeepsBlocks f.blocks (old at) file) (sym (tears.files at same))
@@ -167,10 +169,10 @@ module _ (shape : Shape) (start now : Image) (index : Index) (e : IndexEntry) (v
   step_whole : (old new : Image) → Keeps spared (IsApart e.blocks) old new
       → IsSparing KeepsBlocksWhole shape start now index old → IsSparing KeepsBlocksWhole shape start now index new
   step_whole old new keeps sparing = record {
-    slots = λ f none. keeps.files f (no_area_none shape.place.first shape.place.copies (lacked shape start e) f are
+    slots = λ f none. keeps.files f (no_area_none shape.place (lacked shape start e) f are
         none) ∙ sparing.slots f none;
     kept = all_by _ index.entries (λ f h copy lt untaken.
-        let at = area shape.place.first copy in
+        let at = area shape.place copy in
         whole_on f.blocks (now at) (old at) (new at) (all_in _ index.entries sparing.kept f h copy lt untaken)
         (elim (beside f h copy untaken) [
           | inl same ↦ subst (λ (file : List ℕ). KeepsBlocksWhole f.blocks (old at) file) (sym (keeps.files at same))
@@ -197,14 +199,14 @@ torn_of : (shape : Shape) (start now : Image) (index : Index) (image : Image)
 torn_of shape start now index image sparing = record {
   slots = sparing.slots;
   kept = all_by _ index.entries (λ f h copy lt untaken.
-      whole_torn f.blocks (now (area shape.place.first copy)) (image (area shape.place.first copy))
+      whole_torn f.blocks (now (area shape.place copy)) (image (area shape.place copy))
       (all_in _ index.entries sparing.kept f h copy lt untaken));
 }
 
 sparing_now : (shape : Shape) (start now : Image) (index : Index) → IsSparing KeepsBlocksWhole shape start now index now
 sparing_now shape start now index = record {
   slots = λ f none. refl;
-  kept = all_by _ index.entries (λ e h copy lt untaken. whole_all e.blocks (now (area shape.place.first copy)));
+  kept = all_by _ index.entries (λ e h copy lt untaken. whole_all e.blocks (now (area shape.place copy)));
 }
 
 settled_at : (shape : Shape) (start now : Image) (index : Index) (image : Image) (c : Case)
@@ -244,16 +246,16 @@ listed [] b i lt e = absurd (omega (arith, lt))
 listed (x ∷ xs) b zero lt e = e
 listed (x ∷ xs) b (suc i) lt e = listed xs b i (omega (arith, lt)) e
 
-still_there : AsideLaw → (e : IndexEntry) (first copies copy : ℕ) (now : Image) (file : List ℕ) → copy < copies
+still_there : AsideLaw → (e : IndexEntry) (place : Place) (copy : ℕ) (now : Image) (file : List ℕ) → copy < place.copies
     → e.len ≤ 256 * length e.blocks
-    → KeepsBlocks e.blocks (now (area first copy)) file → within (now (area first copy)) e.blocks e.len ≡ true
-    → (counting file e.blocks e.len e.hash ≡ counting (now (area first copy)) e.blocks e.len e.hash)
+    → KeepsBlocks e.blocks (now (area place copy)) file → within (now (area place copy)) e.blocks e.len ≡ true
+    → (counting file e.blocks e.len e.hash ≡ counting (now (area place copy)) e.blocks e.len e.hash)
     × (within file e.blocks e.len ≡ true)
-still_there aside e first copies copy now file lt enough keeps is =
-    let f = area first copy in
+still_there aside e place copy now file lt enough keeps is =
+    let f = area place copy in
     let then = swapped f file now in
     let taken = λ (k : ℕ). named_in e.blocks k in
-    let tears : Tears (IsNoArea first copies) (λ k. taken k ≡ true) now then = record {
+    let tears : Tears (IsNoArea place) (λ k. taken k ≡ true) now then = record {
       files = λ k none. swapped_else f file now k (none copy lt);
       bytes = λ k b j small took inside. elim (cases_eq k f) [
         | inl same ↦
@@ -276,7 +278,7 @@ still_there aside e first copies copy now file lt enough keeps is =
         | inr other ↦ let e = ap length (swapped_else f file now k other) in omega (arith, e)
       ];
     } in
-    let stands = aside first copies taken now (record { base = now; full = now; left = now })
+    let stands = aside place taken now (record { base = now; full = now; left = now })
     (record { base = now; full = now; left = then })
     (record { base = refl; full = refl; left = refl })
     (record {
@@ -290,15 +292,16 @@ still_there aside e first copies copy now file lt enough keeps is =
     × (within xs e.blocks e.len ≡ true)) (swapped_here f file now) (stands.whole is)
 
 -- after whole writes, nothing counts that did not count
-still_same : AsideLaw → (e : IndexEntry) (first copies copy : ℕ) (now : Image) (file w : List ℕ) → copy < copies
+still_same : AsideLaw → (e : IndexEntry) (place : Place) (copy : ℕ) (now : Image) (file w : List ℕ)
+    → copy < place.copies
     → e.len ≤ 256 * length e.blocks
-    → KeepsBlocksWhole e.blocks (now (area first copy)) file → counting file e.blocks e.len e.hash ≡ Some w
-    → counting (now (area first copy)) e.blocks e.len e.hash ≡ Some w
-still_same aside e first copies copy now file w lt enough keeps is =
-    let f = area first copy in
+    → KeepsBlocksWhole e.blocks (now (area place copy)) file → counting file e.blocks e.len e.hash ≡ Some w
+    → counting (now (area place copy)) e.blocks e.len e.hash ≡ Some w
+still_same aside e place copy now file w lt enough keeps is =
+    let f = area place copy in
     let then = swapped f file now in
     let taken = λ (k : ℕ). named_in e.blocks k in
-    let whole : Keeps (IsNoArea first copies) (λ k. taken k ≡ true) now then = record {
+    let whole : Keeps (IsNoArea place) (λ k. taken k ≡ true) now then = record {
       files = λ k none. swapped_else f file now k (none copy lt);
       bytes = λ k b j small took. elim (cases_eq k f) [
         | inl same ↦
@@ -320,7 +323,7 @@ still_same aside e first copies copy now file w lt enough keeps is =
         | inr other ↦ let e = ap length (swapped_else f file now k other) in omega (arith, e)
       ];
     } in
-    let stands = aside first copies taken now (record { base = now; full = now; left = now })
+    let stands = aside place taken now (record { base = now; full = now; left = now })
     (record { base = now; full = then; left = now })
     (record { base = refl; full = refl; left = refl })
     (record {
@@ -384,7 +387,7 @@ full_counts there file blocks len hash v enough gave full =
     counting_same there file blocks len hash (ap (joined file blocks) (sym long) ∙ full.bytes_are ∙ sym was) ∙ gave
 
 module _ (shape : Shape) (start now : Image) (i : Index) (c : Case) (positive : 1 ≤ shape.m)
-    (area_was : (copy : ℕ) → now (area shape.place.first copy) ≡ start (area shape.place.first copy))
+    (area_was : (copy : ℕ) → now (area shape.place copy) ≡ start (area shape.place copy))
     (is_index : IsIndex i) (mending : IsMending shape start now i c) (e : IndexEntry) (k : In e i.entries) (copy : ℕ)
     (lt : copy < shape.place.copies)
     (takes : TakesMend shape start e copy) where
@@ -397,7 +400,7 @@ module _ (shape : Shape) (start now : Image) (i : Index) (c : Case) (positive : 
     copy = giver.0;
     inside = giver.1;
     counts = inl (subst (λ (file : List ℕ). counting file e.blocks e.len e.hash ≡ Some takes.value)
-        (sym (ap (λ (image : Image). image (area shape.place.first giver.0)) same ∙ area_was giver.0)) giver.2);
+        (sym (ap (λ (image : Image). image (area shape.place giver.0)) same ∙ area_was giver.0)) giver.2);
   }
 
   counted_then : HasMended shape start c.base i → IsCounted shape.place c (where_of e) takes.value
@@ -406,14 +409,14 @@ module _ (shape : Shape) (start now : Image) (i : Index) (c : Case) (positive : 
       let number : slice_index (lacked shape start e) n ≡ copy + 1 =
       listed (lacked shape start e) (copy + 1) n ltn at in
       let back : copy + 1 - 1 ≡ copy = omega arith in
-      let full : IsFull (c.base (area shape.place.first copy)) e.blocks takes.value =
-      subst (λ (x : ℕ). IsFull (c.base (area shape.place.first x)) e.blocks takes.value) back
-      (subst (λ (x : ℕ). IsFull (c.base (area_of shape.place.first x)) e.blocks takes.value) number
+      let full : IsFull (c.base (area shape.place copy)) e.blocks takes.value =
+      subst (λ (x : ℕ). IsFull (c.base (area shape.place x)) e.blocks takes.value) back
+      (subst (λ (x : ℕ). IsFull (c.base (area_of shape.place x)) e.blocks takes.value) number
       (all_in _ i.entries mended e k takes.value takes.agreed n ltn)) in
       record {
         copy = copy;
         inside = lt;
-        counts = inl (full_counts (start (area shape.place.first giver.0)) (c.base (area shape.place.first copy))
+        counts = inl (full_counts (start (area shape.place giver.0)) (c.base (area shape.place copy))
             e.blocks e.len e.hash takes.value (room i is_index e k) giver.2 full);
       }
 
@@ -422,8 +425,8 @@ module _ (shape : Shape) (start now : Image) (i : Index) (c : Case) (positive : 
 
   -- so that a mended copy gives no other
   mends_no_other : HasNoTwins shape.place c → IsNamed shape.place c.base (where_of e) → (w : List ℕ)
-      → (counting (c.base (area shape.place.first copy)) e.blocks e.len e.hash ≡ Some w)
-      ⊎ (counting (c.full (area shape.place.first copy)) e.blocks e.len e.hash ≡ Some w)
+      → (counting (c.base (area shape.place copy)) e.blocks e.len e.hash ≡ Some w)
+      ⊎ (counting (c.full (area shape.place copy)) e.blocks e.len e.hash ≡ Some w)
       → value_at start shape (where_of e) ≡ Some w
   mends_no_other twins named w from =
       takes.agreed ∙ ap (λ (bytes : List ℕ). Some bytes) (twins (where_of e) takes.value w named value_counted
@@ -431,12 +434,12 @@ module _ (shape : Shape) (start now : Image) (i : Index) (c : Case) (positive : 
 
 -- what base and full give was given at the start, or is the value
 given_or_value : AsideLaw → (shape : Shape) (start now : Image) (i : Index) (c : Case) → 1 ≤ shape.m
-    → ((copy : ℕ) → now (area shape.place.first copy) ≡ start (area shape.place.first copy))
+    → ((copy : ℕ) → now (area shape.place copy) ≡ start (area shape.place copy))
     → IsIndex i → IsMending shape start now i c → HasNoTwins shape.place c → (e : IndexEntry) → In e i.entries
     → IsNamed shape.place c.base (where_of e)
     → (copy : ℕ) (w : List ℕ) → copy < shape.place.copies
-    → (counting (c.base (area shape.place.first copy)) e.blocks e.len e.hash ≡ Some w)
-    ⊎ (counting (c.full (area shape.place.first copy)) e.blocks e.len e.hash ≡ Some w)
+    → (counting (c.base (area shape.place copy)) e.blocks e.len e.hash ≡ Some w)
+    ⊎ (counting (c.full (area shape.place copy)) e.blocks e.len e.hash ≡ Some w)
     → Gives (gift_of start shape (where_of e)) copy w ⊎ (value_at start shape (where_of e) ≡ Some w)
 given_or_value aside shape start now i c positive area_was is_index mending twins e k named copy w lt from =
     elim (mended_or_not shape start e copy) [
@@ -444,11 +447,11 @@ given_or_value aside shape start now i c positive area_was is_index mending twin
           named
           w from)
       | inr untaken ↦
-          let at = area shape.place.first copy in
+          let at = area shape.place copy in
           let then : counting (now at) e.blocks e.len e.hash ≡ Some w = elim from [
-            | inl base ↦ still_same aside e shape.place.first shape.place.copies copy now (c.base at) w lt
+            | inl base ↦ still_same aside e shape.place copy now (c.base at) w lt
                 (room i is_index e k) (all_in _ i.entries mending.base.kept e k copy lt untaken) base
-            | inr full ↦ still_same aside e shape.place.first shape.place.copies copy now (c.full at) w lt
+            | inr full ↦ still_same aside e shape.place copy now (c.full at) w lt
                 (room i is_index e k) (all_in _ i.entries mending.full.kept e k copy lt untaken) full
           ] in
           inl (subst (λ (file : List ℕ). counting file e.blocks e.len e.hash ≡ Some w) (area_was copy) then)
@@ -458,17 +461,17 @@ given_or_value aside shape start now i c positive area_was is_index mending twin
 
 pub mend : AsideLaw → MendLaw
 mend aside shape start now g t i after c positive adopted is_index mending sound damaged image d =
-    let first = shape.place.first in
+    let place = shape.place in
     let copies = shape.place.copies in
     let opens = adopted.opens in
-    let slot_same = λ (copy h : ℕ). mending.left.slots (slot first copy (own h)) (slot_no_area first copies copy h) in
-    let area_was = λ (copy : ℕ). adopted.areas (area first copy) (area_no_slot first copies copy) in
+    let slot_same = λ (copy h : ℕ). mending.left.slots (slot place copy (own h)) (slot_no_area place copy h) in
+    let area_was = λ (copy : ℕ). adopted.areas (area place copy) (area_no_slot place copy) in
     let only : HoldsOnly shape c.left g t = λ copy h u lt v.
-    alone_only now first copies g t adopted.alone copy lt h u
+    alone_only now place g t adopted.alone copy lt h u
     (subst (λ (bytes : List ℕ). VerifiesAs bytes h u) (slot_same copy h) v) in
     let spells = fit-spelled shape t i opens.fit in
-    let base_slot = mending.base.slots (slot first opens.copy (own g)) (slot_no_area first copies opens.copy g) in
-    let held_base : Holds c.base first opens.copy g t = subst (λ (bytes : List ℕ). VerifiesAs bytes g t) (sym base_slot)
+    let base_slot = mending.base.slots (slot place opens.copy (own g)) (slot_no_area place opens.copy g) in
+    let held_base : Holds c.base place opens.copy g t = subst (λ (bytes : List ℕ). VerifiesAs bytes g t) (sym base_slot)
     (adopted.alone.held opens.copy opens.inside) in
     let named_base = λ (e : IndexEntry) (k : In e i.entries).
     names_it shape c.base opens.copy g t i opens.inside held_base opens.fit (where_of e)
@@ -479,12 +482,12 @@ mend aside shape start now g t i after c positive adopted is_index mending sound
           let (e, k, same) = named_entry shape c.left g t i spells only at is in
           let piece = sound.pieces (in_blocks (its_blocks shape copy at w))
           (given_piece shape copy at w c.left lt is gives) in
-          let from : (counting (c.base (area first copy)) e.blocks e.len e.hash ≡ Some w)
-          ⊎ (counting (c.full (area first copy)) e.blocks e.len e.hash ≡ Some w) =
+          let from : (counting (c.base (area place copy)) e.blocks e.len e.hash ≡ Some w)
+          ⊎ (counting (c.full (area place copy)) e.blocks e.len e.hash ≡ Some w) =
           elim piece [
-            | inl p ↦ inl (subst (λ (x : Where). counting (c.base (area first copy)) x.blocks x.len x.hash ≡ Some w)
+            | inl p ↦ inl (subst (λ (x : Where). counting (c.base (area place copy)) x.blocks x.len x.hash ≡ Some w)
                 (sym same) p.counts)
-            | inr p ↦ inr (subst (λ (x : Where). counting (c.full (area first copy)) x.blocks x.len x.hash ≡ Some w)
+            | inr p ↦ inr (subst (λ (x : Where). counting (c.full (area place copy)) x.blocks x.len x.hash ≡ Some w)
                 (sym same) p.counts)
           ] in
           elim (given_or_value aside shape start now i c positive area_was is_index mending sound.no_twins e k
@@ -504,7 +507,7 @@ mend aside shape start now g t i after c positive adopted is_index mending sound
           (λ b w ltb gives. adopted.clean.alike at b copy w v named ltb lt gives gave) was gave in
           let now_is = subst (λ (file : List ℕ). (within file at.blocks at.len ≡ true)
           × (counting file at.blocks at.len at.hash ≡ Some v)) (sym (area_was copy)) (was, gave) in
-          let still = still_there aside e first copies copy now (c.left (area first copy)) lt (room i is_index e h)
+          let still = still_there aside e place copy now (c.left (area place copy)) lt (room i is_index e h)
           (all_in _ i.entries mending.left.kept e h copy lt (λ takes. absent takes.listed)) now_is.0 in
           (still.1, still.0 ∙ now_is.1);
     } in

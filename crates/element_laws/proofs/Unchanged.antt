@@ -8,11 +8,12 @@ use Rattle.per_base.specs.declared.elements.Scope.TheVariants as scope
 use Rattle.per_base.specs.declared.elements.Entry.{Entry}
 use Rattle.disk_model.specs.Image.{Image}
 use Rattle.disk_model.specs.Place.{slot, area}
+use Rattle.disk_model.specs.declared.place.Place.{Place}
 use Rattle.disk_model.specs.lemmas.Frames.{settled_less}
 use Rattle.hash_guard.specs.SealedText.{VerifiesAs, verified}
 use Rattle.m_of_n.specs.Vote.{voted}
 use Rattle.guarded_cell.specs.Register.{Holds, IsAlone, IsBlank, own, other}
-use Rattle.guarded_cell.specs.Held.{held, of_parity, with_slot, is_text}
+use Rattle.guarded_cell.specs.Held.{held_in_first, of_parity, with_slot, is_text}
 use Rattle.block_files.specs.Aside.{Where}
 use Rattle.block_files.specs.Areas.{within}
 use Rattle.block_files.specs.Contents.{counting, first_content, lacks, lacking}
@@ -66,19 +67,16 @@ picked_each f g same (x ∷ xs) =
 -- ---- the state
 
 module _ (shape : Shape) (old new : Image) (same : (f : ℕ) → IsOfPlace shape.place f → new f ≡ old f) where
-  abbrev first : ℕ
-  first = shape.place.first
+  abbrev place : Place
+  place = shape.place
 
-  abbrev copies : ℕ
-  copies = shape.place.copies
-
-  slot_same : (copy parity : ℕ) → copy < copies → parity < 2
-      → new (slot first copy parity) ≡ old (slot first copy parity)
-  slot_same copy parity lt small = same (slot first copy parity)
+  slot_same : (copy parity : ℕ) → copy < place.copies → parity < 2
+      → new (slot place copy parity) ≡ old (slot place copy parity)
+  slot_same copy parity lt small = same (slot place copy parity)
       (record { copy = copy; kind = parity; inside = lt; small = omega (arith, small); is = refl })
 
-  area_same : (copy : ℕ) → copy < copies → new (area first copy) ≡ old (area first copy)
-  area_same copy lt = same (area first copy) (record {
+  area_same : (copy : ℕ) → copy < place.copies → new (area place copy) ≡ old (area place copy)
+  area_same copy lt = same (area place copy) (record {
     copy = copy;
     kind = 2;
     inside = lt;
@@ -87,39 +85,39 @@ module _ (shape : Shape) (old new : Image) (same : (f : ℕ) → IsOfPlace shape
         refl;
   })
 
-  own_same : (copy generation : ℕ) → copy < copies → new (slot first copy (own generation))
-      ≡ old (slot first copy (own generation))
+  own_same : (copy generation : ℕ) → copy < place.copies → new (slot place copy (own generation))
+      ≡ old (slot place copy (own generation))
   own_same copy generation lt = slot_same copy (own generation) lt (omega arith)
 
-  held_same : (n : ℕ) → n ≤ copies → held new first n ≡ held old first n
-  unfolding held
+  held_same : (n : ℕ) → n ≤ place.copies → held_in_first new place n ≡ held_in_first old place n
+  unfolding held_in_first
   held_same zero le = refl
   held_same (suc copy) le =
-      let lt : copy < copies = omega (arith, le) in
+      let lt : copy < place.copies = omega (arith, le) in
       ap (λ bytes. with_slot (copy + 1) (of_parity 1 (verified bytes))
-      (with_slot (copy + 1) (of_parity 0 (verified (new (slot first copy 0)))) (held new first copy)))
+      (with_slot (copy + 1) (of_parity 0 (verified (new (slot place copy 0)))) (held_in_first new place copy)))
       (slot_same copy 1 lt (omega arith))
-      ∙ ap (λ bytes. with_slot (copy + 1) (of_parity 1 (verified (old (slot first copy 1))))
-      (with_slot (copy + 1) (of_parity 0 (verified bytes)) (held new first copy)))
+      ∙ ap (λ bytes. with_slot (copy + 1) (of_parity 1 (verified (old (slot place copy 1))))
+      (with_slot (copy + 1) (of_parity 0 (verified bytes)) (held_in_first new place copy)))
       (slot_same copy 0 lt (omega arith))
-      ∙ ap (λ seens. with_slot (copy + 1) (of_parity 1 (verified (old (slot first copy 1))))
-      (with_slot (copy + 1) (of_parity 0 (verified (old (slot first copy 0)))) seens))
+      ∙ ap (λ seens. with_slot (copy + 1) (of_parity 1 (verified (old (slot place copy 1))))
+      (with_slot (copy + 1) (of_parity 0 (verified (old (slot place copy 0)))) seens))
       (held_same copy (omega (arith, le)))
 
   fit_same : fit_texts shape new ≡ fit_texts shape old
   unfolding fit_texts
-  fit_same = ap (fit_among shape) (held_same copies (omega arith))
+  fit_same = ap (fit_among shape) (held_same place.copies (omega arith))
 
-  text_same : (text : FitText) (copy : ℕ) → copy < copies
+  text_same : (text : FitText) (copy : ℕ) → copy < place.copies
       → holds_text new shape.place text copy ≡ holds_text old shape.place text copy
   text_same text copy lt = ap (λ bytes. is_text (text.0.generation, text.0.text) (verified bytes))
       (own_same copy text.0.generation lt)
 
-  counts_same : (e : IndexEntry) (copy : ℕ) → copy < copies
+  counts_same : (e : IndexEntry) (copy : ℕ) → copy < place.copies
       → counts new shape.place e copy ≡ counts old shape.place e copy
   counts_same e copy lt = ap (λ file. is_some (counting file e.blocks e.len e.hash)) (area_same copy lt)
 
-  all_same : (text : FitText) (copy : ℕ) → copy < copies
+  all_same : (text : FitText) (copy : ℕ) → copy < place.copies
       → holds_all new shape.place text copy ≡ holds_all old shape.place text copy
   all_same text copy lt =
       ap (λ b. b && list_all (λ e. counts new shape.place e copy) text.1.entries) (text_same text copy lt)
@@ -130,23 +128,23 @@ module _ (shape : Shape) (old new : Image) (same : (f : ℕ) → IsOfPlace shape
   supporters_same : (s : Scope) (text : FitText) → supporters s new shape.place text ≡ supporters s old shape.place text
   supporters_same scope.Element text = refl
   supporters_same scope.Storage text = copies_alike (holds_all new shape.place text) (holds_all old shape.place text)
-      copies (all_same text)
+      place.copies (all_same text)
 
   qualifies_same : (text : FitText) → qualifies new shape text ≡ qualifies old shape text
   qualifies_same text = ap (λ xs. nat_le shape.m (length xs)) (supporters_same shape.scope text)
 
   given_same : (e : IndexEntry) → given new shape.place e ≡ given old shape.place e
-  given_same e = map_alike (λ c. counting (new (area first c)) e.blocks e.len e.hash)
-      (λ c. counting (old (area first c)) e.blocks e.len e.hash) 0 copies
+  given_same e = map_alike (λ c. counting (new (area place c)) e.blocks e.len e.hash)
+      (λ c. counting (old (area place c)) e.blocks e.len e.hash) 0 place.copies
       (λ c lt. ap (λ file. counting file e.blocks e.len e.hash) (area_same c (omega (arith, lt))))
 
   lacking_same : (value : Option (List ℕ)) (e : IndexEntry)
-      → lacking value first copies e.blocks e.len e.hash new ≡ lacking value first copies e.blocks e.len e.hash old
+      → lacking value place e.blocks e.len e.hash new ≡ lacking value place e.blocks e.len e.hash old
   lacking_same value e = ap (map suc) (filter_alike
-      (λ c. lacks value (counting (new (area first c)) e.blocks e.len e.hash)
-      (within (new (area first c)) e.blocks e.len))
-      (λ c. lacks value (counting (old (area first c)) e.blocks e.len e.hash)
-      (within (old (area first c)) e.blocks e.len)) 0 copies
+      (λ c. lacks value (counting (new (area place c)) e.blocks e.len e.hash)
+      (within (new (area place c)) e.blocks e.len))
+      (λ c. lacks value (counting (old (area place c)) e.blocks e.len e.hash)
+      (within (old (area place c)) e.blocks e.len)) 0 place.copies
       (λ c lt. ap (λ file. lacks value (counting file e.blocks e.len e.hash) (within file e.blocks e.len))
       (area_same c (omega (arith, lt)))))
 
@@ -163,7 +161,7 @@ module _ (shape : Shape) (old new : Image) (same : (f : ℕ) → IsOfPlace shape
   entry_same : (e : IndexEntry) → entry_view new shape.place shape.m e ≡ entry_view old shape.place shape.m e
   unfolding entry_view
   entry_same e =
-      ap (λ gives. seen e gives (lacking (voted shape.m gives) first copies e.blocks e.len e.hash new)) (given_same e)
+      ap (λ gives. seen e gives (lacking (voted shape.m gives) place e.blocks e.len e.hash new)) (given_same e)
       ∙ ap (λ xs. seen e (given old shape.place e) xs) (lacking_same (voted shape.m (given old shape.place e)) e)
 
   entries_same : (es : List IndexEntry) → map (entry_view new shape.place shape.m) es
@@ -182,14 +180,14 @@ module _ (shape : Shape) (old new : Image) (same : (f : ℕ) → IsOfPlace shape
         entries = entries;
       } in v) in
       let lacks_by = λ (image : Image) (entries : List Entry).
-      store_lacking shape.scope (λ copy. not (holds_text image shape.place text copy)) entries copies in
+      store_lacking shape.scope (λ copy. not (holds_text image shape.place text copy)) entries place.copies in
       ap (λ texts. view texts (entries_of new shape text) (lacks_by new (entries_of new shape text))) fit_same
       ∙ ap (λ entries. view (fit_texts shape old) entries (lacks_by new entries)) (entries_same text.1.entries)
       ∙ ap (view (fit_texts shape old) (entries_of old shape text)) (copies_alike
       (λ copy. lacks_number shape.scope (not (holds_text new shape.place text copy)) (entries_of old shape text)
       (copy + 1))
       (λ copy. lacks_number shape.scope (not (holds_text old shape.place text copy)) (entries_of old shape text)
-      (copy + 1)) copies
+      (copy + 1)) place.copies
       (λ copy lt. ap (λ b. lacks_number shape.scope (not b) (entries_of old shape text) (copy + 1))
       (text_same text copy lt)))
 
@@ -210,7 +208,7 @@ module _ (shape : Shape) (old new : Image) (same : (f : ℕ) → IsOfPlace shape
 
   -- ---- a clean place
 
-  holds_back : (copy g : ℕ) (t : List ℕ) → copy < copies → Holds new first copy g t → Holds old first copy g t
+  holds_back : (copy g : ℕ) (t : List ℕ) → copy < place.copies → Holds new place copy g t → Holds old place copy g t
   holds_back copy g t lt v = subst (λ (bytes : List ℕ). VerifiesAs bytes g t) (own_same copy g lt) v
 
   named_back : (at : Where) → IsNamed shape.place new at → IsNamed shape.place old at
@@ -225,7 +223,8 @@ module _ (shape : Shape) (old new : Image) (same : (f : ℕ) → IsOfPlace shape
     named = is.named;
   }
 
-  counting_back : (copy : ℕ) (at : Where) (w : List ℕ) → copy < copies → counting_at new shape.place copy at ≡ Some w
+  counting_back : (copy : ℕ) (at : Where) (w : List ℕ) → copy < place.copies
+      → counting_at new shape.place copy at ≡ Some w
       → counting_at old shape.place copy at ≡ Some w
   counting_back copy at w lt e = subst (λ (file : List ℕ). counting file at.blocks at.len at.hash ≡ Some w)
       (area_same copy lt) e
@@ -241,7 +240,7 @@ module _ (shape : Shape) (old new : Image) (same : (f : ℕ) → IsOfPlace shape
 
   -- ---- in use
 
-  alone_same : (g : ℕ) (t : List ℕ) → IsAlone old first copies g t → IsAlone new first copies g t
+  alone_same : (g : ℕ) (t : List ℕ) → IsAlone old place g t → IsAlone new place g t
   alone_same g t alone = record {
     held = λ copy lt. subst (λ (bytes : List ℕ). VerifiesAs bytes g t) (sym (own_same copy g lt)) (alone.held copy lt);
     blank = λ copy lt. subst IsBlank (sym (slot_same copy (other g) lt (omega arith))) (alone.blank copy lt);

@@ -35,16 +35,16 @@ LieApart one other = (one.first + 4 * one.copies ≤ other.first) ⊎ (other.fir
 -- then the files of one lie outside the other
 abbrev pub OutsideLaw : Type 0
 OutsideLaw = (one other : Place) → LieApart one other → (file : ℕ) → IsOfPlace other file
-    → IsOutside one.first one.copies file
+    → IsOutside one file
 
 -- what spares all files outside one place leaves a storage at the other as it was
 abbrev pub ElsewhereLaw : Type 0
 ElsewhereLaw = (one : Place) (shape : Shape) (old new : Image) → LieApart one shape.place
-    → Spares (IsOutside one.first one.copies) old new → IsUnchanged shape old new
+    → Spares (IsOutside one) old new → IsUnchanged shape old new
 
 -- a case in which all files outside one place are settled keeps a storage at the other, whatever its next state is to
 -- be
 abbrev pub ElsewhereCaseLaw : Type 0
 ElsewhereCaseLaw = (one : Place) (shape : Shape) (start : Image) (after : State) (c : Case) → 1 ≤ shape.m
     → LieApart one shape.place → IsClean shape start
-    → IsSettledOn (IsOutside one.first one.copies) start c → IsKeptCase shape start after c
+    → IsSettledOn (IsOutside one) start c → IsKeptCase shape start after c

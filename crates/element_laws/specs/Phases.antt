@@ -61,7 +61,7 @@ UntouchedLaw = (shape : Shape) (start : Image) (after : State) (c : Case) → 1 
 pub record OpensAt (shape : Shape) (start : Image) (generation : ℕ) (text : List ℕ) (index : Index) : Type 0 where
   pub copy : ℕ
   pub inside : copy < shape.place.copies
-  pub held : Holds start shape.place.first copy generation text
+  pub held : Holds start shape.place copy generation text
   pub fit : fit_index shape text ≡ Some index
   pub view : View
   pub others : List View
@@ -89,8 +89,8 @@ CorruptLaw = (shape : Shape) (start : Image) → find (qualifies start shape) (f
 pub record IsAdopted (shape : Shape) (start now : Image) (generation : ℕ) (text : List ℕ) (index : Index) : Type 0 where
   pub clean : IsClean shape start
   pub opens : OpensAt shape start generation text index
-  pub alone : IsAlone now shape.place.first shape.place.copies generation text
-  pub areas : Spares (IsNoSlot shape.place.first shape.place.copies) start now
+  pub alone : IsAlone now shape.place generation text
+  pub areas : Spares (IsNoSlot shape.place) start now
 
 -- the text is that of the salvage: none qualifies, and it is the first that fits
 abbrev pub IsSalvageAt : Shape → Image → FitText → Type 0
@@ -101,10 +101,10 @@ IsSalvageAt shape start text = chosen start shape ≡ Some (false, text)
 pub record IsGivenUp (shape : Shape) (start now : Image) : Type 0 where
   pub clean : IsClean shape start
   pub corrupt : IsCorruptAt shape start
-  pub less : HoldsLess shape.place.first shape.place.copies start now
+  pub less : HoldsLess shape.place start now
   pub salvage : (text : FitText) → IsSalvageAt shape start text
-      → KeepsText shape.place.first shape.place.copies text.0.generation text.0.text [] start now
-  pub areas : Spares (IsNoSlot shape.place.first shape.place.copies) start now
+      → KeepsText shape.place text.0.generation text.0.text [] start now
+  pub areas : Spares (IsNoSlot shape.place) start now
 
 -- ---- the index is adopted, or given up but for one text
 
@@ -112,14 +112,14 @@ pub record IsGivenUp (shape : Shape) (start now : Image) : Type 0 where
 abbrev pub AdoptLaw : Type 0
 AdoptLaw = (shape : Shape) (start : Image) (generation : ℕ) (text : List ℕ) (index : Index) (after : State) (c : Case)
     → 1 ≤ shape.m → IsClean shape start
-    → OpensAt shape start generation text index → PutStops shape.place.first shape.place.copies generation text start c
+    → OpensAt shape start generation text index → PutStops shape.place generation text start c
     → IsKeptCase shape start after c
 
 -- taking every text away but that of the salvage of a corrupt storage
 abbrev pub KeepLaw : Type 0
 KeepLaw = (shape : Shape) (start : Image) (text : FitText) (after : State) (c : Case) → 1 ≤ shape.m
     → IsClean shape start → IsSalvageAt shape start text
-    → KeepStops shape.place.first shape.place.copies text.0.generation text.0.text start c
+    → KeepStops shape.place text.0.generation text.0.text start c
     → IsKeptCase shape start after c
 
 -- ---- contents are written
@@ -134,7 +134,7 @@ abbrev pub ContentsLaw : Type 0
 ContentsLaw = (shape : Shape) (start now : Image) (generation : ℕ) (text : List ℕ) (index : Index) (taken : ℕ → Bool)
     (after : State) (old c : Case) → 1 ≤ shape.m
     → IsAdopted shape start now generation text index → IsIndex index → TakesBlocks taken index
-    → IsSettledAt now old → KeepsCase (IsNoArea shape.place.first shape.place.copies) (λ k. taken k ≡ true) old c
+    → IsSettledAt now old → KeepsCase (IsNoArea shape.place) (λ k. taken k ≡ true) old c
     → IsKeptCase shape start after c
 
 -- and after they were made durable
@@ -142,7 +142,7 @@ abbrev pub ContentsDoneLaw : Type 0
 ContentsDoneLaw = (shape : Shape) (start now then : Image) (generation : ℕ) (text : List ℕ) (index : Index)
     (taken : ℕ → Bool) (after : State) (c : Case) → 1 ≤ shape.m
     → IsAdopted shape start now generation text index → IsIndex index → TakesBlocks taken index
-    → Keeps (IsNoArea shape.place.first shape.place.copies) (λ k. taken k ≡ true) now then → IsSettledAt then c
+    → Keeps (IsNoArea shape.place) (λ k. taken k ≡ true) now then → IsSettledAt then c
     → IsKeptCase shape start after c
 
 -- ---- the index is written
@@ -151,7 +151,7 @@ ContentsDoneLaw = (shape : Shape) (start now then : Image) (generation : ℕ) (t
 abbrev pub AllWhole : Shape → Image → IndexEntry → List ℕ → Type 0
 AllWhole shape image e value = (copy : ℕ) → copy < shape.place.copies
     → (counting_at image shape.place copy (where_of e) ≡ Some value)
-    × (within (image (area shape.place.first copy)) e.blocks e.len ≡ true)
+    × (within (image (area shape.place copy)) e.blocks e.len ≡ true)
 
 -- the same name, info, length and number
 abbrev pub IsHeaded : IndexEntry → Entry → Type 0
@@ -179,10 +179,10 @@ IndexLaw = (shape : Shape) (start now then : Image) (generation : ℕ) (text : L
     (next : List ℕ) (new_index : Index)
     (view : View) (others : List View) (c : Case) → 1 ≤ shape.m
     → IsAdopted shape start now generation text index → IsIndex index → TakesBlocks taken index
-    → Keeps (IsNoArea shape.place.first shape.place.copies) (λ k. taken k ≡ true) now then
+    → Keeps (IsNoArea shape.place) (λ k. taken k ≡ true) now then
     → fit_index shape next ≡ Some new_index → view.generation ≡ generation + 1
     → AllZip (λ e f. IsWritten shape then e f ⊎ IsCarried shape start index e f) new_index.entries view.entries
-    → PutStops shape.place.first shape.place.copies (generation + 1) next then c
+    → PutStops shape.place (generation + 1) next then c
     → IsKeptCase shape start (Opens view others) c
 
 -- ---- a corrupt storage is made anew
@@ -190,10 +190,10 @@ IndexLaw = (shape : Shape) (start now then : Image) (generation : ℕ) (text : L
 -- after all texts but that of the salvage were taken away, copies hold less, and only that one
 abbrev pub GivenUpLaw : Type 0
 GivenUpLaw = (shape : Shape) (start now : Image) (text : FitText) → IsClean shape start → IsSalvageAt shape start text
-    → IsKeptAlone shape.place.first shape.place.copies text.0.generation text.0.text start now
-    → Spares (IsNoSlot shape.place.first shape.place.copies) start now
+    → IsKeptAlone shape.place text.0.generation text.0.text start now
+    → Spares (IsNoSlot shape.place) start now
     → IsGivenUp shape start now
-    × ((copy h : ℕ) (u : List ℕ) → copy < shape.place.copies → Holds now shape.place.first copy h u
+    × ((copy h : ℕ) (u : List ℕ) → copy < shape.place.copies → Holds now shape.place copy h u
     → (h ≡ text.0.generation) × (u ≡ text.0.text))
 
 -- the contents that held indexes name lie in blocks of the set, and fill no more than these
@@ -204,21 +204,21 @@ TakesNamed taken place image = (at : Where) → IsNamed place image at
 -- where one text alone is held, these are the contents of its index
 abbrev pub TakenLaw : Type 0
 TakenLaw = (place : Place) (image : Image) (text : List ℕ) (index : Index) (taken : ℕ → Bool)
-    → ((copy h : ℕ) (u : List ℕ) → copy < place.copies → Holds image place.first copy h u → u ≡ text)
+    → ((copy h : ℕ) (u : List ℕ) → copy < place.copies → Holds image place copy h u → u ≡ text)
     → index_of text ≡ Some index → IsIndex index → TakesBlocks taken index → TakesNamed taken place image
 
 -- writing contents into blocks that no held index names
 abbrev pub AnewContentsLaw : Type 0
 AnewContentsLaw = (shape : Shape) (start now : Image) (taken : ℕ → Bool) (after : State) (old c : Case) → 1 ≤ shape.m
     → IsGivenUp shape start now → TakesNamed taken shape.place now
-    → IsSettledAt now old → KeepsCase (IsNoArea shape.place.first shape.place.copies) (λ k. taken k ≡ true) old c
+    → IsSettledAt now old → KeepsCase (IsNoArea shape.place) (λ k. taken k ≡ true) old c
     → IsKeptCase shape start after c
 
 -- and after they were made durable
 abbrev pub AnewDoneLaw : Type 0
 AnewDoneLaw = (shape : Shape) (start now then : Image) (taken : ℕ → Bool) (after : State) (c : Case) → 1 ≤ shape.m
     → IsGivenUp shape start now → TakesNamed taken shape.place now
-    → Keeps (IsNoArea shape.place.first shape.place.copies) (λ k. taken k ≡ true) now then → IsSettledAt then c
+    → Keeps (IsNoArea shape.place) (λ k. taken k ≡ true) now then → IsSettledAt then c
     → IsKeptCase shape start after c
 
 -- and then the index, under a generation above those that are held: where there is a salvage the next one, so that each
@@ -228,12 +228,12 @@ AnewIndexLaw = (shape : Shape) (start now then : Image) (taken : ℕ → Bool) (
     (new_index : Index)
     (view : View) (others : List View) (c : Case) → 1 ≤ shape.m
     → IsGivenUp shape start now → TakesNamed taken shape.place now
-    → ((copy h : ℕ) (u : List ℕ) → copy < shape.place.copies → Holds now shape.place.first copy h u → h < generation)
+    → ((copy h : ℕ) (u : List ℕ) → copy < shape.place.copies → Holds now shape.place copy h u → h < generation)
     → ((text : FitText) → IsSalvageAt shape start text → generation ≡ text.0.generation + 1)
-    → Keeps (IsNoArea shape.place.first shape.place.copies) (λ k. taken k ≡ true) now then
+    → Keeps (IsNoArea shape.place) (λ k. taken k ≡ true) now then
     → fit_index shape next ≡ Some new_index → view.generation ≡ generation
     → AllZip (IsWritten shape then) new_index.entries view.entries
-    → PutStops shape.place.first shape.place.copies generation next then c
+    → PutStops shape.place generation next then c
     → IsKeptCase shape start (Opens view others) c
 
 -- ---- places that are clean
@@ -247,7 +247,7 @@ AreAgreed shape image e = (a b : ℕ) (s t : List ℕ) → a < shape.place.copie
 -- a text that fits is held alone, and copies agree on each content of its index
 abbrev pub CleanLaw : Type 0
 CleanLaw = (shape : Shape) (image : Image) (generation : ℕ) (text : List ℕ) (index : Index)
-    → IsAlone image shape.place.first shape.place.copies generation text → fit_index shape text ≡ Some index
+    → IsAlone image shape.place generation text → fit_index shape text ≡ Some index
     → AllByRecursion (AreAgreed shape image) index.entries → IsClean shape image
 
 -- what was adopted is clean
@@ -293,16 +293,16 @@ pub record TakesMend (shape : Shape) (start : Image) (e : IndexEntry) (copy : �
 -- no slot changed, and in each area the blocks of contents that are not mended there stand as they were
 pub record IsSparing (keeps : (blocks old new : List ℕ) → Type 0) (shape : Shape) (start now : Image) (index : Index)
     (image : Image) : Type 0 where
-  pub slots : Spares (IsNoArea shape.place.first shape.place.copies) now image
+  pub slots : Spares (IsNoArea shape.place) now image
   pub kept : AllByRecursion (λ (e : IndexEntry). (copy : ℕ) → copy < shape.place.copies
       → ¬ (TakesMend shape start e copy)
-      → keeps e.blocks (now (area shape.place.first copy)) (image (area shape.place.first copy))) index.entries
+      → keeps e.blocks (now (area shape.place copy)) (image (area shape.place copy))) index.entries
 
 -- the copies that lacked a content on which enough copies agree have all of it
 abbrev pub HasMended : Shape → (start image : Image) → Index → Type 0
 HasMended shape start image index = AllByRecursion (λ (e : IndexEntry). (value : List ℕ)
     → voted shape.m (given start shape.place e) ≡ Some value
-    → NamedFull shape.place.first (lacked shape start e) e.blocks value image) index.entries
+    → NamedFull shape.place (lacked shape start e) e.blocks value image) index.entries
 
 -- a case while contents are mended: what is durable is as before, or all of them mended
 pub record IsMending (shape : Shape) (start now : Image) (index : Index) (c : Case) : Type 0 where
@@ -322,7 +322,7 @@ MendStepLaw = (shape : Shape) (start now : Image) (index : Index) (e : IndexEntr
     → IsIndex index → Contains index.entries e
     → voted shape.m (given start shape.place e) ≡ Some value → AreCopies shape.place.copies (lacked shape start e)
     → IsMending shape start now index old
-    → KeepsCase (IsNoneOf shape.place.first (lacked shape start e)) (IsApart e.blocks) old new
+    → KeepsCase (IsNoneOf shape.place (lacked shape start e)) (IsApart e.blocks) old new
     → IsMending shape start now index new
 
 -- and after a sync, once all of them are mended

@@ -58,8 +58,8 @@ pub record IsOpened (told : Bool) (image : Image) (shape : Shape) (test : List �
 -- However a call on a storage ends: no file outside the place changes, at the end and at any moment, and a stop at any
 -- moment leaves the storage of before or that of after.
 pub record IsStoring (told : Bool) (shape : Shape) (after : State) (old new : Medium) : Type 0 where
-  pub elsewhere : IsTrue told → Spares (IsOutside shape.place.first shape.place.copies) old.image new.image
-  pub outside : IsTrue told → Quiet old → EachCase (IsSettledOn (IsOutside shape.place.first shape.place.copies)
+  pub elsewhere : IsTrue told → Spares (IsOutside shape.place) old.image new.image
+  pub outside : IsTrue told → Quiet old → EachCase (IsSettledOn (IsOutside shape.place)
       old.image) old new
   pub any_moment : IsTrue told → KeptThroughout shape after old new
   pub time : Elapses old new

@@ -11,7 +11,7 @@ use Rattle.guarded_cell.specs.declared.looking.Seen.{Seen}
 use Rattle.guarded_cell.specs.declared.slots.Slots.{Slots}
 use Rattle.guarded_cell.specs.Held.{held, holds, copies_that}
 use Rattle.guarded_cell.specs.Slots.{IsSlotsOf}
-use Rattle.guarded_cell.specs.ShownLaws.{held_shows}
+use Rattle.guarded_cell.specs.lemmas.ShownLaws.{held_shows}
 use Rattle.index_text.specs.declared.entries.Index.{Index}
 use Rattle.element_state.specs.declared.shapes.Shape.{Shape}
 use Rattle.element_state.specs.declared.shapes.View.{View}
@@ -25,6 +25,7 @@ use Rattle.element_state.specs.lemmas.Entrywise.{all_at}
 use Rattle.element_state.proofs.Viewing.{view_is}
 use Rattle.element_state.specs.lemmas.ViewsRead.{AreNumbers, view_read, lacking_are}
 use Rattle.disk_model.specs.Orders.{named_in}
+use Rattle.disk_model.specs.declared.place.Place.{Place}
 use Rattle.per_base.specs.declared.elements.Entry.{Entry}
 
 -- ---- the first that passes
@@ -98,7 +99,7 @@ fit_all shape P (s ∷ seens) all = fit_step shape P s (fit_index shape s.text) 
     (fit_all shape P seens all.1)
 
 pub fit_texts_among : (shape : Shape) (image : Image) (seens : List Seen)
-    → seens ≡ held image shape.place.first shape.place.copies
+    → seens ≡ held image shape.place
     → fit_among shape seens ≡ fit_texts shape image
 unfolding fit_texts
 fit_texts_among shape image seens e = ap (fit_among shape) e
@@ -106,10 +107,10 @@ fit_texts_among shape image seens e = ap (fit_among shape) e
 pub fit_held : (shape : Shape) (image : Image) → AllByRecursion (IsHeldOn image shape) (fit_texts shape image)
 unfolding fit_texts
 fit_held shape image =
-    let seens = held image shape.place.first shape.place.copies in
+    let seens = held image shape.place in
     let P : Seen → Type 0 = λ s. s.copies ≡ copies_that (λ copy.
-    holds image shape.place.first copy (s.generation, s.text)) shape.place.copies in
-    fit_all shape P seens (all_rec P seens (held_shows image shape.place.first shape.place.copies).copies_are)
+    holds image shape.place copy (s.generation, s.text)) shape.place.copies in
+    fit_all shape P seens (all_rec P seens (held_shows image shape.place).copies_are)
 
 pub both_all : {A : Type 0} (P Q R : A → Type 0) → ((x : A) → P x → Q x → R x) → (xs : List A) → AllByRecursion P xs
     → AllByRecursion Q xs → AllByRecursion R xs
@@ -227,8 +228,8 @@ module _ (shape : Shape) (texts : List FitText) (f : Found) (at : ℕ) (sole : B
       }
 
 -- the flags of the look
-pub found_slots : (image : Image) (first copies : ℕ) (slots : Slots) (found : Option Found)
-    → IfSome found (λ f. f.slots ≡ slots) → IsSlotsOf image first copies slots
-    → IfSome found (λ f. IsSlotsOf image first copies f.slots)
-found_slots image first copies slots None same are = tt
-found_slots image first copies slots (Some f) same are = subst (IsSlotsOf image first copies) (sym same) are
+pub found_slots : (image : Image) (place : Place) (slots : Slots) (found : Option Found)
+    → IfSome found (λ f. f.slots ≡ slots) → IsSlotsOf image place slots
+    → IfSome found (λ f. IsSlotsOf image place f.slots)
+found_slots image place slots None same are = tt
+found_slots image place slots (Some f) same are = subst (IsSlotsOf image place) (sym same) are

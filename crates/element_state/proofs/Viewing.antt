@@ -23,7 +23,7 @@ use Rattle.element_state.specs.Views.{view_of}
 use Rattle.element_state.specs.Chosen.{Vouches}
 use Rattle.element_state.specs.Surveys.{IsHeldOn, view_by}
 use Rattle.element_state.specs.lemmas.Supported.{copies_alike}
-use Rattle.guarded_cell.specs.CopyLaws.{named_passing}
+use Rattle.guarded_cell.specs.lemmas.CopyLaws.{named_passing}
 
 -- ---- a copy that does not lack an element has its content
 
@@ -65,14 +65,14 @@ unfolding entry_view
 vouched image place m e copy lt absent = step (counts image place e copy) refl
   where
     test : ℕ → Bool
-    test c = lacks (voted m (given image place e)) (counting (image (area place.first c)) e.blocks e.len e.hash)
-        (within (image (area place.first c)) e.blocks e.len)
+    test c = lacks (voted m (given image place e)) (counting (image (area place c)) e.blocks e.len e.hash)
+        (within (image (area place c)) e.blocks e.len)
 
     step : (b : Bool) → counts image place e copy ≡ b → counts image place e copy ≡ true
     step true is = is
     step false is =
         let named = named_filtered test place.copies 0 copy (omega arith) (omega (arith, lt))
-        (lacks_missing (voted m (given image place e)) _ (within (image (area place.first copy)) e.blocks e.len) is) in
+        (lacks_missing (voted m (given image place e)) _ (within (image (area place copy)) e.blocks e.len) is) in
         let both : true ≡ false = sym named ∙ absent in cc
 
 pub all_vouched : (image : Image) (place : Place) (m : ℕ) (es : List IndexEntry)

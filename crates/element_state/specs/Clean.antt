@@ -27,13 +27,13 @@ pub record IsNamed (place : Place) (image : Image) (at : Where) : Type 0 where
   pub text : List ℕ
   pub index : Index
   pub inside : copy < place.copies
-  pub held : Holds image place.first copy generation text
+  pub held : Holds image place copy generation text
   pub spelled : index_of text ≡ Some index
   pub named : Contains (map where_of index.entries) at
 
 -- what a copy gives there
 abbrev pub counting_at : Image → Place → ℕ → Where → Option (List ℕ)
-counting_at image place copy at = counting (image (area place.first copy)) at.blocks at.len at.hash
+counting_at image place copy at = counting (image (area place copy)) at.blocks at.len at.hash
 
 -- a content in the blocks of a copy
 pub record BlockText : Type 0 where
@@ -53,15 +53,15 @@ pub data Piece : Type 0 where
 
 -- the pieces of a place
 abbrev pub IsPiece : Place → Image → Piece → Type 0
-IsPiece place image (in_slot piece) = IsSlotPiece place.first place.copies image piece
+IsPiece place image (in_slot piece) = IsSlotPiece place image piece
 IsPiece place image (in_blocks piece) = IsBlockPiece place image piece
 
 -- no two texts of one generation are held, each text that is held fits, and copies that count under one entry hold the
 -- same bytes
 pub record IsClean (shape : Shape) (image : Image) : Type 0 where
-  pub one_each : IsOneEach image shape.place.first shape.place.copies
+  pub one_each : IsOneEach image shape.place
   pub fit : (copy generation : ℕ) (text : List ℕ) → copy < shape.place.copies
-      → Holds image shape.place.first copy generation text
+      → Holds image shape.place copy generation text
       → (index : Index) × (fit_index shape text ≡ Some index)
   pub alike : (at : Where) (a b : ℕ) (s t : List ℕ) → IsNamed shape.place image at → a < shape.place.copies
       → b < shape.place.copies

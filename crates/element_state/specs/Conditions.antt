@@ -64,7 +64,7 @@ IsMended (Bad salvage) lacking = ⊤
 -- slot holds any; the storage opens at this view, with no other text; and only elements that cannot be read lack
 -- copies.
 pub record IsInUse (shape : Shape) (image : Image) (index : Index) (v : View) : Type 0 where
-  pub alone : IsAlone image shape.place.first shape.place.copies v.generation (index_text index)
+  pub alone : IsAlone image shape.place v.generation (index_text index)
   pub fit : fit_index shape (index_text index) ≡ Some index
   pub opens : store_at image shape ≡ Opens v []
   pub sole : v.sole ≡ true

@@ -30,7 +30,7 @@ fit_among shape seens = filter_map (λ seen. with_index seen (fit_index shape se
 
 -- the held texts that fit: greatest generation first, then by first copy
 unfoldable pub fit_texts : Shape → Image → List FitText
-fit_texts shape image = fit_among shape (held image shape.place.first shape.place.copies)
+fit_texts shape image = fit_among shape (held image shape.place)
 
 -- no text that fits stands beside the first
 abbrev pub is_sole : List FitText → Bool

@@ -49,7 +49,7 @@ IsFromOneOf left (there ∷ views) = IsFrom left there ⊎ IsFromOneOf left view
 
 -- the damage spares the copy, counted from 0, and it did not lack what the list speaks of
 abbrev pub IsSpared : Shape → (damaged lacking : List ℕ) → (copy : ℕ) → Type 0
-IsSpared shape damaged lacking copy = IsUndamaged damaged shape.place.first copy × ¬ (Contains lacking (copy + 1))
+IsSpared shape damaged lacking copy = IsUndamaged damaged shape.place copy × ¬ (Contains lacking (copy + 1))
 
 -- so many copies as must agree are spared and did not lack it
 abbrev pub HasEnough : Shape → (damaged lacking : List ℕ) → Type 0
@@ -149,8 +149,8 @@ pub record Kept (shape : Shape) (damaged : List ℕ) (left before after : State)
 -- a copy held this text at the start, and the damage spares it, whatever contents it lacked
 abbrev pub HasHolder : Shape → (start : Image) → (damaged : List ℕ) → FitText → Type 0
 HasHolder shape start damaged text = (copy : ℕ) × (copy < shape.place.copies)
-    × IsUndamaged damaged shape.place.first copy
-    × Holds start shape.place.first copy text.0.generation text.0.text
+    × IsUndamaged damaged shape.place copy
+    × Holds start shape.place copy text.0.generation text.0.text
 
 -- with one copy left that holds the text of the salvage of a corrupt storage, it has this salvage, or the view of after
 -- in its place

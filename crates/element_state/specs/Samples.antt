@@ -11,7 +11,7 @@ use Rattle.hash_guard.specs.SealedText.{sealed, numbered, verified, generation_i
 use Rattle.disk_model.specs.Image.{Image}
 use Rattle.disk_model.specs.Orders.{named_in}
 use Rattle.m_of_n.specs.Vote.{voted}
-use Rattle.guarded_cell.specs.Held.{held}
+use Rattle.guarded_cell.specs.Held.{held_in_first}
 use Rattle.block_files.specs.Contents.{counting}
 use Rattle.index_text.specs.declared.entries.Index.{Index}
 use Rattle.index_text.specs.Spelling.{index_text, entry_text}
@@ -28,7 +28,8 @@ use Rattle.element_state.specs.Changes.{committed_by}
 
 -- all that the samples compute with
 unfoldable computed : ℕ
-unfolding voted sealed numbered verified generation_in length_in held counting index_text entry_text index_of header_at
+unfolding voted sealed numbered verified generation_in length_in held_in_first counting index_text entry_text index_of
+    header_at
     entry_at name_at info_at file_info_at cause_at changed_at len_at many bytes_at number_at fit_index fit_texts
     entry_view view_of store_at sha256 digest_bytes hash_after compress rounds schedule first_words
 computed = 0

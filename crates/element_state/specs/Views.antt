@@ -26,11 +26,11 @@ use Rattle.element_state.specs.Fit.{FitText, fit_texts, is_sole}
 
 -- the copy holds the text
 abbrev pub holds_text : Image → Place → FitText → ℕ → Bool
-holds_text image place text copy = holds image place.first copy (text.0.generation, text.0.text)
+holds_text image place text copy = holds image place copy (text.0.generation, text.0.text)
 
 -- the content of an entry counts in the copy
 abbrev pub counts : Image → Place → IndexEntry → ℕ → Bool
-counts image place e copy = is_some (counting (image (area place.first copy)) e.blocks e.len e.hash)
+counts image place e copy = is_some (counting (image (area place copy)) e.blocks e.len e.hash)
 
 -- the copy holds the text, and the contents of all its entries count there
 abbrev pub holds_all : Image → Place → FitText → ℕ → Bool
@@ -54,7 +54,7 @@ content_of None salvage = Bad salvage
 
 -- what each copy gives of the content of an entry
 abbrev pub given : Image → Place → IndexEntry → List (Option (List ℕ))
-given image place e = contents place.first place.copies e.blocks e.len e.hash image
+given image place e = contents place e.blocks e.len e.hash image
 
 -- an element: the value on which m copies agree, or else the salvage, and the copies that lack it
 unfoldable pub entry_view : Image → Place → ℕ → IndexEntry → Entry
@@ -64,7 +64,7 @@ entry_view image place m e = record {
   changed = e.changed;
   len = e.len;
   content = content_of (voted m (given image place e)) (first_content (given image place e));
-  lacking = lacking (voted m (given image place e)) place.first place.copies e.blocks e.len e.hash image;
+  lacking = lacking (voted m (given image place e)) place e.blocks e.len e.hash image;
 }
 
 -- a copy, counted from 1, lacks one of these elements

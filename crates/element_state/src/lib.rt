@@ -3,14 +3,16 @@
 //! A storage is an index in the slots of a place and contents in its areas. A text that some copy holds fits where it
 //! is an index of the storage's kind and within its bounds; it qualifies where enough copies support it: with element
 //! scope those that hold it, with storage scope those that hold it and in which every content counts. The storage opens
-//! at the first text that qualifies, in the order of generations and then of copies; else it is corrupt, and the first
-//! text that fits is its salvage.
+//! at the first text that qualifies, in the order of generations and then of copies; else it is corrupt, and the view
+//! of the first text that fits is its salvage. The salvage of an element is another thing: where too few copies agree
+//! on its content, the bytes of the first copy in which it counts, if there is one.
 //!
 //! The definitions in `specs/` say this for any image, and with it what every call on a storage makes of it: the states
 //! after an opening, a commit, a creation and a rebuild, the reports, what a stop and damage may leave, and how many
 //! bytes a commit may write.
 //!
-//! Limits: at most 1,024 elements, 8 copies, and 4,194,304 bytes of names and contents.
+//! Limits: at most 1,024 elements, 8 copies, of which a manifest can ask for 7, and 4,194,304 bytes of names and
+//! contents.
 #![tactic(auto)]
 
 mod choosing;

@@ -59,7 +59,7 @@ pub fn survey<D: Disk>(
         ≡ option_map (λ f. f.view) found) }
 
     ensures slots { IsTrue D.told → IfOk result (λ found. IfSome found (λ f.
-        IsSlotsOf (D.medium disk.old).image shape.now.place.first shape.now.place.copies f.slots)) }
+        IsSlotsOf (D.medium disk.old).image shape.now.place f.slots)) }
 
     // Whether the disk tells its bytes or not.
     ensures found { IfOk result (λ found. IfSome found (IsFound shape.now)) }

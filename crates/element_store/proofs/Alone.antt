@@ -7,13 +7,14 @@ use Rattle.per_base.specs.declared.elements.Scope.{Scope}
 use Rattle.per_base.specs.declared.elements.Entry.{Entry}
 use Rattle.per_base.specs.declared.elements.Scope.TheVariants as scope
 use Rattle.disk_model.specs.Image.{Image}
+use Rattle.disk_model.specs.declared.place.Place.{Place}
 use Rattle.guarded_cell.specs.declared.looking.Seen.{Seen}
 use Rattle.guarded_cell.specs.Register.{IsAlone}
 use Rattle.guarded_cell.specs.Held.{held, holds, copies_that}
-use Rattle.guarded_cell.specs.CopyLaws.{some_passes}
-use Rattle.guarded_cell.specs.HeldLaws.{holds_is, is_holds, held_copies, held_all, held_once}
-use Rattle.guarded_cell.specs.FirstLaws.{held_some}
-use Rattle.guarded_cell.specs.StopLaws.{alone_only}
+use Rattle.guarded_cell.specs.lemmas.CopyLaws.{some_passes}
+use Rattle.guarded_cell.specs.lemmas.HeldLaws.{holds_is, is_holds, held_copies, held_all, held_once}
+use Rattle.guarded_cell.specs.lemmas.FirstLaws.{held_some}
+use Rattle.guarded_cell.specs.lemmas.StopLaws.{alone_only}
 use Rattle.index_text.specs.declared.entries.Index.{Index}
 use Rattle.element_state.specs.declared.shapes.Shape.{Shape}
 use Rattle.element_state.specs.declared.shapes.View.{View}
@@ -51,31 +52,35 @@ one_of [] d long = absurd (omega (arith, long))
 one_of (x ∷ []) d long = refl
 one_of (x ∷ y ∷ xs) d long = absurd (omega (arith, long))
 
-module _ (image : Image) (first copies g : ℕ) (text : List ℕ) (some : 1 ≤ copies)
-    (alone : IsAlone image first copies g text) where
+module _ (image : Image) (place : Place) (g : ℕ) (text : List ℕ) (some : 1 ≤ place.copies)
+    (alone : IsAlone image place g text) where
   -- it is the only one
-  is_it : (k : ℕ) (d : Seen) → k < length (held image first copies)
-      → ((get_or (held image first copies) k d).generation ≡ g) × ((get_or (held image first copies) k d).text ≡ text)
+  is_it : (k : ℕ) (d : Seen) → k < length (held image place)
+      → ((get_or (held image place) k d).generation ≡ g) × ((get_or (held image place) k d).text ≡ text)
   is_it k d lt =
-      let seen : Seen = get_or (held image first copies) k d in
-      let long : 1 ≤ length seen.copies = held_some image first copies k d lt in
-      let are = held_copies image first copies k d lt in
-      let (c, within, passes) = some_passes (λ c. holds image first c (seen.generation, seen.text)) copies
+      let seen : Seen = get_or (held image place) k d in
+      let long : 1 ≤ length seen.copies = held_some image place k d lt in
+      let are = held_copies image place k d lt in
+      let (c, within, passes) = some_passes (λ c. holds image place c (seen.generation, seen.text)) place.copies
       (subst (λ (cs : List ℕ). 1 ≤ length cs) are long) in
-      alone_only image first copies g text alone c within seen.generation seen.text
-      (holds_is image first c (seen.generation, seen.text) passes)
+      alone_only image place g text alone c within seen.generation seen.text
+      (holds_is image place c (seen.generation, seen.text) passes)
 
   pub held_of : Seen
-  held_of = record { generation = g; text = text; copies = copies_that (λ c. holds image first c (g, text)) copies }
+  held_of = record {
+    generation = g;
+    text = text;
+    copies = copies_that (λ c. holds image place c (g, text)) place.copies;
+  }
 
-  one_held : length (held image first copies) ≡ 1
+  one_held : length (held image place) ≡ 1
   one_held =
-      let (k, x, lt, at, is) = held_all image first copies 0 g text some (alone.held 0 some) in
-      let few : length (held image first copies) < 2 = few_of (length (held image first copies)) (λ two.
+      let (k, x, lt, at, is) = held_all image place 0 g text some (alone.held 0 some) in
+      let few : length (held image place) < 2 = few_of (length (held image place)) (λ two.
       let d : Seen = record { generation = g; text = text; copies = [] } in
       let a = is_it 0 d (omega (arith, two)) in
       let b = is_it 1 d (omega (arith, two)) in
-      held_once image first copies 0 1 d (omega arith) (omega (arith, two)) (b.0 ∙ sym a.0) (b.1 ∙ sym a.1)) in
+      held_once image place 0 1 d (omega arith) (omega (arith, two)) (b.0 ∙ sym a.0) (b.1 ∙ sym a.1)) in
       omega (arith, lt, few)
     where
       few_of : (n : ℕ) → (2 ≤ n → ⊥) → n < 2
@@ -83,54 +88,58 @@ module _ (image : Image) (first copies g : ℕ) (text : List ℕ) (some : 1 ≤ 
       few_of (suc zero) never = omega arith
       few_of (suc (suc n)) never = absurd (never (omega arith))
 
-  pub held_alone : held image first copies ≡ record {
+  pub held_alone : held image place ≡ record {
     generation = g;
     text = text;
     copies =
-        copies_that (λ c. holds image first c (g, text)) copies;
+        copies_that (λ c. holds image place c (g, text)) place.copies;
   } ∷ []
   held_alone =
       let d : Seen = record { generation = g; text = text; copies = [] } in
-      let lt : 0 < length (held image first copies) = omega (arith, one_held) in
-      let seen : Seen = get_or (held image first copies) 0 d in
+      let lt : 0 < length (held image place) = omega (arith, one_held) in
+      let seen : Seen = get_or (held image place) 0 d in
       let it = is_it 0 d lt in
-      let are : seen.copies ≡ copies_that (λ c. holds image first c (seen.generation, seen.text)) copies =
-      held_copies image first copies 0 d lt in
+      let are : seen.copies ≡ copies_that (λ c. holds image place c (seen.generation, seen.text)) place.copies =
+      held_copies image place 0 d lt in
       let shown : seen ≡ record {
         generation = g;
         text = text;
         copies =
-            copies_that (λ c. holds image first c (g, text)) copies;
+            copies_that (λ c. holds image place c (g, text)) place.copies;
       } =
       seen_is seen it.0 it.1 are in
-      one_of (held image first copies) d one_held ∙ ap (λ (s : Seen). s ∷ []) shown
+      one_of (held image place) d one_held ∙ ap (λ (s : Seen). s ∷ []) shown
     where
       seen_is : (s : Seen) → s.generation ≡ g → s.text ≡ text
-          → s.copies ≡ copies_that (λ c. holds image first c (s.generation, s.text)) copies
-          → s ≡ record { generation = g; text = text; copies = copies_that (λ c. holds image first c (g, text)) copies }
+          → s.copies ≡ copies_that (λ c. holds image place c (s.generation, s.text)) place.copies
+          → s ≡ record {
+            generation = g;
+            text = text;
+            copies = copies_that (λ c. holds image place c (g, text)) place.copies;
+          }
       seen_is s a b e =
-          let both : copies_that (λ c. holds image first c (s.generation, s.text)) copies
-          ≡ copies_that (λ c. holds image first c (g, text)) copies =
-          ap (λ h. copies_that (λ c. holds image first c (h, s.text)) copies) a
-          ∙ ap (λ t. copies_that (λ c. holds image first c (g, t)) copies) b in
+          let both : copies_that (λ c. holds image place c (s.generation, s.text)) place.copies
+          ≡ copies_that (λ c. holds image place c (g, text)) place.copies =
+          ap (λ h. copies_that (λ c. holds image place c (h, s.text)) place.copies) a
+          ∙ ap (λ t. copies_that (λ c. holds image place c (g, t)) place.copies) b in
           ap (λ (h : ℕ). record { generation = h; text = s.text; copies = s.copies }) a
           ∙ ap (λ (t : List ℕ). record { generation = g; text = t; copies = s.copies }) b
           ∙ ap (λ (cs : List ℕ). record { generation = g; text = text; copies = cs }) (e ∙ both)
 
-  pub all_hold : (c : ℕ) → c < copies → holds image first c (g, text) ≡ true
-  all_hold c lt = is_holds image first c (g, text) (alone.held c lt)
+  pub all_hold : (c : ℕ) → c < place.copies → holds image place c (g, text) ≡ true
+  all_hold c lt = is_holds image place c (g, text) (alone.held c lt)
 
 -- ---- the state
 
 module _ (image : Image) (shape : Shape) (g : ℕ) (text : List ℕ) (index : Index) (some : 1 ≤ shape.place.copies)
-    (alone : IsAlone image shape.place.first shape.place.copies g text) (fit : fit_index shape text ≡ Some index) where
+    (alone : IsAlone image shape.place g text) (fit : fit_index shape text ≡ Some index) where
   abbrev pub alone_text : FitText
   alone_text = (
     record {
       generation = g;
       text = text;
       copies =
-          copies_that (λ c. holds image shape.place.first c (g, text)) shape.place.copies;
+          copies_that (λ c. holds image shape.place c (g, text)) shape.place.copies;
     },
     index,
   )
@@ -142,9 +151,9 @@ module _ (image : Image) (shape : Shape) (g : ℕ) (text : List ℕ) (index : In
         generation = g;
         text = text;
         copies =
-            copies_that (λ c. holds image shape.place.first c (g, text)) shape.place.copies;
+            copies_that (λ c. holds image shape.place c (g, text)) shape.place.copies;
       } in
-      rw (held_alone image shape.place.first shape.place.copies g text some alone, fit)
+      rw (held_alone image shape.place g text some alone, fit)
 
   abbrev viewed : View
   viewed = whole_view shape g (map (entry_view image shape.place shape.m) index.entries)
@@ -152,10 +161,10 @@ module _ (image : Image) (shape : Shape) (g : ℕ) (text : List ℕ) (index : In
   lacking_of : (s : Scope) (es : List Entry) → store_lacking s (λ c. not (holds_text image shape.place alone_text c)) es
       shape.place.copies ≡ lacking_by s es shape.place.copies
   lacking_of scope.Element es = no_copies (λ c. not (holds_text image shape.place alone_text c)) shape.place.copies
-      (λ c lt. ap not (all_hold image shape.place.first shape.place.copies g text some alone c lt))
+      (λ c lt. ap not (all_hold image shape.place g text some alone c lt))
   lacking_of scope.Storage es = copies_same (λ c. not (holds_text image shape.place alone_text c)
       || lacks_one es (c + 1)) (λ copy. lacks_one es (copy + 1)) shape.place.copies
-      (λ c lt. ap (λ b. not b || lacks_one es (c + 1)) (all_hold image shape.place.first shape.place.copies g text some
+      (λ c lt. ap (λ b. not b || lacks_one es (c + 1)) (all_hold image shape.place g text some
       alone c lt))
 
   view_alone : view_of image shape alone_text ≡ viewed
@@ -194,5 +203,5 @@ module _ (image : Image) (shape : Shape) (g : ℕ) (text : List ℕ) (index : In
 
   -- with element scope every copy supports it
   pub supports_element : length (supporters scope.Element image shape.place alone_text) ≡ shape.place.copies
-  supports_element = all_copies (λ c. holds image shape.place.first c (g, text)) shape.place.copies
-      (all_hold image shape.place.first shape.place.copies g text some alone)
+  supports_element = all_copies (λ c. holds image shape.place c (g, text)) shape.place.copies
+      (all_hold image shape.place g text some alone)

@@ -9,7 +9,7 @@ use Rattle.per_base.specs.declared.elements.Fresh.{Fresh}
 use Rattle.disk_model.specs.declared.place.Place.{Place}
 use Rattle.disk_model.specs.Image.{Image}
 use Rattle.guarded_cell.specs.Register.{IsAlone}
-use Rattle.guarded_cell.specs.StopLaws.{alone_only}
+use Rattle.guarded_cell.specs.lemmas.StopLaws.{alone_only}
 use Rattle.block_files.specs.Aside.{Where}
 use Rattle.index_text.specs.declared.entries.Index.{Index}
 use Rattle.index_text.specs.declared.entries.IndexEntry.{IndexEntry}
@@ -58,18 +58,18 @@ alike_in image place m g (f ∷ fs) (e ∷ es) zip at (suc k) lt is a b s t a_in
     alike_in image place m g fs es zip.1 at k (omega (arith, lt)) is a b s t a_in b_in one two
 
 pub made_clean : (shape : Shape) (image : Image) (generation : ℕ) (contents : List Fresh) (index : Index)
-    → IsAlone image shape.place.first shape.place.copies generation (index_text index)
+    → IsAlone image shape.place generation (index_text index)
     → fit_index shape (index_text index) ≡ Some index
     → ShowsFresh image shape.place shape.m generation contents index.entries → IsClean shape image
 made_clean shape image g contents index alone fit shown = record {
   one_each = λ a b h s t lt less here there.
-      (alone_only image shape.place.first shape.place.copies g (index_text index) alone a lt h s here).1
-      ∙ sym (alone_only image shape.place.first shape.place.copies g (index_text index) alone b less h t there).1;
+      (alone_only image shape.place g (index_text index) alone a lt h s here).1
+      ∙ sym (alone_only image shape.place g (index_text index) alone b less h t there).1;
   fit = λ copy h t lt here.
-      let e = (alone_only image shape.place.first shape.place.copies g (index_text index) alone copy lt h t here).1 in
+      let e = (alone_only image shape.place g (index_text index) alone copy lt h t here).1 in
       (index, ap (fit_index shape) e ∙ fit);
   alike = λ at a b s t named lt less one two.
-      let e : named.text ≡ index_text index = (alone_only image shape.place.first shape.place.copies g
+      let e : named.text ≡ index_text index = (alone_only image shape.place g
       (index_text index) alone named.copy named.inside named.generation named.text named.held).1 in
       let same : named.index ≡ index = only_index shape (index_text index) index named.index fit
       (sym (ap index_of e) ∙ named.spelled) in

@@ -73,15 +73,15 @@ module _ (in_use : InUseLaw) (shape : Shape) (set now : List Bool) (index : Inde
   left : (k : ℕ) → contains set k ≡ true → IsLeftByAll jobs k
   left k taken = left_of_placed set now jobs placed k taken
 
-  pub keeps_set : (mid : Medium) → Keeps (IsNoArea shape.place.first shape.place.copies) (IsLeftByAll jobs) old.image
+  pub keeps_set : (mid : Medium) → Keeps (IsNoArea shape.place) (IsLeftByAll jobs) old.image
       mid.image
-      → Keeps (IsNoArea shape.place.first shape.place.copies) (λ k. contains set k ≡ true) old.image mid.image
+      → Keeps (IsNoArea shape.place) (λ k. contains set k ≡ true) old.image mid.image
   keeps_set mid keeps = keeps_less (λ f none. none) left keeps
 
   -- while the jobs are written
   pub jobs_kept : ContentsLaw → ContentsDoneLaw → (mid : Medium) (done : Type 0) (after : State)
-      → (done → Keeps (IsNoArea shape.place.first shape.place.copies) (IsLeftByAll jobs) old.image mid.image)
-      → EachCase (IsJobsCase shape.place.first shape.place.copies jobs old mid done) old mid
+      → (done → Keeps (IsNoArea shape.place) (IsLeftByAll jobs) old.image mid.image)
+      → EachCase (IsJobsCase shape.place jobs old mid done) old mid
       → KeptThroughout shape after old mid
   jobs_kept contents contents_done mid done after keeps each quiet clean c past = ⊎_elim
       (λ some. let (d, was, step) = some in
@@ -119,9 +119,9 @@ module _ (in_use : InUseLaw) (shape : Shape) (set now : List Bool) (index : Inde
         (λ e f i j r. ⊎_elim (λ put. inl (written_of e f put)) (λ still. inr (carried_of e f still)) r) zip
 
     pub index_kept : IndexLaw → (new : Medium) → fit_index shape (index_text next) ≡ Some next
-        → Keeps (IsNoArea shape.place.first shape.place.copies) (IsLeftByAll jobs) old.image mid.image
+        → Keeps (IsNoArea shape.place) (IsLeftByAll jobs) old.image mid.image
         → IsClean shape old.image
-        → EachCase (PutStops shape.place.first shape.place.copies (v.generation + 1) (index_text next) mid.image) mid
+        → EachCase (PutStops shape.place (v.generation + 1) (index_text next) mid.image) mid
         new
         → EachCase (IsKeptCase shape old.image (Opens (whole_view shape (v.generation + 1) entries) [])) mid new
     index_kept law new fit keeps clean stops c past =
@@ -170,41 +170,41 @@ module _ (told : Bool) (store : Store) (changes : List Change) (now : List Bool)
   takes = taken_all (area_blocks store.shape.allowed) store.index.entries store.used used.memory.taken
 
   -- each copy has what the jobs share with it
-  pub commit_shares : All (HasShared old.image place.first place.copies) jobs
+  pub commit_shares : All (HasShared old.image place) jobs
   commit_shares = plan_shares shape old.image store.index v in_use_now rules jobs plan.shares
 
   module _ (mid : Medium) where
     -- while the jobs are written, also where a write fails
     pub commit_keeps_jobs : InUseLaw → ContentsLaw → ContentsDoneLaw → (done : Type 0) (state : State)
-        → (done → Keeps (IsNoArea place.first place.copies) (IsLeftByAll jobs) old.image mid.image)
-        → EachCase (IsJobsCase place.first place.copies jobs old mid done) old mid → KeptThroughout shape state old mid
+        → (done → Keeps (IsNoArea place) (IsLeftByAll jobs) old.image mid.image)
+        → EachCase (IsJobsCase place jobs old mid done) old mid → KeptThroughout shape state old mid
     commit_keeps_jobs in_use contents contents_done done state keeps each =
         jobs_kept in_use shape set now store.index v jobs is rules takes plan.placed old in_use_now contents
         contents_done mid done state keeps each
 
     pub commit_around_jobs : (done : Type 0) → Quiet old
-        → Spares (IsNoArea place.first place.copies) old.image mid.image
-        → EachCase (IsJobsCase place.first place.copies jobs old mid done) old mid
-        → EachCase (IsSettledOn (IsOutside place.first place.copies) old.image) old mid
-    commit_around_jobs done quiet same each = contents_around place.first place.copies set old mid done quiet same
-        (λ c past. jobs_to_contents place.first place.copies set now jobs old mid done done plan.placed (λ d. d) c
+        → Spares (IsNoArea place) old.image mid.image
+        → EachCase (IsJobsCase place jobs old mid done) old mid
+        → EachCase (IsSettledOn (IsOutside place) old.image) old mid
+    commit_around_jobs done quiet same each = contents_around place set old mid done quiet same
+        (λ c past. jobs_to_contents place set now jobs old mid done done plan.placed (λ d. d) c
         (each c past))
 
   -- and the index after them
   module _ (mid new : Medium) (text : List ℕ) (spelled : text ≡ index_text next)
-      (keeps : Keeps (IsNoArea place.first place.copies) (IsLeftByAll jobs) old.image mid.image)
-      (done : All (IsDone mid.image place.first place.copies) jobs) where
+      (keeps : Keeps (IsNoArea place) (IsLeftByAll jobs) old.image mid.image)
+      (done : All (IsDone mid.image place) jobs) where
     zip : AllZip (IsPutOrStill shape old.image mid.image store.index) next.entries after
     zip = entries_of_plan shape old.image store.index v in_use_now mid.image jobs done next.entries after plan.entries
 
     module _ (before : Elapses old mid) (later : Elapses mid new) (all : Type 0)
-        (each : EachCase (IsJobsCase place.first place.copies jobs old mid all) old mid)
-        (stops : EachCase (PutStops (place_of store.cell).first (place_of store.cell).copies (generation_in store + 1)
+        (each : EachCase (IsJobsCase place jobs old mid all) old mid)
+        (stops : EachCase (PutStops (place_of store.cell) (generation_in store + 1)
         text mid.image) mid new) where
-      stops_here : EachCase (PutStops place.first place.copies (v.generation + 1) (index_text next) mid.image) mid new
-      stops_here = subst (λ (t : List ℕ). EachCase (PutStops place.first place.copies (v.generation + 1) t mid.image)
+      stops_here : EachCase (PutStops place (v.generation + 1) (index_text next) mid.image) mid new
+      stops_here = subst (λ (t : List ℕ). EachCase (PutStops place (v.generation + 1) t mid.image)
           mid new) spelled
-          (subst (λ (p : Place). EachCase (PutStops p.first p.copies (v.generation + 1) text mid.image) mid new)
+          (subst (λ (p : Place). EachCase (PutStops p (v.generation + 1) text mid.image) mid new)
           used.memory.place stops)
 
       pub commit_keeps : InUseLaw → ContentsLaw → ContentsDoneLaw → CarriedLaw → IndexLaw
@@ -218,27 +218,27 @@ module _ (told : Bool) (store : Store) (changes : List Change) (now : List Bool)
           after zip law new plan.text.fit keeps clean stops_here c second))
           (cases_on before later c past)
 
-      pub commit_around : Quiet old → Spares (IsNoArea place.first place.copies) old.image mid.image
-          → EachCase (IsSettledOn (IsOutside place.first place.copies) old.image) old new
+      pub commit_around : Quiet old → Spares (IsNoArea place) old.image mid.image
+          → EachCase (IsSettledOn (IsOutside place) old.image) old new
       commit_around quiet same c past = ⊎_elim
           (commit_around_jobs mid all quiet same each c)
-          (λ second. settled_before (λ f out. same f (outside_no_area place.first place.copies f out))
-          (settled_less (λ f out. outside_no_slot place.first place.copies f out)
+          (λ second. settled_before (λ f out. same f (outside_no_area place f out))
+          (settled_less (λ f out. outside_no_slot place f out)
           (stops_here c second).elsewhere))
           (cases_on before later c past)
 
     module _ (cell : Cell) (of : IsCellOf (place_of store.cell) (generation_in store + 1) cell)
         (held : CellAt new.image cell text)
-        (same : Spares (IsNoSlot (place_of store.cell).first (place_of store.cell).copies) mid.image new.image) where
-      alone : IsAlone new.image place.first place.copies (v.generation + 1) (index_text next)
+        (same : Spares (IsNoSlot (place_of store.cell)) mid.image new.image) where
+      alone : IsAlone new.image place (v.generation + 1) (index_text next)
       alone =
-          subst (λ (t : List ℕ). IsAlone new.image place.first place.copies (v.generation + 1) t) spelled
-          (subst (λ (g : ℕ). IsAlone new.image place.first place.copies g text) of.counts
-          (subst (λ (p : Place). IsAlone new.image p.first p.copies cell.generation text) (of.lies ∙ used.memory.place)
+          subst (λ (t : List ℕ). IsAlone new.image place (v.generation + 1) t) spelled
+          (subst (λ (g : ℕ). IsAlone new.image place g text) of.counts
+          (subst (λ (p : Place). IsAlone new.image p cell.generation text) (of.lies ∙ used.memory.place)
           held))
 
-      same_here : Spares (IsNoSlot place.first place.copies) mid.image new.image
-      same_here = subst (λ (p : Place). Spares (IsNoSlot p.first p.copies) mid.image new.image) used.memory.place same
+      same_here : Spares (IsNoSlot place) mid.image new.image
+      same_here = subst (λ (p : Place). Spares (IsNoSlot p) mid.image new.image) used.memory.place same
 
       pub commit_in_use : IsInUse shape new.image next (committed_by shape v changes)
       commit_in_use = subst (λ (w : View). IsInUse shape new.image next w) (sym (committed_is shape v changes))

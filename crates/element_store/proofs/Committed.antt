@@ -20,8 +20,8 @@ use Rattle.disk_model.specs.lemmas.Places.{area_no_slot}
 use Rattle.m_of_n.specs.Vote.{voted}
 use Rattle.guarded_cell.specs.Register.{IsAlone}
 use Rattle.guarded_cell.specs.Held.{copies_that}
-use Rattle.guarded_cell.specs.CopyLaws.{enough_pass, passing_enough}
-use Rattle.guarded_cell.specs.StopLaws.{at_least_map}
+use Rattle.guarded_cell.specs.lemmas.CopyLaws.{enough_pass, passing_enough}
+use Rattle.guarded_cell.specs.lemmas.StopLaws.{at_least_map}
 use Rattle.block_files.specs.Parts.{is_changed}
 use Rattle.block_files.specs.BlockSets.{contains}
 use Rattle.block_files.specs.Areas.{block, joined, within, IsFull, AllFull, HoldsPart, HoldsShared}
@@ -90,43 +90,43 @@ counted_full file blocks len hash bytes enough counts inside =
     record { bytes_are = ap (joined file blocks) long ∙ e; inside = ap (within file blocks) long ∙ inside }
 
 -- the blocks of the set read as before
-module _ (first copies : ℕ) (set : List Bool) (old mid : Image)
-    (keeps : Keeps (IsNoArea first copies) (λ k. contains set k ≡ true) old mid) where
+module _ (place : Place) (set : List Bool) (old mid : Image)
+    (keeps : Keeps (IsNoArea place) (λ k. contains set k ≡ true) old mid) where
   counting_stays : (f : ℕ) (blocks : List ℕ) (len : ℕ) (hash : List ℕ) → HasAll set blocks
       → counting (mid f) blocks len hash ≡ counting (old f) blocks len hash
   counting_stays f blocks len hash has = counting_same (old f) (mid f) blocks len hash
       (joined_kept (old f) (mid f) blocks len (λ m j lt small. keeps.bytes f (get_or blocks m 0) j small (has m lt)))
 
-  module _ (place : Place) (m : ℕ) (e : IndexEntry) (has : HasAll set e.blocks)
+  module _ (m : ℕ) (e : IndexEntry) (has : HasAll set e.blocks)
       (mended : IsMended (entry_view old place m e).content (entry_view old place m e).lacking) where
     lacks_alike : (v : Option (List ℕ)) (c : ℕ) → c < place.copies → v ≡ voted m (given old place e)
-        → lacks v (counting (old (area place.first c)) e.blocks e.len e.hash)
-        (within (mid (area place.first c)) e.blocks e.len)
-        ≡ lacks v (counting (old (area place.first c)) e.blocks e.len e.hash)
-        (within (old (area place.first c)) e.blocks e.len)
+        → lacks v (counting (old (area place c)) e.blocks e.len e.hash)
+        (within (mid (area place c)) e.blocks e.len)
+        ≡ lacks v (counting (old (area place c)) e.blocks e.len e.hash)
+        (within (old (area place c)) e.blocks e.len)
     lacks_alike None c lt is = refl
     lacks_alike (Some value) c lt is =
         let good = content_good old place m e value is in
         let none : (entry_view old place m e).lacking ≡ [] =
         subst (λ (x : Content). IsMended x (entry_view old place m e).lacking) good mended in
         let was = (view_gives old place m e value good none c lt).1 in
-        let now = within_grown (old (area place.first c)) (mid (area place.first c)) e.blocks e.len
-        (keeps.no_shorter (area place.first c)) was in
-        ap (lacks (Some value) (counting (old (area place.first c)) e.blocks e.len e.hash)) (now ∙ sym was)
+        let now = within_grown (old (area place c)) (mid (area place c)) e.blocks e.len
+        (keeps.no_shorter (area place c)) was in
+        ap (lacks (Some value) (counting (old (area place c)) e.blocks e.len e.hash)) (now ∙ sym was)
 
     view_stays : entry_view mid place m e ≡ entry_view old place m e
-    view_stays = view_same old mid place m e (λ c lt. counting_stays (area place.first c) e.blocks e.len e.hash has)
+    view_stays = view_same old mid place m e (λ c lt. counting_stays (area place c) e.blocks e.len e.hash has)
         lacks_alike
 
 -- ---- an entry beside an element
 
 content_at : Image → Place → ℕ → Where → Content
-content_at image place m at = content_of (voted m (contents place.first place.copies at.blocks at.len at.hash image))
-    (first_content (contents place.first place.copies at.blocks at.len at.hash image))
+content_at image place m at = content_of (voted m (contents place at.blocks at.len at.hash image))
+    (first_content (contents place at.blocks at.len at.hash image))
 
 lacking_at : Image → Place → ℕ → Where → List ℕ
-lacking_at image place m at = lacking (voted m (contents place.first place.copies at.blocks at.len at.hash image))
-    place.first place.copies at.blocks at.len at.hash image
+lacking_at image place m at = lacking (voted m (contents place at.blocks at.len at.hash image))
+    place at.blocks at.len at.hash image
 
 -- what is seen of an entry goes by where its content lies
 seen_alike : (image : Image) (place : Place) (m : ℕ) (a b : IndexEntry) → where_of a ≡ where_of b
@@ -151,7 +151,7 @@ view_is image place m e f headed content lack = λ j. record {
 -- an entry of a content that is in its blocks in every copy
 pub record IsPut (shape : Shape) (image : Image) (e : IndexEntry) (f : Entry) : Type 0 where
   pub bytes : List ℕ
-  pub full : AllFull shape.place.first shape.place.copies e.blocks bytes image
+  pub full : AllFull shape.place e.blocks bytes image
   pub hash : e.hash ≡ sha256 bytes
   pub len : e.len ≡ length bytes
   pub headed : IsHeaded e f
@@ -217,15 +217,15 @@ module _ (shape : Shape) (old : Image) (index : Index) (v : View) (used : IsInUs
         lacking = lacking_still carried.was carried.seen f there is carried.lacking;
       }
 
-  put_of : (mid : Image) (jobs : List Job) → All (IsDone mid shape.place.first shape.place.copies) jobs
+  put_of : (mid : Image) (jobs : List Job) → All (IsDone mid shape.place) jobs
       → (e : IndexEntry) (f : Entry) → IsWrittenBy jobs e f → IsPut shape mid e f
   put_of mid jobs done e f written =
       let (k, lt, is) = written.among in
-      let done_it : IsDone mid shape.place.first shape.place.copies written.job =
-      subst (λ (job : Job). IsDone mid shape.place.first shape.place.copies job) is (done k written.job lt) in
+      let done_it : IsDone mid shape.place written.job =
+      subst (λ (job : Job). IsDone mid shape.place job) is (done k written.job lt) in
       record {
         bytes = written.job.bytes.now;
-        full = subst (λ (bs : List ℕ). AllFull shape.place.first shape.place.copies bs written.job.bytes.now mid)
+        full = subst (λ (bs : List ℕ). AllFull shape.place bs written.job.bytes.now mid)
             (sym written.blocks) done_it;
         hash = written.hash;
         len = written.len;
@@ -234,7 +234,7 @@ module _ (shape : Shape) (old : Image) (index : Index) (v : View) (used : IsInUs
         lacking = written.lacking;
       }
 
-  pub entries_of_plan : (mid : Image) (jobs : List Job) → All (IsDone mid shape.place.first shape.place.copies) jobs
+  pub entries_of_plan : (mid : Image) (jobs : List Job) → All (IsDone mid shape.place) jobs
       → (es : List IndexEntry) (fs : List Entry)
       → AllZip (λ e f. IsWrittenBy jobs e f ⊎ IsCarriedOver index v e f) es fs
       → AllZip (IsPutOrStill shape old mid index) es fs
@@ -249,17 +249,17 @@ module _ (shape : Shape) (old : Image) (index : Index) (v : View) (used : IsInUs
     -- a good element has all of its bytes in each copy
     old_full : (was : IndexEntry) (value : List ℕ) → Contains index.entries was → (seen_of was).content ≡ Good value
         → (c : ℕ) → c < shape.place.copies
-        → IsFull (old (area shape.place.first c)) was.blocks value
+        → IsFull (old (area shape.place c)) was.blocks value
     old_full was value there good c lt =
         let none : (seen_of was).lacking ≡ [] = subst (λ (x : Content). IsMended x (seen_of was).lacking) good
         (mended_of was there) in
         let gives = view_gives old shape.place shape.m was value good none c lt in
-        counted_full (old (area shape.place.first c)) was.blocks was.len was.hash value
+        counted_full (old (area shape.place c)) was.blocks was.len was.hash value
         (room index rules was (Contains-In was index.entries there)) gives.0 gives.1
 
     shared_byte : (job : Job) (b : IsBesideOld index v job) (c : ℕ) → c < shape.place.copies → (i : ℕ)
         → i < length job.blocks
-        → is_changed job.bytes.now job.was.now i ≡ false → HoldsPart (old (area shape.place.first c)) job.blocks
+        → is_changed job.bytes.now job.was.now i ≡ false → HoldsPart (old (area shape.place c)) job.blocks
         job.bytes.now i
     shared_byte job b c few i lt alike j small inside =
         let there = there_is b.was b.seen b.beside in
@@ -268,23 +268,23 @@ module _ (shape : Shape) (old : Image) (index : Index) (v : View) (used : IsInUs
         let full = old_full b.was job.was.now there good c few in
         let within_was = same_inside job.bytes.now job.was.now i j alike small inside in
         let at = b.shared i lt alike in
-        let held = holds_from (old (area shape.place.first c)) b.was.blocks job.was.now full i at.0 j small within_was
+        let held = holds_from (old (area shape.place c)) b.was.blocks job.was.now full i at.0 j small within_was
         in
-        let here = ap (λ (k : ℕ). get_or (old (area shape.place.first c)) (256 * k + j) 0) at.1 in
+        let here = ap (λ (k : ℕ). get_or (old (area shape.place c)) (256 * k + j) 0) at.1 in
         let e = at.1 in
         let part = sym (read_part job.was.now i j small) ∙ ap (λ (xs : List ℕ). get_or xs j 0)
         (sym (same_part job.bytes.now job.was.now i alike)) ∙ read_part job.bytes.now i j small in
         (omega (arith, held.0, e), here ∙ held.1 ∙ part)
 
     -- so each copy has what a job shares with it
-    shared_one : (job : Job) → SharesOld index v job → HasShared old shape.place.first shape.place.copies job
+    shared_one : (job : Job) → SharesOld index v job → HasShared old shape.place job
     shared_one job (inl whole) = λ c few.
-        subst (λ (was : List ℕ). HoldsShared (old (area shape.place.first c)) job.blocks job.bytes.now was) (sym whole)
-        (shared_none (old (area shape.place.first c)) job.blocks job.bytes.now)
+        subst (λ (was : List ℕ). HoldsShared (old (area shape.place c)) job.blocks job.bytes.now was) (sym whole)
+        (shared_none (old (area shape.place c)) job.blocks job.bytes.now)
     shared_one job (inr b) = λ c few i lt alike j small inside. shared_byte job b c few i lt alike j small inside
 
     pub plan_shares : (jobs : List Job) → All (SharesOld index v) jobs
-        → All (HasShared old shape.place.first shape.place.copies) jobs
+        → All (HasShared old shape.place) jobs
     plan_shares jobs shares k d lt = shared_one (get_or jobs k d) (shares k d lt)
 
 -- ---- after the commit
@@ -292,16 +292,16 @@ module _ (shape : Shape) (old : Image) (index : Index) (v : View) (used : IsInUs
 module _ (shape : Shape) (old mid new : Image) (set : List Bool) (index : Index) (v : View) (is : IsShape shape)
     (used : IsInUse shape old index v)
     (takes : AllByRecursion (λ (e : IndexEntry). HasAll set e.blocks) index.entries)
-    (keeps : Keeps (IsNoArea shape.place.first shape.place.copies) (λ k. contains set k ≡ true) old mid)
-    (same : Spares (IsNoSlot shape.place.first shape.place.copies) mid new) where
+    (keeps : Keeps (IsNoArea shape.place) (λ k. contains set k ≡ true) old mid)
+    (same : Spares (IsNoSlot shape.place) mid new) where
   abbrev old_of : IndexEntry → Entry
   old_of e = entry_view old shape.place shape.m e
 
   abbrev new_of : IndexEntry → Entry
   new_of e = entry_view new shape.place shape.m e
 
-  areas : (c : ℕ) → c < shape.place.copies → new (area shape.place.first c) ≡ mid (area shape.place.first c)
-  areas c lt = same (area shape.place.first c) (area_no_slot shape.place.first shape.place.copies c)
+  areas : (c : ℕ) → c < shape.place.copies → new (area shape.place c) ≡ mid (area shape.place c)
+  areas c lt = same (area shape.place c) (area_no_slot shape.place c)
 
   some : 1 ≤ shape.place.copies
   some = (let a = is.some in let b = is.enough in omega (arith, a, b))
@@ -329,7 +329,7 @@ module _ (shape : Shape) (old mid new : Image) (set : List Bool) (index : Index)
       → counting_at new shape.place c (where_of e) ≡ counting_at old shape.place c (where_of still.was)
   still_gives e f still c lt =
       ap (λ (file : List ℕ). counting file e.blocks e.len e.hash) (areas c lt)
-      ∙ counting_stays shape.place.first shape.place.copies set old mid keeps (area shape.place.first c) e.blocks e.len
+      ∙ counting_stays shape.place set old mid keeps (area shape.place c) e.blocks e.len
       e.hash (blocks_in e f still)
       ∙ ap (counting_at old shape.place c) still.place
 
@@ -341,7 +341,7 @@ module _ (shape : Shape) (old mid new : Image) (set : List Bool) (index : Index)
       (subst (λ (xs : List ℕ). IsMended (old_of still.was).content xs) (sym alike.1)
       (mended_of shape old index v used still.was still.there)) in
       let seen = view_areas mid new shape.place shape.m e areas
-      ∙ view_stays shape.place.first shape.place.copies set old mid keeps shape.place shape.m e (blocks_in e f still)
+      ∙ view_stays shape.place set old mid keeps shape.m e (blocks_in e f still)
       mended in
       view_is new shape.place shape.m e f still.headed
       (ap (λ (x : Entry). x.content) seen ∙ alike.0 ∙ sym still.content)
@@ -415,7 +415,7 @@ module _ (shape : Shape) (old mid new : Image) (set : List Bool) (index : Index)
           (map-In where_of still.was index.entries (Contains-In still.was index.entries still.there)))
           la lb (sym (still_gives e f still a la) ∙ one) (sym (still_gives e f still b lb) ∙ two)
 
-      module _ (alone : IsAlone new shape.place.first shape.place.copies (v.generation + 1) (index_text next))
+      module _ (alone : IsAlone new shape.place (v.generation + 1) (index_text next))
           (fit : fit_index shape (index_text next) ≡ Some next) where
         abbrev text_after : FitText
         text_after = alone_text new shape (v.generation + 1) (index_text next) next some alone fit
@@ -434,7 +434,7 @@ module _ (shape : Shape) (old mid new : Image) (set : List Bool) (index : Index)
             (λ c. holds_all new shape.place text_after c ≡ true) shape.place.copies shape.m
             (λ c lt all. and_from (holds_text new shape.place text_after c)
             (list_all (λ e. counts new shape.place e c) next.entries)
-            (all_hold new shape.place.first shape.place.copies (v.generation + 1) (index_text next) some alone c lt)
+            (all_hold new shape.place (v.generation + 1) (index_text next) some alone c lt)
             (all_count c lt (both_true (holds_text old shape.place text_before c)
             (list_all (λ e. counts old shape.place e c) index.entries) all).1))
             (enough_pass (holds_all old shape.place text_before) shape.place.copies shape.m le))

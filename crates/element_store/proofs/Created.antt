@@ -54,13 +54,13 @@ module _ (told : Bool) (mid image : Image) (shape : Shape) (generation : ℕ) (c
     (index : Index) (text : List ℕ)
     (is : IsShape shape) (of : IsCellOf shape.place generation cell) (spelled : IsTextOf shape text index)
     (held : IsTrue told → CellAt image cell text)
-    (same : IsTrue told → Spares (IsNoSlot shape.place.first shape.place.copies) mid image)
+    (same : IsTrue told → Spares (IsNoSlot shape.place) mid image)
     (shown : IsTrue told → ShowsFresh mid shape.place shape.m generation contents index.entries) where
-  alone : IsTrue told → IsAlone image shape.place.first shape.place.copies generation (index_text index)
+  alone : IsTrue told → IsAlone image shape.place generation (index_text index)
   alone tells =
-      subst (λ (t : List ℕ). IsAlone image shape.place.first shape.place.copies generation t) spelled.spelled
-      (subst (λ (g : ℕ). IsAlone image shape.place.first shape.place.copies g text) of.counts
-      (subst (λ (p : Place). IsAlone image p.first p.copies cell.generation text) of.lies (held tells)))
+      subst (λ (t : List ℕ). IsAlone image shape.place generation t) spelled.spelled
+      (subst (λ (g : ℕ). IsAlone image shape.place g text) of.counts
+      (subst (λ (p : Place). IsAlone image p cell.generation text) of.lies (held tells)))
 
   fit : fit_index shape (index_text index) ≡ Some index
   fit = subst (λ (t : List ℕ). fit_index shape t ≡ Some index) spelled.spelled spelled.fit
@@ -68,7 +68,7 @@ module _ (told : Bool) (mid image : Image) (shape : Shape) (generation : ℕ) (c
   shows : IsTrue told → ShowsFresh image shape.place shape.m generation contents index.entries
   shows tells = shown_still mid image shape.place shape.m generation
       (λ e. view_areas mid image shape.place shape.m e (λ c lt.
-      same tells (area shape.place.first c) (area_no_slot shape.place.first shape.place.copies c)))
+      same tells (area shape.place c) (area_no_slot shape.place c)))
       contents index.entries (shown tells)
 
   pub created_clean : IsTrue told → IsClean shape image

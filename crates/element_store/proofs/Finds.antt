@@ -3,6 +3,7 @@ use Rattle.std.proofs.Common.{◌≡◌, ℕ, List, [], ◌∷◌, Bool, true, f
 use Rattle.std.specs.Prelude.{find, IfSome}
 use Rattle.std.specs.Option.{option_map}
 use Rattle.disk_model.specs.Image.{Image}
+use Rattle.disk_model.specs.declared.place.Place.{Place}
 use Rattle.guarded_cell.specs.Seens.{IsSeenOn}
 use Rattle.guarded_cell.specs.Slots.{IsSlotsOf}
 use Rattle.element_state.specs.declared.shapes.Shape.{Shape}
@@ -62,11 +63,11 @@ module _ (image : Image) (shape : Shape) (found : Option Found) (f : Found) (is 
   pub found_opens : opened_of (store_at image shape) ≡ Some f.view
   found_opens = opens_is f.opens f.view (store_at image shape) opens its_view.state
 
-  pub found_copies : IsSeenOn image shape.place.first shape.place.copies f.seen
+  pub found_copies : IsSeenOn image shape.place f.seen
   found_copies = its_view.copies
 
 -- its flags
-pub found_slots : (image : Image) (first copies : ℕ) (found : Option Found) (f : Found) → found ≡ Some f
-    → IfSome found (λ f. IsSlotsOf image first copies f.slots) → IsSlotsOf image first copies f.slots
-found_slots image first copies found f is are =
-    subst (λ (o : Option Found). IfSome o (λ f. IsSlotsOf image first copies f.slots)) is are
+pub found_slots : (image : Image) (place : Place) (found : Option Found) (f : Found) → found ≡ Some f
+    → IfSome found (λ f. IsSlotsOf image place f.slots) → IsSlotsOf image place f.slots
+found_slots image place found f is are =
+    subst (λ (o : Option Found). IfSome o (λ f. IsSlotsOf image place f.slots)) is are

@@ -42,39 +42,39 @@ filter_none a (suc n) = filter_none (a + 1) n
 -- ---- areas that read alike
 
 module _ (old new : Image) (place : Place) (m : ℕ) (e : IndexEntry)
-    (counts : (c : ℕ) → c < place.copies → counting (new (area place.first c)) e.blocks e.len e.hash
-    ≡ counting (old (area place.first c)) e.blocks e.len e.hash) where
+    (counts : (c : ℕ) → c < place.copies → counting (new (area place c)) e.blocks e.len e.hash
+    ≡ counting (old (area place c)) e.blocks e.len e.hash) where
   pub given_same : given new place e ≡ given old place e
-  given_same = map_range (λ c. counting (new (area place.first c)) e.blocks e.len e.hash)
-      (λ c. counting (old (area place.first c)) e.blocks e.len e.hash) 0 place.copies
+  given_same = map_range (λ c. counting (new (area place c)) e.blocks e.len e.hash)
+      (λ c. counting (old (area place c)) e.blocks e.len e.hash) 0 place.copies
       (λ c le lt. counts c (omega (arith, lt)))
 
   pub view_same : ((v : Option (List ℕ)) (c : ℕ) → c < place.copies → v ≡ voted m (given old place e)
-      → lacks v (counting (old (area place.first c)) e.blocks e.len e.hash)
-      (within (new (area place.first c)) e.blocks e.len)
-      ≡ lacks v (counting (old (area place.first c)) e.blocks e.len e.hash)
-      (within (old (area place.first c)) e.blocks e.len))
+      → lacks v (counting (old (area place c)) e.blocks e.len e.hash)
+      (within (new (area place c)) e.blocks e.len)
+      ≡ lacks v (counting (old (area place c)) e.blocks e.len e.hash)
+      (within (old (area place c)) e.blocks e.len))
       → entry_view new place m e ≡ entry_view old place m e
   unfolding entry_view
   view_same alike =
       let v = voted m (given old place e) in
-      let lists : lacking v place.first place.copies e.blocks e.len e.hash new
-      ≡ lacking v place.first place.copies e.blocks e.len e.hash old =
+      let lists : lacking v place e.blocks e.len e.hash new
+      ≡ lacking v place e.blocks e.len e.hash old =
       ap (map suc) (filter_range
-      (λ c. lacks v (counting (new (area place.first c)) e.blocks e.len e.hash)
-      (within (new (area place.first c)) e.blocks e.len))
-      (λ c. lacks v (counting (old (area place.first c)) e.blocks e.len e.hash)
-      (within (old (area place.first c)) e.blocks e.len)) 0 place.copies
+      (λ c. lacks v (counting (new (area place c)) e.blocks e.len e.hash)
+      (within (new (area place c)) e.blocks e.len))
+      (λ c. lacks v (counting (old (area place c)) e.blocks e.len e.hash)
+      (within (old (area place c)) e.blocks e.len)) 0 place.copies
       (λ c le lt.
       let here : c < place.copies = omega (arith, lt) in
-      ap (λ t. lacks v t (within (new (area place.first c)) e.blocks e.len)) (counts c here) ∙ alike v c here refl)) in
+      ap (λ t. lacks v t (within (new (area place c)) e.blocks e.len)) (counts c here) ∙ alike v c here refl)) in
       ap (λ (gs : List (Option (List ℕ))). record {
         name = e.name;
         info = e.info;
         changed = e.changed;
         len = e.len;
         content = content_of (voted m gs) (first_content gs);
-        lacking = lacking (voted m gs) place.first place.copies e.blocks e.len e.hash new;
+        lacking = lacking (voted m gs) place e.blocks e.len e.hash new;
       }) given_same
       ∙ ap (λ (ls : List ℕ). record {
         name = e.name;
@@ -88,11 +88,11 @@ module _ (old new : Image) (place : Place) (m : ℕ) (e : IndexEntry)
 
 -- the same areas
 pub view_areas : (old new : Image) (place : Place) (m : ℕ) (e : IndexEntry)
-    → ((c : ℕ) → c < place.copies → new (area place.first c) ≡ old (area place.first c))
+    → ((c : ℕ) → c < place.copies → new (area place c) ≡ old (area place c))
     → entry_view new place m e ≡ entry_view old place m e
 view_areas old new place m e same = view_same old new place m e
     (λ c lt. ap (λ f. counting f e.blocks e.len e.hash) (same c lt))
-    (λ v c lt is. ap (λ f. lacks v (counting (old (area place.first c)) e.blocks e.len e.hash)
+    (λ v c lt is. ap (λ f. lacks v (counting (old (area place c)) e.blocks e.len e.hash)
     (within f e.blocks e.len)) (same c lt))
 
 -- ---- every copy has the content
@@ -130,7 +130,7 @@ voted_all m (suc n) bytes some enough =
     (filter_map (λ copy. copy) (map (λ c. Some bytes) (range_with_len 1 n)))) passes
 
 pub view_full : (image : Image) (place : Place) (m : ℕ) (e : IndexEntry) (bytes : List ℕ) → 1 ≤ m → m ≤ place.copies
-    → AllFull place.first place.copies e.blocks bytes image → e.hash ≡ sha256 bytes → e.len ≡ length bytes
+    → AllFull place e.blocks bytes image → e.hash ≡ sha256 bytes → e.len ≡ length bytes
     → entry_view image place m e ≡ record {
       name = e.name;
       info = e.info;
@@ -142,22 +142,22 @@ pub view_full : (image : Image) (place : Place) (m : ℕ) (e : IndexEntry) (byte
     }
 unfolding entry_view
 view_full image place m e bytes some enough full hash long =
-    let give = λ (c : ℕ). counting (image (area place.first c)) e.blocks e.len e.hash in
+    let give = λ (c : ℕ). counting (image (area place c)) e.blocks e.len e.hash in
     let each : (c : ℕ) → c < place.copies → give c ≡ Some bytes =
-    λ c lt. counting_full (image (area place.first c)) e.blocks bytes e.hash e.len (full c lt) hash long in
+    λ c lt. counting_full (image (area place c)) e.blocks bytes e.hash e.len (full c lt) hash long in
     let givens : given image place e ≡ map (λ c. Some bytes) (range_with_len 0 place.copies) =
     map_range give (λ c. Some bytes) 0 place.copies (λ c le lt. each c (omega (arith, lt))) in
     let v : voted m (given image place e) ≡ Some bytes =
     ap (voted m) givens ∙ voted_all m place.copies bytes some enough in
-    let inside : (c : ℕ) → c < place.copies → within (image (area place.first c)) e.blocks e.len ≡ true =
-    λ c lt. ap (within (image (area place.first c)) e.blocks) long ∙ (full c lt).inside in
+    let inside : (c : ℕ) → c < place.copies → within (image (area place c)) e.blocks e.len ≡ true =
+    λ c lt. ap (within (image (area place c)) e.blocks) long ∙ (full c lt).inside in
     let same : bytes_eq bytes bytes ≡ true = (bytes_eq-Decides bytes bytes).1 refl in
-    let none : lacking (Some bytes) place.first place.copies e.blocks e.len e.hash image ≡ [] =
-    ap (map suc) (filter_range (λ c. lacks (Some bytes) (give c) (within (image (area place.first c)) e.blocks e.len))
+    let none : lacking (Some bytes) place e.blocks e.len e.hash image ≡ [] =
+    ap (map suc) (filter_range (λ c. lacks (Some bytes) (give c) (within (image (area place c)) e.blocks e.len))
     (λ c. false) 0 place.copies
     (λ c le lt.
     let here : c < place.copies = omega (arith, lt) in
-    ap (λ t. lacks (Some bytes) t (within (image (area place.first c)) e.blocks e.len)) (each c here)
+    ap (λ t. lacks (Some bytes) t (within (image (area place c)) e.blocks e.len)) (each c here)
     ∙ ap (λ b. not (b && bytes_eq bytes bytes)) (inside c here) ∙ ap (λ b. not (true && b)) same)
     ∙ filter_none 0 place.copies) in
     ap (λ (o : Option (List ℕ)). record {
@@ -168,7 +168,7 @@ view_full image place m e bytes some enough full hash long =
       content =
           content_of o (first_content (given image place e));
       lacking =
-          lacking o place.first place.copies e.blocks e.len e.hash image;
+          lacking o place e.blocks e.len e.hash image;
     }) v
     ∙ ap (λ (ls : List ℕ). record {
       name = e.name;

@@ -31,12 +31,12 @@ unfolding index_of header_at
 no_index = refl
 
 -- where just the empty text is kept, nothing is named
-pub kept_names_nothing : (place : Place) (old new : Image) → IsKeptAlone place.first place.copies 1 [] old new
+pub kept_names_nothing : (place : Place) (old new : Image) → IsKeptAlone place 1 [] old new
     → NamesNothing place new
 kept_names_nothing place old new alone at named = ⊎_elim
     (λ same.
-    let v : VerifiesAs (new (slot place.first named.copy (own 1))) named.generation named.text =
-    subst (λ (p : ℕ). VerifiesAs (new (slot place.first named.copy p)) named.generation named.text) same named.held in
+    let v : VerifiesAs (new (slot place named.copy (own 1))) named.generation named.text =
+    subst (λ (p : ℕ). VerifiesAs (new (slot place named.copy p)) named.generation named.text) same named.held in
     let it = alone.own_slots named.copy named.inside named.generation named.text v in
     let spelled : index_of [] ≡ Some named.index = subst (λ (t : List ℕ). index_of t ≡ Some named.index) it.1
     named.spelled in
@@ -45,11 +45,11 @@ kept_names_nothing place old new alone at named = ⊎_elim
     (λ differs.
     let e : own named.generation ≡ other 1 = omega (arith, differs) in
     absurd (alone.blank named.copy named.inside named.generation named.text
-    (subst (λ (p : ℕ). VerifiesAs (new (slot place.first named.copy p)) named.generation named.text) e named.held)))
+    (subst (λ (p : ℕ). VerifiesAs (new (slot place named.copy p)) named.generation named.text) e named.held)))
     (cases_eq (own named.generation) (own 1))
 
 -- what is named depends on the slots alone
-pub names_nothing_still : (place : Place) (old new : Image) → Spares (IsNoArea place.first place.copies) old new
+pub names_nothing_still : (place : Place) (old new : Image) → Spares (IsNoArea place) old new
     → NamesNothing place old → NamesNothing place new
 names_nothing_still place old new same nothing at named = nothing at (record {
   copy = named.copy;
@@ -58,8 +58,8 @@ names_nothing_still place old new same nothing at named = nothing at (record {
   index = named.index;
   inside = named.inside;
   held = subst (λ (s : List ℕ). VerifiesAs s named.generation named.text)
-      (same (slot place.first named.copy (own named.generation))
-      (slot_no_area place.first place.copies named.copy (own named.generation) (omega arith))) named.held;
+      (same (slot place named.copy (own named.generation))
+      (slot_no_area place named.copy (own named.generation) (omega arith))) named.held;
   spelled = named.spelled;
   named = named.named;
 })
@@ -69,7 +69,7 @@ abbrev Counts : BlockText → List ℕ → Type 0
 Counts piece file = counting file piece.at.blocks piece.at.len piece.at.hash ≡ Some piece.bytes
 
 -- where nothing is torn under an index, contents come by chance only where texts do
-pub untorn_sound : (place : Place) (c : Case) → IsUntorn place c → IsSoundFor (IsSlotPiece place.first place.copies) c
+pub untorn_sound : (place : Place) (c : Case) → IsUntorn place c → IsSoundFor (IsSlotPiece place) c
     → IsSoundFor (IsPiece place) c
 untorn_sound place c untorn sound (in_slot piece) is = sound piece is
 untorn_sound place c untorn sound (in_blocks piece) is = ⊎_elim
@@ -82,12 +82,12 @@ untorn_sound place c untorn sound (in_blocks piece) is = ⊎_elim
           named.generation;
       text = named.text;
     } in
-    let at_base : c.left (area place.first piece.copy) ≡ c.base (area place.first piece.copy) =
-    stays.1.left (area place.first piece.copy) (area_no_slot place.first place.copies piece.copy)
-    ∙ sym (stays.1.base (area place.first piece.copy) (area_no_slot place.first place.copies piece.copy)) in
-    let at_full : c.left (area place.first piece.copy) ≡ c.full (area place.first piece.copy) =
-    stays.1.left (area place.first piece.copy) (area_no_slot place.first place.copies piece.copy)
-    ∙ sym (stays.1.full (area place.first piece.copy) (area_no_slot place.first place.copies piece.copy)) in
+    let at_base : c.left (area place piece.copy) ≡ c.base (area place piece.copy) =
+    stays.1.left (area place piece.copy) (area_no_slot place piece.copy)
+    ∙ sym (stays.1.base (area place piece.copy) (area_no_slot place piece.copy)) in
+    let at_full : c.left (area place piece.copy) ≡ c.full (area place piece.copy) =
+    stays.1.left (area place piece.copy) (area_no_slot place piece.copy)
+    ∙ sym (stays.1.full (area place piece.copy) (area_no_slot place piece.copy)) in
     ⊎_elim
     (λ base. inl (again c.base named base.verifies (subst (Counts piece) at_base is.counts)))
     (λ full. inr (again c.full named full.verifies (subst (Counts piece) at_full is.counts)))
@@ -96,8 +96,8 @@ untorn_sound place c untorn sound (in_blocks piece) is = ⊎_elim
     untorn
   where
     again : (image : Image) (named : IsNamed place c.left piece.at)
-        → Holds image place.first named.copy named.generation named.text
-        → Counts piece (image (area place.first piece.copy)) → IsBlockPiece place image piece
+        → Holds image place named.copy named.generation named.text
+        → Counts piece (image (area place piece.copy)) → IsBlockPiece place image piece
     again image named held counts = record {
       inside = is.inside;
       named = record {
@@ -118,32 +118,32 @@ pub still_untorn : (place : Place) (told : Bool) (m : Medium) → IsLawful told 
     → EachCase (IsUntorn place) m m
 still_untorn place told m law quiet c past = inl (
   m.image,
-  settled_on (IsNoSlot place.first place.copies) (quiet c (law.only_now c past)),
+  settled_on (IsNoSlot place) (quiet c (law.only_now c past)),
 )
 
 module _ (place : Place) (set : List Bool) (old mid : Medium) (before : Elapses old mid)
-    (gives_up : EachCase (KeepStops place.first place.copies 1 [] old.image) old mid) where
+    (gives_up : EachCase (KeepStops place 1 [] old.image) old mid) where
   -- texts are being given up
-  pub given_up_outside : EachCase (IsSettledOn (IsOutside place.first place.copies) old.image) old mid
-  given_up_outside c past = settled_less (λ f out. outside_no_slot place.first place.copies f out)
+  pub given_up_outside : EachCase (IsSettledOn (IsOutside place) old.image) old mid
+  given_up_outside c past = settled_less (λ f out. outside_no_slot place f out)
       (gives_up c past).elsewhere
 
   pub given_up_untorn : EachCase (IsUntorn place) old mid
   given_up_untorn c past = inl (old.image, (gives_up c past).elsewhere)
 
-  module _ (slots : Spares (IsNoSlot place.first place.copies) old.image mid.image) (quiet : Quiet mid) (new : Medium)
+  module _ (slots : Spares (IsNoSlot place) old.image mid.image) (quiet : Quiet mid) (new : Medium)
       (then : Elapses mid new)
-      (areas : Spares (IsNoArea place.first place.copies) mid.image new.image) (done : Type 0)
-      (puts : EachCase (IsContentsCase place.first place.copies set mid new done) mid new) where
+      (areas : Spares (IsNoArea place) mid.image new.image) (done : Type 0)
+      (puts : EachCase (IsContentsCase place set mid new done) mid new) where
     -- and then contents are written
-    pub put_elsewhere : Spares (IsOutside place.first place.copies) old.image new.image
-    put_elsewhere f out = areas f (outside_no_area place.first place.copies f out)
-        ∙ slots f (outside_no_slot place.first place.copies f out)
+    pub put_elsewhere : Spares (IsOutside place) old.image new.image
+    put_elsewhere f out = areas f (outside_no_area place f out)
+        ∙ slots f (outside_no_slot place f out)
 
-    pub put_outside : EachCase (IsSettledOn (IsOutside place.first place.copies) old.image) old new
-    put_outside = goes_on (IsSettledOn (IsOutside place.first place.copies) old.image) before then given_up_outside
-        (λ c past. settled_before (λ f out. slots f (outside_no_slot place.first place.copies f out))
-        (contents_around place.first place.copies set mid new done quiet areas puts c past))
+    pub put_outside : EachCase (IsSettledOn (IsOutside place) old.image) old new
+    put_outside = goes_on (IsSettledOn (IsOutside place) old.image) before then given_up_outside
+        (λ c past. settled_before (λ f out. slots f (outside_no_slot place f out))
+        (contents_around place set mid new done quiet areas puts c past))
 
     module _ (nothing : NamesNothing place mid.image) where
       pub put_untorn : EachCase (IsUntorn place) old new
@@ -157,17 +157,17 @@ module _ (place : Place) (set : List Bool) (old mid : Medium) (before : Elapses 
             names_nothing_still place mid.image c.full slots_stay.full nothing,
             names_nothing_still place mid.image c.left slots_stay.left nothing,
           ))
-          (λ all. inl (new.image, settled_on (IsNoSlot place.first place.copies) all.1))
+          (λ all. inl (new.image, settled_on (IsNoSlot place) all.1))
           (puts c past))
 
       module _ (end : Medium) (later : Elapses new end) (text : List ℕ)
-          (formats : EachCase (FormatStops place.first place.copies 1 text new.image) new end) where
+          (formats : EachCase (FormatStops place 1 text new.image) new end) where
         -- and then their index
-        pub made_outside : EachCase (IsSettledOn (IsOutside place.first place.copies) old.image) old end
-        made_outside = goes_on (IsSettledOn (IsOutside place.first place.copies) old.image) (elapses_on before then)
+        pub made_outside : EachCase (IsSettledOn (IsOutside place) old.image) old end
+        made_outside = goes_on (IsSettledOn (IsOutside place) old.image) (elapses_on before then)
             later put_outside
             (λ c past. settled_before put_elsewhere (settled_less
-            (λ f out. outside_no_slot place.first place.copies f out) (formats c past).elsewhere))
+            (λ f out. outside_no_slot place f out) (formats c past).elsewhere))
 
         pub made_untorn : EachCase (IsUntorn place) old end
         made_untorn = goes_on (IsUntorn place) (elapses_on before then) later put_untorn

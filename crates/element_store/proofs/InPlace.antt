@@ -19,6 +19,7 @@ use Rattle.disk_model.specs.Frame.{Spares, KeepsCase}
 use Rattle.disk_model.specs.Place.{area, IsNoArea}
 use Rattle.disk_model.specs.lemmas.Frames.{keeps_none, keeps_tears}
 use Rattle.disk_model.specs.Laws.{elapses_none, elapses_on, cases_on}
+use Rattle.disk_model.specs.declared.place.Place.{Place}
 use Rattle.m_of_n.specs.Vote.{voted}
 use Rattle.block_files.specs.BlockSets.{IsApart, AreDistinct}
 use Rattle.block_files.specs.Areas.{NamedFull, area_of}
@@ -127,9 +128,9 @@ rec_at P (x ∷ xs) (suc i) d all lt = rec_at P xs i d all.1 (omega (arith, lt))
 
 less_blocks : (shape : Shape) (start now image : Image) (es : List IndexEntry)
     → AllByRecursion (λ (e : IndexEntry). (copy : ℕ) → copy < shape.place.copies → ¬ (TakesMend shape start e copy)
-    → KeepsBlocksWhole e.blocks (now (area shape.place.first copy)) (image (area shape.place.first copy))) es
+    → KeepsBlocksWhole e.blocks (now (area shape.place copy)) (image (area shape.place copy))) es
     → AllByRecursion (λ (e : IndexEntry). (copy : ℕ) → copy < shape.place.copies → ¬ (TakesMend shape start e copy)
-    → KeepsBlocks e.blocks (now (area shape.place.first copy)) (image (area shape.place.first copy))) es
+    → KeepsBlocks e.blocks (now (area shape.place copy)) (image (area shape.place copy))) es
 less_blocks shape start now image [] all = tt
 less_blocks shape start now image (e ∷ es) all = (
   λ copy lt untaken. record {
@@ -150,7 +151,7 @@ less_sparing shape start now image index s = record {
 
 same_blocks : (shape : Shape) (start image : Image) (es : List IndexEntry)
     → AllByRecursion (λ (e : IndexEntry). (copy : ℕ) → copy < shape.place.copies → ¬ (TakesMend shape start e copy)
-    → KeepsBlocksWhole e.blocks (image (area shape.place.first copy)) (image (area shape.place.first copy))) es
+    → KeepsBlocksWhole e.blocks (image (area shape.place copy)) (image (area shape.place copy))) es
 same_blocks shape start image [] = tt
 same_blocks shape start image (e ∷ es) = (
   (λ copy lt untaken.
@@ -170,9 +171,9 @@ same_sparing shape start image index = record {
 
 pub record AreMended (told : Bool) (shape : Shape) (index : Index) (views : List Entry) (i : ℕ)
     (old now : Medium) : Type 0 where
-  pub areas : IsTrue told → Spares (IsNoArea shape.place.first shape.place.copies) old.image now.image
+  pub areas : IsTrue told → Spares (IsNoArea shape.place) old.image now.image
   pub full : IsTrue told → (x : ℕ) (e : IndexEntry) (f : Entry) → x < i → x < length index.entries
-      → IsWholeIn now.image shape.place.first (get_or index.entries x e) (get_or views x f)
+      → IsWholeIn now.image shape.place (get_or index.entries x e) (get_or views x f)
   pub spared : IsTrue told → SparesOthers shape index views old.image now.image
   pub here : (c : Case) → now.now c → MendsCase shape index views old.image c
   pub during : EachCase (MendsCase shape index views old.image) old now
@@ -184,15 +185,15 @@ pub few_none : (n size : ℕ) → n ≡ 0 → n * size ≡ 0
 few_none n size none = let zero_times : 0 * size ≡ 0 = omega arith in ap (λ (m : ℕ). m * size) none ∙ zero_times
 
 -- writes in no copy leave all as it was
-in_none : (first n : ℕ) (lacking : List ℕ) (old mid new : Medium) → lacking ≡ [] → n ≡ 0 → IsAsBefore old mid
-    → ((f : ℕ) → IsNoneOf first lacking f → new.image f ≡ mid.image f) → new.written ≤ mid.written + n → Elapses mid new
+in_none : (place : Place) (n : ℕ) (lacking : List ℕ) (old mid new : Medium) → lacking ≡ [] → n ≡ 0 → IsAsBefore old mid
+    → ((f : ℕ) → IsNoneOf place lacking f → new.image f ≡ mid.image f) → new.written ≤ mid.written + n → Elapses mid new
     → IsAsBefore old new
-in_none first n lacking old mid new none nothing was same at_most time = record {
+in_none place n lacking old mid new none nothing was same at_most time = record {
   image = (λ j f. same f (none_of f) j) ∙ was.image;
   written = (let before = was.written in let later = time.written in omega (arith, at_most, nothing, before, later));
 }
   where
-    none_of : (f : ℕ) → IsNoneOf first lacking f
+    none_of : (f : ℕ) → IsNoneOf place lacking f
     none_of f i lt = let long = ap length none in absurd (omega (arith, lt, long))
 
 -- what an element that is seen good on an image says of it
@@ -229,7 +230,7 @@ module _ (told : Bool) (shape : Shape) (index : Index) (views : List Entry) (rul
 
   -- areas of copies
   no_area : (copies : List ℕ) → AreCopies shape.place.copies copies → (f : ℕ)
-      → IsNoArea shape.place.first shape.place.copies f → IsNoneOf shape.place.first copies f
+      → IsNoArea shape.place f → IsNoneOf shape.place copies f
   no_area copies are f none i lt =
       let at = are i lt in
       none (get_or copies i 0 - 1) (omega (arith, at))
@@ -257,8 +258,8 @@ module _ (told : Bool) (shape : Shape) (index : Index) (views : List Entry) (rul
   }
 
   pub mended_all : (i : ℕ) (old now : Medium) → length index.entries ≤ i → AreMended told shape index views i old now
-      → IsTrue told → AllZip (IsWholeIn now.image shape.place.first) index.entries views
-  mended_all i old now past was tells = zip_from (IsWholeIn now.image shape.place.first) index.entries views
+      → IsTrue told → AllZip (IsWholeIn now.image shape.place) index.entries views
+  mended_all i old now past was tells = zip_from (IsWholeIn now.image shape.place) index.entries views
       (zip_long (IsReadBy shape.place.copies) index.entries views read)
       (λ x e f lt. was.full tells x e f (omega (arith, past, lt)) lt)
 
@@ -299,7 +300,7 @@ module _ (told : Bool) (shape : Shape) (index : Index) (views : List Entry) (rul
     has = (i, lt, sym is_e)
 
     one_step : (start : Image) (d c : Case) → AreShown shape index views start → IsMending shape start old.image index d
-        → KeepsCase (IsNoneOf shape.place.first f.lacking) (IsApart e.blocks) d c
+        → KeepsCase (IsNoneOf shape.place f.lacking) (IsApart e.blocks) d c
         → IsMending shape start old.image index c
     one_step start d c shown was keeps =
         let same = shown_at start shown in
@@ -307,11 +308,11 @@ module _ (told : Bool) (shape : Shape) (index : Index) (views : List Entry) (rul
         step shape start old.image index e v d c rules has
         (seen_good shape start e v (sym (ap (λ (x : Entry). x.content) same) ∙ good))
         (subst (λ (cs : List ℕ). AreCopies shape.place.copies cs) lack reads.lacking)
-        was (subst (λ (cs : List ℕ). KeepsCase (IsNoneOf shape.place.first cs) (IsApart e.blocks) d c) lack keeps)
+        was (subst (λ (cs : List ℕ). KeepsCase (IsNoneOf shape.place cs) (IsApart e.blocks) d c) lack keeps)
 
     module _ (n : ℕ) (new : Medium) where
       pub still_during : (was : AreMended told shape index views i old mid) → Elapses mid new
-          → Follows (KeepsCase (IsNoneOf shape.place.first f.lacking) (IsApart e.blocks)) mid.now (new.since mid.moment)
+          → Follows (KeepsCase (IsNoneOf shape.place f.lacking) (IsApart e.blocks)) mid.now (new.since mid.moment)
           → EachCase (MendsCase shape index views old.image) old new
       still_during was time follows c past = ⊎_elim
           (λ before. was.during c before)
@@ -320,8 +321,8 @@ module _ (told : Bool) (shape : Shape) (index : Index) (views : List Entry) (rul
           (cases_on was.time time c past)
 
       pub torn_areas : AreMended told shape index views i old mid
-          → Tore told (IsNoneOf shape.place.first f.lacking) (IsApart e.blocks) n mid new
-          → IsTrue told → Spares (IsNoArea shape.place.first shape.place.copies) old.image new.image
+          → Tore told (IsNoneOf shape.place f.lacking) (IsApart e.blocks) n mid new
+          → IsTrue told → Spares (IsNoArea shape.place) old.image new.image
       torn_areas was tore tells file none = (tore.tears tells).files file (no_area f.lacking reads.lacking file none)
           ∙ was.areas tells file none
 
@@ -334,16 +335,16 @@ module _ (told : Bool) (shape : Shape) (index : Index) (views : List Entry) (rul
           subst (λ (x : Content). IsMended x f.lacking) good its
 
       pub torn_idle : AreMended told shape index views i old mid
-          → Tore told (IsNoneOf shape.place.first f.lacking) (IsApart e.blocks) n mid new
+          → Tore told (IsNoneOf shape.place f.lacking) (IsApart e.blocks) n mid new
           → (f.lacking ≡ [] → n ≡ 0) → IsTrue told → AllByRecursion (λ (f : Entry). IsMended f.content f.lacking) views
           → IsAsBefore old new
-      torn_idle was tore few tells mended = in_none shape.place.first n f.lacking old mid new (nothing_lacks mended)
+      torn_idle was tore few tells mended = in_none shape.place n f.lacking old mid new (nothing_lacks mended)
           (few (nothing_lacks mended)) (was.idle tells mended)
           (tore.tears tells).files tore.written tore.time
 
-      pub mended_more : (f.lacking ≡ [] → n ≡ 0) → Wrote told (IsNoneOf shape.place.first f.lacking) (IsApart e.blocks)
+      pub mended_more : (f.lacking ≡ [] → n ≡ 0) → Wrote told (IsNoneOf shape.place f.lacking) (IsApart e.blocks)
           n mid new
-          → (IsTrue told → NamedFull shape.place.first f.lacking e.blocks v new.image)
+          → (IsTrue told → NamedFull shape.place f.lacking e.blocks v new.image)
           → AreMended told shape index views i old mid → AreMended told shape index views (i + 1) old new
       mended_more few wrote whole was = record {
         areas = λ tells file none. (wrote.keeps tells).files file (no_area f.lacking reads.lacking file none)
@@ -355,15 +356,15 @@ module _ (told : Bool) (shape : Shape) (index : Index) (views : List Entry) (rul
             let long = zip_long (IsReadBy shape.place.copies) index.entries views read in
             let at_f : get_or views x g ≡ f = get_or_default views x g f (omega (arith, inside, long))
             ∙ ap (λ (k : ℕ). get_or views k f) here ∙ sym is_f in
-            subst (λ (y : IndexEntry). IsWholeIn new.image shape.place.first y (get_or views x g)) (sym at_e)
-            (subst (λ (y : Entry). IsWholeIn new.image shape.place.first e y) (sym at_f)
-            (λ w is. subst (λ (bs : List ℕ). NamedFull shape.place.first f.lacking e.blocks bs new.image)
+            subst (λ (y : IndexEntry). IsWholeIn new.image shape.place y (get_or views x g)) (sym at_e)
+            (subst (λ (y : Entry). IsWholeIn new.image shape.place e y) (sym at_f)
+            (λ w is. subst (λ (bs : List ℕ). NamedFull shape.place f.lacking e.blocks bs new.image)
             (same_value v w (sym good ∙ is)) (whole tells)))))
             (λ other w is k ltk.
             let same_d : get_or index.entries x d ≡ get_or index.entries x e =
             get_or_default index.entries x d e inside in
-            full_kept (IsNoneOf shape.place.first f.lacking) (IsApart e.blocks) mid.image new.image
-            (area_of shape.place.first (get_or (get_or views x g).lacking k 0)) (get_or index.entries x d).blocks w
+            full_kept (IsNoneOf shape.place f.lacking) (IsApart e.blocks) mid.image new.image
+            (area_of shape.place (get_or (get_or views x g).lacking k 0)) (get_or index.entries x d).blocks w
             (wrote.keeps tells)
             (λ m ltm. subst (λ (y : IndexEntry). IsApart e.blocks (get_or y.blocks m 0)) (sym same_d)
             (subst (λ (y : IndexEntry). IsApart y.blocks (get_or (get_or index.entries x e).blocks m 0)) (sym is_e)
@@ -384,7 +385,7 @@ module _ (told : Bool) (shape : Shape) (index : Index) (views : List Entry) (rul
         here = λ c past start shown. (let (d, was_now, keeps) =
             wrote.now c past in one_step start d c shown (was.here d was_now start shown) keeps);
         during = still_during was wrote.time wrote.during;
-        idle = λ tells mended. in_none shape.place.first n f.lacking old mid new (nothing_lacks mended)
+        idle = λ tells mended. in_none shape.place n f.lacking old mid new (nothing_lacks mended)
             (few (nothing_lacks mended)) (was.idle tells mended)
             (wrote.keeps tells).files wrote.written wrote.time;
         time = elapses_on was.time wrote.time;
@@ -398,9 +399,9 @@ module _ (told : Bool) (shape : Shape) (index : Index) (views : List Entry) (rul
 
 -- contents that are whole in the copies that lacked them are mended
 are_mended : (shape : Shape) (start image : Image) (es : List IndexEntry)
-    → AllZip (IsWholeIn image shape.place.first) es (map (entry_view start shape.place shape.m) es)
+    → AllZip (IsWholeIn image shape.place) es (map (entry_view start shape.place shape.m) es)
     → AllByRecursion (λ (e : IndexEntry). (value : List ℕ) → voted shape.m (given start shape.place e) ≡ Some value
-    → NamedFull shape.place.first (lacked shape start e) e.blocks value image) es
+    → NamedFull shape.place (lacked shape start e) e.blocks value image) es
 are_mended shape start image [] zip = tt
 are_mended shape start image (e ∷ es) zip = (
   (λ value agreed. zip.0 value (good_seen shape start e value agreed)),
@@ -429,7 +430,7 @@ module _ (shape : Shape) (index : Index) (views : List Entry) (told : Bool) (old
 
   -- one that did not
   pub synced_during : MendStartLaw → MendSyncLaw → SparesOthers shape index views old.image mid.image
-      → AllZip (IsWholeIn mid.image shape.place.first) index.entries views → WritesNothing mid new → Quiet new
+      → AllZip (IsWholeIn mid.image shape.place) index.entries views → WritesNothing mid new → Quiet new
       → EachCase (MendsCase shape index views old.image) old new
   synced_during starts syncs spared whole nothing quiet c past = ⊎_elim (during c)
       (λ after. ⊎_elim (past_mid c) (λ here start shown.
@@ -439,7 +440,7 @@ module _ (shape : Shape) (index : Index) (views : List Entry) (told : Bool) (old
       syncs shape start old.image index (record { base = old.image; full = mid.image; left = old.image }) c
       (record { base = begin.base; full = spared start shown; left = begin.left; durable = begin.durable })
       (are_mended shape start mid.image index.entries (subst
-      (λ (vs : List Entry). AllZip (IsWholeIn mid.image shape.place.first) index.entries vs) shown whole))
+      (λ (vs : List Entry). AllZip (IsWholeIn mid.image shape.place) index.entries vs) shown whole))
       (record {
         base = settled.base ∙ nothing.image;
         full = settled.full ∙ nothing.image;

@@ -94,7 +94,7 @@ whole_fresh shape g contents =
     }) (lacking_fresh shape.scope g shape.place.copies contents)
 
 module _ (shape : Shape) (image : Image) (generation : ℕ) (contents : List Fresh) (index : Index) (is : IsShape shape)
-    (alone : IsAlone image shape.place.first shape.place.copies generation (index_text index))
+    (alone : IsAlone image shape.place generation (index_text index))
     (fit : fit_index shape (index_text index) ≡ Some index)
     (shown : ShowsFresh image shape.place shape.m generation contents index.entries) where
   some : 1 ≤ shape.place.copies
@@ -109,9 +109,9 @@ module _ (shape : Shape) (image : Image) (generation : ℕ) (contents : List Fre
   supported scope.Storage =
       let long = all_copies (holds_all image shape.place (alone_text image shape generation (index_text index) index
       some alone fit)) shape.place.copies (λ c lt.
-      and_from (holds image shape.place.first c (generation, index_text index))
+      and_from (holds image shape.place c (generation, index_text index))
       (list_all (λ e. counts image shape.place e c) index.entries)
-      (all_hold image shape.place.first shape.place.copies generation (index_text index) some alone c lt)
+      (all_hold image shape.place generation (index_text index) some alone c lt)
       (all_count image shape.place shape.m generation contents index.entries shown c lt)) in
       let b = is.enough in
       omega (arith, long, b)

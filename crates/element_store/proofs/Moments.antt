@@ -9,6 +9,7 @@ use Rattle.disk_model.specs.Place.{IsNoArea, IsNoSlot, IsOutside}
 use Rattle.disk_model.specs.lemmas.Frames.{settled_on, settled_before, settled_less}
 use Rattle.disk_model.specs.Laws.{cases_on, elapses_on}
 use Rattle.disk_model.specs.lemmas.Places.{outside_no_slot, outside_no_area}
+use Rattle.disk_model.specs.declared.place.Place.{Place}
 use Rattle.guarded_cell.specs.Register.{IsAlone}
 use Rattle.guarded_cell.specs.Stops.{PutStops}
 use Rattle.index_text.specs.declared.entries.Index.{Index}
@@ -31,17 +32,17 @@ module _ (shape : Shape) (old one : Medium) (is : IsShape shape) (clean : IsClea
 
   module _ (two : Medium) (adopt : AdoptLaw) (g : ℕ) (text : List ℕ) (index : Index)
       (opens : OpensAt shape old.image g text index) (t1 : Elapses old one) (t2 : Elapses one two)
-      (puts : EachCase (PutStops shape.place.first shape.place.copies g text one.image) one two) where
+      (puts : EachCase (PutStops shape.place g text one.image) one two) where
     pub second_kept : (c : Case) → two.since old.moment c → IsKeptCase shape old.image after c
     second_kept c past = ⊎_elim (first_kept c)
         (λ later. adopt shape old.image g text index after c is.some clean opens
-        (subst (λ (i : Image). PutStops shape.place.first shape.place.copies g text i c) idle.image (puts c later)))
+        (subst (λ (i : Image). PutStops shape.place g text i c) idle.image (puts c later)))
         (cases_on t1 t2 c past)
 
     module _ (three : Medium) (mend : MendLaw) (views : List Entry) (rules : IsIndex index)
         (shown : AreShown shape index views old.image)
-        (alone : IsAlone two.image shape.place.first shape.place.copies g text)
-        (areas : Spares (IsNoSlot shape.place.first shape.place.copies) one.image two.image)
+        (alone : IsAlone two.image shape.place g text)
+        (areas : Spares (IsNoSlot shape.place) one.image two.image)
         (t3 : Elapses two three) (during : EachCase (MendsCase shape index views two.image) two three) where
       pub third_kept : (c : Case) → three.since old.moment c → IsKeptCase shape old.image after c
       third_kept c past = ⊎_elim (second_kept c)
@@ -50,7 +51,7 @@ module _ (shape : Shape) (old one : Medium) (is : IsShape shape) (clean : IsClea
             clean = clean;
             opens = opens;
             alone = alone;
-            areas = subst (λ (i : Image). Spares (IsNoSlot shape.place.first shape.place.copies) i two.image) idle.image
+            areas = subst (λ (i : Image). Spares (IsNoSlot shape.place) i two.image) idle.image
                 areas;
           })
           rules (during c later old.image shown))
@@ -58,37 +59,36 @@ module _ (shape : Shape) (old one : Medium) (is : IsShape shape) (clean : IsClea
 
 -- ---- no file outside changes
 
-module _ (first copies : ℕ) (old one two : Medium) (same : one.image ≡ old.image)
-    (areas : Spares (IsNoSlot first copies) one.image two.image) where
-  pub slots_outside : Spares (IsOutside first copies) old.image two.image
-  slots_outside f out = subst (λ (i : Image). two.image f ≡ i f) same (areas f (outside_no_slot first copies f out))
+module _ (place : Place) (old one two : Medium) (same : one.image ≡ old.image)
+    (areas : Spares (IsNoSlot place) one.image two.image) where
+  pub slots_outside : Spares (IsOutside place) old.image two.image
+  slots_outside f out = subst (λ (i : Image). two.image f ≡ i f) same (areas f (outside_no_slot place f out))
 
-  pub both_outside : (three : Image) → Spares (IsNoArea first copies) two.image three
-      → Spares (IsOutside first copies) old.image three
-  both_outside three slots f out = slots f (outside_no_area first copies f out) ∙ slots_outside f out
+  pub both_outside : (three : Image) → Spares (IsNoArea place) two.image three
+      → Spares (IsOutside place) old.image three
+  both_outside three slots f out = slots f (outside_no_area place f out) ∙ slots_outside f out
 
-module _ (first copies g : ℕ) (text : List ℕ) (old one two : Medium) (idle : IsIdle old one) (t1 : Elapses old one)
+module _ (place : Place) (g : ℕ) (text : List ℕ) (old one two : Medium) (idle : IsIdle old one) (t1 : Elapses old one)
     (t2 : Elapses one two)
-    (puts : EachCase (PutStops first copies g text one.image) one two) where
-  pub second_outside : EachCase (IsSettledOn (IsOutside first copies) old.image) old two
+    (puts : EachCase (PutStops place g text one.image) one two) where
+  pub second_outside : EachCase (IsSettledOn (IsOutside place) old.image) old two
   second_outside c past = ⊎_elim
-      (λ early. settled_on (IsOutside first copies) (idle.during c early))
-      (λ later. settled_less (λ f out. outside_no_slot first copies f out)
-      (subst (λ (i : Image). IsSettledOn (IsNoSlot first copies) i c) idle.image (puts c later).elsewhere))
+      (λ early. settled_on (IsOutside place) (idle.during c early))
+      (λ later. settled_less (λ f out. outside_no_slot place f out)
+      (subst (λ (i : Image). IsSettledOn (IsNoSlot place) i c) idle.image (puts c later).elsewhere))
       (cases_on t1 t2 c past)
 
-  module _ (shape : Shape) (at_first : shape.place.first ≡ first) (at_copies : shape.place.copies ≡ copies)
+  module _ (shape : Shape) (at_place : shape.place ≡ place)
       (three : Medium) (index : Index) (views : List Entry)
-      (shown : AreShown shape index views old.image) (areas : Spares (IsNoSlot first copies) one.image two.image)
+      (shown : AreShown shape index views old.image) (areas : Spares (IsNoSlot place) one.image two.image)
       (t3 : Elapses two three) (during : EachCase (MendsCase shape index views two.image) two three) where
-    pub third_outside : EachCase (IsSettledOn (IsOutside first copies) old.image) old three
+    pub third_outside : EachCase (IsSettledOn (IsOutside place) old.image) old three
     third_outside c past = ⊎_elim (second_outside c)
         (λ later.
         let it = during c later old.image shown in
-        let settled : IsSettledOn (IsNoArea shape.place.first shape.place.copies) two.image c =
+        let settled : IsSettledOn (IsNoArea shape.place) two.image c =
         record { base = it.base.slots; full = it.full.slots; left = it.left.slots } in
-        settled_before (slots_outside first copies old one two idle.image areas)
-        (settled_less (λ f out. outside_no_area first copies f out)
-        (subst (λ (n : ℕ). IsSettledOn (IsNoArea first n) two.image c) at_copies
-        (subst (λ (n : ℕ). IsSettledOn (IsNoArea n shape.place.copies) two.image c) at_first settled))))
+        settled_before (slots_outside place old one two idle.image areas)
+        (settled_less (λ f out. outside_no_area place f out)
+        (subst (λ (p : Place). IsSettledOn (IsNoArea p) two.image c) at_place settled)))
         (cases_on (elapses_on t1 t2) t3 c past)

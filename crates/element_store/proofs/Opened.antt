@@ -25,8 +25,8 @@ use Rattle.guarded_cell.specs.declared.cell.Cell.{Cell}
 use Rattle.guarded_cell.specs.Cells.{CellAt, IsCellOf}
 use Rattle.guarded_cell.specs.Register.{Holds, IsAlone, IsBlank, own, other}
 use Rattle.guarded_cell.specs.Rights.{IsRight}
-use Rattle.guarded_cell.specs.CopyLaws.{enough_pass, passing_enough, passing_is}
-use Rattle.guarded_cell.specs.StopLaws.{at_least_map, alone_only}
+use Rattle.guarded_cell.specs.lemmas.CopyLaws.{enough_pass, passing_enough, passing_is}
+use Rattle.guarded_cell.specs.lemmas.StopLaws.{at_least_map, alone_only}
 use Rattle.block_files.specs.Areas.{joined, within, IsFull, AllFull, area_of}
 use Rattle.block_files.specs.Contents.{counting, first_content, lacks, lacking}
 use Rattle.block_files.specs.lemmas.AsideLaws.{joined_kept, within_grown}
@@ -94,19 +94,19 @@ full_of file blocks len hash v counted inside long = ⊎_elim
 unlisted : (image : Image) (place : Place) (m : ℕ) (e : IndexEntry) (v : List ℕ)
     → voted m (given image place e) ≡ Some v → (c : ℕ) → c < place.copies
     → ¬ (Contains (entry_view image place m e).lacking (c + 1))
-    → (counting (image (area place.first c)) e.blocks e.len e.hash ≡ Some v)
-    × (within (image (area place.first c)) e.blocks e.len ≡ true)
+    → (counting (image (area place c)) e.blocks e.len e.hash ≡ Some v)
+    × (within (image (area place c)) e.blocks e.len ≡ true)
 unfolding entry_view
 unlisted image place m e v is c lt absent =
-    let test = λ (k : ℕ). lacks (Some v) (counting (image (area place.first k)) e.blocks e.len e.hash)
-    (within (image (area place.first k)) e.blocks e.len) in
+    let test = λ (k : ℕ). lacks (Some v) (counting (image (area place k)) e.blocks e.len e.hash)
+    (within (image (area place k)) e.blocks e.len) in
     let fails : test c ≡ false = false_not_true (test c) (λ passes. absent
-    (subst (λ (o : Option (List ℕ)). Contains (lacking o place.first place.copies e.blocks e.len e.hash image) (c + 1))
+    (subst (λ (o : Option (List ℕ)). Contains (lacking o place e.blocks e.len e.hash image) (c + 1))
     (sym is)
     (subst (λ (xs : List ℕ). Contains xs (c + 1)) (sym (filtered_that test place.copies))
     (passing_is test place.copies c lt passes)))) in
-    gives v (counting (image (area place.first c)) e.blocks e.len e.hash)
-    (within (image (area place.first c)) e.blocks e.len) fails
+    gives v (counting (image (area place c)) e.blocks e.len e.hash)
+    (within (image (area place c)) e.blocks e.len) fails
 
 good_voted : (image : Image) (place : Place) (m : ℕ) (e : IndexEntry) (v : List ℕ)
     → (entry_view image place m e).content ≡ Good v → voted m (given image place e) ≡ Some v
@@ -161,29 +161,29 @@ mended_good e f v n i c l g =
 -- ---- one element
 
 module _ (shape : Shape) (start now image : Image) (is : IsShape shape)
-    (areas : Spares (IsNoSlot shape.place.first shape.place.copies) start now) where
-  area_was : (c : ℕ) → now (area shape.place.first c) ≡ start (area shape.place.first c)
-  area_was c = areas (area shape.place.first c) (area_no_slot shape.place.first shape.place.copies c)
+    (areas : Spares (IsNoSlot shape.place) start now) where
+  area_was : (c : ℕ) → now (area shape.place c) ≡ start (area shape.place c)
+  area_was c = areas (area shape.place c) (area_no_slot shape.place c)
 
   abbrev seen : IndexEntry → Entry
   seen e = entry_view start shape.place shape.m e
 
   module _ (e : IndexEntry) (read : IsReadBy shape.place.copies e (seen e))
-      (whole : IsWholeIn image shape.place.first e (seen e))
+      (whole : IsWholeIn image shape.place e (seen e))
       (kept : (copy : ℕ) → copy < shape.place.copies → ¬ (TakesMend shape start e copy)
-      → KeepsBlocksWhole e.blocks (now (area shape.place.first copy)) (image (area shape.place.first copy))) where
+      → KeepsBlocksWhole e.blocks (now (area shape.place copy)) (image (area shape.place copy))) where
     -- what an area that was not mended gives
     still : (c : ℕ) → c < shape.place.copies → ¬ (TakesMend shape start e c) → (n : ℕ)
-        → joined (image (area shape.place.first c)) e.blocks n ≡ joined (start (area shape.place.first c)) e.blocks n
+        → joined (image (area shape.place c)) e.blocks n ≡ joined (start (area shape.place c)) e.blocks n
     still c lt untaken n =
-        joined_kept (now (area shape.place.first c)) (image (area shape.place.first c)) e.blocks n
+        joined_kept (now (area shape.place c)) (image (area shape.place c)) e.blocks n
         (λ m j ltm ltj. (kept c lt untaken).bytes m j ltm ltj)
         ∙ ap (λ (file : List ℕ). joined file e.blocks n) (area_was c)
 
     grown : (c : ℕ) → c < shape.place.copies → ¬ (TakesMend shape start e c) → (n : ℕ)
-        → within (start (area shape.place.first c)) e.blocks n ≡ true
-        → within (image (area shape.place.first c)) e.blocks n ≡ true
-    grown c lt untaken n inside = within_grown (now (area shape.place.first c)) (image (area shape.place.first c))
+        → within (start (area shape.place c)) e.blocks n ≡ true
+        → within (image (area shape.place c)) e.blocks n ≡ true
+    grown c lt untaken n inside = within_grown (now (area shape.place c)) (image (area shape.place c))
         e.blocks n (kept c lt untaken).no_shorter
         (ap (λ (file : List ℕ). within file e.blocks n) (area_was c) ∙ inside)
 
@@ -195,9 +195,9 @@ module _ (shape : Shape) (start now image : Image) (is : IsShape shape)
       unfolding counting
       hashed =
           let (c, lt, gave) = voted_given shape.m shape.place.copies is.some
-          (λ (c : ℕ). counting (start (area shape.place.first c)) e.blocks e.len e.hash) v
+          (λ (c : ℕ). counting (start (area shape.place c)) e.blocks e.len e.hash) v
           (good_voted start shape.place shape.m e v good) in
-          hash_of (start (area shape.place.first c)) gave
+          hash_of (start (area shape.place c)) gave
         where
           hash_of : (file : List ℕ) → counting file e.blocks e.len e.hash ≡ Some v → sha256 v ≡ e.hash
           hash_of file counted = ⊎_elim
@@ -216,21 +216,21 @@ module _ (shape : Shape) (start now image : Image) (is : IsShape shape)
               never : None ≡ Some v → ⊥
               never e = cc
 
-      full_at : AllFull shape.place.first shape.place.copies e.blocks v image
+      full_at : AllFull shape.place e.blocks v image
       full_at c lt = ⊎_elim
           (λ listed.
           let (k, ltk, at) = named_Contains (seen e).lacking (c + 1) listed in
           let number : get_or (seen e).lacking k 0 ≡ c + 1 = get_default (seen e).lacking k (c + 1) ltk ∙ at in
           let same : c + 1 - 1 ≡ c = omega arith in
-          subst (λ (x : ℕ). IsFull (image (area shape.place.first x)) e.blocks v) same
-          (subst (λ (x : ℕ). IsFull (image (area_of shape.place.first x)) e.blocks v) number (whole v good k ltk)))
+          subst (λ (x : ℕ). IsFull (image (area shape.place x)) e.blocks v) same
+          (subst (λ (x : ℕ). IsFull (image (area_of shape.place x)) e.blocks v) number (whole v good k ltk)))
           (λ unlisted_c.
           let absent : ¬ (Contains (seen e).lacking (c + 1)) =
           λ has. never (sym (Contains_named (seen e).lacking (c + 1) has) ∙ unlisted_c) in
           let untaken : ¬ (TakesMend shape start e c) = λ takes. absent takes.listed in
           let gave = unlisted start shape.place shape.m e v (good_voted start shape.place shape.m e v good) c lt absent
           in
-          let was = (full_of (start (area shape.place.first c)) e.blocks e.len e.hash v gave.0 gave.1 long).0 in
+          let was = (full_of (start (area shape.place c)) e.blocks e.len e.hash v gave.0 gave.1 long).0 in
           record {
             bytes_are = still c lt untaken (length v) ∙ was.bytes_are;
             inside =
@@ -257,8 +257,8 @@ module _ (shape : Shape) (start now image : Image) (is : IsShape shape)
           never : Some takes.value ≡ None → ⊥
           never e = cc
 
-      counts_as : (c : ℕ) → c < shape.place.copies → counting (image (area shape.place.first c)) e.blocks e.len e.hash
-          ≡ counting (start (area shape.place.first c)) e.blocks e.len e.hash
+      counts_as : (c : ℕ) → c < shape.place.copies → counting (image (area shape.place c)) e.blocks e.len e.hash
+          ≡ counting (start (area shape.place c)) e.blocks e.len e.hash
       unfolding counting
       counts_as c lt = ap (λ (bytes : List ℕ). cond (bytes_eq (sha256 bytes) e.hash) (Some bytes) None)
           (still c lt (none_agreed c) e.len)
@@ -268,10 +268,10 @@ module _ (shape : Shape) (start now image : Image) (is : IsShape shape)
           view_same start image shape.place shape.m e counts_as
           (λ v c lt at.
           let none : v ≡ None = at ∙ bad_voted start shape.place shape.m e s bad in
-          ap (λ (o : Option (List ℕ)). lacks o (counting (start (area shape.place.first c)) e.blocks e.len e.hash)
-          (within (image (area shape.place.first c)) e.blocks e.len)) none
-          ∙ ap (λ (o : Option (List ℕ)). lacks o (counting (start (area shape.place.first c)) e.blocks e.len e.hash)
-          (within (start (area shape.place.first c)) e.blocks e.len)) (sym none))
+          ap (λ (o : Option (List ℕ)). lacks o (counting (start (area shape.place c)) e.blocks e.len e.hash)
+          (within (image (area shape.place c)) e.blocks e.len)) none
+          ∙ ap (λ (o : Option (List ℕ)). lacks o (counting (start (area shape.place c)) e.blocks e.len e.hash)
+          (within (start (area shape.place c)) e.blocks e.len)) (sym none))
           ∙ sym (ap (λ (x : Content). mended_by x (seen e)) bad)
 
     view_now : entry_view image shape.place shape.m e ≡ mended_entry (seen e)
@@ -282,7 +282,7 @@ module _ (shape : Shape) (start now image : Image) (is : IsShape shape)
     still_counts : (c : ℕ) → c < shape.place.copies → counts start shape.place e c ≡ true
         → counts image shape.place e c ≡ true
     still_counts c lt was = ⊎_elim
-        (λ found. ap is_some (counting_full (image (area shape.place.first c)) e.blocks found.0 e.hash e.len
+        (λ found. ap is_some (counting_full (image (area shape.place c)) e.blocks found.0 e.hash e.len
         (full_at found.0 found.1 c lt) (sym (hashed found.0 found.1)) (sym (long found.0 found.1))))
         (λ found. ap is_some (counts_as found.0 found.1 c lt) ∙ was)
         (content_cases (seen e).content)
@@ -292,7 +292,7 @@ module _ (shape : Shape) (start now image : Image) (is : IsShape shape)
     agreed_now alike a b s t lta ltb one two = ⊎_elim
         (λ found.
         let whole_in = λ (c : ℕ) (ltc : c < shape.place.copies).
-        counting_full (image (area shape.place.first c)) e.blocks found.0 e.hash e.len
+        counting_full (image (area shape.place c)) e.blocks found.0 e.hash e.len
         (full_at found.0 found.1 c ltc) (sym (hashed found.0 found.1)) (sym (long found.0 found.1)) in
         some_same s t (sym one ∙ whole_in a lta ∙ sym (whole_in b ltb) ∙ two))
         (λ found. alike a b s t lta ltb (sym (counts_as found.0 found.1 a lta) ∙ one)
@@ -344,11 +344,11 @@ mended_each (f ∷ fs) = (one f f.content refl, mended_each fs)
 module _ (shape : Shape) (start now image : Image) (g : ℕ) (text : List ℕ) (index : Index) (views : List Entry)
     (is : IsShape shape)
     (fit : fit_index shape text ≡ Some index) (shown : AreShown shape index views start)
-    (areas : Spares (IsNoSlot shape.place.first shape.place.copies) start now)
-    (alone : IsAlone now shape.place.first shape.place.copies g text)
+    (areas : Spares (IsNoSlot shape.place) start now)
+    (alone : IsAlone now shape.place g text)
     (read : AllZip (IsReadBy shape.place.copies) index.entries views)
     (spared : IsSparing KeepsBlocksWhole shape start now index image)
-    (whole : AllZip (IsWholeIn image shape.place.first) index.entries views) where
+    (whole : AllZip (IsWholeIn image shape.place) index.entries views) where
   some : 1 ≤ shape.place.copies
   some = (let a = is.some in let b = is.enough in omega (arith, a, b))
 
@@ -356,21 +356,21 @@ module _ (shape : Shape) (start now image : Image) (g : ℕ) (text : List ℕ) (
   reads e inside = zip_in (IsReadBy shape.place.copies) (entry_view start shape.place shape.m) index.entries
       (subst (λ (fs : List Entry). AllZip (IsReadBy shape.place.copies) index.entries fs) shown read) e inside
 
-  wholes : (e : IndexEntry) → In e index.entries → IsWholeIn image shape.place.first e
+  wholes : (e : IndexEntry) → In e index.entries → IsWholeIn image shape.place e
       (entry_view start shape.place shape.m e)
-  wholes e inside = zip_in (IsWholeIn image shape.place.first) (entry_view start shape.place shape.m) index.entries
-      (subst (λ (fs : List Entry). AllZip (IsWholeIn image shape.place.first) index.entries fs) shown whole) e inside
+  wholes e inside = zip_in (IsWholeIn image shape.place) (entry_view start shape.place shape.m) index.entries
+      (subst (λ (fs : List Entry). AllZip (IsWholeIn image shape.place) index.entries fs) shown whole) e inside
 
-  pub opened_alone : IsAlone image shape.place.first shape.place.copies g text
+  pub opened_alone : IsAlone image shape.place g text
   opened_alone = record {
     held = λ copy lt. subst (λ (bytes : List ℕ). VerifiesAs bytes g text)
-        (sym (spared.slots (slot shape.place.first copy (own g))
-        (slot_no_area shape.place.first shape.place.copies copy g))) (alone.held copy lt);
+        (sym (spared.slots (slot shape.place copy (own g))
+        (slot_no_area shape.place copy g))) (alone.held copy lt);
     blank = λ copy lt. subst (λ (bytes : List ℕ). IsBlank bytes)
-        (sym (spared.slots (slot shape.place.first copy (other g)) (other_no_area copy))) (alone.blank copy lt);
+        (sym (spared.slots (slot shape.place copy (other g)) (other_no_area copy))) (alone.blank copy lt);
   }
     where
-      other_no_area : (copy : ℕ) → IsNoArea shape.place.first shape.place.copies (slot shape.place.first copy (other g))
+      other_no_area : (copy : ℕ) → IsNoArea shape.place (slot shape.place copy (other g))
       other_no_area copy c lt same = omega (arith, same)
 
   pub opened_entries : map mended_entry views ≡ map (entry_view image shape.place shape.m) index.entries
@@ -397,7 +397,7 @@ module _ (shape : Shape) (start now image : Image) (g : ℕ) (text : List ℕ) (
       shape.place.copies shape.m
       (λ c lt was. true_both (holds_text image shape.place it c)
       (list_all (λ e. counts image shape.place e c) index.entries)
-      (all_hold image shape.place.first shape.place.copies g text some opened_alone c lt)
+      (all_hold image shape.place g text some opened_alone c lt)
       (In-list_all (λ e. counts image shape.place e c) index.entries (λ e inside.
       still_counts shape start now image is areas e (reads e inside) (wholes e inside)
       (all_in _ index.entries spared.kept e inside) c lt
@@ -472,9 +472,9 @@ module _ (told : Bool) (start now image : Image) (shape : Shape) (r : OpeningPla
     (is : IsShape shape) (ready : IsOpeningPlan shape r) (same : text ≡ r.seen.text)
     (of : IsCellOf shape.place r.seen.generation cell) (held : IsTrue told → CellAt now cell text)
     (found : IsTrue told → IsFoundOn start shape r) (areas : IsTrue told
-    → Spares (IsNoSlot shape.place.first shape.place.copies) start now)
+    → Spares (IsNoSlot shape.place) start now)
     (spared : IsTrue told → SparesOthers shape r.index r.before.entries now image)
-    (whole : IsTrue told → AllZip (IsWholeIn image shape.place.first) r.index.entries r.before.entries) where
+    (whole : IsTrue told → AllZip (IsWholeIn image shape.place) r.index.entries r.before.entries) where
   text_is : r.seen.text ≡ index_text r.index
   text_is = ready.text.index.spelled
 
@@ -485,11 +485,11 @@ module _ (told : Bool) (start now image : Image) (shape : Shape) (r : OpeningPla
   fit : fit_index shape (index_text r.index) ≡ Some r.index
   fit = subst (λ (t : List ℕ). fit_index shape t ≡ Some r.index) text_is ready.text.index.fit
 
-  adopted_alone : IsTrue told → IsAlone now shape.place.first shape.place.copies r.seen.generation (index_text r.index)
+  adopted_alone : IsTrue told → IsAlone now shape.place r.seen.generation (index_text r.index)
   adopted_alone tells =
-      subst (λ (t : List ℕ). IsAlone now shape.place.first shape.place.copies r.seen.generation t) (same ∙ text_is)
-      (subst (λ (g : ℕ). IsAlone now shape.place.first shape.place.copies g text) of.counts
-      (subst (λ (p : Place). IsAlone now p.first p.copies cell.generation text) of.lies (held tells)))
+      subst (λ (t : List ℕ). IsAlone now shape.place r.seen.generation t) (same ∙ text_is)
+      (subst (λ (g : ℕ). IsAlone now shape.place g text) of.counts
+      (subst (λ (p : Place). IsAlone now p cell.generation text) of.lies (held tells)))
 
   in_use : IsTrue told → IsInUse shape image r.index (whole_view shape r.seen.generation
       (map mended_entry r.before.entries))
@@ -577,10 +577,10 @@ opening_by start shape r index same found = record {
 
 pub opening_alone : (image : Image) (shape : Shape) (g : ℕ) (cell : Cell) (text : List ℕ) → IsCellOf shape.place g cell
     → CellAt image cell text
-    → IsAlone image shape.place.first shape.place.copies g text
+    → IsAlone image shape.place g text
 opening_alone image shape g cell text of held =
-    subst (λ (n : ℕ). IsAlone image shape.place.first shape.place.copies n text) of.counts
-    (subst (λ (p : Place). IsAlone image p.first p.copies cell.generation text) of.lies held)
+    subst (λ (n : ℕ). IsAlone image shape.place n text) of.counts
+    (subst (λ (p : Place). IsAlone image p cell.generation text) of.lies held)
 
 module _ (told : Bool) (shape : Shape) (r : OpeningPlan) (views : List Entry) where
   pub opening_spared : (now image : Image) → views ≡ r.before.entries
@@ -590,20 +590,20 @@ module _ (told : Bool) (shape : Shape) (r : OpeningPlan) (views : List Entry) wh
       (spared tells)
 
   pub opening_whole : (image : Image) → views ≡ r.before.entries
-      → (IsTrue told → AllZip (IsWholeIn image shape.place.first) r.index.entries views)
-      → IsTrue told → AllZip (IsWholeIn image shape.place.first) r.index.entries r.before.entries
+      → (IsTrue told → AllZip (IsWholeIn image shape.place) r.index.entries views)
+      → IsTrue told → AllZip (IsWholeIn image shape.place) r.index.entries r.before.entries
   opening_whole image same whole tells = subst (λ (fs : List Entry).
-      AllZip (IsWholeIn image shape.place.first) r.index.entries fs) same (whole tells)
+      AllZip (IsWholeIn image shape.place) r.index.entries fs) same (whole tells)
 
 -- some copy holds the text at which it opens
 opened_text : (shape : Shape) (start : Image) (r : OpeningPlan) → IsFoundOn start shape r
-    → (copy : ℕ) × (copy < shape.place.copies) × Holds start shape.place.first copy r.seen.generation r.seen.text
+    → (copy : ℕ) × (copy < shape.place.copies) × Holds start shape.place copy r.seen.generation r.seen.text
 opened_text shape start r found =
     let u = In-fit start shape (r.seen, r.index) (find_in (qualifies start shape) (fit_texts shape start)
     (r.seen, r.index) found.first) in (
       u.copy,
       u.inside,
-      subst (λ (x : FitText). Holds start shape.place.first u.copy x.0.generation x.0.text) u.is
+      subst (λ (x : FitText). Holds start shape.place u.copy x.0.generation x.0.text) u.is
           u.holds,
     )
   where
@@ -636,22 +636,22 @@ module _ (shape : Shape) (old one two : Medium) (r : OpeningPlan) (text : List �
   its_text : r.seen.text ≡ index_text index
   its_text =
       let u = opened_text shape old.image r found in
-      (alone_only old.image shape.place.first shape.place.copies v.generation (index_text index) in_use.alone u.0 u.1
+      (alone_only old.image shape.place v.generation (index_text index) in_use.alone u.0 u.1
       r.seen.generation r.seen.text u.2).1
 
-  pub idle_alone : (image : Image) → image ≡ old.image → IsAlone image shape.place.first shape.place.copies
+  pub idle_alone : (image : Image) → image ≡ old.image → IsAlone image shape.place
       r.seen.generation text
   idle_alone image e =
-      subst (λ (im : Image). IsAlone im shape.place.first shape.place.copies r.seen.generation text) (sym e)
-      (subst (λ (t : List ℕ). IsAlone old.image shape.place.first shape.place.copies r.seen.generation t)
+      subst (λ (im : Image). IsAlone im shape.place r.seen.generation text) (sym e)
+      (subst (λ (t : List ℕ). IsAlone old.image shape.place r.seen.generation t)
       (sym (same ∙ its_text))
-      (subst (λ (g : ℕ). IsAlone old.image shape.place.first shape.place.copies g (index_text index))
+      (subst (λ (g : ℕ). IsAlone old.image shape.place g (index_text index))
       (sym (ap (λ (w : View). w.generation) before_is) ∙ ready.generation) in_use.alone))
 
   -- and while its text is adopted
   pub idle_adopted : one.image ≡ old.image → one.written ≡ old.written
-      → Spares (IsRight one.image shape.place.first shape.place.copies r.seen.generation text) one.image two.image
-      → (IsAlone one.image shape.place.first shape.place.copies r.seen.generation text → two.written ≡ one.written)
+      → Spares (IsRight one.image shape.place r.seen.generation text) one.image two.image
+      → (IsAlone one.image shape.place r.seen.generation text → two.written ≡ one.written)
       → IsAsBefore old two
   idle_adopted image written right already =
       let alone = idle_alone one.image image in
@@ -660,8 +660,8 @@ module _ (shape : Shape) (old one two : Medium) (r : OpeningPlan) (text : List �
         written = already alone ∙ written;
       }
     where
-      all_right : IsAlone one.image shape.place.first shape.place.copies r.seen.generation text → (f : ℕ)
-          → IsRight one.image shape.place.first shape.place.copies r.seen.generation text f
+      all_right : IsAlone one.image shape.place r.seen.generation text → (f : ℕ)
+          → IsRight one.image shape.place r.seen.generation text f
       all_right alone f copy lt = (
         (λ e. subst (λ (k : ℕ). VerifiesAs (one.image k) r.seen.generation text) (sym e) (alone.held copy lt)),
         (λ e. subst (λ (k : ℕ). IsBlank (one.image k)) (sym e) (alone.blank copy lt)),

@@ -265,8 +265,8 @@ plan_push generation contents start now new entries jobs f e job made free added
   views = λ image place m some enough done.
       zip_push (λ (g : Fresh) (h : IndexEntry). entry_view image place m h ≡ fresh_entry generation (fresh_element g))
       contents entries f e
-      (plan.views image place m some enough (all_front (IsDone image place.first place.copies) jobs job done))
-      (shown image place m some enough (all_last (IsDone image place.first place.copies) jobs job done));
+      (plan.views image place m some enough (all_front (IsDone image place) jobs job done))
+      (shown image place m some enough (all_last (IsDone image place) jobs job done));
 }
   where
     grows : KeepsBlocks now new
@@ -287,13 +287,13 @@ plan_push generation contents start now new entries jobs f e job made free added
     }
 
     shown : (image : Image) (place : Place) (m : ℕ) → 1 ≤ m → m ≤ place.copies
-        → IsDone image place.first place.copies job
+        → IsDone image place job
         → entry_view image place m e ≡ fresh_entry generation (fresh_element f)
     shown image place m some enough done =
-        let a : AllFull place.first place.copies e.blocks job.bytes.now image =
-        subst (λ (bs : List ℕ). AllFull place.first place.copies bs job.bytes.now image) blocks done in
-        let b : AllFull place.first place.copies e.blocks f.bytes image =
-        subst (λ (xs : List ℕ). AllFull place.first place.copies e.blocks xs image) bytes a in
+        let a : AllFull place e.blocks job.bytes.now image =
+        subst (λ (bs : List ℕ). AllFull place bs job.bytes.now image) blocks done in
+        let b : AllFull place e.blocks f.bytes image =
+        subst (λ (xs : List ℕ). AllFull place e.blocks xs image) bytes a in
         view_full image place m e f.bytes some enough b made.hash made.len
         ∙ ap (λ (n : List ℕ). record {
           name = n;
@@ -335,12 +335,12 @@ plan_push generation contents start now new entries jobs f e job made free added
 -- ---- what the plan says of the disk
 
 -- beside nothing, nothing is shared
-pub shared_of_whole : (image : Image) (first copies : ℕ) (jobs : List Job) → All (λ (job : Job). job.was.now ≡ []) jobs
-    → All (HasShared image first copies) jobs
-shared_of_whole image first copies jobs whole k d lt c few =
-    subst (λ (was : List ℕ). HoldsShared (image (area first c)) (get_or jobs k d).blocks (get_or jobs k d).bytes.now
+pub shared_of_whole : (image : Image) (place : Place) (jobs : List Job) → All (λ (job : Job). job.was.now ≡ []) jobs
+    → All (HasShared image place) jobs
+shared_of_whole image place jobs whole k d lt c few =
+    subst (λ (was : List ℕ). HoldsShared (image (area place c)) (get_or jobs k d).blocks (get_or jobs k d).bytes.now
     was) (sym (whole k d lt))
-    (shared_none (image (area first c)) (get_or jobs k d).blocks (get_or jobs k d).bytes.now)
+    (shared_none (image (area place c)) (get_or jobs k d).blocks (get_or jobs k d).bytes.now)
 
 -- what was in the set at the start is written by no job
 pub left_of_placed : (start now : List Bool) (jobs : List Job) → ArePlaced start now jobs → (k : ℕ)
@@ -356,10 +356,10 @@ written_of_plan copies blocks was now jobs few written =
     let wider : copies * jobs_cost jobs ≤ copies * (256 * blocks) = mul-le-mul_left copies few in
     omega (arith, written, wider)
 
-pub jobs_to_contents : (first copies : ℕ) (start now : List Bool) (jobs : List Job) (old new : Medium)
+pub jobs_to_contents : (place : Place) (start now : List Bool) (jobs : List Job) (old new : Medium)
     (done more : Type 0) → ArePlaced start now jobs → (done → more)
-    → (c : Case) → IsJobsCase first copies jobs old new done c → IsContentsCase first copies start old new more c
-jobs_to_contents first copies start now jobs old new done more placed to c is = ⊎_elim
+    → (c : Case) → IsJobsCase place jobs old new done c → IsContentsCase place start old new more c
+jobs_to_contents place start now jobs old new done more placed to c is = ⊎_elim
     (λ some. let (d, was, step) = some in inl (
       d,
       was,

@@ -49,7 +49,7 @@ module _ (shape : Shape) (is : IsShape shape) (old mid : Medium) (same : mid.ima
     settled_kept_by : (opens : Bool) (seen : Seen) (index : Index) (state : State) → Elapses old mid → Elapses mid new
         → (Quiet old → IsIdle old mid)
         → chosen old.image shape ≡ Some (opens, (seen, index))
-        → EachCase (OneTextStops opens shape.place.first shape.place.copies seen.generation seen.text mid.image) mid new
+        → EachCase (OneTextStops opens shape.place seen.generation seen.text mid.image) mid new
         → KeptThroughout shape state old new
     settled_kept_by true seen index state before later idle chose stops =
         adopt_kept shape is state untouched adopt_law opened_law old mid new (seen, index) before later idle same chose
@@ -59,7 +59,7 @@ module _ (shape : Shape) (is : IsShape shape) (old mid : Medium) (same : mid.ima
 
     pub settled_kept : (found : Found) (state : State) → Elapses old mid → Elapses mid new
         → (Quiet old → IsIdle old mid) → Some (text_of found) ≡ chosen old.image shape
-        → EachCase (OneTextStops found.opens shape.place.first shape.place.copies found.seen.generation found.seen.text
+        → EachCase (OneTextStops found.opens shape.place found.seen.generation found.seen.text
         mid.image) mid new → KeptThroughout shape state old new
     settled_kept found state before later idle chose stops =
         settled_kept_by found.opens found.seen found.index state before later idle (sym chose) stops
@@ -68,8 +68,8 @@ module _ (shape : Shape) (is : IsShape shape) (old mid : Medium) (same : mid.ima
         → chosen old.image shape ≡ Some (opens, (seen, index))
         → fit_index shape seen.text ≡ Some index → IsIndex index
         → AllByRecursion (λ (e : IndexEntry). HasAll set e.blocks) index.entries
-        → IsLeftWith opens shape.place.first shape.place.copies seen.generation seen.text old.image new.image
-        → Spares (IsNoSlot shape.place.first shape.place.copies) old.image new.image
+        → IsLeftWith opens shape.place seen.generation seen.text old.image new.image
+        → Spares (IsNoSlot shape.place) old.image new.image
         → IsGround shape old.image new.image set (seen.generation + 1)
     settled_ready_by true seen index set clean chose fit rules takes left areas =
         ready_opened shape old.image new.image set is (contents_law aside) (contents_done_law aside) (index_law aside)
@@ -92,9 +92,9 @@ module _ (shape : Shape) (is : IsShape shape) (old mid : Medium) (same : mid.ima
           → salvage_of (store_at old.image shape) ≡ Some found.view
           → next ≡ min (found.view.generation + 1) (2 ^ 64 - 1) → IsClean shape old.image
           → Some (text_of found) ≡ chosen old.image shape
-          → IsLeftWith found.opens shape.place.first shape.place.copies found.seen.generation found.seen.text mid.image
+          → IsLeftWith found.opens shape.place found.seen.generation found.seen.text mid.image
           new.image
-          → Spares (IsNoSlot shape.place.first shape.place.copies) mid.image new.image
+          → Spares (IsNoSlot shape.place) mid.image new.image
           → IsGround shape old.image new.image set next
       settled_ready next fresh salvaged next_is clean chose left areas =
           let below : found.view.generation < 2 ^ 64 - 1 = subst HasNext salvaged fresh in
@@ -104,9 +104,9 @@ module _ (shape : Shape) (is : IsShape shape) (old mid : Medium) (same : mid.ima
           subst (λ (n : ℕ). IsGround shape old.image new.image set n) (sym e)
           (settled_ready_by found.opens found.seen found.index set clean (sym chose) fit.fit fit.rules
           (taken_all (area_blocks shape.allowed) found.index.entries set taken)
-          (subst (λ (im : Image). IsLeftWith found.opens shape.place.first shape.place.copies found.seen.generation
+          (subst (λ (im : Image). IsLeftWith found.opens shape.place found.seen.generation
           found.seen.text im new.image) same left)
-          (subst (λ (im : Image). Spares (IsNoSlot shape.place.first shape.place.copies) im new.image) same areas))
+          (subst (λ (im : Image). Spares (IsNoSlot shape.place) im new.image) same areas))
 
 -- the blocks of the text
 module _ (shape : Shape) (found : Found) (found_is : IsFound shape found) (es : List IndexEntry)

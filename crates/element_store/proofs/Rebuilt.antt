@@ -69,7 +69,7 @@ module _ (shape : Shape) (start : Image) where
 
   -- where no text fits a clean place, none is held
   pub none_held : IsClean shape start → chosen start shape ≡ None → (copy g : ℕ) (t : List ℕ)
-      → copy < shape.place.copies → Holds start shape.place.first copy g t → ⊥
+      → copy < shape.place.copies → Holds start shape.place copy g t → ⊥
   unfolding chosen
   none_held clean is copy g t lt held =
       let (index, fit) = clean.fit copy g t lt held in
@@ -101,7 +101,7 @@ module _ (shape : Shape) (start now : Image) (set : List Bool) (is : IsShape sha
   -- beside what is held of a corrupt one
   pub ready_given_up : AnewContentsLaw → AnewDoneLaw → AnewIndexLaw → (g : ℕ) → IsGivenUp shape start now
       → TakesNamed (contains set) shape.place now
-      → ((copy h : ℕ) (u : List ℕ) → copy < shape.place.copies → Holds now shape.place.first copy h u → h < g)
+      → ((copy h : ℕ) (u : List ℕ) → copy < shape.place.copies → Holds now shape.place copy h u → h < g)
       → ((text : FitText) → IsSalvageAt shape start text → g ≡ text.0.generation + 1) → IsGround shape start now set g
   ready_given_up contents contents_done law g given_up takes below next_is = record {
     during = λ after old c settled keeps. contents shape start now (contains set) after old c is.some given_up takes
@@ -120,8 +120,8 @@ module _ (shape : Shape) (start now : Image) (set : List Bool) (is : IsShape sha
       → IsClean shape start → IsSalvageAt shape start text
       → fit_index shape text.0.text ≡ Some text.1 → IsIndex text.1
       → AllByRecursion (λ (e : IndexEntry). HasAll set e.blocks) text.1.entries
-      → IsKeptAlone shape.place.first shape.place.copies text.0.generation text.0.text start now
-      → Spares (IsNoSlot shape.place.first shape.place.copies) start now
+      → IsKeptAlone shape.place text.0.generation text.0.text start now
+      → Spares (IsNoSlot shape.place) start now
       → IsGround shape start now set (text.0.generation + 1)
   ready_salvaged given_up taken contents contents_done law text clean salvage fit rules takes alone areas =
       let (up, only) = given_up shape start now text clean salvage alone areas in
@@ -162,25 +162,25 @@ module _ (shape : Shape) (is : IsShape shape) (state : State) where
   pub adopt_kept : UntouchedLaw → AdoptLaw → OpenedLaw → (old mid new : Medium) (text : FitText) → Elapses old mid
       → Elapses mid new → (Quiet old → IsIdle old mid) → mid.image ≡ old.image
       → chosen old.image shape ≡ Some (true, text) → EachCase
-      (PutStops shape.place.first shape.place.copies text.0.generation text.0.text mid.image) mid new
+      (PutStops shape.place text.0.generation text.0.text mid.image) mid new
       → KeptThroughout shape state old new
   adopt_kept untouched adopt opened old mid new text before later idle same chose stops quiet clean =
       goes_on (IsKeptCase shape old.image state) before later (idle_kept untouched old mid idle quiet clean)
       (λ c past. adopt shape old.image text.0.generation text.0.text text.1 state c is.some clean
       (opened_at shape old.image opened text chose)
-      (subst (λ (im : Image). PutStops shape.place.first shape.place.copies text.0.generation text.0.text im c) same
+      (subst (λ (im : Image). PutStops shape.place text.0.generation text.0.text im c) same
       (stops c past)))
 
   -- while all texts but its salvage are taken away
   pub keep_kept : UntouchedLaw → KeepLaw → (old mid new : Medium) (text : FitText) → Elapses old mid → Elapses mid new
       → (Quiet old → IsIdle old mid) → mid.image ≡ old.image
       → chosen old.image shape ≡ Some (false, text) → EachCase
-      (KeepStops shape.place.first shape.place.copies text.0.generation text.0.text mid.image) mid new
+      (KeepStops shape.place text.0.generation text.0.text mid.image) mid new
       → KeptThroughout shape state old new
   keep_kept untouched keep old mid new text before later idle same chose stops quiet clean =
       goes_on (IsKeptCase shape old.image state) before later (idle_kept untouched old mid idle quiet clean)
       (λ c past. keep shape old.image text state c is.some clean chose
-      (subst (λ (im : Image). KeepStops shape.place.first shape.place.copies text.0.generation text.0.text im c) same
+      (subst (λ (im : Image). KeepStops shape.place text.0.generation text.0.text im c) same
       (stops c past)))
 
 -- ---- contents, and their index
@@ -210,8 +210,8 @@ written_fresh shape then g (f ∷ fs) (e ∷ es) zip = (
 module _ (shape : Shape) (start : Image) (set : List Bool) (g : ℕ) (contents : List Fresh) (old mid : Medium)
     (ready : IsGround shape start old.image set g) (quiet : Quiet old) where
   pub contents_kept : (state : State) (done : Type 0) → (done
-      → Keeps (IsNoArea shape.place.first shape.place.copies) (λ k. contains set k ≡ true) old.image mid.image)
-      → EachCase (IsContentsCase shape.place.first shape.place.copies set old mid done) old mid
+      → Keeps (IsNoArea shape.place) (λ k. contains set k ≡ true) old.image mid.image)
+      → EachCase (IsContentsCase shape.place set old mid done) old mid
       → EachCase (IsKeptCase shape start state) old mid
   contents_kept state done keeps each c past = ⊎_elim
       (λ some. let (d, was, step) = some in ready.during state d c (quiet d was) step)
@@ -219,9 +219,9 @@ module _ (shape : Shape) (start : Image) (set : List Bool) (g : ℕ) (contents :
       (each c past)
 
   pub anew_kept : (new : Medium) (text : List ℕ) (index : Index) → IsTextOf shape text index
-      → Keeps (IsNoArea shape.place.first shape.place.copies) (λ k. contains set k ≡ true) old.image mid.image
+      → Keeps (IsNoArea shape.place) (λ k. contains set k ≡ true) old.image mid.image
       → ShowsFresh mid.image shape.place shape.m g contents index.entries
-      → EachCase (PutStops shape.place.first shape.place.copies g text mid.image) mid new
+      → EachCase (PutStops shape.place g text mid.image) mid new
       → EachCase (IsKeptCase shape start (fresh_state g (fresh_map contents))) mid new
   unfolding fresh_state
   anew_kept new text index spelled keeps shown stops c past =
@@ -232,24 +232,24 @@ module _ (shape : Shape) (start : Image) (set : List Bool) (g : ℕ) (contents :
 
 module _ (mid image : Image) (shape : Shape) (g : ℕ) (contents : List Fresh) (index : Index) (text : List ℕ)
     (is : IsShape shape) (spelled : IsTextOf shape text index)
-    (alone : IsAlone image shape.place.first shape.place.copies g text)
-    (same : Spares (IsNoSlot shape.place.first shape.place.copies) mid image)
+    (alone : IsAlone image shape.place g text)
+    (same : Spares (IsNoSlot shape.place) mid image)
     (shown : ShowsFresh mid shape.place shape.m g contents index.entries) where
   pub rebuilt_opens : store_at image shape ≡ fresh_state g (fresh_map contents)
   unfolding fresh_state
   rebuilt_opens = made_opens shape image g contents index is
-      (subst (λ (t : List ℕ). IsAlone image shape.place.first shape.place.copies g t) spelled.spelled alone)
+      (subst (λ (t : List ℕ). IsAlone image shape.place g t) spelled.spelled alone)
       (subst (λ (t : List ℕ). fit_index shape t ≡ Some index) spelled.spelled spelled.fit)
       (shown_still mid image shape.place shape.m g
       (λ e. view_areas mid image shape.place shape.m e (λ c lt.
-      same (area shape.place.first c) (area_no_slot shape.place.first shape.place.copies c)))
+      same (area shape.place c) (area_no_slot shape.place c)))
       contents index.entries shown)
 
   pub rebuilt_in_use : IsInUse shape image index (fresh_view g (fresh_map contents))
   rebuilt_in_use = made_in_use shape image g contents index is
-      (subst (λ (t : List ℕ). IsAlone image shape.place.first shape.place.copies g t) spelled.spelled alone)
+      (subst (λ (t : List ℕ). IsAlone image shape.place g t) spelled.spelled alone)
       (subst (λ (t : List ℕ). fit_index shape t ≡ Some index) spelled.spelled spelled.fit)
       (shown_still mid image shape.place shape.m g
       (λ e. view_areas mid image shape.place shape.m e (λ c lt.
-      same (area shape.place.first c) (area_no_slot shape.place.first shape.place.copies c)))
+      same (area shape.place c) (area_no_slot shape.place c)))
       contents index.entries shown)

@@ -34,8 +34,8 @@ module _ (shape : Shape) (set : List Bool) (g : ℕ) (contents : List Fresh) (st
     (mid : Medium) (then : Elapses ready_at mid) where
   -- until the contents are there
   pub contents_anew : (state : State) (done : Type 0) → (done
-      → Keeps (IsNoArea shape.place.first shape.place.copies) (λ k. contains set k ≡ true) ready_at.image mid.image)
-      → EachCase (IsContentsCase shape.place.first shape.place.copies set ready_at mid done) ready_at mid
+      → Keeps (IsNoArea shape.place) (λ k. contains set k ≡ true) ready_at.image mid.image)
+      → EachCase (IsContentsCase shape.place set ready_at mid done) ready_at mid
       → KeptThroughout shape state start mid
   contents_anew state done keeps each quiet clean = goes_on (IsKeptCase shape start.image state) before then
       (prepared state quiet clean)
@@ -44,10 +44,10 @@ module _ (shape : Shape) (set : List Bool) (g : ℕ) (contents : List Fresh) (st
   -- until the index is there
   pub index_anew : (new : Medium) (text : List ℕ) (index : Index) (done : Type 0) → Elapses mid new
       → g ≡ next_generation (salvage_of (store_at start.image shape)) → IsTextOf shape text index
-      → Keeps (IsNoArea shape.place.first shape.place.copies) (λ k. contains set k ≡ true) ready_at.image mid.image
+      → Keeps (IsNoArea shape.place) (λ k. contains set k ≡ true) ready_at.image mid.image
       → ShowsFresh mid.image shape.place shape.m g contents index.entries
-      → EachCase (IsContentsCase shape.place.first shape.place.copies set ready_at mid done) ready_at mid
-      → EachCase (PutStops shape.place.first shape.place.copies g text mid.image) mid new
+      → EachCase (IsContentsCase shape.place set ready_at mid done) ready_at mid
+      → EachCase (PutStops shape.place g text mid.image) mid new
       → KeptThroughout shape (fresh_state (next_generation (salvage_of (store_at start.image shape)))
       (fresh_map contents)) start new
   index_anew new text index done later generation_is spelled keeps shown each stops =
@@ -60,32 +60,32 @@ module _ (shape : Shape) (set : List Bool) (g : ℕ) (contents : List Fresh) (st
 
 -- ---- outside the place
 
-module _ (first copies : ℕ) (set : List Bool) (start ready_at mid : Medium) (before : Elapses start ready_at)
+module _ (place : Place) (set : List Bool) (start ready_at mid : Medium) (before : Elapses start ready_at)
     (then : Elapses ready_at mid)
-    (slots : Spares (IsNoSlot first copies) start.image ready_at.image)
-    (areas : Spares (IsNoArea first copies) ready_at.image mid.image) where
-  pub contents_elsewhere : Spares (IsOutside first copies) start.image mid.image
-  contents_elsewhere f out = areas f (outside_no_area first copies f out) ∙ slots f (outside_no_slot first copies f out)
+    (slots : Spares (IsNoSlot place) start.image ready_at.image)
+    (areas : Spares (IsNoArea place) ready_at.image mid.image) where
+  pub contents_elsewhere : Spares (IsOutside place) start.image mid.image
+  contents_elsewhere f out = areas f (outside_no_area place f out) ∙ slots f (outside_no_slot place f out)
 
-  pub index_elsewhere : (new : Medium) → Spares (IsNoSlot first copies) mid.image new.image
-      → Spares (IsOutside first copies) start.image new.image
-  index_elsewhere new more f out = more f (outside_no_slot first copies f out) ∙ contents_elsewhere f out
+  pub index_elsewhere : (new : Medium) → Spares (IsNoSlot place) mid.image new.image
+      → Spares (IsOutside place) start.image new.image
+  index_elsewhere new more f out = more f (outside_no_slot place f out) ∙ contents_elsewhere f out
 
-  module _ (prepared : EachCase (IsSettledOn (IsNoSlot first copies) start.image) start ready_at)
+  module _ (prepared : EachCase (IsSettledOn (IsNoSlot place) start.image) start ready_at)
       (quiet_now : Quiet ready_at) (done : Type 0)
-      (each : EachCase (IsContentsCase first copies set ready_at mid done) ready_at mid) where
-    pub contents_outside : EachCase (IsSettledOn (IsOutside first copies) start.image) start mid
-    contents_outside = goes_on (IsSettledOn (IsOutside first copies) start.image) before then
-        (λ c past. settled_less (λ f out. outside_no_slot first copies f out) (prepared c past))
-        (λ c past. settled_before (λ f out. slots f (outside_no_slot first copies f out))
-        (contents_around first copies set ready_at mid done quiet_now areas each c past))
+      (each : EachCase (IsContentsCase place set ready_at mid done) ready_at mid) where
+    pub contents_outside : EachCase (IsSettledOn (IsOutside place) start.image) start mid
+    contents_outside = goes_on (IsSettledOn (IsOutside place) start.image) before then
+        (λ c past. settled_less (λ f out. outside_no_slot place f out) (prepared c past))
+        (λ c past. settled_before (λ f out. slots f (outside_no_slot place f out))
+        (contents_around place set ready_at mid done quiet_now areas each c past))
 
     pub index_outside : (new : Medium) (g : ℕ) (text : List ℕ) → Elapses mid new
-        → EachCase (PutStops first copies g text mid.image) mid new
-        → EachCase (IsSettledOn (IsOutside first copies) start.image) start new
-    index_outside new g text later stops = goes_on (IsSettledOn (IsOutside first copies) start.image)
+        → EachCase (PutStops place g text mid.image) mid new
+        → EachCase (IsSettledOn (IsOutside place) start.image) start new
+    index_outside new g text later stops = goes_on (IsSettledOn (IsOutside place) start.image)
         (elapses_on before then) later contents_outside
-        (λ c past. settled_before contents_elsewhere (settled_less (λ f out. outside_no_slot first copies f out)
+        (λ c past. settled_before contents_elsewhere (settled_less (λ f out. outside_no_slot place f out)
         (stops c past).elsewhere))
 
 -- ---- at its end
@@ -94,13 +94,13 @@ module _ (first copies : ℕ) (set : List Bool) (start ready_at mid : Medium) (b
 pub anew_opens : (mid image : Image) (shape : Shape) (g : ℕ) (contents : List Fresh) (cell : Cell) (index : Index)
     (text : List ℕ) → IsShape shape → IsCellOf shape.place g cell
     → IsTextOf shape text index → CellAt image cell text
-    → Spares (IsNoSlot shape.place.first shape.place.copies) mid image
+    → Spares (IsNoSlot shape.place) mid image
     → ShowsFresh mid shape.place shape.m g contents index.entries → (n : ℕ) → g ≡ n
     → store_at image shape ≡ fresh_state n (fresh_map contents)
 anew_opens mid image shape g contents cell index text is of spelled held same shown n e =
     rebuilt_opens mid image shape g contents index text is spelled
-    (subst (λ (h : ℕ). IsAlone image shape.place.first shape.place.copies h text) of.counts
-    (subst (λ (p : Place). IsAlone image p.first p.copies cell.generation text) of.lies held))
+    (subst (λ (h : ℕ). IsAlone image shape.place h text) of.counts
+    (subst (λ (p : Place). IsAlone image p cell.generation text) of.lies held))
     same shown
     ∙ ap (λ (h : ℕ). fresh_state h (fresh_map contents)) e
 
@@ -108,7 +108,7 @@ anew_opens mid image shape g contents cell index text is of spelled held same sh
 pub anew_in_use : (mid image : Image) (shape : Shape) (g : ℕ) (contents : List Fresh) (cell : Cell) (index : Index)
     (text : List ℕ) → IsShape shape → IsCellOf shape.place g cell
     → IsTextOf shape text index → index.format ≡ 2 → CellAt image cell text
-    → Spares (IsNoSlot shape.place.first shape.place.copies) mid image
+    → Spares (IsNoSlot shape.place) mid image
     → ShowsFresh mid shape.place shape.m g contents index.entries → (n : ℕ) → g ≡ n
     → IsMadeAnew shape image (fresh_view n (fresh_map contents))
 anew_in_use mid image shape g contents cell index text is of spelled two held same shown n e = record {
@@ -116,7 +116,7 @@ anew_in_use mid image shape g contents cell index text is of spelled two held sa
   format = two;
   in_use = subst (λ (h : ℕ). IsInUse shape image index (fresh_view h (fresh_map contents))) e
       (rebuilt_in_use mid image shape g contents index text is spelled
-      (subst (λ (h : ℕ). IsAlone image shape.place.first shape.place.copies h text) of.counts
-      (subst (λ (p : Place). IsAlone image p.first p.copies cell.generation text) of.lies held))
+      (subst (λ (h : ℕ). IsAlone image shape.place h text) of.counts
+      (subst (λ (p : Place). IsAlone image p cell.generation text) of.lies held))
       same shown);
 }

@@ -57,18 +57,18 @@ gives v (Some t) false e = absurd (true_false e)
 -- an element that is good and lacks no copy: each copy gives the value, and has all of it
 pub view_gives : (image : Image) (place : Place) (m : ℕ) (e : IndexEntry) (v : List ℕ)
     → (entry_view image place m e).content ≡ Good v → (entry_view image place m e).lacking ≡ []
-    → (c : ℕ) → c < place.copies → (counting (image (area place.first c)) e.blocks e.len e.hash ≡ Some v)
-    × (within (image (area place.first c)) e.blocks e.len ≡ true)
+    → (c : ℕ) → c < place.copies → (counting (image (area place c)) e.blocks e.len e.hash ≡ Some v)
+    × (within (image (area place c)) e.blocks e.len ≡ true)
 unfolding entry_view
 view_gives image place m e v good none c lt =
     let is : voted m (given image place e) ≡ Some v = content_good (voted m (given image place e))
     (first_content (given image place e)) v good in
-    let none_v : lacking (Some v) place.first place.copies e.blocks e.len e.hash image ≡ [] =
-    subst (λ (o : Option (List ℕ)). lacking o place.first place.copies e.blocks e.len e.hash image ≡ []) is none in
-    gives v (counting (image (area place.first c)) e.blocks e.len e.hash)
-    (within (image (area place.first c)) e.blocks e.len)
-    (none_pass (λ c. lacks (Some v) (counting (image (area place.first c)) e.blocks e.len e.hash)
-    (within (image (area place.first c)) e.blocks e.len)) 0 place.copies none_v c (omega arith)
+    let none_v : lacking (Some v) place e.blocks e.len e.hash image ≡ [] =
+    subst (λ (o : Option (List ℕ)). lacking o place e.blocks e.len e.hash image ≡ []) is none in
+    gives v (counting (image (area place c)) e.blocks e.len e.hash)
+    (within (image (area place c)) e.blocks e.len)
+    (none_pass (λ c. lacks (Some v) (counting (image (area place c)) e.blocks e.len e.hash)
+    (within (image (area place c)) e.blocks e.len)) 0 place.copies none_v c (omega arith)
     (omega (arith, lt)))
 
 -- so it counts in each

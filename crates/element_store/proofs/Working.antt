@@ -10,6 +10,7 @@ use Rattle.disk_model.specs.Image.{Image}
 use Rattle.disk_model.specs.Place.{area, IsNoArea}
 use Rattle.disk_model.specs.Medium.{Medium, IsLawful}
 use Rattle.disk_model.specs.Frame.{Keeps}
+use Rattle.disk_model.specs.declared.place.Place.{Place}
 use Rattle.block_files.specs.Areas.{IsFull, HoldsShared}
 use Rattle.block_files.specs.Writes.{Wrote, Tore}
 use Rattle.block_files.specs.lemmas.Stretches.{wrote_none, wrote_on, wrote_tore, wrote_less, tore_less}
@@ -39,27 +40,27 @@ shared_kept spared apart old new f blocks bytes was keeps is shared i lt same j 
 
 -- ---- the first i jobs are done
 
-pub record AreDone (told : Bool) (first copies : ℕ) (jobs : List Job) (i : ℕ) (old now : Medium) : Type 0 where
-  pub wrote : Wrote told (IsNoArea first copies) (IsLeftByAll jobs) (copies * jobs_cost (take i jobs)) old now
-  pub full : IsTrue told → (x : ℕ) (d : Job) → x < i → x < length jobs → IsDone now.image first copies (get_or jobs x d)
+pub record AreDone (told : Bool) (place : Place) (jobs : List Job) (i : ℕ) (old now : Medium) : Type 0 where
+  pub wrote : Wrote told (IsNoArea place) (IsLeftByAll jobs) (place.copies * jobs_cost (take i jobs)) old now
+  pub full : IsTrue told → (x : ℕ) (d : Job) → x < i → x < length jobs → IsDone now.image place (get_or jobs x d)
   pub shared : IsTrue told → (x : ℕ) (d : Job) → i ≤ x → x < length jobs
-      → HasShared now.image first copies (get_or jobs x d)
+      → HasShared now.image place (get_or jobs x d)
 
-module _ (told : Bool) (first copies : ℕ) (jobs : List Job) where
-  pub done_none : (m : Medium) → IsLawful told m → (IsTrue told → All (HasShared m.image first copies) jobs)
-      → AreDone told first copies jobs 0 m m
+module _ (told : Bool) (place : Place) (jobs : List Job) where
+  pub done_none : (m : Medium) → IsLawful told m → (IsTrue told → All (HasShared m.image place) jobs)
+      → AreDone told place jobs 0 m m
   done_none m law shared = record {
-    wrote = wrote_less told (IsNoArea first copies) (IsLeftByAll jobs) (IsNoArea first copies) (IsLeftByAll jobs)
+    wrote = wrote_less told (IsNoArea place) (IsLeftByAll jobs) (IsNoArea place) (IsLeftByAll jobs)
         (λ f is. is) (λ k is. is)
-        0 (copies * jobs_cost (take 0 jobs)) (omega arith) m m
-        (wrote_none told (IsNoArea first copies) (IsLeftByAll jobs) m law);
+        0 (place.copies * jobs_cost (take 0 jobs)) (omega arith) m m
+        (wrote_none told (IsNoArea place) (IsLeftByAll jobs) m law);
     full = λ tells x d less lt. absurd (omega arith);
     shared = λ tells x d le lt. shared tells x d lt;
   }
 
   -- the next job, which leaves the blocks of the others alone
   module _ (i : ℕ) (job : Job) (old mid new : Medium) (lt : i < length jobs) (is : job ≡ get_or jobs i job)
-      (wrote : Wrote told (IsNoArea first copies) (IsLeftBy job) (copies * job_cost job) mid new) where
+      (wrote : Wrote told (IsNoArea place) (IsLeftBy job) (place.copies * job_cost job) mid new) where
     left_by : (x : ℕ) (d : Job) → x ≢ i → x < length jobs → AreApart jobs → (m : ℕ)
         → m < length (get_or jobs x d).blocks → IsLeftBy job (get_or (get_or jobs x d).blocks m 0)
     left_by x d other inside apart m less =
@@ -69,71 +70,71 @@ module _ (told : Bool) (first copies : ℕ) (jobs : List Job) where
         let short : m < length (get_or jobs x job).blocks = subst (λ (j : Job). m < length j.blocks) same less in
         subst Q (sym same) (subst P (sym is) (apart x i job other inside lt m short))
 
-    pub done_more : AreApart jobs → (IsTrue told → IsDone new.image first copies job)
-        → AreDone told first copies jobs i old mid → AreDone told first copies jobs (i + 1) old new
+    pub done_more : AreApart jobs → (IsTrue told → IsDone new.image place job)
+        → AreDone told place jobs i old mid → AreDone told place jobs (i + 1) old new
     done_more apart now was = record {
       wrote = (
-          let next = wrote_less told (IsNoArea first copies) (IsLeftBy job) (IsNoArea first copies) (IsLeftByAll jobs)
+          let next = wrote_less told (IsNoArea place) (IsLeftBy job) (IsNoArea place) (IsLeftByAll jobs)
           (λ f none. none)
-          (λ k all. subst (λ (j : Job). IsLeftBy j k) (sym is) (all i job lt)) (copies * job_cost job)
-          (copies * job_cost job) (omega arith) mid new wrote in
-          let both = wrote_on told (IsNoArea first copies) (IsLeftByAll jobs) (copies * jobs_cost (take i jobs))
-          (copies * job_cost job) old mid new was.wrote next in
+          (λ k all. subst (λ (j : Job). IsLeftBy j k) (sym is) (all i job lt)) (place.copies * job_cost job)
+          (place.copies * job_cost job) (omega arith) mid new wrote in
+          let both = wrote_on told (IsNoArea place) (IsLeftByAll jobs) (place.copies * jobs_cost (take i jobs))
+          (place.copies * job_cost job) old mid new was.wrote next in
           let sum : jobs_cost (take (i + 1) jobs) ≡ jobs_cost (take i jobs) + job_cost job =
           sum_by_more job_cost jobs i job lt ∙ ap (λ (j : Job). jobs_cost (take i jobs) + job_cost j) (sym is) in
-          let e = ap (λ (n : ℕ). copies * n) sum in
+          let e = ap (λ (n : ℕ). place.copies * n) sum in
           let a = jobs_cost (take i jobs) in
           let b = job_cost job in
-          let split : copies * (a + b) ≡ copies * a + copies * b = omega arith in
-          let P : ℕ → Type 0 = λ n. Wrote told (IsNoArea first copies) (IsLeftByAll jobs) n old new in
+          let split : place.copies * (a + b) ≡ place.copies * a + place.copies * b = omega arith in
+          let P : ℕ → Type 0 = λ n. Wrote told (IsNoArea place) (IsLeftByAll jobs) n old new in
           subst P (sym (e ∙ split)) both);
       full = λ tells x d less inside. ⊎_elim
           (λ here. (
           let at : get_or jobs x d ≡ job = get_or_default jobs x d job inside ∙ ap (λ (n : ℕ). get_or jobs n job) here
           ∙ sym is in
-          let P : Job → Type 0 = λ j. IsDone new.image first copies j in
+          let P : Job → Type 0 = λ j. IsDone new.image place j in
           subst P (sym at) (now tells)))
-          (λ other. λ c few. full_kept (IsNoArea first copies) (IsLeftBy job) mid.image new.image (area first c)
+          (λ other. λ c few. full_kept (IsNoArea place) (IsLeftBy job) mid.image new.image (area place c)
           (get_or jobs x d).blocks (get_or jobs x d).bytes.now
           (wrote.keeps tells) (left_by x d other inside apart)
           (was.full tells x d (let ne : x ≢ i = other in omega arith) inside c few))
           (cases_eq x i);
       shared = λ tells x d le inside. λ c few. (
           let other : x ≢ i = omega arith in
-          shared_kept (IsNoArea first copies) (IsLeftBy job) mid.image new.image (area first c) (get_or jobs x d).blocks
+          shared_kept (IsNoArea place) (IsLeftBy job) mid.image new.image (area place c) (get_or jobs x d).blocks
           (get_or jobs x d).bytes.now (get_or jobs x d).was.now
           (wrote.keeps tells) (left_by x d other inside apart) (was.shared tells x d (omega arith) inside c few));
     }
 
   pub done_failed : (i : ℕ) (job : Job) (old mid new : Medium) → i < length jobs → job ≡ get_or jobs i job
-      → Tore told (IsNoArea first copies) (IsLeftBy job) (copies * job_cost job) mid new
-      → AreDone told first copies jobs i old mid
-      → Tore told (IsNoArea first copies) (IsLeftByAll jobs) (copies * jobs_cost jobs) old new
+      → Tore told (IsNoArea place) (IsLeftBy job) (place.copies * job_cost job) mid new
+      → AreDone told place jobs i old mid
+      → Tore told (IsNoArea place) (IsLeftByAll jobs) (place.copies * jobs_cost jobs) old new
   done_failed i job old mid new lt is tore was =
-      let next = tore_less told (IsNoArea first copies) (IsLeftBy job) (IsNoArea first copies) (IsLeftByAll jobs)
+      let next = tore_less told (IsNoArea place) (IsLeftBy job) (IsNoArea place) (IsLeftByAll jobs)
       (λ f none. none)
-      (λ k all. subst (λ (j : Job). IsLeftBy j k) (sym is) (all i job lt)) (copies * job_cost job)
-      (copies * job_cost job) (omega arith) mid new tore in
-      let both = wrote_tore told (IsNoArea first copies) (IsLeftByAll jobs) (copies * jobs_cost (take i jobs))
-      (copies * job_cost job) old mid new was.wrote next in
+      (λ k all. subst (λ (j : Job). IsLeftBy j k) (sym is) (all i job lt)) (place.copies * job_cost job)
+      (place.copies * job_cost job) (omega arith) mid new tore in
+      let both = wrote_tore told (IsNoArea place) (IsLeftByAll jobs) (place.copies * jobs_cost (take i jobs))
+      (place.copies * job_cost job) old mid new was.wrote next in
       let sum : jobs_cost (take i jobs) + job_cost job ≤ jobs_cost jobs =
       le_trans (le_of_eq (ap (λ (j : Job). jobs_cost (take i jobs) + job_cost j) is))
       (sum_by_more_le job_cost jobs i job lt) in
-      let le = mul-le-mul_left copies sum in
+      let le = mul-le-mul_left place.copies sum in
       let a = jobs_cost (take i jobs) in
       let b = job_cost job in
-      let split : copies * (a + b) ≡ copies * a + copies * b = omega arith in
-      tore_less told (IsNoArea first copies) (IsLeftByAll jobs) (IsNoArea first copies) (IsLeftByAll jobs)
+      let split : place.copies * (a + b) ≡ place.copies * a + place.copies * b = omega arith in
+      tore_less told (IsNoArea place) (IsLeftByAll jobs) (IsNoArea place) (IsLeftByAll jobs)
       (λ f none. none) (λ k all. all)
-      (copies * a + copies * b) (copies * jobs_cost jobs) (omega (arith, le, split)) old new both
+      (place.copies * a + place.copies * b) (place.copies * jobs_cost jobs) (omega (arith, le, split)) old new both
 
-  pub done_all : (i : ℕ) (old now : Medium) → i ≡ length jobs → AreDone told first copies jobs i old now
-      → Wrote told (IsNoArea first copies) (IsLeftByAll jobs) (copies * jobs_cost jobs) old now
+  pub done_all : (i : ℕ) (old now : Medium) → i ≡ length jobs → AreDone told place jobs i old now
+      → Wrote told (IsNoArea place) (IsLeftByAll jobs) (place.copies * jobs_cost jobs) old now
   done_all i old now all was =
-      let P : List Job → Type 0 = λ js. Wrote told (IsNoArea first copies) (IsLeftByAll jobs) (copies * jobs_cost js)
+      let P : List Job → Type 0 = λ js. Wrote told (IsNoArea place) (IsLeftByAll jobs) (place.copies * jobs_cost js)
       old now in
       subst P (take_all i jobs (le_of_eq (sym all))) was.wrote
 
-  pub done_full : (i : ℕ) (old now : Medium) → i ≡ length jobs → AreDone told first copies jobs i old now
-      → IsTrue told → All (IsDone now.image first copies) jobs
+  pub done_full : (i : ℕ) (old now : Medium) → i ≡ length jobs → AreDone told place jobs i old now
+      → IsTrue told → All (IsDone now.image place) jobs
   done_full i old now all was tells x d inside = was.full tells x d (omega arith) inside

@@ -45,11 +45,11 @@ pub record IsReady (told : Bool) (store : Store) (changes : List Change) (old mi
     (text : List ℕ) (used : List Bool) : Type 0 where
   pub jobs : List Job
   pub prepared : IsPrepared store changes next text used jobs
-  pub done : IsTrue told → All (IsDone mid.image store.shape.place.first store.shape.place.copies) jobs
-  pub keeps : IsTrue told → Keeps (IsNoArea store.shape.place.first store.shape.place.copies) (IsLeftByAll jobs)
+  pub done : IsTrue told → All (IsDone mid.image store.shape.place) jobs
+  pub keeps : IsTrue told → Keeps (IsNoArea store.shape.place) (IsLeftByAll jobs)
       old.image mid.image
-  pub each : EachCase (IsJobsCase store.shape.place.first store.shape.place.copies jobs old mid (Unit {0})) old mid
-  pub elsewhere : IsTrue told → Spares (IsNoArea store.shape.place.first store.shape.place.copies) old.image mid.image
+  pub each : EachCase (IsJobsCase store.shape.place jobs old mid (Unit {0})) old mid
+  pub elsewhere : IsTrue told → Spares (IsNoArea store.shape.place) old.image mid.image
   pub cost : mid.written ≤ old.written + store.shape.place.copies * jobs_cost jobs
   pub time : Elapses old mid
   pub quiet : Quiet mid

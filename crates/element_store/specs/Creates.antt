@@ -15,5 +15,5 @@ NamesNothing place image = (at : Where) → ¬ (IsNamed place image at)
 -- nothing is pending but in slots, or no text names contents: neither after the last sync, nor with each write since,
 -- nor in what is left
 abbrev pub IsUntorn : Place → Case → Type 0
-IsUntorn place c = ((image : Image) × IsSettledOn (IsNoSlot place.first place.copies) image c)
+IsUntorn place c = ((image : Image) × IsSettledOn (IsNoSlot place) image c)
     ⊎ (NamesNothing place c.base × NamesNothing place c.full × NamesNothing place c.left)

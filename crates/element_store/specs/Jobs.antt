@@ -6,6 +6,7 @@ use Rattle.disk_model.specs.Case.{Case, IsSettledAt}
 use Rattle.disk_model.specs.Medium.{Medium}
 use Rattle.disk_model.specs.Frame.{KeepsCase}
 use Rattle.disk_model.specs.Place.{area, IsNoArea}
+use Rattle.disk_model.specs.declared.place.Place.{Place}
 use Rattle.block_files.specs.Parts.{changed}
 use Rattle.block_files.specs.BlockSets.{AreDistinct}
 use Rattle.block_files.specs.Areas.{AllFull, HoldsShared}
@@ -32,13 +33,13 @@ abbrev pub IsLeftByAll : List Job → ℕ → Type 0
 IsLeftByAll jobs block = All (λ job. IsLeftBy job block) jobs
 
 -- every copy has the parts that a job does not write
-abbrev pub HasShared : Image → (first copies : ℕ) → Job → Type 0
-HasShared image first copies job = (c : ℕ) → c < copies
-    → HoldsShared (image (area first c)) job.blocks job.bytes.now job.was.now
+abbrev pub HasShared : Image → Place → Job → Type 0
+HasShared image place job = (c : ℕ) → c < place.copies
+    → HoldsShared (image (area place c)) job.blocks job.bytes.now job.was.now
 
 -- every copy has the bytes of a job
-abbrev pub IsDone : Image → (first copies : ℕ) → Job → Type 0
-IsDone image first copies job = AllFull first copies job.blocks job.bytes.now image
+abbrev pub IsDone : Image → Place → Job → Type 0
+IsDone image place job = AllFull place job.blocks job.bytes.now image
 
 -- what a job writes in each copy, in bytes
 abbrev pub job_cost : Job → ℕ
@@ -48,7 +49,7 @@ abbrev pub jobs_cost : List Job → ℕ
 jobs_cost jobs = sum_by job_cost jobs
 
 -- a case while the jobs are being written, or one after they were made durable
-abbrev pub IsJobsCase : (first copies : ℕ) → List Job → (old new : Medium) → (done : Type 0) → Case → Type 0
-IsJobsCase first copies jobs old new done c =
-    ((d : Case) × old.now d × KeepsCase (IsNoArea first copies) (IsLeftByAll jobs) d c)
+abbrev pub IsJobsCase : Place → List Job → (old new : Medium) → (done : Type 0) → Case → Type 0
+IsJobsCase place jobs old new done c =
+    ((d : Case) × old.now d × KeepsCase (IsNoArea place) (IsLeftByAll jobs) d c)
     ⊎ (done × IsSettledAt new.image c)

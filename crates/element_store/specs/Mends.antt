@@ -7,6 +7,7 @@ use Rattle.per_base.specs.declared.reports.ReportKind.{ReportKind}
 use Rattle.disk_model.specs.Image.{Image}
 use Rattle.disk_model.specs.Case.{Case}
 use Rattle.disk_model.specs.Medium.{Medium}
+use Rattle.disk_model.specs.declared.place.Place.{Place}
 use Rattle.block_files.specs.Areas.{NamedFull}
 use Rattle.index_text.specs.declared.entries.Index.{Index}
 use Rattle.index_text.specs.declared.entries.IndexEntry.{IndexEntry}
@@ -21,8 +22,8 @@ pub record IsAsBefore (old new : Medium) : Type 0 where
   pub written : new.written ≡ old.written
 
 -- the copies that lacked a good element have its value
-abbrev pub IsWholeIn : Image → (first : ℕ) → IndexEntry → Entry → Type 0
-IsWholeIn image first e f = (value : List ℕ) → f.content ≡ Good value → NamedFull first f.lacking e.blocks value image
+abbrev pub IsWholeIn : Image → Place → IndexEntry → Entry → Type 0
+IsWholeIn image place e f = (value : List ℕ) → f.content ≡ Good value → NamedFull place f.lacking e.blocks value image
 
 -- the elements are those that the index shows on this image
 abbrev pub AreShown : Shape → Index → List Entry → (start : Image) → Type 0

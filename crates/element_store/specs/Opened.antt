@@ -34,8 +34,8 @@ pub record IsFoundOn (image : Image) (shape : Shape) (r : OpeningPlan) : Type 0 
   pub first : find (qualifies image shape) (fit_texts shape image) ≡ Some (r.seen, r.index)
   pub view : r.before ≡ view_of image shape (r.seen, r.index)
   pub opens : opened_of (store_at image shape) ≡ Some r.before
-  pub copies : IsSeenOn image shape.place.first shape.place.copies r.seen
-  pub slots : IsSlotsOf image shape.place.first shape.place.copies r.slots
+  pub copies : IsSeenOn image shape.place r.seen
+  pub slots : IsSlotsOf image shape.place r.slots
 
 -- the storage opens at a text that spells this index
 pub record OpensBy (image : Image) (shape : Shape) (index : Index) : Type 0 where

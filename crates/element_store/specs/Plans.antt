@@ -74,5 +74,5 @@ pub record IsPlanOf (generation : ℕ) (contents : List Fresh) (start now : List
   pub cost : jobs_cost jobs ≤ 256 * blocks_of_all contents
   -- once the jobs are done, the entries show the contents
   pub views : (image : Image) (place : Place) (m : ℕ) → 1 ≤ m → m ≤ place.copies
-      → All (IsDone image place.first place.copies) jobs
+      → All (IsDone image place) jobs
       → AllZip (λ f e. entry_view image place m e ≡ fresh_entry generation (fresh_element f)) contents entries

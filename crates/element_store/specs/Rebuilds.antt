@@ -5,6 +5,7 @@ use Rattle.disk_model.specs.Image.{Image}
 use Rattle.disk_model.specs.Case.{Case, IsSettledAt}
 use Rattle.disk_model.specs.Frame.{Keeps, KeepsCase}
 use Rattle.disk_model.specs.Place.{IsNoArea}
+use Rattle.disk_model.specs.declared.place.Place.{Place}
 use Rattle.guarded_cell.specs.Register.{IsAlone, IsKeptAlone}
 use Rattle.guarded_cell.specs.Stops.{PutStops, KeepStops}
 use Rattle.block_files.specs.BlockSets.{contains}
@@ -22,29 +23,29 @@ use Rattle.element_laws.specs.Phases.{IsWritten}
 pub record IsGround (shape : Shape) (start now : Image) (set : List Bool) (generation : ℕ) : Type 0 where
   -- while contents are written
   pub during : (after : State) (old c : Case) → IsSettledAt now old
-      → KeepsCase (IsNoArea shape.place.first shape.place.copies) (λ k. contains set k ≡ true) old c
+      → KeepsCase (IsNoArea shape.place) (λ k. contains set k ≡ true) old c
       → IsKeptCase shape start after c
   -- after they were made durable
   pub done : (then : Image) (after : State) (c : Case)
-      → Keeps (IsNoArea shape.place.first shape.place.copies) (λ k. contains set k ≡ true) now then → IsSettledAt then c
+      → Keeps (IsNoArea shape.place) (λ k. contains set k ≡ true) now then → IsSettledAt then c
       → IsKeptCase shape start after c
   -- while their index is written
   pub index : (then : Image) (next : List ℕ) (new_index : Index) (view : View) (others : List View) (c : Case)
-      → Keeps (IsNoArea shape.place.first shape.place.copies) (λ k. contains set k ≡ true) now then
+      → Keeps (IsNoArea shape.place) (λ k. contains set k ≡ true) now then
       → fit_index shape next ≡ Some new_index → view.generation ≡ generation
       → AllZip (IsWritten shape then) new_index.entries view.entries
-      → PutStops shape.place.first shape.place.copies generation next then c
+      → PutStops shape.place generation next then c
       → IsKeptCase shape start (Opens view others) c
 
 -- every copy holds a text alone, or just the copies that held it hold it
-abbrev pub IsLeftWith : (opens : Bool) → (first copies generation : ℕ) → List ℕ → (old new : Image) → Type 0
-IsLeftWith true first copies generation text old new = IsAlone new first copies generation text
-IsLeftWith false first copies generation text old new = IsKeptAlone first copies generation text old new
+abbrev pub IsLeftWith : (opens : Bool) → Place → (generation : ℕ) → List ℕ → (old new : Image) → Type 0
+IsLeftWith true place generation text old new = IsAlone new place generation text
+IsLeftWith false place generation text old new = IsKeptAlone place generation text old new
 
 -- a stop while the copies are brought to that
-abbrev pub OneTextStops : (opens : Bool) → (first copies generation : ℕ) → List ℕ → Image → Case → Type 0
-OneTextStops true first copies generation text start c = PutStops first copies generation text start c
-OneTextStops false first copies generation text start c = KeepStops first copies generation text start c
+abbrev pub OneTextStops : (opens : Bool) → Place → (generation : ℕ) → List ℕ → Image → Case → Type 0
+OneTextStops true place generation text start c = PutStops place generation text start c
+OneTextStops false place generation text start c = KeepStops place generation text start c
 
 -- a storage in use at a view, by an index of format 2
 pub record IsMadeAnew (shape : Shape) (image : Image) (v : View) : Type 0 where

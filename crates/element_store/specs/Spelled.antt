@@ -38,7 +38,7 @@ ShowsFresh image place m generation contents entries =
     contents entries
 
 -- a case while contents are written outside the blocks of a set, or one after they were made durable
-abbrev pub IsContentsCase : (first copies : ℕ) → List Bool → (old new : Medium) → (done : Type 0) → Case → Type 0
-IsContentsCase first copies set old new done c =
-    ((d : Case) × old.now d × KeepsCase (IsNoArea first copies) (λ k. contains set k ≡ true) d c)
+abbrev pub IsContentsCase : Place → List Bool → (old new : Medium) → (done : Type 0) → Case → Type 0
+IsContentsCase place set old new done c =
+    ((d : Case) × old.now d × KeepsCase (IsNoArea place) (λ k. contains set k ≡ true) d c)
     ⊎ (done × IsSettledAt new.image c)

@@ -91,10 +91,10 @@ impl Store {
         ensures passes { OnOk result ((D.medium disk.new).faults ≡ (D.medium disk.old).faults) }
 
         // No file outside the place changes, and a stop at any moment leaves the storage of before or that of after.
-        ensures elsewhere { IsTrue D.told → Spares (IsOutside (shape_of self).place.first (shape_of self).place.copies)
+        ensures elsewhere { IsTrue D.told → Spares (IsOutside (shape_of self).place)
             (D.medium disk.old).image (D.medium disk.new).image }
         ensures outside { IsTrue D.told → Quiet (D.medium disk.old)
-            → EachCase (IsSettledOn (IsOutside (shape_of self).place.first (shape_of self).place.copies)
+            → EachCase (IsSettledOn (IsOutside (shape_of self).place)
             (D.medium disk.old).image)
             (D.medium disk.old) (D.medium disk.new) }
         ensures any_moment { IsTrue D.told → KeptThroughout (shape_of self)
@@ -170,11 +170,10 @@ impl Store {
         ensures never_corrupt { ¬ (IsErrOf result StoreError.Corrupt) }
         ensures cause { IsErrOf result StoreError.Device → Rose (D.medium disk.old).faults (D.medium disk.new).faults }
         ensures passes { OnOk result ((D.medium disk.new).faults ≡ (D.medium disk.old).faults) }
-        ensures elsewhere { IsTrue D.told → Spares (IsOutside (shape_of self.now).place.first
-            (shape_of self.now).place.copies)
+        ensures elsewhere { IsTrue D.told → Spares (IsOutside (shape_of self.now).place)
             (D.medium disk.old).image (D.medium disk.new).image }
         ensures outside { IsTrue D.told → Quiet (D.medium disk.old)
-            → EachCase (IsSettledOn (IsOutside (shape_of self.now).place.first (shape_of self.now).place.copies)
+            → EachCase (IsSettledOn (IsOutside (shape_of self.now).place)
             (D.medium disk.old).image)
             (D.medium disk.old) (D.medium disk.new) }
         ensures any_moment { IsTrue D.told → KeptThroughout (shape_of self.now)

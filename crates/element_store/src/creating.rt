@@ -62,15 +62,15 @@ pub fn create<D: Disk>(
     ensures untorn { IsTrue D.told → Quiet (D.medium disk.old)
         → EachCase (IsUntorn shape.place) (D.medium disk.old) (D.medium disk.new) }
     ensures sound { IsTrue D.told → Quiet (D.medium disk.old)
-        → EachCase (λ c. IsSoundFor (IsSlotPiece shape.place.first shape.place.copies) c
+        → EachCase (λ c. IsSoundFor (IsSlotPiece shape.place) c
         → IsSoundFor (IsPiece shape.place) c)
         (D.medium disk.old) (D.medium disk.new) }
 
     // No file outside the place changes, at the end and at any moment.
     ensures elsewhere { IsTrue D.told
-        → Spares (IsOutside shape.place.first shape.place.copies) (D.medium disk.old).image (D.medium disk.new).image }
+        → Spares (IsOutside shape.place) (D.medium disk.old).image (D.medium disk.new).image }
     ensures outside { IsTrue D.told → Quiet (D.medium disk.old)
-        → EachCase (IsSettledOn (IsOutside shape.place.first shape.place.copies) (D.medium disk.old).image)
+        → EachCase (IsSettledOn (IsOutside shape.place) (D.medium disk.old).image)
         (D.medium disk.old) (D.medium disk.new) }
 
     // In each copy the contents in whole blocks, the index, and four blanks; at most as much where it failed.

@@ -29,19 +29,19 @@ pub(crate) fn write_durably<D: Disk>(
 ) -> Result<(), DiskFailed>
     requires roomy { All IsRoomy jobs.now }
     requires apart { AreApart jobs.now }
-    requires shared { IsTrue D.told → All (HasShared (D.medium disk.old).image place.first place.copies) jobs.now }
-    ensures written { IsTrue D.told → OnOk result (All (IsDone (D.medium disk.new).image place.first place.copies)
+    requires shared { IsTrue D.told → All (HasShared (D.medium disk.old).image place) jobs.now }
+    ensures written { IsTrue D.told → OnOk result (All (IsDone (D.medium disk.new).image place)
         jobs.now) }
     ensures keeps { IsTrue D.told → OnOk result
-        (Keeps (IsNoArea place.first place.copies) (IsLeftByAll jobs.now) (D.medium disk.old).image
+        (Keeps (IsNoArea place) (IsLeftByAll jobs.now) (D.medium disk.old).image
         (D.medium disk.new).image) }
     ensures quiet { OnOk result (Quiet (D.medium disk.new)) }
 
     // Every other file stays as it is, and at any moment a crash finds the writes of some of the jobs, or all of them
     // durable.
-    ensures elsewhere { IsTrue D.told → Spares (IsNoArea place.first place.copies) (D.medium disk.old).image
+    ensures elsewhere { IsTrue D.told → Spares (IsNoArea place) (D.medium disk.old).image
         (D.medium disk.new).image }
-    ensures during { EachCase (IsJobsCase place.first place.copies jobs.now (D.medium disk.old) (D.medium disk.new)
+    ensures during { EachCase (IsJobsCase place jobs.now (D.medium disk.old) (D.medium disk.new)
         (IsOk result))
         (D.medium disk.old) (D.medium disk.new) }
     ensures cost { (D.medium disk.new).written ≤ (D.medium disk.old).written + place.copies * jobs_cost jobs.now }
@@ -58,12 +58,12 @@ pub(crate) fn write_durably<D: Disk>(
 fn write_jobs<D: Disk>(disk: &mut D, place: Place, jobs: &[Job]) -> Result<(), DiskFailed>
     requires roomy { All IsRoomy jobs.now }
     requires apart { AreApart jobs.now }
-    requires shared { IsTrue D.told → All (HasShared (D.medium disk.old).image place.first place.copies) jobs.now }
-    ensures written { IsTrue D.told → OnOk result (All (IsDone (D.medium disk.new).image place.first place.copies)
+    requires shared { IsTrue D.told → All (HasShared (D.medium disk.old).image place) jobs.now }
+    ensures written { IsTrue D.told → OnOk result (All (IsDone (D.medium disk.new).image place)
         jobs.now) }
-    ensures done { OnOk result (Wrote D.told (IsNoArea place.first place.copies) (IsLeftByAll jobs.now)
+    ensures done { OnOk result (Wrote D.told (IsNoArea place) (IsLeftByAll jobs.now)
         (place.copies * jobs_cost jobs.now) (D.medium disk.old) (D.medium disk.new)) }
-    ensures failed { OnErr result (Tore D.told (IsNoArea place.first place.copies) (IsLeftByAll jobs.now)
+    ensures failed { OnErr result (Tore D.told (IsNoArea place) (IsLeftByAll jobs.now)
         (place.copies * jobs_cost jobs.now) (D.medium disk.old) (D.medium disk.new)) }
 {
     for job in jobs {

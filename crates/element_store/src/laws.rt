@@ -20,7 +20,7 @@ pub fn use_stays()
         → IsUsed told old store → IsUsed told new store }
     ensures elsewhere { (told : Bool) (store : Store) (one : Place) (old new : Image)
         → LieApart one (shape_of store).place
-        → (IsTrue told → Spares (IsOutside one.first one.copies) old new) → IsUsed told old store
+        → (IsTrue told → Spares (IsOutside one) old new) → IsUsed told old store
         → IsUsed told new store }
 {
     places_stand_apart();

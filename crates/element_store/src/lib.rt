@@ -5,18 +5,20 @@
 //!
 //! [`create`] makes one anew, under generation 1. [`open_store`] opens one: it brings every copy to the text at which
 //! the storage opens, writes each element again in the copies that lack it, and reports what was lacking or could not
-//! be read. [`Store::commit`] makes changes all at once, with contents in blocks that were free, and [`rebuild`] makes
-//! a storage anew beside what its place holds, under the next generation. In each of these the contents are durable
-//! before the index that names them takes its place. [`inspect`] and [`salvage`] look at a storage and write nothing;
-//! [`reports_of`] gives what an opening reports of a view, and [`failed_report`] what it reports of a corrupt storage.
+//! be read. [`Store::commit`] makes changes all at once, with what differs in blocks that were free, and [`rebuild`]
+//! makes a storage anew beside what its place holds, under the next generation. In each of these the contents are
+//! durable before the index that names them takes its place. [`inspect`] and [`salvage`] look at a storage and write
+//! nothing; [`reports_of`] gives what an opening reports of a view, and [`failed_report`] what it reports of a corrupt
+//! storage.
 //!
 //! The promise, on every image: the exact view, a quiet disk, a place that is clean where it was so or is made anew,
 //! and no file elsewhere changed at any moment. A stop at any moment of an opening, a commit or a rebuild leaves the
 //! storage of before or that of after. A failure of the disk comes only where its count of faults rose. What is read is
 //! a view on every disk, told or not: names ascend, and lengths are right.
 //!
-//! Limits: at most 1,024 elements, 8 copies, and 4,194,304 bytes of names and contents; one caller at a time. A
-//! creation gives up what its place held before it writes anything else, and a stop in it may leave a corrupt storage.
+//! Limits: at most 1,024 elements, 8 copies (a manifest allows 7), and 4,194,304 bytes of names and contents; one
+//! caller at a time. A creation gives up what its place held before it writes anything else, and a stop in it may
+//! leave a corrupt storage.
 #![tactic(auto)]
 
 mod changing;

@@ -31,7 +31,7 @@ pub(crate) fn mend_durably<D: Disk>(
     requires read { AllZip (IsReadBy shape.now.place.copies) index.now.entries views.now }
     requires quiet { Quiet (D.medium disk.old) }
 
-    ensures whole { IsTrue D.told → OnOk result (AllZip (IsWholeIn (D.medium disk.new).image shape.now.place.first)
+    ensures whole { IsTrue D.told → OnOk result (AllZip (IsWholeIn (D.medium disk.new).image shape.now.place)
         index.now.entries views.now) }
     ensures spared { IsTrue D.told → OnOk result (SparesOthers shape.now index.now views.now (D.medium disk.old).image
         (D.medium disk.new).image) }
@@ -43,7 +43,7 @@ pub(crate) fn mend_durably<D: Disk>(
 
     // Only areas change, and at any moment only in the blocks of what is mended.
     ensures elsewhere { IsTrue D.told
-        → Spares (IsNoArea shape.now.place.first shape.now.place.copies) (D.medium disk.old).image
+        → Spares (IsNoArea shape.now.place) (D.medium disk.old).image
         (D.medium disk.new).image }
     ensures during { IsTrue D.told → EachCase (MendsCase shape.now index.now views.now (D.medium disk.old).image)
         (D.medium disk.old) (D.medium disk.new) }
@@ -69,14 +69,14 @@ fn mend_each<D: Disk>(
     requires read { AllZip (IsReadBy shape.now.place.copies) index.now.entries views.now }
     requires quiet { Quiet (D.medium disk.old) }
 
-    ensures whole { IsTrue D.told → OnOk result (AllZip (IsWholeIn (D.medium disk.new).image shape.now.place.first)
+    ensures whole { IsTrue D.told → OnOk result (AllZip (IsWholeIn (D.medium disk.new).image shape.now.place)
         index.now.entries views.now) }
     ensures spared { IsTrue D.told → OnOk result (SparesOthers shape.now index.now views.now (D.medium disk.old).image
         (D.medium disk.new).image) }
     ensures idle { IsTrue D.told → AllByRecursion (λ e. IsMended e.content e.lacking) views.now
         → IsAsBefore (D.medium disk.old) (D.medium disk.new) }
     ensures elsewhere { IsTrue D.told
-        → Spares (IsNoArea shape.now.place.first shape.now.place.copies) (D.medium disk.old).image
+        → Spares (IsNoArea shape.now.place) (D.medium disk.old).image
         (D.medium disk.new).image }
     ensures during { EachCase (MendsCase shape.now index.now views.now (D.medium disk.old).image) (D.medium disk.old)
         (D.medium disk.new) }

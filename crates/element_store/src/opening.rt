@@ -95,9 +95,9 @@ pub fn open_store<D: Disk>(
 
     // No file outside the place changes, at the end and at any moment.
     ensures elsewhere { IsTrue D.told
-        → Spares (IsOutside shape.place.first shape.place.copies) (D.medium disk.old).image (D.medium disk.new).image }
+        → Spares (IsOutside shape.place) (D.medium disk.old).image (D.medium disk.new).image }
     ensures outside { IsTrue D.told → Quiet (D.medium disk.old)
-        → EachCase (IsSettledOn (IsOutside shape.place.first shape.place.copies) (D.medium disk.old).image)
+        → EachCase (IsSettledOn (IsOutside shape.place) (D.medium disk.old).image)
         (D.medium disk.old) (D.medium disk.new) }
 
     // A stop at any moment keeps the storage, whatever its next state is to be.

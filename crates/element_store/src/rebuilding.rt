@@ -62,10 +62,10 @@ pub fn rebuild<D: Disk>(
         (fresh_map contents.items))
         (D.medium disk.old) (D.medium disk.new) }
     ensures elsewhere { IsTrue D.told
-        → Spares (IsOutside shape.now.place.first shape.now.place.copies) (D.medium disk.old).image
+        → Spares (IsOutside shape.now.place) (D.medium disk.old).image
         (D.medium disk.new).image }
     ensures outside { IsTrue D.told → Quiet (D.medium disk.old)
-        → EachCase (IsSettledOn (IsOutside shape.now.place.first shape.now.place.copies) (D.medium disk.old).image)
+        → EachCase (IsSettledOn (IsOutside shape.now.place) (D.medium disk.old).image)
         (D.medium disk.old) (D.medium disk.new) }
     ensures time { Elapses (D.medium disk.old) (D.medium disk.new) }
 {
@@ -113,10 +113,10 @@ fn prepare<D: Disk>(alloc: Global, disk: &mut D, shape: &Shape) -> Result<Ground
     ensures kept { IsTrue D.told → (state : State) → KeptThroughout shape.now state (D.medium disk.old)
         (D.medium disk.new) }
     ensures elsewhere { IsTrue D.told
-        → Spares (IsNoSlot shape.now.place.first shape.now.place.copies) (D.medium disk.old).image
+        → Spares (IsNoSlot shape.now.place) (D.medium disk.old).image
         (D.medium disk.new).image }
     ensures any_moment { IsTrue D.told → Quiet (D.medium disk.old)
-        → EachCase (IsSettledOn (IsNoSlot shape.now.place.first shape.now.place.copies) (D.medium disk.old).image)
+        → EachCase (IsSettledOn (IsNoSlot shape.now.place) (D.medium disk.old).image)
         (D.medium disk.old) (D.medium disk.new) }
     ensures time { Elapses (D.medium disk.old) (D.medium disk.new) }
 {
@@ -146,7 +146,7 @@ fn leave_one_text<D: Disk>(
     found: &Found,
 ) -> Result<(), StoreError>
     requires { IsSealable found.now.seen }
-    ensures left { IsTrue D.told → OnOk result (IsLeftWith found.now.opens place.first place.copies
+    ensures left { IsTrue D.told → OnOk result (IsLeftWith found.now.opens place
         found.now.seen.generation found.now.seen.text
         (D.medium disk.old).image (D.medium disk.new).image) }
     ensures quiet { OnOk result (Quiet (D.medium disk.new)) }
@@ -154,10 +154,10 @@ fn leave_one_text<D: Disk>(
     ensures cause { IsErrOf result StoreError.Device → Rose (D.medium disk.old).faults (D.medium disk.new).faults }
     ensures passes { OnOk result ((D.medium disk.new).faults ≡ (D.medium disk.old).faults) }
     ensures fed { IsErrOf result StoreError.OutOfMemory → (D.medium disk.new).faults ≡ (D.medium disk.old).faults }
-    ensures elsewhere { IsTrue D.told → Spares (IsNoSlot place.first place.copies) (D.medium disk.old).image
+    ensures elsewhere { IsTrue D.told → Spares (IsNoSlot place) (D.medium disk.old).image
         (D.medium disk.new).image }
     ensures any_moment { IsTrue D.told → Quiet (D.medium disk.old)
-        → EachCase (OneTextStops found.now.opens place.first place.copies found.now.seen.generation found.now.seen.text
+        → EachCase (OneTextStops found.now.opens place found.now.seen.generation found.now.seen.text
         (D.medium disk.old).image)
         (D.medium disk.old) (D.medium disk.new) }
     ensures time { Elapses (D.medium disk.old) (D.medium disk.new) }

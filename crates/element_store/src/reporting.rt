@@ -10,7 +10,8 @@ use per_base::{Content, Entry, Name, Numbers, Report, ReportKind, Scope, StoreKi
 use std::alloc::{AllocError, Global};
 
 /// What an opening reports of this view: first of the storage, then of its elements by their names. With storage scope
-/// a copy that lacks an element lacks the storage, and is reported with it alone.
+/// a copy that lacks a readable element lacks the storage, and is reported with it alone; an element that cannot be
+/// read is reported besides.
 ///
 /// # Errors
 ///

@@ -50,7 +50,7 @@ pub(crate) fn put_contents<D: Disk>(
     ensures made { IfOk result (λ s. AllZip (IsMade generation) contents.now s.index.entries) }
     ensures shown { IsTrue D.told → IfOk result (λ s.
         ShowsFresh (D.medium disk.new).image shape.now.place shape.now.m generation contents.now s.index.entries) }
-    ensures keeps { IsTrue D.told → OnOk result (Keeps (IsNoArea shape.now.place.first shape.now.place.copies)
+    ensures keeps { IsTrue D.told → OnOk result (Keeps (IsNoArea shape.now.place)
         (λ k. contains used.old k ≡ true)
         (D.medium disk.old).image (D.medium disk.new).image) }
     ensures quiet { OnOk result (Quiet (D.medium disk.new)) }
@@ -61,10 +61,10 @@ pub(crate) fn put_contents<D: Disk>(
 
     // Only areas change, and at any moment a crash leaves the blocks of the set alone.
     ensures elsewhere { IsTrue D.told
-        → Spares (IsNoArea shape.now.place.first shape.now.place.copies) (D.medium disk.old).image
+        → Spares (IsNoArea shape.now.place) (D.medium disk.old).image
         (D.medium disk.new).image }
     ensures during { EachCase
-        (IsContentsCase shape.now.place.first shape.now.place.copies used.old (D.medium disk.old) (D.medium disk.new)
+        (IsContentsCase shape.now.place used.old (D.medium disk.old) (D.medium disk.new)
         (IsOk result))
         (D.medium disk.old) (D.medium disk.new) }
     ensures written { (D.medium disk.new).written ≤ (D.medium disk.old).written

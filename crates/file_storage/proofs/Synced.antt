@@ -69,15 +69,15 @@ pub none_storing : UntouchedLaw → (told : Bool) (shape : Shape) (after : State
     → IsLawful told m → IsStoring told shape after m m
 none_storing untouched told shape after m is law = record {
   elsewhere = λ tells file spared. refl;
-  outside = λ tells quiet. none_around told shape.place.first shape.place.copies m law quiet;
+  outside = λ tells quiet. none_around told shape.place m law quiet;
   any_moment = λ tells. none_kept untouched told shape after m is law;
   time = elapses_none law;
 }
 
 -- an opening, whatever the next state is to be
 pub opened_storing : (told : Bool) (shape : Shape) (old new : Medium)
-    → (IsTrue told → Spares (IsOutside shape.place.first shape.place.copies) old.image new.image)
-    → (IsTrue told → Quiet old → EachCase (IsSettledOn (IsOutside shape.place.first shape.place.copies) old.image) old
+    → (IsTrue told → Spares (IsOutside shape.place) old.image new.image)
+    → (IsTrue told → Quiet old → EachCase (IsSettledOn (IsOutside shape.place) old.image) old
     new)
     → (IsTrue told → (after : State) → KeptThroughout shape after old new) → Elapses old new → (after : State)
     → IsStoring told shape after old new
@@ -262,10 +262,9 @@ module _ (s : FileSession) (changes : List Change) (sync : IsSync (shape_of s.st
       }
 
   pub commit_storing : (told : Bool) (old new : Medium)
-      → (IsTrue told → Spares (IsOutside (shape_of s.store).place.first (shape_of s.store).place.copies) old.image
+      → (IsTrue told → Spares (IsOutside (shape_of s.store).place) old.image
       new.image)
-      → (IsTrue told → Quiet old → EachCase (IsSettledOn (IsOutside (shape_of s.store).place.first
-      (shape_of s.store).place.copies) old.image) old new)
+      → (IsTrue told → Quiet old → EachCase (IsSettledOn (IsOutside (shape_of s.store).place) old.image) old new)
       → (IsTrue told → KeptThroughout (shape_of s.store) (Opens
       (committed_by (shape_of s.store) (view_in s.store) changes) []) old new)
       → Elapses old new → IsStoring told (shape_of s.store) (Opens (synced_view s) []) old new

@@ -143,8 +143,8 @@ impl Files {
         ensures stored { IfOk result (λ closed. OnDone closed (map_of (synced_view self) ≡ self.session.files)) }
         // What differed is durable: in each copy the contents that do, and the index that stands.
         ensures durable { IfOk result (λ closed. OnDone closed ((text : List ℕ)
-            × (IsTrue D.told → IsAlone (D.medium disk.new).image (shape_of self.store).place.first
-            (shape_of self.store).place.copies (synced_view self).generation text)
+            × (IsTrue D.told → IsAlone (D.medium disk.new).image (shape_of self.store).place
+            (synced_view self).generation text)
             × IsDurable D.told (shape_of self.store) (stored_in self.store) self.session.files (length text)
             (D.medium disk.old) (D.medium disk.new))) }
         ensures at_most { WritesAtMost self (D.medium disk.old) (D.medium disk.new) }

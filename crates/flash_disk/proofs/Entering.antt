@@ -19,7 +19,7 @@ use Rattle.flash_disk.specs.Known.{Puts, Lengthens}
 use Rattle.flash_disk.specs.Counted.{IsCounted}
 use Rattle.flash_disk.specs.Learnt.{number, Led, LedOf, IsLed, Adds, HasPlace, Tops}
 use Rattle.flash_disk.specs.FlashFiles.{file_len, IsFileLen}
-use Rattle.flash_disk.specs.FlashFilesLaws.{file_len_is, one_len}
+use Rattle.flash_disk.proofs.FlashFilesLaws.{file_len_is, one_len}
 use Rattle.flash_disk.specs.Sound.{Sound, IsSound, Enters, Pends, PendsAt, IsDescribedBy}
 use Rattle.flash_disk.proofs.Standing.{HasSameRecords, records_known, records_tops, records_alike, records_spare}
 use Rattle.flash_disk.proofs.Standing.{records_count, records_agreed, same_said_strayless}

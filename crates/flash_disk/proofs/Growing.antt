@@ -13,7 +13,7 @@ use Rattle.flash_record.specs.PageRecord.{PageRecord}
 use Rattle.flash_disk.specs.declared.table.Place.{Place}
 use Rattle.flash_disk.specs.Newest.{is_of, newest, places, IsSpare}
 use Rattle.flash_disk.specs.FlashFiles.{byte_in, file_byte, file_len, flash_files}
-use Rattle.flash_disk.specs.FlashFilesLaws.{file_len_is, one_len, length-flash_files, byte-flash_files}
+use Rattle.flash_disk.proofs.FlashFilesLaws.{file_len_is, one_len, length-flash_files, byte-flash_files}
 use Rattle.flash_disk.specs.Learnt.{number, Adds}
 use Rattle.flash_disk.specs.Standing.{IsAgreed, IsStrayless, MayGrow}
 use Rattle.flash_disk.specs.PutPart.{in_range, PutPart, PutOrNot}

@@ -15,7 +15,7 @@ use Rattle.flash_disk.specs.declared.table.Newest.{Newest}
 use Rattle.flash_disk.specs.declared.table.Table.{Table}
 use Rattle.flash_disk.specs.Newest.{Placed, record_at, is_of, newer, with_record, newest, opens_page, page_count}
 use Rattle.flash_disk.specs.Newest.{IsNewest, IsNewestOf}
-use Rattle.flash_disk.specs.NewestLaws.{newest_is}
+use Rattle.flash_disk.proofs.NewestLaws.{newest_is}
 use Rattle.flash_disk.specs.Known.{same_page, page_of, known, page_len, limit_of, Puts, HasRoom}
 use Rattle.flash_disk.specs.Learnt.{number, TwinSays, Unrivalled, Learns, LearnsOf, HasLearnt, LearnsNext, SaysTheSame}
 use Rattle.flash_disk.specs.Learnt.{TwinAt, RivalledAt}

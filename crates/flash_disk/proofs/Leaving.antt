@@ -11,7 +11,7 @@ use Rattle.flash_disk.specs.declared.table.Place.{Place}
 use Rattle.flash_disk.specs.declared.table.Newest.{Newest}
 use Rattle.flash_disk.specs.declared.table.Table.{Table}
 use Rattle.flash_disk.specs.Newest.{Placed, record_at, is_of, newest, IsCopyOf, IsNewest, IsNewestOf, IsSpare, places}
-use Rattle.flash_disk.specs.NewestLaws.{newest_is}
+use Rattle.flash_disk.proofs.NewestLaws.{newest_is}
 use Rattle.flash_disk.specs.Known.{same_page, page_of, known, page_len, limit_of, HasRoom, Puts}
 use Rattle.flash_disk.specs.Learnt.{number, TwinSays, Unrivalled, LearnsOf, HasLearnt, LedOf, IsLed, Leaves, LeavesOf}
 use Rattle.flash_disk.specs.Learnt.{IsLeaving, LeavesBlock}

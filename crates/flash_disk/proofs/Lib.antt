@@ -35,3 +35,5 @@ pub mod Times
 pub mod Unchanged
 pub mod Failing
 mod Fresh
+pub mod NewestLaws
+pub mod FlashFilesLaws

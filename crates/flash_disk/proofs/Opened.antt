@@ -15,7 +15,7 @@ use Rattle.flash_disk.specs.Sound.{Sound, PendsAt, IsDescribedBy}
 use Rattle.flash_disk.specs.Standing.{IsAgreed}
 use Rattle.flash_disk.specs.Throughout.{KeepsUsable, KeepsAgreed}
 use Rattle.flash_disk.specs.Looks.{Opens}
-use Rattle.flash_disk.specs.FlashFilesLaws.{one_len}
+use Rattle.flash_disk.proofs.FlashFilesLaws.{one_len}
 use Rattle.disk_model.specs.Medium.{Quiet}
 use Rattle.flash_model.specs.State.{FlashState, FlashCase, settle_pages}
 use Rattle.flash_model.specs.FlashMedium.{FlashMedium, IsLawfulFlash}

@@ -12,7 +12,7 @@ use Rattle.flash_disk.specs.declared.table.Newest.{Newest}
 use Rattle.flash_disk.specs.declared.table.Table.{Table}
 use Rattle.flash_disk.specs.Newest.{Placed, record_at, newest, places}
 use Rattle.flash_disk.specs.FlashFiles.{record_byte, byte_in, file_byte, file_len, flash_files}
-use Rattle.flash_disk.specs.FlashFilesLaws.{one_len, length-flash_files, byte-flash_files}
+use Rattle.flash_disk.proofs.FlashFilesLaws.{one_len, length-flash_files, byte-flash_files}
 use Rattle.flash_disk.specs.Known.{known, len_known}
 use Rattle.flash_disk.specs.Learnt.{number, LedOf, Knows, IsContent}
 use Rattle.flash_disk.proofs.Learning.{record_at_place}

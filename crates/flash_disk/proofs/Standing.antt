@@ -10,9 +10,9 @@ use Rattle.flash_model.specs.Pages.{Pages}
 use Rattle.flash_record.specs.PageRecord.{PageRecord}
 use Rattle.flash_disk.specs.Newest.{Placed, record_at, is_of, with_record, newest, opens_page, page_count, places}
 use Rattle.flash_disk.specs.Newest.{IsNewest, IsNewestOf, IsSpare}
-use Rattle.flash_disk.specs.NewestLaws.{newest_is}
+use Rattle.flash_disk.proofs.NewestLaws.{newest_is}
 use Rattle.flash_disk.specs.FlashFiles.{record_byte, byte_in, file_byte, file_len, flash_files, IsFileLen}
-use Rattle.flash_disk.specs.FlashFilesLaws.{file_len_is, one_len}
+use Rattle.flash_disk.proofs.FlashFilesLaws.{file_len_is, one_len}
 use Rattle.flash_disk.specs.declared.table.FilePage.{FilePage}
 use Rattle.flash_disk.specs.declared.table.Newest.{Newest}
 use Rattle.flash_disk.specs.declared.table.Table.{Table}

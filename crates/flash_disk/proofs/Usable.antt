@@ -11,7 +11,7 @@ use Rattle.flash_disk.specs.declared.table.Newest.{Newest}
 use Rattle.flash_disk.specs.declared.table.Table.{Table}
 use Rattle.flash_disk.specs.Newest.{Placed, record_at, newest, page_count, IsCopyOf, IsNewest, IsNewestOf, IsNeeded}
 use Rattle.flash_disk.specs.Newest.{NeedsPlace, IsSpare, places, page_limit, FindsSpare, IsUsable}
-use Rattle.flash_disk.specs.NewestLaws.{newest_is}
+use Rattle.flash_disk.proofs.NewestLaws.{newest_is}
 use Rattle.flash_disk.specs.Known.{page_of, known, limit_of}
 use Rattle.flash_disk.specs.Learnt.{number, TwinSays, Learns, LearnsOf, HasLearnt, LearnsNext, LearnsAll}
 use Rattle.flash_disk.proofs.Learning.{best_of}

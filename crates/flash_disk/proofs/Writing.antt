@@ -15,7 +15,7 @@ use Rattle.flash_disk.specs.declared.table.Newest.{Newest}
 use Rattle.flash_disk.specs.Newest.{Placed, newest, places, IsUsable}
 use Rattle.flash_disk.specs.Known.{known, len_known}
 use Rattle.flash_disk.specs.FlashFiles.{byte_in, file_byte, file_len, flash_files}
-use Rattle.flash_disk.specs.FlashFilesLaws.{length-flash_files, byte-flash_files}
+use Rattle.flash_disk.proofs.FlashFilesLaws.{length-flash_files, byte-flash_files}
 use Rattle.flash_disk.specs.Learnt.{LedOf, IsContent, HasPlace}
 use Rattle.flash_disk.specs.Does.{Does}
 use Rattle.flash_disk.specs.PutPart.{PutPart, PutOrNot}

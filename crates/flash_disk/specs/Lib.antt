@@ -1,7 +1,5 @@
 pub mod Newest
-pub mod NewestLaws
 pub mod FlashFiles
-pub mod FlashFilesLaws
 pub mod Known
 pub mod Counted
 pub mod Learnt

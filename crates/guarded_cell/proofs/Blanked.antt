@@ -9,6 +9,7 @@ use Rattle.disk_model.specs.Medium.{Medium, Quiet, IsLawful, Elapses, EachCase}
 use Rattle.disk_model.specs.Frame.{Spares}
 use Rattle.disk_model.specs.Place.{slot, IsNoSlot}
 use Rattle.disk_model.specs.Laws.{goes_on, case_now}
+use Rattle.disk_model.specs.declared.place.Place.{Place}
 use Rattle.guarded_cell.specs.Register.{Holds, IsBlank, IsKeptAlone, own, other}
 use Rattle.guarded_cell.specs.Slots.{Tells, Picks, HasNoOther}
 use Rattle.guarded_cell.specs.declared.slots.Pick.TheVariants.{Others, Verifying}
@@ -25,28 +26,28 @@ NoText h t = ⊥
 pub zeros_only : (old : List ℕ) (h : ℕ) (t : List ℕ) → VerifiesAs (put_bytes old 0 zeros) h t → NoText h t
 zeros_only old h t v = put_blank old h t v
 
-module _ (first copies generation : ℕ) (text : List ℕ) (start : Image) where
+module _ (place : Place) (generation : ℕ) (text : List ℕ) (start : Image) where
   -- the slot of a copy that holds the text
   record IsHolder (f : ℕ) : Type 0 where
     pub copy : ℕ
-    pub within : copy < copies
-    pub is : f ≡ slot first copy (own generation)
-    pub holds : Holds start first copy generation text
+    pub within : copy < place.copies
+    pub is : f ≡ slot place copy (own generation)
+    pub holds : Holds start place copy generation text
 
   abbrev Kept : ℕ → Type 0
-  Kept f = IsNoSlot first copies f ⊎ IsHolder f
+  Kept f = IsNoSlot place f ⊎ IsHolder f
 
-  keep_stops : (c : Case) → IsKnownCase first copies NoText Kept start c
-      → KeepStops first copies generation text start c
+  keep_stops : (c : Case) → IsKnownCase place NoText Kept start c
+      → KeepStops place generation text start c
   keep_stops c k = record {
     known = λ sound damaged image decay copy lt g t v. ⊎_elim (λ was. was) (λ is_not. absurd is_not)
-        (after_known first copies NoText Kept start c k sound damaged image decay copy (own g) lt (omega arith) g t v);
+        (after_known place NoText Kept start c k sound damaged image decay copy (own g) lt (omega arith) g t v);
     kept = λ sound damaged image decay copy lt safe held.
-        let mine : IsHolder (slot first copy (own generation)) =
+        let mine : IsHolder (slot place copy (own generation)) =
         record { copy = copy; within = lt; is = refl; holds = held } in
-        undamaged_holds first copies damaged c.left image decay copy generation text safe
+        undamaged_holds place damaged c.left image decay copy generation text safe
         (subst (λ (s : List ℕ). VerifiesAs s generation text)
-        (sym (k.kept.left (slot first copy (own generation)) (inr mine))) held);
+        (sym (k.kept.left (slot place copy (own generation)) (inr mine))) held);
     elsewhere = record {
       base = λ f is_not. k.kept.base f (inl is_not);
       full = λ f is_not. k.kept.full f (inl is_not);
@@ -55,134 +56,136 @@ module _ (first copies generation : ℕ) (text : List ℕ) (start : Image) where
   }
 
   -- nothing was done
-  pub keep_still : (c : Case) → IsSettledAt start c → KeepStops first copies generation text start c
-  keep_still c settled = keep_stops c (case_same first copies NoText Kept start c settled)
+  pub keep_still : (c : Case) → IsSettledAt start c → KeepStops place generation text start c
+  keep_still c settled = keep_stops c (case_same place NoText Kept start c settled)
 
   module _ (others stale : List Bool)
-      (picks : Picks Others others start first copies (own generation) generation text)
-      (stales : Picks Verifying stale start first copies (other generation) generation text) where
-    holder_apart : (f : ℕ) → IsHolder f → ¬ (IsChosen first (own generation) copies others f)
+      (picks : Picks Others others start place (own generation) generation text)
+      (stales : Picks Verifying stale start place (other generation) generation text) where
+    holder_apart : (f : ℕ) → IsHolder f → ¬ (IsChosen place (own generation) others f)
     holder_apart f mine is =
-        let e : first + 4 * mine.copy + own generation ≡ first + 4 * is.copy + own generation = sym mine.is ∙ is.is in
+        let e : place.first + 4 * mine.copy + own generation ≡ place.first + 4 * is.copy + own generation =
+        sym mine.is ∙ is.is in
         let same : mine.copy ≡ is.copy = omega (arith, e) in
-        let has : Tells Others true (start (slot first is.copy (own generation))) generation text =
-        subst (λ (b : Bool). Tells Others b (start (slot first is.copy (own generation))) generation text) is.flag
+        let has : Tells Others true (start (slot place is.copy (own generation))) generation text =
+        subst (λ (b : Bool). Tells Others b (start (slot place is.copy (own generation))) generation text) is.flag
         (picks is.copy is.within) in
-        has (λ g t v. verifies_once (start (slot first is.copy (own generation))) g generation t text v
-        (subst (λ (x : ℕ). Holds start first x generation text) same mine.holds))
+        has (λ g t v. verifies_once (start (slot place is.copy (own generation))) g generation t text v
+        (subst (λ (x : ℕ). Holds start place x generation text) same mine.holds))
 
-    own_apart : (f : ℕ) → Kept f → ¬ (IsChosen first (own generation) copies others f)
+    own_apart : (f : ℕ) → Kept f → ¬ (IsChosen place (own generation) others f)
     own_apart f keep is = ⊎_elim
-        (λ is_not. no_slot_apart first copies (own generation) others (omega arith) f is_not is)
+        (λ is_not. no_slot_apart place (own generation) others (omega arith) f is_not is)
         (λ mine. holder_apart f mine is)
         keep
 
-    stale_apart : (f : ℕ) → Kept f → ¬ (IsChosen first (other generation) copies stale f)
+    stale_apart : (f : ℕ) → Kept f → ¬ (IsChosen place (other generation) stale f)
     stale_apart f keep is = ⊎_elim
-        (λ is_not. no_slot_apart first copies (other generation) stale (omega arith) f is_not is)
-        (λ mine. other_apart first copies (other generation) (own generation) stale mine.copy (omega arith)
+        (λ is_not. no_slot_apart place (other generation) stale (omega arith) f is_not is)
+        (λ mine. other_apart place (other generation) (own generation) stale mine.copy (omega arith)
         (omega arith) (λ e. omega (arith, e))
-        (subst (IsChosen first (other generation) copies stale) mine.is is))
+        (subst (IsChosen place (other generation) stale) mine.is is))
         keep
 
-    first_case : (d c : Case) → IsSettledAt start d → FrontsCase first (own generation) copies others zeros d c
-        → IsKnownCase first copies NoText Kept start c
-    first_case d c settled fronts = case_step first copies NoText Kept start (own generation) copies others zeros d c
+    first_case : (d c : Case) → IsSettledAt start d → FrontsCase place (own generation) others zeros d c
+        → IsKnownCase place NoText Kept start c
+    first_case d c settled fronts = case_step place NoText Kept start (own generation) others zeros d c
         fronts zeros_only own_apart
-        (case_same first copies NoText Kept start d settled)
+        (case_same place NoText Kept start d settled)
 
-    second_case : (d c : Case) → IsKnownCase first copies NoText Kept start d
-        → FrontsCase first (other generation) copies stale zeros d c
-        → IsKnownCase first copies NoText Kept start c
-    second_case d c known fronts = case_step first copies NoText Kept start (other generation) copies stale zeros d c
+    second_case : (d c : Case) → IsKnownCase place NoText Kept start d
+        → FrontsCase place (other generation) stale zeros d c
+        → IsKnownCase place NoText Kept start c
+    second_case d c known fronts = case_step place NoText Kept start (other generation) stale zeros d c
         fronts zeros_only stale_apart known
 
-    module _ (mid new : Image) (put : FrontsPut first (own generation) copies others zeros start mid)
-        (blanked : FrontsPut first (other generation) copies stale zeros mid new) where
+    module _ (mid new : Image) (put : FrontsPut place (own generation) others zeros start mid)
+        (blanked : FrontsPut place (other generation) stale zeros mid new) where
       new_kept : Spares Kept start new
       new_kept f keep = blanked.some.others f (stale_apart f keep) ∙ put.some.others f (own_apart f keep)
 
-      end_case : (c : Case) → IsSettledAt new c → IsKnownCase first copies NoText Kept start c
-      end_case c settled = case_settled first copies NoText Kept start new c settled
-          (known_puts first copies NoText (IsChosen first (other generation) copies stale) zeros start mid new
+      end_case : (c : Case) → IsSettledAt new c → IsKnownCase place NoText Kept start c
+      end_case c settled = case_settled place NoText Kept start new c settled
+          (known_puts place NoText (IsChosen place (other generation) stale) zeros start mid new
           blanked.some zeros_only
-          (known_puts first copies NoText (IsChosen first (own generation) copies others) zeros start start mid put.some
-          zeros_only (known_same first copies NoText start)))
+          (known_puts place NoText (IsChosen place (own generation) others) zeros start start mid put.some
+          zeros_only (known_same place NoText start)))
           new_kept
 
-      new_own : (copy : ℕ) → new (slot first copy (own generation)) ≡ mid (slot first copy (own generation))
-      new_own copy = blanked.some.others (slot first copy (own generation))
-          (other_apart first copies (other generation) (own generation) stale copy (omega arith) (omega arith)
+      new_own : (copy : ℕ) → new (slot place copy (own generation)) ≡ mid (slot place copy (own generation))
+      new_own copy = blanked.some.others (slot place copy (own generation))
+          (other_apart place (other generation) (own generation) stale copy (omega arith) (omega arith)
           (λ e. omega (arith, e)))
 
-      mid_other : (copy : ℕ) → mid (slot first copy (other generation)) ≡ start (slot first copy (other generation))
-      mid_other copy = put.some.others (slot first copy (other generation))
-          (other_apart first copies (own generation) (other generation) others copy (omega arith) (omega arith)
+      mid_other : (copy : ℕ) → mid (slot place copy (other generation)) ≡ start (slot place copy (other generation))
+      mid_other copy = put.some.others (slot place copy (other generation))
+          (other_apart place (own generation) (other generation) others copy (omega arith) (omega arith)
           (λ e. omega (arith, e)))
 
-      pub kept_alone : IsKeptAlone first copies generation text start new
+      pub kept_alone : IsKeptAlone place generation text start new
       kept_alone = record {
         held = λ copy lt holds.
-            let mine : IsHolder (slot first copy (own generation)) =
+            let mine : IsHolder (slot place copy (own generation)) =
             record { copy = copy; within = lt; is = refl; holds = holds } in
             subst (λ (s : List ℕ). VerifiesAs s generation text)
-            (sym (new_kept (slot first copy (own generation)) (inr mine))) holds;
+            (sym (new_kept (slot place copy (own generation)) (inr mine))) holds;
         own_slots = λ copy lt g t v. by_flag others copy ((g ≡ generation) × (t ≡ text)
-            × Holds start first copy generation text)
-            (λ is_set. absurd (put_blank (start (slot first copy (own generation))) g t
+            × Holds start place copy generation text)
+            (λ is_set. absurd (put_blank (start (slot place copy (own generation))) g t
             (subst (λ (s : List ℕ). VerifiesAs s g t) (new_own copy ∙ put.put copy lt is_set) v)))
             (λ is_not.
-            let was : VerifiesAs (start (slot first copy (own generation))) g t =
+            let was : VerifiesAs (start (slot place copy (own generation))) g t =
             subst (λ (s : List ℕ). VerifiesAs s g t)
-            (new_own copy ∙ put.some.others (slot first copy (own generation))
-            (unchosen_apart first copies (own generation) others copy is_not)) v in
-            let only : HasNoOther (start (slot first copy (own generation))) generation text =
-            subst (λ (b : Bool). Tells Others b (start (slot first copy (own generation))) generation text) is_not
+            (new_own copy ∙ put.some.others (slot place copy (own generation))
+            (unchosen_apart place (own generation) others copy is_not)) v in
+            let only : HasNoOther (start (slot place copy (own generation))) generation text =
+            subst (λ (b : Bool). Tells Others b (start (slot place copy (own generation))) generation text) is_not
             (picks copy lt) in
             let same = only g t was in (
               same.0,
               same.1,
-              subst (λ (x : ℕ). VerifiesAs (start (slot first copy (own generation))) x text) same.0
-                  (subst (λ (y : List ℕ). VerifiesAs (start (slot first copy (own generation))) g y) same.1 was),
+              subst (λ (x : ℕ). VerifiesAs (start (slot place copy (own generation))) x text) same.0
+                  (subst (λ (y : List ℕ). VerifiesAs (start (slot place copy (own generation))) g y) same.1 was),
             ));
-        blank = λ copy lt. by_flag stale copy (IsBlank (new (slot first copy (other generation))))
-            (λ is_set g t v. put_blank (mid (slot first copy (other generation))) g t
+        blank = λ copy lt. by_flag stale copy (IsBlank (new (slot place copy (other generation))))
+            (λ is_set g t v. put_blank (mid (slot place copy (other generation))) g t
             (subst (λ (s : List ℕ). VerifiesAs s g t) (blanked.put copy lt is_set) v))
             (λ is_not g t v.
-            let was : IsBlank (start (slot first copy (other generation))) =
-            subst (λ (b : Bool). Tells Verifying b (start (slot first copy (other generation))) generation text) is_not
+            let was : IsBlank (start (slot place copy (other generation))) =
+            subst (λ (b : Bool). Tells Verifying b (start (slot place copy (other generation))) generation text) is_not
             (stales copy lt) in
             was g t (subst (λ (s : List ℕ). VerifiesAs s g t)
-            (blanked.some.others (slot first copy (other generation))
-            (unchosen_apart first copies (other generation) stale copy is_not) ∙ mid_other copy) v));
+            (blanked.some.others (slot place copy (other generation))
+            (unchosen_apart place (other generation) stale copy is_not) ∙ mid_other copy) v));
       }
 
 -- ---- over the moments of the call
 
-module _ (first copies generation : ℕ) (text : List ℕ) (told : Bool) (old mid new : Medium) (others stale : List Bool)
-    (picks : Picks Others others old.image first copies (own generation) generation text)
-    (stales : Picks Verifying stale old.image first copies (other generation) generation text)
+module _ (place : Place) (generation : ℕ) (text : List ℕ) (told : Bool) (old mid new : Medium)
+    (others stale : List Bool)
+    (picks : Picks Others others old.image place (own generation) generation text)
+    (stales : Picks Verifying stale old.image place (other generation) generation text)
     (quiet : Quiet old)
-    (during : Follows (FrontsCase first (own generation) copies others zeros) old.now (mid.since old.moment)) where
-  pub keep_first : EachCase (KeepStops first copies generation text old.image) old mid
+    (during : Follows (FrontsCase place (own generation) others zeros) old.now (mid.since old.moment)) where
+  pub keep_first : EachCase (KeepStops place generation text old.image) old mid
   keep_first c past =
       let (d, now, fronts) = during c past in
-      keep_stops first copies generation text old.image c
-      (first_case first copies generation text old.image others stale picks stales d c (quiet d now) fronts)
+      keep_stops place generation text old.image c
+      (first_case place generation text old.image others stale picks stales d c (quiet d now) fronts)
 
   pub keep_second : (done : Type 0) → IsLawful told mid → Elapses old mid → Elapses mid new
-      → (done → FrontsPut first (own generation) copies others zeros old.image mid.image)
-      → (done → FrontsPut first (other generation) copies stale zeros mid.image new.image)
-      → EachCase (IsFrontsCase first (other generation) copies stale zeros mid new done) mid new
-      → EachCase (KeepStops first copies generation text old.image) old new
-  keep_second done law time next put blanked cases = goes_on (KeepStops first copies generation text old.image) time
+      → (done → FrontsPut place (own generation) others zeros old.image mid.image)
+      → (done → FrontsPut place (other generation) stale zeros mid.image new.image)
+      → EachCase (IsFrontsCase place (other generation) stale zeros mid new done) mid new
+      → EachCase (KeepStops place generation text old.image) old new
+  keep_second done law time next put blanked cases = goes_on (KeepStops place generation text old.image) time
       next keep_first
-      (λ c past. keep_stops first copies generation text old.image c (⊎_elim
+      (λ c past. keep_stops place generation text old.image c (⊎_elim
       (λ before.
       let from = during before.0 (case_now law time before.0 before.1) in
-      second_case first copies generation text old.image others stale picks stales before.0 c
-      (first_case first copies generation text old.image others stale picks stales from.0 before.0 (quiet from.0 from.1)
+      second_case place generation text old.image others stale picks stales before.0 c
+      (first_case place generation text old.image others stale picks stales from.0 before.0 (quiet from.0 from.1)
       from.2) before.2)
-      (λ after. end_case first copies generation text old.image others stale picks stales mid.image new.image
+      (λ after. end_case place generation text old.image others stale picks stales mid.image new.image
       (put after.0) (blanked after.0) c after.1)
       (cases c past)))

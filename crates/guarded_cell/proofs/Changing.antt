@@ -25,8 +25,8 @@ module _ {told : Bool} {place : Place} {generation : ℕ} {text : List ℕ} wher
   brings_reads {old} {new} time reads = record {
     puts = record {
       elsewhere = λ tells f is_not. ap (λ (im : Image). im f) reads.image;
-      any_moment = λ tells quiet. reads_alone (PutStops place.first place.copies generation text old.image) old new
-          quiet reads (still_stops place.first place.copies generation text old.image);
+      any_moment = λ tells quiet. reads_alone (PutStops place generation text old.image) old new
+          quiet reads (still_stops place generation text old.image);
       written = omega (arith, reads.written);
       time = time;
     };
@@ -42,18 +42,18 @@ module _ {told : Bool} {place : Place} {generation : ℕ} {text : List ℕ} wher
   brings_later {old} {mid} {new} time reads brings = record {
     puts = record {
       elsewhere = λ tells f is_not. brings.puts.elsewhere tells f is_not ∙ ap (λ (im : Image). im f) reads.image;
-      any_moment = λ tells quiet. reads_then (PutStops place.first place.copies generation text old.image) old mid new
-          quiet time reads brings.puts.time (still_stops place.first place.copies generation text old.image)
-          (subst (λ (im : Image). EachCase (PutStops place.first place.copies generation text im) mid new) reads.image
+      any_moment = λ tells quiet. reads_then (PutStops place generation text old.image) old mid new
+          quiet time reads brings.puts.time (still_stops place generation text old.image)
+          (subst (λ (im : Image). EachCase (PutStops place generation text im) mid new) reads.image
           (brings.puts.any_moment tells (reads_quiet quiet reads)));
       written = subst (λ (n : ℕ). new.written ≤ n + place.copies * (header + length text + header)) reads.written
           brings.puts.written;
       time = elapses_on time brings.puts.time;
     };
-    right = λ tells. right_since place.first place.copies generation text old.image mid.image new.image reads.image
+    right = λ tells. right_since place generation text old.image mid.image new.image reads.image
         (brings.right tells);
     already = λ tells alone. brings.already tells
-        (subst (λ (im : Image). IsAlone im place.first place.copies generation text) (sym reads.image) alone)
+        (subst (λ (im : Image). IsAlone im place generation text) (sym reads.image) alone)
         ∙ reads.written;
   }
 
@@ -65,8 +65,8 @@ module _ {told : Bool} {place : Place} {generation : ℕ} {text : List ℕ} wher
   clears_reads {old} {new} time reads = record {
     elsewhere = λ tells f is_not. ap (λ (im : Image). im f) reads.image;
     right = λ tells f is_clear. ap (λ (im : Image). im f) reads.image;
-    any_moment = λ tells quiet. reads_alone (KeepStops place.first place.copies generation text old.image) old new quiet
-        reads (keep_still place.first place.copies generation text old.image);
+    any_moment = λ tells quiet. reads_alone (KeepStops place generation text old.image) old new quiet
+        reads (keep_still place generation text old.image);
     written = omega (arith, reads.written);
     time = time;
   }
@@ -78,11 +78,11 @@ module _ {told : Bool} {place : Place} {generation : ℕ} {text : List ℕ} wher
       → Clears told place generation text mid new → Clears told place generation text old new
   clears_later {old} {mid} {new} time reads clears = record {
     elsewhere = λ tells f is_not. clears.elsewhere tells f is_not ∙ ap (λ (im : Image). im f) reads.image;
-    right = λ tells. clear_since place.first place.copies generation text old.image mid.image new.image reads.image
+    right = λ tells. clear_since place generation text old.image mid.image new.image reads.image
         (clears.right tells);
-    any_moment = λ tells quiet. reads_then (KeepStops place.first place.copies generation text old.image) old mid new
-        quiet time reads clears.time (keep_still place.first place.copies generation text old.image)
-        (subst (λ (im : Image). EachCase (KeepStops place.first place.copies generation text im) mid new) reads.image
+    any_moment = λ tells quiet. reads_then (KeepStops place generation text old.image) old mid new
+        quiet time reads clears.time (keep_still place generation text old.image)
+        (subst (λ (im : Image). EachCase (KeepStops place generation text im) mid new) reads.image
         (clears.any_moment tells (reads_quiet quiet reads)));
     written = subst (λ (n : ℕ). new.written ≤ n + place.copies * (header + header)) reads.written clears.written;
     time = elapses_on time clears.time;
@@ -94,8 +94,8 @@ pub formats_none : {told : Bool} {place : Place} {text : List ℕ} {m : Medium} 
     → Formats told place text m m
 formats_none {told} {place} {text} {m} law = record {
   elsewhere = λ tells f is_not. refl;
-  any_moment = λ tells quiet. none_alone (FormatStops place.first place.copies 1 text m.image) told m law quiet
-      (format_still place.first place.copies place.few text m.image);
+  any_moment = λ tells quiet. none_alone (FormatStops place 1 text m.image) told m law quiet
+      (format_still place place.few text m.image);
   written = omega arith;
   time = elapses_none law;
 }
@@ -109,7 +109,7 @@ module _ {told : Bool} {place : Place} {m : ℕ} where
   opens_idle {old} {new} time image written idle = record {
     elsewhere = λ tells f is_not. ap (λ (im : Image). im f) image;
     right = λ tells f is_right. ap (λ (im : Image). im f) image;
-    any_moment = λ tells quiet c past. open_still place.first place.copies m old.image c ((idle quiet).during c past);
+    any_moment = λ tells quiet c past. open_still place m old.image c ((idle quiet).during c past);
     at_most = omega (arith, written);
     time = time;
   }
@@ -117,14 +117,14 @@ module _ {told : Bool} {place : Place} {m : ℕ} where
   -- every copy is brought to what stands
   pub opens_later : {old mid new : Medium} {seen : Seen} → Elapses old mid → mid.image ≡ old.image
       → mid.written ≡ old.written → (Quiet old → IsIdle old mid) → IsSealable seen
-      → (IsTrue told → standing old.image place.first place.copies m ≡ Some seen)
+      → (IsTrue told → standing old.image place m ≡ Some seen)
       → Brings told place seen.generation seen.text mid new → Opens told place m old new
   opens_later {old} {mid} {new} {seen} time image written idle sealable stands brings = record {
     elsewhere = λ tells f is_not. brings.puts.elsewhere tells f is_not ∙ ap (λ (im : Image). im f) image;
-    right = λ tells. right_for (standing old.image place.first place.copies m) seen place.first place.copies old.image
-        new.image (stands tells) (right_since place.first place.copies seen.generation seen.text old.image mid.image
+    right = λ tells. right_for (standing old.image place m) seen place old.image
+        new.image (stands tells) (right_since place seen.generation seen.text old.image mid.image
         new.image image (brings.right tells));
-    any_moment = λ tells quiet. open_later place.first place.copies m old mid new seen time brings.puts.time
+    any_moment = λ tells quiet. open_later place m old mid new seen time brings.puts.time
         (idle quiet) (stands tells) (brings.puts.any_moment tells (idle quiet).quiet);
     at_most = opened_most place.copies (length seen.text) old.written mid.written new.written written sealable.short
         brings.puts.written;

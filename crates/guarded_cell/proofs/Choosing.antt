@@ -12,6 +12,7 @@ use Rattle.disk_model.specs.Laws.{reads_on, elapses_on}
 use Rattle.disk_model.specs.Image.{Image}
 use Rattle.disk_model.specs.Medium.{Medium, OnlyReads, Elapses}
 use Rattle.disk_model.specs.Place.{slot}
+use Rattle.disk_model.specs.declared.place.Place.{Place}
 use Rattle.guarded_cell.specs.Register.{IsBlank}
 use Rattle.guarded_cell.specs.Slots.{front, IsFound, Tells, picked, HasNoOther}
 use Rattle.guarded_cell.specs.declared.slots.Found.{Found}
@@ -87,50 +88,50 @@ another bytes g h text body v differs = (
 
 -- what is so at the start of each turn of the loop that chooses
 pub record IsChoosing (pick : Pick) (chosen : List Bool) (told : Bool) (start now : Medium)
-    (first parity k generation : ℕ) (text : List ℕ) : Type 0 where
+    (place : Place) (parity k generation : ℕ) (text : List ℕ) : Type 0 where
   pub long : length chosen ≡ 8
   pub picks : IsTrue told → (copy : ℕ) → copy < k → Tells pick (get_or chosen copy false)
-      (start.image (slot first copy parity)) generation text
+      (start.image (slot place copy parity)) generation text
   pub reads : OnlyReads start now
   pub time : Elapses start now
   pub passes : now.faults ≡ start.faults
 
-chooses : (pick : Pick) (chosen : List Bool) (image start : Image) (first parity k generation : ℕ) (text : List ℕ)
-    (found : Found)
+chooses : (pick : Pick) (chosen : List Bool) (image start : Image) (place : Place) (parity k generation : ℕ)
+    (text : List ℕ) (found : Found)
     → length chosen ≡ 8 → k < 8 → image ≡ start
-    → ((copy : ℕ) → copy < k → Tells pick (get_or chosen copy false) (start (slot first copy parity)) generation text)
-    → IsFound found (image (slot first k parity)) generation text
+    → ((copy : ℕ) → copy < k → Tells pick (get_or chosen copy false) (start (slot place copy parity)) generation text)
+    → IsFound found (image (slot place k parity)) generation text
     → (copy : ℕ) → copy < k + 1 → Tells pick (get_or (set chosen k (picked pick found)) copy false)
-    (start (slot first copy parity)) generation text
-chooses pick chosen image start first parity k generation text found long lt same before here copy below = ⊎_elim
-    (λ earlier. subst (λ (b : Bool). Tells pick b (start (slot first copy parity)) generation text)
+    (start (slot place copy parity)) generation text
+chooses pick chosen image start place parity k generation text found long lt same before here copy below = ⊎_elim
+    (λ earlier. subst (λ (b : Bool). Tells pick b (start (slot place copy parity)) generation text)
     (sym (get_or-set_other chosen k copy (picked pick found) false (λ e. omega (arith, e, earlier))))
     (before copy earlier))
     (λ last.
     let e : copy ≡ k = omega (arith, last, below) in
-    subst (λ (x : ℕ). Tells pick (get_or (set chosen k (picked pick found)) x false) (start (slot first x parity))
+    subst (λ (x : ℕ). Tells pick (get_or (set chosen k (picked pick found)) x false) (start (slot place x parity))
     generation text) (sym e)
-    (subst (λ (b : Bool). Tells pick b (start (slot first k parity)) generation text)
+    (subst (λ (b : Bool). Tells pick b (start (slot place k parity)) generation text)
     (sym (get_or-set_same chosen k (picked pick found) false (omega (arith, long, lt))))
-    (told_by pick found (start (slot first k parity)) generation text
-    (subst (λ (im : Image). IsFound found (im (slot first k parity)) generation text) same here))))
+    (told_by pick found (start (slot place k parity)) generation text
+    (subst (λ (im : Image). IsFound found (im (slot place k parity)) generation text) same here))))
     (cases_lt copy k)
 
 -- one turn of the loop
 pub chooses_on : {told : Bool} {start mid new : Medium} (pick : Pick) (chosen : List Bool)
-    (first parity k generation : ℕ) (text : List ℕ) (found : Found) (b : Bool) (file : ℕ)
-    → k < 8 → b ≡ picked pick found → file ≡ slot first k parity
-    → IsChoosing pick chosen told start mid first parity k generation text
+    (place : Place) (parity k generation : ℕ) (text : List ℕ) (found : Found) (b : Bool) (file : ℕ)
+    → k < 8 → b ≡ picked pick found → file ≡ slot place k parity
+    → IsChoosing pick chosen told start mid place parity k generation text
     → (IsTrue told → IsFound found (mid.image file) generation text) → OnlyReads mid new → Elapses mid new
     → new.faults ≡ mid.faults
-    → IsChoosing pick (set chosen k b) told start new first parity (k + 1) generation text
-chooses_on {told} {start} {mid} {new} pick chosen first parity k generation text found b file lt flag is w here reads
+    → IsChoosing pick (set chosen k b) told start new place parity (k + 1) generation text
+chooses_on {told} {start} {mid} {new} pick chosen place parity k generation text found b file lt flag is w here reads
     time passed = record {
       long = length-set chosen k b ∙ w.long;
       picks = λ tells. subst (λ (x : Bool). (copy : ℕ) → copy < k + 1
-          → Tells pick (get_or (set chosen k x) copy false) (start.image (slot first copy parity)) generation text)
+          → Tells pick (get_or (set chosen k x) copy false) (start.image (slot place copy parity)) generation text)
           (sym flag)
-          (chooses pick chosen mid.image start.image first parity k generation text found w.long lt w.reads.image
+          (chooses pick chosen mid.image start.image place parity k generation text found w.long lt w.reads.image
           (w.picks tells)
           (subst (λ (f : ℕ). IsFound found (mid.image f) generation text) is (here tells)));
       reads = reads_on w.time w.reads time reads;

@@ -11,3 +11,4 @@ pub mod Marked
 pub mod Seeing
 pub mod Opened
 pub mod Changing
+pub mod AloneLaws

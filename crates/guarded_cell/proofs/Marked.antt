@@ -8,9 +8,10 @@ use Rattle.hash_guard.specs.Laws.{verifies-verified, verified-verifies, verified
 use Rattle.disk_model.specs.Image.{Image}
 use Rattle.disk_model.specs.Orders.{named_in}
 use Rattle.disk_model.specs.Place.{slot}
-use Rattle.guarded_cell.specs.CopyLaws.{named_passing}
+use Rattle.disk_model.specs.declared.place.Place.{Place}
+use Rattle.guarded_cell.specs.lemmas.CopyLaws.{named_passing}
 use Rattle.guarded_cell.specs.Held.{Text, holds, copies_that}
-use Rattle.guarded_cell.specs.HeldLaws.{holds_is, is_holds}
+use Rattle.guarded_cell.specs.lemmas.HeldLaws.{holds_is, is_holds}
 use Rattle.guarded_cell.specs.Register.{own, other}
 use Rattle.guarded_cell.specs.Seens.{IsSeenOn}
 use Rattle.guarded_cell.specs.Slots.{AreFlags, IsFlag, IsSlotsOf, Picks, Tells, others_of}
@@ -39,21 +40,22 @@ flag_tells bytes g t flag e = go (verified bytes) refl
 -- ---- all slots
 
 -- one copy more
-pub flags_more : (image : Image) (first parity k : ℕ) (flags : List Bool) (flag : Bool) → length flags ≡ 8 → k < 8
-    → AreFlags image first k parity flags → IsFlag (image (slot first k parity)) flag
-    → AreFlags image first (k + 1) parity (set flags k flag)
-flags_more image first parity k flags flag long lt before here copy below = ⊎_elim
+pub flags_more : (image : Image) (place : Place) (parity k : ℕ) (flags : List Bool) (flag : Bool) → length flags ≡ 8
+    → k < 8
+    → AreFlags image place k parity flags → IsFlag (image (slot place k parity)) flag
+    → AreFlags image place (k + 1) parity (set flags k flag)
+flags_more image place parity k flags flag long lt before here copy below = ⊎_elim
     (λ earlier. get_or-set_other flags k copy flag false (λ e. omega (arith, e, earlier)) ∙ before copy earlier)
     (λ last.
     let e : copy ≡ k = omega (arith, last, below) in
-    subst (λ (x : ℕ). IsFlag (image (slot first x parity)) (get_or (set flags k flag) x false)) (sym e)
+    subst (λ (x : ℕ). IsFlag (image (slot place x parity)) (get_or (set flags k flag) x false)) (sym e)
     (get_or-set_same flags k flag false (omega (arith, long, lt)) ∙ here))
     (cases_lt copy k)
 
 -- the slots of the other parity that hold a text are stale
-pub stale_slots : (image : Image) (first copies g : ℕ) (t : List ℕ) (slots : Slots) → IsSlotsOf image first copies slots
-    → Picks Verifying (others_of slots g) image first copies (other g) g t
-stale_slots image first copies g t slots are copy lt = ⊎_elim
+pub stale_slots : (image : Image) (place : Place) (g : ℕ) (t : List ℕ) (slots : Slots) → IsSlotsOf image place slots
+    → Picks Verifying (others_of slots g) image place (other g) g t
+stale_slots image place g t slots are copy lt = ⊎_elim
     (λ even.
     let one : other g ≡ 1 = omega (arith, even) in
     let odds : others_of slots g ≡ slots.odd =
@@ -67,34 +69,35 @@ stale_slots image first copies g t slots are copy lt = ⊎_elim
     (cases_eq (g % 2) 0)
   where
     tells : (parity : ℕ) (flags : List Bool) → parity ≡ other g → flags ≡ others_of slots g
-        → IsFlag (image (slot first copy parity)) (get_or flags copy false)
-        → Tells Verifying (get_or (others_of slots g) copy false) (image (slot first copy (other g))) g t
+        → IsFlag (image (slot place copy parity)) (get_or flags copy false)
+        → Tells Verifying (get_or (others_of slots g) copy false) (image (slot place copy (other g))) g t
     tells parity flags p f is =
-        subst (λ (x : ℕ). Tells Verifying (get_or (others_of slots g) copy false) (image (slot first copy x)) g t) p
-        (subst (λ (xs : List Bool). Tells Verifying (get_or xs copy false) (image (slot first copy parity)) g t) f
-        (flag_tells (image (slot first copy parity)) g t (get_or flags copy false) is))
+        subst (λ (x : ℕ). Tells Verifying (get_or (others_of slots g) copy false) (image (slot place copy x)) g t) p
+        (subst (λ (xs : List Bool). Tells Verifying (get_or xs copy false) (image (slot place copy parity)) g t) f
+        (flag_tells (image (slot place copy parity)) g t (get_or flags copy false) is))
 
 -- ---- a text that was seen
 
-holds_tells : (image : Image) (first copy g : ℕ) (t : List ℕ) (flag : Bool) → flag ≡ not (holds image first copy (g, t))
-    → Tells Lacking flag (image (slot first copy (own g))) g t
-holds_tells image first copy g t flag e = go (holds image first copy (g, t)) refl
+holds_tells : (image : Image) (place : Place) (copy g : ℕ) (t : List ℕ) (flag : Bool)
+    → flag ≡ not (holds image place copy (g, t))
+    → Tells Lacking flag (image (slot place copy (own g))) g t
+holds_tells image place copy g t flag e = go (holds image place copy (g, t)) refl
   where
-    go : (answer : Bool) → holds image first copy (g, t) ≡ answer
-        → Tells Lacking flag (image (slot first copy (own g))) g t
-    go true is = subst (λ (b : Bool). Tells Lacking b (image (slot first copy (own g))) g t) (sym (e ∙ ap not is))
-        (holds_is image first copy (g, t) is)
-    go false is = subst (λ (b : Bool). Tells Lacking b (image (slot first copy (own g))) g t) (sym (e ∙ ap not is))
+    go : (answer : Bool) → holds image place copy (g, t) ≡ answer
+        → Tells Lacking flag (image (slot place copy (own g))) g t
+    go true is = subst (λ (b : Bool). Tells Lacking b (image (slot place copy (own g))) g t) (sym (e ∙ ap not is))
+        (holds_is image place copy (g, t) is)
+    go false is = subst (λ (b : Bool). Tells Lacking b (image (slot place copy (own g))) g t) (sym (e ∙ ap not is))
         (λ v.
-        let yes = is_holds image first copy (g, t) v in
+        let yes = is_holds image place copy (g, t) v in
         let differ : false ≡ true = sym is ∙ yes in cc)
 
 -- the copies that are not named lack it
-pub seen_lacking : (image : Image) (first copies : ℕ) (seen : Seen) (flags : List Bool) → IsSeenOn image first copies
+pub seen_lacking : (image : Image) (place : Place) (seen : Seen) (flags : List Bool) → IsSeenOn image place
     seen
-    → ((copy : ℕ) → copy < copies → get_or flags copy false ≡ not (named_in seen.copies (copy + 1)))
-    → Picks Lacking flags image first copies (own seen.generation) seen.generation seen.text
-seen_lacking image first copies seen flags are is copy lt =
-    holds_tells image first copy seen.generation seen.text (get_or flags copy false)
+    → ((copy : ℕ) → copy < place.copies → get_or flags copy false ≡ not (named_in seen.copies (copy + 1)))
+    → Picks Lacking flags image place (own seen.generation) seen.generation seen.text
+seen_lacking image place seen flags are is copy lt =
+    holds_tells image place copy seen.generation seen.text (get_or flags copy false)
     (is copy lt ∙ ap (λ (xs : List ℕ). not (named_in xs (copy + 1))) are
-    ∙ ap not (named_passing (λ c. holds image first c (seen.generation, seen.text)) copies copy lt))
+    ∙ ap not (named_passing (λ c. holds image place c (seen.generation, seen.text)) place.copies copy lt))

@@ -5,31 +5,32 @@ use Rattle.disk_model.specs.Image.{Image}
 use Rattle.disk_model.specs.Case.{Case, IsSettledAt}
 use Rattle.disk_model.specs.Medium.{Medium, Elapses, IsIdle, EachCase}
 use Rattle.disk_model.specs.Laws.{goes_on}
+use Rattle.disk_model.specs.declared.place.Place.{Place}
 use Rattle.guarded_cell.specs.declared.looking.Seen.{Seen}
 use Rattle.guarded_cell.specs.Held.{standing}
 use Rattle.guarded_cell.specs.Stops.{PutStops}
 use Rattle.guarded_cell.specs.Opens.{StandsAs, OpenStops, OpenStopsAt}
 use Rattle.guarded_cell.proofs.Putting.{still_stops}
 
-pub open_still : (first copies m : ℕ) (start : Image) (c : Case) → IsSettledAt start c
-    → OpenStops first copies m start c
-open_still first copies m start c settled = go (standing start first copies m)
+pub open_still : (place : Place) (m : ℕ) (start : Image) (c : Case) → IsSettledAt start c
+    → OpenStops place m start c
+open_still place m start c settled = go (standing start place m)
   where
-    go : (s : Option Seen) → OpenStopsAt first copies s start c
+    go : (s : Option Seen) → OpenStopsAt place s start c
     go None = settled
-    go (Some seen) = still_stops first copies seen.generation seen.text start c settled
+    go (Some seen) = still_stops place seen.generation seen.text start c settled
 
 -- nothing is written until a text is found to stand, and then it is put into every copy
-pub open_later : (first copies m : ℕ) (old mid new : Medium) (seen : Seen) → Elapses old mid → Elapses mid new
+pub open_later : (place : Place) (m : ℕ) (old mid new : Medium) (seen : Seen) → Elapses old mid → Elapses mid new
     → IsIdle old mid
-    → standing old.image first copies m ≡ Some seen
-    → EachCase (PutStops first copies seen.generation seen.text mid.image) mid new
-    → EachCase (OpenStops first copies m old.image) old new
-open_later first copies m old mid new seen time next idle stands put =
-    goes_on (OpenStops first copies m old.image) time next
-    (λ c past. open_still first copies m old.image c (idle.during c past))
-    (λ c past. subst (λ (s : Option Seen). OpenStopsAt first copies s old.image c) (sym stands)
-    (subst (λ (im : Image). PutStops first copies seen.generation seen.text im c) idle.image (put c past)))
+    → standing old.image place m ≡ Some seen
+    → EachCase (PutStops place seen.generation seen.text mid.image) mid new
+    → EachCase (OpenStops place m old.image) old new
+open_later place m old mid new seen time next idle stands put =
+    goes_on (OpenStops place m old.image) time next
+    (λ c past. open_still place m old.image c (idle.during c past))
+    (λ c past. subst (λ (s : Option Seen). OpenStopsAt place s old.image c) (sym stands)
+    (subst (λ (im : Image). PutStops place seen.generation seen.text im c) idle.image (put c past)))
 
 pub stands_as : (s : Option Seen) (seen : Seen) (g : ℕ) (t : List ℕ) → s ≡ Some seen → g ≡ seen.generation
     → t ≡ seen.text → StandsAs s g t

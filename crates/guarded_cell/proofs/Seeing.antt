@@ -10,12 +10,13 @@ use Rattle.hash_guard.specs.SealedText.{VerifiesAs, verified}
 use Rattle.hash_guard.specs.Laws.{verifies-verified, verified-verifies, verified-none}
 use Rattle.disk_model.specs.Image.{Image}
 use Rattle.disk_model.specs.Place.{slot}
+use Rattle.disk_model.specs.declared.place.Place.{Place}
 use Rattle.guarded_cell.specs.declared.looking.Seen.{Seen}
 use Rattle.guarded_cell.specs.declared.slots.Pick.TheVariants.{Lacking}
 use Rattle.guarded_cell.specs.Register.{own}
 use Rattle.guarded_cell.specs.Slots.{front, Tells, Picks}
 use Rattle.guarded_cell.specs.Held.{Text, of_parity, text_in, is_seen, is_text, holds, copies_that, lacking, with_copy}
-use Rattle.guarded_cell.specs.Held.{with_slot, held, standing}
+use Rattle.guarded_cell.specs.Held.{with_slot, held_in_first, held, standing}
 use Rattle.guarded_cell.specs.Seens.{IsBefore}
 use Rattle.guarded_cell.proofs.Choosing.{front_is, is_front}
 
@@ -147,37 +148,37 @@ verified_front bytes = go (verified bytes) refl
     go (Some t) e = verifies-verified (take front bytes) t.0 t.1
         (is_front bytes t.0 t.1 (verified-verifies bytes t.0 t.1 e))
 
-pub held_none : (image : Image) (first : ℕ) → held image first 0 ≡ []
-unfolding held
-held_none image first = refl
+pub held_none : (image : Image) (place : Place) → held_in_first image place 0 ≡ []
+unfolding held_in_first
+held_none image place = refl
 
-held_suc : (image : Image) (first k : ℕ)
-    → held image first (suc k) ≡ with_slot (k + 1) (text_in image first k 1)
-    (with_slot (k + 1) (text_in image first k 0) (held image first k))
-unfolding held
-held_suc image first k = refl
+held_suc : (image : Image) (place : Place) (k : ℕ)
+    → held_in_first image place (suc k) ≡ with_slot (k + 1) (text_in image place k 1)
+    (with_slot (k + 1) (text_in image place k 0) (held_in_first image place k))
+unfolding held_in_first
+held_suc image place k = refl
 
-pub held_more : (start a b : Image) (first k : ℕ) (none one two : List Seen) → a ≡ start → b ≡ start
-    → none ≡ held start first k
-    → one ≡ with_slot (k + 1) (text_in a first k 0) none → two ≡ with_slot (k + 1) (text_in b first k 1) one
-    → two ≡ held start first (k + 1)
-held_more start a b first k none one two ea eb before first_slot second_slot =
-    let low : one ≡ with_slot (k + 1) (text_in start first k 0) (held start first k) =
-    first_slot ∙ ap (λ (im : Image). with_slot (k + 1) (text_in im first k 0) none) ea
-    ∙ ap (with_slot (k + 1) (text_in start first k 0)) before in
-    let high : two ≡ with_slot (k + 1) (text_in start first k 1)
-    (with_slot (k + 1) (text_in start first k 0) (held start first k)) =
-    second_slot ∙ ap (λ (im : Image). with_slot (k + 1) (text_in im first k 1) one) eb
-    ∙ ap (with_slot (k + 1) (text_in start first k 1)) low in
-    high ∙ sym (held_suc start first k) ∙ ap (held start first) (sym (add-one k))
+pub held_more : (start a b : Image) (place : Place) (k : ℕ) (none one two : List Seen) → a ≡ start → b ≡ start
+    → none ≡ held_in_first start place k
+    → one ≡ with_slot (k + 1) (text_in a place k 0) none → two ≡ with_slot (k + 1) (text_in b place k 1) one
+    → two ≡ held_in_first start place (k + 1)
+held_more start a b place k none one two ea eb before first_slot second_slot =
+    let low : one ≡ with_slot (k + 1) (text_in start place k 0) (held_in_first start place k) =
+    first_slot ∙ ap (λ (im : Image). with_slot (k + 1) (text_in im place k 0) none) ea
+    ∙ ap (with_slot (k + 1) (text_in start place k 0)) before in
+    let high : two ≡ with_slot (k + 1) (text_in start place k 1)
+    (with_slot (k + 1) (text_in start place k 0) (held_in_first start place k)) =
+    second_slot ∙ ap (λ (im : Image). with_slot (k + 1) (text_in im place k 1) one) eb
+    ∙ ap (with_slot (k + 1) (text_in start place k 1)) low in
+    high ∙ sym (held_suc start place k) ∙ ap (held_in_first start place) (sym (add-one k))
 
 -- ---- the text that stands
 
-pub standing_is : (image : Image) (first copies m : ℕ) (seens : List Seen) (answer : Option Seen)
-    → seens ≡ held image first copies
-    → answer ≡ find (λ seen. nat_le m (length seen.copies)) seens → standing image first copies m ≡ answer
+pub standing_is : (image : Image) (place : Place) (m : ℕ) (seens : List Seen) (answer : Option Seen)
+    → seens ≡ held image place
+    → answer ≡ find (λ seen. nat_le m (length seen.copies)) seens → standing image place m ≡ answer
 unfolding standing
-standing_is image first copies m seens answer are is =
+standing_is image place m seens answer are is =
     ap (find (λ (seen : Seen). nat_le m (length seen.copies))) (sym are) ∙ sym is
 
 -- ---- the copies that lack it
@@ -216,11 +217,11 @@ flag_is true bytes g text never = go (verified bytes) refl
     go None e = sym (ap (λ (w : Option Text). not (is_text (g, text) w)) e)
     go (Some u) e = no_text u bytes g text e never ∙ sym (ap (λ (w : Option Text). not (is_text (g, text) w)) e)
 
-pub lacking_is : (image : Image) (first copies g : ℕ) (text : List ℕ) (chosen : List Bool) (numbers : List ℕ)
-    → Picks Lacking chosen image first copies (own g) g text
-    → numbers ≡ copies_that (λ copy. get_or chosen copy false) copies
-    → numbers ≡ lacking image first copies g text
+pub lacking_is : (image : Image) (place : Place) (g : ℕ) (text : List ℕ) (chosen : List Bool) (numbers : List ℕ)
+    → Picks Lacking chosen image place (own g) g text
+    → numbers ≡ copies_that (λ copy. get_or chosen copy false) place.copies
+    → numbers ≡ lacking image place g text
 unfolding lacking
-lacking_is image first copies g text chosen numbers picks is =
-    is ∙ same_that (λ copy. get_or chosen copy false) (λ copy. not (holds image first copy (g, text))) copies
-    (λ c lt. flag_is (get_or chosen c false) (image (slot first c (own g))) g text (picks c lt))
+lacking_is image place g text chosen numbers picks is =
+    is ∙ same_that (λ copy. get_or chosen copy false) (λ copy. not (holds image place copy (g, text))) place.copies
+    (λ c lt. flag_is (get_or chosen c false) (image (slot place c (own g))) g text (picks c lt))

@@ -10,6 +10,7 @@ use Rattle.disk_model.specs.Medium.{Medium, IsLawful, Elapses, WritesNothing, Ea
 use Rattle.disk_model.specs.Frame.{Spares}
 use Rattle.disk_model.specs.Place.{slot}
 use Rattle.disk_model.specs.Laws.{elapses_none, elapses_on, cases_on, case_now}
+use Rattle.disk_model.specs.declared.place.Place.{Place}
 use Rattle.guarded_cell.specs.Fronts.{IsChosen, IsNone, PutsSome, FrontsPut, FrontsCase, IsFrontsCase}
 use Rattle.guarded_cell.proofs.Texts.{put_twice}
 
@@ -45,25 +46,25 @@ module _ (Files : ℕ → Type 0) (bytes : List ℕ) where
   }
 
 -- what is so at the start of each turn of the loop that writes
-pub record IsWriting (first parity copies k : ℕ) (chosen : List Bool) (bytes : List ℕ) (told : Bool)
+pub record IsWriting (place : Place) (parity k : ℕ) (chosen : List Bool) (bytes : List ℕ) (told : Bool)
     (start now : Medium) : Type 0 where
-  pub some : IsTrue told → PutsSome (IsChosen first parity copies chosen) bytes start.image now.image
+  pub some : IsTrue told → PutsSome (IsChosen place parity chosen) bytes start.image now.image
   pub put : IsTrue told → (copy : ℕ) → copy < k → get_or chosen copy false ≡ true
-      → now.image (slot first copy parity) ≡ put_bytes (start.image (slot first copy parity)) 0 bytes
-  pub during : Follows (FrontsCase first parity copies chosen bytes) start.now (now.since start.moment)
+      → now.image (slot place copy parity) ≡ put_bytes (start.image (slot place copy parity)) 0 bytes
+  pub during : Follows (FrontsCase place parity chosen bytes) start.now (now.since start.moment)
   pub written : now.written ≤ start.written + k * length bytes
-  pub none : IsNone copies chosen → now.written ≡ start.written
+  pub none : IsNone place.copies chosen → now.written ≡ start.written
   pub time : Elapses start now
   pub passes : now.faults ≡ start.faults
 
-module _ (first parity copies : ℕ) (chosen : List Bool) (bytes : List ℕ) where
+module _ (place : Place) (parity : ℕ) (chosen : List Bool) (bytes : List ℕ) where
   abbrev Chosen : ℕ → Type 0
-  Chosen = IsChosen first parity copies chosen
+  Chosen = IsChosen place parity chosen
 
   abbrev Step : Case → Case → Type 0
-  Step = FrontsCase first parity copies chosen bytes
+  Step = FrontsCase place parity chosen bytes
 
-  pub fronts_none : (c : Case) → FrontsCase first parity copies chosen bytes c c
+  pub fronts_none : (c : Case) → FrontsCase place parity chosen bytes c c
   fronts_none c = record { base = refl; full = puts_none Chosen bytes c.full; left = λ f not. refl }
 
   fronts_step : (file : ℕ) → Chosen file → (a d c : Case) → Step a d → WriteCase file 0 bytes d c → Step a c
@@ -74,11 +75,11 @@ module _ (first parity copies : ℕ) (chosen : List Bool) (bytes : List ℕ) whe
     left = λ f not. write.left.others f (λ e. not (subst Chosen (sym e) is)) ∙ fronts.left f not;
   }
 
-  pub during_step : {told : Bool} {start mid new : Medium} (file : ℕ) → IsChosen first parity copies chosen file
+  pub during_step : {told : Bool} {start mid new : Medium} (file : ℕ) → IsChosen place parity chosen file
       → IsLawful told mid → Elapses start mid → Elapses mid new
-      → Follows (FrontsCase first parity copies chosen bytes) start.now (mid.since start.moment)
+      → Follows (FrontsCase place parity chosen bytes) start.now (mid.since start.moment)
       → Follows (WriteOrNot file 0 bytes) mid.now (new.since mid.moment)
-      → Follows (FrontsCase first parity copies chosen bytes) start.now (new.since start.moment)
+      → Follows (FrontsCase place parity chosen bytes) start.now (new.since start.moment)
   during_step {told} {start} {mid} {new} file is law time next was write c past = ⊎_elim
       (was c)
       (λ later.
@@ -93,12 +94,12 @@ module _ (first parity copies : ℕ) (chosen : List Bool) (bytes : List ℕ) whe
       ))
       (cases_on time next c past)
 
-  some_chosen : (k : ℕ) → k < copies → get_or chosen k false ≡ true → ¬ (IsNone copies chosen)
+  some_chosen : (k : ℕ) → k < place.copies → get_or chosen k false ≡ true → ¬ (IsNone place.copies chosen)
   some_chosen k lt is_set none = false≢true (sym (none k lt) ∙ is_set)
 
   -- no turn was made
   pub writing_none : {told : Bool} {start : Medium} → IsLawful told start
-      → IsWriting first parity copies 0 chosen bytes told start start
+      → IsWriting place parity 0 chosen bytes told start start
   writing_none {told} {start} law = record {
     some = λ _. puts_none Chosen bytes start.image;
     put = λ _ copy lt. absurd (omega (arith, lt));
@@ -111,8 +112,8 @@ module _ (first parity copies : ℕ) (chosen : List Bool) (bytes : List ℕ) whe
 
   -- a copy is passed
   pub writing_skips : {told : Bool} {start mid : Medium} (k : ℕ) → get_or chosen k false ≡ false
-      → IsWriting first parity copies k chosen bytes told start mid
-      → IsWriting first parity copies (k + 1) chosen bytes told start mid
+      → IsWriting place parity k chosen bytes told start mid
+      → IsWriting place parity (k + 1) chosen bytes told start mid
   writing_skips {told} {start} {mid} k is_not w = record {
     some = w.some;
     put = λ tells copy lt flag. ⊎_elim
@@ -127,27 +128,27 @@ module _ (first parity copies : ℕ) (chosen : List Bool) (bytes : List ℕ) whe
   }
 
   -- a copy is written
-  pub writing_writes : {told : Bool} {start mid new : Medium} (k : ℕ) → k < copies → get_or chosen k false ≡ true
+  pub writing_writes : {told : Bool} {start mid new : Medium} (k : ℕ) → k < place.copies → get_or chosen k false ≡ true
       → IsLawful told mid
-      → IsWriting first parity copies k chosen bytes told start mid
-      → (IsTrue told → new.image ≡ put_image mid.image (slot first k parity) 0 bytes)
-      → Follows (WriteOrNot (slot first k parity) 0 bytes) mid.now (new.since mid.moment)
+      → IsWriting place parity k chosen bytes told start mid
+      → (IsTrue told → new.image ≡ put_image mid.image (slot place k parity) 0 bytes)
+      → Follows (WriteOrNot (slot place k parity) 0 bytes) mid.now (new.since mid.moment)
       → new.written ≤ mid.written + length bytes → Elapses mid new → new.faults ≡ mid.faults
-      → IsWriting first parity copies (k + 1) chosen bytes told start new
+      → IsWriting place parity (k + 1) chosen bytes told start new
   writing_writes {told} {start} {mid} {new} k lt is_set law w whole cases more next passed =
-      let is : Chosen (slot first k parity) = record { copy = k; within = lt; flag = is_set; is = refl } in
+      let is : Chosen (slot place k parity) = record { copy = k; within = lt; flag = is_set; is = refl } in
       record {
         some = λ tells. subst (λ (image : Image). PutsSome Chosen bytes start.image image) (sym (whole tells))
-            (puts_step Chosen bytes start.image mid.image (slot first k parity) is (w.some tells));
-        put = λ tells copy below flag. ap (λ (image : Image). image (slot first copy parity)) (whole tells) ∙ ⊎_elim
-            (λ before. put_image_elsewhere mid.image (slot first k parity) 0 bytes (slot first copy parity)
+            (puts_step Chosen bytes start.image mid.image (slot place k parity) is (w.some tells));
+        put = λ tells copy below flag. ap (λ (image : Image). image (slot place copy parity)) (whole tells) ∙ ⊎_elim
+            (λ before. put_image_elsewhere mid.image (slot place k parity) 0 bytes (slot place copy parity)
             (λ e. omega (arith, e, before)) ∙ w.put tells copy before flag)
             (λ above. let same : copy ≡ k = omega (arith, above, below) in
-            subst (λ (x : ℕ). put_image mid.image (slot first k parity) 0 bytes (slot first x parity)
-            ≡ put_bytes (start.image (slot first x parity)) 0 bytes) (sym same)
-            (put_again Chosen bytes start.image mid.image (slot first k parity) (w.some tells)))
+            subst (λ (x : ℕ). put_image mid.image (slot place k parity) 0 bytes (slot place x parity)
+            ≡ put_bytes (start.image (slot place x parity)) 0 bytes) (sym same)
+            (put_again Chosen bytes start.image mid.image (slot place k parity) (w.some tells)))
             (cases_lt copy k);
-        during = during_step (slot first k parity) is law w.time next w.during cases;
+        during = during_step (slot place k parity) is law w.time next w.during cases;
         written = omega (arith, more, w.written, more_times k (length bytes));
         none = λ none. absurd (some_chosen k lt is_set none);
         time = elapses_on w.time next;
@@ -155,46 +156,54 @@ module _ (first parity copies : ℕ) (chosen : List Bool) (bytes : List ℕ) whe
       }
 
   -- a write that fails
-  pub cut_elsewhere : {told : Bool} (start mid new : Medium) (k : ℕ) → k < copies → get_or chosen k false ≡ true
-      → IsWriting first parity copies k chosen bytes told start mid
-      → (IsTrue told → TornImage (slot first k parity) 0 (length bytes) mid.image new.image)
-      → IsTrue told → Spares (λ f. ¬ (IsChosen first parity copies chosen f)) start.image new.image
+  pub cut_elsewhere : {told : Bool} (start mid new : Medium) (k : ℕ) → k < place.copies → get_or chosen k false ≡ true
+      → IsWriting place parity k chosen bytes told start mid
+      → (IsTrue told → TornImage (slot place k parity) 0 (length bytes) mid.image new.image)
+      → IsTrue told → Spares (λ f. ¬ (IsChosen place parity chosen f)) start.image new.image
   cut_elsewhere start mid new k lt is_set w torn tells f not =
-      let is : Chosen (slot first k parity) = record { copy = k; within = lt; flag = is_set; is = refl } in
+      let is : Chosen (slot place k parity) = record { copy = k; within = lt; flag = is_set; is = refl } in
       (torn tells).others f (λ e. not (subst Chosen (sym e) is)) ∙ (w.some tells).others f not
 
-  pub cut_during : {told : Bool} {start mid new : Medium} (k : ℕ) → k < copies → get_or chosen k false ≡ true
+  pub cut_during : {told : Bool} {start mid new : Medium} (k : ℕ) → k < place.copies → get_or chosen k false ≡ true
       → IsLawful told mid
-      → IsWriting first parity copies k chosen bytes told start mid
-      → Follows (WriteOrNot (slot first k parity) 0 bytes) mid.now (new.since mid.moment) → Elapses mid new
-      → Follows (FrontsCase first parity copies chosen bytes) start.now (new.since start.moment)
+      → IsWriting place parity k chosen bytes told start mid
+      → Follows (WriteOrNot (slot place k parity) 0 bytes) mid.now (new.since mid.moment) → Elapses mid new
+      → Follows (FrontsCase place parity chosen bytes) start.now (new.since start.moment)
   cut_during k lt is_set law w cases next =
-      let is : Chosen (slot first k parity) = record { copy = k; within = lt; flag = is_set; is = refl } in
-      during_step (slot first k parity) is law w.time next w.during cases
+      let is : Chosen (slot place k parity) = record { copy = k; within = lt; flag = is_set; is = refl } in
+      during_step (slot place k parity) is law w.time next w.during cases
 
-  pub cut_written : {told : Bool} (start mid new : Medium) (k : ℕ) → k < copies
-      → IsWriting first parity copies k chosen bytes told start mid → new.written ≤ mid.written + length bytes
-      → new.written ≤ start.written + copies * length bytes
+  pub cut_written : {told : Bool} (start mid new : Medium) (k : ℕ) → k < place.copies
+      → IsWriting place parity k chosen bytes told start mid → new.written ≤ mid.written + length bytes
+      → new.written ≤ start.written + place.copies * length bytes
   cut_written {told} start mid new k lt w more =
-      let whole : k + 1 ≤ copies = omega arith in
-      omega (arith, more, w.written, more_times k (length bytes), times_within (k + 1) copies (length bytes) whole)
+      let whole : k + 1 ≤ place.copies = omega arith in
+      omega (
+        arith,
+        more,
+        w.written,
+        more_times k (length bytes),
+        times_within (k + 1) place.copies (length bytes)
+            whole,
+      )
 
-  pub cut_none : (start new : Medium) (k : ℕ) → k < copies → get_or chosen k false ≡ true → IsNone copies chosen
+  pub cut_none : (start new : Medium) (k : ℕ) → k < place.copies → get_or chosen k false ≡ true
+      → IsNone place.copies chosen
       → new.written ≡ start.written
   cut_none start new k lt is_set none = absurd (some_chosen k lt is_set none)
 
   -- all turns are made
-  pub all_put : {told : Bool} {start new : Medium} (k : ℕ) → copies ≤ k
-      → IsWriting first parity copies k chosen bytes told start new
-      → IsTrue told → FrontsPut first parity copies chosen bytes start.image new.image
+  pub all_put : {told : Bool} {start new : Medium} (k : ℕ) → place.copies ≤ k
+      → IsWriting place parity k chosen bytes told start new
+      → IsTrue told → FrontsPut place parity chosen bytes start.image new.image
   all_put k le w tells = record { some = w.some tells; put = λ copy lt flag. w.put tells copy (le_trans lt le) flag }
 
   -- a sync behind the writes
   pub synced_case : {told : Bool} {old mid new : Medium} (done : Type 0) → IsLawful told mid → Elapses old mid
       → Elapses mid new
-      → Follows (FrontsCase first parity copies chosen bytes) old.now (mid.since old.moment) → WritesNothing mid new
+      → Follows (FrontsCase place parity chosen bytes) old.now (mid.since old.moment) → WritesNothing mid new
       → ((c : Case) → new.now c → mid.now c ⊎ (done × IsSettledAt new.image c))
-      → EachCase (IsFrontsCase first parity copies chosen bytes old new done) old new
+      → EachCase (IsFrontsCase place parity chosen bytes old new done) old new
   synced_case done law time next was sync after c past = ⊎_elim
       (λ before. inl (was c before))
       (λ later. ⊎_elim

@@ -15,7 +15,7 @@ generation_of cell = cell.generation
 
 -- the cell is in use on this image with this text: each copy holds it, and no other slot verifies
 abbrev pub CellAt : Image → Cell → List ℕ → Type 0
-CellAt image cell text = IsAlone image cell.place.first cell.place.copies cell.generation text
+CellAt image cell text = IsAlone image cell.place cell.generation text
 
 -- a cell of this place and generation
 pub record IsCellOf (place : Place) (generation : ℕ) (cell : Cell) : Type 0 where

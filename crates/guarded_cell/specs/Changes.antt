@@ -15,9 +15,9 @@ use Rattle.guarded_cell.specs.Opens.{OpenStops}
 -- A text is put into every copy. Only slots of the place change, and a stop at any moment leaves every copy what it
 -- held or every copy the text.
 pub record Puts (told : Bool) (place : Place) (generation : ℕ) (text : List ℕ) (old new : Medium) : Type 0 where
-  pub elsewhere : IsTrue told → Spares (IsNoSlot place.first place.copies) old.image new.image
+  pub elsewhere : IsTrue told → Spares (IsNoSlot place) old.image new.image
   pub any_moment : IsTrue told → Quiet old
-      → EachCase (PutStops place.first place.copies generation text old.image) old new
+      → EachCase (PutStops place generation text old.image) old new
   pub written : new.written ≤ old.written + place.copies * (header + length text + header)
   pub time : Elapses old new
 
@@ -25,35 +25,35 @@ pub record Puts (told : Bool) (place : Place) (generation : ℕ) (text : List �
 -- copy holds the text alone, nothing is written.
 pub record Brings (told : Bool) (place : Place) (generation : ℕ) (text : List ℕ) (old new : Medium) : Type 0 where
   pub puts : Puts told place generation text old new
-  pub right : IsTrue told → Spares (IsRight old.image place.first place.copies generation text) old.image new.image
-  pub already : IsTrue told → IsAlone old.image place.first place.copies generation text → new.written ≡ old.written
+  pub right : IsTrue told → Spares (IsRight old.image place generation text) old.image new.image
+  pub already : IsTrue told → IsAlone old.image place generation text → new.written ≡ old.written
 
 -- Every other text is taken away. Only slots of the place change, and none that is clear already, and at any moment the
 -- copies that held the text hold it.
 pub record Clears (told : Bool) (place : Place) (generation : ℕ) (text : List ℕ) (old new : Medium) : Type 0 where
-  pub elsewhere : IsTrue told → Spares (IsNoSlot place.first place.copies) old.image new.image
-  pub right : IsTrue told → Spares (IsClear old.image place.first place.copies generation text) old.image new.image
+  pub elsewhere : IsTrue told → Spares (IsNoSlot place) old.image new.image
+  pub right : IsTrue told → Spares (IsClear old.image place generation text) old.image new.image
   pub any_moment : IsTrue told → Quiet old
-      → EachCase (KeepStops place.first place.copies generation text old.image) old new
+      → EachCase (KeepStops place generation text old.image) old new
   pub written : new.written ≤ old.written + place.copies * (header + header)
   pub time : Elapses old new
 
 -- A register is made anew with a text, under generation 1. Only slots of the place change, and a stop at any moment
 -- leaves only what was held or only the text.
 pub record Formats (told : Bool) (place : Place) (text : List ℕ) (old new : Medium) : Type 0 where
-  pub elsewhere : IsTrue told → Spares (IsNoSlot place.first place.copies) old.image new.image
+  pub elsewhere : IsTrue told → Spares (IsNoSlot place) old.image new.image
   pub any_moment : IsTrue told → Quiet old
-      → EachCase (FormatStops place.first place.copies 1 text old.image) old new
+      → EachCase (FormatStops place 1 text old.image) old new
   pub written : new.written ≤ old.written + place.copies * (header + header + (header + length text))
   pub time : Elapses old new
 
 -- Every copy is brought to the text that stands, if one does. Only slots of the place change, and none that is right
 -- already, and a stop at any moment leaves every copy what it held or every copy the text that stood.
 pub record Opens (told : Bool) (place : Place) (m : ℕ) (old new : Medium) : Type 0 where
-  pub elsewhere : IsTrue told → Spares (IsNoSlot place.first place.copies) old.image new.image
+  pub elsewhere : IsTrue told → Spares (IsNoSlot place) old.image new.image
   pub right : IsTrue told
-      → Spares (IsRightFor (standing old.image place.first place.copies m) old.image place.first place.copies) old.image
+      → Spares (IsRightFor (standing old.image place m) old.image place) old.image
       new.image
-  pub any_moment : IsTrue told → Quiet old → EachCase (OpenStops place.first place.copies m old.image) old new
+  pub any_moment : IsTrue told → Quiet old → EachCase (OpenStops place m old.image) old new
   pub at_most : new.written ≤ old.written + place.copies * (header + max_body + header)
   pub time : Elapses old new

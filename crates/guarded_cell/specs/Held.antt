@@ -5,6 +5,7 @@ use Rattle.std.specs.Str.{bytes_eq}
 use Rattle.hash_guard.specs.SealedText.{verified}
 use Rattle.disk_model.specs.Image.{Image}
 use Rattle.disk_model.specs.Place.{slot}
+use Rattle.disk_model.specs.declared.place.Place.{Place}
 use Rattle.guarded_cell.specs.declared.looking.Seen.{Seen}
 
 -- a generation and a text
@@ -17,8 +18,8 @@ of_parity parity None = None
 of_parity parity (Some t) = if t.0 % 2 == parity then Some t else None
 
 -- the text that a copy holds in its slot of this parity
-abbrev pub text_in : Image → (first copy parity : ℕ) → Option Text
-text_in image first copy parity = of_parity parity (verified (image (slot first copy parity)))
+abbrev pub text_in : Image → Place → (copy parity : ℕ) → Option Text
+text_in image place copy parity = of_parity parity (verified (image (slot place copy parity)))
 
 abbrev pub is_seen : Text → Seen → Bool
 is_seen t seen = nat_eq seen.generation t.0 && bytes_eq seen.text t.1
@@ -28,8 +29,8 @@ abbrev pub is_text : Text → Option Text → Bool
 is_text t None = Bool.false
 is_text t (Some u) = nat_eq u.0 t.0 && bytes_eq u.1 t.1
 
-abbrev pub holds : Image → (first copy : ℕ) → Text → Bool
-holds image first copy t = is_text t (verified (image (slot first copy (t.0 % 2))))
+abbrev pub holds : Image → Place → (copy : ℕ) → Text → Bool
+holds image place copy t = is_text t (verified (image (slot place copy (t.0 % 2))))
 
 -- which of the first n copies pass a test, ascending and counted from 1
 abbrev pub copies_that : (ℕ → Bool) → ℕ → List ℕ
@@ -37,11 +38,11 @@ copies_that test zero = []
 copies_that test (suc n) = copies_that test n ++ (if test n then (n + 1) ∷ [] else [])
 
 -- the copies that do not hold a text
-unfoldable pub lacking : Image → (first copies generation : ℕ) → List ℕ → List ℕ
-lacking image first copies generation text = copies_that (λ copy. not (holds image first copy (generation, text)))
-    copies
+unfoldable pub lacking : Image → Place → (generation : ℕ) → List ℕ → List ℕ
+lacking image place generation text = copies_that (λ copy. not (holds image place copy (generation, text)))
+    place.copies
 
--- one copy more of a text, among texts that stand greatest generation first, and at one generation in the order of
+-- one copy more of a text, among texts that are listed greatest generation first, and at one generation in the order of
 -- their first copies
 abbrev pub with_copy : ℕ → Text → List Seen → List Seen
 with_copy copy t [] = record { generation = t.0; text = t.1; copies = copy ∷ [] } ∷ []
@@ -55,15 +56,19 @@ with_slot copy None seens = seens
 with_slot copy (Some t) seens = with_copy copy t seens
 
 -- every text that one of the first n copies holds, with those copies, greatest generation first, then by first copy
-unfoldable pub held : Image → (first copies : ℕ) → List Seen
-held image first zero = []
-held image first (suc copy) = with_slot (copy + 1) (text_in image first copy 1)
-    (with_slot (copy + 1) (text_in image first copy 0) (held image first copy))
+unfoldable pub held_in_first : Image → Place → (n : ℕ) → List Seen
+held_in_first image place zero = []
+held_in_first image place (suc copy) = with_slot (copy + 1) (text_in image place copy 1)
+    (with_slot (copy + 1) (text_in image place copy 0) (held_in_first image place copy))
+
+-- every text that a copy of the place holds
+abbrev pub held : Image → Place → List Seen
+held image place = held_in_first image place place.copies
 
 -- the first of a list of texts that at least m copies hold
 abbrev pub standing_in : (m : ℕ) → List Seen → Option Seen
 standing_in m seens = find (λ seen. nat_le m (length seen.copies)) seens
 
 -- what stands: the first of the texts that are held which at least m copies hold
-unfoldable pub standing : Image → (first copies m : ℕ) → Option Seen
-standing image first copies m = standing_in m (held image first copies)
+unfoldable pub standing : Image → Place → (m : ℕ) → Option Seen
+standing image place m = standing_in m (held image place)

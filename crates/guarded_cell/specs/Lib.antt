@@ -10,11 +10,5 @@ pub mod Seens
 pub mod Opens
 pub mod Changes
 pub mod Faults
-pub mod StopLaws
-pub mod CopyLaws
-pub mod SeenLaws
-pub mod HeldLaws
-pub mod FirstLaws
-pub mod AloneLaws
 pub mod Shown
-pub mod ShownLaws
+pub mod lemmas

@@ -3,25 +3,26 @@ use Rattle.std.specs.Prelude.{◌≡◌, ℕ, ◌<◌, List, Option, Some, None}
 use Rattle.hash_guard.specs.SealedText.{VerifiesAs}
 use Rattle.disk_model.specs.Image.{Image}
 use Rattle.disk_model.specs.Place.{slot}
+use Rattle.disk_model.specs.declared.place.Place.{Place}
 use Rattle.guarded_cell.specs.declared.looking.Seen.{Seen}
 use Rattle.guarded_cell.specs.Register.{IsBlank, own, other}
 use Rattle.guarded_cell.specs.Slots.{HasNoOther}
 
 -- the slots that bringing every copy to a text leaves alone: those that hold it, and those of the other parity that
 -- hold none
-abbrev pub IsRight : Image → (first copies generation : ℕ) → List ℕ → (file : ℕ) → Type 0
-IsRight image first copies generation text file = (copy : ℕ) → copy < copies
-    → (file ≡ slot first copy (own generation) → VerifiesAs (image file) generation text)
-    × (file ≡ slot first copy (other generation) → IsBlank (image file))
+abbrev pub IsRight : Image → Place → (generation : ℕ) → List ℕ → (file : ℕ) → Type 0
+IsRight image place generation text file = (copy : ℕ) → copy < place.copies
+    → (file ≡ slot place copy (own generation) → VerifiesAs (image file) generation text)
+    × (file ≡ slot place copy (other generation) → IsBlank (image file))
 
 -- the same for the text that stands; where none stands, every slot is left alone
-abbrev pub IsRightFor : Option Seen → Image → (first copies : ℕ) → (file : ℕ) → Type 0
-IsRightFor None image first copies file = Unit {0}
-IsRightFor (Some seen) image first copies file = IsRight image first copies seen.generation seen.text file
+abbrev pub IsRightFor : Option Seen → Image → Place → (file : ℕ) → Type 0
+IsRightFor None image place file = Unit {0}
+IsRightFor (Some seen) image place file = IsRight image place seen.generation seen.text file
 
 -- the slots that taking every other text away leaves alone: those that hold no other, and those of the other parity
 -- that hold none
-abbrev pub IsClear : Image → (first copies generation : ℕ) → List ℕ → (file : ℕ) → Type 0
-IsClear image first copies generation text file = (copy : ℕ) → copy < copies
-    → (file ≡ slot first copy (own generation) → HasNoOther (image file) generation text)
-    × (file ≡ slot first copy (other generation) → IsBlank (image file))
+abbrev pub IsClear : Image → Place → (generation : ℕ) → List ℕ → (file : ℕ) → Type 0
+IsClear image place generation text file = (copy : ℕ) → copy < place.copies
+    → (file ≡ slot place copy (own generation) → HasNoOther (image file) generation text)
+    × (file ≡ slot place copy (other generation) → IsBlank (image file))

@@ -2,6 +2,7 @@
 use Rattle.std.specs.Prelude.{◌≡◌, ◌⊎◌, ℕ, ◌<◌, ◌≤◌, List, length, true, false, slice_index_or}
 use Rattle.hash_guard.specs.SealedText.{max_body}
 use Rattle.disk_model.specs.Image.{Image}
+use Rattle.disk_model.specs.declared.place.Place.{Place}
 use Rattle.guarded_cell.specs.declared.looking.Seen.{Seen}
 use Rattle.guarded_cell.specs.Held.{Text, is_seen, holds, copies_that}
 
@@ -10,7 +11,7 @@ pub record IsSealable (seen : Seen) : Type 0 where
   pub positive : 1 ≤ seen.generation
   pub short : length seen.text ≤ max_body
 
--- the text is this one, or comes after it
+-- what was seen comes before the text: it is another one, of no lesser generation
 pub record IsBefore (t : Text) (seen : Seen) : Type 0 where
   pub differs : is_seen t seen ≡ false
   pub greater : t.0 ≤ seen.generation
@@ -23,6 +24,6 @@ pub record IsPlaceOf (t : Text) (seens : List Seen) (at : ℕ) : Type 0 where
       ⊎ ((slice_index_or seens at d).generation < t.0)
 
 -- just these copies hold it
-abbrev pub IsSeenOn : Image → (first copies : ℕ) → Seen → Type 0
-IsSeenOn image first copies seen = seen.copies
-    ≡ copies_that (λ copy. holds image first copy (seen.generation, seen.text)) copies
+abbrev pub IsSeenOn : Image → Place → Seen → Type 0
+IsSeenOn image place seen = seen.copies
+    ≡ copies_that (λ copy. holds image place copy (seen.generation, seen.text)) place.copies

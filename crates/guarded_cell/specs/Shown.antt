@@ -3,21 +3,22 @@
 use Rattle.std.specs.Prelude.{◌≡◌, ℕ, ◌+◌, ◌<◌, ◌≤◌, List, length, slice_index_or, Option, Some, None}
 use Rattle.std.specs.List.{All, Any, Contains}
 use Rattle.disk_model.specs.Image.{Image}
+use Rattle.disk_model.specs.declared.place.Place.{Place}
 use Rattle.guarded_cell.specs.declared.looking.Seen.{Seen}
 use Rattle.guarded_cell.specs.Register.{Holds, IsHeldBy, IsStanding, HasNoStanding}
 use Rattle.guarded_cell.specs.Held.{holds, copies_that}
 
 -- the list has every text that is held, greatest generation first, and at one generation in the order of the first
 -- copies
-pub record Shows (image : Image) (first copies : ℕ) (seens : List Seen) : Type 0 where
-  pub every : (copy generation : ℕ) (text : List ℕ) → copy < copies → Holds image first copy generation text
+pub record Shows (image : Image) (place : Place) (seens : List Seen) : Type 0 where
+  pub every : (copy generation : ℕ) (text : List ℕ) → copy < place.copies → Holds image place copy generation text
       → Any (λ seen. (seen.generation ≡ generation) × (seen.text ≡ text)) seens
   -- with just the copies that hold it, ascending, and at least one
-  pub copies_are : All (λ seen. seen.copies ≡ copies_that (λ copy. holds image first copy (seen.generation, seen.text))
-      copies) seens
+  pub copies_are : All (λ seen. seen.copies ≡ copies_that (λ copy. holds image place copy (seen.generation, seen.text))
+      place.copies) seens
   pub holders : All (λ seen. (copy : ℕ) → Contains seen.copies (copy + 1)
-      → (copy < copies) × Holds image first copy seen.generation seen.text) seens
-  pub all_holders : All (λ seen. (copy : ℕ) → copy < copies → Holds image first copy seen.generation seen.text
+      → (copy < place.copies) × Holds image place copy seen.generation seen.text) seens
+  pub all_holders : All (λ seen. (copy : ℕ) → copy < place.copies → Holds image place copy seen.generation seen.text
       → Contains seen.copies (copy + 1)) seens
   pub some : All (λ seen. 1 ≤ length seen.copies) seens
   pub descends : (i j : ℕ) (d : Seen) → i < j → j < length seens
@@ -28,12 +29,12 @@ pub record Shows (image : Image) (first copies : ℕ) (seens : List Seen) : Type
 
 -- a text that at least m copies hold under the greatest such generation is chosen, at one generation the one that is
 -- held first, and none only where no text is held by so many
-pub record Chooses (image : Image) (first copies m : ℕ) (answer : Option Seen) : Type 0 where
-  pub stands : (seen : Seen) → answer ≡ Some seen → IsStanding image first copies m seen.generation seen.text
+pub record Chooses (image : Image) (place : Place) (m : ℕ) (answer : Option Seen) : Type 0 where
+  pub stands : (seen : Seen) → answer ≡ Some seen → IsStanding image place m seen.generation seen.text
   pub copies_are : (seen : Seen) → answer ≡ Some seen
-      → seen.copies ≡ copies_that (λ copy. holds image first copy (seen.generation, seen.text)) copies
+      → seen.copies ≡ copies_that (λ copy. holds image place copy (seen.generation, seen.text)) place.copies
   pub first_held : (seen : Seen) (text : List ℕ) → answer ≡ Some seen
-      → IsHeldBy image first copies m seen.generation text
-      → ¬ (text ≡ seen.text) → (copy : ℕ) × (copy < copies) × Holds image first copy seen.generation seen.text
-      × ((a : ℕ) → a ≤ copy → ¬ (Holds image first a seen.generation text))
-  pub nothing : answer ≡ None → HasNoStanding image first copies m
+      → IsHeldBy image place m seen.generation text
+      → ¬ (text ≡ seen.text) → (copy : ℕ) × (copy < place.copies) × Holds image place copy seen.generation seen.text
+      × ((a : ℕ) → a ≤ copy → ¬ (Holds image place a seen.generation text))
+  pub nothing : answer ≡ None → HasNoStanding image place m

@@ -3,6 +3,7 @@ use Rattle.std.specs.Prelude.{◌≡◌, ℕ, ◌<◌, ◌%◌, ◌==◌, List, 
 use Rattle.hash_guard.specs.SealedText.{VerifiesAs, verified}
 use Rattle.disk_model.specs.Image.{Image}
 use Rattle.disk_model.specs.Place.{slot}
+use Rattle.disk_model.specs.declared.place.Place.{Place}
 use Rattle.guarded_cell.specs.declared.slots.Found.{Found}
 use Rattle.guarded_cell.specs.declared.slots.Found.TheVariants.{Nothing, Wanted, Another}
 use Rattle.guarded_cell.specs.declared.slots.Pick.{Pick}
@@ -48,9 +49,9 @@ Tells pick true bytes generation text = ¬ (IsSpared pick bytes generation text)
 Tells pick false bytes generation text = IsSpared pick bytes generation text
 
 -- which of the copies are picked, by their slots of this parity
-abbrev pub Picks : Pick → (chosen : List Bool) → Image → (first copies parity generation : ℕ) → List ℕ → Type 0
-Picks pick chosen image first copies parity generation text = (copy : ℕ) → copy < copies
-    → Tells pick (get_or chosen copy false) (image (slot first copy parity)) generation text
+abbrev pub Picks : Pick → (chosen : List Bool) → Image → Place → (parity generation : ℕ) → List ℕ → Type 0
+Picks pick chosen image place parity generation text = (copy : ℕ) → copy < place.copies
+    → Tells pick (get_or chosen copy false) (image (slot place copy parity)) generation text
 
 -- ---- which slots hold a text
 
@@ -58,15 +59,15 @@ Picks pick chosen image first copies parity generation text = (copy : ℕ) → c
 abbrev pub IsFlag : List ℕ → Bool → Type 0
 IsFlag bytes flag = flag ≡ is_some (verified bytes)
 
--- the flags are right for the slots of this parity
-abbrev pub AreFlags : Image → (first copies parity : ℕ) → List Bool → Type 0
-AreFlags image first copies parity flags = (copy : ℕ) → copy < copies
-    → IsFlag (image (slot first copy parity)) (get_or flags copy false)
+-- the flags are right for the slots of this parity of the first n copies
+abbrev pub AreFlags : Image → Place → (n parity : ℕ) → List Bool → Type 0
+AreFlags image place n parity flags = (copy : ℕ) → copy < n
+    → IsFlag (image (slot place copy parity)) (get_or flags copy false)
 
 -- they are right for all slots
-pub record IsSlotsOf (image : Image) (first copies : ℕ) (slots : Slots) : Type 0 where
-  pub even : AreFlags image first copies 0 slots.even
-  pub odd : AreFlags image first copies 1 slots.odd
+pub record IsSlotsOf (image : Image) (place : Place) (slots : Slots) : Type 0 where
+  pub even : AreFlags image place place.copies 0 slots.even
+  pub odd : AreFlags image place place.copies 1 slots.odd
 
 -- the flags of the parity that is not the generation's
 abbrev pub others_of : Slots → (generation : ℕ) → List Bool

@@ -68,8 +68,8 @@ pub fn adopt_seen<D: Disk>(
     slots: Slots,
 ) -> Result<Cell, CellError>
     requires sealable { IsSealable seen.now }
-    requires seen { IsTrue D.told → IsSeenOn (D.medium disk.old).image place.first place.copies seen.now }
-    requires slots { IsTrue D.told → IsSlotsOf (D.medium disk.old).image place.first place.copies slots }
+    requires seen { IsTrue D.told → IsSeenOn (D.medium disk.old).image place seen.now }
+    requires slots { IsTrue D.told → IsSlotsOf (D.medium disk.old).image place slots }
 
     ensures cell { IfOk result (IsCellOf place seen.now.generation) }
     ensures held { IsTrue D.told → IfOk result (λ cell. CellAt (D.medium disk.new).image cell seen.now.text) }
@@ -113,7 +113,7 @@ fn adopt_in<D: Disk>(
     requires text { sealed_text.now ≡ sealed generation text.now }
     requires room { length room.old ≡ front }
 
-    ensures alone { IsTrue D.told → OnOk result (IsAlone (D.medium disk.new).image place.first place.copies generation
+    ensures alone { IsTrue D.told → OnOk result (IsAlone (D.medium disk.new).image place generation
         text.now) }
     ensures quiet { OnOk result (Quiet (D.medium disk.new)) }
     ensures brings { Brings D.told place generation text.now (D.medium disk.old) (D.medium disk.new) }
@@ -141,10 +141,10 @@ fn bring_to<D: Disk>(
     requires room { length room.old ≡ front }
     requires flags { place.copies ≤ length lacking.now }
     requires lacking { IsTrue D.told
-        → Picks Lacking lacking.now (D.medium disk.old).image place.first place.copies (own generation) generation
+        → Picks Lacking lacking.now (D.medium disk.old).image place (own generation) generation
         text.now }
 
-    ensures alone { IsTrue D.told → OnOk result (IsAlone (D.medium disk.new).image place.first place.copies generation
+    ensures alone { IsTrue D.told → OnOk result (IsAlone (D.medium disk.new).image place generation
         text.now) }
     ensures quiet { OnOk result (Quiet (D.medium disk.new)) }
     ensures brings { Brings D.told place generation text.now (D.medium disk.old) (D.medium disk.new) }

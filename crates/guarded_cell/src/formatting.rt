@@ -56,7 +56,7 @@ fn format_in<D: Disk>(
     requires short { length text.now ≤ max_body }
     requires text { sealed_text.now ≡ sealed 1 text.now }
 
-    ensures alone { IsTrue D.told → OnOk result (IsAlone (D.medium disk.new).image place.first place.copies 1
+    ensures alone { IsTrue D.told → OnOk result (IsAlone (D.medium disk.new).image place 1
         text.now) }
     ensures quiet { OnOk result (Quiet (D.medium disk.new)) }
     ensures formats { Formats D.told place text.now (D.medium disk.old) (D.medium disk.new) }

@@ -20,12 +20,12 @@ pub(crate) fn write_fronts<D: Disk>(
     requires parity { parity < 2 }
     requires flags { place.copies ≤ length chosen.now }
     ensures put { IsTrue D.told → OnOk result
-        (FrontsPut place.first parity place.copies chosen.now bytes.now (D.medium disk.old).image
+        (FrontsPut place parity chosen.now bytes.now (D.medium disk.old).image
         (D.medium disk.new).image) }
     ensures elsewhere { IsTrue D.told
-        → Spares (λ f. ¬ (IsChosen place.first parity place.copies chosen.now f)) (D.medium disk.old).image
+        → Spares (λ f. ¬ (IsChosen place parity chosen.now f)) (D.medium disk.old).image
         (D.medium disk.new).image }
-    ensures during { Follows (FrontsCase place.first parity place.copies chosen.now bytes.now)
+    ensures during { Follows (FrontsCase place parity chosen.now bytes.now)
         (D.medium disk.old).now ((D.medium disk.new).since (D.medium disk.old).moment) }
     ensures written { (D.medium disk.new).written ≤ (D.medium disk.old).written + place.copies * length bytes.now }
     ensures none { IsNone place.copies chosen.now → (D.medium disk.new).written ≡ (D.medium disk.old).written }
@@ -52,14 +52,14 @@ pub(crate) fn write_durably<D: Disk>(
     requires parity { parity < 2 }
     requires flags { place.copies ≤ length chosen.now }
     ensures put { IsTrue D.told → OnOk result
-        (FrontsPut place.first parity place.copies chosen.now bytes.now (D.medium disk.old).image
+        (FrontsPut place parity chosen.now bytes.now (D.medium disk.old).image
         (D.medium disk.new).image) }
     ensures elsewhere { IsTrue D.told
-        → Spares (λ f. ¬ (IsChosen place.first parity place.copies chosen.now f)) (D.medium disk.old).image
+        → Spares (λ f. ¬ (IsChosen place parity chosen.now f)) (D.medium disk.old).image
         (D.medium disk.new).image }
     ensures quiet { OnOk result (Quiet (D.medium disk.new)) }
     ensures during { EachCase
-        (IsFrontsCase place.first parity place.copies chosen.now bytes.now (D.medium disk.old) (D.medium disk.new)
+        (IsFrontsCase place parity chosen.now bytes.now (D.medium disk.old) (D.medium disk.new)
         (IsOk result))
         (D.medium disk.old) (D.medium disk.new) }
     ensures written { (D.medium disk.new).written ≤ (D.medium disk.old).written + place.copies * length bytes.now }

@@ -29,7 +29,7 @@ pub fn keep_only<D: Disk>(
     text: &[u8],
 ) -> Result<(), CellError>
     ensures alone { IsTrue D.told → OnOk result
-        (IsKeptAlone place.first place.copies generation text.now (D.medium disk.old).image (D.medium disk.new).image) }
+        (IsKeptAlone place generation text.now (D.medium disk.old).image (D.medium disk.new).image) }
     ensures quiet { OnOk result (Quiet (D.medium disk.new)) }
 
     ensures memory { IsErrOf result CellError.OutOfMemory → disk.new ≡ disk.old }
@@ -56,7 +56,7 @@ fn keep_in<D: Disk>(
     requires room { length room.old ≡ front }
 
     ensures alone { IsTrue D.told → OnOk result
-        (IsKeptAlone place.first place.copies generation text.now (D.medium disk.old).image (D.medium disk.new).image) }
+        (IsKeptAlone place generation text.now (D.medium disk.old).image (D.medium disk.new).image) }
     ensures quiet { OnOk result (Quiet (D.medium disk.new)) }
     ensures clears { Clears D.told place generation text.now (D.medium disk.old) (D.medium disk.new) }
     ensures faults { DiskFaults result (D.medium disk.old) (D.medium disk.new) }
@@ -88,14 +88,14 @@ fn blank_both<D: Disk>(
     requires others_flags { place.copies ≤ length others.now }
     requires stale_flags { place.copies ≤ length stale.now }
     requires others { IsTrue D.told
-        → Picks Others others.now (D.medium disk.old).image place.first place.copies (own generation) generation
+        → Picks Others others.now (D.medium disk.old).image place (own generation) generation
         text.now }
     requires stale { IsTrue D.told
-        → Picks Verifying stale.now (D.medium disk.old).image place.first place.copies (other generation) generation
+        → Picks Verifying stale.now (D.medium disk.old).image place (other generation) generation
         text.now }
 
     ensures alone { IsTrue D.told → OnOk result
-        (IsKeptAlone place.first place.copies generation text.now (D.medium disk.old).image (D.medium disk.new).image) }
+        (IsKeptAlone place generation text.now (D.medium disk.old).image (D.medium disk.new).image) }
     ensures quiet { OnOk result (Quiet (D.medium disk.new)) }
     ensures clears { Clears D.told place generation text.now (D.medium disk.old) (D.medium disk.new) }
     ensures faults { DiskFaults result (D.medium disk.old) (D.medium disk.new) }

@@ -45,9 +45,9 @@ pub struct Looked {
 /// Never `Corrupt`.
 pub fn look<D: Disk>(alloc: Global, disk: &mut D, place: Place) -> Result<Looked, CellError>
     ensures held { IsTrue D.told → IfOk result (λ looked. looked.seens.items
-        ≡ held (D.medium disk.old).image place.first place.copies) }
+        ≡ held (D.medium disk.old).image place) }
     ensures slots { IsTrue D.told → IfOk result (λ looked.
-        IsSlotsOf (D.medium disk.old).image place.first place.copies looked.slots) }
+        IsSlotsOf (D.medium disk.old).image place looked.slots) }
     ensures sealable { IfOk result (λ looked. All IsSealable looked.seens.items) }
 
     ensures quiet { OnOk result (Quiet (D.medium disk.new)) }
@@ -74,9 +74,9 @@ fn see_all<D: Disk>(
 ) -> Result<Looked, CellError>
     requires { length room.old ≡ front }
     ensures held { IsTrue D.told → IfOk result (λ looked. looked.seens.items
-        ≡ held (D.medium disk.old).image place.first place.copies) }
+        ≡ held (D.medium disk.old).image place) }
     ensures slots { IsTrue D.told → IfOk result (λ looked.
-        IsSlotsOf (D.medium disk.old).image place.first place.copies looked.slots) }
+        IsSlotsOf (D.medium disk.old).image place looked.slots) }
     ensures sealable { IfOk result (λ looked. All IsSealable looked.seens.items) }
     ensures reads { OnlyReads (D.medium disk.old) (D.medium disk.new) }
     ensures never_corrupt { ¬ (IsErrOf result CellError.Corrupt) }
@@ -111,9 +111,9 @@ fn see_slot<D: Disk>(
     requires parity { parity < 2 }
     requires sealable { All IsSealable seens.old.items }
     ensures seen { IsTrue D.told → OnOk result
-        (seens.new.items ≡ with_slot (copy + 1) (text_in (D.medium disk.old).image place.first copy parity)
+        (seens.new.items ≡ with_slot (copy + 1) (text_in (D.medium disk.old).image place copy parity)
         seens.old.items) }
-    ensures flag { IsTrue D.told → IfOk result (IsFlag ((D.medium disk.old).image (slot place.first copy parity))) }
+    ensures flag { IsTrue D.told → IfOk result (IsFlag ((D.medium disk.old).image (slot place copy parity))) }
     ensures sealable { OnOk result (All IsSealable seens.new.items) }
     ensures reads { OnlyReads (D.medium disk.old) (D.medium disk.new) }
     ensures never_corrupt { ¬ (IsErrOf result CellError.Corrupt) }

@@ -32,8 +32,8 @@ pub struct OpenedCell {
     pub lacking: Numbers,
 }
 
-/// Finds the text that at least `m` copies hold under the greatest generation, and brings every copy to it. It begins
-/// with a sync.
+/// Finds the text that stands, which is of those that at least `m` copies hold the one of the greatest generation, and
+/// at one generation the one whose first copy is lowest, and brings every copy to it. It begins with a sync.
 ///
 /// # Errors
 ///
@@ -48,17 +48,17 @@ pub fn open_cell<D: Disk>(
 
     ensures place { IfOk result (λ opened. place_of opened.cell ≡ place) }
     ensures stands { IsTrue D.told → IfOk result (λ opened.
-        StandsAs (standing (D.medium disk.old).image place.first place.copies m) (generation_of opened.cell)
+        StandsAs (standing (D.medium disk.old).image place m) (generation_of opened.cell)
         opened.text) }
     ensures lacking { IsTrue D.told → IfOk result (λ opened.
-        opened.lacking ≡ lacking (D.medium disk.old).image place.first place.copies
+        opened.lacking ≡ lacking (D.medium disk.old).image place
         (generation_of opened.cell) opened.text) }
     ensures held { IsTrue D.told → IfOk result (λ opened. CellAt (D.medium disk.new).image opened.cell opened.text) }
     ensures quiet { OnOk result (Quiet (D.medium disk.new)) }
 
     // Where nothing stands, nothing is written; nor is it where memory runs out.
     ensures corrupt { IsTrue D.told → IsErrOf result CellError.Corrupt
-        → standing (D.medium disk.old).image place.first place.copies m ≡ None }
+        → standing (D.medium disk.old).image place m ≡ None }
     ensures not_written { IsErrOf result CellError.Corrupt → (D.medium disk.new).image ≡ (D.medium disk.old).image }
     ensures settled { IsErrOf result CellError.Corrupt
         → Quiet (D.medium disk.new) × ((D.medium disk.new).written ≡ (D.medium disk.old).written) }
@@ -109,12 +109,12 @@ fn open_at<D: Disk>(
     slots: Slots,
 ) -> Result<OpenedCell, CellError>
     requires sealable { IsSealable seen }
-    requires seen { IsTrue D.told → IsSeenOn (D.medium disk.old).image place.first place.copies seen }
-    requires slots { IsTrue D.told → IsSlotsOf (D.medium disk.old).image place.first place.copies slots }
+    requires seen { IsTrue D.told → IsSeenOn (D.medium disk.old).image place seen }
+    requires slots { IsTrue D.told → IsSlotsOf (D.medium disk.old).image place slots }
     ensures cell { IfOk result (λ opened. IsCellOf place seen.generation opened.cell) }
     ensures text { IfOk result (λ opened. opened.text ≡ seen.text) }
     ensures lacking { IsTrue D.told → IfOk result (λ opened.
-        opened.lacking ≡ lacking (D.medium disk.old).image place.first place.copies seen.generation seen.text) }
+        opened.lacking ≡ lacking (D.medium disk.old).image place seen.generation seen.text) }
     ensures held { IsTrue D.told → IfOk result (λ opened. CellAt (D.medium disk.new).image opened.cell seen.text) }
     ensures quiet { OnOk result (Quiet (D.medium disk.new)) }
     ensures never_corrupt { ¬ (IsErrOf result CellError.Corrupt) }

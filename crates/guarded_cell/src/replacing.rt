@@ -30,13 +30,13 @@ pub(crate) fn replace<D: Disk>(
     requires lacking_flags { place.copies ≤ length lacking.now }
     requires stale_flags { place.copies ≤ length stale.now }
     requires lacking { IsTrue D.told
-        → Picks Lacking lacking.now (D.medium disk.old).image place.first place.copies (own generation) generation
+        → Picks Lacking lacking.now (D.medium disk.old).image place (own generation) generation
         text.now }
     requires stale { IsTrue D.told
-        → Picks Verifying stale.now (D.medium disk.old).image place.first place.copies (other generation) generation
+        → Picks Verifying stale.now (D.medium disk.old).image place (other generation) generation
         text.now }
 
-    ensures alone { IsTrue D.told → OnOk result (IsAlone (D.medium disk.new).image place.first place.copies generation
+    ensures alone { IsTrue D.told → OnOk result (IsAlone (D.medium disk.new).image place generation
         text.now) }
     ensures quiet { OnOk result (Quiet (D.medium disk.new)) }
     ensures brings { Brings D.told place generation text.now (D.medium disk.old) (D.medium disk.new) }

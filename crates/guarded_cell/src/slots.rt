@@ -176,7 +176,7 @@ pub(crate) fn choose<D: Disk>(
     requires parity { parity < 2 }
     requires room { length room.old ≡ front }
     ensures picks { IsTrue D.told → IfOk result (λ chosen.
-        Picks pick chosen (D.medium disk.old).image place.first place.copies parity generation text.now) }
+        Picks pick chosen (D.medium disk.old).image place parity generation text.now) }
     ensures reads { OnlyReads (D.medium disk.old) (D.medium disk.new) }
     ensures time { Elapses (D.medium disk.old) (D.medium disk.new) }
     ensures faults { DiskFaults result (D.medium disk.old) (D.medium disk.new) }

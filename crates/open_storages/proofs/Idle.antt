@@ -16,8 +16,8 @@ pub none_storing : UntouchedLaw → (told : Bool) (shape : Shape) (after : State
     → IsLawful told m → IsStoring told shape after m m
 none_storing untouched told shape after m some law = record {
   elsewhere = λ tells file spared. refl;
-  outside = λ tells quiet. goes_none (IsSettledOn (IsOutside shape.place.first shape.place.copies) m.image) law
-      (λ c here. settled_on (IsOutside shape.place.first shape.place.copies) (quiet c here));
+  outside = λ tells quiet. goes_none (IsSettledOn (IsOutside shape.place) m.image) law
+      (λ c here. settled_on (IsOutside shape.place) (quiet c here));
   any_moment = λ tells quiet clean. goes_none (IsKeptCase shape m.image after) law
       (λ c here. untouched shape m.image after c some clean
       (settled_on (IsOfPlace shape.place) (quiet c here)));

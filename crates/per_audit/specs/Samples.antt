@@ -13,7 +13,7 @@ use Rattle.deployment_model.specs.Data.{StorageData}
 use Rattle.deployment_model.specs.declared.configs.CollectionStrategy.TheVariants.{KeepExisting}
 use Rattle.element_state.specs.declared.shapes.View.{View}
 use Rattle.element_state.specs.States.{State, Opens, Corrupt}
-use Rattle.guarded_cell.specs.Held.{held, standing}
+use Rattle.guarded_cell.specs.Held.{held_in_first, standing}
 use Rattle.hash_guard.specs.SealedText.{verified}
 use Rattle.value_code.specs.Reading.{decoded, kind_at}
 use Rattle.deploy_laws.specs.Apps.{App, Says, nothing, absent, installed, app_at, says_at, shapes_named}
@@ -23,7 +23,8 @@ use Rattle.per_audit.specs.AuditText.{audit_text}
 
 -- all that the samples compute with
 unfoldable computed : ℕ
-unfolding elements_at elements_of findings_at findings_of audit_text app_at says_at shapes_named held standing verified
+unfolding elements_at elements_of findings_at findings_of audit_text app_at says_at shapes_named held_in_first
+    standing verified
     decoded kind_at digits
 computed = 0
 

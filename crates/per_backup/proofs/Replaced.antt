@@ -43,7 +43,7 @@ pub record Replaces (told : Bool) (shape : Shape) (row : State → Result State 
   pub stays : IsTrue told → IsErr (row (store_at old.image shape)) → ChangesNothing old new
   pub clean : IsTrue told → IfOk result (λ refused. (refused ≡ None) ⊎ IsClean shape old.image
       → IsClean shape new.image)
-  pub outside : Leaves told (IsOutside shape.place.first shape.place.copies) old new
+  pub outside : Leaves told (IsOutside shape.place) old new
   pub any_moment : IsTrue told → KeptThroughout shape (after_state (store_at old.image shape)
       (row (store_at old.image shape))) old new
 
@@ -165,12 +165,12 @@ module _ (laws : StorageLaws) (told : Bool) (app : ℕ) (lt : app < 8) (name tex
     kept_here = then_kept laws old mid new before nothing later here next some
         (subst (λ (st : State). KeptThroughout here st mid new) next_mid (anew.any_moment tells))
 
-    outside_here : Quiet old → EachCase (IsSettledOn (IsOutside here.place.first here.place.copies) old.image) old new
-    outside_here = then_outside laws old mid new before nothing later (IsOutside here.place.first here.place.copies)
+    outside_here : Quiet old → EachCase (IsSettledOn (IsOutside here.place) old.image) old new
+    outside_here = then_outside laws old mid new before nothing later (IsOutside here.place)
         (anew.outside.throughout tells)
 
-    elsewhere_here : Spares (IsOutside here.place.first here.place.copies) old.image new.image
-    elsewhere_here = then_spares laws old mid new before nothing later (IsOutside here.place.first here.place.copies)
+    elsewhere_here : Spares (IsOutside here.place) old.image new.image
+    elsewhere_here = then_spares laws old mid new before nothing later (IsOutside here.place)
         (anew.outside.at_the_end tells)
 
     pub replaced_keeps : ImportKeeps app name text old new
@@ -179,10 +179,10 @@ module _ (laws : StorageLaws) (told : Bool) (app : ℕ) (lt : app < 8) (name tex
           (after_state x.state (importing x.config x.state text)) old new) (sym (it_is g is))
           (subst (λ (r : Result State PerError). KeptThroughout here (after_state was r) old new) (sym (row_is was))
           kept_here);
-      elsewhere = λ g is. subst (λ (x : Found). Spares (IsOutside (shape_in app x).place.first
-          (shape_in app x).place.copies) old.image new.image) (sym (it_is g is)) elsewhere_here;
+      elsewhere = λ g is. subst (λ (x : Found). Spares (IsOutside (shape_in app x).place) old.image new.image)
+          (sym (it_is g is)) elsewhere_here;
       outside = λ g is. subst (λ (x : Found). Quiet old → EachCase
-          (IsSettledOn (IsOutside (shape_in app x).place.first (shape_in app x).place.copies) old.image) old new)
+          (IsSettledOn (IsOutside (shape_in app x).place) old.image) old new)
           (sym (it_is g is)) outside_here;
       stands = subst (λ (b : App). StandsThroughout app b old new) (sym world)
           (storing_here laws app (located.says tells).0 located.active (located.says tells).1 number s located.of.config

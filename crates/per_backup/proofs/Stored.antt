@@ -63,11 +63,11 @@ module _ (laws : StorageLaws) (app g : ℕ) (v : Named) (previous : Option Named
       clean.storages (shape_there (says_at image app) is)
 
   module _ (lt : app < 8) (ltb : v.bank ≤ 1) (ltn : number < 16) where
-    outside_of : (f : ℕ) → IsBeside app v.bank number f → IsOutside here.place.first here.place.copies f
+    outside_of : (f : ℕ) → IsBeside app v.bank number f → IsOutside here.place f
     outside_of f beside = laws.beside app v.bank number f s lt ltb ltn beside
 
     -- the application is the same but for this storage
-    pub stored_here : (old new : Image) → Spares (IsOutside here.place.first here.place.copies) old new
+    pub stored_here : (old new : Image) → Spares (IsOutside here.place) old new
         → says_at old app ≡ installed g v previous
         → (app_at new app ≡ record (app_at old app) {
           states =
@@ -79,7 +79,7 @@ module _ (laws : StorageLaws) (app g : ℕ) (v : Named) (previous : Option Named
 
     -- and at every moment it stands
     pub storing_here : (after : State) (old new : Medium) → says_at old.image app ≡ installed g v previous
-        → (Quiet old → EachCase (IsSettledOn (IsOutside here.place.first here.place.copies) old.image) old new)
+        → (Quiet old → EachCase (IsSettledOn (IsOutside here.place) old.image) old new)
         → KeptThroughout here after old new
         → StandsThroughout app (record (app_at old.image app) {
           states =

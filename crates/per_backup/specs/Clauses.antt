@@ -50,9 +50,9 @@ pub record ImportKeeps (app : ℕ) (name text : List ℕ) (old new : Medium) : T
       → KeptThroughout (shape_in app f) (after_state f.state (importing f.config f.state text)) old new
   -- all other files stay, at the end and at any moment
   pub elsewhere : (f : Found) → storage_in (app_at old.image app) name None ≡ Ok f
-      → Spares (IsOutside (shape_in app f).place.first (shape_in app f).place.copies) old.image new.image
+      → Spares (IsOutside (shape_in app f).place) old.image new.image
   pub outside : (f : Found) → storage_in (app_at old.image app) name None ≡ Ok f → Quiet old
-      → EachCase (IsSettledOn (IsOutside (shape_in app f).place.first (shape_in app f).place.copies) old.image) old new
+      → EachCase (IsSettledOn (IsOutside (shape_in app f).place) old.image) old new
   -- so the application stands between what it was and itself with the imported storage
   pub stands : StandsThroughout app (after (app_at old.image app) (importing_into (app_at old.image app) name text)) old
       new

@@ -66,7 +66,7 @@ joined_torn old new blocks len room is same =
         ∙ sym (read_joined old blocks len (i / 256) (i % 256) q r inside))
 
 pub aside : AsideLaw
-aside first copies taken start old new settled keeps at apart room f = record {
+aside place taken start old new settled keeps at apart room f = record {
   whole = λ is. (
       let left = λ (m j : ℕ) (lt : m < length at.blocks) (small : j < 256).
       keeps.left.bytes f (get_or at.blocks m 0) j small (apart m lt) in

@@ -7,6 +7,7 @@ use Rattle.std.proofs.lemmas.List.{get_or-take, length-take-le}
 use Rattle.std.proofs.lemmas.List.FromFn.{get_or-range_with_len}
 use Rattle.disk_model.specs.Image.{Image}
 use Rattle.disk_model.specs.Place.{area, IsNoArea}
+use Rattle.disk_model.specs.declared.place.Place.{Place}
 use Rattle.block_files.specs.BlockSets.{IsApart}
 use Rattle.block_files.specs.Parts.{blocks_for, changed}
 use Rattle.block_files.specs.Areas.{area_of, IsFull, AllFull, NamedFull, HoldsShared}
@@ -21,43 +22,43 @@ numbers = 1 ∷ 2 ∷ 3 ∷ 4 ∷ 5 ∷ 6 ∷ 7 ∷ 8 ∷ []
 numbers_are : numbers ≡ range_with_len 1 8
 numbers_are = refl
 
-module _ (copies : ℕ) (few : copies ≤ 8) where
-  pub length-numbers : length (take copies numbers) ≡ copies
-  length-numbers = length-take-le copies numbers few
+module _ (place : Place) where
+  pub length-numbers : length (take place.copies numbers) ≡ place.copies
+  length-numbers = length-take-le place.copies numbers place.few
 
-  pub number_at : (i : ℕ) → i < copies → get_or (take copies numbers) i 0 ≡ i + 1
+  pub number_at : (i : ℕ) → i < place.copies → get_or (take place.copies numbers) i 0 ≡ i + 1
   number_at i lt =
       let e : 1 + i ≡ i + 1 = omega arith in
-      get_or-take copies numbers i 0 lt ∙ get_or-range_with_len 1 8 i 0 (omega arith) ∙ e
+      get_or-take place.copies numbers i 0 lt ∙ get_or-range_with_len 1 8 i 0 (omega arith) ∙ e
 
-  pub numbers_named : (i : ℕ) → i < length (take copies numbers)
-      → (1 ≤ get_or (take copies numbers) i 0) × (get_or (take copies numbers) i 0 ≤ copies)
-  numbers_named i lt = let inside : i < copies = omega (arith, length-numbers) in let e =
+  pub numbers_named : (i : ℕ) → i < length (take place.copies numbers)
+      → (1 ≤ get_or (take place.copies numbers) i 0) × (get_or (take place.copies numbers) i 0 ≤ place.copies)
+  numbers_named i lt = let inside : i < place.copies = omega (arith, length-numbers) in let e =
       number_at i inside in (omega arith, omega arith)
 
   -- the area of each
-  area_is : (first i : ℕ) → i < copies → area_of first (get_or (take copies numbers) i 0) ≡ area first i
-  area_is first i lt = let e : get_or (take copies numbers) i 0 - 1 ≡ i =
-      omega (arith, number_at i lt) in ap (area first) e
+  area_is : (i : ℕ) → i < place.copies → area_of place (get_or (take place.copies numbers) i 0) ≡ area place i
+  area_is i lt = let e : get_or (take place.copies numbers) i 0 - 1 ≡ i =
+      omega (arith, number_at i lt) in ap (area place) e
 
-  pub shared_named : (first : ℕ) (blocks bytes was : List ℕ) (image : Image)
-      → ((c : ℕ) → c < copies → HoldsShared (image (area first c)) blocks bytes was)
-      → (i : ℕ) → i < length (take copies numbers) → HoldsShared
-      (image (area_of first (get_or (take copies numbers) i 0))) blocks bytes was
-  shared_named first blocks bytes was image shared i lt =
-      let inside : i < copies = omega (arith, length-numbers) in
+  pub shared_named : (blocks bytes was : List ℕ) (image : Image)
+      → ((c : ℕ) → c < place.copies → HoldsShared (image (area place c)) blocks bytes was)
+      → (i : ℕ) → i < length (take place.copies numbers) → HoldsShared
+      (image (area_of place (get_or (take place.copies numbers) i 0))) blocks bytes was
+  shared_named blocks bytes was image shared i lt =
+      let inside : i < place.copies = omega (arith, length-numbers) in
       let P : ℕ → Type 0 = λ f. HoldsShared (image f) blocks bytes was in
-      subst P (sym (area_is first i inside)) (shared i inside)
+      subst P (sym (area_is i inside)) (shared i inside)
 
-  pub all_full : (first : ℕ) (blocks bytes : List ℕ) (image : Image)
-      → NamedFull first (take copies numbers) blocks bytes image → AllFull first copies blocks bytes image
-  all_full first blocks bytes image named c lt =
+  pub all_full : (blocks bytes : List ℕ) (image : Image)
+      → NamedFull place (take place.copies numbers) blocks bytes image → AllFull place blocks bytes image
+  all_full blocks bytes image named c lt =
       let P : ℕ → Type 0 = λ f. IsFull (image f) blocks bytes in
-      subst P (area_is first c lt) (named c (omega (arith, length-numbers)))
+      subst P (area_is c lt) (named c (omega (arith, length-numbers)))
 
-  pub none_named : (first f : ℕ) → IsNoArea first copies f → IsNoneOf first (take copies numbers) f
-  none_named first f none i lt e = let inside : i < copies =
-      omega (arith, length-numbers) in none i inside (e ∙ area_is first i inside)
+  pub none_named : (f : ℕ) → IsNoArea place f → IsNoneOf place (take place.copies numbers) f
+  none_named f none i lt e = let inside : i < place.copies =
+      omega (arith, length-numbers) in none i inside (e ∙ area_is i inside)
 
 -- beside an empty content each part that has bytes is a change
 pub shared_none : (file blocks bytes : List ℕ) → HoldsShared file blocks bytes []

@@ -1,28 +1,30 @@
 -- Files within and outside a place, damage, and counts of copies.
 use Rattle.std.proofs.Common.{◌⊎◌, ℕ, suc, zero, ◌+◌, ◌*◌, ◌<◌, ◌≤◌, List, refl, ◌∙◌, inl, inr, arith}
 use Rattle.disk_model.specs.Image.{Image}
+use Rattle.disk_model.specs.declared.place.Place.{Place}
 use Rattle.disk_model.specs.Place.{slot, area, IsOutside, IsNoSlot, IsNoArea}
 use Rattle.disk_model.specs.Damage.{IsSoundFor, DecaysFor, AtLeast}
 
 -- a file below all numbers of a place, or above them, is outside it
-pub outside_range : (first copies f : ℕ) → (f < first) ⊎ (first + 4 * copies ≤ f) → IsOutside first copies f
-outside_range first copies f (inl below) copy k inside three is = omega arith
-outside_range first copies f (inr above) copy k inside three is = omega arith
+pub outside_range : (place : Place) (f : ℕ) → (f < place.first) ⊎ (place.first + 4 * place.copies ≤ f)
+    → IsOutside place f
+outside_range place f (inl below) copy k inside three is = omega arith
+outside_range place f (inr above) copy k inside three is = omega arith
 
 -- a file outside is no slot and no area
-pub outside_no_slot : (first copies f : ℕ) → IsOutside first copies f → IsNoSlot first copies f
-outside_no_slot first copies f outside copy parity inside two is = outside copy parity inside (omega arith) is
+pub outside_no_slot : (place : Place) (f : ℕ) → IsOutside place f → IsNoSlot place f
+outside_no_slot place f outside copy parity inside two is = outside copy parity inside (omega arith) is
 
-pub outside_no_area : (first copies f : ℕ) → IsOutside first copies f → IsNoArea first copies f
-outside_no_area first copies f outside copy inside is = outside copy 2 inside (omega arith) is
+pub outside_no_area : (place : Place) (f : ℕ) → IsOutside place f → IsNoArea place f
+outside_no_area place f outside copy inside is = outside copy 2 inside (omega arith) is
 
 -- no slot is an area, of whatever copies of one place
-pub slot_no_area : (first copies copy parity : ℕ) → parity < 2 → IsNoArea first copies (slot first copy parity)
-slot_no_area first copies copy parity two other inside is = omega arith
+pub slot_no_area : (place : Place) (copy parity : ℕ) → parity < 2 → IsNoArea place (slot place copy parity)
+slot_no_area place copy parity two other inside is = omega arith
 
 -- no area is a slot
-pub area_no_slot : (first copies copy : ℕ) → IsNoSlot first copies (area first copy)
-area_no_slot first copies copy other parity inside two is = omega arith
+pub area_no_slot : (place : Place) (copy : ℕ) → IsNoSlot place (area place copy)
+area_no_slot place copy other parity inside two is = omega arith
 
 -- ---- soundness and damage
 

@@ -7,11 +7,12 @@ use Rattle.disk_model.specs.Case.{Case, IsSettledAt}
 use Rattle.disk_model.specs.Damage.{IsSoundFor, IsUndamaged}
 use Rattle.disk_model.specs.Frame.{Keeps, KeepsCase}
 use Rattle.disk_model.specs.Place.{slot, area, IsNoArea}
+use Rattle.disk_model.specs.declared.place.Place.{Place}
 use Rattle.hash_guard.specs.SealedText.{VerifiesAs}
 use Rattle.std.proofs.lemmas.Bool.{cases_eq}
 use Rattle.guarded_cell.specs.Register.{Holds, IsKeptAlone, own, other}
 use Rattle.guarded_cell.specs.Stops.{KeepsText, IsOldOrNew}
-use Rattle.guarded_cell.specs.StopLaws.{alone_only}
+use Rattle.guarded_cell.specs.lemmas.StopLaws.{alone_only}
 use Rattle.block_files.specs.Aside.{Where, AsideLaw}
 use Rattle.block_files.specs.Areas.{within}
 use Rattle.block_files.specs.Contents.{counting}
@@ -41,14 +42,14 @@ use Rattle.element_laws.specs.lemmas.TwoTexts.{SalvageKept, two_clean, two_salva
 use Rattle.element_laws.specs.lemmas.IndexLaws.{names_it, written_stands}
 
 -- a text that is held after all but one were taken away is that one, and was held
-kept_alone : (first copies g : ℕ) (t : List ℕ) (old new : Image) → IsKeptAlone first copies g t old new
-    → (copy h : ℕ) (u : List ℕ) → copy < copies → Holds new first copy h u
-    → (h ≡ g) × (u ≡ t) × Holds old first copy g t
-kept_alone first copies g t old new alone copy h u lt v = elim (cases_eq (own h) (own g)) [
-  | inl same ↦ alone.own_slots copy lt h u (subst (λ (p : ℕ). VerifiesAs (new (slot first copy p)) h u) same v)
+kept_alone : (place : Place) (g : ℕ) (t : List ℕ) (old new : Image) → IsKeptAlone place g t old new
+    → (copy h : ℕ) (u : List ℕ) → copy < place.copies → Holds new place copy h u
+    → (h ≡ g) × (u ≡ t) × Holds old place copy g t
+kept_alone place g t old new alone copy h u lt v = elim (cases_eq (own h) (own g)) [
+  | inl same ↦ alone.own_slots copy lt h u (subst (λ (p : ℕ). VerifiesAs (new (slot place copy p)) h u) same v)
   | inr differ ↦
       let e : own h ≡ other g = omega (arith, differ) in
-      absurd (alone.blank copy lt h u (subst (λ (p : ℕ). VerifiesAs (new (slot first copy p)) h u) e v))
+      absurd (alone.blank copy lt h u (subst (λ (p : ℕ). VerifiesAs (new (slot place copy p)) h u) e v))
 ]
 
 pub given_up : GivenUpLaw
@@ -57,16 +58,16 @@ given_up shape start now text clean salvage alone areas = (
     clean = clean;
     corrupt = salvage_corrupt shape start text salvage;
     less = λ copy lt h u v.
-        let k = kept_alone shape.place.first shape.place.copies text.0.generation text.0.text start now alone copy h u
+        let k = kept_alone shape.place text.0.generation text.0.text start now alone copy h u
         lt v in
-        subst (λ (n : ℕ). Holds start shape.place.first copy n u) (sym k.0)
-        (subst (λ (x : List ℕ). Holds start shape.place.first copy text.0.generation x) (sym k.1) k.2);
-    salvage = λ other is. subst (λ (x : FitText). KeepsText shape.place.first shape.place.copies x.0.generation x.0.text
+        subst (λ (n : ℕ). Holds start shape.place copy n u) (sym k.0)
+        (subst (λ (x : List ℕ). Holds start shape.place copy text.0.generation x) (sym k.1) k.2);
+    salvage = λ other is. subst (λ (x : FitText). KeepsText shape.place x.0.generation x.0.text
         [] start now)
         (one_salvage shape start text other salvage is) (λ copy lt spared held. alone.held copy lt held);
     areas = areas;
   },
-  λ copy h u lt v. let k = kept_alone shape.place.first shape.place.copies text.0.generation text.0.text start now alone
+  λ copy h u lt v. let k = kept_alone shape.place text.0.generation text.0.text start now alone
       copy h u lt v in (k.0, k.1),
 )
 
@@ -86,16 +87,16 @@ taken_named place image text index taken only spells is_index takes at is =
 -- contents are written, and what is named is spared
 pub anew_fewer : AsideLaw → (shape : Shape) (start now : Image) (taken : ℕ → Bool) (old c : Case)
     → IsGivenUp shape start now → TakesNamed taken shape.place now → IsSettledAt now old
-    → KeepsCase (IsNoArea shape.place.first shape.place.copies) (λ k. taken k ≡ true) old c
+    → KeepsCase (IsNoArea shape.place) (λ k. taken k ≡ true) old c
     → IsSoundFor (IsPiece shape.place) c → IsFewer shape start c.left
 anew_fewer aside shape start now taken old c given_up takes settled keeps sound =
-    let first = shape.place.first in
+    let place = shape.place in
     let copies = shape.place.copies in
-    let slot_same = λ (copy h : ℕ). keeps.left.files (slot first copy (own h)) (slot_no_area first copies copy h)
-    ∙ ap (λ (image : Image). image (slot first copy (own h))) settled.left in
-    let held_now = λ (copy h : ℕ) (u : List ℕ) (v : Holds c.left first copy h u).
+    let slot_same = λ (copy h : ℕ). keeps.left.files (slot place copy (own h)) (slot_no_area place copy h)
+    ∙ ap (λ (image : Image). image (slot place copy (own h))) settled.left in
+    let held_now = λ (copy h : ℕ) (u : List ℕ) (v : Holds c.left place copy h u).
     subst (λ (bytes : List ℕ). VerifiesAs bytes h u) (slot_same copy h) v in
-    let area_was = λ (copy : ℕ). given_up.areas (area first copy) (area_no_slot first copies copy) in
+    let area_was = λ (copy : ℕ). given_up.areas (area place copy) (area_no_slot place copy) in
     record {
       held = λ copy lt h u v. given_up.less copy lt h u (held_now copy h u v);
       counted = λ at is copy w lt gives.
@@ -110,10 +111,10 @@ anew_fewer aside shape start now taken old c given_up takes settled keeps sound 
             named = is.named;
           } in
           let took = takes at named_now in
-          let stand = aside first copies taken now old c settled keeps at took.0 took.1 (area first copy) in
+          let stand = aside place taken now old c settled keeps at took.0 took.1 (area place copy) in
           let piece = sound (in_blocks (its_blocks shape copy at w)) (given_piece shape copy at w c.left lt is gives) in
-          let from : (counting (c.base (area first copy)) at.blocks at.len at.hash ≡ Some w)
-          ⊎ (counting (c.full (area first copy)) at.blocks at.len at.hash ≡ Some w) =
+          let from : (counting (c.base (area place copy)) at.blocks at.len at.hash ≡ Some w)
+          ⊎ (counting (c.full (area place copy)) at.blocks at.len at.hash ≡ Some w) =
           elim piece [ inl p ↦ inl p.counts | inr p ↦ inr p.counts ] in
           subst (λ (file : List ℕ). counting file at.blocks at.len at.hash ≡ Some w) (area_was copy)
           (stand.piece w from);
@@ -122,17 +123,17 @@ anew_fewer aside shape start now taken old c given_up takes settled keeps sound 
 -- the copies that held the text of the salvage hold it, and give its contents as before
 anew_keeps : AsideLaw → (shape : Shape) (start now : Image) (taken : ℕ → Bool) (damaged : List ℕ) (old c : Case)
     → IsGivenUp shape start now → TakesNamed taken shape.place now → IsSettledAt now old
-    → KeepsCase (IsNoArea shape.place.first shape.place.copies) (λ k. taken k ≡ true) old c → (text : FitText)
+    → KeepsCase (IsNoArea shape.place) (λ k. taken k ≡ true) old c → (text : FitText)
     → IsSalvageAt shape start text
     → KeepsAll shape text.0.generation text.0.text damaged start c.left
 anew_keeps aside shape start now taken damaged old c given_up takes settled keeps text salvage =
-    let first = shape.place.first in
+    let place = shape.place in
     let copies = shape.place.copies in
-    let slot_same = λ (copy h : ℕ). keeps.left.files (slot first copy (own h)) (slot_no_area first copies copy h)
-    ∙ ap (λ (image : Image). image (slot first copy (own h))) settled.left in
-    let area_was = λ (copy : ℕ). given_up.areas (area first copy) (area_no_slot first copies copy) in
-    let still = λ (copy : ℕ) (lt : copy < copies) (held : Holds start first copy text.0.generation text.0.text).
-    given_up.salvage text salvage copy lt (λ k small. nothing_listed (first + 4 * copy + k)) held in
+    let slot_same = λ (copy h : ℕ). keeps.left.files (slot place copy (own h)) (slot_no_area place copy h)
+    ∙ ap (λ (image : Image). image (slot place copy (own h))) settled.left in
+    let area_was = λ (copy : ℕ). given_up.areas (area place copy) (area_no_slot place copy) in
+    let still = λ (copy : ℕ) (lt : copy < place.copies) (held : Holds start place copy text.0.generation text.0.text).
+    given_up.salvage text salvage copy lt (λ k small. nothing_listed (place.first + 4 * copy + k)) held in
     let at_text = salvage_held shape start text salvage in
     record {
       text = λ copy lt spared held. subst (λ (bytes : List ℕ). VerifiesAs bytes text.0.generation text.0.text)
@@ -150,7 +151,7 @@ anew_keeps aside shape start now taken damaged old c given_up takes settled keep
             named = In-Contains at (map where_of i.entries) (map-In where_of e i.entries k);
           } in
           let took = takes at named in
-          let stand = aside first copies taken now old c settled keeps at took.0 took.1 (area first copy) in
+          let stand = aside place taken now old c settled keeps at took.0 took.1 (area place copy) in
           let now_is = subst (λ (file : List ℕ). (within file at.blocks at.len ≡ true)
           × (counting file at.blocks at.len at.hash ≡ Some v)) (sym (area_was copy)) (was, gave) in
           let then = stand.whole now_is.0 in
@@ -167,8 +168,8 @@ anew_contents aside shape start now taken after old c positive given_up takes se
 
 -- after whole writes, with nothing pending
 whole_case : (shape : Shape) (now then : Image) (taken : ℕ → Bool)
-    → Keeps (IsNoArea shape.place.first shape.place.copies) (λ k. taken k ≡ true) now then
-    → KeepsCase (IsNoArea shape.place.first shape.place.copies) (λ k. taken k ≡ true)
+    → Keeps (IsNoArea shape.place) (λ k. taken k ≡ true) now then
+    → KeepsCase (IsNoArea shape.place) (λ k. taken k ≡ true)
     (record { base = now; full = now; left = now }) (record { base = now; full = then; left = then })
 whole_case shape now then taken keeps = record {
   base = refl;
@@ -183,7 +184,7 @@ whole_case shape now then taken keeps = record {
 
 anew_then : AsideLaw → (shape : Shape) (start now then : Image) (taken : ℕ → Bool) → IsGivenUp shape start now
     → TakesNamed taken shape.place now
-    → Keeps (IsNoArea shape.place.first shape.place.copies) (λ k. taken k ≡ true) now then → IsFewer shape start then
+    → Keeps (IsNoArea shape.place) (λ k. taken k ≡ true) now then → IsFewer shape start then
 anew_then aside shape start now then taken given_up takes keeps =
     anew_fewer aside shape start now taken (record { base = now; full = now; left = now })
     (record { base = now; full = then; left = then }) given_up takes
@@ -191,7 +192,7 @@ anew_then aside shape start now then taken given_up takes keeps =
 
 keeps_then : AsideLaw → (shape : Shape) (start now then : Image) (taken : ℕ → Bool) (damaged : List ℕ)
     → IsGivenUp shape start now → TakesNamed taken shape.place now
-    → Keeps (IsNoArea shape.place.first shape.place.copies) (λ k. taken k ≡ true) now then → (text : FitText)
+    → Keeps (IsNoArea shape.place) (λ k. taken k ≡ true) now then → (text : FitText)
     → IsSalvageAt shape start text
     → KeepsAll shape text.0.generation text.0.text damaged start then
 keeps_then aside shape start now then taken damaged given_up takes keeps =
@@ -210,10 +211,10 @@ anew_done aside shape start now then taken after c positive given_up takes keeps
 
 -- a text is one of before, below the new generation, or the new one
 old_or_anew : (shape : Shape) (start then new : Image) (g : ℕ) (next : List ℕ) → IsFewer shape start then
-    → ((copy h : ℕ) (u : List ℕ) → copy < shape.place.copies → Holds then shape.place.first copy h u → h < g)
-    → ((copy h : ℕ) (u : List ℕ) → copy < shape.place.copies → Holds new shape.place.first copy h u
-    → Holds then shape.place.first copy h u ⊎ ((h ≡ g) × (u ≡ next)))
-    → (copy h : ℕ) (u : List ℕ) → copy < shape.place.copies → Holds new shape.place.first copy h u
+    → ((copy h : ℕ) (u : List ℕ) → copy < shape.place.copies → Holds then shape.place copy h u → h < g)
+    → ((copy h : ℕ) (u : List ℕ) → copy < shape.place.copies → Holds new shape.place copy h u
+    → Holds then shape.place copy h u ⊎ ((h ≡ g) × (u ≡ next)))
+    → (copy h : ℕ) (u : List ℕ) → copy < shape.place.copies → Holds new shape.place copy h u
     → (WasHeld shape start h u × (h ≡ g → ⊥)) ⊎ ((h ≡ g) × (u ≡ next))
 old_or_anew shape start then new g next fewer low known copy h u lt v = elim (known copy h u lt v) [
   | inl was ↦
@@ -223,10 +224,10 @@ old_or_anew shape start then new g next fewer low known copy h u lt v = elim (kn
 ]
 
 still_held : (shape : Shape) (then new : Image) (g : ℕ) (next : List ℕ)
-    → ((copy h : ℕ) (u : List ℕ) → copy < shape.place.copies → Holds new shape.place.first copy h u
-    → Holds then shape.place.first copy h u ⊎ ((h ≡ g) × (u ≡ next)))
-    → (copy h : ℕ) (u : List ℕ) → copy < shape.place.copies → (h ≡ g → ⊥) → Holds new shape.place.first copy h u
-    → Holds then shape.place.first copy h u
+    → ((copy h : ℕ) (u : List ℕ) → copy < shape.place.copies → Holds new shape.place copy h u
+    → Holds then shape.place copy h u ⊎ ((h ≡ g) × (u ≡ next)))
+    → (copy h : ℕ) (u : List ℕ) → copy < shape.place.copies → (h ≡ g → ⊥) → Holds new shape.place copy h u
+    → Holds then shape.place copy h u
 still_held shape then new g next known copy h u lt apart v =
     elim (known copy h u lt v) [ inl was ↦ was | inr newer ↦ absurd (apart newer.0) ]
 
@@ -237,30 +238,30 @@ as_given shape start at copy w gives = inl gives
 pub anew_index : AsideLaw → AnewIndexLaw
 anew_index aside shape start now then taken g next new_index view others c positive given_up takes below next_is keeps
     fit generation_is entries stops sound damaged image d =
-    let first = shape.place.first in
+    let place = shape.place in
     let copies = shape.place.copies in
     let fewer = anew_then aside shape start now then taken given_up takes keeps in
-    let it : IsOldOrNew first copies g next damaged then image =
+    let it : IsOldOrNew place g next damaged then image =
     stops.slots (sound_slots shape c sound) damaged image (decays_slots shape c damaged image d) in
-    let same = λ (copy : ℕ). stops.elsewhere.left (area first copy) (area_no_slot first copies copy) in
-    let given = λ (at : Where) (is : IsNamed shape.place image at) (copy : ℕ) (w : List ℕ) (lt : copy < copies)
+    let same = λ (copy : ℕ). stops.elsewhere.left (area place copy) (area_no_slot place copy) in
+    let given = λ (at : Where) (is : IsNamed shape.place image at) (copy : ℕ) (w : List ℕ) (lt : copy < place.copies)
     (gives : Gives (gift_of image shape at) copy w).
     given_then shape then c.left image damaged same d at is copy w lt gives in
-    let whole = λ (at : Where) (copy : ℕ) (v : List ℕ) (spared : IsUndamaged damaged first copy)
+    let whole = λ (at : Where) (copy : ℕ) (v : List ℕ) (spared : IsUndamaged damaged place copy)
     (was : is_whole_at then shape copy at ≡ true) (gave : Gives (gift_of then shape at) copy v).
     whole_then shape then c.left image damaged same d at copy v spared was gave in
-    let low = λ (copy h : ℕ) (u : List ℕ) (lt : copy < copies) (v : Holds then first copy h u).
+    let low = λ (copy h : ℕ) (u : List ℕ) (lt : copy < place.copies) (v : Holds then place copy h u).
     below copy h u lt (subst (λ (bytes : List ℕ). VerifiesAs bytes h u)
-    (keeps.files (slot first copy (own h)) (slot_no_area first copies copy h)) v) in
-    let texts = λ (copy h : ℕ) (u : List ℕ) (lt : copy < copies) (v : Holds image first copy h u).
+    (keeps.files (slot place copy (own h)) (slot_no_area place copy h)) v) in
+    let texts = λ (copy h : ℕ) (u : List ℕ) (lt : copy < place.copies) (v : Holds image place copy h u).
     old_or_anew shape start then image g next fewer (λ copy h u lt v. low copy h u lt v)
     (λ copy h u lt v. it.known copy lt h u v) copy h u lt v in
-    let same_copy = λ (copy h : ℕ) (u : List ℕ) (lt : copy < copies) (apart : h ≡ g → ⊥)
-    (v : Holds image first copy h u).
+    let same_copy = λ (copy h : ℕ) (u : List ℕ) (lt : copy < place.copies) (apart : h ≡ g → ⊥)
+    (v : Holds image place copy h u).
     still_held shape then image g next (λ copy h u lt v. it.known copy lt h u v) copy h u lt apart v in
     let same_gift = λ (at : Where) (is : IsNamed shape.place image at) (apart : is.generation ≡ g → ⊥)
     (was : IsNamed shape.place start at) (copy : ℕ) (w : List ℕ)
-    (lt : copy < copies) (gives : Gives (gift_of image shape at) copy w).
+    (lt : copy < place.copies) (gives : Gives (gift_of image shape at) copy w).
     fewer.counted at (record {
       copy = is.copy;
       generation = is.generation;
@@ -271,25 +272,25 @@ anew_index aside shape start now then taken g next new_index view others c posit
       spelled = is.spelled;
       named = is.named;
     }) copy w lt (given at is copy w lt gives) in
-    let stand = λ (copy : ℕ) (lt : copy < copies) (v : Holds image first copy g next).
+    let stand = λ (copy : ℕ) (lt : copy < place.copies) (v : Holds image place copy g next).
     zip_with (IsWritten shape then) (EntryStands shape image damaged) new_index.entries view.entries
     (λ e f h k w. written_stands shape start then image damaged given whole e f
     (names_it shape image copy g next new_index lt v fit (where_of e) (map-In where_of e new_index.entries h)) w)
     entries in
     let counted = λ (at : Where) (is : IsNamed shape.place image at) (apart : is.generation ≡ g → ⊥)
     (was : IsNamed shape.place start at) (copy : ℕ) (w : List ℕ)
-    (lt : copy < copies) (gives : Gives (gift_of image shape at) copy w).
+    (lt : copy < place.copies) (gives : Gives (gift_of image shape at) copy w).
     as_given shape start at copy w (same_gift at is apart was copy w lt gives) in
     let alike_new = λ (e : IndexEntry) (h : In e new_index.entries) (is : IsNamed shape.place image (where_of e)).
     let found = zip_find (IsWritten shape then) new_index.entries view.entries e entries h in
     let stands = written_stands shape start then image damaged given whole e found.0 is found.2 in
-    backed_alike shape.m copies (gift_of image shape (where_of e)) found.0.content stands.backed in
+    backed_alike shape.m place.copies (gift_of image shape (where_of e)) found.0.content stands.backed in
     let kept = λ (text : FitText) (is : IsSalvageAt shape start text).
     let all = keeps_then aside shape start now then taken damaged given_up takes keeps text is in
     let after = next_is text is in
     let own_is : own text.0.generation ≡ own (g + 1) = omega (arith, after) in
-    let held : KeepsText first copies text.0.generation text.0.text damaged start image
-    ⊎ ((copy : ℕ) → copy < copies → IsUndamaged damaged first copy → Holds image first copy g next) =
+    let held : KeepsText place text.0.generation text.0.text damaged start image
+    ⊎ ((copy : ℕ) → copy < place.copies → IsUndamaged damaged place copy → Holds image place copy g next) =
     elim it.stands [
       | inl old ↦ inl (λ copy lt spared was. old copy lt spared text.0.generation text.0.text own_is
           (all.text copy lt spared was))
@@ -318,10 +319,10 @@ anew_index aside shape start now then taken g next new_index view others c posit
 
 pub clean_alone : CleanLaw
 clean_alone shape image g t i alone fit agreed =
-    let first = shape.place.first in
+    let place = shape.place in
     let copies = shape.place.copies in
-    let only = λ (copy h : ℕ) (u : List ℕ) (lt : copy < copies) (v : Holds image first copy h u).
-    alone_only image first copies g t alone copy lt h u v in
+    let only = λ (copy h : ℕ) (u : List ℕ) (lt : copy < place.copies) (v : Holds image place copy h u).
+    alone_only image place g t alone copy lt h u v in
     record {
       one_each = λ a b h s u la lb va vb. (only a h s la va).1 ∙ sym (only b h u lb vb).1;
       fit = λ copy h u lt v. (i, ap (fit_index shape) (only copy h u lt v).1 ∙ fit);
@@ -337,10 +338,10 @@ clean_alone shape image g t i alone fit agreed =
 
 pub clean_adopted : AdoptedLaw
 clean_adopted shape start now g t i adopted =
-    let first = shape.place.first in
+    let place = shape.place in
     let copies = shape.place.copies in
     let opens = adopted.opens in
-    let area_was = λ (copy : ℕ). adopted.areas (area first copy) (area_no_slot first copies copy) in
+    let area_was = λ (copy : ℕ). adopted.areas (area place copy) (area_no_slot place copy) in
     clean_alone shape now g t i adopted.alone opens.fit (all_by (AreAgreed shape now) i.entries
     (λ e k a b s u la lb ga gb.
     adopted.clean.alike (where_of e) a b s u

@@ -14,8 +14,8 @@ use Rattle.disk_model.specs.Orders.{named_in}
 use Rattle.m_of_n.specs.Vote.{is_text, holders, voted}
 use Rattle.m_of_n.specs.Laws.{voted-held, voted-none, voted-only}
 use Rattle.guarded_cell.specs.Held.{copies_that}
-use Rattle.guarded_cell.specs.CopyLaws.{enough_pass, passing_enough}
-use Rattle.guarded_cell.specs.StopLaws.{at_least_map, at_least_one}
+use Rattle.guarded_cell.specs.lemmas.CopyLaws.{enough_pass, passing_enough}
+use Rattle.guarded_cell.specs.lemmas.StopLaws.{at_least_map, at_least_one}
 use Rattle.block_files.specs.Contents.{first_content}
 use Rattle.per_base.specs.declared.elements.Content.{Content}
 use Rattle.per_base.specs.declared.elements.Content.TheVariants.{Good, Bad}

@@ -8,10 +8,10 @@ use Rattle.disk_model.specs.Image.{Image}
 use Rattle.guarded_cell.specs.declared.looking.Seen.{Seen}
 use Rattle.guarded_cell.specs.Register.{Holds}
 use Rattle.guarded_cell.specs.Held.{held, holds, copies_that}
-use Rattle.guarded_cell.specs.HeldLaws.{holds_is, held_in_order}
-use Rattle.guarded_cell.specs.SeenLaws.{IsAhead, IsInOrder, text_of}
-use Rattle.guarded_cell.specs.CopyLaws.{some_passes}
-use Rattle.guarded_cell.specs.ShownLaws.{held_shows}
+use Rattle.guarded_cell.specs.lemmas.HeldLaws.{holds_is, held_in_order}
+use Rattle.guarded_cell.specs.lemmas.SeenLaws.{IsAhead, IsInOrder, text_of}
+use Rattle.guarded_cell.specs.lemmas.CopyLaws.{some_passes}
+use Rattle.guarded_cell.specs.lemmas.ShownLaws.{held_shows}
 use Rattle.index_text.specs.declared.entries.Index.{Index}
 use Rattle.index_text.specs.Sizes.{fits}
 use Rattle.index_text.specs.Reading.{index_of}
@@ -29,7 +29,7 @@ seen_at image shape g t = record {
   generation = g;
   text = t;
   copies =
-      copies_that (λ copy. holds image shape.place.first copy (g, t)) shape.place.copies;
+      copies_that (λ copy. holds image shape.place copy (g, t)) shape.place.copies;
 }
 
 abbrev pub fit_at : Image → Shape → ℕ → List ℕ → Index → FitText
@@ -47,24 +47,24 @@ pub record IsFit (image : Image) (shape : Shape) (y : FitText) : Type 0 where
   pub index : Index
   pub copy : ℕ
   pub inside : copy < shape.place.copies
-  pub holds : Holds image shape.place.first copy generation text
+  pub holds : Holds image shape.place copy generation text
   pub fit : fit_index shape text ≡ Some index
   pub is : fit_at image shape generation text index ≡ y
 
 pub In-fit : (image : Image) (shape : Shape) (y : FitText) → In y (fit_texts shape image) → IsFit image shape y
 unfolding fit_texts
 In-fit image shape y h =
-    let first = shape.place.first in
+    let place = shape.place in
     let copies = shape.place.copies in
-    let r = In-filter_map (λ (s : Seen). with_index s (fit_index shape s.text)) y (held image first copies) h in
+    let r = In-filter_map (λ (s : Seen). with_index s (fit_index shape s.text)) y (held image place) h in
     let seen : Seen = r.0 in
-    let there = In-Contains seen (held image first copies) r.1 in
+    let there = In-Contains seen (held image place) r.1 in
     let w = with_index-is seen (fit_index shape seen.text) y r.2 in
-    let shows = held_shows image first copies in
-    let are = All-contains (λ (s : Seen). s.copies ≡ copies_that (λ copy. holds image first copy (s.generation, s.text))
-    copies) (held image first copies) seen shows.copies_are there in
-    let some = All-contains (λ (s : Seen). 1 ≤ length s.copies) (held image first copies) seen shows.some there in
-    let p = some_passes (λ copy. holds image first copy (seen.generation, seen.text)) copies
+    let shows = held_shows image place in
+    let are = All-contains (λ (s : Seen). s.copies ≡ copies_that (λ copy. holds image place copy (s.generation, s.text))
+    place.copies) (held image place) seen shows.copies_are there in
+    let some = All-contains (λ (s : Seen). 1 ≤ length s.copies) (held image place) seen shows.some there in
+    let p = some_passes (λ copy. holds image place copy (seen.generation, seen.text)) place.copies
     (subst (λ (cs : List ℕ). 1 ≤ length cs) are some) in
     record {
       generation = seen.generation;
@@ -72,24 +72,24 @@ In-fit image shape y h =
       index = w.0;
       copy = p.0;
       inside = p.1;
-      holds = holds_is image first p.0 (seen.generation, seen.text) p.2;
+      holds = holds_is image place p.0 (seen.generation, seen.text) p.2;
       fit = w.1;
       is = (λ j. (record { generation = seen.generation; text = seen.text; copies = sym are j }, w.0)) ∙ w.2;
     }
 
 pub fit-In : (image : Image) (shape : Shape) (copy g : ℕ) (t : List ℕ) (i : Index) → copy < shape.place.copies
-    → Holds image shape.place.first copy g t
+    → Holds image shape.place copy g t
     → fit_index shape t ≡ Some i → In (fit_at image shape g t i) (fit_texts shape image)
 unfolding fit_texts
 fit-In image shape copy g t i lt v e =
-    let first = shape.place.first in
+    let place = shape.place in
     let copies = shape.place.copies in
-    let shows = held_shows image first copies in
+    let shows = held_shows image place in
     let any = shows.every copy g t lt v in
     let seen : Seen = any.1 in
-    let there : Contains (held image first copies) seen = (any.0, any.2, any.3) in
-    let are = All-contains (λ (s : Seen). s.copies ≡ copies_that (λ copy. holds image first copy (s.generation, s.text))
-    copies) (held image first copies) seen shows.copies_are there in
+    let there : Contains (held image place) seen = (any.0, any.2, any.3) in
+    let are = All-contains (λ (s : Seen). s.copies ≡ copies_that (λ copy. holds image place copy (s.generation, s.text))
+    place.copies) (held image place) seen shows.copies_are there in
     let gen = any.4.0 in
     let text = any.4.1 in
     let same : seen ≡ seen_at image shape g t =
@@ -98,11 +98,11 @@ fit-In image shape copy g t i lt v e =
       generation = gen j;
       text = text j;
       copies =
-          copies_that (λ copy. holds image first copy (gen j, text j)) copies;
+          copies_that (λ copy. holds image place copy (gen j, text j)) place.copies;
     }) in
     filter_map-In (λ (s : Seen). with_index s (fit_index shape s.text)) (seen_at image shape g t)
-    (fit_at image shape g t i) (held image first copies)
-    (subst (λ (s : Seen). In s (held image first copies)) same (Contains-In seen (held image first copies) there))
+    (fit_at image shape g t i) (held image place)
+    (subst (λ (s : Seen). In s (held image place)) same (Contains-In seen (held image place) there))
     (ap (with_index (seen_at image shape g t)) e)
 
 if_fits-is : (shape : Shape) (o : Option Index) (i : Index) → if_fits shape o ≡ Some i → o ≡ Some i
@@ -207,8 +207,8 @@ module _ (shape : Shape) where
 
 pub fit_descends : (image : Image) (shape : Shape) → GDescends (fit_texts shape image)
 unfolding fit_texts
-fit_descends image shape = descends_fit shape (held image shape.place.first shape.place.copies)
-    (held_in_order image shape.place.first shape.place.copies)
+fit_descends image shape = descends_fit shape (held image shape.place)
+    (held_in_order image shape.place shape.place.copies)
 
 below_In : (n : ℕ) (xs : List FitText) (z : FitText) → GBelow n xs → In z xs → z.0.generation ≤ n
 below_In n [] z h k = absurd k

@@ -3,6 +3,7 @@ use Rattle.std.proofs.Common.{◌≡◌, ℕ, ◌<◌, true, List, Some, sym, su
 use Rattle.disk_model.specs.Image.{Image}
 use Rattle.disk_model.specs.Damage.{DecaysFor, IsUndamaged}
 use Rattle.disk_model.specs.Place.{slot, area, IsNoSlot, IsNoArea}
+use Rattle.disk_model.specs.declared.place.Place.{Place}
 use Rattle.hash_guard.specs.SealedText.{VerifiesAs}
 use Rattle.guarded_cell.specs.Register.{Holds, own}
 use Rattle.guarded_cell.specs.Stops.{SlotText, IsSlotPiece}
@@ -20,19 +21,19 @@ pub own_small : (g : ℕ) → own g < 2
 own_small g = omega arith
 
 -- slots are no areas, and areas no slots
-pub slot_no_area : (first copies copy g : ℕ) → IsNoArea first copies (slot first copy (own g))
-slot_no_area first copies copy g other lt e = let small = own_small g in absurd (omega (arith, e, small))
+pub slot_no_area : (place : Place) (copy g : ℕ) → IsNoArea place (slot place copy (own g))
+slot_no_area place copy g other lt e = let small = own_small g in absurd (omega (arith, e, small))
 
-pub area_no_slot : (first copies copy : ℕ) → IsNoSlot first copies (area first copy)
-area_no_slot first copies copy other parity lt small e = absurd (omega (arith, e, small))
+pub area_no_slot : (place : Place) (copy : ℕ) → IsNoSlot place (area place copy)
+area_no_slot place copy other parity lt small e = absurd (omega (arith, e, small))
 
 -- a text held, as a piece
 module _ (shape : Shape) (copy h : ℕ) (u : List ℕ) where
   abbrev pub its_slot : SlotText
   its_slot = record { copy = copy; parity = own h; generation = h; text = u }
 
-  pub held_piece : (image : Image) → copy < shape.place.copies → Holds image shape.place.first copy h u
-      → IsSlotPiece shape.place.first shape.place.copies image its_slot
+  pub held_piece : (image : Image) → copy < shape.place.copies → Holds image shape.place copy h u
+      → IsSlotPiece shape.place image its_slot
   held_piece image lt v = record { copy = lt; parity = own_small h; verifies = v }
 
 -- what is given, as a piece
@@ -46,10 +47,10 @@ module _ (shape : Shape) (copy : ℕ) (at : Where) (w : List ℕ) where
 
 module _ (shape : Shape) (damaged : List ℕ) (left new : Image) (d : DecaysFor (IsPiece shape.place) damaged left new)
   where
-    pub held_back : (copy h : ℕ) (u : List ℕ) → copy < shape.place.copies → Holds new shape.place.first copy h u
-        → Holds left shape.place.first copy h u
+    pub held_back : (copy h : ℕ) (u : List ℕ) → copy < shape.place.copies → Holds new shape.place copy h u
+        → Holds left shape.place copy h u
     held_back copy h u lt v =
-        let p : IsSlotPiece shape.place.first shape.place.copies left (its_slot shape copy h u) =
+        let p : IsSlotPiece shape.place left (its_slot shape copy h u) =
         d.pieces (in_slot (its_slot shape copy h u)) (held_piece shape copy h u new lt v) in
         p.verifies
 
@@ -72,18 +73,18 @@ module _ (shape : Shape) (damaged : List ℕ) (left new : Image) (d : DecaysFor 
         d.pieces (in_blocks (its_blocks shape copy at w)) (given_piece shape copy at w new lt is gives) in
         p.counts
 
-    pub held_on : (copy h : ℕ) (u : List ℕ) → IsUndamaged damaged shape.place.first copy
-        → Holds left shape.place.first copy h u → Holds new shape.place.first copy h u
+    pub held_on : (copy h : ℕ) (u : List ℕ) → IsUndamaged damaged shape.place copy
+        → Holds left shape.place copy h u → Holds new shape.place copy h u
     held_on copy h u spared v =
         let small = own_small h in
         subst (λ (bytes : List ℕ). VerifiesAs bytes h u) (sym
-        (d.others (slot shape.place.first copy (own h)) (spared (own h) (omega (arith, small))))) v
+        (d.others (slot shape.place copy (own h)) (spared (own h) (omega (arith, small))))) v
 
-    pub area_on : (copy : ℕ) → IsUndamaged damaged shape.place.first copy
-        → new (area shape.place.first copy) ≡ left (area shape.place.first copy)
-    area_on copy spared = d.others (area shape.place.first copy) (spared 2 (omega arith))
+    pub area_on : (copy : ℕ) → IsUndamaged damaged shape.place copy
+        → new (area shape.place copy) ≡ left (area shape.place copy)
+    area_on copy spared = d.others (area shape.place copy) (spared 2 (omega arith))
 
-    pub whole_on : (copy : ℕ) (at : Where) (v : List ℕ) → IsUndamaged damaged shape.place.first copy
+    pub whole_on : (copy : ℕ) (at : Where) (v : List ℕ) → IsUndamaged damaged shape.place copy
         → (is_whole_at left shape copy at ≡ true) × Gives (gift_of left shape at) copy v
         → (is_whole_at new shape copy at ≡ true) × Gives (gift_of new shape at) copy v
     whole_on copy at v spared is = subst (λ (file : List ℕ). (within file at.blocks at.len ≡ true)

@@ -43,7 +43,7 @@ use Rattle.element_laws.specs.lemmas.IndexPhase.{open_at, opened_two, opened_cle
 
 -- an entry of an index that is held names its content
 pub names_it : (shape : Shape) (image : Image) (copy g : ℕ) (t : List ℕ) (i : Index) → copy < shape.place.copies
-    → Holds image shape.place.first copy g t
+    → Holds image shape.place copy g t
     → fit_index shape t ≡ Some i → (at : Where) → In at (map where_of i.entries) → IsNamed shape.place image at
 names_it shape image copy g t i lt v fit at h = record {
   copy = copy;
@@ -59,7 +59,7 @@ names_it shape image copy g t i lt v fit at h = record {
 module _ (shape : Shape) (start then new : Image) (damaged : List ℕ)
     (given : (at : Where) → IsNamed shape.place new at → (copy : ℕ) (w : List ℕ) → copy < shape.place.copies
     → Gives (gift_of new shape at) copy w → Gives (gift_of then shape at) copy w)
-    (whole : (at : Where) (copy : ℕ) (v : List ℕ) → IsUndamaged damaged shape.place.first copy
+    (whole : (at : Where) (copy : ℕ) (v : List ℕ) → IsUndamaged damaged shape.place copy
     → is_whole_at then shape copy at ≡ true
     → Gives (gift_of then shape at) copy v → (is_whole_at new shape copy at ≡ true)
     × Gives (gift_of new shape at) copy v) where
@@ -78,7 +78,7 @@ module _ (shape : Shape) (start then new : Image) (damaged : List ℕ)
   module _ (positive : 1 ≤ shape.m) (clean : IsClean shape start) (g : ℕ) (t : List ℕ) (i : Index)
       (opens : OpensAt shape start g t i)
       (less : IsLess shape g t damaged start then) (held : (copy : ℕ) → copy < shape.place.copies
-      → Holds then shape.place.first copy g t) where
+      → Holds then shape.place copy g t) where
     content_at : Where → Content
     content_at at = content_of (value_at start shape at)
         (first_content (gifts (gift_of start shape at) shape.place.copies))
@@ -107,7 +107,7 @@ module _ (shape : Shape) (start then new : Image) (damaged : List ℕ)
       counted_at is copy w lt gives = elim (less.counted at named_now copy w lt (given at is copy w lt gives))
           [ inl was ↦ inl was | inr value ↦ inr value.1 ]
 
-      pub whole_at : (copy : ℕ) (v : List ℕ) → copy < shape.place.copies → IsUndamaged damaged shape.place.first copy
+      pub whole_at : (copy : ℕ) (v : List ℕ) → copy < shape.place.copies → IsUndamaged damaged shape.place copy
           → is_whole_at start shape copy at ≡ true
           → Gives (gift_of start shape at) copy v → (is_whole_at new shape copy at ≡ true)
           × Gives (gift_of new shape at) copy v
@@ -179,9 +179,9 @@ module _ (shape : Shape) (start then new : Image) (damaged : List ℕ)
 
 -- a text is the only one of before, or the new one
 old_or_new : (shape : Shape) (then new : Image) (g : ℕ) (t next : List ℕ) → HoldsOnly shape then g t
-    → ((copy h : ℕ) (u : List ℕ) → copy < shape.place.copies → Holds new shape.place.first copy h u
-    → Holds then shape.place.first copy h u ⊎ ((h ≡ g + 1) × (u ≡ next)))
-    → (copy h : ℕ) (u : List ℕ) → copy < shape.place.copies → Holds new shape.place.first copy h u
+    → ((copy h : ℕ) (u : List ℕ) → copy < shape.place.copies → Holds new shape.place copy h u
+    → Holds then shape.place copy h u ⊎ ((h ≡ g + 1) × (u ≡ next)))
+    → (copy h : ℕ) (u : List ℕ) → copy < shape.place.copies → Holds new shape.place copy h u
     → ((h ≡ g) × (u ≡ t)) ⊎ ((h ≡ g + 1) × (u ≡ next))
 old_or_new shape then new g t next only known copy h u lt v = elim (known copy h u lt v) [
   | inl was ↦ inl (only copy h u lt was)
@@ -190,7 +190,7 @@ old_or_new shape then new g t next only known copy h u lt v = elim (known copy h
 
 -- what an old text names, its index names
 old_named : (shape : Shape) (new : Image) (g : ℕ) (t : List ℕ) (i : Index) (next : List ℕ)
-    → ((copy h : ℕ) (u : List ℕ) → copy < shape.place.copies → Holds new shape.place.first copy h u
+    → ((copy h : ℕ) (u : List ℕ) → copy < shape.place.copies → Holds new shape.place copy h u
     → ((h ≡ g) × (u ≡ t)) ⊎ ((h ≡ g + 1) × (u ≡ next)))
     → index_of t ≡ Some i → (at : Where) → (is : IsNamed shape.place new at) → (is.generation ≡ g + 1 → ⊥)
     → In at (map where_of i.entries)
@@ -208,54 +208,54 @@ own_next g = omega arith
 pub index : AsideLaw → IndexLaw
 index aside shape start now then g t i taken next new_index view others c positive adopted is_index takes keeps fit
     generation_is entries stops sound damaged image d =
-    let first = shape.place.first in
+    let place = shape.place in
     let copies = shape.place.copies in
     let both = contents_then aside shape start now then g t i taken damaged adopted is_index takes keeps in
     let less = both.0 in
     let only = both.1 in
     let clean = adopted.clean in
     let opens = adopted.opens in
-    let slot_same = λ (copy h : ℕ). keeps.files (slot first copy (own h)) (slot_no_area first copies copy h) in
-    let held = λ (copy : ℕ) (lt : copy < copies). subst (λ (bytes : List ℕ). VerifiesAs bytes g t)
+    let slot_same = λ (copy h : ℕ). keeps.files (slot place copy (own h)) (slot_no_area place copy h) in
+    let held = λ (copy : ℕ) (lt : copy < place.copies). subst (λ (bytes : List ℕ). VerifiesAs bytes g t)
     (sym (slot_same copy g)) (adopted.alone.held copy lt) in
-    let it : IsOldOrNew first copies (g + 1) next damaged then image =
+    let it : IsOldOrNew place (g + 1) next damaged then image =
     stops.slots (sound_slots shape c sound) damaged image (decays_slots shape c damaged image d) in
-    let same = λ (copy : ℕ). stops.elsewhere.left (area first copy) (area_no_slot first copies copy) in
-    let given = λ (at : Where) (is : IsNamed shape.place image at) (copy : ℕ) (w : List ℕ) (lt : copy < copies)
+    let same = λ (copy : ℕ). stops.elsewhere.left (area place copy) (area_no_slot place copy) in
+    let given = λ (at : Where) (is : IsNamed shape.place image at) (copy : ℕ) (w : List ℕ) (lt : copy < place.copies)
     (gives : Gives (gift_of image shape at) copy w).
     given_then shape then c.left image damaged same d at is copy w lt gives in
-    let whole = λ (at : Where) (copy : ℕ) (v : List ℕ) (spared : IsUndamaged damaged first copy)
+    let whole = λ (at : Where) (copy : ℕ) (v : List ℕ) (spared : IsUndamaged damaged place copy)
     (was : is_whole_at then shape copy at ≡ true) (gave : Gives (gift_of then shape at) copy v).
     whole_then shape then c.left image damaged same d at copy v spared was gave in
     let (rest, state, passes) = open_at shape start g t i clean opens in
     let entry = λ (e : IndexEntry) (f : Entry) (is : IsNamed shape.place image (where_of e))
     (w : IsWritten shape then e f ⊎ IsCarried shape start i e f).
     entry_stands shape start then image damaged given whole positive clean g t i opens less held passes e f is w in
-    let texts = λ (copy h : ℕ) (u : List ℕ) (lt : copy < copies) (v : Holds image first copy h u).
+    let texts = λ (copy h : ℕ) (u : List ℕ) (lt : copy < place.copies) (v : Holds image place copy h u).
     old_or_new shape then image g t next (λ copy h u lt v. only copy h u lt v) (λ copy h u lt v. it.known copy lt h u v)
     copy h u lt v in
-    let stand = λ (copy : ℕ) (lt : copy < copies) (v : Holds image first copy (g + 1) next).
+    let stand = λ (copy : ℕ) (lt : copy < place.copies) (v : Holds image place copy (g + 1) next).
     zip_with (λ e f. IsWritten shape then e f ⊎ IsCarried shape start i e f) (EntryStands shape image damaged)
     new_index.entries view.entries
     (λ e f h k w. entry e f (names_it shape image copy (g + 1) next new_index lt v fit (where_of e)
     (map-In where_of e new_index.entries h)) w) entries in
     let counted = λ (at : Where) (is : IsNamed shape.place image at) (apart : is.generation ≡ g + 1 → ⊥)
     (was : IsNamed shape.place start at) (copy : ℕ) (w : List ℕ)
-    (lt : copy < copies) (gives : Gives (gift_of image shape at) copy w).
+    (lt : copy < place.copies) (gives : Gives (gift_of image shape at) copy w).
     counted_at shape start then image damaged given whole positive clean g t i opens less held at
     (old_named shape image g t i next texts (fit-spelled shape t i opens.fit) at is apart) is copy w lt gives in
     let alike_new = λ (e : IndexEntry) (h : In e new_index.entries) (is : IsNamed shape.place image (where_of e)).
     let found = zip_find (λ e f. IsWritten shape then e f ⊎ IsCarried shape start i e f) new_index.entries view.entries
     e entries h in
     let stands = entry e found.0 is found.2 in
-    backed_alike shape.m copies (gift_of image shape (where_of e)) found.0.content stands.backed in
-    let whole_old = λ (e : IndexEntry) (h : In e i.entries) (copy : ℕ) (v : List ℕ) (lt : copy < copies)
-    (spared : IsUndamaged damaged first copy)
+    backed_alike shape.m place.copies (gift_of image shape (where_of e)) found.0.content stands.backed in
+    let whole_old = λ (e : IndexEntry) (h : In e i.entries) (copy : ℕ) (v : List ℕ) (lt : copy < place.copies)
+    (spared : IsUndamaged damaged place copy)
     (was : is_whole_at start shape copy (where_of e) ≡ true) (gave : Gives (gift_of start shape (where_of e)) copy v).
     whole_at shape start then image damaged given whole positive clean g t i opens less held (where_of e)
     (map-In where_of e i.entries h) copy v lt spared was gave in
-    let stays : ((c : ℕ) → c < copies → IsUndamaged damaged first c → Holds image first c g t)
-    ⊎ ((c : ℕ) → c < copies → IsUndamaged damaged first c → Holds image first c (g + 1) next) =
+    let stays : ((c : ℕ) → c < place.copies → IsUndamaged damaged place c → Holds image place c g t)
+    ⊎ ((c : ℕ) → c < place.copies → IsUndamaged damaged place c → Holds image place c (g + 1) next) =
     elim it.stands [
       | inl old ↦ inl (λ c lt spared. old c lt spared g t (own_next g) (held c lt))
       | inr newer ↦ inr newer

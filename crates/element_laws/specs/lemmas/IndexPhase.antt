@@ -6,7 +6,7 @@ use Rattle.std.proofs.lemmas.Bool.{cases_Bool}
 use Rattle.disk_model.specs.Image.{Image}
 use Rattle.disk_model.specs.Damage.{AtLeast, IsUndamaged}
 use Rattle.guarded_cell.specs.Register.{Holds}
-use Rattle.guarded_cell.specs.StopLaws.{at_least_map, at_least_one}
+use Rattle.guarded_cell.specs.lemmas.StopLaws.{at_least_map, at_least_one}
 use Rattle.block_files.specs.Aside.{Where}
 use Rattle.index_text.specs.declared.entries.Index.{Index}
 use Rattle.index_text.specs.declared.entries.IndexEntry.{IndexEntry}
@@ -60,9 +60,9 @@ module _ (shape : Shape) (start new : Image) (damaged : List ℕ) (positive : 1 
     (g : ℕ) (t : List ℕ) (i : Index) (opens : OpensAt shape start g t i)
     (next : List ℕ) (index : Index) (view : View) (others : List View)
     (fit : fit_index shape next ≡ Some index) (generation_is : view.generation ≡ g + 1)
-    (stand : (copy : ℕ) → copy < shape.place.copies → Holds new shape.place.first copy (g + 1) next
+    (stand : (copy : ℕ) → copy < shape.place.copies → Holds new shape.place copy (g + 1) next
     → AllZip (EntryStands shape new damaged) index.entries view.entries)
-    (texts : (copy h : ℕ) (u : List ℕ) → copy < shape.place.copies → Holds new shape.place.first copy h u
+    (texts : (copy h : ℕ) (u : List ℕ) → copy < shape.place.copies → Holds new shape.place copy h u
     → ((h ≡ g) × (u ≡ t)) ⊎ ((h ≡ g + 1) × (u ≡ next)))
     (counted : (at : Where) → (is : IsNamed shape.place new at) → (is.generation ≡ g + 1 → ⊥)
     → IsNamed shape.place start at → (copy : ℕ) (w : List ℕ) → copy < shape.place.copies
@@ -70,17 +70,17 @@ module _ (shape : Shape) (start new : Image) (damaged : List ℕ) (positive : 1 
     (alike_new : (e : IndexEntry) → In e index.entries → IsNamed shape.place new (where_of e)
     → AreAlike (gift_of new shape (where_of e)) shape.place.copies)
     (whole : (e : IndexEntry) → In e i.entries → (copy : ℕ) (v : List ℕ) → copy < shape.place.copies
-    → IsUndamaged damaged shape.place.first copy
+    → IsUndamaged damaged shape.place copy
     → is_whole_at start shape copy (where_of e) ≡ true → Gives (gift_of start shape (where_of e)) copy v
     → (is_whole_at new shape copy (where_of e) ≡ true) × Gives (gift_of new shape (where_of e)) copy v)
-    (stays : ((c : ℕ) → c < shape.place.copies → IsUndamaged damaged shape.place.first c
-    → Holds new shape.place.first c g t)
-    ⊎ ((c : ℕ) → c < shape.place.copies → IsUndamaged damaged shape.place.first c
-    → Holds new shape.place.first c (g + 1) next)) where
+    (stays : ((c : ℕ) → c < shape.place.copies → IsUndamaged damaged shape.place c
+    → Holds new shape.place c g t)
+    ⊎ ((c : ℕ) → c < shape.place.copies → IsUndamaged damaged shape.place c
+    → Holds new shape.place c (g + 1) next)) where
   was_held : WasHeld shape start g t
   was_held = record { copy = opens.copy; inside = opens.inside; holds = opens.held }
 
-  old_or_new : (copy h : ℕ) (u : List ℕ) → copy < shape.place.copies → Holds new shape.place.first copy h u
+  old_or_new : (copy h : ℕ) (u : List ℕ) → copy < shape.place.copies → Holds new shape.place copy h u
       → (WasHeld shape start h u × (h ≡ g + 1 → ⊥)) ⊎ ((h ≡ g + 1) × (u ≡ next))
   old_or_new copy h u lt v = elim (texts copy h u lt v) [
     | inl same ↦ inl (
@@ -99,7 +99,7 @@ module _ (shape : Shape) (start new : Image) (damaged : List ℕ) (positive : 1 
   before = view_of start shape (fit_at start shape g t i)
 
   -- the old text, where a copy holds it
-  module _ (one : ℕ) (lt : one < shape.place.copies) (v : Holds new shape.place.first one g t) where
+  module _ (one : ℕ) (lt : one < shape.place.copies) (v : Holds new shape.place one g t) where
     its_counted : (e : IndexEntry) → In e i.entries → (c : ℕ) (w : List ℕ) → c < shape.place.copies
         → Gives (gift_of new shape (where_of e)) c w
         → Gives (gift_of start shape (where_of e)) c w ⊎ (value_at start shape (where_of e) ≡ Some w)
@@ -115,8 +115,8 @@ module _ (shape : Shape) (start new : Image) (damaged : List ℕ) (positive : 1 
   spares copy h u j lt v is same = elim (texts copy h u lt v) [
     | inl old ↦
         let one : i ≡ j = some_is i j (sym opens.fit ∙ ap (fit_index shape) (sym old.1) ∙ is) in
-        let held = subst (λ (k : ℕ). Holds new shape.place.first copy k t) old.0
-        (subst (λ (x : List ℕ). Holds new shape.place.first copy h x) old.1 v) in
+        let held = subst (λ (k : ℕ). Holds new shape.place copy k t) old.0
+        (subst (λ (x : List ℕ). Holds new shape.place copy h x) old.1 v) in
         let at : fit_at new shape g t i ≡ fit_at new shape h u j =
         λ k. fit_at new shape (sym old.0 k) (sym old.1 k) (one k) in
         subst (λ y. CostsNoCopy shape damaged (view_of new shape y) before) at (its_costs copy lt held)
@@ -128,9 +128,9 @@ module _ (shape : Shape) (start new : Image) (damaged : List ℕ) (positive : 1 
 
   module _ (passes : qualifies start shape (fit_at start shape g t i) ≡ true)
       (enough : HasEnough shape damaged before.lacking) where
-    some_left : AtLeast (λ c. IsUndamaged damaged shape.place.first c) shape.place.copies shape.m
-    some_left = at_least_map (λ c. IsUndamaged damaged shape.place.first c × Holds start shape.place.first c g t)
-        (λ c. IsUndamaged damaged shape.place.first c) shape.place.copies shape.m
+    some_left : AtLeast (λ c. IsUndamaged damaged shape.place c) shape.place.copies shape.m
+    some_left = at_least_map (λ c. IsUndamaged damaged shape.place c × Holds start shape.place c g t)
+        (λ c. IsUndamaged damaged shape.place c) shape.place.copies shape.m
         (λ c lt both. both.0) (enough_held shape start g t i damaged enough)
 
     generation_at : (z : FitText) → In z (fit_texts shape new)
@@ -180,11 +180,11 @@ module _ (shape : Shape) (start new : Image) (damaged : List ℕ) (positive : 1 
         apart e gen = omega (arith, e, gen, generation_is)
 
     found_old : qualifies new shape (fit_at new shape (g + 1) next index) ≡ false
-        → ((c : ℕ) → c < shape.place.copies → IsUndamaged damaged shape.place.first c
-        → Holds new shape.place.first c g t)
+        → ((c : ℕ) → c < shape.place.copies → IsUndamaged damaged shape.place c
+        → Holds new shape.place c g t)
         → Found shape new damaged positive opened_clean before (Opens view others)
     found_old isnt held =
-        let one = at_least_one (λ c. IsUndamaged damaged shape.place.first c) shape.place.copies shape.m positive
+        let one = at_least_one (λ c. IsUndamaged damaged shape.place c) shape.place.copies shape.m positive
         some_left in
         let v = held one.0 one.1 one.2 in
         record {
@@ -217,7 +217,7 @@ module _ (shape : Shape) (start new : Image) (damaged : List ℕ) (positive : 1 
       | inr isnt ↦ elim stays [
         | inl held ↦ found_old isnt held
         | inr held ↦
-            let one = at_least_one (λ c. IsUndamaged damaged shape.place.first c) shape.place.copies shape.m positive
+            let one = at_least_one (λ c. IsUndamaged damaged shape.place c) shape.place.copies shape.m positive
             some_left in
             let all = stand one.0 one.1 (held one.0 one.1 one.2) in
             absurd (not_false (sym isnt ∙ new_qualifies shape new damaged (g + 1) next index view all generation_is held

@@ -6,7 +6,7 @@ use Rattle.std.proofs.lemmas.Bool.{cases_eq}
 use Rattle.disk_model.specs.Image.{Image}
 use Rattle.disk_model.specs.Damage.{IsUndamaged}
 use Rattle.guarded_cell.specs.Register.{Holds}
-use Rattle.guarded_cell.specs.StopLaws.{at_least_one}
+use Rattle.guarded_cell.specs.lemmas.StopLaws.{at_least_one}
 use Rattle.guarded_cell.specs.Stops.{KeepsText, HoldsLess}
 use Rattle.block_files.specs.Aside.{Where}
 use Rattle.index_text.specs.declared.entries.Index.{Index}
@@ -35,21 +35,21 @@ use Rattle.element_laws.specs.lemmas.Left.{qualifies_back}
 -- copies hold no other text than this
 abbrev pub HoldsOnly : Shape → Image → ℕ → List ℕ → Type 0
 HoldsOnly shape image g t = (copy h : ℕ) (u : List ℕ) → copy < shape.place.copies
-    → Holds image shape.place.first copy h u → (h ≡ g) × (u ≡ t)
+    → Holds image shape.place copy h u → (h ≡ g) × (u ≡ t)
 
 -- Beside an earlier image, and of the text that stood there: no copy holds a text that it did not hold, but that one;
 -- none gives a content that it did not give, but where that text alone is held a value on which enough copies agreed;
 -- and outside the damage a copy holds the text and gives its contents as before.
 pub record IsLess (shape : Shape) (g : ℕ) (t : List ℕ) (damaged : List ℕ) (old new : Image) : Type 0 where
-  pub held : (copy h : ℕ) (u : List ℕ) → copy < shape.place.copies → Holds new shape.place.first copy h u
-      → Holds old shape.place.first copy h u ⊎ ((h ≡ g) × (u ≡ t))
+  pub held : (copy h : ℕ) (u : List ℕ) → copy < shape.place.copies → Holds new shape.place copy h u
+      → Holds old shape.place copy h u ⊎ ((h ≡ g) × (u ≡ t))
   pub counted : (at : Where) → IsNamed shape.place new at → (copy : ℕ) (w : List ℕ) → copy < shape.place.copies
       → Gives (gift_of new shape at) copy w
       → Gives (gift_of old shape at) copy w ⊎ (HoldsOnly shape new g t × (value_at old shape at ≡ Some w))
-  pub text : KeepsText shape.place.first shape.place.copies g t damaged old new
+  pub text : KeepsText shape.place g t damaged old new
   pub whole : (i : Index) → index_of t ≡ Some i → (e : IndexEntry) → In e i.entries → (copy : ℕ) (v : List ℕ)
       → copy < shape.place.copies
-      → IsUndamaged damaged shape.place.first copy → is_whole_at old shape copy (where_of e) ≡ true
+      → IsUndamaged damaged shape.place copy → is_whole_at old shape copy (where_of e) ≡ true
       → Gives (gift_of old shape (where_of e)) copy v
       → (is_whole_at new shape copy (where_of e) ≡ true) × Gives (gift_of new shape (where_of e)) copy v
 
@@ -57,13 +57,13 @@ pub record IsLess (shape : Shape) (g : ℕ) (t : List ℕ) (damaged : List ℕ) 
 pub record WasHeld (shape : Shape) (old : Image) (h : ℕ) (u : List ℕ) : Type 0 where
   pub copy : ℕ
   pub inside : copy < shape.place.copies
-  pub holds : Holds old shape.place.first copy h u
+  pub holds : Holds old shape.place copy h u
 
 -- ---- what was known
 
 -- texts were held before, and contents given before: the place stays clean
 pub clean_from : (shape : Shape) (old new : Image) → IsClean shape old
-    → (from : (copy h : ℕ) (u : List ℕ) → copy < shape.place.copies → Holds new shape.place.first copy h u
+    → (from : (copy h : ℕ) (u : List ℕ) → copy < shape.place.copies → Holds new shape.place copy h u
     → WasHeld shape old h u)
     → (given : (at : Where) → IsNamed shape.place new at → (copy : ℕ) (w : List ℕ) → copy < shape.place.copies
     → Gives (gift_of new shape at) copy w
@@ -131,18 +131,18 @@ module _ (shape : Shape) (old new : Image) (damaged : List ℕ) (positive : 1 �
   -- what holds its generation holds its text
   pub its_only : (h : ℕ) (u : List ℕ) → WasHeld shape old h u → h ≡ its.generation → u ≡ its.text
   its_only h u x e = clean.one_each x.copy its.copy its.generation u its.text x.inside its.inside
-      (subst (λ (k : ℕ). Holds old shape.place.first x.copy k u) e x.holds) its.holds
+      (subst (λ (k : ℕ). Holds old shape.place x.copy k u) e x.holds) its.holds
 
   module _ (less : IsLess shape its.generation its.text damaged old new) where
-    from : (copy h : ℕ) (u : List ℕ) → copy < shape.place.copies → Holds new shape.place.first copy h u
+    from : (copy h : ℕ) (u : List ℕ) → copy < shape.place.copies → Holds new shape.place copy h u
         → WasHeld shape old h u
     from copy h u lt v = elim (less.held copy h u lt v) [
       | inl was ↦ record { copy = copy; inside = lt; holds = was }
       | inr same ↦ record {
         copy = its.copy;
         inside = its.inside;
-        holds = subst (λ (k : ℕ). Holds old shape.place.first its.copy k u) (sym same.0)
-            (subst (λ (x : List ℕ). Holds old shape.place.first its.copy its.generation x) (sym same.1) its.holds);
+        holds = subst (λ (k : ℕ). Holds old shape.place its.copy k u) (sym same.0)
+            (subst (λ (x : List ℕ). Holds old shape.place its.copy its.generation x) (sym same.1) its.holds);
       }
     ]
 
@@ -158,7 +158,7 @@ module _ (shape : Shape) (old new : Image) (damaged : List ℕ) (positive : 1 �
     less_clean = clean_from shape old new clean from given
 
     counted_in : (copy h : ℕ) (u : List ℕ) (j : Index) → copy < shape.place.copies
-        → Holds new shape.place.first copy h u → fit_index shape u ≡ Some j
+        → Holds new shape.place copy h u → fit_index shape u ≡ Some j
         → (e : IndexEntry) → In e j.entries → (c : ℕ) (w : List ℕ) → c < shape.place.copies
         → Gives (gift_of new shape (where_of e)) c w
         → Gives (gift_of old shape (where_of e)) c w ⊎ (value_at old shape (where_of e) ≡ Some w)
@@ -176,7 +176,7 @@ module _ (shape : Shape) (old new : Image) (damaged : List ℕ) (positive : 1 �
 
     whole_in : (u : List ℕ) (j : Index) → fit_index shape u ≡ Some j → u ≡ its.text → (e : IndexEntry) → In e j.entries
         → (c : ℕ) (v : List ℕ) → c < shape.place.copies
-        → IsUndamaged damaged shape.place.first c → is_whole_at old shape c (where_of e) ≡ true
+        → IsUndamaged damaged shape.place c → is_whole_at old shape c (where_of e) ≡ true
         → Gives (gift_of old shape (where_of e)) c v
         → (is_whole_at new shape c (where_of e) ≡ true) × Gives (gift_of new shape (where_of e)) c v
     whole_in u j fit same = less.whole j (ap index_of (sym same) ∙ fit-spelled shape u j fit)
@@ -257,10 +257,10 @@ module _ (shape : Shape) (old new : Image) (damaged : List ℕ) (positive : 1 �
             which = inl (ap (view_of old shape) its.is);
           }
         where
-          one : (c : ℕ) × (c < shape.place.copies) × Holds new shape.place.first c its.generation its.text
+          one : (c : ℕ) × (c < shape.place.copies) × Holds new shape.place c its.generation its.text
           one =
-              let held = at_least_one (λ c. IsUndamaged damaged shape.place.first c
-              × Holds old shape.place.first c its.generation its.text) shape.place.copies shape.m positive
+              let held = at_least_one (λ c. IsUndamaged damaged shape.place c
+              × Holds old shape.place c its.generation its.text) shape.place.copies shape.m positive
               (enough_held shape old its.generation its.text its.index damaged enough_its) in
               (held.0, held.1, less.text held.0 held.1 held.2.0 held.2.1)
 
@@ -275,10 +275,10 @@ module _ (shape : Shape) (old new : Image) (damaged : List ℕ) (positive : 1 �
 
 -- outside the damage a copy that held the text holds it, and gives its contents whole as before
 pub record KeepsAll (shape : Shape) (g : ℕ) (t : List ℕ) (damaged : List ℕ) (old new : Image) : Type 0 where
-  pub text : KeepsText shape.place.first shape.place.copies g t damaged old new
+  pub text : KeepsText shape.place g t damaged old new
   pub whole : (i : Index) → index_of t ≡ Some i → (e : IndexEntry) → In e i.entries → (copy : ℕ) (v : List ℕ)
       → copy < shape.place.copies
-      → IsUndamaged damaged shape.place.first copy → is_whole_at old shape copy (where_of e) ≡ true
+      → IsUndamaged damaged shape.place copy → is_whole_at old shape copy (where_of e) ≡ true
       → Gives (gift_of old shape (where_of e)) copy v
       → (is_whole_at new shape copy (where_of e) ≡ true) × Gives (gift_of new shape (where_of e)) copy v
 
@@ -289,12 +289,12 @@ less_keeps shape g t damaged old new less = record { text = less.text; whole = l
 -- a text that fits, and whose contents are those of before, shows what is left of its view
 pub left_as : (shape : Shape) (old new : Image) (damaged : List ℕ) → 1 ≤ shape.m → IsClean shape old → IsClean shape new
     → (copy g : ℕ) (t : List ℕ) (i : Index)
-    → copy < shape.place.copies → Holds old shape.place.first copy g t → fit_index shape t ≡ Some i
+    → copy < shape.place.copies → Holds old shape.place copy g t → fit_index shape t ≡ Some i
     → ((e : IndexEntry) → In e i.entries → (copy : ℕ) (w : List ℕ) → copy < shape.place.copies
     → Gives (gift_of new shape (where_of e)) copy w
     → Gives (gift_of old shape (where_of e)) copy w ⊎ (value_at old shape (where_of e) ≡ Some w))
     → ((e : IndexEntry) → In e i.entries → (copy : ℕ) (v : List ℕ) → copy < shape.place.copies
-    → IsUndamaged damaged shape.place.first copy
+    → IsUndamaged damaged shape.place copy
     → is_whole_at old shape copy (where_of e) ≡ true → Gives (gift_of old shape (where_of e)) copy v
     → (is_whole_at new shape copy (where_of e) ≡ true) × Gives (gift_of new shape (where_of e)) copy v)
     → IsLeftAs shape damaged (view_of new shape (fit_at new shape g t i)) (view_of old shape (fit_at old shape g t i))
@@ -334,7 +334,7 @@ first_held shape old damaged x xs are one =
       one.0,
       one.1,
       spared.0,
-      subst (λ (u : FitText). Holds old shape.place.first one.0 u.0.generation u.0.text) at.is
+      subst (λ (u : FitText). Holds old shape.place one.0 u.0.generation u.0.text) at.is
           holds,
     )
 
@@ -375,7 +375,7 @@ salvage_first shape old text is = first_list (fit_texts shape old) (find (qualif
 
 -- copies hold only texts that they held, and give only contents that they gave
 pub record IsFewer (shape : Shape) (old new : Image) : Type 0 where
-  pub held : HoldsLess shape.place.first shape.place.copies old new
+  pub held : HoldsLess shape.place old new
   pub counted : (at : Where) → IsNamed shape.place new at → (copy : ℕ) (w : List ℕ) → copy < shape.place.copies
       → Gives (gift_of new shape at) copy w
       → Gives (gift_of old shape at) copy w
@@ -435,8 +435,8 @@ module _ (shape : Shape) (old new : Image) (damaged : List ℕ) (positive : 1 �
       keeps_x : KeepsAll shape at_x.generation at_x.text damaged old new
       keeps_x = subst (λ (u : FitText). KeepsAll shape u.0.generation u.0.text damaged old new) (sym at_x.is) keeps
 
-      still : Holds new shape.place.first one.0 at_x.generation at_x.text
-      still = subst (λ (u : FitText). Holds new shape.place.first one.0 u.0.generation u.0.text) (sym at_x.is)
+      still : Holds new shape.place one.0 at_x.generation at_x.text
+      still = subst (λ (u : FitText). Holds new shape.place one.0 u.0.generation u.0.text) (sym at_x.is)
           (keeps.text one.0 one.1 one.2 one.3)
 
       abbrev y : FitText

@@ -17,9 +17,9 @@ use Rattle.disk_model.specs.Damage.{AtLeast, IsUndamaged}
 use Rattle.m_of_n.specs.Vote.{voted}
 use Rattle.guarded_cell.specs.Register.{Holds}
 use Rattle.guarded_cell.specs.Held.{copies_that}
-use Rattle.guarded_cell.specs.HeldLaws.{holds_is, is_holds}
-use Rattle.guarded_cell.specs.CopyLaws.{enough_pass, passing_enough, passing_is, is_passing}
-use Rattle.guarded_cell.specs.StopLaws.{at_least_map, at_least_one}
+use Rattle.guarded_cell.specs.lemmas.HeldLaws.{holds_is, is_holds}
+use Rattle.guarded_cell.specs.lemmas.CopyLaws.{enough_pass, passing_enough, passing_is, is_passing}
+use Rattle.guarded_cell.specs.lemmas.StopLaws.{at_least_map, at_least_one}
 use Rattle.block_files.specs.Aside.{Where}
 use Rattle.block_files.specs.Areas.{within}
 use Rattle.block_files.specs.Contents.{first_content, lacks, lacking}
@@ -41,7 +41,7 @@ use Rattle.element_laws.specs.lemmas.Standing.{gift_of, StandsFor, headings_of, 
 
 -- the copy has all bytes of a content within its area
 abbrev pub is_whole_at : Image → Shape → ℕ → Where → Bool
-is_whole_at image shape copy at = within (image (area shape.place.first copy)) at.blocks at.len
+is_whole_at image shape copy at = within (image (area shape.place copy)) at.blocks at.len
 
 -- the value on which the copies agree
 abbrev pub value_at : Image → Shape → Where → Option (List ℕ)
@@ -77,7 +77,7 @@ module _ (shape : Shape) (image : Image) (at : Where) where
   lacks_at value copy = lacks value (gift_of image shape at copy) (is_whole_at image shape copy at)
 
   abbrev numbers : Option (List ℕ) → List ℕ
-  numbers value = lacking value shape.place.first shape.place.copies at.blocks at.len at.hash image
+  numbers value = lacking value shape.place at.blocks at.len at.hash image
 
   pub listed_lacks : (value : Option (List ℕ)) (copy : ℕ) → Contains (numbers value) (copy + 1)
       → lacks_at value copy ≡ true
@@ -110,7 +110,7 @@ that_many q n m some = passing_enough q n m some
 -- ---- a text on an image
 
 module _ (shape : Shape) (image : Image) (clean : IsClean shape image) (copy : ℕ) (g : ℕ) (t : List ℕ) (i : Index)
-    (inside : copy < shape.place.copies) (held : Holds image shape.place.first copy g t)
+    (inside : copy < shape.place.copies) (held : Holds image shape.place copy g t)
     (fit : fit_index shape t ≡ Some i) where
   abbrev pub named : (e : IndexEntry) → In e i.entries → IsNamed shape.place image (where_of e)
   named e h = record {
@@ -158,7 +158,7 @@ module _ (shape : Shape) (image : Image) (clean : IsClean shape image) (copy : �
 pub never_listed : (shape : Shape) (image : Image) (at : Where) (v : List ℕ) (c : ℕ) → 1 ≤ shape.m
     → Backed shape.m shape.place.copies (gift_of image shape at) (Good v)
     → is_whole_at image shape c at ≡ true → Gives (gift_of image shape at) c v
-    → ¬ (Contains (lacking (value_at image shape at) shape.place.first shape.place.copies at.blocks at.len at.hash
+    → ¬ (Contains (lacking (value_at image shape at) shape.place at.blocks at.len at.hash
     image) (c + 1))
 never_listed shape image at v c positive only whole gives listed =
     both_false (lacks_at shape image at (value_at image shape at) c)
@@ -174,24 +174,24 @@ never_listed shape image at v c positive only whole gives listed =
 -- a text that qualifies is held
 pub qualified_held : (shape : Shape) (image : Image) (g : ℕ) (t : List ℕ) (i : Index) → 1 ≤ shape.m
     → qualifies image shape (fit_at image shape g t i) ≡ true
-    → (c : ℕ) × (c < shape.place.copies) × Holds image shape.place.first c g t
+    → (c : ℕ) × (c < shape.place.copies) × Holds image shape.place c g t
 qualified_held shape image g t i positive passes = go shape.scope
     (leb-true shape.m (length (supporters shape.scope image shape.place (fit_at image shape g t i))) passes)
   where
     go : (s : Scope) → shape.m ≤ length (supporters s image shape.place (fit_at image shape g t i))
-        → (c : ℕ) × (c < shape.place.copies) × Holds image shape.place.first c g t
+        → (c : ℕ) × (c < shape.place.copies) × Holds image shape.place c g t
     go scope.Element le =
         let one = at_least_one (λ c. holds_text image shape.place (fit_at image shape g t i) c ≡ true)
         shape.place.copies shape.m positive
         (enough_pass (holds_text image shape.place (fit_at image shape g t i)) shape.place.copies shape.m le) in
-        (one.0, one.1, holds_is image shape.place.first one.0 (g, t) one.2)
+        (one.0, one.1, holds_is image shape.place one.0 (g, t) one.2)
     go scope.Storage le =
         let one = at_least_one (λ c. holds_all image shape.place (fit_at image shape g t i) c ≡ true) shape.place.copies
         shape.m positive
         (enough_pass (holds_all image shape.place (fit_at image shape g t i)) shape.place.copies shape.m le) in
         let r = both_true (holds_text image shape.place (fit_at image shape g t i) one.0)
         (list_all (λ e. counts image shape.place e one.0) i.entries) one.2 in
-        (one.0, one.1, holds_is image shape.place.first one.0 (g, t) r.0)
+        (one.0, one.1, holds_is image shape.place one.0 (g, t) r.0)
 
 -- ---- copies that do not lack a storage
 
@@ -206,15 +206,15 @@ module _ (shape : Shape) (old : Image) (g : ℕ) (t : List ℕ) (i : Index) wher
   numbers_lacking s = store_lacking s lacks_text (entries_of old shape text_was) shape.place.copies
 
   pub spared_holds : (s : Scope) (c : ℕ) → c < shape.place.copies → ¬ (Contains (numbers_lacking s) (c + 1))
-      → Holds old shape.place.first c g t
-  spared_holds scope.Element c lt absent = holds_is old shape.place.first c (g, t)
+      → Holds old shape.place c g t
+  spared_holds scope.Element c lt absent = holds_is old shape.place c (g, t)
       (not_is_false (holds_text old shape.place text_was c)
       (false_not_true (lacks_text c) (λ yes. absent (passing_is lacks_text shape.place.copies c lt yes))))
   spared_holds scope.Storage c lt absent =
       let test : ℕ → Bool = λ c. lacks_text c || lacks_one (entries_of old shape text_was) (c + 1) in
       let r = or_false (lacks_text c) (lacks_one (entries_of old shape text_was) (c + 1))
       (false_not_true (test c) (λ yes. absent (passing_is test shape.place.copies c lt yes))) in
-      holds_is old shape.place.first c (g, t) (not_is_false (holds_text old shape.place text_was c) r.0)
+      holds_is old shape.place c (g, t) (not_is_false (holds_text old shape.place text_was c) r.0)
 
   pub spared_element : (c : ℕ) → c < shape.place.copies → ¬ (Contains (numbers_lacking scope.Storage) (c + 1))
       → (e : IndexEntry) → In e i.entries
@@ -237,10 +237,10 @@ module _ (shape : Shape) (old : Image) (g : ℕ) (t : List ℕ) (i : Index) wher
     enough_lacking = subst (λ (xs : List ℕ). HasEnough shape damaged xs) lacking_view enough
 
     -- so many copies outside the damage held the text
-    pub enough_held : AtLeast (λ c. IsUndamaged damaged shape.place.first c × Holds old shape.place.first c g t)
+    pub enough_held : AtLeast (λ c. IsUndamaged damaged shape.place c × Holds old shape.place c g t)
         shape.place.copies shape.m
     enough_held = at_least_map (IsSpared shape damaged (numbers_lacking shape.scope))
-        (λ c. IsUndamaged damaged shape.place.first c × Holds old shape.place.first c g t) shape.place.copies shape.m
+        (λ c. IsUndamaged damaged shape.place c × Holds old shape.place c g t) shape.place.copies shape.m
         (λ c lt spared. (spared.0, spared_holds shape.scope c lt spared.1)) enough_lacking
 
 -- ---- and on another
@@ -252,13 +252,13 @@ pub record ContentsLeft (shape : Shape) (index : Index) (damaged : List ℕ) (ol
       → Gives (gift_of new shape (where_of e)) copy w
       → Gives (gift_of old shape (where_of e)) copy w ⊎ (value_at old shape (where_of e) ≡ Some w)
   pub whole : (e : IndexEntry) → In e index.entries → (copy : ℕ) (v : List ℕ) → copy < shape.place.copies
-      → IsUndamaged damaged shape.place.first copy
+      → IsUndamaged damaged shape.place copy
       → is_whole_at old shape copy (where_of e) ≡ true → Gives (gift_of old shape (where_of e)) copy v
       → (is_whole_at new shape copy (where_of e) ≡ true) × Gives (gift_of new shape (where_of e)) copy v
 
 module _ (shape : Shape) (old new : Image) (damaged : List ℕ) (positive : 1 ≤ shape.m) (clean : IsClean shape old)
     (copy : ℕ) (g : ℕ) (t : List ℕ) (i : Index)
-    (inside : copy < shape.place.copies) (held : Holds old shape.place.first copy g t)
+    (inside : copy < shape.place.copies) (held : Holds old shape.place copy g t)
     (fit : fit_index shape t ≡ Some i)
     (counted : (e : IndexEntry) → In e i.entries → (copy : ℕ) (w : List ℕ) → copy < shape.place.copies
     → Gives (gift_of new shape (where_of e)) copy w
@@ -301,7 +301,7 @@ module _ (shape : Shape) (old new : Image) (damaged : List ℕ) (positive : 1 �
   }
 
   module _ (whole : (e : IndexEntry) → In e i.entries → (copy : ℕ) (v : List ℕ) → copy < shape.place.copies
-      → IsUndamaged damaged shape.place.first copy
+      → IsUndamaged damaged shape.place copy
       → is_whole_at old shape copy (where_of e) ≡ true → Gives (gift_of old shape (where_of e)) copy v
       → (is_whole_at new shape copy (where_of e) ≡ true) × Gives (gift_of new shape (where_of e)) copy v) where
     -- what a spared copy gives of a good element
@@ -388,15 +388,15 @@ module _ (shape : Shape) (old new : Image) (damaged : List ℕ) (positive : 1 �
       unfolding view_of
       enough_left = zip_right (HasValue shape new damaged) (entry_view old shape.place shape.m) i.entries value_entry
 
-      module _ (text : (c : ℕ) → c < n → IsUndamaged damaged shape.place.first c → Holds old shape.place.first c g t
-          → Holds new shape.place.first c g t) where
+      module _ (text : (c : ℕ) → c < n → IsUndamaged damaged shape.place c → Holds old shape.place c g t
+          → Holds new shape.place c g t) where
         still_all : shape.m ≤ length (supporters scope.Storage old shape.place was) → (c : ℕ) → c < n
             → IsSpared shape damaged (store_numbers scope.Storage) c
             → holds_all new shape.place is c ≡ true
         unfolding entry_view
         still_all le c lt spared = true_both (holds_text new shape.place is c)
             (list_all (λ e. counts new shape.place e c) i.entries)
-            (is_holds new shape.place.first c (g, t) (text c lt spared.0
+            (is_holds new shape.place c (g, t) (text c lt spared.0
             (spared_holds shape old g t i scope.Storage c lt spared.1)))
             (In-list_all (λ e. counts new shape.place e c) i.entries (λ e h.
             let v = with_values shape old clean copy g t i inside held fit positive le e h in
@@ -409,7 +409,7 @@ module _ (shape : Shape) (old new : Image) (damaged : List ℕ) (positive : 1 �
         supported scope.Element le some = that_many (holds_text new shape.place is) n shape.m
             (at_least_map (IsSpared shape damaged (store_numbers scope.Element))
             (λ c. holds_text new shape.place is c ≡ true) n shape.m
-            (λ c lt spared. is_holds new shape.place.first c (g, t)
+            (λ c lt spared. is_holds new shape.place c (g, t)
             (text c lt spared.0 (spared_holds shape old g t i scope.Element c lt spared.1))) some)
         supported scope.Storage le some = that_many (holds_all new shape.place is) n shape.m
             (at_least_map (IsSpared shape damaged (store_numbers scope.Storage))
@@ -425,13 +425,13 @@ module _ (shape : Shape) (old new : Image) (damaged : List ℕ) (positive : 1 �
 -- ---- a text of which no copy is new, qualified before where it does now
 
 module _ (shape : Shape) (old new : Image) (g : ℕ) (t : List ℕ) (i : Index)
-    (held : (c : ℕ) → c < shape.place.copies → Holds new shape.place.first c g t → Holds old shape.place.first c g t)
+    (held : (c : ℕ) → c < shape.place.copies → Holds new shape.place c g t → Holds old shape.place c g t)
     (counted : (e : IndexEntry) → In e i.entries → (copy : ℕ) (w : List ℕ) → copy < shape.place.copies
     → Gives (gift_of new shape (where_of e)) copy w
     → Gives (gift_of old shape (where_of e)) copy w) where
   text_back : (c : ℕ) → c < shape.place.copies → holds_text new shape.place (fit_at new shape g t i) c ≡ true
       → holds_text old shape.place (fit_at old shape g t i) c ≡ true
-  text_back c lt e = is_holds old shape.place.first c (g, t) (held c lt (holds_is new shape.place.first c (g, t) e))
+  text_back c lt e = is_holds old shape.place c (g, t) (held c lt (holds_is new shape.place c (g, t) e))
 
   all_back : (c : ℕ) → c < shape.place.copies → holds_all new shape.place (fit_at new shape g t i) c ≡ true
       → holds_all old shape.place (fit_at old shape g t i) c ≡ true

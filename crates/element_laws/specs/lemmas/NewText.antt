@@ -10,8 +10,8 @@ use Rattle.per_base.specs.declared.elements.Content.TheVariants.{Good}
 use Rattle.disk_model.specs.Image.{Image}
 use Rattle.disk_model.specs.Damage.{AtLeast, IsUndamaged}
 use Rattle.guarded_cell.specs.Register.{Holds}
-use Rattle.guarded_cell.specs.HeldLaws.{is_holds}
-use Rattle.guarded_cell.specs.StopLaws.{at_least_map}
+use Rattle.guarded_cell.specs.lemmas.HeldLaws.{is_holds}
+use Rattle.guarded_cell.specs.lemmas.StopLaws.{at_least_map}
 use Rattle.index_text.specs.declared.entries.Index.{Index}
 use Rattle.index_text.specs.declared.entries.IndexEntry.{IndexEntry}
 use Rattle.element_state.specs.declared.shapes.Shape.{Shape}
@@ -31,7 +31,7 @@ pub record EntryStands (shape : Shape) (image : Image) (damaged : List ℕ) (e :
   pub headed : IsHeaded e f
   pub backed : Backed shape.m shape.place.copies (gift_of image shape (where_of e)) f.content
   pub gives : (v : List ℕ) (c : ℕ) → f.content ≡ Good v → c < shape.place.copies
-      → IsUndamaged damaged shape.place.first c
+      → IsUndamaged damaged shape.place c
       → (is_whole_at image shape c (where_of e) ≡ true) × Gives (gift_of image shape (where_of e)) c v
   pub good : shape.scope ≡ scope.Storage → (v : List ℕ) × (f.content ≡ Good v)
 
@@ -56,10 +56,10 @@ module _ (shape : Shape) (image : Image) (damaged : List ℕ) (g : ℕ) (t : Lis
           i.entries there.entries (λ e f h k s. s.backed) stand;
     }
 
-    pub new_enough : AtLeast (λ c. IsUndamaged damaged shape.place.first c) shape.place.copies shape.m
+    pub new_enough : AtLeast (λ c. IsUndamaged damaged shape.place c) shape.place.copies shape.m
         → AllZip (HasValue shape image damaged) i.entries there.entries
     new_enough some = zip_with (EntryStands shape image damaged) (HasValue shape image damaged) i.entries there.entries
-        (λ e f h k s v good enough. at_least_map (λ c. IsUndamaged damaged shape.place.first c)
+        (λ e f h k s v good enough. at_least_map (λ c. IsUndamaged damaged shape.place c)
         (λ c. Gives (gift_of image shape (where_of e)) c v) shape.place.copies shape.m
         (λ c lt spared. (s.gives v c good lt spared).1) some) stand
 
@@ -86,15 +86,15 @@ module _ (shape : Shape) (image : Image) (damaged : List ℕ) (g : ℕ) (t : Lis
         i.entries there.entries (λ e f h k s. costs_entry positive e f s) stand)
 
     -- where each copy outside the damage holds the text, and so many are, it qualifies
-    module _ (held : (c : ℕ) → c < shape.place.copies → IsUndamaged damaged shape.place.first c
-        → Holds image shape.place.first c g t)
-        (some : AtLeast (λ c. IsUndamaged damaged shape.place.first c) shape.place.copies shape.m) where
-      text_held : (c : ℕ) → c < shape.place.copies → IsUndamaged damaged shape.place.first c
+    module _ (held : (c : ℕ) → c < shape.place.copies → IsUndamaged damaged shape.place c
+        → Holds image shape.place c g t)
+        (some : AtLeast (λ c. IsUndamaged damaged shape.place c) shape.place.copies shape.m) where
+      text_held : (c : ℕ) → c < shape.place.copies → IsUndamaged damaged shape.place c
           → holds_text image shape.place (fit_at image shape g t i) c ≡ true
-      text_held c lt spared = is_holds image shape.place.first c (g, t) (held c lt spared)
+      text_held c lt spared = is_holds image shape.place c (g, t) (held c lt spared)
 
       all_held : shape.scope ≡ scope.Storage → (c : ℕ) → c < shape.place.copies
-          → IsUndamaged damaged shape.place.first c
+          → IsUndamaged damaged shape.place c
           → holds_all image shape.place (fit_at image shape g t i) c ≡ true
       all_held storage c lt spared =
           true_both (holds_text image shape.place (fit_at image shape g t i) c)
@@ -108,12 +108,12 @@ module _ (shape : Shape) (image : Image) (damaged : List ℕ) (g : ℕ) (t : Lis
           ≤ length (supporters s image shape.place (fit_at image shape g t i))
       new_supported scope.Element is = that_many (holds_text image shape.place (fit_at image shape g t i))
           shape.place.copies shape.m
-          (at_least_map (λ c. IsUndamaged damaged shape.place.first c)
+          (at_least_map (λ c. IsUndamaged damaged shape.place c)
           (λ c. holds_text image shape.place (fit_at image shape g t i) c ≡ true) shape.place.copies shape.m
           text_held some)
       new_supported scope.Storage is = that_many (holds_all image shape.place (fit_at image shape g t i))
           shape.place.copies shape.m
-          (at_least_map (λ c. IsUndamaged damaged shape.place.first c)
+          (at_least_map (λ c. IsUndamaged damaged shape.place c)
           (λ c. holds_all image shape.place (fit_at image shape g t i) c ≡ true) shape.place.copies shape.m
           (all_held is) some)
 

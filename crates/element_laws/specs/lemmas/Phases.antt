@@ -10,7 +10,7 @@ use Rattle.disk_model.specs.Place.{slot, area, IsNoArea}
 use Rattle.hash_guard.specs.SealedText.{VerifiesAs}
 use Rattle.guarded_cell.specs.Register.{Holds, own}
 use Rattle.guarded_cell.specs.Stops.{IsSlotPiece, IsOldOrNew, HoldsLess}
-use Rattle.guarded_cell.specs.StopLaws.{alone_only}
+use Rattle.guarded_cell.specs.lemmas.StopLaws.{alone_only}
 use Rattle.block_files.specs.Aside.{Where, StandsAside, AsideLaw}
 use Rattle.block_files.specs.Contents.{counting}
 use Rattle.block_files.specs.Areas.{within}
@@ -145,18 +145,18 @@ module _ (shape : Shape) (start mid new : Image) (damaged : List ℕ) (after : S
     (clean : IsClean shape start)
     (same : (f : ℕ) → IsOfPlace shape.place f → mid f ≡ start f) (d : DecaysFor (IsPiece shape.place) damaged mid new)
   where
-    slot_same : (copy h : ℕ) → copy < shape.place.copies → mid (slot shape.place.first copy (own h))
-        ≡ start (slot shape.place.first copy (own h))
-    slot_same copy h lt = let small = own_small h in same (slot shape.place.first copy (own h))
+    slot_same : (copy h : ℕ) → copy < shape.place.copies → mid (slot shape.place copy (own h))
+        ≡ start (slot shape.place copy (own h))
+    slot_same copy h lt = let small = own_small h in same (slot shape.place copy (own h))
         (record { copy = copy; kind = own h; inside = lt; small = omega (arith, small); is = refl })
 
-    area_same : (copy : ℕ) → copy < shape.place.copies → mid (area shape.place.first copy)
-        ≡ start (area shape.place.first copy)
-    area_same copy lt = same (area shape.place.first copy)
+    area_same : (copy : ℕ) → copy < shape.place.copies → mid (area shape.place copy)
+        ≡ start (area shape.place copy)
+    area_same copy lt = same (area shape.place copy)
         (record { copy = copy; kind = 2; inside = lt; small = omega arith; is = refl })
 
-    held_same : (copy h : ℕ) (u : List ℕ) → copy < shape.place.copies → Holds mid shape.place.first copy h u
-        → Holds start shape.place.first copy h u
+    held_same : (copy h : ℕ) (u : List ℕ) → copy < shape.place.copies → Holds mid shape.place copy h u
+        → Holds start shape.place copy h u
     held_same copy h u lt v = subst (λ (bytes : List ℕ). VerifiesAs bytes h u) (slot_same copy h lt) v
 
     given_same : (at : Where) (copy : ℕ) (w : List ℕ) → copy < shape.place.copies → Gives (gift_of mid shape at) copy w
@@ -247,13 +247,13 @@ salvage_corrupt shape start text is = corrupt_found shape start
 
 -- some copy holds it
 pub salvage_held : (shape : Shape) (start : Image) (text : FitText) → IsSalvageAt shape start text
-    → (copy : ℕ) × (copy < shape.place.copies) × Holds start shape.place.first copy text.0.generation text.0.text
+    → (copy : ℕ) × (copy < shape.place.copies) × Holds start shape.place copy text.0.generation text.0.text
 salvage_held shape start text is =
     let list = salvage_first shape start text is in
     let at = at_first shape start text list.0 list.1 in (
       at.copy,
       at.inside,
-      subst (λ (u : FitText). Holds start shape.place.first at.copy u.0.generation u.0.text) at.is
+      subst (λ (u : FitText). Holds start shape.place at.copy u.0.generation u.0.text) at.is
           at.holds,
     )
 
@@ -265,16 +265,16 @@ one_salvage shape start text other a b = ap (λ (p : Bool × FitText). p.1)
 -- ---- slots are written, and no area
 
 module _ (shape : Shape) (c : Case) where
-  pub sound_slots : IsSound shape.place c → IsSoundFor (IsSlotPiece shape.place.first shape.place.copies) c
+  pub sound_slots : IsSound shape.place c → IsSoundFor (IsSlotPiece shape.place) c
   sound_slots sound x is = sound.pieces (in_slot x) is
 
   pub decays_slots : (damaged : List ℕ) (image : Image) → DecaysFor (IsPiece shape.place) damaged c.left image
-      → DecaysFor (IsSlotPiece shape.place.first shape.place.copies) damaged c.left image
+      → DecaysFor (IsSlotPiece shape.place) damaged c.left image
   decays_slots damaged image d = record { others = d.others; pieces = λ x is. d.pieces (in_slot x) is }
 
 -- contents are what they were, where the areas were not touched
 module _ (shape : Shape) (start left new : Image) (damaged : List ℕ)
-    (same : (copy : ℕ) → left (area shape.place.first copy) ≡ start (area shape.place.first copy))
+    (same : (copy : ℕ) → left (area shape.place copy) ≡ start (area shape.place copy))
     (d : DecaysFor (IsPiece shape.place) damaged left new) where
   pub given_then : (at : Where) → IsNamed shape.place new at → (copy : ℕ) (w : List ℕ) → copy < shape.place.copies
       → Gives (gift_of new shape at) copy w → Gives (gift_of start shape at) copy w
@@ -282,7 +282,7 @@ module _ (shape : Shape) (start left new : Image) (damaged : List ℕ)
       subst (λ (file : List ℕ). counting file at.blocks at.len at.hash ≡ Some w) (same copy)
       (given_back shape damaged left new d at is copy w lt gives)
 
-  pub whole_then : (at : Where) (copy : ℕ) (v : List ℕ) → IsUndamaged damaged shape.place.first copy
+  pub whole_then : (at : Where) (copy : ℕ) (v : List ℕ) → IsUndamaged damaged shape.place copy
       → is_whole_at start shape copy at ≡ true
       → Gives (gift_of start shape at) copy v → (is_whole_at new shape copy at ≡ true)
       × Gives (gift_of new shape at) copy v
@@ -292,10 +292,10 @@ module _ (shape : Shape) (start left new : Image) (damaged : List ℕ)
 
 pub adopt : AdoptLaw
 adopt shape start g t i after c positive clean opens stops sound damaged image d =
-    let it : IsOldOrNew shape.place.first shape.place.copies g t damaged start image =
+    let it : IsOldOrNew shape.place g t damaged start image =
     stops.slots (sound_slots shape c sound) damaged image (decays_slots shape c damaged image d) in
-    let same = λ (copy : ℕ). stops.elsewhere.left (area shape.place.first copy)
-    (area_no_slot shape.place.first shape.place.copies copy) in
+    let same = λ (copy : ℕ). stops.elsewhere.left (area shape.place copy)
+    (area_no_slot shape.place copy) in
     less_kept shape start image damaged g t i after positive clean opens (record {
       held = λ copy h u lt v. it.known copy lt h u v;
       counted = λ at is copy w lt gives. inl (given_then shape start c.left image damaged same d at is copy w lt gives);
@@ -306,10 +306,10 @@ adopt shape start g t i after c positive clean opens stops sound damaged image d
 
 pub keep : KeepLaw
 keep shape start text after c positive clean salvage stops sound damaged image d =
-    let known : HoldsLess shape.place.first shape.place.copies start image =
+    let known : HoldsLess shape.place start image =
     stops.known (sound_slots shape c sound) damaged image (decays_slots shape c damaged image d) in
-    let same = λ (copy : ℕ). stops.elsewhere.left (area shape.place.first copy)
-    (area_no_slot shape.place.first shape.place.copies copy) in
+    let same = λ (copy : ℕ). stops.elsewhere.left (area shape.place copy)
+    (area_no_slot shape.place copy) in
     let its : KeepsAll shape text.0.generation text.0.text damaged start image = record {
       text = stops.kept (sound_slots shape c sound) damaged image (decays_slots shape c damaged image d);
       whole = λ j spells e k copy v lt spared was gave. whole_then shape start c.left image damaged same d (where_of e)
@@ -341,48 +341,48 @@ named_entry shape image g t i spells only at is =
 
 module _ (aside : AsideLaw) (shape : Shape) (now : Image) (i : Index) (taken : ℕ → Bool) (is_index : IsIndex i)
     (takes : TakesBlocks taken i)
-    (old c : Case) (settled : IsSettledAt now old) (keeps : KeepsCase (IsNoArea shape.place.first shape.place.copies)
+    (old c : Case) (settled : IsSettledAt now old) (keeps : KeepsCase (IsNoArea shape.place)
     (λ k. taken k ≡ true) old c) where
   pub stands_aside : (e : IndexEntry) → In e i.entries → (f : ℕ)
       → StandsAside (where_of e) (now f) (c.base f) (c.full f) (c.left f)
-  stands_aside e h f = aside shape.place.first shape.place.copies taken now old c settled keeps (where_of e)
+  stands_aside e h f = aside shape.place taken now old c settled keeps (where_of e)
       (all_in (λ (e : IndexEntry). (k : ℕ) → k < length e.blocks → taken (slice_index e.blocks k) ≡ true) i.entries
       takes e h) (room i is_index e h) f
 
-  pub slot_then : (copy h : ℕ) → c.left (slot shape.place.first copy (own h))
-      ≡ now (slot shape.place.first copy (own h))
-  slot_then copy h = keeps.left.files (slot shape.place.first copy (own h))
-      (slot_no_area shape.place.first shape.place.copies copy h)
-      ∙ ap (λ (image : Image). image (slot shape.place.first copy (own h))) settled.left
+  pub slot_then : (copy h : ℕ) → c.left (slot shape.place copy (own h))
+      ≡ now (slot shape.place copy (own h))
+  slot_then copy h = keeps.left.files (slot shape.place copy (own h))
+      (slot_no_area shape.place copy h)
+      ∙ ap (λ (image : Image). image (slot shape.place copy (own h))) settled.left
 
 pub contents_less : AsideLaw → (shape : Shape) (start now : Image) (g : ℕ) (t : List ℕ) (i : Index) (taken : ℕ → Bool)
     (damaged : List ℕ) (old c : Case)
     → IsAdopted shape start now g t i → IsIndex i → TakesBlocks taken i → IsSettledAt now old
-    → KeepsCase (IsNoArea shape.place.first shape.place.copies) (λ k. taken k ≡ true) old c
+    → KeepsCase (IsNoArea shape.place) (λ k. taken k ≡ true) old c
     → IsSoundFor (IsPiece shape.place) c
     → IsLess shape g t damaged start c.left × HoldsOnly shape c.left g t
 contents_less aside shape start now g t i taken damaged old c adopted is_index takes settled keeps sound =
-    let first = shape.place.first in
+    let place = shape.place in
     let copies = shape.place.copies in
     let its_slot = λ (copy h : ℕ). slot_then aside shape now i taken is_index takes old c settled keeps copy h in
     let stands = λ (e : IndexEntry) (k : In e i.entries) (f : ℕ).
     stands_aside aside shape now i taken is_index takes old c settled keeps e k f in
-    let area_was = λ (copy : ℕ). adopted.areas (area first copy) (area_no_slot first copies copy) in
-    let held_now = λ (copy h : ℕ) (u : List ℕ) (v : Holds c.left first copy h u).
+    let area_was = λ (copy : ℕ). adopted.areas (area place copy) (area_no_slot place copy) in
+    let held_now = λ (copy h : ℕ) (u : List ℕ) (v : Holds c.left place copy h u).
     subst (λ (bytes : List ℕ). VerifiesAs bytes h u) (its_slot copy h) v in
     let only : HoldsOnly shape c.left g t = λ copy h u lt v.
-    alone_only now first copies g t adopted.alone copy lt h u (held_now copy h u v) in
+    alone_only now place g t adopted.alone copy lt h u (held_now copy h u v) in
     let spells = fit-spelled shape t i adopted.opens.fit in
     let less : IsLess shape g t damaged start c.left = record {
       held = λ copy h u lt v. inr (only copy h u lt v);
       counted = λ at is copy w lt gives.
           let (e, k, same) = named_entry shape c.left g t i spells only at is in
           let piece = sound (in_blocks (its_blocks shape copy at w)) (given_piece shape copy at w c.left lt is gives) in
-          let from : (counting (c.base (area first copy)) at.blocks at.len at.hash ≡ Some w)
-          ⊎ (counting (c.full (area first copy)) at.blocks at.len at.hash ≡ Some w) =
+          let from : (counting (c.base (area place copy)) at.blocks at.len at.hash ≡ Some w)
+          ⊎ (counting (c.full (area place copy)) at.blocks at.len at.hash ≡ Some w) =
           elim piece [ inl p ↦ inl p.counts | inr p ↦ inr p.counts ] in
-          let stand = subst (λ (at : Where). StandsAside at (now (area first copy)) (c.base (area first copy))
-          (c.full (area first copy)) (c.left (area first copy))) same (stands e k (area first copy)) in
+          let stand = subst (λ (at : Where). StandsAside at (now (area place copy)) (c.base (area place copy))
+          (c.full (area place copy)) (c.left (area place copy))) same (stands e k (area place copy)) in
           inl (subst (λ (file : List ℕ). counting file at.blocks at.len at.hash ≡ Some w) (area_was copy)
           (stand.piece w from));
       text = λ copy lt spared v. subst (λ (bytes : List ℕ). VerifiesAs bytes g t) (sym (its_slot copy g))
@@ -392,7 +392,7 @@ contents_less aside shape start now g t i taken damaged old c adopted is_index t
           let at = where_of e in
           let now_is = subst (λ (file : List ℕ). (within file at.blocks at.len ≡ true)
           × (counting file at.blocks at.len at.hash ≡ Some v)) (sym (area_was copy)) (was, gave) in
-          let stand = (stands e (subst (λ (j : Index). In e j.entries) one k) (area first copy)).whole now_is.0 in
+          let stand = (stands e (subst (λ (j : Index). In e j.entries) one k) (area place copy)).whole now_is.0 in
           (stand.1, stand.0 ∙ now_is.1);
     } in
     (less, only)
@@ -409,7 +409,7 @@ contents aside shape start now g t i taken after old c positive adopted is_index
 pub contents_then : AsideLaw → (shape : Shape) (start now then : Image) (g : ℕ) (t : List ℕ) (i : Index)
     (taken : ℕ → Bool) (damaged : List ℕ)
     → IsAdopted shape start now g t i → IsIndex i → TakesBlocks taken i
-    → Keeps (IsNoArea shape.place.first shape.place.copies) (λ k. taken k ≡ true) now then
+    → Keeps (IsNoArea shape.place) (λ k. taken k ≡ true) now then
     → IsLess shape g t damaged start then × HoldsOnly shape then g t
 contents_then aside shape start now then g t i taken damaged adopted is_index takes keeps =
     contents_less aside shape start now g t i taken damaged (record { base = now; full = now; left = now })

@@ -164,7 +164,7 @@ content_at shape image at = content_of (value_at image shape at)
     (first_content (gifts (gift_of image shape at) shape.place.copies))
 
 abbrev lacking_at : Shape → Image → Where → List ℕ
-lacking_at shape image at = lacking (value_at image shape at) shape.place.first shape.place.copies at.blocks at.len
+lacking_at shape image at = lacking (value_at image shape at) shape.place at.blocks at.len
     at.hash image
 
 -- what is seen of an entry goes by where its content lies
@@ -219,8 +219,8 @@ opened shape start text e =
     record {
       copy = u.copy;
       inside = u.inside;
-      held = subst (λ (g : ℕ). Holds start shape.place.first u.copy g text.0.text) generation
-          (subst (λ (t : List ℕ). Holds start shape.place.first u.copy u.generation t) its u.holds);
+      held = subst (λ (g : ℕ). Holds start shape.place u.copy g text.0.text) generation
+          (subst (λ (t : List ℕ). Holds start shape.place u.copy u.generation t) its u.holds);
       fit = subst (λ (i : Index). fit_index shape text.0.text ≡ Some i) index
           (subst (λ (t : List ℕ). fit_index shape t ≡ Some u.index) its u.fit);
       view = view_of start shape r.0;

@@ -52,7 +52,7 @@ one_fit shape image clean y z hy hz e =
     let g : u.generation ≡ v.generation = ap (λ (x : FitText). x.0.generation) u.is ∙ e
     ∙ sym (ap (λ (x : FitText). x.0.generation) v.is) in
     let t : u.text ≡ v.text = clean.one_each u.copy v.copy v.generation u.text v.text u.inside v.inside
-    (subst (λ (n : ℕ). Holds image shape.place.first u.copy n u.text) g u.holds) v.holds in
+    (subst (λ (n : ℕ). Holds image shape.place u.copy n u.text) g u.holds) v.holds in
     let i : u.index ≡ v.index = some_is u.index v.index (sym u.fit ∙ ap (fit_index shape) t ∙ v.fit) in
     sym u.is ∙ (λ j. fit_at image shape (g j) (t j) (i j)) ∙ v.is
 
@@ -180,7 +180,7 @@ module _ (shape : Shape) (image : Image) (damaged : List ℕ) (positive : 1 ≤ 
     pub there : View
     pub copy : ℕ
     pub inside : copy < shape.place.copies
-    pub holds : Holds image shape.place.first copy generation text
+    pub holds : Holds image shape.place copy generation text
     pub fit : fit_index shape text ≡ Some index
     pub passes : q (fit_at image shape generation text index) ≡ true
     pub most : (z : FitText) → In z xs → q z ≡ true → z.0.generation ≤ generation
@@ -215,7 +215,7 @@ module _ (shape : Shape) (image : Image) (damaged : List ℕ) (positive : 1 ≤ 
   -- each text that may be found stands for a view of before, or for that of after
   abbrev pub EachStands : State → State → Type 0
   EachStands before after = (copy g : ℕ) (t : List ℕ) (i : Index) → copy < shape.place.copies
-      → Holds image shape.place.first copy g t
+      → Holds image shape.place copy g t
       → fit_index shape t ≡ Some i → (there : View) × In there (all_views before ++ listed (salvage_of after))
       × StandsFor shape image g i there
 
@@ -234,7 +234,7 @@ module _ (shape : Shape) (image : Image) (damaged : List ℕ) (positive : 1 ≤ 
   -- where it opens now with the same headings, the stop has cost no copy
   abbrev pub SparesCopies : View → Type 0
   SparesCopies v = (copy g : ℕ) (t : List ℕ) (i : Index) → copy < shape.place.copies
-      → Holds image shape.place.first copy g t → fit_index shape t ≡ Some i
+      → Holds image shape.place copy g t → fit_index shape t ≡ Some i
       → g ≡ v.generation → CostsNoCopy shape damaged (view (fit_at image shape g t i)) v
 
   spared_by : (v : View) (others : List View) → SparesCopies v → (o : Option (FitText × List FitText)) → picked q xs ≡ o

@@ -9,8 +9,8 @@ use Rattle.per_base.specs.declared.elements.Content.{Content}
 use Rattle.per_base.specs.declared.elements.Content.TheVariants.{Good}
 use Rattle.per_base.specs.declared.elements.Entry.{Entry}
 use Rattle.disk_model.specs.Damage.{AtLeast, IsUndamaged}
-use Rattle.guarded_cell.specs.CopyLaws.{enough_pass}
-use Rattle.guarded_cell.specs.StopLaws.{at_least_map}
+use Rattle.guarded_cell.specs.lemmas.CopyLaws.{enough_pass}
+use Rattle.guarded_cell.specs.lemmas.StopLaws.{at_least_map}
 use Rattle.std.specs.List.{AllZip}
 use Rattle.disk_model.specs.Image.{Image}
 use Rattle.guarded_cell.specs.Register.{Holds}
@@ -47,21 +47,21 @@ use Rattle.element_laws.specs.lemmas.Phases.{no_open, corrupt_pick}
 pub record SalvageKept (shape : Shape) (damaged : List ℕ) (start new : Image) (g : ℕ) (next : List ℕ)
     (text : FitText) : Type 0 where
   pub below : text.0.generation < g
-  pub held : KeepsText shape.place.first shape.place.copies text.0.generation text.0.text damaged start new
-      ⊎ ((copy : ℕ) → copy < shape.place.copies → IsUndamaged damaged shape.place.first copy
-      → Holds new shape.place.first copy g next)
+  pub held : KeepsText shape.place text.0.generation text.0.text damaged start new
+      ⊎ ((copy : ℕ) → copy < shape.place.copies → IsUndamaged damaged shape.place copy
+      → Holds new shape.place copy g next)
   pub whole : (i : Index) → index_of text.0.text ≡ Some i → (e : IndexEntry) → In e i.entries → (copy : ℕ) (v : List ℕ)
       → copy < shape.place.copies
-      → IsUndamaged damaged shape.place.first copy → is_whole_at start shape copy (where_of e) ≡ true
+      → IsUndamaged damaged shape.place copy → is_whole_at start shape copy (where_of e) ≡ true
       → Gives (gift_of start shape (where_of e)) copy v
       → (is_whole_at new shape copy (where_of e) ≡ true) × Gives (gift_of new shape (where_of e)) copy v
 
 module _ (shape : Shape) (start new : Image) (damaged : List ℕ) (positive : 1 ≤ shape.m) (clean : IsClean shape start)
     (g : ℕ) (next : List ℕ) (index : Index) (view : View) (others : List View)
     (fit : fit_index shape next ≡ Some index) (generation_is : view.generation ≡ g)
-    (stand : (copy : ℕ) → copy < shape.place.copies → Holds new shape.place.first copy g next
+    (stand : (copy : ℕ) → copy < shape.place.copies → Holds new shape.place copy g next
     → AllZip (EntryStands shape new damaged) index.entries view.entries)
-    (texts : (copy h : ℕ) (u : List ℕ) → copy < shape.place.copies → Holds new shape.place.first copy h u
+    (texts : (copy h : ℕ) (u : List ℕ) → copy < shape.place.copies → Holds new shape.place copy h u
     → (WasHeld shape start h u × (h ≡ g → ⊥)) ⊎ ((h ≡ g) × (u ≡ next)))
     (counted : (at : Where) → (is : IsNamed shape.place new at) → (is.generation ≡ g → ⊥) → IsNamed shape.place start at
     → (copy : ℕ) (w : List ℕ) → copy < shape.place.copies
@@ -127,7 +127,7 @@ module _ (shape : Shape) (start new : Image) (damaged : List ℕ) (positive : 1 
   }
 
   -- an old text stands for what it stood for
-  old_counted : (copy h : ℕ) (u : List ℕ) (j : Index) → copy < shape.place.copies → Holds new shape.place.first copy h u
+  old_counted : (copy h : ℕ) (u : List ℕ) (j : Index) → copy < shape.place.copies → Holds new shape.place copy h u
       → fit_index shape u ≡ Some j → WasHeld shape start h u → (h ≡ g → ⊥)
       → (e : IndexEntry) → In e j.entries → (c : ℕ) (w : List ℕ) → c < shape.place.copies
       → Gives (gift_of new shape (where_of e)) c w
@@ -136,7 +136,7 @@ module _ (shape : Shape) (start new : Image) (damaged : List ℕ) (positive : 1 
       counted (where_of e) (named shape new two_clean copy h u j lt v is e k) apart
       (named shape start clean x.copy h u j x.inside x.holds is e k) c w ltc gives
 
-  pub stands_new : (copy : ℕ) → copy < shape.place.copies → Holds new shape.place.first copy g next
+  pub stands_new : (copy : ℕ) → copy < shape.place.copies → Holds new shape.place copy g next
       → StandsFor shape new g index view
   stands_new copy lt v = new_stands shape new damaged g next index view (stand copy lt v) generation_is
 
@@ -147,8 +147,8 @@ module _ (shape : Shape) (start new : Image) (damaged : List ℕ) (positive : 1 
         (s.0, append-In s.0 (all_views (store_at start shape)) (view ∷ []) (inl s.1), s.2)
     | inr same ↦
         let one : index ≡ j = some_is index j (sym fit ∙ ap (fit_index shape) (sym same.1) ∙ is) in
-        let held = subst (λ (k : ℕ). Holds new shape.place.first copy k next) same.0
-        (subst (λ (x : List ℕ). Holds new shape.place.first copy h x) same.1 v) in (
+        let held = subst (λ (k : ℕ). Holds new shape.place copy k next) same.0
+        (subst (λ (x : List ℕ). Holds new shape.place copy h x) same.1 v) in (
           view,
           append-In view (all_views (store_at start shape)) (view ∷ []) (inr (inl refl)),
           subst (λ (k : ℕ). StandsFor shape new k j view) (sym same.0)
@@ -160,7 +160,7 @@ module _ (shape : Shape) (start new : Image) (damaged : List ℕ) (positive : 1 
 
   module _ (corrupt : IsCorruptAt shape start)
       (same_copy : (copy h : ℕ) (u : List ℕ) → copy < shape.place.copies → (h ≡ g → ⊥)
-      → Holds new shape.place.first copy h u → Holds start shape.place.first copy h u)
+      → Holds new shape.place copy h u → Holds start shape.place copy h u)
       (same_gift : (at : Where) → (is : IsNamed shape.place new at) → (is.generation ≡ g → ⊥)
       → IsNamed shape.place start at → (copy : ℕ) (w : List ℕ) → copy < shape.place.copies
       → Gives (gift_of new shape at) copy w → Gives (gift_of start shape at) copy w) where
@@ -168,7 +168,7 @@ module _ (shape : Shape) (start new : Image) (damaged : List ℕ) (positive : 1 
     pick_new = picked (qualifies new shape) (fit_texts shape new)
 
     -- copies give the values of a new text that qualifies
-    module _ (copy : ℕ) (lt : copy < shape.place.copies) (holds : Holds new shape.place.first copy g next)
+    module _ (copy : ℕ) (lt : copy < shape.place.copies) (holds : Holds new shape.place copy g next)
         (passes : qualifies new shape (fit_at new shape g next index) ≡ true) where
       enough_all : shape.scope ≡ scope.Storage → AtLeast (λ c.
           holds_all new shape.place (fit_at new shape g next index) c ≡ true) shape.place.copies shape.m
@@ -225,8 +225,8 @@ module _ (shape : Shape) (start new : Image) (damaged : List ℕ) (positive : 1 
               (fit-In start shape x.0.copy u.generation u.text u.index x.0.inside x.0.holds u.fit) back)
           | inr same ↦
               let one : u.index ≡ index = some_is u.index index (sym u.fit ∙ ap (fit_index shape) same.1 ∙ fit) in
-              let held = subst (λ (k : ℕ). Holds new shape.place.first u.copy k next) same.0
-              (subst (λ (x : List ℕ). Holds new shape.place.first u.copy u.generation x) same.1 u.holds) in
+              let held = subst (λ (k : ℕ). Holds new shape.place u.copy k next) same.0
+              (subst (λ (x : List ℕ). Holds new shape.place u.copy u.generation x) same.1 u.holds) in
               let at : fit_at new shape g next index ≡ r.0 = (λ j.
               fit_at new shape (sym same.0 j) (sym same.1 j) (sym one j)) ∙ u.is in
               subst (λ v. BecomesAs shape damaged v (Opens view others)) (ap (view_of new shape) at ∙ shown)
@@ -245,7 +245,7 @@ module _ (shape : Shape) (start new : Image) (damaged : List ℕ) (positive : 1 
     -- ---- the salvage
 
     -- the new text, where a copy holds it
-    left_new : (copy : ℕ) → copy < shape.place.copies → Holds new shape.place.first copy g next
+    left_new : (copy : ℕ) → copy < shape.place.copies → Holds new shape.place copy g next
         → IsLeftAs shape damaged (view_of new shape (fit_at new shape g next index)) view
     left_new copy lt holds = record {
       same = same_headings shape new damaged positive two_clean g next index view (stands_new copy lt holds);
@@ -277,12 +277,12 @@ module _ (shape : Shape) (start new : Image) (damaged : List ℕ) (positive : 1 
         }
 
     module _ (x : FitText) (xs : List FitText) (are : fit_texts shape start ≡ x ∷ xs) (below : x.0.generation < g)
-        (keeps : KeepsText shape.place.first shape.place.copies x.0.generation x.0.text damaged start new
-        ⊎ ((copy : ℕ) → copy < shape.place.copies → IsUndamaged damaged shape.place.first copy
-        → Holds new shape.place.first copy g next))
+        (keeps : KeepsText shape.place x.0.generation x.0.text damaged start new
+        ⊎ ((copy : ℕ) → copy < shape.place.copies → IsUndamaged damaged shape.place copy
+        → Holds new shape.place copy g next))
         (whole : (i : Index) → index_of x.0.text ≡ Some i → (e : IndexEntry) → In e i.entries → (copy : ℕ) (v : List ℕ)
         → copy < shape.place.copies
-        → IsUndamaged damaged shape.place.first copy → is_whole_at start shape copy (where_of e) ≡ true
+        → IsUndamaged damaged shape.place copy → is_whole_at start shape copy (where_of e) ≡ true
         → Gives (gift_of start shape (where_of e)) copy v
         → (is_whole_at new shape copy (where_of e) ≡ true) × Gives (gift_of new shape (where_of e)) copy v)
         (one : HasHolder shape start damaged x) where
@@ -299,7 +299,7 @@ module _ (shape : Shape) (start new : Image) (damaged : List ℕ) (positive : 1 
       apart_x e = let same = generation_x in omega (arith, below, e, same)
 
       -- a text of before that is held, and above which none is, is the salvage
-      left_old : (copy : ℕ) → copy < shape.place.copies → Holds new shape.place.first copy at_x.generation at_x.text
+      left_old : (copy : ℕ) → copy < shape.place.copies → Holds new shape.place copy at_x.generation at_x.text
           → IsLeftAs shape damaged (view_of new shape (fit_at new shape at_x.generation at_x.text at_x.index))
           (view_of start shape x)
       left_old copy lt held =
@@ -313,9 +313,9 @@ module _ (shape : Shape) (start new : Image) (damaged : List ℕ) (positive : 1 
           (whole at_x.index (ap index_of (sym text_x) ∙ fit-spelled shape at_x.text at_x.index at_x.fit)))
 
       -- one of the two is held
-      held_one : Holds new shape.place.first one.0 at_x.generation at_x.text ⊎ Holds new shape.place.first one.0 g next
+      held_one : Holds new shape.place one.0 at_x.generation at_x.text ⊎ Holds new shape.place one.0 g next
       held_one = elim keeps [
-        | inl old ↦ inl (subst (λ (u : FitText). Holds new shape.place.first one.0 u.0.generation u.0.text)
+        | inl old ↦ inl (subst (λ (u : FitText). Holds new shape.place one.0 u.0.generation u.0.text)
             (sym at_x.is) (old one.0 one.1 one.2 one.3))
         | inr newer ↦ inr (newer one.0 one.1 one.2)
       ]
@@ -331,8 +331,8 @@ module _ (shape : Shape) (start new : Image) (damaged : List ℕ) (positive : 1 
             (sym fit ∙ ap (fit_index shape) (sym same.1) ∙ at_z.fit) in
             let at : fit_at new shape g next index ≡ z = (λ k. fit_at new shape (sym same.0 k) (sym same.1 k) (i k))
             ∙ at_z.is in
-            let held = subst (λ (k : ℕ). Holds new shape.place.first at_z.copy k next) same.0
-            (subst (λ (u : List ℕ). Holds new shape.place.first at_z.copy at_z.generation u) same.1 at_z.holds) in
+            let held = subst (λ (k : ℕ). Holds new shape.place at_z.copy k next) same.0
+            (subst (λ (u : List ℕ). Holds new shape.place at_z.copy at_z.generation u) same.1 at_z.holds) in
             subst (λ (u : FitText). IsLeftAs shape damaged (view_of new shape u) view) at
             (left_new at_z.copy at_z.inside held)
 

@@ -5,6 +5,7 @@ use Rattle.disk_model.specs.Frame.{IsSettledOn}
 use Rattle.disk_model.specs.Place.{IsOutside}
 use Rattle.disk_model.specs.Laws.{goes_none}
 use Rattle.disk_model.specs.lemmas.Frames.{settled_on}
+use Rattle.disk_model.specs.declared.place.Place.{Place}
 use Rattle.element_state.specs.declared.shapes.Shape.{Shape}
 use Rattle.element_state.specs.States.{State}
 use Rattle.element_state.specs.Conditions.{IsShape}
@@ -18,7 +19,7 @@ none_kept untouched told shape state old is law quiet clean = goes_none (IsKeptC
     (λ c here. untouched shape old.image state c is.some clean (settled_on (IsOfPlace shape.place) (quiet c here)))
 
 -- what lies outside a place stays at every moment
-pub none_around : (told : Bool) (first copies : ℕ) (old : Medium) → IsLawful told old → Quiet old
-    → EachCase (IsSettledOn (IsOutside first copies) old.image) old old
-none_around told first copies old law quiet = goes_none (IsSettledOn (IsOutside first copies) old.image) law
-    (λ c here. settled_on (IsOutside first copies) (quiet c here))
+pub none_around : (told : Bool) (place : Place) (old : Medium) → IsLawful told old → Quiet old
+    → EachCase (IsSettledOn (IsOutside place) old.image) old old
+none_around told place old law quiet = goes_none (IsSettledOn (IsOutside place) old.image) law
+    (λ c here. settled_on (IsOutside place) (quiet c here))

@@ -12,7 +12,7 @@ use Rattle.disk_model.specs.declared.place.Place.{Place}
 use Rattle.disk_model.specs.Image.{Image}
 use Rattle.disk_model.specs.Orders.{named_in}
 use Rattle.guarded_cell.specs.Held.{copies_that}
-use Rattle.guarded_cell.specs.CopyLaws.{named_passing}
+use Rattle.guarded_cell.specs.lemmas.CopyLaws.{named_passing}
 use Rattle.element_state.specs.Fit.{FitText}
 use Rattle.element_state.specs.Views.{holds_text, holds_all, counts, supporters, qualifies}
 use Rattle.element_state.specs.Chosen.{is_whole_of}

@@ -8,7 +8,7 @@ use Rattle.base_tests.proofs.contents.put_beside.Goals as goal
 
 pub put_shared-requires-clause-whole : goal.put_shared-requires-clause-whole
 put_shared-requires-clause-whole c = λ tells.
-    let P : List ℕ → Type 0 = λ xs. AllFull c.args.place.first c.args.place.copies xs c.args.old.now
+    let P : List ℕ → Type 0 = λ xs. AllFull c.args.place xs c.args.old.now
     (image_of c.put_blob.new.disk.files) in
     subst P (sym c.as_slice-old_blocks.ensures) (c.in_ok-put.ensures.whole tells)
 

@@ -10,7 +10,7 @@ use Rattle.block_files.proofs.getting.get_blob.Goals as goal
 pub returns-clause-lacking : goal.returns-clause-lacking
 returns-clause-lacking g c = λ tells.
     c.in_ok-blob.ensures.lacking
-    ∙ lacking_is c.in_ok-blob.blob.value c.args.place.first c.args.place.copies c.args.blocks.now c.args.len
+    ∙ lacking_is c.in_ok-blob.blob.value c.args.place c.args.blocks.now c.args.len
     c.args.hash.now
     (g.D.Disk.medium c.args.disk.now).image (texts_of c.in_ok-looked.looked.texts.items)
     c.in_ok-looked.looked.inside.items

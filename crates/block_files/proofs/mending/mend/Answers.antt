@@ -10,12 +10,12 @@ use Rattle.block_files.proofs.mending.mend.Goals as goal
 
 pub write_copies-requires-clause-shared : goal.write_copies-requires-clause-shared
 write_copies-requires-clause-shared g c = λ tells i lt.
-    shared_none ((g.D.Disk.medium c.args.disk.now).image (area_of c.args.place.first (get_or c.args.copies.now i 0)))
+    shared_none ((g.D.Disk.medium c.args.disk.now).image (area_of c.args.place (get_or c.args.copies.now i 0)))
     c.args.blocks.now c.args.bytes.now
 
 pub returns-clause-done : goal.returns-clause-done
 returns-clause-done g c =
-    let none = IsNoneOf c.args.place.first c.args.copies.now in
+    let none = IsNoneOf c.args.place c.args.copies.now in
     wrote_less g.D.Disk.told none (IsApartFromChanged c.args.blocks.now c.args.bytes.now []) none
     (IsApart c.args.blocks.now)
     (λ f is. is) (apart_none c.args.blocks.now c.args.bytes.now [])
@@ -27,7 +27,7 @@ returns-clause-done g c =
 
 pub returns-in_err-write_copies-clause-failed : goal.returns-in_err-write_copies-clause-failed
 returns-in_err-write_copies-clause-failed g c =
-    let none = IsNoneOf c.args.place.first c.args.copies.now in
+    let none = IsNoneOf c.args.place c.args.copies.now in
     on_err c.from_residual.result
     (tore_less g.D.Disk.told none (IsApartFromChanged c.args.blocks.now c.args.bytes.now []) none
     (IsApart c.args.blocks.now)

@@ -16,7 +16,7 @@ write_shared-requires g c =
       room = omega (arith, ap length c.as_slice.ensures, c.in_ok-blob.ensures.count);
       distinct = subst P (sym c.as_slice.ensures) c.in_ok-blob.ensures.distinct;
       shared = λ tells i lt. (
-          let file = (g.D.Disk.medium c.args.disk.now).image (area c.args.place.first i) in
+          let file = (g.D.Disk.medium c.args.disk.now).image (area c.args.place i) in
           let Q : List ℕ → Type 0 = λ xs. HoldsShared file xs c.args.bytes.now c.args.old_bytes.now in
           subst Q (sym c.as_slice.ensures)
           (holds_shared file blocks c.args.bytes.now c.args.old_blocks.now c.args.old_bytes.now c.args.used.now
@@ -26,7 +26,7 @@ write_shared-requires g c =
 pub returns-in_err-write_shared-clause-failed : goal.returns-in_err-write_shared-clause-failed
 returns-in_err-write_shared-clause-failed g c = λ failed.
     let blocks = c.in_ok-blob.blob.blocks in
-    let none = IsNoArea c.args.place.first c.args.place.copies in
+    let none = IsNoArea c.args.place in
     let n = c.args.place.copies * (256 * changed c.args.bytes.now c.args.old_bytes.now) in
     let P : List ℕ → Type 0 = λ xs. (k : ℕ) → IsTaken c.args.used.now k
     → IsApartFromChanged xs c.args.bytes.now c.args.old_bytes.now k in

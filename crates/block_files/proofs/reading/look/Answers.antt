@@ -35,7 +35,7 @@ loop-copy-preserved g c =
           let same = ap (λ im. im c.area-file.result) c.loop-copy.invariant.read.reads.image
           ∙ ap old.image c.area-file.ensures in
           ap texts_of c.in_ok-push.ensures.items
-          ∙ texts_more c.args.place.first i blocks c.args.len c.args.hash.now old.image c.loop-copy.texts.items
+          ∙ texts_more c.args.place i blocks c.args.len c.args.hash.now old.image c.loop-copy.texts.items
           c.in_ok-text.text
           (c.loop-copy.invariant.texts tells) (text.text tells
           ∙ ap (λ file. counting file blocks c.args.len c.args.hash.now) same));
@@ -44,7 +44,7 @@ loop-copy-preserved g c =
           let here = c.is_inside.ensures ∙ ap (λ s. is_within s blocks c.args.len) (size.size tells)
           ∙ ap (λ file. within file blocks c.args.len) same in
           c.in_ok-push-2.ensures.items
-          ∙ inside_more c.args.place.first i blocks c.args.len old.image c.loop-copy.inside.items c.is_inside.result
+          ∙ inside_more c.args.place i blocks c.args.len old.image c.loop-copy.inside.items c.is_inside.result
           (c.loop-copy.invariant.inside tells) here);
       copies = (
         ap length c.in_ok-push.ensures.items ∙ length_push c.loop-copy.texts.items c.in_ok-text.text

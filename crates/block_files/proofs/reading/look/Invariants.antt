@@ -3,7 +3,8 @@ use Rattle.std.specs.List.{range_with_len}
 use Rattle.disk_model.specs.Place.{area}
 use Rattle.m_of_n.specs.Vote.{texts_of}
 use Rattle.block_files.specs.Areas.{within}
-use Rattle.block_files.specs.Contents.{contents, HaveSize}
+use Rattle.block_files.specs.Contents.{HaveSize}
+use Rattle.block_files.proofs.Counting.{contents_of}
 use Rattle.block_files.proofs.BlockReads.{IsRead}
 use Rattle.block_files.proofs.reading.look.Given as goal
 
@@ -11,9 +12,9 @@ abbrev pub invariant-loop-copy : goal.invariant-loop-copy
 invariant-loop-copy g l = record {
   read : IsRead (g.D.Disk.medium l.fn.disk) (g.D.Disk.medium l.disk);
   texts : IsTrue g.D.Disk.told → texts_of l.texts.items
-      ≡ contents l.place.first l.copy l.blocks l.len l.hash (g.D.Disk.medium l.fn.disk).image;
+      ≡ contents_of l.place l.copy l.blocks l.len l.hash (g.D.Disk.medium l.fn.disk).image;
   inside : IsTrue g.D.Disk.told → l.inside.items
-      ≡ map (λ c. within ((g.D.Disk.medium l.fn.disk).image (area l.place.first c)) l.blocks l.len)
+      ≡ map (λ c. within ((g.D.Disk.medium l.fn.disk).image (area l.place c)) l.blocks l.len)
       (range_with_len 0 l.copy);
   copies : (length l.texts.items ≡ l.copy) × (length l.inside.items ≡ l.copy);
   size : HaveSize (min l.len (256 * length l.blocks)) (texts_of l.texts.items);

@@ -10,11 +10,11 @@ use Rattle.block_files.proofs.writing.write_blob.Goals as goal
 
 pub write_shared-requires-clause-shared : goal.write_shared-requires-clause-shared
 write_shared-requires-clause-shared g c = λ tells i lt.
-    shared_none ((g.D.Disk.medium c.args.disk.now).image (area c.args.place.first i)) c.args.blocks.now c.args.bytes.now
+    shared_none ((g.D.Disk.medium c.args.disk.now).image (area c.args.place i)) c.args.blocks.now c.args.bytes.now
 
 pub returns-clause-done : goal.returns-clause-done
 returns-clause-done g c =
-    let none = IsNoArea c.args.place.first c.args.place.copies in
+    let none = IsNoArea c.args.place in
     on_ok_weaker c.write_shared.result
     (wrote_less g.D.Disk.told none (IsApartFromChanged c.args.blocks.now c.args.bytes.now []) none
     (IsApart c.args.blocks.now)
@@ -26,7 +26,7 @@ returns-clause-done g c =
 
 pub returns-clause-failed : goal.returns-clause-failed
 returns-clause-failed g c =
-    let none = IsNoArea c.args.place.first c.args.place.copies in
+    let none = IsNoArea c.args.place in
     on_err_weaker c.write_shared.result
     (tore_less g.D.Disk.told none (IsApartFromChanged c.args.blocks.now c.args.bytes.now []) none
     (IsApart c.args.blocks.now)

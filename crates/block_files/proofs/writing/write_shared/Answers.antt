@@ -9,18 +9,18 @@ use Rattle.block_files.specs.lemmas.Stretches.{wrote_less, tore_less}
 use Rattle.block_files.proofs.writing.write_shared.Goals as goal
 
 pub write_copies-requires-clause-copies : goal.write_copies-requires-clause-copies
-write_copies-requires-clause-copies g c = numbers_named c.args.place.copies c.args.place.few
+write_copies-requires-clause-copies g c = numbers_named c.args.place
 
 pub write_copies-requires-clause-shared : goal.write_copies-requires-clause-shared
 write_copies-requires-clause-shared g c = λ tells.
-    shared_named c.args.place.copies c.args.place.few c.args.place.first c.args.blocks.now c.args.bytes.now
+    shared_named c.args.place c.args.blocks.now c.args.bytes.now
     c.args.was.now
     (g.D.Disk.medium c.args.disk.now).image (c.requires.shared tells)
 
 pub returns-clause-whole : goal.returns-clause-whole
 returns-clause-whole g c = λ tells.
     on_ok_weaker c.write_copies.result
-    (all_full c.args.place.copies c.args.place.few c.args.place.first c.args.blocks.now c.args.bytes.now
+    (all_full c.args.place c.args.blocks.now c.args.bytes.now
     (g.D.Disk.medium c.write_copies.new.disk).image)
     (c.write_copies.ensures.whole tells)
 
@@ -30,11 +30,11 @@ returns-clause-done g c =
     let apart = IsApartFromChanged c.args.blocks.now c.args.bytes.now c.args.was.now in
     let n = 256 * changed c.args.bytes.now c.args.was.now in
     let le : length (take place.copies numbers) * n ≤ place.copies * n =
-    omega (arith, ap (λ k. k * n) (length-numbers place.copies place.few)) in
+    omega (arith, ap (λ k. k * n) (length-numbers place)) in
     on_ok_weaker c.write_copies.result
-    (wrote_less g.D.Disk.told (IsNoneOf place.first (take place.copies numbers)) apart
-    (IsNoArea place.first place.copies) apart
-    (none_named place.copies place.few place.first) (λ k is. is) (length (take place.copies numbers) * n)
+    (wrote_less g.D.Disk.told (IsNoneOf place (take place.copies numbers)) apart
+    (IsNoArea place) apart
+    (none_named place) (λ k is. is) (length (take place.copies numbers) * n)
     (place.copies * n) le
     (g.D.Disk.medium c.args.disk.now) (g.D.Disk.medium c.write_copies.new.disk))
     c.write_copies.ensures.done
@@ -45,11 +45,11 @@ returns-clause-failed g c =
     let apart = IsApartFromChanged c.args.blocks.now c.args.bytes.now c.args.was.now in
     let n = 256 * changed c.args.bytes.now c.args.was.now in
     let le : length (take place.copies numbers) * n ≤ place.copies * n =
-    omega (arith, ap (λ k. k * n) (length-numbers place.copies place.few)) in
+    omega (arith, ap (λ k. k * n) (length-numbers place)) in
     on_err_weaker c.write_copies.result
-    (tore_less g.D.Disk.told (IsNoneOf place.first (take place.copies numbers)) apart
-    (IsNoArea place.first place.copies) apart
-    (none_named place.copies place.few place.first) (λ k is. is) (length (take place.copies numbers) * n)
+    (tore_less g.D.Disk.told (IsNoneOf place (take place.copies numbers)) apart
+    (IsNoArea place) apart
+    (none_named place) (λ k is. is) (length (take place.copies numbers) * n)
     (place.copies * n) le
     (g.D.Disk.medium c.args.disk.now) (g.D.Disk.medium c.write_copies.new.disk))
     c.write_copies.ensures.failed

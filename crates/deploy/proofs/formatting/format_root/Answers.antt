@@ -8,7 +8,7 @@ use Rattle.deploy.proofs.formatting.format_root.Goals as goal
 
 pub returns-in_err-text-clause-any_moment : goal.returns-in_err-text-clause-any_moment
 returns-in_err-text-clause-any_moment g c = λ tells quiet.
-    unformatted c.stops_are_lawful.ensures.untouched (root_place c.args.app).first (root_place c.args.app).copies 1
+    unformatted c.stops_are_lawful.ensures.untouched (root_place c.args.app) 1
     (root_text absent)
     g.D.Disk.told (g.D.Disk.medium c.args.disk.now) (g.met.D.Disk.lawful c.args.disk.now) quiet
 

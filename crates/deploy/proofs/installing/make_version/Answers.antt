@@ -48,11 +48,11 @@ returns-clause-outside g c = leaves_next g.D.Disk.told c.args.app c.args.bank c.
     (root_text (text.installed c.args.bank (version_said c.args.version.now)
     (option_map (λ (v : Bor VersionText). version_said v.now) c.args.previous)))
     (g.D.Disk.medium c.create_rest.new.disk) (g.D.Disk.medium c.write_version.new.disk)
-    (subst (λ (p : Place). IsTrue g.D.Disk.told → Spares (IsNoSlot p.first p.copies)
+    (subst (λ (p : Place). IsTrue g.D.Disk.told → Spares (IsNoSlot p)
     (g.D.Disk.medium c.create_rest.new.disk).image (g.D.Disk.medium c.write_version.new.disk).image)
     c.requires.cell.place c.write_version.ensures.elsewhere)
     (subst (λ (p : Place). IsTrue g.D.Disk.told → Quiet (g.D.Disk.medium c.create_rest.new.disk)
-    → EachCase (PutStops p.first p.copies (generation_of c.args.cell + 1)
+    → EachCase (PutStops p (generation_of c.args.cell + 1)
     (root_text (text.installed c.args.bank (version_said c.args.version.now)
     (option_map (λ (v : Bor VersionText). version_said v.now) c.args.previous)))
     (g.D.Disk.medium c.create_rest.new.disk).image) (g.D.Disk.medium c.create_rest.new.disk)
@@ -76,7 +76,7 @@ returns-clause-any_moment g c = stands_written c.one_root.ensures.again c.roots_
     c.in_ok-create_rest.ensures.time c.write_version.ensures.time c.in_ok-create_rest.ensures.quiet c.requires.fit
     c.in_ok-create_rest.ensures.made
     (subst (λ (p : Place). IsTrue g.D.Disk.told → Quiet (g.D.Disk.medium c.create_rest.new.disk)
-    → EachCase (PutStops p.first p.copies (generation_of c.args.cell + 1)
+    → EachCase (PutStops p (generation_of c.args.cell + 1)
     (root_text (text.installed c.args.bank (version_said c.args.version.now)
     (option_map (λ (v : Bor VersionText). version_said v.now) c.args.previous)))
     (g.D.Disk.medium c.create_rest.new.disk).image) (g.D.Disk.medium c.create_rest.new.disk)
@@ -108,7 +108,7 @@ returns-clause-app g c = λ tells. on_written c.write_version.result _ (g.D.Disk
     c.requires.fit (c.in_ok-create_rest.ensures.made tells)
     c.roots_say.ensures.versions c.files_lie_apart.ensures.slots c.others_stand.ensures.root c.roots_say.ensures.clean
     (g.D.Disk.medium c.write_version.new.disk).image ((subst
-    (λ (p : Place). IsTrue g.D.Disk.told → Spares (IsNoSlot p.first p.copies)
+    (λ (p : Place). IsTrue g.D.Disk.told → Spares (IsNoSlot p)
     (g.D.Disk.medium c.create_rest.new.disk).image (g.D.Disk.medium c.write_version.new.disk).image)
     c.requires.cell.place c.write_version.ensures.elsewhere) tells) now)
 
@@ -134,7 +134,7 @@ returns-clause-clean g c = λ tells were. on_written c.write_version.result _
     c.requires.fit (c.in_ok-create_rest.ensures.made tells)
     c.roots_say.ensures.versions c.files_lie_apart.ensures.slots c.others_stand.ensures.root c.roots_say.ensures.clean
     (g.D.Disk.medium c.write_version.new.disk).image ((subst
-    (λ (p : Place). IsTrue g.D.Disk.told → Spares (IsNoSlot p.first p.copies)
+    (λ (p : Place). IsTrue g.D.Disk.told → Spares (IsNoSlot p)
     (g.D.Disk.medium c.create_rest.new.disk).image (g.D.Disk.medium c.write_version.new.disk).image)
     c.requires.cell.place c.write_version.ensures.elsewhere) tells) now were)
 

@@ -9,12 +9,12 @@ use Rattle.deploy.proofs.opening.bring_to.Goals as goal
 
 pub adopt_seen-requires-clause-seen : goal.adopt_seen-requires-clause-seen
 adopt_seen-requires-clause-seen g c = λ tells.
-    subst (λ (p : Place). IsSeenOn (g.D.Disk.medium c.args.disk.now).image p.first p.copies c.args.standing.seen)
+    subst (λ (p : Place). IsSeenOn (g.D.Disk.medium c.args.disk.now).image p c.args.standing.seen)
     (sym c.root_place.ensures) (c.requires.seen tells)
 
 pub adopt_seen-requires-clause-slots : goal.adopt_seen-requires-clause-slots
 adopt_seen-requires-clause-slots g c = λ tells.
-    subst (λ (p : Place). IsSlotsOf (g.D.Disk.medium c.args.disk.now).image p.first p.copies c.args.standing.slots)
+    subst (λ (p : Place). IsSlotsOf (g.D.Disk.medium c.args.disk.now).image p c.args.standing.slots)
     (sym c.root_place.ensures) (c.requires.slots tells)
 
 pub returns-in_err-cell-clause-elsewhere : goal.returns-in_err-cell-clause-elsewhere

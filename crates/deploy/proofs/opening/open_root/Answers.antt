@@ -83,18 +83,18 @@ bring_to-requires-clause-seen g c = λ tells.
     let s = c.in-Some.standing in
     let first = is_first (texts_at old c.args.app) c.in_ok-standing.field-0 s c.in-Some.is
     (c.in_ok-standing.ensures.among tells) in
-    subst (λ (image : Image). IsSeenOn image (root_place c.args.app).first 3 s.seen)
+    subst (λ (image : Image). IsSeenOn image (root_place c.args.app) s.seen)
     (sym c.find_standing.ensures.image)
-    ((c.held_is_lawful.ensures.standing old (root_place c.args.app).first 3 2 (omega arith)).copies_are s.seen
+    ((c.held_is_lawful.ensures.standing old (root_place c.args.app) 2 (omega arith)).copies_are s.seen
     (found_stands c.held_is_lawful.ensures.among old c.args.app s first))
 
 pub bring_to-requires-clause-slots : goal.bring_to-requires-clause-slots
 bring_to-requires-clause-slots g c = λ tells.
     let old = (g.D.Disk.medium c.args.disk.now).image in
     let s = c.in-Some.standing in
-    subst (λ (image : Image). IsSlotsOf image (root_place c.args.app).first 3 s.slots)
+    subst (λ (image : Image). IsSlotsOf image (root_place c.args.app) s.slots)
     (sym c.find_standing.ensures.image)
-    (is_marked (λ s. IsSlotsOf old (root_place c.args.app).first 3 s.slots) c.in_ok-standing.field-0 s c.in-Some.is
+    (is_marked (λ s. IsSlotsOf old (root_place c.args.app) s.slots) c.in_ok-standing.field-0 s c.in-Some.is
     (c.in_ok-standing.ensures.slots tells))
 
 pub returns-in_err-root-clause-already : goal.returns-in_err-root-clause-already

@@ -25,7 +25,7 @@ returns-then-is_worn_out-clause-state g c = λ tells. worn_stays
 
 pub returns-then-is_worn_out-clause-outside : goal.returns-then-is_worn_out-clause-outside
 returns-then-is_worn_out-clause-outside g c = none_leaves g.D.Disk.told
-    (IsOutside c.args.shape.now.place.first c.args.shape.now.place.copies) (g.D.Disk.medium c.args.disk.now)
+    (IsOutside c.args.shape.now.place) (g.D.Disk.medium c.args.disk.now)
     (g.met.D.Disk.lawful c.args.disk.now)
 
 pub returns-then-is_worn_out-clause-any_moment : goal.returns-then-is_worn_out-clause-any_moment

@@ -22,7 +22,7 @@ use Rattle.deploy.proofs.recovering.recover_storage.Goals as goal
 pub returns-in_err-view-clause-outside : goal.returns-in_err-view-clause-outside
 returns-in_err-view-clause-outside g c = look_leaves (g.D.Disk.medium c.args.disk.now)
     (g.D.Disk.medium c.salvage.new.disk) c.in_err-view.ensures.image c.in_err-view.ensures.idle g.D.Disk.told
-    (IsOutside c.args.shape.now.place.first c.args.shape.now.place.copies)
+    (IsOutside c.args.shape.now.place)
 
 pub returns-in_err-view-clause-any_moment : goal.returns-in_err-view-clause-any_moment
 returns-in_err-view-clause-any_moment g c = λ tells. look_kept (g.D.Disk.medium c.args.disk.now)
@@ -35,7 +35,7 @@ returns-in_err-view-clause-any_moment g c = λ tells. look_kept (g.D.Disk.medium
 pub returns-in_err-contents-clause-outside : goal.returns-in_err-contents-clause-outside
 returns-in_err-contents-clause-outside g c = look_leaves (g.D.Disk.medium c.args.disk.now)
     (g.D.Disk.medium c.salvage.new.disk) c.in_ok-view.ensures.image c.in_ok-view.ensures.idle g.D.Disk.told
-    (IsOutside c.args.shape.now.place.first c.args.shape.now.place.copies)
+    (IsOutside c.args.shape.now.place)
 
 pub returns-in_err-contents-clause-any_moment : goal.returns-in_err-contents-clause-any_moment
 returns-in_err-contents-clause-any_moment g c = λ tells.
@@ -78,7 +78,7 @@ returns-then-needed-config-clause-clean g c = λ tells.
 pub returns-then-needed-config-clause-outside : goal.returns-then-needed-config-clause-outside
 returns-then-needed-config-clause-outside g c = look_leaves (g.D.Disk.medium c.args.disk.now)
     (g.D.Disk.medium c.salvage.new.disk) c.in_ok-view.ensures.image c.in_ok-view.ensures.idle g.D.Disk.told
-    (IsOutside c.args.shape.now.place.first c.args.shape.now.place.copies)
+    (IsOutside c.args.shape.now.place)
 
 pub returns-then-needed-config-clause-any_moment : goal.returns-then-needed-config-clause-any_moment
 returns-then-needed-config-clause-any_moment g c = λ tells.
@@ -155,7 +155,7 @@ pub returns-clause-outside : goal.returns-clause-outside
 returns-clause-outside g c = then_leaves (g.D.Disk.medium c.args.disk.now) (g.D.Disk.medium c.salvage.new.disk)
     c.in_ok-view.ensures.image c.in_ok-view.ensures.idle (g.D.Disk.medium c.rebuild_over.new.disk)
     c.in_ok-view.ensures.time c.rebuild_over.ensures.time g.D.Disk.told
-    (IsOutside c.args.shape.now.place.first c.args.shape.now.place.copies) c.rebuild_over.ensures.outside
+    (IsOutside c.args.shape.now.place) c.rebuild_over.ensures.outside
 
 pub returns-clause-any_moment : goal.returns-clause-any_moment
 returns-clause-any_moment g c = λ tells. then_kept (g.D.Disk.medium c.args.disk.now)

@@ -21,7 +21,7 @@ pub returns-clause-any_moment : goal.returns-clause-any_moment
 returns-clause-any_moment g c = λ tells quiet.
     let old = g.D.Disk.medium c.args.disk.now in
     let new = g.D.Disk.medium c.write.new.disk in
-    subst (λ (t : List ℕ). EachCase (PutStops (place_of c.args.cell).first (place_of c.args.cell).copies
+    subst (λ (t : List ℕ). EachCase (PutStops (place_of c.args.cell)
     (generation_of c.args.cell + 1) t old.image) old new)
     (c.deref.ensures.value ∙ c.in_ok-text.ensures.text) (c.in_ok-next.ensures.puts.any_moment tells quiet)
 
@@ -29,12 +29,12 @@ pub returns-in_err-next-clause-any_moment : goal.returns-in_err-next-clause-any_
 returns-in_err-next-clause-any_moment g c = λ tells quiet.
     let old = g.D.Disk.medium c.args.disk.now in
     let new = g.D.Disk.medium c.write.new.disk in
-    subst (λ (t : List ℕ). EachCase (PutStops (place_of c.args.cell).first (place_of c.args.cell).copies
+    subst (λ (t : List ℕ). EachCase (PutStops (place_of c.args.cell)
     (generation_of c.args.cell + 1) t old.image) old new)
     (c.deref.ensures.value ∙ c.in_ok-text.ensures.text) (c.in_err-next.ensures.puts.any_moment tells quiet)
 
 pub returns-in_err-text-clause-any_moment : goal.returns-in_err-text-clause-any_moment
 returns-in_err-text-clause-any_moment g c = λ tells quiet.
-    unwritten c.stops_are_lawful.ensures.untouched (place_of c.args.cell).first (place_of c.args.cell).copies
+    unwritten c.stops_are_lawful.ensures.untouched (place_of c.args.cell)
     (generation_of c.args.cell + 1) (root_text absent)
     g.D.Disk.told (g.D.Disk.medium c.args.disk.now) (g.met.D.Disk.lawful c.args.disk.now) quiet

@@ -21,7 +21,7 @@ write-requires-clause-short g c =
 
 pub returns-in_err-text-clause-any_moment : goal.returns-in_err-text-clause-any_moment
 returns-in_err-text-clause-any_moment g c = λ tells quiet.
-    unwritten c.stops_are_lawful.ensures.untouched c.args.cell.place.first c.args.cell.place.copies
+    unwritten c.stops_are_lawful.ensures.untouched c.args.cell.place
     (c.args.cell.generation + 1)
     (root_text (installed c.args.bank (version_said c.args.active.now)
     (option_map (λ v. version_said v.now) c.args.previous)))
@@ -30,14 +30,14 @@ returns-in_err-text-clause-any_moment g c = λ tells quiet.
 pub returns-in_err-next-clause-any_moment : goal.returns-in_err-next-clause-any_moment
 returns-in_err-next-clause-any_moment g c = λ tells quiet.
     let old = g.D.Disk.medium c.args.disk.now in
-    subst (λ (t : List ℕ). EachCase (PutStops c.args.cell.place.first c.args.cell.place.copies
+    subst (λ (t : List ℕ). EachCase (PutStops c.args.cell.place
     (c.args.cell.generation + 1) t old.image) old (g.D.Disk.medium c.write.new.disk))
     (c.deref.ensures.value ∙ c.in_ok-text.ensures.text) (c.in_err-next.ensures.puts.any_moment tells quiet)
 
 pub returns-clause-any_moment : goal.returns-clause-any_moment
 returns-clause-any_moment g c = λ tells quiet.
     let old = g.D.Disk.medium c.args.disk.now in
-    subst (λ (t : List ℕ). EachCase (PutStops c.args.cell.place.first c.args.cell.place.copies
+    subst (λ (t : List ℕ). EachCase (PutStops c.args.cell.place
     (c.args.cell.generation + 1) t old.image) old (g.D.Disk.medium c.write.new.disk))
     (c.deref.ensures.value ∙ c.in_ok-text.ensures.text) (c.in_ok-next.ensures.puts.any_moment tells quiet)
 

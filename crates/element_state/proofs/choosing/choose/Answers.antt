@@ -4,7 +4,7 @@ use Rattle.std.specs.List.{AllByRecursion, AllZip}
 use Rattle.std.proofs.lemmas.List.{get_or_default, nil_from_length}
 use Rattle.std.proofs.lemmas.Bool.{eqb-true, eq-eqb}
 use Rattle.std.specs.Prelude.{◌==◌}
-use Rattle.guarded_cell.specs.SeenLaws.{never_both}
+use Rattle.guarded_cell.specs.lemmas.SeenLaws.{never_both}
 use Rattle.disk_model.specs.Image.{Image}
 use Rattle.per_base.specs.declared.elements.Entry.{Entry}
 use Rattle.index_text.specs.declared.entries.IndexEntry.{IndexEntry}

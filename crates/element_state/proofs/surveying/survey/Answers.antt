@@ -57,5 +57,5 @@ returns-clause-salvaged g c = λ tells.
 pub returns-clause-slots : goal.returns-clause-slots
 returns-clause-slots g c = λ tells.
     let place = c.args.shape.now.place in
-    found_slots (g.D.Disk.medium c.args.disk.now).image place.first place.copies c.in_ok-seens.field-0.slots
+    found_slots (g.D.Disk.medium c.args.disk.now).image place c.in_ok-seens.field-0.slots
     c.in_ok-found.found c.in_ok-found.ensures.slots (c.in_ok-seens.ensures.slots tells)

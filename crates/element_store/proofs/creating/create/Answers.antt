@@ -98,7 +98,7 @@ returns-clause-view g c =
 pub returns-in_err-keep_only-clause-elsewhere : goal.returns-in_err-keep_only-clause-elsewhere
 returns-in_err-keep_only-clause-elsewhere g c = λ tells f out.
     c.in_err-keep_only.ensures.clears.elsewhere tells f
-    (outside_no_slot c.args.shape.place.first c.args.shape.place.copies f out)
+    (outside_no_slot c.args.shape.place f out)
 
 pub returns-in_err-keep_only-clause-outside : goal.returns-in_err-keep_only-clause-outside
 returns-in_err-keep_only-clause-outside g c = λ tells quiet.
@@ -112,7 +112,7 @@ returns-in_err-keep_only-clause-untorn g c = λ tells quiet.
 
 pub returns-in_err-spelled-clause-elsewhere : goal.returns-in_err-spelled-clause-elsewhere
 returns-in_err-spelled-clause-elsewhere g c = λ tells.
-    contents_elsewhere c.args.shape.place.first c.args.shape.place.copies [] (g.D.Disk.medium c.args.disk.now)
+    contents_elsewhere c.args.shape.place [] (g.D.Disk.medium c.args.disk.now)
     (g.D.Disk.medium c.keep_only.new.disk) (g.D.Disk.medium c.put_contents.new.disk)
     c.in_ok-keep_only.ensures.clears.time
     c.in_err-spelled.ensures.time
@@ -136,8 +136,8 @@ returns-in_err-spelled-clause-untorn g c = λ tells quiet.
     (kept_names_nothing c.args.shape.place _ _ (c.in_ok-keep_only.ensures.alone tells))
 
 pub returns-in_err-taken-clause-elsewhere : goal.returns-in_err-taken-clause-elsewhere
-returns-in_err-taken-clause-elsewhere g c = λ tells. contents_elsewhere c.args.shape.place.first
-    c.args.shape.place.copies [] (g.D.Disk.medium c.args.disk.now) (g.D.Disk.medium c.keep_only.new.disk)
+returns-in_err-taken-clause-elsewhere g c = λ tells. contents_elsewhere c.args.shape.place []
+    (g.D.Disk.medium c.args.disk.now) (g.D.Disk.medium c.keep_only.new.disk)
     (g.D.Disk.medium c.put_contents.new.disk) c.in_ok-keep_only.ensures.clears.time c.in_ok-spelled.ensures.time
     (c.in_ok-keep_only.ensures.clears.elsewhere tells) (c.in_ok-spelled.ensures.elsewhere tells)
 
@@ -160,7 +160,7 @@ returns-in_err-taken-clause-untorn g c = λ tells quiet.
 
 pub returns-in_err-entries-clause-elsewhere : goal.returns-in_err-entries-clause-elsewhere
 returns-in_err-entries-clause-elsewhere g c = λ tells.
-    contents_elsewhere c.args.shape.place.first c.args.shape.place.copies [] (g.D.Disk.medium c.args.disk.now)
+    contents_elsewhere c.args.shape.place [] (g.D.Disk.medium c.args.disk.now)
     (g.D.Disk.medium c.keep_only.new.disk) (g.D.Disk.medium c.put_contents.new.disk)
     c.in_ok-keep_only.ensures.clears.time
     c.in_ok-spelled.ensures.time
@@ -184,7 +184,7 @@ returns-in_err-entries-clause-untorn g c = λ tells quiet.
     (kept_names_nothing c.args.shape.place _ _ (c.in_ok-keep_only.ensures.alone tells))
 
 pub returns-in_err-cell-clause-elsewhere : goal.returns-in_err-cell-clause-elsewhere
-returns-in_err-cell-clause-elsewhere g c = λ tells. index_elsewhere c.args.shape.place.first c.args.shape.place.copies
+returns-in_err-cell-clause-elsewhere g c = λ tells. index_elsewhere c.args.shape.place
     [] (g.D.Disk.medium c.args.disk.now) (g.D.Disk.medium c.keep_only.new.disk)
     (g.D.Disk.medium c.put_contents.new.disk) c.in_ok-keep_only.ensures.clears.time c.in_ok-spelled.ensures.time
     (c.in_ok-keep_only.ensures.clears.elsewhere tells) (c.in_ok-spelled.ensures.elsewhere tells)
@@ -213,7 +213,7 @@ returns-in_err-cell-clause-untorn g c = λ tells quiet.
     (c.in_err-cell.ensures.formats.any_moment tells c.in_ok-spelled.ensures.quiet)
 
 pub returns-clause-elsewhere : goal.returns-clause-elsewhere
-returns-clause-elsewhere g c = λ tells. index_elsewhere c.args.shape.place.first c.args.shape.place.copies []
+returns-clause-elsewhere g c = λ tells. index_elsewhere c.args.shape.place []
     (g.D.Disk.medium c.args.disk.now) (g.D.Disk.medium c.keep_only.new.disk) (g.D.Disk.medium c.put_contents.new.disk)
     c.in_ok-keep_only.ensures.clears.time c.in_ok-spelled.ensures.time
     (c.in_ok-keep_only.ensures.clears.elsewhere tells) (c.in_ok-spelled.ensures.elsewhere tells)

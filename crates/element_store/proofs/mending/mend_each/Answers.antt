@@ -70,11 +70,11 @@ returns-in_err-mend-clause-elsewhere g c =
     let blocks_is = c.as_slice.ensures ∙ ap (λ (x : IndexEntry). x.blocks) (sym c.index-entries-i.is) in
     let is_e = subst (λ (es : List IndexEntry). c.index-entries-i.result
     ≡ get_or es c.loop-i.i c.index-entries-i.result) c.as_slice-entries.ensures c.index-entries-i.is in
-    let P : List ℕ → Type 0 = λ bs. Tore g.D.Disk.told (IsNoneOf c.args.shape.now.place.first
+    let P : List ℕ → Type 0 = λ bs. Tore g.D.Disk.told (IsNoneOf c.args.shape.now.place
     c.as_slice-in-loop-i-2.result.now) (IsApart bs)
     (length c.as_slice-in-loop-i-2.result.now * (256 * length bs)) (g.D.Disk.medium c.loop-i.disk)
     (g.D.Disk.medium c.mend.new.disk) in
-    let Q : List ℕ → Type 0 = λ cs. Tore g.D.Disk.told (IsNoneOf c.args.shape.now.place.first cs)
+    let Q : List ℕ → Type 0 = λ cs. Tore g.D.Disk.told (IsNoneOf c.args.shape.now.place cs)
     (IsApart c.index-entries-i.result.blocks)
     (length cs * (256 * length c.index-entries-i.result.blocks)) (g.D.Disk.medium c.loop-i.disk)
     (g.D.Disk.medium c.mend.new.disk) in
@@ -92,11 +92,11 @@ returns-in_err-mend-clause-idle g c =
     let blocks_is = c.as_slice.ensures ∙ ap (λ (x : IndexEntry). x.blocks) (sym c.index-entries-i.is) in
     let is_e = subst (λ (es : List IndexEntry). c.index-entries-i.result
     ≡ get_or es c.loop-i.i c.index-entries-i.result) c.as_slice-entries.ensures c.index-entries-i.is in
-    let P : List ℕ → Type 0 = λ bs. Tore g.D.Disk.told (IsNoneOf c.args.shape.now.place.first
+    let P : List ℕ → Type 0 = λ bs. Tore g.D.Disk.told (IsNoneOf c.args.shape.now.place
     c.as_slice-in-loop-i-2.result.now) (IsApart bs)
     (length c.as_slice-in-loop-i-2.result.now * (256 * length bs)) (g.D.Disk.medium c.loop-i.disk)
     (g.D.Disk.medium c.mend.new.disk) in
-    let Q : List ℕ → Type 0 = λ cs. Tore g.D.Disk.told (IsNoneOf c.args.shape.now.place.first cs)
+    let Q : List ℕ → Type 0 = λ cs. Tore g.D.Disk.told (IsNoneOf c.args.shape.now.place cs)
     (IsApart c.index-entries-i.result.blocks)
     (length cs * (256 * length c.index-entries-i.result.blocks)) (g.D.Disk.medium c.loop-i.disk)
     (g.D.Disk.medium c.mend.new.disk) in
@@ -116,11 +116,11 @@ returns-in_err-mend-clause-during g c =
     let blocks_is = c.as_slice.ensures ∙ ap (λ (x : IndexEntry). x.blocks) (sym c.index-entries-i.is) in
     let is_e = subst (λ (es : List IndexEntry). c.index-entries-i.result
     ≡ get_or es c.loop-i.i c.index-entries-i.result) c.as_slice-entries.ensures c.index-entries-i.is in
-    let P : List ℕ → Type 0 = λ bs. Tore g.D.Disk.told (IsNoneOf c.args.shape.now.place.first
+    let P : List ℕ → Type 0 = λ bs. Tore g.D.Disk.told (IsNoneOf c.args.shape.now.place
     c.as_slice-in-loop-i-2.result.now) (IsApart bs)
     (length c.as_slice-in-loop-i-2.result.now * (256 * length bs)) (g.D.Disk.medium c.loop-i.disk)
     (g.D.Disk.medium c.mend.new.disk) in
-    let Q : List ℕ → Type 0 = λ cs. Tore g.D.Disk.told (IsNoneOf c.args.shape.now.place.first cs)
+    let Q : List ℕ → Type 0 = λ cs. Tore g.D.Disk.told (IsNoneOf c.args.shape.now.place cs)
     (IsApart c.index-entries-i.result.blocks)
     (length cs * (256 * length c.index-entries-i.result.blocks)) (g.D.Disk.medium c.loop-i.disk)
     (g.D.Disk.medium c.mend.new.disk) in
@@ -138,20 +138,20 @@ loop-i-preserved g c =
     let blocks_is = c.as_slice.ensures ∙ ap (λ (x : IndexEntry). x.blocks) (sym c.index-entries-i.is) in
     let is_e = subst (λ (es : List IndexEntry). c.index-entries-i.result
     ≡ get_or es c.loop-i.i c.index-entries-i.result) c.as_slice-entries.ensures c.index-entries-i.is in
-    let P : List ℕ → Type 0 = λ bs. Wrote g.D.Disk.told (IsNoneOf c.args.shape.now.place.first
+    let P : List ℕ → Type 0 = λ bs. Wrote g.D.Disk.told (IsNoneOf c.args.shape.now.place
     c.as_slice-in-loop-i-2.result.now) (IsApart bs)
     (length c.as_slice-in-loop-i-2.result.now * (256 * length bs)) (g.D.Disk.medium c.loop-i.disk)
     (g.D.Disk.medium c.mend.new.disk) in
-    let Q : List ℕ → Type 0 = λ cs. Wrote g.D.Disk.told (IsNoneOf c.args.shape.now.place.first cs)
+    let Q : List ℕ → Type 0 = λ cs. Wrote g.D.Disk.told (IsNoneOf c.args.shape.now.place cs)
     (IsApart c.index-entries-i.result.blocks)
     (length cs * (256 * length c.index-entries-i.result.blocks)) (g.D.Disk.medium c.loop-i.disk)
     (g.D.Disk.medium c.mend.new.disk) in
     let wrote = subst Q c.as_slice-in-loop-i-2.ensures (subst P blocks_is c.in_ok-mend.ensures.done) in
-    let A : List ℕ → Type 0 = λ bs. NamedFull c.args.shape.now.place.first c.as_slice-in-loop-i-2.result.now bs
+    let A : List ℕ → Type 0 = λ bs. NamedFull c.args.shape.now.place c.as_slice-in-loop-i-2.result.now bs
     c.as_slice-in-loop-i.result.now (g.D.Disk.medium c.mend.new.disk).image in
-    let B : List ℕ → Type 0 = λ cs. NamedFull c.args.shape.now.place.first cs c.index-entries-i.result.blocks
+    let B : List ℕ → Type 0 = λ cs. NamedFull c.args.shape.now.place cs c.index-entries-i.result.blocks
     c.as_slice-in-loop-i.result.now (g.D.Disk.medium c.mend.new.disk).image in
-    let C : List ℕ → Type 0 = λ v. NamedFull c.args.shape.now.place.first c.index-views-i.result.lacking
+    let C : List ℕ → Type 0 = λ v. NamedFull c.args.shape.now.place c.index-views-i.result.lacking
     c.index-entries-i.result.blocks v (g.D.Disk.medium c.mend.new.disk).image in
     mended_more g.D.Disk.told c.args.shape.now c.args.index.now c.args.views.now c.requires.rules c.requires.read
     c.mending_keeps.ensures.step c.loop-i.i c.index-entries-i.result c.index-views-i.result c.in-Good.value

@@ -23,22 +23,22 @@ adopt_seen-requires-clause-sealable g c = c.in_ok-seen.ensures.ready.text.sealab
 
 pub adopt_seen-requires-clause-seen : goal.adopt_seen-requires-clause-seen
 adopt_seen-requires-clause-seen g c = λ tells.
-    subst (λ (i : Image). IsSeenOn i c.args.shape.place.first c.args.shape.place.copies c.in_ok-seen.field-0.seen)
+    subst (λ (i : Image). IsSeenOn i c.args.shape.place c.in_ok-seen.field-0.seen)
     (sym c.in_ok-seen.ensures.image) (c.in_ok-seen.ensures.found tells).copies
 
 pub adopt_seen-requires-clause-slots : goal.adopt_seen-requires-clause-slots
 adopt_seen-requires-clause-slots g c = λ tells.
-    subst (λ (i : Image). IsSlotsOf i c.args.shape.place.first c.args.shape.place.copies c.in_ok-seen.field-0.slots)
+    subst (λ (i : Image). IsSlotsOf i c.args.shape.place c.in_ok-seen.field-0.slots)
     (sym c.in_ok-seen.ensures.image) (c.in_ok-seen.ensures.found tells).slots
 
 pub returns-in_err-cell-clause-elsewhere : goal.returns-in_err-cell-clause-elsewhere
-returns-in_err-cell-clause-elsewhere g c = λ tells. slots_outside c.args.shape.place.first c.args.shape.place.copies
+returns-in_err-cell-clause-elsewhere g c = λ tells. slots_outside c.args.shape.place
     (g.D.Disk.medium c.args.disk.now) (g.D.Disk.medium c.prepare.new.disk) (g.D.Disk.medium c.adopt_seen.new.disk)
     c.in_ok-seen.ensures.image (c.in_err-cell.ensures.brings.puts.elsewhere tells)
 
 pub returns-in_err-cell-clause-outside : goal.returns-in_err-cell-clause-outside
 returns-in_err-cell-clause-outside g c = λ tells quiet.
-    second_outside c.args.shape.place.first c.args.shape.place.copies c.in_ok-seen.field-0.seen.generation
+    second_outside c.args.shape.place c.in_ok-seen.field-0.seen.generation
     c.in_ok-seen.field-0.seen.text (g.D.Disk.medium c.args.disk.now) (g.D.Disk.medium c.prepare.new.disk)
     (g.D.Disk.medium c.adopt_seen.new.disk) (c.in_ok-seen.ensures.idle quiet) c.in_ok-seen.ensures.time
     c.in_err-cell.ensures.brings.puts.time (c.in_err-cell.ensures.brings.puts.any_moment tells
@@ -56,18 +56,18 @@ returns-in_err-cell-clause-any_moment g c = λ tells after quiet clean x past.
 
 pub returns-in_err-mend_durably-clause-elsewhere : goal.returns-in_err-mend_durably-clause-elsewhere
 returns-in_err-mend_durably-clause-elsewhere g c = λ tells.
-    both_outside c.args.shape.place.first c.args.shape.place.copies (g.D.Disk.medium c.args.disk.now)
+    both_outside c.args.shape.place (g.D.Disk.medium c.args.disk.now)
     (g.D.Disk.medium c.prepare.new.disk) (g.D.Disk.medium c.adopt_seen.new.disk) c.in_ok-seen.ensures.image
     (c.in_ok-cell.ensures.brings.puts.elsewhere tells) (g.D.Disk.medium c.mend_durably.new.disk).image
     (c.in_err-mend_durably.ensures.elsewhere tells)
 
 pub returns-in_err-mend_durably-clause-outside : goal.returns-in_err-mend_durably-clause-outside
 returns-in_err-mend_durably-clause-outside g c = λ tells quiet.
-    third_outside c.args.shape.place.first c.args.shape.place.copies c.in_ok-seen.field-0.seen.generation
+    third_outside c.args.shape.place c.in_ok-seen.field-0.seen.generation
     c.in_ok-seen.field-0.seen.text (g.D.Disk.medium c.args.disk.now) (g.D.Disk.medium c.prepare.new.disk)
     (g.D.Disk.medium c.adopt_seen.new.disk) (c.in_ok-seen.ensures.idle quiet) c.in_ok-seen.ensures.time
     c.in_ok-cell.ensures.brings.puts.time (c.in_ok-cell.ensures.brings.puts.any_moment tells c.in_ok-seen.ensures.quiet)
-    c.args.shape refl refl (g.D.Disk.medium c.mend_durably.new.disk) c.in_ok-seen.field-0.index c.as_slice.result.now
+    c.args.shape refl (g.D.Disk.medium c.mend_durably.new.disk) c.in_ok-seen.field-0.index c.as_slice.result.now
     (opening_shown (g.D.Disk.medium c.args.disk.now).image c.args.shape c.in_ok-seen.field-0 c.as_slice.result.now
     (c.in_ok-seen.ensures.found tells) c.as_slice.ensures) (c.in_ok-cell.ensures.brings.puts.elsewhere tells)
     c.in_err-mend_durably.ensures.time (c.in_err-mend_durably.ensures.during tells)
@@ -90,19 +90,19 @@ returns-in_err-mend_durably-clause-any_moment g c = λ tells after quiet clean x
     c.in_err-mend_durably.ensures.time (c.in_err-mend_durably.ensures.during tells) x past
 
 pub returns-clause-elsewhere : goal.returns-clause-elsewhere
-returns-clause-elsewhere g c = λ tells. both_outside c.args.shape.place.first c.args.shape.place.copies
+returns-clause-elsewhere g c = λ tells. both_outside c.args.shape.place
     (g.D.Disk.medium c.args.disk.now) (g.D.Disk.medium c.prepare.new.disk) (g.D.Disk.medium c.adopt_seen.new.disk)
     c.in_ok-seen.ensures.image (c.in_ok-cell.ensures.brings.puts.elsewhere tells)
     (g.D.Disk.medium c.mend_durably.new.disk).image
     (c.in_ok-mend_durably.ensures.elsewhere tells)
 
 pub returns-clause-outside : goal.returns-clause-outside
-returns-clause-outside g c = λ tells quiet. third_outside c.args.shape.place.first c.args.shape.place.copies
+returns-clause-outside g c = λ tells quiet. third_outside c.args.shape.place
     c.in_ok-seen.field-0.seen.generation c.in_ok-seen.field-0.seen.text (g.D.Disk.medium c.args.disk.now)
     (g.D.Disk.medium c.prepare.new.disk) (g.D.Disk.medium c.adopt_seen.new.disk) (c.in_ok-seen.ensures.idle quiet)
     c.in_ok-seen.ensures.time c.in_ok-cell.ensures.brings.puts.time (c.in_ok-cell.ensures.brings.puts.any_moment tells
     c.in_ok-seen.ensures.quiet)
-    c.args.shape refl refl (g.D.Disk.medium c.mend_durably.new.disk) c.in_ok-seen.field-0.index c.as_slice.result.now
+    c.args.shape refl (g.D.Disk.medium c.mend_durably.new.disk) c.in_ok-seen.field-0.index c.as_slice.result.now
     (opening_shown (g.D.Disk.medium c.args.disk.now).image c.args.shape c.in_ok-seen.field-0 c.as_slice.result.now
     (c.in_ok-seen.ensures.found tells) c.as_slice.ensures) (c.in_ok-cell.ensures.brings.puts.elsewhere tells)
     c.in_ok-mend_durably.ensures.time (c.in_ok-mend_durably.ensures.during tells)

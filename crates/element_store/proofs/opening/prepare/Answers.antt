@@ -15,6 +15,6 @@ returns-clause-found g c = λ tells.
           chose viewed;
       copies = found_copies image c.args.shape.now c.in_ok-seen.field-0 c.in-Some-true.field-0 c.in-Some-true.is (cc)
           chose viewed;
-      slots = found_slots image c.args.shape.now.place.first c.args.shape.now.place.copies c.in_ok-seen.field-0
+      slots = found_slots image c.args.shape.now.place c.in_ok-seen.field-0
           c.in-Some-true.field-0 c.in-Some-true.is (c.in_ok-seen.ensures.slots tells);
     }

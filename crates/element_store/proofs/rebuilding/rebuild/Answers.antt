@@ -20,12 +20,12 @@ returns-in_err-used-clause-any_moment g c = λ tells. c.in_err-used.ensures.kept
 
 pub returns-in_err-used-clause-elsewhere : goal.returns-in_err-used-clause-elsewhere
 returns-in_err-used-clause-elsewhere g c = λ tells f out.
-    c.in_err-used.ensures.elsewhere tells f (outside_no_slot c.args.shape.now.place.first c.args.shape.now.place.copies
+    c.in_err-used.ensures.elsewhere tells f (outside_no_slot c.args.shape.now.place
     f out)
 
 pub returns-in_err-used-clause-outside : goal.returns-in_err-used-clause-outside
 returns-in_err-used-clause-outside g c = λ tells quiet x past.
-    settled_less (λ f out. outside_no_slot c.args.shape.now.place.first c.args.shape.now.place.copies f out)
+    settled_less (λ f out. outside_no_slot c.args.shape.now.place f out)
     (c.in_err-used.ensures.any_moment tells quiet x past)
 
 pub put_contents-requires-clause-free : goal.put_contents-requires-clause-free
@@ -48,14 +48,14 @@ returns-in_err-spelled-clause-any_moment g c = λ tells.
 
 pub returns-in_err-spelled-clause-elsewhere : goal.returns-in_err-spelled-clause-elsewhere
 returns-in_err-spelled-clause-elsewhere g c = λ tells.
-    contents_elsewhere c.args.shape.now.place.first c.args.shape.now.place.copies c.in_ok-used.field-0.used
+    contents_elsewhere c.args.shape.now.place c.in_ok-used.field-0.used
     (g.D.Disk.medium c.args.disk.now) (g.D.Disk.medium c.prepare.new.disk) (g.D.Disk.medium c.put_contents.new.disk)
     c.in_ok-used.ensures.time c.in_err-spelled.ensures.time (c.in_ok-used.ensures.elsewhere tells)
     (c.in_err-spelled.ensures.elsewhere tells)
 
 pub returns-in_err-spelled-clause-outside : goal.returns-in_err-spelled-clause-outside
 returns-in_err-spelled-clause-outside g c = λ tells quiet.
-    contents_outside c.args.shape.now.place.first c.args.shape.now.place.copies c.in_ok-used.field-0.used
+    contents_outside c.args.shape.now.place c.in_ok-used.field-0.used
     (g.D.Disk.medium c.args.disk.now) (g.D.Disk.medium c.prepare.new.disk) (g.D.Disk.medium c.put_contents.new.disk)
     c.in_ok-used.ensures.time c.in_err-spelled.ensures.time (c.in_ok-used.ensures.elsewhere tells)
     (c.in_err-spelled.ensures.elsewhere tells)
@@ -89,15 +89,15 @@ returns-in_err-adopt-clause-any_moment g c = λ tells. index_anew c.args.shape.n
     c.in_ok-spelled.ensures.during (c.in_err-adopt.ensures.brings.puts.any_moment tells c.in_ok-spelled.ensures.quiet)
 
 pub returns-in_err-adopt-clause-elsewhere : goal.returns-in_err-adopt-clause-elsewhere
-returns-in_err-adopt-clause-elsewhere g c = λ tells. index_elsewhere c.args.shape.now.place.first
-    c.args.shape.now.place.copies c.in_ok-used.field-0.used (g.D.Disk.medium c.args.disk.now)
+returns-in_err-adopt-clause-elsewhere g c = λ tells. index_elsewhere c.args.shape.now.place c.in_ok-used.field-0.used
+    (g.D.Disk.medium c.args.disk.now)
     (g.D.Disk.medium c.prepare.new.disk) (g.D.Disk.medium c.put_contents.new.disk) c.in_ok-used.ensures.time
     c.in_ok-spelled.ensures.time (c.in_ok-used.ensures.elsewhere tells) (c.in_ok-spelled.ensures.elsewhere tells)
     (g.D.Disk.medium c.adopt.new.disk) (c.in_err-adopt.ensures.brings.puts.elsewhere tells)
 
 pub returns-in_err-adopt-clause-outside : goal.returns-in_err-adopt-clause-outside
 returns-in_err-adopt-clause-outside g c = λ tells quiet.
-    index_outside c.args.shape.now.place.first c.args.shape.now.place.copies c.in_ok-used.field-0.used
+    index_outside c.args.shape.now.place c.in_ok-used.field-0.used
     (g.D.Disk.medium c.args.disk.now) (g.D.Disk.medium c.prepare.new.disk) (g.D.Disk.medium c.put_contents.new.disk)
     c.in_ok-used.ensures.time c.in_ok-spelled.ensures.time (c.in_ok-used.ensures.elsewhere tells)
     (c.in_ok-spelled.ensures.elsewhere tells)
@@ -124,14 +124,14 @@ returns-clause-any_moment g c = λ tells. index_anew c.args.shape.now c.in_ok-us
     c.in_ok-spelled.ensures.during (c.in_ok-adopt.ensures.brings.puts.any_moment tells c.in_ok-spelled.ensures.quiet)
 
 pub returns-clause-elsewhere : goal.returns-clause-elsewhere
-returns-clause-elsewhere g c = λ tells. index_elsewhere c.args.shape.now.place.first c.args.shape.now.place.copies
+returns-clause-elsewhere g c = λ tells. index_elsewhere c.args.shape.now.place
     c.in_ok-used.field-0.used (g.D.Disk.medium c.args.disk.now) (g.D.Disk.medium c.prepare.new.disk)
     (g.D.Disk.medium c.put_contents.new.disk) c.in_ok-used.ensures.time c.in_ok-spelled.ensures.time
     (c.in_ok-used.ensures.elsewhere tells) (c.in_ok-spelled.ensures.elsewhere tells) (g.D.Disk.medium c.adopt.new.disk)
     (c.in_ok-adopt.ensures.brings.puts.elsewhere tells)
 
 pub returns-clause-outside : goal.returns-clause-outside
-returns-clause-outside g c = λ tells quiet. index_outside c.args.shape.now.place.first c.args.shape.now.place.copies
+returns-clause-outside g c = λ tells quiet. index_outside c.args.shape.now.place
     c.in_ok-used.field-0.used (g.D.Disk.medium c.args.disk.now) (g.D.Disk.medium c.prepare.new.disk)
     (g.D.Disk.medium c.put_contents.new.disk) c.in_ok-used.ensures.time c.in_ok-spelled.ensures.time
     (c.in_ok-used.ensures.elsewhere tells) (c.in_ok-spelled.ensures.elsewhere tells)

@@ -22,9 +22,8 @@ pub write_durably-requires-clause-shared : goal.write_durably-requires-clause-sh
 write_durably-requires-clause-shared g c = λ tells. (
     let e : c.deref.result.now ≡ c.in_ok-entries.field-0.jobs.items = cc in
     let P : List Job → Type 0 = λ js. All (HasShared (g.D.Disk.medium c.args.disk.now).image
-    c.args.shape.now.place.first c.args.shape.now.place.copies) js in
-    subst P (sym e) (shared_of_whole (g.D.Disk.medium c.args.disk.now).image c.args.shape.now.place.first
-    c.args.shape.now.place.copies
+    c.args.shape.now.place) js in
+    subst P (sym e) (shared_of_whole (g.D.Disk.medium c.args.disk.now).image c.args.shape.now.place
     c.in_ok-entries.field-0.jobs.items c.in_ok-entries.ensures.whole))
 
 pub returns-in-Ok-clause-fit : goal.returns-in-Ok-clause-fit
@@ -52,7 +51,7 @@ pub returns-in-Ok-clause-shown : goal.returns-in-Ok-clause-shown
 returns-in-Ok-clause-shown g c = λ tells. (
     let image = (g.D.Disk.medium c.write_durably.new.disk).image in
     let e : c.deref.result.now ≡ c.in_ok-entries.field-0.jobs.items = cc in
-    let done = subst (λ (js : List Job). All (IsDone image c.args.shape.now.place.first c.args.shape.now.place.copies)
+    let done = subst (λ (js : List Job). All (IsDone image c.args.shape.now.place)
     js) e (c.in-Ok.ensures.written tells) in
     let shown = c.in_ok-entries.ensures.views image c.args.shape.now.place c.args.shape.now.m c.requires.shape.some
     c.requires.shape.enough done in
@@ -62,7 +61,7 @@ returns-in-Ok-clause-shown g c = λ tells. (
 pub returns-in-Ok-clause-during : goal.returns-in-Ok-clause-during
 returns-in-Ok-clause-during g c = λ x past. (
     let e : c.deref.result.now ≡ c.in_ok-entries.field-0.jobs.items = cc in
-    jobs_to_contents c.args.shape.now.place.first c.args.shape.now.place.copies c.args.used.now c.plan_contents.new.used
+    jobs_to_contents c.args.shape.now.place c.args.used.now c.plan_contents.new.used
     c.deref.result.now
     (g.D.Disk.medium c.args.disk.now) (g.D.Disk.medium c.write_durably.new.disk) _ _
     (subst (λ (js : List Job). ArePlaced c.args.used.now c.plan_contents.new.used js) (sym e)
@@ -71,7 +70,7 @@ returns-in-Ok-clause-during g c = λ x past. (
 pub returns-clause-during : goal.returns-clause-during
 returns-clause-during g c = λ x past. (
     let e : c.deref.result.now ≡ c.in_ok-entries.field-0.jobs.items = cc in
-    jobs_to_contents c.args.shape.now.place.first c.args.shape.now.place.copies c.args.used.now c.plan_contents.new.used
+    jobs_to_contents c.args.shape.now.place c.args.used.now c.plan_contents.new.used
     c.deref.result.now
     (g.D.Disk.medium c.args.disk.now) (g.D.Disk.medium c.write_durably.new.disk) _ _
     (subst (λ (js : List Job). ArePlaced c.args.used.now c.plan_contents.new.used js) (sym e)

@@ -14,9 +14,9 @@ pub replace-requires-clause-lacking : goal.replace-requires-clause-lacking
 replace-requires-clause-lacking g c = λ tells.
     let image = (g.D.Disk.medium c.args.disk.now).image in
     let generation = c.args.seen.now.generation in
-    subst (λ (text : List ℕ). Picks Lacking c.all_but-lacking.result image c.args.place.first c.args.place.copies
+    subst (λ (text : List ℕ). Picks Lacking c.all_but-lacking.result image c.args.place
     (own generation) generation text) (sym c.as_slice-text.ensures)
-    (seen_lacking image c.args.place.first c.args.place.copies c.args.seen.now c.all_but-lacking.result
+    (seen_lacking image c.args.place c.args.seen.now c.all_but-lacking.result
     (c.requires.seen tells)
     (λ copy lt. c.all_but-lacking.ensures copy lt
     ∙ ap (λ (numbers : List ℕ). not (named_in numbers (copy + 1))) c.as_slice.ensures))
@@ -25,7 +25,7 @@ pub replace-requires-clause-stale : goal.replace-requires-clause-stale
 replace-requires-clause-stale g c = λ tells.
     let image = (g.D.Disk.medium c.args.disk.now).image in
     let generation = c.args.seen.now.generation in
-    subst (λ (flags : List Bool). Picks Verifying flags image c.args.place.first c.args.place.copies
+    subst (λ (flags : List Bool). Picks Verifying flags image c.args.place
     (other generation) generation c.as_slice-text.result.now) (sym c.others-stale.ensures)
-    (stale_slots image c.args.place.first c.args.place.copies generation c.as_slice-text.result.now c.args.slots
+    (stale_slots image c.args.place generation c.as_slice-text.result.now c.args.slots
     (c.requires.slots tells))

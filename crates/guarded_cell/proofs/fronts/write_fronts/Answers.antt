@@ -11,14 +11,14 @@ returns-in_err-write_at-clause-during g c =
     let flag : get_or c.args.chosen.now c.loop-copy.copy false ≡ true = search rules in
     let write = subst (λ (f : ℕ). Follows (WriteOrNot f 0 c.args.bytes.now) mid.now (new.since mid.moment))
     c.slot.ensures c.write_at.ensures.during in
-    cut_during c.args.place.first c.args.parity c.args.place.copies c.args.chosen.now c.args.bytes.now c.loop-copy.copy
+    cut_during c.args.place c.args.parity c.args.chosen.now c.args.bytes.now c.loop-copy.copy
     (omega arith) flag
     (g.met.D.Disk.lawful c.loop-copy.disk) c.loop-copy.invariant write c.write_at.ensures.time
 
 pub returns-in_err-write_at-clause-none : goal.returns-in_err-write_at-clause-none
 returns-in_err-write_at-clause-none g c =
     let flag : get_or c.args.chosen.now c.loop-copy.copy false ≡ true = search rules in
-    cut_none c.args.place.first c.args.parity c.args.place.copies c.args.chosen.now c.args.bytes.now
+    cut_none c.args.place c.args.parity c.args.chosen.now c.args.bytes.now
     (g.D.Disk.medium c.args.disk.now) (g.D.Disk.medium c.write_at.new.self) c.loop-copy.copy (omega arith) flag
 
 pub loop-copy-preserved : goal.loop-copy-preserved
@@ -28,7 +28,7 @@ loop-copy-preserved g c =
     let flag : get_or c.args.chosen.now c.loop-copy.copy false ≡ true = search rules in
     let write = subst (λ (f : ℕ). Follows (WriteOrNot f 0 c.args.bytes.now) mid.now (new.since mid.moment))
     c.slot.ensures c.write_at.ensures.during in
-    writing_writes c.args.place.first c.args.parity c.args.place.copies c.args.chosen.now c.args.bytes.now
+    writing_writes c.args.place c.args.parity c.args.chosen.now c.args.bytes.now
     c.loop-copy.copy (omega arith) flag
     (g.met.D.Disk.lawful c.loop-copy.disk) c.loop-copy.invariant
     (λ tells. c.in_ok-write_at.ensures.image tells ∙ ap (λ (f : ℕ). put_image mid.image f 0 c.args.bytes.now)

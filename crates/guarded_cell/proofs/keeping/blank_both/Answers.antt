@@ -11,18 +11,18 @@ use Rattle.guarded_cell.proofs.keeping.blank_both.Goals as goal
 pub returns-in_err-write_fronts-clause-clears : goal.returns-in_err-write_fronts-clause-clears
 returns-in_err-write_fronts-clause-clears g c = record {
   elsewhere = λ tells.
-      chosen_elsewhere c.args.place.first c.args.place.copies (own c.args.generation) c.args.others.now
+      chosen_elsewhere c.args.place (own c.args.generation) c.args.others.now
       (g.D.Disk.medium c.args.disk.now).image (g.D.Disk.medium c.write_fronts.new.disk).image (omega arith)
       (c.write_fronts.ensures.elsewhere tells);
   right = λ tells.
-      clear_first c.args.place.first c.args.place.copies c.args.generation c.args.text.now
+      clear_first c.args.place c.args.generation c.args.text.now
       (g.D.Disk.medium c.args.disk.now).image c.args.others.now c.args.stale.now
       (g.D.Disk.medium c.write_fronts.new.disk).image (c.requires.others tells)
       (c.write_fronts.ensures.elsewhere tells);
   any_moment = λ tells quiet.
       let old = g.D.Disk.medium c.args.disk.now in
       let mid = g.D.Disk.medium c.write_fronts.new.disk in
-      keep_first c.args.place.first c.args.place.copies c.args.generation c.args.text.now g.D.Disk.told old mid mid
+      keep_first c.args.place c.args.generation c.args.text.now g.D.Disk.told old mid mid
       c.args.others.now c.args.stale.now
       (c.requires.others tells) (c.requires.stale tells) quiet c.write_fronts.ensures.during;
   written = omega (arith, c.write_fronts.ensures.written);
@@ -35,13 +35,13 @@ returns-in_err-write_durably-clause-clears g c = record {
       let old = (g.D.Disk.medium c.args.disk.now).image in
       let mid = (g.D.Disk.medium c.write_fronts.new.disk).image in
       let new = (g.D.Disk.medium c.write_durably.new.disk).image in
-      spares_on (IsNoSlot c.args.place.first c.args.place.copies) old mid new
-      (chosen_elsewhere c.args.place.first c.args.place.copies (own c.args.generation) c.args.others.now old mid
+      spares_on (IsNoSlot c.args.place) old mid new
+      (chosen_elsewhere c.args.place (own c.args.generation) c.args.others.now old mid
       (omega arith) (c.write_fronts.ensures.elsewhere tells))
-      (chosen_elsewhere c.args.place.first c.args.place.copies (other c.args.generation) c.args.stale.now mid new
+      (chosen_elsewhere c.args.place (other c.args.generation) c.args.stale.now mid new
       (omega arith) (c.write_durably.ensures.elsewhere tells));
   right = λ tells.
-      clear_both c.args.place.first c.args.place.copies c.args.generation c.args.text.now
+      clear_both c.args.place c.args.generation c.args.text.now
       (g.D.Disk.medium c.args.disk.now).image c.args.others.now c.args.stale.now
       (g.D.Disk.medium c.write_fronts.new.disk).image (g.D.Disk.medium c.write_durably.new.disk).image
       (c.requires.others tells) (c.requires.stale tells)
@@ -50,7 +50,7 @@ returns-in_err-write_durably-clause-clears g c = record {
       let old = g.D.Disk.medium c.args.disk.now in
       let mid = g.D.Disk.medium c.write_fronts.new.disk in
       let new = g.D.Disk.medium c.write_durably.new.disk in
-      keep_second c.args.place.first c.args.place.copies c.args.generation c.args.text.now g.D.Disk.told old mid new
+      keep_second c.args.place c.args.generation c.args.text.now g.D.Disk.told old mid new
       c.args.others.now c.args.stale.now
       (c.requires.others tells) (c.requires.stale tells) quiet c.write_fronts.ensures.during
       _ (g.met.D.Disk.lawful c.write_fronts.new.disk) c.write_fronts.ensures.time c.write_durably.ensures.time
@@ -65,13 +65,13 @@ returns-clause-clears g c = record {
       let old = (g.D.Disk.medium c.args.disk.now).image in
       let mid = (g.D.Disk.medium c.write_fronts.new.disk).image in
       let new = (g.D.Disk.medium c.write_durably.new.disk).image in
-      spares_on (IsNoSlot c.args.place.first c.args.place.copies) old mid new
-      (chosen_elsewhere c.args.place.first c.args.place.copies (own c.args.generation) c.args.others.now old mid
+      spares_on (IsNoSlot c.args.place) old mid new
+      (chosen_elsewhere c.args.place (own c.args.generation) c.args.others.now old mid
       (omega arith) (c.write_fronts.ensures.elsewhere tells))
-      (chosen_elsewhere c.args.place.first c.args.place.copies (other c.args.generation) c.args.stale.now mid new
+      (chosen_elsewhere c.args.place (other c.args.generation) c.args.stale.now mid new
       (omega arith) (c.write_durably.ensures.elsewhere tells));
   right = λ tells.
-      clear_both c.args.place.first c.args.place.copies c.args.generation c.args.text.now
+      clear_both c.args.place c.args.generation c.args.text.now
       (g.D.Disk.medium c.args.disk.now).image c.args.others.now c.args.stale.now
       (g.D.Disk.medium c.write_fronts.new.disk).image (g.D.Disk.medium c.write_durably.new.disk).image
       (c.requires.others tells) (c.requires.stale tells)
@@ -80,7 +80,7 @@ returns-clause-clears g c = record {
       let old = g.D.Disk.medium c.args.disk.now in
       let mid = g.D.Disk.medium c.write_fronts.new.disk in
       let new = g.D.Disk.medium c.write_durably.new.disk in
-      keep_second c.args.place.first c.args.place.copies c.args.generation c.args.text.now g.D.Disk.told old mid new
+      keep_second c.args.place c.args.generation c.args.text.now g.D.Disk.told old mid new
       c.args.others.now c.args.stale.now
       (c.requires.others tells) (c.requires.stale tells) quiet c.write_fronts.ensures.during
       _ (g.met.D.Disk.lawful c.write_fronts.new.disk) c.write_fronts.ensures.time c.write_durably.ensures.time
@@ -95,6 +95,6 @@ returns-clause-alone g c = λ tells.
     let old = (g.D.Disk.medium c.args.disk.now).image in
     let mid = (g.D.Disk.medium c.write_fronts.new.disk).image in
     let new = (g.D.Disk.medium c.write_durably.new.disk).image in
-    kept_alone c.args.place.first c.args.place.copies c.args.generation c.args.text.now old c.args.others.now
+    kept_alone c.args.place c.args.generation c.args.text.now old c.args.others.now
     c.args.stale.now (c.requires.others tells) (c.requires.stale tells)
     mid new (c.in_ok-write_fronts.ensures.put tells) (c.in_ok-write_durably.ensures.put tells)

@@ -1,6 +1,6 @@
-use Rattle.guarded_cell.specs.HeldLaws.{stands_standing, is_lacking}
-use Rattle.guarded_cell.specs.ShownLaws.{held_shows, standing_chosen}
-use Rattle.guarded_cell.specs.AloneLaws.{alone_shows, same_held, same_standing, standing_among_held}
+use Rattle.guarded_cell.specs.lemmas.HeldLaws.{stands_standing, is_lacking}
+use Rattle.guarded_cell.specs.lemmas.ShownLaws.{held_shows, standing_chosen}
+use Rattle.guarded_cell.proofs.AloneLaws.{alone_shows, same_held, same_standing, standing_among_held}
 use Rattle.guarded_cell.proofs.laws.held_is_lawful.Goals as goal
 
 pub returns-clause-held : goal.returns-clause-held
@@ -22,7 +22,7 @@ pub returns-clause-lacking : goal.returns-clause-lacking
 returns-clause-lacking c = is_lacking
 
 pub returns-clause-same_held : goal.returns-clause-same_held
-returns-clause-same_held c = λ first copies old new. same_held first old new copies
+returns-clause-same_held c = λ place old new. same_held place old new
 
 pub returns-clause-same_standing : goal.returns-clause-same_standing
-returns-clause-same_standing c = λ first copies m old new. same_standing first old new copies m
+returns-clause-same_standing c = λ place m old new. same_standing place old new m

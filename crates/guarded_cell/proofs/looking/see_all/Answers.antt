@@ -11,7 +11,7 @@ use Rattle.guarded_cell.proofs.looking.see_all.Goals as goal
 pub loop-copy-init : goal.loop-copy-init
 loop-copy-init g c = record {
   held = λ tells. c.new-seens.ensures.items ∙ sym (held_none (g.D.Disk.medium c.args.disk.now).image
-      c.args.place.first);
+      c.args.place);
   even = λ tells copy lt. absurd (omega (arith, lt));
   odd = λ tells copy lt. absurd (omega (arith, lt));
   evens = refl;
@@ -30,17 +30,17 @@ loop-copy-preserved g c =
     let first_time = elapses_on c.loop-copy.invariant.time c.see_slot.ensures.time in
     record {
       held = λ tells. held_more start (g.D.Disk.medium c.loop-copy.disk).image
-          (g.D.Disk.medium c.see_slot.new.disk).image c.args.place.first c.loop-copy.copy
+          (g.D.Disk.medium c.see_slot.new.disk).image c.args.place c.loop-copy.copy
           c.loop-copy.seens.items c.see_slot.new.seens.items c.see_slot-in-loop-copy.new.seens.items
           c.loop-copy.invariant.reads.image first_reads.image (c.loop-copy.invariant.held tells)
           (c.in_ok-even.ensures.seen tells) (c.in_ok-odd.ensures.seen tells);
-      even = λ tells. flags_more start c.args.place.first 0 c.loop-copy.copy c.loop-copy.even c.in_ok-even.field-0
+      even = λ tells. flags_more start c.args.place 0 c.loop-copy.copy c.loop-copy.even c.in_ok-even.field-0
           c.loop-copy.invariant.evens (omega arith) (c.loop-copy.invariant.even tells)
-          (subst (λ (im : Image). IsFlag (im (slot c.args.place.first c.loop-copy.copy 0)) c.in_ok-even.field-0)
+          (subst (λ (im : Image). IsFlag (im (slot c.args.place c.loop-copy.copy 0)) c.in_ok-even.field-0)
           c.loop-copy.invariant.reads.image (c.in_ok-even.ensures.flag tells));
-      odd = λ tells. flags_more start c.args.place.first 1 c.loop-copy.copy c.loop-copy.odd c.in_ok-odd.field-0
+      odd = λ tells. flags_more start c.args.place 1 c.loop-copy.copy c.loop-copy.odd c.in_ok-odd.field-0
           c.loop-copy.invariant.odds (omega arith) (c.loop-copy.invariant.odd tells)
-          (subst (λ (im : Image). IsFlag (im (slot c.args.place.first c.loop-copy.copy 1)) c.in_ok-odd.field-0)
+          (subst (λ (im : Image). IsFlag (im (slot c.args.place c.loop-copy.copy 1)) c.in_ok-odd.field-0)
           first_reads.image (c.in_ok-odd.ensures.flag tells));
       evens = length-set c.loop-copy.even c.loop-copy.copy c.in_ok-even.field-0 ∙ c.loop-copy.invariant.evens;
       odds = length-set c.loop-copy.odd c.loop-copy.copy c.in_ok-odd.field-0 ∙ c.loop-copy.invariant.odds;

@@ -11,9 +11,9 @@ returns-in_err-lacking-clause-brings g c = brings_none (g.met.D.Disk.lawful c.ar
 pub returns-clause-lacking : goal.returns-clause-lacking
 returns-clause-lacking g c = λ tells.
     let image = (g.D.Disk.medium c.args.disk.now).image in
-    lacking_is image c.args.place.first c.args.place.copies c.args.seen.generation c.args.seen.text
+    lacking_is image c.args.place c.args.seen.generation c.args.seen.text
     c.all_but-chosen.result c.in_ok-lacking.lacking
-    (seen_lacking image c.args.place.first c.args.place.copies c.args.seen c.all_but-chosen.result
+    (seen_lacking image c.args.place c.args.seen c.all_but-chosen.result
     (c.requires.seen tells)
     (λ copy lt. c.all_but-chosen.ensures copy lt
     ∙ ap (λ (numbers : List ℕ). not (named_in numbers (copy + 1))) c.as_slice.ensures))

@@ -14,13 +14,13 @@ pub returns-in_err-write_durably-clause-brings : goal.returns-in_err-write_durab
 returns-in_err-write_durably-clause-brings g c = record {
   puts = record {
     elsewhere = λ tells.
-        chosen_elsewhere c.args.place.first c.args.place.copies (own c.args.generation) c.args.lacking.now
+        chosen_elsewhere c.args.place (own c.args.generation) c.args.lacking.now
         (g.D.Disk.medium c.args.disk.now).image (g.D.Disk.medium c.write_durably.new.disk).image (omega arith)
         (c.write_durably.ensures.elsewhere tells);
     any_moment = λ tells quiet.
         let old = g.D.Disk.medium c.args.disk.now in
         let mid = g.D.Disk.medium c.write_durably.new.disk in
-        first_moment c.args.place.first c.args.place.copies c.args.generation c.args.text.now old mid mid
+        first_moment c.args.place c.args.generation c.args.text.now old mid mid
         c.requires.positive (omega arith) c.requires.short c.args.lacking.now c.args.stale.now c.args.sealed_text.now
         c.requires.text
         (c.requires.lacking tells) (c.requires.stale tells) _ quiet (λ x. absurd (false≢true x))
@@ -31,12 +31,12 @@ returns-in_err-write_durably-clause-brings g c = record {
     time = c.write_durably.ensures.time;
   };
   right = λ tells.
-      right_first c.args.place.first c.args.place.copies c.args.generation c.args.text.now
+      right_first c.args.place c.args.generation c.args.text.now
       (g.D.Disk.medium c.args.disk.now).image c.args.lacking.now c.args.stale.now
       (g.D.Disk.medium c.write_durably.new.disk).image (c.requires.lacking tells)
       (c.write_durably.ensures.elsewhere tells);
   already = λ tells alone. c.write_durably.ensures.none
-      (none_lacking c.args.place.first c.args.place.copies c.args.generation c.args.text.now
+      (none_lacking c.args.place c.args.generation c.args.text.now
       (g.D.Disk.medium c.args.disk.now).image alone c.args.lacking.now (c.requires.lacking tells));
 }
 
@@ -47,23 +47,23 @@ returns-in_err-write_durably-2-clause-brings g c = record {
         let old = (g.D.Disk.medium c.args.disk.now).image in
         let mid = (g.D.Disk.medium c.write_durably.new.disk).image in
         let new = (g.D.Disk.medium c.write_durably-2.new.disk).image in
-        spares_on (IsNoSlot c.args.place.first c.args.place.copies) old mid new
-        (chosen_elsewhere c.args.place.first c.args.place.copies (own c.args.generation) c.args.lacking.now old mid
+        spares_on (IsNoSlot c.args.place) old mid new
+        (chosen_elsewhere c.args.place (own c.args.generation) c.args.lacking.now old mid
         (omega arith) (c.write_durably.ensures.elsewhere tells))
-        (chosen_elsewhere c.args.place.first c.args.place.copies (other c.args.generation) c.args.stale.now mid new
+        (chosen_elsewhere c.args.place (other c.args.generation) c.args.stale.now mid new
         (omega arith) (c.write_durably-2.ensures.elsewhere tells));
     any_moment = λ tells quiet.
         let old = g.D.Disk.medium c.args.disk.now in
         let mid = g.D.Disk.medium c.write_durably.new.disk in
         let new = g.D.Disk.medium c.write_durably-2.new.disk in
         let put = c.in_ok-write_durably.ensures.put tells in
-        goes_on (PutStops c.args.place.first c.args.place.copies c.args.generation c.args.text.now old.image)
+        goes_on (PutStops c.args.place c.args.generation c.args.text.now old.image)
         c.write_durably.ensures.time c.write_durably-2.ensures.time
-        (first_moment c.args.place.first c.args.place.copies c.args.generation c.args.text.now old mid new
+        (first_moment c.args.place c.args.generation c.args.text.now old mid new
         c.requires.positive (omega arith) c.requires.short c.args.lacking.now c.args.stale.now c.args.sealed_text.now
         c.requires.text
         (c.requires.lacking tells) (c.requires.stale tells) _ quiet (λ x. put) c.in_ok-write_durably.ensures.during)
-        (second_moment c.args.place.first c.args.place.copies c.args.generation c.args.text.now old mid new
+        (second_moment c.args.place c.args.generation c.args.text.now old mid new
         c.requires.positive (omega arith) c.requires.short c.args.lacking.now c.args.stale.now c.args.sealed_text.now
         c.requires.text
         (c.requires.lacking tells) (c.requires.stale tells) _ c.in_ok-write_durably.ensures.quiet put
@@ -76,17 +76,17 @@ returns-in_err-write_durably-2-clause-brings g c = record {
     time = elapses_on c.write_durably.ensures.time c.write_durably-2.ensures.time;
   };
   right = λ tells.
-      right_both c.args.place.first c.args.place.copies c.args.generation c.args.text.now
+      right_both c.args.place c.args.generation c.args.text.now
       (g.D.Disk.medium c.args.disk.now).image c.args.lacking.now c.args.stale.now
       (g.D.Disk.medium c.write_durably.new.disk).image (g.D.Disk.medium c.write_durably-2.new.disk).image
       (c.requires.lacking tells) (c.requires.stale tells)
       (c.write_durably.ensures.elsewhere tells) (c.write_durably-2.ensures.elsewhere tells);
   already = λ tells alone.
       c.write_durably-2.ensures.none
-      (none_stale c.args.place.first c.args.place.copies c.args.generation c.args.text.now
+      (none_stale c.args.place c.args.generation c.args.text.now
       (g.D.Disk.medium c.args.disk.now).image alone c.args.stale.now (c.requires.stale tells))
       ∙ c.write_durably.ensures.none
-      (none_lacking c.args.place.first c.args.place.copies c.args.generation c.args.text.now
+      (none_lacking c.args.place c.args.generation c.args.text.now
       (g.D.Disk.medium c.args.disk.now).image alone c.args.lacking.now (c.requires.lacking tells));
 }
 
@@ -97,23 +97,23 @@ returns-clause-brings g c = record {
         let old = (g.D.Disk.medium c.args.disk.now).image in
         let mid = (g.D.Disk.medium c.write_durably.new.disk).image in
         let new = (g.D.Disk.medium c.write_durably-2.new.disk).image in
-        spares_on (IsNoSlot c.args.place.first c.args.place.copies) old mid new
-        (chosen_elsewhere c.args.place.first c.args.place.copies (own c.args.generation) c.args.lacking.now old mid
+        spares_on (IsNoSlot c.args.place) old mid new
+        (chosen_elsewhere c.args.place (own c.args.generation) c.args.lacking.now old mid
         (omega arith) (c.write_durably.ensures.elsewhere tells))
-        (chosen_elsewhere c.args.place.first c.args.place.copies (other c.args.generation) c.args.stale.now mid new
+        (chosen_elsewhere c.args.place (other c.args.generation) c.args.stale.now mid new
         (omega arith) (c.write_durably-2.ensures.elsewhere tells));
     any_moment = λ tells quiet.
         let old = g.D.Disk.medium c.args.disk.now in
         let mid = g.D.Disk.medium c.write_durably.new.disk in
         let new = g.D.Disk.medium c.write_durably-2.new.disk in
         let put = c.in_ok-write_durably.ensures.put tells in
-        goes_on (PutStops c.args.place.first c.args.place.copies c.args.generation c.args.text.now old.image)
+        goes_on (PutStops c.args.place c.args.generation c.args.text.now old.image)
         c.write_durably.ensures.time c.write_durably-2.ensures.time
-        (first_moment c.args.place.first c.args.place.copies c.args.generation c.args.text.now old mid new
+        (first_moment c.args.place c.args.generation c.args.text.now old mid new
         c.requires.positive (omega arith) c.requires.short c.args.lacking.now c.args.stale.now c.args.sealed_text.now
         c.requires.text
         (c.requires.lacking tells) (c.requires.stale tells) _ quiet (λ x. put) c.in_ok-write_durably.ensures.during)
-        (second_moment c.args.place.first c.args.place.copies c.args.generation c.args.text.now old mid new
+        (second_moment c.args.place c.args.generation c.args.text.now old mid new
         c.requires.positive (omega arith) c.requires.short c.args.lacking.now c.args.stale.now c.args.sealed_text.now
         c.requires.text
         (c.requires.lacking tells) (c.requires.stale tells) _ c.in_ok-write_durably.ensures.quiet put
@@ -126,17 +126,17 @@ returns-clause-brings g c = record {
     time = elapses_on c.write_durably.ensures.time c.write_durably-2.ensures.time;
   };
   right = λ tells.
-      right_both c.args.place.first c.args.place.copies c.args.generation c.args.text.now
+      right_both c.args.place c.args.generation c.args.text.now
       (g.D.Disk.medium c.args.disk.now).image c.args.lacking.now c.args.stale.now
       (g.D.Disk.medium c.write_durably.new.disk).image (g.D.Disk.medium c.write_durably-2.new.disk).image
       (c.requires.lacking tells) (c.requires.stale tells)
       (c.write_durably.ensures.elsewhere tells) (c.write_durably-2.ensures.elsewhere tells);
   already = λ tells alone.
       c.write_durably-2.ensures.none
-      (none_stale c.args.place.first c.args.place.copies c.args.generation c.args.text.now
+      (none_stale c.args.place c.args.generation c.args.text.now
       (g.D.Disk.medium c.args.disk.now).image alone c.args.stale.now (c.requires.stale tells))
       ∙ c.write_durably.ensures.none
-      (none_lacking c.args.place.first c.args.place.copies c.args.generation c.args.text.now
+      (none_lacking c.args.place c.args.generation c.args.text.now
       (g.D.Disk.medium c.args.disk.now).image alone c.args.lacking.now (c.requires.lacking tells));
 }
 
@@ -145,7 +145,7 @@ returns-clause-alone g c = λ tells.
     let old = g.D.Disk.medium c.args.disk.now in
     let mid = g.D.Disk.medium c.write_durably.new.disk in
     let new = g.D.Disk.medium c.write_durably-2.new.disk in
-    new_alone c.args.place.first c.args.place.copies c.args.generation c.args.text.now old.image
+    new_alone c.args.place c.args.generation c.args.text.now old.image
     c.requires.positive (omega arith) c.requires.short c.args.lacking.now c.args.stale.now c.args.sealed_text.now
     c.requires.text
     (c.requires.lacking tells) (c.requires.stale tells) mid.image (c.in_ok-write_durably.ensures.put tells) new.image

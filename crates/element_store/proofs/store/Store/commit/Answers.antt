@@ -58,9 +58,9 @@ write_in-requires-clause-held g c = λ tells. (
     c.deref.ensures.value c.in-Ok.ensures.ready in
     let prep = ready.prepared in (
       index_text c.args.self.index,
-      subst (λ (p : Place). IsAlone (g.D.Disk.medium c.write_contents.new.disk).image p.first p.copies
+      subst (λ (p : Place). IsAlone (g.D.Disk.medium c.write_contents.new.disk).image p
           c.args.self.cell.generation (index_text c.args.self.index)) (sym c.requires.used.memory.place)
-          (alone_still c.args.self.shape.place.first c.args.self.shape.place.copies c.args.self.cell.generation
+          (alone_still c.args.self.shape.place c.args.self.cell.generation
           (index_text c.args.self.index) (g.D.Disk.medium c.args.disk.now).image
           (g.D.Disk.medium c.write_contents.new.disk).image
           (ready.elsewhere tells) (c.requires.used.disk tells).alone),
@@ -72,9 +72,9 @@ returns-in_default-clause-elsewhere g c = λ tells. (
     (g.D.Disk.medium c.write_contents.new.disk) c.in-Ok.ready.index c.in-Ok.ready.text c.in-Ok.ready.used)
     c.deref.ensures.value c.in-Ok.ensures.ready in
     let prep = ready.prepared in
-    both_around c.args.self.shape.place.first c.args.self.shape.place.copies _
+    both_around c.args.self.shape.place _
     (g.D.Disk.medium c.write_contents.new.disk).image _ (ready.elsewhere tells)
-    (subst (λ (p : Place). Spares (IsNoSlot p.first p.copies) (g.D.Disk.medium c.write_contents.new.disk).image
+    (subst (λ (p : Place). Spares (IsNoSlot p) (g.D.Disk.medium c.write_contents.new.disk).image
     (g.D.Disk.medium c.write_in.new.disk).image) c.requires.used.memory.place
     (c.in_default.ensures.puts.elsewhere tells)))
 
@@ -110,9 +110,9 @@ returns-clause-elsewhere g c = λ tells. (
     (g.D.Disk.medium c.write_contents.new.disk) c.in-Ok.ready.index c.in-Ok.ready.text c.in-Ok.ready.used)
     c.deref.ensures.value c.in-Ok.ensures.ready in
     let prep = ready.prepared in
-    both_around c.args.self.shape.place.first c.args.self.shape.place.copies _
+    both_around c.args.self.shape.place _
     (g.D.Disk.medium c.write_contents.new.disk).image _ (ready.elsewhere tells)
-    (subst (λ (p : Place). Spares (IsNoSlot p.first p.copies) (g.D.Disk.medium c.write_contents.new.disk).image
+    (subst (λ (p : Place). Spares (IsNoSlot p) (g.D.Disk.medium c.write_contents.new.disk).image
     (g.D.Disk.medium c.write_in.new.disk).image) c.requires.used.memory.place
     (c.in-Ok-write_in.ensures.puts.elsewhere tells)))
 

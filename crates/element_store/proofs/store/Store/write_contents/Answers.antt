@@ -24,7 +24,7 @@ returns-in-Err-clause-any_moment g c = λ tells. none_kept c.untouched_is_kept.e
 pub returns-in-Ok-write_durably-clause-elsewhere :
     goal.returns-in-Ok-write_durably-clause-elsewhere
 returns-in-Ok-write_durably-clause-elsewhere g c = λ tells.
-    areas_around c.args.self.now.shape.place.first c.args.self.now.shape.place.copies _ _
+    areas_around c.args.self.now.shape.place _ _
     (c.in-Ok-write_durably.ensures.elsewhere tells)
 
 pub returns-in-Ok-write_durably-clause-outside : goal.returns-in-Ok-write_durably-clause-outside
@@ -52,7 +52,7 @@ returns-in-Ok-write_durably-clause-any_moment g c = λ tells. (
 pub returns-in-Err-write_durably-clause-elsewhere :
     goal.returns-in-Err-write_durably-clause-elsewhere
 returns-in-Err-write_durably-clause-elsewhere g c = λ tells.
-    areas_around c.args.self.now.shape.place.first c.args.self.now.shape.place.copies _ _
+    areas_around c.args.self.now.shape.place _ _
     (c.in-Err-write_durably.ensures.elsewhere tells)
 
 pub returns-in-Err-write_durably-clause-outside : goal.returns-in-Err-write_durably-clause-outside

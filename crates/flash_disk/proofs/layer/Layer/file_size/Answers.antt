@@ -1,6 +1,6 @@
 use Rattle.std.proofs.Common.{sym, ◌∙◌}
 use Rattle.flash_disk.specs.Newest.{places}
-use Rattle.flash_disk.specs.FlashFilesLaws.{length-flash_files}
+use Rattle.flash_disk.proofs.FlashFilesLaws.{length-flash_files}
 use Rattle.flash_disk.proofs.Reading.{len_is}
 use Rattle.flash_disk.proofs.layer.Layer.file_size.Goals as goal
 

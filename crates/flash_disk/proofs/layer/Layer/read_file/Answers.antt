@@ -3,7 +3,7 @@ use Rattle.std.proofs.lemmas.Bool.{cases_lt}
 use Rattle.std.proofs.lemmas.List.{length-take-le}
 use Rattle.flash_disk.specs.Newest.{places}
 use Rattle.flash_disk.specs.FlashFiles.{file_len}
-use Rattle.flash_disk.specs.FlashFilesLaws.{length-flash_files}
+use Rattle.flash_disk.proofs.FlashFilesLaws.{length-flash_files}
 use Rattle.flash_disk.proofs.Reading.{all_read, nothing_taken}
 use Rattle.flash_disk.proofs.layer.Layer.read_file.Goals as goal
 

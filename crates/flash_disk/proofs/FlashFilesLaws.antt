@@ -8,7 +8,7 @@ use Rattle.std.proofs.lemmas.List.FromFn.{length-map-range_with_len, get_or-map-
 use Rattle.flash_model.specs.Pages.{Pages}
 use Rattle.flash_record.specs.PageRecord.{PageRecord}
 use Rattle.flash_disk.specs.Newest.{Placed, record_at, newest, places, IsNewest, IsNewestOf}
-use Rattle.flash_disk.specs.NewestLaws.{newest_is}
+use Rattle.flash_disk.proofs.NewestLaws.{newest_is}
 use Rattle.flash_disk.specs.FlashFiles.{file_byte, lies_at, len_at, longest_below, file_len, flash_files, IsFileLen}
 
 both_parts : (a b : Bool) → (a && b) ≡ true → (a ≡ true) × (b ≡ true)

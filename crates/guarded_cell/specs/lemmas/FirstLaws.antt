@@ -5,13 +5,17 @@ use Rattle.std.proofs.lemmas.Bool.{cases_Bool, cond-true, cond-false, eqb-true, 
 use Rattle.hash_guard.specs.SealedText.{verified}
 use Rattle.disk_model.specs.Image.{Image}
 use Rattle.disk_model.specs.Place.{slot}
+use Rattle.disk_model.specs.declared.place.Place.{Place}
 use Rattle.guarded_cell.specs.declared.looking.Seen.{Seen}
-use Rattle.guarded_cell.specs.Held.{Text, of_parity, text_in, is_seen, with_copy, with_slot, holds, copies_that, held}
+use Rattle.guarded_cell.specs.Held.{Text, of_parity, text_in, is_seen, with_copy, with_slot, holds, copies_that}
+use Rattle.guarded_cell.specs.Held.{held_in_first, held}
 use Rattle.guarded_cell.specs.Held.{standing}
-use Rattle.guarded_cell.specs.SeenLaws.{IsAhead, IsInOrder, text_of, alike, never_both, first_seen, seen_more, placed}
-use Rattle.guarded_cell.specs.SeenLaws.{with_slot_in_order, copies_in, has, skips, enough, later, here}
-use Rattle.guarded_cell.specs.HeldLaws.{held_in_order, copies_of, holds_is, is_holds, by_holding, standing_copies}
-use Rattle.guarded_cell.specs.CopyLaws.{first_passing}
+use Rattle.guarded_cell.specs.lemmas.SeenLaws.{IsAhead, IsInOrder, text_of, alike, never_both, first_seen, seen_more}
+use Rattle.guarded_cell.specs.lemmas.SeenLaws.{placed}
+use Rattle.guarded_cell.specs.lemmas.SeenLaws.{with_slot_in_order, copies_in, has, skips, enough, later, here}
+use Rattle.guarded_cell.specs.lemmas.HeldLaws.{held_in_order, copies_of, holds_is, is_holds, by_holding}
+use Rattle.guarded_cell.specs.lemmas.HeldLaws.{standing_copies}
+use Rattle.guarded_cell.specs.lemmas.CopyLaws.{first_passing}
 use Rattle.guarded_cell.specs.Register.{Holds, IsHeldBy}
 
 -- the first of a text's copies
@@ -135,20 +139,21 @@ middle_odd : (n : ℕ) → middle n 1 ≡ n + 1
 unfolding middle
 middle_odd n = refl
 
-held_by_first : (image : Image) (first n : ℕ) → IsByFirst (λ p. n + 1) (held image first n)
-unfolding held
-held_by_first image first zero = tt
-held_by_first image first (suc n) =
+held_by_first : (image : Image) (place : Place) (n : ℕ) → IsByFirst (λ p. n + 1) (held_in_first image place n)
+unfolding held_in_first
+held_by_first image place zero = tt
+held_by_first image place (suc n) =
     let even = middle_even n in
     let odd = middle_odd n in
-    let one : IsByFirst (middle n) (with_slot (n + 1) (text_in image first n 0) (held image first n)) =
-    slot_by_first (λ p. n + 1) (middle n) (n + 1) (middle_low n) 0 (verified (image (slot first n 0)))
-    (held image first n)
-    (omega arith) (omega (arith, even)) (held_in_order image first n) (held_by_first image first n) in
+    let one : IsByFirst (middle n) (with_slot (n + 1) (text_in image place n 0) (held_in_first image place n)) =
+    slot_by_first (λ p. n + 1) (middle n) (n + 1) (middle_low n) 0 (verified (image (slot place n 0)))
+    (held_in_first image place n)
+    (omega arith) (omega (arith, even)) (held_in_order image place n) (held_by_first image place n) in
     slot_by_first (middle n) (λ p. suc n + 1) (n + 1) (λ p. let le = middle_high n p in omega (arith, le)) 1
-    (verified (image (slot first n 1))) (with_slot (n + 1) (text_in image first n 0) (held image first n))
+    (verified (image (slot place n 1))) (with_slot (n + 1) (text_in image place n 0) (held_in_first image place n))
     (omega (arith, odd)) (omega arith)
-    (with_slot_in_order (n + 1) (text_in image first n 0) (held image first n) (held_in_order image first n)) one
+    (with_slot_in_order (n + 1) (text_in image place n 0) (held_in_first image place n) (held_in_order image place n))
+    one
 
 earlier_at : (s : Seen) (xs : List Seen) (k : ℕ) (d : Seen) → k < length xs → IsEarlier s xs
     → (get_or xs k d).generation ≡ s.generation → first_of s < first_of (get_or xs k d)
@@ -170,16 +175,16 @@ some_copies bound (x ∷ xs) by zero d lt = by.0
 some_copies bound (x ∷ xs) by (suc k) d lt = some_copies bound xs by.3 k d (omega (arith, lt))
 
 -- at one generation the first copy of the earlier member is lower
-pub held_firsts : (image : Image) (first copies i j : ℕ) (d : Seen) → i < j → j < length (held image first copies)
-    → (get_or (held image first copies) j d).generation ≡ (get_or (held image first copies) i d).generation
-    → first_of (get_or (held image first copies) i d) < first_of (get_or (held image first copies) j d)
-held_firsts image first copies i j d before lt e =
-    firsts (λ p. copies + 1) (held image first copies) i j d before lt (held_by_first image first copies) e
+pub held_firsts : (image : Image) (place : Place) (i j : ℕ) (d : Seen) → i < j → j < length (held image place)
+    → (get_or (held image place) j d).generation ≡ (get_or (held image place) i d).generation
+    → first_of (get_or (held image place) i d) < first_of (get_or (held image place) j d)
+held_firsts image place i j d before lt e =
+    firsts (λ p. place.copies + 1) (held image place) i j d before lt (held_by_first image place place.copies) e
 
 -- each member has a copy
-pub held_some : (image : Image) (first copies : ℕ) → All (λ seen. 1 ≤ length seen.copies) (held image first copies)
-held_some image first copies = some_copies (λ p. copies + 1) (held image first copies)
-    (held_by_first image first copies)
+pub held_some : (image : Image) (place : Place) → All (λ seen. 1 ≤ length seen.copies) (held image place)
+held_some image place = some_copies (λ p. place.copies + 1) (held image place)
+    (held_by_first image place place.copies)
 
 -- ---- the text that stands
 
@@ -219,31 +224,31 @@ found_first bound m (x ∷ xs) s u by positive e many = ⊎_elim
     (cases_Bool (enough m x))
 
 -- of the texts of its generation that at least m copies hold, what stands is the one that is held first
-pub standing_first : (image : Image) (first copies m : ℕ) (seen : Seen) (text : List ℕ) → 1 ≤ m
-    → standing image first copies m ≡ Some seen
-    → IsHeldBy image first copies m seen.generation text → ¬ (text ≡ seen.text)
-    → (copy : ℕ) × (copy < copies) × Holds image first copy seen.generation seen.text
-    × ((a : ℕ) → a ≤ copy → ¬ (Holds image first a seen.generation text))
+pub standing_first : (image : Image) (place : Place) (m : ℕ) (seen : Seen) (text : List ℕ) → 1 ≤ m
+    → standing image place m ≡ Some seen
+    → IsHeldBy image place m seen.generation text → ¬ (text ≡ seen.text)
+    → (copy : ℕ) × (copy < place.copies) × Holds image place copy seen.generation seen.text
+    × ((a : ℕ) → a ≤ copy → ¬ (Holds image place a seen.generation text))
 unfolding standing
-standing_first image first copies m seen text positive e some differ =
+standing_first image place m seen text positive e some differ =
     let u : Text = (seen.generation, text) in
-    let it = standing_copies image first copies m seen e in
-    let it_long : m ≤ length (copies_that (λ c. holds image first c (text_of seen)) copies) =
+    let it = standing_copies image place m seen e in
+    let it_long : m ≤ length (copies_that (λ c. holds image place c (text_of seen)) place.copies) =
     subst (λ (cs : List ℕ). m ≤ length cs) it.0 it.1 in
-    let u_long = by_holding image first copies m u some in
-    let (c, lt, holding, at, none) = first_passing (λ c. holds image first c (text_of seen)) copies
+    let u_long = by_holding image place m u some in
+    let (c, lt, holding, at, none) = first_passing (λ c. holds image place c (text_of seen)) place.copies
     (omega (arith, it_long, positive)) in
-    let (b, blt, b_holding, b_at, b_none) = first_passing (λ c. holds image first c u) copies
+    let (b, blt, b_holding, b_at, b_none) = first_passing (λ c. holds image place c u) place.copies
     (omega (arith, u_long, positive)) in
-    let before : first_of seen < get_or (copies_in u (held image first copies)) 0 0 =
-    found_first (λ p. copies + 1) m (held image first copies) seen u (held_by_first image first copies) positive e
-    (subst (λ (cs : List ℕ). m ≤ length cs) (sym (copies_of image first copies u)) u_long) refl differ in
+    let before : first_of seen < get_or (copies_in u (held image place)) 0 0 =
+    found_first (λ p. place.copies + 1) m (held image place) seen u (held_by_first image place place.copies) positive e
+    (subst (λ (cs : List ℕ). m ≤ length cs) (sym (copies_of image place place.copies u)) u_long) refl differ in
     let its_first : first_of seen ≡ c + 1 = ap (λ (cs : List ℕ). get_or cs 0 0) it.0 ∙ at in
-    let u_first : get_or (copies_in u (held image first copies)) 0 0 ≡ b + 1 =
-    ap (λ (cs : List ℕ). get_or cs 0 0) (copies_of image first copies u) ∙ b_at in (
+    let u_first : get_or (copies_in u (held image place)) 0 0 ≡ b + 1 =
+    ap (λ (cs : List ℕ). get_or cs 0 0) (copies_of image place place.copies u) ∙ b_at in (
       c,
       lt,
-      holds_is image first c (text_of seen) holding,
-      λ a le v. never_both (holds image first a u) (is_holds image first a u v)
+      holds_is image place c (text_of seen) holding,
+      λ a le v. never_both (holds image place a u) (is_holds image place a u v)
           (b_none a (omega (arith, le, before, its_first, u_first))),
     )

@@ -1,0 +1,6 @@
+pub mod CopyLaws
+pub mod FirstLaws
+pub mod HeldLaws
+pub mod SeenLaws
+pub mod ShownLaws
+pub mod StopLaws
