@@ -70,7 +70,7 @@ pub record Measures (extent : Extent) (m : Map) : Type 0 where
 pub record AreMeasured (states : KeyStates) (one other : Extent) : Type 0 where
   pub kept : AreKeyStates states
   pub synced : Measures one (synced_map states)
-  pub pending : Measures other (visible_map states)
+  pub visible : Measures other (visible_map states)
 
 -- a step on the states that leaves what is synchronised, and makes this visible
 pub record IsStep (old new : KeyStates) (target : Map) : Type 0 where

@@ -5,8 +5,8 @@
 //! and the size of the visible keys are kept, never counted anew.
 //!
 //! A map holds encodings, each beside the value that it encodes ([`Stored`]): a value is decoded once, when it comes
-//! from the disk, and encoded once, when it is put. What a sync hands down ([`KeyMaps::changes`]) is exactly what
-//! differs between the maps.
+//! from the disk, and encoded once, when it is put. What comes from the disk is judged: bytes that encode no value are
+//! unreadable, and no salvage. What a sync hands down ([`KeyMaps::changes`]) is exactly what differs between the maps.
 #![tactic(auto)]
 
 mod extents;

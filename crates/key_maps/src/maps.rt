@@ -48,6 +48,7 @@ impl KeyMaps {
     pub fn invariants(&self)
         ensures { AreTwoMaps self.now }
     {
+        // So that what always holds of the maps is known here.
         let _size = self.visible.size;
     }
 
@@ -175,6 +176,7 @@ impl KeyMaps {
     pub fn has_changes(&self) -> bool
         ensures { (result ≡ false) ↔ (self.now.synced ≡ self.now.visible) }
     {
+        // So that what always holds of the maps is known here.
         let _size = self.visible.size;
         key_states::has_changes(&self.states)
     }
@@ -184,6 +186,7 @@ impl KeyMaps {
     pub fn changes(&self, alloc: Global) -> Result<Vec<Change>, AllocError>
         ensures { IfOk result (λ changes. AreChanges changes.items self.now.synced self.now.visible) }
     {
+        // So that what always holds of the maps is known here.
         let _size = self.visible.size;
         key_states::changes(alloc, &self.states)
     }

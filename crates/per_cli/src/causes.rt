@@ -44,7 +44,7 @@ pub(crate) struct Ended<'a> {
 }
 
 /// Says why a run ended where its status is not 0. At status 0 it says why commands were answered by error 4, and that
-/// a folder is not there or was not formatted, since every command is then refused.
+/// a folder is not there or was not formatted, since every command but `now` and `wipe` is then refused.
 pub(crate) fn say<R: Files + Eprint>(rt: &R, ended: &Ended<'_>) -> io::Result<()> {
     let dir = ended.dir;
     match ended.status {

@@ -23,7 +23,7 @@ Lines. Words are separated by one space. Empty lines and lines that begin with #
   0 status                                 which version is active
   0 install {\"version\":1,\"keyValueStorages\":[{\"name\":\"k\"}],\"fileStorages\":[{\"name\":\"f\"}]}
   0 update {\"version\":2,\"keyValueStorages\":[{\"name\":\"k\"}]}
-                                           another version; the one before stays until the next line
+                                           another version; the one before stays until finish or rollback
   0 finish                                 forgets the version before
   0 rollback                               goes back to the version before
   0 wipe                                   forgets all of the application
@@ -49,7 +49,7 @@ Lines. Words are separated by one space. Empty lines and lines that begin with #
   0 recover-key k a                        takes one copy's value where too few agree, else the initial one
   0 reset-key k a                          takes the initial value
   0 sync k                                 makes durable what this run changed
-  0 discard k                              drops what this run changed since
+  0 discard k                              drops what is not synchronised
  Files
   0 files f                                the names
   0 file-exists f a                        yes or no
@@ -112,7 +112,7 @@ Status
   4 memory ran out
   5 the input failed
   6 the output failed
-  7 the first 67108864 bytes of the input have no line end
+  7 the first 67108864 bytes of the input have neither the line `end` nor the input's end
   8 the audit found something; its lines say what
   9 the export or the import was refused; its line says why
  10 the flash cannot be opened: too many pages of files, or no spare block

@@ -108,7 +108,7 @@ abbrev pub flash_of : Option (List ℕ) → Option (Option ℕ)
 flash_of None = Some None
 flash_of (Some value) = option_map Some (number_in 4 4096 value)
 
--- the folder is there, and not empty
+-- the word that names the folder is there, and not empty
 abbrev pub dir_of : Option (List ℕ) → Option (List ℕ)
 dir_of None = None
 dir_of (Some []) = None

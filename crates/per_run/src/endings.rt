@@ -30,11 +30,11 @@ impl Ending {
     {
         match self {
             Ending::AllRead | Ending::EndLine => DONE,
-            Ending::BadLine => 2,
+            Ending::BadLine => BAD_LINE,
             Ending::OutOfMemory => OUT_OF_MEMORY,
-            Ending::Source => 5,
+            Ending::Source => SOURCE,
             Ending::Sink => SINK,
-            Ending::TooLong => 7,
+            Ending::TooLong => TOO_LONG,
         }
     }
 }
@@ -45,14 +45,24 @@ pub const DONE: u8 = 0;
 /// The status where the words are refused.
 pub const REFUSED: u8 = 1;
 
-/// The status where the disk failed while the runtime started, or in a job that reads no lines.
+/// The status where a line is outside the grammar.
+pub const BAD_LINE: u8 = 2;
+
+/// The status where the disk failed while it was formatted or the runtime started, or in an audit, an export or an
+/// import.
 pub const DEVICE: u8 = 3;
 
 /// The status where memory ran out.
 pub const OUT_OF_MEMORY: u8 = 4;
 
+/// The status where the source failed.
+pub const SOURCE: u8 = 5;
+
 /// The status where the sink failed.
 pub const SINK: u8 = 6;
+
+/// The status where the input is too long.
+pub const TOO_LONG: u8 = 7;
 
 /// The status where an audit found something, and the sink took all of its text.
 pub const FOUND: u8 = 8;

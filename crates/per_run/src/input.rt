@@ -10,7 +10,7 @@ use crate::endings::Ending;
 use per_base::{Failed, Source};
 use std::alloc::{AllocError, Global};
 
-/// The greatest number of bytes of an input.
+/// An input that is read to its end has fewer bytes than this.
 pub const INPUT_BYTES: usize = 67_108_864;
 
 /// How many bytes are read at once.
@@ -45,7 +45,7 @@ pub fn zeros(alloc: Global, count: usize) -> Result<Vec<u8>, AllocError>
 
 /// Reads the source to its end.
 ///
-/// Errors: `Source` where it failed; `TooLong` where it gave as many bytes as an input may have, and not its end;
+/// Errors: `Source` where it failed; `TooLong` where it gave [`INPUT_BYTES`] bytes, and its end was not seen;
 /// `OutOfMemory`.
 pub fn read_whole<S: Source>(alloc: Global, source: &mut S) -> Result<Vec<u8>, Ending>
     ensures read { MatchResult result (λ whole. IsTaken (S.left source.old) (S.left source.new) whole.items true)

@@ -31,8 +31,8 @@ use std::alloc::Global;
 /// |---|---|
 /// | 0 | the job is done, and all output is written: the input was read to its end or to the line `end`, the disk is formatted, the made input is handled, an audit found nothing, or the storage is exported or imported |
 /// | 1 | only where the words are refused; nothing was read or written |
-/// | 2 | the line `bad-line N` says is outside the grammar; all lines before it were handled and answered |
-/// | 3 | the disk failed while the runtime started, or in a job that reads no lines |
+/// | 2 | the line with the number in `bad-line N` is outside the grammar; all lines before it were handled and answered |
+/// | 3 | the disk failed while it was formatted or the runtime started, or in an audit, an export or an import |
 /// | 4 | memory ran out |
 /// | 5 | the source failed; all whole lines before were handled and answered, and nothing was imported |
 /// | 6 | the sink failed; what it took is a front of the output |

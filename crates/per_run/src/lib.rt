@@ -9,9 +9,14 @@
 //! then stands for, what a stop at any moment leaves, and that a failure of the disk, the source or the sink ends the
 //! program only where its count of faults rose.
 //!
-//! [`read_words`] gives the job of the words. Limits: lines of 262,144 bytes, and an input of 67,108,864 bytes. The
-//! text of a reply is handed to the sink before the next line is looked at. What is not promised is that memory is
-//! there.
+//! Statuses: the table above [`per_run`] says when 0 to 9 come, and that above [`per_flash`] which come where a flash
+//! is not opened, as 10 and 11. `specs/Jobs` says the same in clauses, job by job, and `specs/Endings` of `run_model`
+//! of the job that handles lines. `endings` has the numbers. The help of `per_cli` lists every status of the program,
+//! those of main and of the script too.
+//!
+//! [`read_words`] gives the job of the words. Limits: lines of 262,144 bytes, and an input of fewer than 67,108,864
+//! bytes, or with the line `end` among them. The text of a reply is handed to the sink before the next line is looked
+//! at. What is not promised is that memory is there.
 #![tactic(auto)]
 
 mod answering;

@@ -17,7 +17,7 @@ use thiserror::Error as ThisError;
 /// What the words ask for.
 #[derive(Debug, Drop)]
 pub struct Job {
-    /// The folder of the disk; it is not empty.
+    /// The word that names the folder of the disk; it is not empty.
     pub dir: ValueText,
     pub kind: JobKind,
     /// How many blocks the flash has, 4 to 4096, where the disk is one over a flash.
@@ -211,7 +211,7 @@ fn flash_of(value: Option<&str>) -> Result<Option<u32>, WordsError>
     }
 }
 
-/// A folder that is not empty.
+/// The word that names a folder; it is not empty.
 fn dir_of(alloc: Global, value: Option<&str>) -> Result<ValueText, WordsError>
     ensures { Reads result (dir_of (option_map (λ text. text.now) value.entry)) }
 {

@@ -96,7 +96,7 @@ pub stepped : (old new : KeyStates) (synced visible extent : Extent) (target : M
 stepped old new synced visible extent target are step measures = record {
   kept = step.kept;
   synced = subst (λ (m : Map). Measures synced m) (sym step.synced) are.synced;
-  pending = subst (λ (m : Map). Measures extent m) (sym step.visible) measures;
+  visible = subst (λ (m : Map). Measures extent m) (sym step.visible) measures;
 }
 
 pub put_measured : (old new : KeyStates) (synced visible extent : Extent) (name : List ℕ) (key : Element)
@@ -108,7 +108,7 @@ pub put_measured : (old new : KeyStates) (synced visible extent : Extent) (name 
 put_measured old new synced visible extent name key are step count size place small =
     let few : length (with_element (visible_map old) name key) ≤ 1024 =
     few_with (visible_map old) name key (visible_sorted old are.kept)
-    (omega (arith, are.pending.counted, are.pending.few)) place in
+    (omega (arith, are.visible.counted, are.visible.few)) place in
     stepped old new synced visible extent (with_element (visible_map old) name key) are step (record {
       counted = count;
       sized = size;
@@ -125,7 +125,7 @@ removed_measured old new synced visible extent name key taken are step there tak
     count_gone (visible_map old) name key there in
     let sizes : size_of (without (visible_map old) name) + (length name + key.len) ≡ size_of (visible_map old) =
     size_gone (visible_map old) name key there in
-    let was : Measures visible (visible_map old) = are.pending in
+    let was : Measures visible (visible_map old) = are.visible in
     stepped old new synced visible extent (without (visible_map old) name) are step (record {
       counted = omega (arith, counts, count, was.counted);
       sized = omega (arith, sizes, size, takes, was.sized);
@@ -154,8 +154,8 @@ pub marked_measured : (old new : KeyStates) (synced visible : Extent) → AreMea
     → AreMeasured new visible visible
 marked_measured old new synced visible are step = record {
   kept = step.kept;
-  synced = subst (λ (m : Map). Measures visible m) (sym step.synced) are.pending;
-  pending = subst (λ (m : Map). Measures visible m) (sym step.visible) are.pending;
+  synced = subst (λ (m : Map). Measures visible m) (sym step.synced) are.visible;
+  visible = subst (λ (m : Map). Measures visible m) (sym step.visible) are.visible;
 }
 
 -- ---- what always holds
@@ -208,8 +208,8 @@ measured_maps states synced visible are = record {
   };
   visible = record {
     ordered = visible_sorted states are.kept;
-    few = omega (arith, are.pending.counted, are.pending.few);
-    small = omega (arith, are.pending.sized, are.pending.small);
+    few = omega (arith, are.visible.counted, are.visible.few);
+    small = omega (arith, are.visible.sized, are.visible.small);
     keys = λ name key there. all_lookup IsKey (is_at (name_cmp name)) (visible_map states) key
         (visible_keys states are.kept) there;
   };

@@ -120,7 +120,7 @@ opened_measured entries states extent all sorted is count size few small =
     subst (λ (l : KeyStates). AreMeasured l extent extent) (sym is) (record {
       kept = opened_are entries all sorted;
       synced = subst (λ (m : Map). Measures extent m) (sym (opened_synced entries)) measured;
-      pending = subst (λ (m : Map). Measures extent m) (sym (opened_visible entries)) measured;
+      visible = subst (λ (m : Map). Measures extent m) (sym (opened_visible entries)) measured;
     })
   where
     measured : Measures extent (judged_map entries)

@@ -26,7 +26,7 @@ overflow_sub-extent-2 c =
       size_gone (visible_map c.self.inside.states.entries) c.args.name.now c.in-Some.old.now there,
       c.element_size.ensures.size,
       c.len.ensures.len,
-      c.self.invariant.pending.sized,
+      c.self.invariant.visible.sized,
     )
 
 pub invariant_of-self : goal.invariant_of-self
