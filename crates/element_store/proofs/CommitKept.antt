@@ -3,7 +3,11 @@ use Rattle.std.proofs.Common.{◌≡◌, ◌⊎◌, ℕ, zero, suc, ◌+◌, ◌
 use Rattle.std.proofs.Common.{IsTrue, Some, refl, sym, ap, ◌∙◌, subst, arith, ⊎_elim, inl, inr}
 use Rattle.std.proofs.Math.Nat.{mul-le-mul_left}
 use Rattle.std.specs.List.{All, AllByRecursion, AllZip}
-use Rattle.hash_guard.specs.SealedText.{header}
+use Rattle.hash_guard.specs.SealedText.{header, sealed}
+use Rattle.disk_model.specs.Image.{Image}
+use Rattle.disk_model.specs.Place.{slot}
+use Rattle.disk_model.specs.lemmas.Places.{slot_no_area}
+use Rattle.guarded_cell.specs.Differing.{front_cost, texts_cost}
 use Rattle.per_base.specs.declared.elements.Content.{Content}
 use Rattle.per_base.specs.declared.elements.Entry.{Entry}
 use Rattle.disk_model.specs.declared.place.Place.{Place}
@@ -15,7 +19,7 @@ use Rattle.disk_model.specs.Laws.{cases_on, goes_none}
 use Rattle.disk_model.specs.lemmas.Places.{outside_no_slot, outside_no_area}
 use Rattle.guarded_cell.specs.declared.cell.Cell.{Cell}
 use Rattle.guarded_cell.specs.Cells.{place_of, CellAt, IsCellOf}
-use Rattle.guarded_cell.specs.Register.{IsAlone}
+use Rattle.guarded_cell.specs.Register.{IsAlone, own}
 use Rattle.guarded_cell.specs.Stops.{PutStops}
 use Rattle.block_files.specs.Aside.{Where}
 use Rattle.block_files.specs.BlockSets.{contains, Ascend}
@@ -282,6 +286,46 @@ module _ (told : Bool) (store : Store) (changes : List Change) (now : List Bool)
         (subst (λ (p : Place). new.written ≤ mid.written + p.copies * (44 + length text + 44)) used.memory.place then)
         in
         omega (arith, first_cost, few, split, here)
+
+  texts_same : (place : Place) (parity : ℕ) (bytes : List ℕ) (a b : Image) → parity < 2
+      → ((f : ℕ) → IsNoArea place f → b f ≡ a f) → (n : ℕ)
+      → texts_cost place parity bytes b n ≡ texts_cost place parity bytes a n
+  texts_same place parity bytes a b two same zero = refl
+  texts_same place parity bytes a b two same (suc n) =
+      let rest = texts_same place parity bytes a b two same n in
+      let e = same (slot place n parity) (slot_no_area place n parity two) in
+      let here : front_cost (b (slot place n parity)) bytes ≡ front_cost (a (slot place n parity)) bytes =
+      ap (λ (s : List ℕ). front_cost s bytes) e in
+      omega (arith, rest, here)
+
+  module _ (mid : Medium) (first_cost : mid.written ≤ old.written + store.shape.place.copies * jobs_cost jobs)
+      (spares : Spares (IsNoArea store.shape.place) old.image mid.image) where
+    pub commit_differs : (new : Medium) (text : List ℕ) → text ≡ index_text next
+        → new.written ≤ mid.written + texts_cost (place_of store.cell) (own (generation_in store + 1))
+        (sealed (generation_in store + 1) text) mid.image (place_of store.cell).copies
+        + (place_of store.cell).copies * header
+        → new.written ≤ old.written
+        + store.shape.place.copies * (commit_cost store.shape.kind (view_in store).entries changes + 44)
+        + texts_cost store.shape.place (own (generation_in store + 1))
+        (sealed (generation_in store + 1) (index_text next)) old.image store.shape.place.copies
+    commit_differs new text spelled then =
+        let n = store.shape.place.copies in
+        let g = generation_in store + 1 in
+        let c = commit_cost store.shape.kind (view_in store).entries changes in
+        let few : n * jobs_cost jobs ≤ n * c = mul-le-mul_left n plan.cost in
+        let split : n * (c + 44) ≡ n * c + n * 44 = omega arith in
+        let at_place : new.written ≤ mid.written + texts_cost store.shape.place (own g) (sealed g text) mid.image n
+        + n * 44 =
+        subst (λ (p : Place). new.written ≤ mid.written + texts_cost p (own g) (sealed g text) mid.image p.copies
+        + p.copies * 44) used.memory.place then in
+        let here : new.written ≤ mid.written + texts_cost store.shape.place (own g) (sealed g (index_text next)) mid.image n
+        + n * 44 =
+        subst (λ (t : List ℕ). new.written ≤ mid.written + texts_cost store.shape.place (own g) (sealed g t) mid.image n
+        + n * 44) spelled at_place in
+        let same : texts_cost store.shape.place (own g) (sealed g (index_text next)) mid.image n
+        ≡ texts_cost store.shape.place (own g) (sealed g (index_text next)) old.image n =
+        texts_same store.shape.place (own g) (sealed g (index_text next)) old.image mid.image (omega arith) spares n in
+        omega (arith, first_cost, few, split, here, same)
 
   headed_read : (e : IndexEntry) (f : Entry) → IsHeadedBy e f → HasLength e.len f.content
       → AreCopies store.shape.place.copies f.lacking → Ascend f.lacking

@@ -58,6 +58,10 @@ impl Store {
     ghost use Rattle.index_text.specs.Spelling.{index_text};
     ghost use Rattle.element_store.specs.Stores.{entries_of};
     ghost use Rattle.element_store.specs.Committing.{index_in, index_length};
+    ghost use Rattle.guarded_cell.specs.Differing.{texts_cost};
+    ghost use Rattle.guarded_cell.specs.Register.{own};
+    ghost use Rattle.hash_guard.specs.SealedText.{sealed};
+    ghost use Rattle.element_store.specs.Stores.{generation_in};
     ghost use Rattle.per_base.specs.Faults.{HandsBack, IsDeviceFault};
 
     /// Makes the changes all at once: a stop at any moment leaves the storage of before or that of after. Only what
@@ -105,6 +109,13 @@ impl Store {
         ensures written { IfOk result (λ store. IsWithin (shape_of self).place.copies
             (commit_cost (shape_of self).kind (entries_of self) changes.items) (length (index_text (index_in store)))
             (D.medium disk.old).written (D.medium disk.new).written) }
+        // Where the slots' fronts are blank, only the runs of the index that differ from what stands there.
+        ensures differing { IsTrue D.told → IfOk result (λ store. (D.medium disk.new).written
+            ≤ (D.medium disk.old).written + (shape_of self).place.copies
+            * (commit_cost (shape_of self).kind (entries_of self) changes.items + 44)
+            + texts_cost (shape_of self).place (own (generation_in self + 1))
+            (sealed (generation_in self + 1) (index_text (index_in store))) (D.medium disk.old).image
+            (shape_of self).place.copies) }
         ensures text { IfOk result (λ store. length (index_text (index_in store))
             ≡ index_length (shape_of self).kind (entries_of store)) }
         ensures at_most { IsWithin (shape_of self).place.copies

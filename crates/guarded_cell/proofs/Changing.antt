@@ -1,13 +1,14 @@
 -- What calls change that do nothing, or that only read before others go on.
 use Rattle.std.proofs.Common.{◌≡◌, ◌∙◌, ℕ, ◌+◌, ◌*◌, ◌≤◌, List, length, Bool, IsTrue, Some, refl, sym, ap, subst, arith}
-use Rattle.hash_guard.specs.SealedText.{header}
+use Rattle.hash_guard.specs.SealedText.{header, sealed}
 use Rattle.disk_model.specs.Image.{Image}
 use Rattle.disk_model.specs.Medium.{Medium, Quiet, IsIdle, IsLawful, Elapses, OnlyReads, EachCase}
 use Rattle.disk_model.specs.declared.place.Place.{Place}
 use Rattle.disk_model.specs.Laws.{elapses_none, elapses_on, reads_none, reads_quiet}
 use Rattle.guarded_cell.specs.declared.looking.Seen.{Seen}
 use Rattle.guarded_cell.specs.Held.{standing}
-use Rattle.guarded_cell.specs.Register.{IsAlone}
+use Rattle.guarded_cell.specs.Register.{IsAlone, own}
+use Rattle.guarded_cell.specs.Differing.{texts_cost}
 use Rattle.guarded_cell.specs.Seens.{IsSealable}
 use Rattle.guarded_cell.specs.Stops.{PutStops, KeepStops, FormatStops}
 use Rattle.guarded_cell.specs.Changes.{Brings, Clears, Formats, Opens}
@@ -28,6 +29,7 @@ module _ {told : Bool} {place : Place} {generation : ℕ} {text : List ℕ} wher
       any_moment = λ tells quiet. reads_alone (PutStops place generation text old.image) old new
           quiet reads (still_stops place generation text old.image);
       written = omega (arith, reads.written);
+      differing = λ tells. omega (arith, reads.written);
       time = time;
     };
     right = λ tells f is_right. ap (λ (im : Image). im f) reads.image;
@@ -48,6 +50,12 @@ module _ {told : Bool} {place : Place} {generation : ℕ} {text : List ℕ} wher
           (brings.puts.any_moment tells (reads_quiet quiet reads)));
       written = subst (λ (n : ℕ). new.written ≤ n + place.copies * (header + length text + header)) reads.written
           brings.puts.written;
+      differing = λ tells. subst (λ (n : ℕ). new.written ≤ n
+          + texts_cost place (own generation) (sealed generation text) old.image place.copies + place.copies * header)
+          reads.written
+          (subst (λ (im : Image). new.written ≤ mid.written
+          + texts_cost place (own generation) (sealed generation text) im place.copies + place.copies * header)
+          reads.image (brings.puts.differing tells));
       time = elapses_on time brings.puts.time;
     };
     right = λ tells. right_since place generation text old.image mid.image new.image reads.image

@@ -10,6 +10,7 @@ use Rattle.disk_model.specs.declared.place.Place.{Place}
 use Rattle.guarded_cell.specs.Register.{Holds, own}
 use Rattle.guarded_cell.specs.Stops.{SlotText, IsSlotPiece}
 use Rattle.guarded_cell.specs.Fronts.{IsChosen, PutsSome, FrontsCase}
+use Rattle.guarded_cell.specs.Differing.{IsFront, TextsCase}
 
 -- a slot of the place holds a text that it held at the start, or one of some others
 abbrev pub IsKnown : (place : Place) → (Extra : ℕ → List ℕ → Type 0) → (start image : Image) → Type 0
@@ -34,6 +35,17 @@ module _ (place : Place) (Extra : ℕ → List ℕ → Type 0) where
       (λ same. known copy parity lt p h t (subst (λ (s : List ℕ). VerifiesAs s h t) same v))
       (λ put. inr (only (a (slot place copy parity)) h t (subst (λ (s : List ℕ). VerifiesAs s h t) put v)))
       (puts.each (slot place copy parity))
+
+  pub known_texts : (bytes : List ℕ) (start a b : Image) → ((f : ℕ) → IsFront bytes (a f) (b f))
+      → ((old : List ℕ) (h : ℕ) (t : List ℕ) → VerifiesAs (put_bytes old 0 bytes) h t → Extra h t)
+      → IsKnown place Extra start a → IsKnown place Extra start b
+  known_texts bytes start a b each only known copy parity lt p h t v = ⊎_elim
+      (λ same. known copy parity lt p h t (subst (λ (s : List ℕ). VerifiesAs s h t) same v))
+      (λ changed. ⊎_elim
+      (λ put. inr (only put.0 h t (subst (λ (s : List ℕ). VerifiesAs s h t) put.1 v)))
+      (λ blank. absurd (blank h t v))
+      changed)
+      (each (slot place copy parity))
 
   module _ (Kept : ℕ → Type 0) (start : Image) where
     pub case_settled : (image : Image) (c : Case) → IsSettledAt image c → IsKnown place Extra start image
@@ -64,6 +76,21 @@ module _ (place : Place) (Extra : ℕ → List ℕ → Type 0) where
         base = λ f keep. ap (λ (im : Image). im f) fronts.base ∙ k.kept.base f keep;
         full = λ f keep. fronts.full.others f (apart f keep) ∙ k.kept.full f keep;
         left = λ f keep. fronts.left f (apart f keep) ∙ k.kept.left f keep;
+      };
+    }
+
+    pub case_texts : (parity : ℕ) (chosen : List Bool) (bytes : List ℕ) (d c : Case)
+        → TextsCase (IsChosen place parity chosen) bytes d c
+        → ((old : List ℕ) (h : ℕ) (t : List ℕ) → VerifiesAs (put_bytes old 0 bytes) h t → Extra h t)
+        → ((f : ℕ) → Kept f → ¬ (IsChosen place parity chosen f))
+        → IsKnownCase place Extra Kept start d → IsKnownCase place Extra Kept start c
+    case_texts parity chosen bytes d c texts only apart k = record {
+      base = subst (λ (im : Image). IsKnown place Extra start im) (sym texts.base) k.base;
+      full = known_texts bytes start d.full c.full texts.each only k.full;
+      kept = record {
+        base = λ f keep. ap (λ (im : Image). im f) texts.base ∙ k.kept.base f keep;
+        full = λ f keep. texts.full f (apart f keep) ∙ k.kept.full f keep;
+        left = λ f keep. texts.left f (apart f keep) ∙ k.kept.left f keep;
       };
     }
 

@@ -12,3 +12,6 @@ pub mod Seeing
 pub mod Opened
 pub mod Changing
 pub mod AloneLaws
+pub mod Midway
+pub mod Putfronts
+pub mod Behind

@@ -1,16 +1,16 @@
 -- Which slots hold a text, as the flags of a look say it, and which copies lack a text that was seen.
-use Rattle.std.proofs.Common.{◌≡◌, ◌∙◌, ℕ, ◌+◌, ◌%◌, ◌<◌, ◌≤◌, List, length, get_or, set, Bool, true, false, not, cond}
+use Rattle.std.proofs.Common.{◌≡◌, ◌∙◌, ℕ, ◌+◌, ◌%◌, ◌<◌, List, length, get_or, set, Bool, true, false, not}
 use Rattle.std.proofs.Common.{Option, Some, None, is_some, refl, sym, ap, subst, ⊎_elim, eq-eqb, ne_eqb, eqb, arith}
 use Rattle.std.proofs.Common.{get_or-set_other, get_or-set_same}
 use Rattle.std.proofs.lemmas.Bool.{cases_eq, cases_lt, cond-true, cond-false}
 use Rattle.hash_guard.specs.SealedText.{VerifiesAs, verified}
-use Rattle.hash_guard.specs.Laws.{verifies-verified, verified-verifies, verified-none}
+use Rattle.hash_guard.specs.Laws.{verifies-verified, verified-verifies}
 use Rattle.disk_model.specs.Image.{Image}
 use Rattle.disk_model.specs.Orders.{named_in}
 use Rattle.disk_model.specs.Place.{slot}
 use Rattle.disk_model.specs.declared.place.Place.{Place}
 use Rattle.guarded_cell.specs.lemmas.CopyLaws.{named_passing}
-use Rattle.guarded_cell.specs.Held.{Text, holds, copies_that}
+use Rattle.guarded_cell.specs.Held.{Text, holds}
 use Rattle.guarded_cell.specs.lemmas.HeldLaws.{holds_is, is_holds}
 use Rattle.guarded_cell.specs.Register.{own, other}
 use Rattle.guarded_cell.specs.Seens.{IsSeenOn}

@@ -17,6 +17,8 @@ use Rattle.guarded_cell.specs.Fronts.{IsChosen, FrontsPut, FrontsCase, IsFrontsC
 use Rattle.guarded_cell.specs.Stops.{PutStops}
 use Rattle.guarded_cell.proofs.Texts.{put_verifies, put_only, put_blank}
 use Rattle.guarded_cell.proofs.Known.{IsKnown, IsKnownCase, known_same, known_puts, case_settled, case_same, case_step}
+use Rattle.guarded_cell.proofs.Known.{case_texts}
+use Rattle.guarded_cell.specs.Differing.{TextsCase, IsTextsCase}
 use Rattle.guarded_cell.proofs.Known.{after_known, undamaged_holds}
 
 abbrev pub zeros : List ℕ
@@ -162,10 +164,10 @@ module _ (place : Place) (generation : ℕ) (text : List ℕ) (start : Image) wh
         keep
 
     -- while the text is written where it lacks
-    pub first_pass : (d c : Case) → IsSettledAt start d → FrontsCase place (own generation) lacking bytes d c
+    pub first_pass : (d c : Case) → IsSettledAt start d → TextsCase (IsChosen place (own generation) lacking) bytes d c
         → PutStops place generation text start c
     first_pass d c settled fronts = first_stops c
-        (case_step place Extra Kept start (own generation) lacking bytes d c fronts sealed_only apart
+        (case_texts place Extra Kept start (own generation) lacking bytes d c fronts sealed_only apart
         (case_same place Extra Kept start d settled))
 
     module _ (mid : Image) (put : FrontsPut place (own generation) lacking bytes start mid) where
@@ -261,7 +263,7 @@ module _ (place : Place) (generation : ℕ) (text : List ℕ) (old mid new : Med
     (stales : Picks Verifying stale old.image place (other generation) generation text) where
   pub first_moment : (done : Type 0) → Quiet old → (done
       → FrontsPut place (own generation) lacking bytes old.image mid.image)
-      → EachCase (IsFrontsCase place (own generation) lacking bytes old mid done) old mid
+      → EachCase (IsTextsCase place (own generation) lacking bytes old mid done) old mid
       → EachCase (PutStops place generation text old.image) old mid
   first_moment done quiet put cases c past = ⊎_elim
       (λ before. first_pass place generation text old.image positive fits short lacking stale bytes are_sealed

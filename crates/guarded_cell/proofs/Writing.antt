@@ -14,10 +14,10 @@ use Rattle.disk_model.specs.declared.place.Place.{Place}
 use Rattle.guarded_cell.specs.Fronts.{IsChosen, IsNone, PutsSome, FrontsPut, FrontsCase, IsFrontsCase}
 use Rattle.guarded_cell.proofs.Texts.{put_twice}
 
-more_times : (k n : ℕ) → (k + 1) * n ≡ k * n + n
+pub more_times : (k n : ℕ) → (k + 1) * n ≡ k * n + n
 more_times k n = rw add-one (suc-mul k n)
 
-times_within : (k m n : ℕ) → k ≤ m → k * n ≤ m * n
+pub times_within : (k m n : ℕ) → k ≤ m → k * n ≤ m * n
 times_within k m n le = mul-le-mul_right n le
 
 module _ (Files : ℕ → Type 0) (bytes : List ℕ) where

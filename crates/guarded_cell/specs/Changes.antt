@@ -1,12 +1,13 @@
 -- What the calls on a register change and write, whether they come to their end or stop on the way, and what a stop at
 -- any moment of them leaves.
 use Rattle.std.specs.Prelude.{◌≡◌, ℕ, ◌+◌, ◌*◌, ◌≤◌, List, length, Bool, IsTrue}
-use Rattle.hash_guard.specs.SealedText.{header, max_body}
+use Rattle.hash_guard.specs.SealedText.{header, max_body, sealed}
 use Rattle.disk_model.specs.Medium.{Medium, Quiet, EachCase, Elapses}
 use Rattle.disk_model.specs.Frame.{Spares}
 use Rattle.disk_model.specs.Place.{IsNoSlot}
 use Rattle.disk_model.specs.declared.place.Place.{Place}
-use Rattle.guarded_cell.specs.Register.{IsAlone}
+use Rattle.guarded_cell.specs.Register.{IsAlone, own}
+use Rattle.guarded_cell.specs.Differing.{texts_cost}
 use Rattle.guarded_cell.specs.Held.{standing}
 use Rattle.guarded_cell.specs.Rights.{IsRight, IsRightFor, IsClear}
 use Rattle.guarded_cell.specs.Stops.{PutStops, KeepStops, FormatStops}
@@ -19,6 +20,9 @@ pub record Puts (told : Bool) (place : Place) (generation : ℕ) (text : List �
   pub any_moment : IsTrue told → Quiet old
       → EachCase (PutStops place generation text old.image) old new
   pub written : new.written ≤ old.written + place.copies * (header + length text + header)
+  -- where a slot's front is blank, only the runs of the text are written that differ, and the blanks
+  pub differing : IsTrue told → new.written ≤ old.written
+      + texts_cost place (own generation) (sealed generation text) old.image place.copies + place.copies * header
   pub time : Elapses old new
 
 -- Every copy is brought to a text: it is put where it lacks. No slot that is right already changes, and where every

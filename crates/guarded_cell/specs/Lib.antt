@@ -9,6 +9,7 @@ pub mod Fronts
 pub mod Seens
 pub mod Opens
 pub mod Changes
+pub mod Differing
 pub mod Faults
 pub mod Shown
 pub mod lemmas

@@ -1,9 +1,10 @@
 //! A register in use, and writing its next text.
 
+ghost use Rattle.guarded_cell.specs.Differing.{IsOver};
 ghost use Rattle.std.specs.Prelude.{◌≡◌, ◌≤◌, ◌<◌, ◌+◌, ◌^◌, ℕ, List, IsTrue, IfOk, IfErr, OnOk, length};
 ghost use Rattle.per_base.specs.Causes.{Rose};
 ghost use Rattle.per_base.specs.Faults.{HandsBack, IsDeviceFault};
-ghost use Rattle.hash_guard.specs.SealedText.{max_body, header};
+ghost use Rattle.hash_guard.specs.SealedText.{max_body, header, sealed};
 ghost use Rattle.disk_model.specs.Medium.{Quiet};
 ghost use Rattle.guarded_cell.specs.Changes.{Puts};
 ghost use Rattle.guarded_cell.specs.Faults.{DiskFaults};
@@ -75,6 +76,8 @@ impl Cell {
         ensures passes { OnOk result ((D.medium disk.new).faults ≡ (D.medium disk.old).faults) }
 
         // Only slots of the place change, and a stop at any moment leaves the old text or the new one.
+        ensures over { IsTrue D.told → OnOk result (IsOver (place_of self) (generation_of self + 1)
+            (sealed (generation_of self + 1) text.now) (D.medium disk.old).image (D.medium disk.new).image) }
         ensures puts { Puts D.told (place_of self) (generation_of self + 1) text.now (D.medium disk.old)
             (D.medium disk.new) }
     {
@@ -106,6 +109,8 @@ impl Cell {
         ensures faults { DiskFaults result (D.medium disk.old) (D.medium disk.new) }
 
         // Only slots of the place change, and a stop at any moment leaves the old text or the new one.
+        ensures over { IsTrue D.told → OnOk result (IsOver (place_of self) (generation_of self + 1)
+            (sealed (generation_of self + 1) text.now) (D.medium disk.old).image (D.medium disk.new).image) }
         ensures puts { Puts D.told (place_of self) (generation_of self + 1) text.now (D.medium disk.old)
             (D.medium disk.new) }
     {

@@ -15,6 +15,13 @@ ghost use Rattle.guarded_cell.specs.Register.{Holds, IsHeldBy, IsAlone, IsStandi
 ghost use Rattle.guarded_cell.specs.Shown.{Shows, Chooses};
 ghost use Rattle.guarded_cell.specs.Stops.{AfterStop, HoldsLess, KeepsText, IsOldOrNew};
 ghost use Rattle.guarded_cell.specs.Stands.{SameSlots, IsAdopting};
+ghost use Rattle.std.specs.Prelude.{replicate};
+ghost use Rattle.disk_model.specs.Image.{put_bytes};
+ghost use Rattle.changed_runs.specs.Changed.{changed_len};
+ghost use Rattle.guarded_cell.specs.Differing.{front_cost, texts_cost, IsOver};
+ghost use Rattle.std.specs.Prelude.{◌*◌};
+ghost use Rattle.hash_guard.specs.SealedText.{sealed};
+ghost use Rattle.guarded_cell.specs.Register.{own};
 
 /// The laws of [`look`](crate::look) and [`open_cell`](crate::open_cell), for proofs.
 pub fn held_is_lawful()
@@ -77,4 +84,15 @@ pub fn stops_are_lawful()
         → IsSettledOn (λ f. ¬ (IsNoSlot place f)) start c
         → AfterStop place (λ damaged image. HoldsLess place start image
         × ((g : ℕ) (text : List ℕ) → KeepsText place g text damaged start image)) c }
+{}
+
+/// What a text costs over a slot in which another one stood and was blanked: its first run, and the runs in which it
+/// differs from that one.
+pub fn blanked_slots_cost_what_differs()
+    ensures third { (place : Place) (g : ℕ) (a b c : List ℕ) (start mid now : Image)
+        → IsOver place g (sealed g a) start mid → IsOver place (g + 1) (sealed (g + 1) b) mid now
+        → texts_cost place (own (g + 2)) (sealed (g + 2) c) now place.copies
+        ≤ place.copies * (256 + changed_len (sealed g a) 0 (sealed (g + 2) c)) }
+    ensures each { (w before text : List ℕ)
+        → front_cost (put_bytes (put_bytes w 0 before) 0 (replicate 44 0)) text ≤ 256 + changed_len before 0 text }
 {}

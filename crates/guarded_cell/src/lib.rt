@@ -32,7 +32,7 @@ pub use cell::Cell;
 pub use errors::CellError;
 pub use formatting::format_cell;
 pub use keeping::keep_only;
-pub use laws::{held_is_lawful, stops_are_lawful};
+pub use laws::{blanked_slots_cost_what_differs, held_is_lawful, stops_are_lawful};
 pub use looking::{Looked, Seen, look};
 pub use opening::{OpenedCell, open_cell, standing_among};
 pub use slots::Slots;

@@ -7,9 +7,10 @@ ghost use Rattle.guarded_cell.specs.Register.{IsAlone, own, other};
 ghost use Rattle.guarded_cell.specs.Slots.{Picks};
 ghost use Rattle.guarded_cell.specs.declared.slots.Pick.TheVariants.{Lacking, Verifying};
 ghost use Rattle.guarded_cell.specs.Changes.{Brings};
+ghost use Rattle.guarded_cell.specs.Differing.{PutsOver};
 ghost use Rattle.guarded_cell.specs.Faults.{DiskFaults};
 
-use crate::fronts::write_durably;
+use crate::fronts::{put_durably, write_durably};
 use disk_model::{Disk, DiskFailed, Place};
 use hash_guard::BLANK;
 
@@ -38,12 +39,14 @@ pub(crate) fn replace<D: Disk>(
 
     ensures alone { IsTrue D.told → OnOk result (IsAlone (D.medium disk.new).image place generation
         text.now) }
+    ensures over { IsTrue D.told → OnOk result (PutsOver place generation lacking.now stale.now sealed_text.now
+        (D.medium disk.old).image (D.medium disk.new).image) }
     ensures quiet { OnOk result (Quiet (D.medium disk.new)) }
     ensures brings { Brings D.told place generation text.now (D.medium disk.old) (D.medium disk.new) }
     ensures faults { DiskFaults result (D.medium disk.old) (D.medium disk.new) }
 {
     let parity = (generation % 2) as u32;
-    write_durably(disk, place, parity, lacking, sealed_text)?;
+    put_durably(disk, place, parity, lacking, sealed_text)?;
     write_durably(disk, place, 1 - parity, stale, &BLANK)?;
     Ok(())
 }

@@ -1,6 +1,6 @@
 //! Why a run ended, in one line on standard error.
 
-use per_system::Failure;
+use per_system::{Asked, Failure};
 use std::rt::Files;
 use std::{fmt, fs, io};
 
@@ -54,6 +54,7 @@ pub(crate) fn say<R: Files + Eprint>(rt: &R, ended: &Ended<'_>) -> io::Result<()
             "per: a line is outside the grammar; the last reply has its number (./per --help lists the lines)",
         ),
         3 if !has_folder(rt, dir) => eprintln!(rt; "per: there is no folder {dir}"),
+        3 if is_held(ended) => eprintln!(rt; "per: the folder {dir} is in use by another run"),
         3 => say_failure(rt, "the disk failed", ended),
         4 => rt.eprintln("per: memory ran out"),
         5 => say_stream(rt, "standard input", ended.source),
@@ -72,6 +73,16 @@ pub(crate) fn say<R: Files + Eprint>(rt: &R, ended: &Ended<'_>) -> io::Result<()
             "per: the flash in {dir} cannot be opened: it has fewer than 4 blocks, or more than 4096"
         ),
         _ => Ok(()),
+    }
+}
+
+/// Whether another run holds the folder.
+fn is_held(ended: &Ended<'_>) -> bool {
+    match ended.disk {
+        Some(Fault::System(failure)) => {
+            failure.asked == Asked::Lock && failure.error.kind() == io::ErrorKind::WouldBlock
+        }
+        _ => false,
     }
 }
 

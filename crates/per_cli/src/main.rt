@@ -14,7 +14,10 @@ mod demo;
 mod help;
 mod program;
 
+use std::fs::File;
+use std::os::fd::AsRawFd;
 use std::process::{self, ExitCode};
+use std::rt::Files;
 use std::{env, io};
 
 /// The status where memory ran out before the top call.
@@ -36,6 +39,7 @@ enum Asked {
 }
 
 fn main(rt: HostRuntime) -> ExitCode {
+    let _streams = [low(&rt), low(&rt), low(&rt)];
     let words = match words_of(&rt) {
         Ok(words) => words,
         Err(error) => {
@@ -49,6 +53,15 @@ fn main(rt: HostRuntime) -> ExitCode {
         Asked::Run => program::run(&rt, &words, rt.stdin(), rt.stdout()),
     };
     ExitCode::from(status)
+}
+
+/// Takes the lowest descriptor, if it is one of the standard streams, so that no file of the disk gets it where the
+/// stream was closed. A folder can be neither read nor written.
+fn low<R: Files<File = File>>(rt: &R) -> Option<File> {
+    match File::open(rt, "/") {
+        Ok(file) if file.as_raw_fd() <= 2 => Some(file),
+        _ => None,
+    }
 }
 
 /// The words after the program's name.

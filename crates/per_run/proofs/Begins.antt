@@ -1,6 +1,7 @@
 -- How a run begins: nothing is handled; and how it ends where it did not begin.
-use Rattle.std.proofs.Common.{ℕ, List, [], ◌≡◌, refl, sym, subst, Option, Bool, false, IsTrue, arith}
+use Rattle.std.proofs.Common.{ℕ, List, [], ◌≡◌, refl, sym, subst, inl, Option, Bool, false, IsTrue, arith}
 use Rattle.std.proofs.KnownBytes.{Appends-nil, Consumes-nil}
+use Rattle.disk_model.specs.Laws.{reads_none}
 use Rattle.disk_model.specs.Medium.{Medium, IsLawful, Elapses}
 use Rattle.disk_model.specs.lemmas.Frames.{settled_on}
 use Rattle.migrate_fns.specs.Rules.{Rule, Answers}
@@ -50,13 +51,11 @@ reached_none told rules answers start before now memory medium kept number handl
 }
 
 -- a start that was not begun: nothing is opened, and nothing changed
-pub unbegun : AppLaws → (told : Bool) (m : Medium) → IsLawful told m → StartKeeps m m
-unbegun laws told m lawful quiet app lt clean c since =
-    let stands : StandsCase app (app_at m.image app) (reopened (app_at m.image app)) c =
-    laws.still app m.image (reopened (app_at m.image app)) c lt clean
-    (settled_on (IsFileOf app) (quiet c (lawful.only_now c since))) (same_root refl refl) in
-    subst (λ x. StandsCase app x (disk_at (disks (started (world_at m.image))) app) c) (sym (at_entry m.image app lt))
-    (subst (λ y. StandsCase app (app_at m.image app) y c) (sym (at_start m.image app lt)) stands)
+pub unbegun : (told : Bool) (m : Medium) → IsLawful told m → StartKeeps m m
+unbegun told m lawful = record {
+  always = λ app lt clean c since. inl (lawful.only_now c since);
+  at_exit = inl (reads_none lawful);
+}
 
 -- a run that did not come to its lines
 pub run_none : (told : Bool) (rules : List Rule) (answers : Answers) (left before : Option (List ℕ)) (source sink : ℕ)

@@ -216,7 +216,7 @@ pub done_none : AppLaws → (told : Bool) (kind : JobKind) (rules : List Rule) (
     (record { disk = m.faults; source = source; sink = sink }) m m
 done_none laws told Run rules answers left before source sink m lawful =
     run_short told rules answers left before source sink m m 4 lawful (elapses_none lawful)
-    (λ tells. unbegun laws told m lawful) refl
+    (λ tells. unbegun told m lawful) refl
 done_none laws told Format rules answers left before source sink m lawful = formats_none told 4 before m (inr refl)
 done_none laws told (Generate n) rules answers left before source sink m lawful =
     generates_none told rules answers n 4 before m m (inr refl) (elapses_none lawful).faults

@@ -56,6 +56,7 @@ generates_none told rules answers n status now old new is later = record {
   blamed = later;
   follow = λ tells. tt;
   settled = λ tells done. absurd (not_done status is done);
+  clean = λ tells done. absurd (not_done status is done);
 }
 
 -- ---- a made input that was handled
@@ -113,6 +114,9 @@ generates_all told rules answers n status before now memory after tally old midd
       subst (λ (w : World). IsSettled (last_of w (worlds_of counted.turns)) new) (here tells)
       (ends_settled rules answers (world_at middle.image) (started (world_at middle.image)) (begins_calm middle.image)
       counted.turns after g.0 middle new g.2);
+  clean = λ tells done app lt sound.
+      let g : IsGoing rules answers middle counted.turns after new = counted.goes.disk tells in
+      (g.2.stayed app lt (b.clean tells app lt) sound).ready.clean;
 }
   where
     here : IsTrue told → started (world_at middle.image) ≡ formatted

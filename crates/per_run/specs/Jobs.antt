@@ -19,7 +19,7 @@ use Rattle.deploy_laws.specs.Apps.{App, IsCleanApp}
 use Rattle.deploy.specs.Clauses.{ChangesNothing}
 use Rattle.run_model.specs.Endings.{Failed}
 use Rattle.run_model.specs.Lines.{Give}
-use Rattle.run_model.specs.Moments.{last_of}
+use Rattle.run_model.specs.Moments.{AreSoundDoubts, last_of}
 use Rattle.run_model.specs.Runs as runs
 use Rattle.run_model.specs.Runs.{IsSettled}
 use Rattle.run_model.specs.Turns.{Turn, events_of, replies_of, worlds_of, AreBlamed, Follow}
@@ -119,6 +119,8 @@ pub record Generates (told : Bool) (rules : List Rule) (answers : Answers) (n st
   pub blamed : AreBlamed old.faults turns new.faults
   pub follow : IsTrue told → Follow rules answers formatted turns
   pub settled : IsTrue told → IsDone status → IsSettled (last_of formatted (worlds_of turns)) new
+  pub clean : IsTrue told → IsDone status → (app : ℕ) → app < 8 → AreSoundDoubts app (worlds_of turns)
+      → IsCleanApp app new.image
 
 -- ---- an audit
 

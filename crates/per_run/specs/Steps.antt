@@ -6,6 +6,7 @@ use Rattle.std.specs.Io.KnownBytes.{Appends, Consumes, IsAtEnd}
 use Rattle.per_base.specs.Causes.{Rose}
 use Rattle.disk_model.specs.Medium.{Medium, Elapses}
 use Rattle.migrate_fns.specs.Rules.{Rule, Answers}
+use Rattle.deploy_laws.specs.Apps.{IsCleanApp}
 use Rattle.command_text.specs.declared.calls.Event.{Event}
 use Rattle.command_text.specs.declared.lines.Line.TheVariants as line
 use Rattle.command_text.specs.declared.replies.Reply.{Reply}
@@ -213,6 +214,7 @@ pub record Counted (told : Bool) (rules : List Rule) (answers : Answers) (start 
 pub record IsBegun (told : Bool) (memory : Memory) (old middle new : Medium) : Type 0 where
   pub earlier : old.faults ≤ middle.faults
   pub world : IsTrue told → world_at middle.image ≡ formatted
+  pub clean : IsTrue told → (app : ℕ) → app < 8 → IsCleanApp app middle.image
   pub starts : IsTrue told → Starts memory middle new
   pub time : Elapses middle new
 

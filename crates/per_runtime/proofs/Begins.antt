@@ -6,8 +6,8 @@ use Rattle.std.specs.declared.alloc.Global.{Global}
 use Rattle.per_base.specs.Causes.{Rose}
 use Rattle.disk_model.specs.Case.{Case}
 use Rattle.disk_model.specs.Frame.{IsSettledOn}
-use Rattle.disk_model.specs.Laws.{cases_on, elapses_on, idle_sync}
-use Rattle.disk_model.specs.Medium.{Medium, Quiet, Elapses, EachCase, OnlyReads, WritesNothing}
+use Rattle.disk_model.specs.Laws.{cases_on, elapses_on}
+use Rattle.disk_model.specs.Medium.{Medium, Quiet, IsLawful, Elapses, EachCase, OnlyReads, WritesNothing}
 use Rattle.disk_model.specs.lemmas.Frames.{settled_on}
 use Rattle.deploy.specs.declared.errors.Stop.{Stop}
 use Rattle.deploy.specs.declared.errors.Stop.TheVariants.{Device, OutOfMemory}
@@ -18,7 +18,7 @@ use Rattle.deploy_rows.specs.Rows.{reopened}
 use Rattle.run_model.specs.AppLaws.{AppLaws, OpensRoot}
 use Rattle.run_model.specs.Runtimes.{StartKeeps, Starts, with_disk}
 use Rattle.run_model.specs.Runtimes as memory
-use Rattle.run_model.specs.Starting.{Opened, at_entry, at_start, open_next, open_none, opened_keeps, which}
+use Rattle.run_model.specs.Starting.{Opened, keeps_worlds, open_next, open_none, opened_keeps, which}
 use Rattle.run_model.specs.Worlds.{Application, all_resting, disk_at, disks, started, world_at}
 use Rattle.app_storages.specs.Answers.{CallsTo}
 use Rattle.app_runtime.specs.declared.running.Running.{Running}
@@ -31,24 +31,12 @@ use Rattle.per_runtime.proofs.Worlds.{StaysInUse, apart}
 
 -- ---- each moment
 
--- each moment so far stands, for each application, between what it was and itself with its root mended
-abbrev pub Moments : (old new : Medium) → Type 0
-Moments old new = Quiet old → (b : ℕ) → b < 8 → IsCleanApp b old.image
-    → EachCase (StandsCase b (app_at old.image b) (reopened (app_at old.image b))) old new
-
-pub moments_keep : (old new : Medium) → Moments old new → StartKeeps old new
-moments_keep old new moments quiet b lt clean c s = subst
-    (λ x. StandsCase b x (disk_at (disks (started (world_at old.image))) b) c) (sym (at_entry old.image b lt))
-    (subst (λ y. StandsCase b (app_at old.image b) y c) (sym (at_start old.image b lt)) (moments quiet b lt clean c s))
-
 is_reopened : (a : App) → IsLater a (reopened a)
 is_reopened a = same_root refl refl
 
 -- the sync failed
-pub unsynced_moments : AppLaws → (old new : Medium) → OnlyReads old new → Moments old new
-unsynced_moments laws old new reads quiet b lt clean c s =
-    laws.still b old.image (reopened (app_at old.image b)) c lt clean
-    (settled_on (IsFileOf b) (quiet c (reads.during c s))) (is_reopened (app_at old.image b))
+pub unsynced_keeps : (old new : Medium) → OnlyReads old new → StartKeeps old new
+unsynced_keeps old new reads = keeps_worlds old new (λ b lt clean c s. inl (reads.during c s)) (inl reads)
 
 -- what any opening promises, however it ends
 abbrev pub IsOnTheWay : ℕ → (old new : Medium) → Type 0
@@ -61,12 +49,14 @@ pub root_at : (k a : ℕ) (old new : Medium) → k ≡ a → OpensRoot k old new
 root_at k a old new is opens = subst (λ (n : ℕ). OpensRoot n old new) is opens
 
 -- the opening of one root failed, or memory ran out in it
-pub stops_at : AppLaws → (a : ℕ) (old now new : Medium) → a < 8 → Opened a old now → Elapses now new
-    → IsOnTheWay a now new → Moments old new
-stops_at laws a old now new lta o time way quiet b lt clean c s = ⊎_elim
-    (λ was. o.moments quiet b lt clean c was)
-    (λ at. here b lt clean c at (which a b))
-    (cases_on o.time time c s)
+pub stops_at : AppLaws → (told : Bool) (a : ℕ) (old now new : Medium) → a < 8 → IsLawful told new → Opened a old now
+    → Elapses now new → IsOnTheWay a now new → StartKeeps old new
+stops_at laws told a old now new lta lawful o time way = keeps_worlds old new
+    (λ b lt clean c s. ⊎_elim
+    (λ was. o.moments b lt clean c was)
+    (λ at. inr (here b lt clean c at (which a b)))
+    (cases_on o.time time c s))
+    (inr (λ b lt clean c at. here b lt clean c (lawful.counts_now now.moment c time.later at) (which a b)))
   where
     calls : CallsTo a (reopened (app_at now.image a)) now new
     calls = way (reopened (app_at now.image a)) (is_reopened (app_at now.image a))
@@ -109,7 +99,7 @@ pub none_opened : AppLaws → (told : Bool) (old now : Medium) → Quiet now →
 none_opened laws told old now quiet nothing time = record {
   many = refl;
   each = λ k a there. absurd (none_some a there);
-  opened = λ tells. open_none laws old now time nothing.image quiet (λ was. idle_sync was nothing quiet);
+  opened = λ tells. open_none laws old now time nothing quiet;
   quiet = quiet;
   time = time;
 }
@@ -200,9 +190,9 @@ fresh_by told apps old now are = ap (λ (rs : List memory.Running). record { now
     (idle_apps told apps old now are)
 
 pub starts_by : (told : Bool) (apps : List Running) (old now : Medium) → IsTrue told → AreOpened told 8 apps old now
-    → Starts (record { now = 0; apps = map running_in apps; in_doubt = false }) old now
+    → StartKeeps old now → Starts (record { now = 0; apps = map running_in apps; in_doubt = false }) old now
 unfolding world_at
-starts_by told apps old now tells are =
+starts_by told apps old now tells are keeps =
     let same : map running_in apps ≡ replicate 8 idle = idle_apps told apps old now are in
     record {
       eight = ap length same;
@@ -212,14 +202,14 @@ starts_by told apps old now tells are =
           ∙ idle_world (app_at old.image) (app_at now.image) 0 8 (λ b le lt. (are.opened tells).opened b lt lt));
       quiet = are.quiet;
       clean = λ b lt clean. (are.opened tells).clean b lt clean;
-      keeps = opened_keeps old now (are.opened tells);
+      keeps = keeps;
     }
 
-pub all_begun : (told : Bool) (count : ℕ) (apps : Vec Running Global) (old now : Medium) → count ≡ 8
+pub all_begun : AppLaws → (told : Bool) (count : ℕ) (apps : Vec Running Global) (old now : Medium) → count ≡ 8
     → AreOpened told count apps.items old now → IsBegun told old now (Ok apps)
-all_begun told count apps old now all are = let eight : AreOpened told 8 apps.items old now =
+all_begun laws told count apps old now all are = let eight : AreOpened told 8 apps.items old now =
     subst (λ (n : ℕ). AreOpened told n apps.items old now) all are in record {
       end = eight;
-      keeps = λ tells. opened_keeps old now (eight.opened tells);
+      keeps = λ tells. opened_keeps laws 8 old now (eight.opened tells);
       time = eight.time;
     }

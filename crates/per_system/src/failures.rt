@@ -11,6 +11,8 @@ pub enum Asked {
     Write,
     Size,
     Sync,
+    List,
+    Lock,
 }
 
 impl Asked {
@@ -22,6 +24,8 @@ impl Asked {
             Asked::Write => "writing",
             Asked::Size => "asking the size of",
             Asked::Sync => "syncing",
+            Asked::List => "listing",
+            Asked::Lock => "locking",
         }
     }
 }

@@ -4,7 +4,7 @@ ghost use Rattle.std.specs.Prelude.{◌≡◌, ◌*◌, ◌+◌, IfOk, vec_len};
 ghost use Rattle.per_base.specs.Causes.{CountsFaults};
 
 use crate::failures::{Asked, Failure, Part};
-use crate::folder::{read_from, sync_folder};
+use crate::folder::{hold, of_folder, read_from};
 use flash_model::{Flash, FlashFailed};
 use std::alloc::{AllocError, Global};
 use std::fs::{File, OpenOptions};
@@ -25,6 +25,9 @@ const BLANK: u8 = 0xff;
 /// missing of it reads as blank, and so does all where it is not there; it is made by the first call that changes a
 /// page. Where the folder is not there that call fails. It counts its failures and tells nothing of its pages.
 ///
+/// The first call opens the folder and locks it. Where the file is found it is synced before anything of it is read, and
+/// so is the folder.
+///
 /// A program is one write of the system and one sync of the file's data, an erase likewise; both are durable before
 /// they are answered. Where a page lies behind the end of the file, what is missing up to it is written as blank
 /// before.
@@ -42,7 +45,11 @@ struct FlashFile<'a, R: Files<File = File>> {
     rt: &'a R,
     alloc: Global,
     dir: String,
+    /// The folder itself, open and locked.
+    held: Option<File>,
     file: Known,
+    /// Why no call succeeds any more: a sync failed, and what it dropped cannot be written again.
+    lost: Option<Failure>,
 }
 
 #[derive(Drop)]
@@ -64,7 +71,9 @@ impl<'a, R: Files<File = File>> DirFlash<'a, R> {
                 rt,
                 alloc,
                 dir,
+                held: None,
                 file: Known::Nothing,
+                lost: None,
             },
             blocks,
             faults: 0,
@@ -201,20 +210,51 @@ impl<'a, R: Files<File = File>> FlashFile<'a, R> {
         done
     }
 
+    /// The same. What a failed sync may have dropped is written again at once.
     fn put_known(&mut self, at: u64, bytes: &[u8]) -> Result<(), Failure> {
         let Known::Open(file, size) = &mut self.file else {
             return Err(failed(Asked::Write, io::Error::from(io::ErrorKind::NotFound)));
         };
         file.write_all_at(bytes, at)
             .map_err(|error| failed(Asked::Write, error))?;
-        file.sync_data()
-            .map_err(|error| failed(Asked::Sync, error))?;
+        if let Err(error) = file.sync_data() {
+            let failure = failed(Asked::Sync, error);
+            if file.write_all_at(bytes, at).is_err() {
+                self.lost = Some(failure);
+            }
+            return Err(failure);
+        }
         *size = (*size).max(at.saturating_add(bytes.len() as u64));
         Ok(())
     }
 
-    /// Opens the file, if it is there and nobody has looked for it yet.
+    /// Opens and locks the folder, if it is there and not open yet, and syncs what it holds.
+    fn begin(&mut self) -> Result<(), Failure> {
+        if let Some(failure) = self.lost {
+            return Err(failure);
+        }
+        if self.held.is_some() {
+            return Ok(());
+        }
+        let Some(held) = hold(self.rt, self.dir.as_str())? else {
+            return Ok(());
+        };
+        if let Err(error) = held.sync_all() {
+            return Err(self.lose(of_folder(Asked::Sync, error)));
+        }
+        self.held = Some(held);
+        Ok(())
+    }
+
+    /// No call succeeds any more.
+    fn lose(&mut self, failure: Failure) -> Failure {
+        self.lost = Some(failure);
+        failure
+    }
+
+    /// Opens the file, if it is there and nobody has looked for it yet, and syncs it.
     fn find(&mut self) -> Result<(), Failure> {
+        self.begin()?;
         if !matches!(self.file, Known::Nothing) {
             return Ok(());
         }
@@ -224,7 +264,10 @@ impl<'a, R: Files<File = File>> FlashFile<'a, R> {
             .write(true)
             .open(self.rt, path.as_str())
         {
-            Ok(file) => self.keep(file),
+            Ok(file) => match file.sync_data() {
+                Ok(()) => self.keep(file),
+                Err(error) => Err(self.lose(failed(Asked::Sync, error))),
+            },
             Err(error) => match error.kind() {
                 io::ErrorKind::NotFound => {
                     self.file = Known::Missing;
@@ -248,12 +291,14 @@ impl<'a, R: Files<File = File>> FlashFile<'a, R> {
             .open(self.rt, path.as_str())
         {
             Ok(file) => {
-                sync_folder(self.rt, self.dir.as_str()).map_err(|error| Failure {
-                    asked: Asked::Sync,
-                    part: Part::Folder,
-                    error,
-                })?;
-                self.keep(file)
+                let done = match &self.held {
+                    Some(held) => held.sync_all(),
+                    None => Err(io::Error::from(io::ErrorKind::NotFound)),
+                };
+                match done {
+                    Ok(()) => self.keep(file),
+                    Err(error) => Err(self.lose(of_folder(Asked::Sync, error))),
+                }
             }
             Err(error) => Err(failed(Asked::Make, error)),
         }

@@ -10,7 +10,6 @@
 mod failures;
 mod flash_file;
 mod folder;
-mod pieces;
 mod standard;
 
 pub use failures::{Asked, Failure, Part};

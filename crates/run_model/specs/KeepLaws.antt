@@ -2,8 +2,7 @@
 use Rattle.std.specs.Prelude.{◌≡◌, ◌≢◌, ◌⊎◌, ◌<◌, ℕ, [], Option, Some, None, Bool}
 use Rattle.std.proofs.Common.{refl, sym, subst, le_refl, inl, inr, ⊎_elim}
 use Rattle.disk_model.specs.Image.{Image}
-use Rattle.disk_model.specs.Case.{Case, IsSettledAt}
-use Rattle.disk_model.specs.Frame.{IsSettledOn}
+use Rattle.disk_model.specs.Case.{Case}
 use Rattle.disk_model.specs.Laws.{cases_on}
 use Rattle.disk_model.specs.Medium.{Medium, Quiet, IsLawful, EachCase, Elapses, OnlyReads, WritesNothing}
 use Rattle.disk_model.specs.lemmas.Frames.{settled_on}

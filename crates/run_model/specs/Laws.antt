@@ -3,7 +3,7 @@ use Rattle.std.specs.Prelude.{◌≡◌, ◌≢◌, ◌⊎◌, ◌<◌, ◌+◌,
 use Rattle.std.specs.Prelude.{Ok}
 use Rattle.std.specs.Io.KnownBytes.{Appends}
 use Rattle.disk_model.specs.Case.{Case}
-use Rattle.disk_model.specs.Medium.{Medium, Quiet, Elapses, OnlyReads, WritesNothing, IsIdle, EachCase}
+use Rattle.disk_model.specs.Medium.{Medium, Quiet, Elapses, OnlyReads, WritesNothing, EachCase}
 use Rattle.deployment_model.specs.Data.{StorageData}
 use Rattle.element_state.specs.declared.shapes.View.{View}
 use Rattle.element_state.specs.Kept.{HasEnough}
@@ -36,6 +36,7 @@ use Rattle.run_model.specs.Endings.{Ending, HasStarted, HasEnded}
 use Rattle.run_model.specs.Turns.{Turn, text_of, IsBlamed, AreBlamed}
 use Rattle.run_model.specs.Runs.{DiskSide}
 use Rattle.run_model.specs.RunLaws.{Going}
+use Rattle.run_model.specs.Lives.{Known, Life, Pair}
 
 -- ---- single commands
 
@@ -187,8 +188,7 @@ FailureKeepsLaw old new = (app : ℕ) (w w' : World) (d : Doubt) → w'.doubt �
 
 -- before any root is opened, behind a sync
 abbrev pub NoneOpenedLaw : (old now : Medium) → Type 0
-NoneOpenedLaw old now = Elapses old now → now.image ≡ old.image → Quiet now → (Quiet old → IsIdle old now)
-    → Opened 0 old now
+NoneOpenedLaw old now = Elapses old now → WritesNothing old now → Quiet now → Opened 0 old now
 
 -- one root more
 abbrev pub OneOpenedLaw : (old now new : Medium) → Type 0
@@ -197,6 +197,13 @@ OneOpenedLaw old now new = (a : ℕ) → a < 8 → Opened a old now → OpensRoo
 -- all eight
 abbrev pub AllOpenedLaw : (old now : Medium) → Type 0
 AllOpenedLaw old now = Opened 8 old now → StartKeeps old now
+
+-- ---- a life
+
+-- of each application, over any number of runs
+abbrev pub LifeLaw : {D : Type 0} → (medium : D → Medium) → List Rule → Answers → Type 0
+LifeLaw {D} medium rules answers = (app : ℕ) → app < 8 → (m : D) (pairs : List Pair)
+    → Life medium rules answers app m pairs → Known app (medium m) pairs
 
 -- ---- a run
 

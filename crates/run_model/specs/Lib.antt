@@ -27,3 +27,4 @@ pub mod SamplesDamage
 pub mod SamplesLimits
 pub mod SamplesEndings
 pub mod SamplesManifests
+pub mod Lives

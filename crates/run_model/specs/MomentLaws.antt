@@ -7,7 +7,7 @@ use Rattle.disk_model.specs.Laws.{cases_on}
 use Rattle.disk_model.specs.Medium.{Medium, Elapses, Quiet, EachCase}
 use Rattle.run_model.specs.Worlds.{Disks, Doubt, World, disks}
 use Rattle.run_model.specs.Moments.{Between, InDoubt, AtMoment, IsMomentOf, IsPast, IsInDoubt, IsReady}
-use Rattle.run_model.specs.Moments.{KeepsApplication}
+use Rattle.run_model.specs.Moments.{KeepsApplication, OrBefore}
 use Rattle.run_model.specs.Moments.{StepKeeps, StopKeeps, Stayed, IsSoundDoubt, AreSoundDoubts, IsDecided, AreDecided}
 use Rattle.run_model.specs.Moments.{last_of}
 
@@ -96,10 +96,10 @@ progress_is app w (u ∷ us) next c m = inr (progress_is app u us next c m)
 
 -- the start, which leads to a world without a doubt
 pub start_stays : (app : ℕ) (entry w : World) (old new : Medium) → w.doubt ≡ None
-    → EachCase (Between app (disks entry) (disks w)) old new
+    → EachCase (OrBefore old (Between app (disks entry) (disks w))) old new
     → IsReady app w new → Stayed app entry w [] old new
 start_stays app entry w old new none moments ready = record {
-  any_moment = λ c s. inl (moments c s);
+  any_moment = λ c s. ⊎_elim (λ before. inl before) (λ b. inr (inl b)) (moments c s);
   ready = ready;
   calm = λ some c at. absurd (subst (λ d. IsInDoubt d) none some);
   decided = tt;
@@ -118,12 +118,13 @@ step_stays app entry w worlds v old now new none time later quiet fresh sound ke
     let end : IsSoundDoubt app v.doubt = sound_end app worlds v sound in
     record {
       any_moment = λ c s. ⊎_elim
-          (λ was. ⊎_elim (λ b. inl b) (λ p. inr (past_before app w worlds v c p)) (stayed.any_moment c was))
-          (λ at. ⊎_elim
+          (λ was. ⊎_elim (λ before. inl before)
+          (λ m. inr (⊎_elim (λ b. inl b) (λ p. inr (past_before app w worlds v c p)) m)) (stayed.any_moment c was))
+          (λ at. inr (⊎_elim
           (λ d. inr (past_before app w worlds v c (⊎_elim (λ x. absurd (no_doubt app w c none x)) (λ p. p)
           (past_doubt app w worlds c (stayed.calm d.0 c d.1)))))
           (λ m. inr (past_last app w worlds v c m))
-          (kept.any_moment c at))
+          (kept.any_moment c at)))
           (cases_on time later c s);
       ready = subst (λ x. IsReady app x new) (sym (last_is w worlds v))
           (record { clean = kept.clean end; quiet = quiet });
@@ -141,17 +142,17 @@ step_stays app entry w worlds v old now new none time later quiet fresh sound ke
 -- no command in progress at the end
 pub end_stays : (app : ℕ) (entry w : World) (worlds : List World) (next : Disks) (old new : Medium)
     → Stayed app entry w worlds old new
-    → EachCase (λ c. Between app (disks entry) (disks w) c ⊎ IsMomentOf app w worlds next c) old new
-end_stays app entry w worlds next old new stayed c s =
-    ⊎_elim (λ b. inl b) (λ p. inr (past_is app w worlds next c p)) (stayed.any_moment c s)
+    → EachCase (OrBefore old (λ c. Between app (disks entry) (disks w) c ⊎ IsMomentOf app w worlds next c)) old new
+end_stays app entry w worlds next old new stayed c s = ⊎_elim (λ before. inl before)
+    (λ m. inr (⊎_elim (λ b. inl b) (λ p. inr (past_is app w worlds next c p)) m)) (stayed.any_moment c s)
 
 -- a command in progress at the end
 pub stop_stays : (app : ℕ) (entry w : World) (worlds : List World) (next : Disks) (old now new : Medium)
     → Elapses old now → Elapses now new
     → StopKeeps app (last_of w worlds) next now new → Stayed app entry w worlds old now
-    → EachCase (λ c. Between app (disks entry) (disks w) c ⊎ IsMomentOf app w worlds next c) old new
+    → EachCase (OrBefore old (λ c. Between app (disks entry) (disks w) c ⊎ IsMomentOf app w worlds next c)) old new
 stop_stays app entry w worlds next old now new time later keeps stayed c s = ⊎_elim
-    (λ was. ⊎_elim (λ b. inl b) (λ p. inr (past_is app w worlds next c p)) (stayed.any_moment c was))
-    (λ at. inr (progress_is app w worlds next c (⊎_elim (λ d. inr (stayed.calm d.0 c d.1)) (λ b. inl b)
-    (keeps stayed.ready c at))))
+    (λ was. end_stays app entry w worlds next old now stayed c was)
+    (λ at. inr (inr (progress_is app w worlds next c (⊎_elim (λ d. inr (stayed.calm d.0 c d.1)) (λ b. inl b)
+    (keeps stayed.ready c at)))))
     (cases_on time later c s)

@@ -3,7 +3,8 @@ use Rattle.std.specs.Prelude.{◌≡◌, ◌⊎◌, ℕ, List, [], ◌∷◌, Op
 use Rattle.std.specs.List.{AllByRecursion}
 use Rattle.disk_model.specs.Case.{Case}
 use Rattle.disk_model.specs.Medium.{Medium, Quiet, EachCase}
-use Rattle.deploy_laws.specs.Apps.{IsCleanApp}
+use Rattle.disk_model.specs.Image.{Image}
+use Rattle.deploy_laws.specs.Apps.{app_at, IsCleanApp}
 use Rattle.deploy_laws.specs.Pieces.{IsSoundApp}
 use Rattle.deploy_laws.specs.Stands.{StandsCase}
 use Rattle.run_model.specs.Worlds.{Disks, Doubt, World, disks, disk_at}
@@ -33,6 +34,12 @@ IsSoundDoubt app (Some d) = IsSoundApp app d.case
 abbrev pub IsDecided : ℕ → Option Doubt → Type 0
 IsDecided app None = Unit {0}
 IsDecided app (Some d) = Between app d.before d.after d.case
+
+-- ---- before a run
+
+-- so it is of this case, or it might have come before these calls
+abbrev pub OrBefore : Medium → (Case → Type 0) → Case → Type 0
+OrBefore old P c = old.now c ⊎ P c
 
 -- ---- one command
 
@@ -88,10 +95,27 @@ AreSoundDoubts app worlds = AllByRecursion (λ (w : World). IsSoundDoubt app w.d
 abbrev pub AreDecided : ℕ → List World → Type 0
 AreDecided app worlds = AllByRecursion (λ (w : World). IsDecided app w.doubt) worlds
 
--- The run so far, from a start that led from one world to another: each moment is one of the start, or one of the
--- commands; and all is well now.
+-- ---- what applications came from
+
+-- the application is what some image stands for
+abbrev pub IsImaged : ℕ → Disks → Type 0
+IsImaged app ds = (start : Image) × (disk_at ds app ≡ app_at start app)
+
+abbrev pub IsSideImaged : ℕ → Option Doubt → Type 0
+IsSideImaged app None = Unit {0}
+IsSideImaged app (Some d) = IsImaged app d.before
+
+-- of a world, and of what lay there before the command that left its doubt
+abbrev pub IsWorldImaged : ℕ → World → Type 0
+IsWorldImaged app w = IsImaged app (disks w) × IsSideImaged app w.doubt
+
+abbrev pub AreImaged : ℕ → List World → Type 0
+AreImaged app worlds = AllByRecursion (λ (w : World). IsWorldImaged app w) worlds
+
+-- The run so far, from a start that led from one world to another: each moment might have come before the run, or is
+-- one of the start, or one of the commands; and all is well now.
 pub record Stayed (app : ℕ) (entry w : World) (worlds : List World) (old new : Medium) : Type 0 where
-  pub any_moment : EachCase (λ c. Between app (disks entry) (disks w) c ⊎ IsPast app w worlds c) old new
+  pub any_moment : EachCase (OrBefore old (λ c. Between app (disks entry) (disks w) c ⊎ IsPast app w worlds c)) old new
   pub ready : IsReady app (last_of w worlds) new
   pub calm : IsInDoubt (last_of w worlds).doubt → (c : Case) → new.now c → InDoubt app (last_of w worlds).doubt c
   pub decided : AreDecided app worlds

@@ -1,7 +1,7 @@
 -- A run, command by command: what was said of it before a command is said of it with that command, and at its end all
 -- that is promised follows.
 use Rattle.std.specs.Prelude.{◌≡◌, ◌⊎◌, ℕ, zero, suc, ◌+◌, ◌≤◌, ◌<◌, List, [], ◌∷◌, ◌++◌, length, map, Option, Some}
-use Rattle.std.specs.Prelude.{None, Bool, IsTrue}
+use Rattle.std.specs.Prelude.{None, Bool, IsTrue, true, false}
 use Rattle.std.specs.List.{AllByRecursion}
 use Rattle.std.proofs.Common.{refl, sym, ap, ◌∙◌, subst, le_refl, le_trans, inl, inr, ⊎_elim, arith}
 use Rattle.std.specs.Io.KnownBytes.{Appends}
@@ -21,7 +21,11 @@ use Rattle.run_model.specs.Worlds.{world_at, closed}
 use Rattle.run_model.specs.Lasting.{IsWorld, starts_so}
 use Rattle.run_model.specs.Steps.{StepsTo, Leads}
 use Rattle.run_model.specs.Moments.{AtMoment, Between, InDoubt, IsInDoubt, IsMomentOf, StepKeeps, StopKeeps, Stayed}
-use Rattle.run_model.specs.Moments.{last_of, AreSoundDoubts, IsDecided}
+use Rattle.run_model.specs.Moments.{last_of, AreImaged, AreSoundDoubts, IsDecided, IsImaged, IsSideImaged, IsWorldImaged, OrBefore}
+use Rattle.disk_model.specs.Image.{Image}
+use Rattle.command_text.specs.declared.calls.Event.TheVariants as event
+use Rattle.run_model.specs.Worlds.{app_of, with_app}
+use Rattle.run_model.specs.Steps.{calls_device, doubt_after}
 use Rattle.run_model.specs.MomentLaws.{last_is, start_stays, step_stays, end_stays, stop_stays, sound_front}
 use Rattle.run_model.specs.KeepLaws.{rests}
 use Rattle.run_model.specs.Runtimes.{Running, Memory, with_disk, world_of, StepsOn, Stepped, Stopped, Starts}
@@ -72,9 +76,52 @@ pub record Going (rules : List Rule) (answers : Answers) (entry start : World) (
   pub last : last_of start (worlds_of turns) ≡ world_of now.image memory doubt
   pub cases : AreCases (IsReadSince old now) (worlds_of turns)
   pub quiet : doubt ≡ None → Quiet now
-  pub stayed : Quiet old → (app : ℕ) → app < 8 → IsCleanApp app old.image → AreSoundDoubts app (worlds_of turns)
+  pub imaged : (app : ℕ) → app < 8 → AreImaged app (start ∷ worlds_of turns)
+  pub stayed : (app : ℕ) → app < 8 → IsCleanApp app old.image → AreSoundDoubts app (worlds_of turns)
       → Stayed app entry start (worlds_of turns) old now
   pub time : Elapses old now
+
+-- ---- what applications came from
+
+there_imaged : (app : ℕ) → app < 8 → (image : Image) (memory : Memory) (doubt : Option Doubt) → length memory.apps ≡ 8
+    → IsImaged app (disks (world_of image memory doubt))
+there_imaged app lt image memory doubt eight = let less : app < length memory.apps = omega (arith, lt, eight) in
+    (image, disk_there (app_at image) 0 memory.apps app less ∙ ap (app_at image) (omega arith))
+
+after_imaged : (app : ℕ) (calls : Bool) (doubt : Option Doubt) → IsSideImaged app doubt
+    → IsSideImaged app (doubt_after calls doubt)
+after_imaged app true doubt is = tt
+after_imaged app false doubt is = is
+
+side_as : (app : ℕ) (w v : World) → w ≡ v → IsSideImaged app v.doubt → IsSideImaged app w.doubt
+side_as app w v same is = subst (λ (x : World). IsSideImaged app x.doubt) (sym same) is
+
+side_imaged : (rules : List Rule) (answers : Answers) (app : ℕ) (w : World) (e : Event) (reply : Reply) (w' : World)
+    (old new : Medium) → IsWorldImaged app w → StepsOn rules answers w e reply w' old new → IsSideImaged app w'.doubt
+side_imaged rules answers app w (event.Now t) reply w' old new is (inl step) =
+    side_as app w' (record w { now = t }) step.1 is.1
+side_imaged rules answers app w (event.App b c) reply w' old new is (inl step) =
+    side_as app w' (record (with_app w b step.0.1) { doubt = doubt_after (calls_device (app_of w b) c) w.doubt })
+    step.3
+    (after_imaged app (calls_device (app_of w b) c) w.doubt is.1)
+side_imaged rules answers app w (event.Now t) reply w' old new is (inr (inl fails)) = absurd fails.0
+side_imaged rules answers app w (event.App b c) reply w' old new is (inr (inl fails)) =
+    side_as app w' w fails.0.2 is.1
+side_imaged rules answers app w (event.Now t) reply w' old new is (inr (inr fails)) = absurd fails
+side_imaged rules answers app w (event.App b c) reply w' old new is (inr (inr fails)) =
+    side_as app w' (record (with_app w b fails.0) {
+      doubt = Some (record { before = disks w; after = fails.1; case = fails.2 });
+    }) fails.6 is.0
+
+imaged_end : (app : ℕ) (ws : List World) (w : World) → AreImaged app ws → IsWorldImaged app w
+    → AreImaged app (ws ++ w ∷ [])
+imaged_end app [] w are is = (is, tt)
+imaged_end app (u ∷ us) w are is = (are.0, imaged_end app us w are.1 is)
+
+pub imaged_last : (app : ℕ) (w : World) (ws : List World) → IsWorldImaged app w → AreImaged app ws
+    → IsWorldImaged app (last_of w ws)
+imaged_last app w [] is are = is
+imaged_last app w (u ∷ us) is are = imaged_last app u us are.0 are.1
 
 -- ---- one command more
 
@@ -175,7 +222,18 @@ module _ (rules : List Rule) (answers : Answers) (entry start : World) (calm : s
             (λ d is. ⊎_elim (λ same. inl same) (λ at. inr (read_now told old now new tells lawful going.time time d.case
             at.0 at.1)) (s.case d is))));
         quiet = s.quiet;
-        stayed = λ quiet app lt clean sound.
+        imaged = λ app lt.
+            let are = going.imaged app lt in (
+              are.0,
+              subst (λ ws. AreImaged app ws) (sym (worlds_on turns t))
+                  (imaged_end app (worlds_of turns) w' are.1 (
+                    there_imaged app lt new.image memory' s.doubt' s.eight,
+                    side_imaged rules answers app (world_of now.image memory doubt) e reply w' now new
+                        (subst (λ w. IsWorldImaged app w) going.last (imaged_last app start (worlds_of turns) are.0 are.1))
+                        s.step,
+                  )),
+            );
+        stayed = λ app lt clean sound.
             let sound' : AreSoundDoubts app (worlds_of turns ++ w' ∷ []) =
             subst (λ ws. AreSoundDoubts app ws) (worlds_on turns t) sound in
             subst (λ ws. Stayed app entry start ws old new) (sym (worlds_on turns t))
@@ -183,7 +241,7 @@ module _ (rules : List Rule) (answers : Answers) (entry start : World) (calm : s
             (λ d is. ⊎_elim (λ same. inl (ap (λ (w : World). w.doubt) going.last ∙ same)) (λ at. inr at.0)
             (s.case d is)) sound'
             (subst (λ w. StepKeeps app w w' now new) (sym going.last) (s.keeps app lt))
-            (going.stayed quiet app lt clean (sound_front app (worlds_of turns) w' sound')));
+            (going.stayed app lt clean (sound_front app (worlds_of turns) w' sound')));
         time = elapses_on going.time time;
       }
 
@@ -207,10 +265,12 @@ module _ (rules : List Rule) (answers : Answers) (entry start : World) (calm : s
 
   -- the start is the first stretch of the run
   from_start : (app : ℕ) (worlds : List World) (next : Disks) (c : Case)
-      → Between app (disks entry) (disks start) c ⊎ IsMomentOf app start worlds next c
-      → IsMomentOf app entry (start ∷ worlds) next c
-  from_start app worlds next c m = ⊎_elim (λ b. inl (subst (λ d. AtMoment app (disks entry) (disks start) d c)
-      (sym calm) b)) (λ x. inr x) m
+      → (old : Medium)
+      → OrBefore old (λ c. Between app (disks entry) (disks start) c ⊎ IsMomentOf app start worlds next c) c
+      → OrBefore old (IsMomentOf app entry (start ∷ worlds) next) c
+  from_start app worlds next c old m = ⊎_elim (λ before. inl before)
+      (λ s. inr (⊎_elim (λ b. inl (subst (λ d. AtMoment app (disks entry) (disks start) d c) (sym calm) b))
+      (λ x. inr x) s)) m
 
   decided_start : (app : ℕ) → IsDecided app start.doubt
   decided_start app = subst (λ d. IsDecided app d) (sym calm) tt
@@ -219,16 +279,16 @@ module _ (rules : List Rule) (answers : Answers) (entry start : World) (calm : s
       → Going rules answers entry start turns memory doubt old now
       → Everywhen entry (start ∷ worlds_of turns) (disks (last_of start (worlds_of turns))) old now
   ends_everywhen laws turns memory doubt old now going = record {
-    always = λ quiet app lt clean sound c s. from_start app (worlds_of turns) (disks (last_of start (worlds_of turns)))
-        c
+    always = λ app lt clean sound c s. from_start app (worlds_of turns) (disks (last_of start (worlds_of turns)))
+        c old
         (end_stays app entry start (worlds_of turns) (disks (last_of start (worlds_of turns))) old now
-        (going.stayed quiet app lt clean sound.1) c s);
-    at_exit = λ quiet app lt clean sound c at.
-        let stayed : Stayed app entry start (worlds_of turns) old now = going.stayed quiet app lt clean sound.1 in
-        exit_moment laws app lt (last_of start (worlds_of turns)) (last_of start (worlds_of turns)).doubt now
+        (going.stayed app lt clean sound.1) c s);
+    at_exit = λ app lt clean sound c at.
+        let stayed : Stayed app entry start (worlds_of turns) old now = going.stayed app lt clean sound.1 in
+        inr (exit_moment laws app lt (last_of start (worlds_of turns)) (last_of start (worlds_of turns)).doubt now
         stayed.ready.clean
-        (disk_of turns memory doubt old now going app lt) stayed.ready.quiet stayed.calm c at;
-    decided = λ quiet app lt clean sound. (decided_start app, (going.stayed quiet app lt clean sound.1).decided);
+        (disk_of turns memory doubt old now going app lt) stayed.ready.quiet stayed.calm c at);
+    decided = λ app lt clean sound. (decided_start app, (going.stayed app lt clean sound.1).decided);
   }
 
   pub ends_settled : (turns : List Turn) (memory : Memory) (doubt : Option Doubt) (old now : Medium)
@@ -250,22 +310,22 @@ module _ (rules : List Rule) (answers : Answers) (entry start : World) (calm : s
       → Going rules answers entry start turns memory doubt old now → (s : Stopped rules answers e memory doubt now new)
       → Everywhen entry (start ∷ worlds_of turns) s.after old new
   stops_everywhen turns e memory doubt told old now new lawful time going s = record {
-    always = λ quiet app lt clean sound c at. from_start app (worlds_of turns) s.after c
+    always = λ app lt clean sound c at. from_start app (worlds_of turns) s.after c old
         (stop_stays app entry start (worlds_of turns) s.after old now new going.time time
-        (keeps app lt) (stayed quiet app lt clean sound.1) c at);
-    at_exit = λ quiet app lt clean sound c at.
-        let there : Stayed app entry start (worlds_of turns) old now = stayed quiet app lt clean sound.1 in
-        ⊎_elim (λ d. inr (there.calm d.0 c d.1)) (λ b. inl b)
-        (keeps app lt there.ready c (lawful.counts_now now.moment c time.later at));
-    decided = λ quiet app lt clean sound. (decided_start app, (stayed quiet app lt clean sound.1).decided);
+        (keeps app lt) (stayed app lt clean sound.1) c at);
+    at_exit = λ app lt clean sound c at.
+        let there : Stayed app entry start (worlds_of turns) old now = stayed app lt clean sound.1 in
+        inr (⊎_elim (λ d. inr (there.calm d.0 c d.1)) (λ b. inl b)
+        (keeps app lt there.ready c (lawful.counts_now now.moment c time.later at)));
+    decided = λ app lt clean sound. (decided_start app, (stayed app lt clean sound.1).decided);
   }
     where
       keeps : (app : ℕ) → app < 8 → StopKeeps app (last_of start (worlds_of turns)) s.after now new
       keeps app lt = subst (λ w. StopKeeps app w s.after now new) (sym going.last) (s.keeps app lt)
 
-      stayed : Quiet old → (app : ℕ) → app < 8 → IsCleanApp app old.image → AreSoundDoubts app (worlds_of turns)
+      stayed : (app : ℕ) → app < 8 → IsCleanApp app old.image → AreSoundDoubts app (worlds_of turns)
           → Stayed app entry start (worlds_of turns) old now
-      stayed quiet app lt clean sound = going.stayed quiet app lt clean sound
+      stayed app lt clean sound = going.stayed app lt clean sound
 
 -- ---- what a run promises of the disk
 
@@ -284,8 +344,15 @@ starts_going rules answers memory old new time s = record {
   last = sym s.world;
   cases = tt;
   quiet = λ none. s.quiet;
-  stayed = λ quiet app lt clean sound. start_stays app (world_at old.image) (started (world_at old.image)) old new
-      (start_calm old) (s.keeps quiet app lt clean)
+  imaged = λ app lt. (
+    (
+      subst (λ w. IsImaged app (disks w)) s.world (there_imaged app lt new.image memory None s.eight),
+      subst (λ d. IsSideImaged app d) (sym (start_calm old)) tt,
+    ),
+    tt,
+  );
+  stayed = λ app lt clean sound. start_stays app (world_at old.image) (started (world_at old.image)) old new
+      (start_calm old) (s.keeps.always app lt clean)
       (record { clean = s.clean app lt clean; quiet = λ none. s.quiet });
   time = time;
 }
@@ -311,15 +378,17 @@ start_disk rules answers how before after told old new lawful time open_end keep
   follow = tt;
   worlds = (starts_so old.image, tt);
   cases = tt;
+  imaged = λ app lt. tt;
   settled = λ over. absurd (open_end (has_started how over));
   reached = [];
   next = disks (started (world_at old.image));
   progress = starting open_end refl refl refl refl refl;
+  clean = λ over. absurd (open_end (has_started how over));
   everywhen = record {
-    always = λ quiet app lt clean sound c s. inl (keeps quiet app lt clean c s);
-    at_exit = λ quiet app lt clean sound c at. inl (keeps quiet app lt clean c
-        (lawful.counts_now old.moment c time.later at));
-    decided = λ quiet app lt clean sound. tt;
+    always = λ app lt clean sound c s. ⊎_elim (λ before. inl before) (λ b. inr (inl b)) (keeps.always app lt clean c s);
+    at_exit = λ app lt clean sound c at. ⊎_elim (λ reads. inl (refl, reads))
+        (λ each. inr (inl (each app lt clean c at))) keeps.at_exit;
+    decided = λ app lt clean sound. tt;
   };
 }
 
@@ -333,11 +402,13 @@ ends_disk laws rules answers _ lines all turns before after memory doubt old now
   follow = going.follow;
   worlds = going.worlds;
   cases = going.cases;
+  imaged = going.imaged;
   settled = λ over. ends_settled rules answers (world_at old.image) (started (world_at old.image)) (start_calm old)
       turns memory doubt old now going;
   reached = started (world_at old.image) ∷ worlds_of turns;
   next = disks (last_of (started (world_at old.image)) (worlds_of turns));
   progress = between started_well refl refl;
+  clean = λ over app lt clean sound. (going.stayed app lt clean sound).ready.clean;
   everywhen = ends_everywhen rules answers (world_at old.image) (started (world_at old.image)) (start_calm old) laws
       turns memory doubt old now going;
 }
@@ -358,6 +429,7 @@ stops_disk rules answers _ lines all others text turns before after e memory dou
       cases = cases_more (IsReadSince old now) (IsReadSince old new) (worlds_of turns)
           (read_on old now new going.time time)
           going.cases;
+      imaged = going.imaged;
       settled = λ over. absurd (open_end over);
       reached = started (world_at old.image) ∷ worlds_of turns;
       next = s.after;
@@ -369,6 +441,7 @@ stops_disk rules answers _ lines all others text turns before after e memory dou
         spelled = spelled;
         leads = subst (λ w. Leads rules answers w e s.after) (sym going.last) s.leads;
       });
+      clean = λ over. absurd (open_end over);
       everywhen = stops_everywhen rules answers (world_at old.image) (started (world_at old.image)) (start_calm old)
           turns e
           memory doubt told old now new lawful time going s;

@@ -1,9 +1,9 @@
 -- A run: what holds of the disk at its end and at every moment, and all of it together.
-use Rattle.std.specs.Prelude.{◌≡◌, ◌≤◌, ◌<◌, ℕ, List, [], ◌∷◌, ◌++◌, length, Option, Some, None, Bool, IsTrue, ⊤}
+use Rattle.std.specs.Prelude.{◌≡◌, ◌⊎◌, ◌≤◌, ◌<◌, ℕ, List, [], ◌∷◌, ◌++◌, length, Option, Some, None, Bool, IsTrue, ⊤}
 use Rattle.std.specs.List.{AllByRecursion}
 use Rattle.std.specs.Io.KnownBytes.{Appends, Consumes, IsAtEnd}
 use Rattle.disk_model.specs.Case.{Case}
-use Rattle.disk_model.specs.Medium.{Medium, Quiet, EachCase, Elapses}
+use Rattle.disk_model.specs.Medium.{Medium, Quiet, OnlyReads, EachCase, Elapses}
 use Rattle.migrate_fns.specs.Rules.{Rule, Answers}
 use Rattle.command_text.specs.declared.calls.Event.{Event}
 use Rattle.command_text.specs.declared.lines.Line.TheVariants as line
@@ -12,7 +12,7 @@ use Rattle.deploy_laws.specs.Apps.{IsCleanApp}
 use Rattle.run_model.specs.Endings.{Ending, status_of, HasStarted, HasEnded, HasCauseOf, EndsBy, IsInput}
 use Rattle.run_model.specs.Lasting.{IsWorld}
 use Rattle.run_model.specs.Lines.{lines_of, Give}
-use Rattle.run_model.specs.Moments.{IsMomentOf, last_of, AreSoundDoubts, AreDecided}
+use Rattle.run_model.specs.Moments.{AreImaged, IsMomentOf, OrBefore, last_of, AreSoundDoubts, AreDecided}
 use Rattle.run_model.specs.Steps.{Leads}
 use Rattle.run_model.specs.Turns.{Turn, events_of, worlds_of, text_of, Follow, AreBlamed}
 use Rattle.run_model.specs.Worlds.{Disks, Doubt, World, disks, world_at, started, closed}
@@ -34,17 +34,19 @@ IsReadSince old new c = new.gave old.moment c
 -- ---- every moment
 
 -- What a stop leaves of each application, for a run that reached these worlds one after another, with `next` in
--- progress behind the last.
+-- progress behind the last. Until the start has synchronised the disk it may also leave what one before the run might
+-- have left.
 pub record Everywhen (entry : World) (reached : List World) (next : Disks) (old new : Medium) : Type 0 where
   -- each moment of the run, for each application whose places were clean at the start
-  pub always : Quiet old → (app : ℕ) → app < 8 → IsCleanApp app old.image → AreSoundDoubts app reached
-      → EachCase (IsMomentOf app entry reached next) old new
+  pub always : (app : ℕ) → app < 8 → IsCleanApp app old.image → AreSoundDoubts app reached
+      → EachCase (OrBefore old (IsMomentOf app entry reached next)) old new
   -- what reads gave behind each command that failed stands between what lay there before it and what it leads to
-  pub decided : Quiet old → (app : ℕ) → app < 8 → IsCleanApp app old.image → AreSoundDoubts app reached
+  pub decided : (app : ℕ) → app < 8 → IsCleanApp app old.image → AreSoundDoubts app reached
       → AreDecided app reached
-  -- and the moments of the exit
-  pub at_exit : Quiet old → (app : ℕ) → app < 8 → IsCleanApp app old.image → AreSoundDoubts app reached
-      → (c : Case) → new.now c → IsMomentOf app (last_of entry reached) [] next c
+  -- and the moments of the exit: where the start came behind its sync nothing from before the run is left, and else the
+  -- run did nothing
+  pub at_exit : (app : ℕ) → app < 8 → IsCleanApp app old.image → AreSoundDoubts app reached → (c : Case) → new.now c
+      → ((reached ≡ []) × OnlyReads old new) ⊎ IsMomentOf app (last_of entry reached) [] next c
 
 -- ---- the end
 
@@ -94,6 +96,11 @@ pub record DiskSide (rules : List Rule) (answers : Answers) (ending : Ending) (l
   pub reached : List World
   pub next : Disks
   pub progress : Progress rules answers ending (started (world_at old.image)) lines all turns before now reached next
+  -- each application, and what lay there before a command that left a doubt, is what some image stands for
+  pub imaged : (app : ℕ) → app < 8 → AreImaged app reached
+  -- where every command has ended, the places that were clean are clean again
+  pub clean : HasEnded ending → (app : ℕ) → app < 8 → IsCleanApp app old.image → AreSoundDoubts app (worlds_of turns)
+      → IsCleanApp app new.image
   -- every moment
   pub everywhen : Everywhen (world_at old.image) reached next old new
 

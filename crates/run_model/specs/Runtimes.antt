@@ -5,6 +5,7 @@ use Rattle.std.specs.Prelude.{Some, None, Ok, is_some, ⊤}
 use Rattle.per_base.specs.declared.errors.PerError.TheVariants as error
 use Rattle.disk_model.specs.Frame.{Spares, IsSettledOn}
 use Rattle.disk_model.specs.Image.{Image}
+use Rattle.disk_model.specs.Case.{Case}
 use Rattle.disk_model.specs.Medium.{Medium, Quiet, OnlyReads, EachCase}
 use Rattle.element_state.specs.declared.shapes.View.{View}
 use Rattle.element_state.specs.States.{Opens}
@@ -28,7 +29,7 @@ use Rattle.run_model.specs.Sessions.{Session, synced_of, seen_of}
 use Rattle.run_model.specs.Worlds.{Application, Stage, is_to_open, Sessions, Disks, Doubt, World, app_of, disks}
 use Rattle.run_model.specs.Worlds.{world_at, started}
 use Rattle.run_model.specs.Steps.{Step, SyncFails, Fails, Leads, calls_device, found_named}
-use Rattle.run_model.specs.Moments.{Between, StepKeeps, StopKeeps}
+use Rattle.run_model.specs.Moments.{Between, OrBefore, StepKeeps, StopKeeps}
 use Rattle.run_model.specs.Turns.{IsBlamed}
 
 -- ---- what is kept in memory
@@ -63,10 +64,13 @@ IsDoubt memory doubt = is_some doubt ≡ memory.in_doubt
 -- ---- the start
 
 -- at each moment each application stands between what it was and itself with its root mended, also where the start does
--- not end
-abbrev pub StartKeeps : (old new : Medium) → Type 0
-StartKeeps old new = Quiet old → (app : ℕ) → app < 8 → IsCleanApp app old.image
-    → EachCase (Between app (disks (world_at old.image)) (disks (started (world_at old.image)))) old new
+-- not end; until the start has synchronised the disk, a crash may also leave what one before the start might have left
+pub record StartKeeps (old new : Medium) : Type 0 where
+  pub always : (app : ℕ) → app < 8 → IsCleanApp app old.image
+      → EachCase (OrBefore old (Between app (disks (world_at old.image)) (disks (started (world_at old.image))))) old new
+  -- one that ended before it had synchronised the disk did nothing; behind any other nothing from before it is left
+  pub at_exit : OnlyReads old new ⊎ ((app : ℕ) → app < 8 → IsCleanApp app old.image → (c : Case) → new.now c
+      → Between app (disks (world_at old.image)) (disks (started (world_at old.image))) c)
 
 -- a start that ended well
 pub record Starts (memory : Memory) (old new : Medium) : Type 0 where

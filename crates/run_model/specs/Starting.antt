@@ -5,17 +5,18 @@ use Rattle.std.proofs.Common.{refl, sym, ap, ◌∙◌, subst, le_refl, inl, inr
 use Rattle.std.proofs.lemmas.Bool.{cases_Bool}
 use Rattle.std.proofs.lemmas.Bool.Decides.{nat_tests}
 use Rattle.disk_model.specs.Image.{Image}
-use Rattle.disk_model.specs.Case.{Case}
+use Rattle.disk_model.specs.Case.{Case, IsSettledAt}
 use Rattle.disk_model.specs.Frame.{IsSettledOn}
 use Rattle.disk_model.specs.Laws.{cases_on, elapses_on}
-use Rattle.disk_model.specs.Medium.{Medium, Quiet, EachCase, Elapses, IsIdle}
+use Rattle.disk_model.specs.Medium.{Medium, Quiet, EachCase, Elapses, OnlyReads, WritesNothing}
 use Rattle.disk_model.specs.lemmas.Frames.{settled_on}
 use Rattle.deploy_laws.specs.Places.{IsFileOf}
 use Rattle.deploy_laws.specs.Apps.{App, app_at, IsCleanApp}
 use Rattle.deploy_laws.specs.Stands.{StandsCase, IsLater, same_root}
 use Rattle.deploy_rows.specs.Rows.{reopened}
 use Rattle.run_model.specs.AppLaws.{AppLaws, OpensRoot}
-use Rattle.run_model.specs.Moments.{Between}
+use Rattle.run_model.specs.Moments.{Between, OrBefore}
+use Rattle.run_model.specs.Runtimes.{StartKeeps}
 use Rattle.run_model.specs.Worlds.{Application, disks, disk_at, all_resting, world_at, started}
 
 -- ---- the worlds of the start
@@ -47,8 +48,8 @@ at_start image b lt = start_disk (app_at image) 0 8 b lt ∙ ap (λ (k : ℕ). r
 -- ---- the roots below this number are opened
 
 pub record Opened (count : ℕ) (old now : Medium) : Type 0 where
-  pub moments : Quiet old → (b : ℕ) → b < 8 → IsCleanApp b old.image
-      → EachCase (StandsCase b (app_at old.image b) (reopened (app_at old.image b))) old now
+  pub moments : (b : ℕ) → b < 8 → IsCleanApp b old.image
+      → EachCase (OrBefore old (StandsCase b (app_at old.image b) (reopened (app_at old.image b)))) old now
   pub opened : (b : ℕ) → b < count → b < 8 → app_at now.image b ≡ reopened (app_at old.image b)
   pub closed : (b : ℕ) → count ≤ b → b < 8 → app_at now.image b ≡ app_at old.image b
   pub clean : (b : ℕ) → b < 8 → IsCleanApp b old.image → IsCleanApp b now.image
@@ -77,9 +78,9 @@ which a b = ⊎_elim (λ less. inr (λ e. omega (arith, less, e)))
 pub open_next : AppLaws → (a : ℕ) (old now new : Medium) → a < 8 → Opened a old now → OpensRoot a now new
     → Opened (a + 1) old new
 open_next laws a old now new lta o r = record {
-  moments = λ quiet b lt clean c s. ⊎_elim
-      (λ was. o.moments quiet b lt clean c was)
-      (λ at. here quiet b lt clean c at (which a b))
+  moments = λ b lt clean c s. ⊎_elim
+      (λ was. o.moments b lt clean c was)
+      (λ at. inr (here b lt clean c at (which a b)))
       (cases_on o.time r.time c s);
   opened = λ b below lt. opened b below lt (which a b);
   closed = λ b above lt. elsewhere b lt (λ e. omega (arith, e, above)) ∙ o.closed b (omega (arith, above)) lt;
@@ -114,35 +115,72 @@ open_next laws a old now new lta o r = record {
     rest b lt clean differs c s (inr above) = subst (λ x. StandsCase b x (reopened x) c) (o.closed b above lt)
         (laws.still b now.image (reopened (app_at now.image b)) c lt clean s (is_reopened (app_at now.image b)))
 
-    here : Quiet old → (b : ℕ) → b < 8 → IsCleanApp b old.image → (c : Case) → new.since now.moment c
+    here : (b : ℕ) → b < 8 → IsCleanApp b old.image → (c : Case) → new.since now.moment c
         → (a ≡ b) ⊎ (a ≢ b) → StandsCase b (app_at old.image b) (reopened (app_at old.image b)) c
-    here quiet b lt clean c at (inl e) = subst (λ (n : ℕ).
+    here b lt clean c at (inl e) = subst (λ (n : ℕ).
         StandsCase n (app_at old.image n) (reopened (app_at old.image n)) c) e
         (subst (λ x. StandsCase a x (reopened x) c) (o.closed a (le_refl a) lta)
         (r.any_moment o.quiet (o.clean a lta (subst (λ (n : ℕ). IsCleanApp n old.image) (sym e) clean))
         (reopened (app_at now.image a)) (is_reopened (app_at now.image a)) c at))
-    here quiet b lt clean c at (inr differs) = rest b lt (o.clean b lt clean) differs c
+    here b lt clean c at (inr differs) = rest b lt (o.clean b lt clean) differs c
         (laws.others_case a b now.image c differs (r.outside o.quiet c at)) (below_or b a)
 
 -- ---- the start as a whole
 
--- before any root is opened, behind a sync: nothing changed, and nothing is pending
-pub open_none : AppLaws → (old now : Medium) → Elapses old now → now.image ≡ old.image → Quiet now
-    → (Quiet old → IsIdle old now) → Opened 0 old now
-open_none laws old now time same quiet idle = record {
-  moments = λ was b lt clean c s. laws.still b old.image (reopened (app_at old.image b)) c lt clean
-      (settled_on (IsFileOf b) ((idle was).during c s)) (is_reopened (app_at old.image b));
+-- before any root is opened, behind a sync: nothing changed, and nothing is pending any more
+pub open_none : AppLaws → (old now : Medium) → Elapses old now → WritesNothing old now → Quiet now → Opened 0 old now
+open_none laws old now time nothing quiet = record {
+  moments = λ b lt clean c s. ⊎_elim (λ before. inl before)
+      (λ at. inr (laws.still b old.image (reopened (app_at old.image b)) c lt clean
+      (settled_on (IsFileOf b) (subst (λ i. IsSettledAt i c) nothing.image (quiet c at)))
+      (is_reopened (app_at old.image b))))
+      (nothing.during c s);
   opened = λ b below lt. absurd (omega (arith, below));
-  closed = λ b above lt. ap (λ (i : Image). app_at i b) same;
-  clean = λ b lt clean. subst (λ i. IsCleanApp b i) (sym same) clean;
+  closed = λ b above lt. ap (λ (i : Image). app_at i b) nothing.image;
+  clean = λ b lt clean. subst (λ i. IsCleanApp b i) (sym nothing.image) clean;
   quiet = quiet;
   time = time;
 }
 
 -- with all eight opened, the start is what a run begins with
-pub opened_keeps : (old now : Medium) → Opened 8 old now → Quiet old → (b : ℕ) → b < 8 → IsCleanApp b old.image
-    → EachCase (Between b (disks (world_at old.image)) (disks (started (world_at old.image)))) old now
-opened_keeps old now o quiet b lt clean c s = subst (λ x.
-    StandsCase b x (disk_at (disks (started (world_at old.image))) b) c) (sym (at_entry old.image b lt))
-    (subst (λ y. StandsCase b (app_at old.image b) y c) (sym (at_start old.image b lt))
-    (o.moments quiet b lt clean c s))
+pub between_worlds : (image : Image) (b : ℕ) → b < 8 → (c : Case)
+    → StandsCase b (app_at image b) (reopened (app_at image b)) c
+    → Between b (disks (world_at image)) (disks (started (world_at image))) c
+between_worlds image b lt c stands = subst (λ x. StandsCase b x (disk_at (disks (started (world_at image))) b) c)
+    (sym (at_entry image b lt))
+    (subst (λ y. StandsCase b (app_at image b) y c) (sym (at_start image b lt)) stands)
+
+-- between two openings each application rests, with its root mended or not yet
+pub opened_rests : AppLaws → (count : ℕ) (old now : Medium) → Opened count old now → (b : ℕ) → b < 8
+    → IsCleanApp b old.image → (c : Case) → now.now c
+    → StandsCase b (app_at old.image b) (reopened (app_at old.image b)) c
+opened_rests laws count old now o b lt clean c at = rest (below_or b count)
+  where
+    settled : IsSettledOn (IsFileOf b) now.image c
+    settled = settled_on (IsFileOf b) (o.quiet c at)
+
+    rest : (b < count) ⊎ (count ≤ b) → StandsCase b (app_at old.image b) (reopened (app_at old.image b)) c
+    rest (inl below) = λ is_sound damaged image decays.
+        laws.mend b image damaged (app_at old.image b) (reopened (app_at old.image b))
+        ((subst (λ x. StandsCase b x x c) (o.opened b below lt)
+        (laws.still b now.image (app_at now.image b) c lt (o.clean b lt clean) settled
+        (is_same (app_at now.image b)))) is_sound damaged image decays)
+    rest (inr above) = subst (λ x. StandsCase b x (reopened x) c) (o.closed b above lt)
+        (laws.still b now.image (reopened (app_at now.image b)) c lt (o.clean b lt clean) settled
+        (is_reopened (app_at now.image b)))
+
+-- what is said of applications is said of worlds
+pub keeps_worlds : (old new : Medium) → ((b : ℕ) → b < 8 → IsCleanApp b old.image
+    → EachCase (OrBefore old (StandsCase b (app_at old.image b) (reopened (app_at old.image b)))) old new)
+    → OnlyReads old new ⊎ ((b : ℕ) → b < 8 → IsCleanApp b old.image → (c : Case) → new.now c
+    → StandsCase b (app_at old.image b) (reopened (app_at old.image b)) c)
+    → StartKeeps old new
+keeps_worlds old new moments exit = record {
+  always = λ b lt clean c s. ⊎_elim (λ before. inl before) (λ stands. inr (between_worlds old.image b lt c stands))
+      (moments b lt clean c s);
+  at_exit = ⊎_elim (λ reads. inl reads)
+      (λ each. inr (λ b lt clean c at. between_worlds old.image b lt c (each b lt clean c at))) exit;
+}
+
+pub opened_keeps : AppLaws → (count : ℕ) (old now : Medium) → Opened count old now → StartKeeps old now
+opened_keeps laws count old now o = keeps_worlds old now o.moments (inr (opened_rests laws count old now o))

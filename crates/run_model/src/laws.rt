@@ -5,7 +5,7 @@ ghost use Rattle.migrate_fns.specs.Stored.{answers_of, rules_of};
 ghost use Rattle.run_model.specs.AppLaws.{AppLaws};
 ghost use Rattle.run_model.specs.Laws.{AlikeLaw, AllOpenedLaw, AnswersLastLaw, BlamedLaw, CallFailsLaw, CallKeepsLaw};
 ghost use Rattle.run_model.specs.Laws.{DoubtStaysLaw, FailedSyncKeepsLaw, FailedSyncLastsLaw, FailureKeepsLaw};
-ghost use Rattle.run_model.specs.Laws.{FailureLastsLaw, IdleKeepsLaw, NoneOpenedLaw, NotFurtherBackLaw, NowLastsLaw};
+ghost use Rattle.run_model.specs.Laws.{FailureLastsLaw, IdleKeepsLaw, LifeLaw, NoneOpenedLaw, NotFurtherBackLaw, NowLastsLaw};
 ghost use Rattle.run_model.specs.Laws.{OnTheWayLaw, OneOpenedLaw, OpensAsEitherLaw, OthersStayLaw, RootKeepsLaw};
 ghost use Rattle.run_model.specs.Laws.{RootThenLaw, RunBeginsLaw, RunEndsLaw, RunGoesOnLaw, RunStopsLaw};
 ghost use Rattle.run_model.specs.Laws.{SessionEndsLaw, StartStopsLaw, StorageFailureLastsLaw, StorageLaterLaw};
@@ -114,6 +114,13 @@ pub fn a_run_goes_on<D: Disk>(migrations: &Migrations, old: &D, now: &D, new: &D
     ensures { IsTrue D.told → RunGoesOnLaw (rules_of migrations.now) (answers_of migrations.now) (D.medium old.now)
         (D.medium now.now) (D.medium new.now) }
 {}
+
+/// Whatever ends came before, each run of a life begins with clean places, and each application stands where it should.
+pub fn a_life_goes_on<D: Disk>(migrations: &Migrations)
+    ensures { LifeLaw D.medium (rules_of migrations.now) (answers_of migrations.now) }
+{
+    applications_stand();
+}
 
 /// Where every command has ended, a run promises of the disk all that it has to.
 pub fn a_run_ends<D: Disk>(migrations: &Migrations, old: &D, now: &D)

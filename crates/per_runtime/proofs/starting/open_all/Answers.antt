@@ -2,8 +2,9 @@ use Rattle.std.proofs.Common.{◌≡◌, ◌<◌, Err, sym, ap, ◌∙◌, arith
 use Rattle.std.proofs.lemmas.Result.{err_from_is_err_and}
 use Rattle.disk_model.specs.Laws.{elapses_on, rose_before}
 use Rattle.deploy.specs.declared.errors.Stop.{Stop}
-use Rattle.per_runtime.proofs.Begins.{all_begun, moments_keep, none_opened, one_opened, root_at, stopped_by, stops_at}
-use Rattle.per_runtime.proofs.Begins.{unsynced_moments, way_at}
+use Rattle.run_model.specs.Starting.{opened_keeps}
+use Rattle.per_runtime.proofs.Begins.{all_begun, none_opened, one_opened, root_at, stopped_by, stops_at}
+use Rattle.per_runtime.proofs.Begins.{unsynced_keeps, way_at}
 use Rattle.per_runtime.proofs.Places.{on_err, on_ok}
 use Rattle.per_runtime.proofs.starting.open_all.Goals as goal
 
@@ -14,8 +15,7 @@ returns-then-is_err g c =
     let new = g.D.Disk.medium c.sync.new.self in
     record {
       end = on_err c.sync.result is c.sync.ensures.cause;
-      keeps = λ tells. moments_keep old new (unsynced_moments c.applications_stand.ensures old new
-          (on_err c.sync.result is c.sync.ensures.failed));
+      keeps = λ tells. unsynced_keeps old new (on_err c.sync.result is c.sync.ensures.failed);
       time = c.sync.ensures.time;
     }
 
@@ -31,8 +31,8 @@ returns-in_err-running g c =
     let it = c.loop-app.invariant in
     rw (p.1, p.2) (record {
       end = tt;
-      keeps = λ tells. moments_keep (g.D.Disk.medium c.args.disk.now) (g.D.Disk.medium c.loop-app.disk)
-          (it.opened tells).moments;
+      keeps = λ tells. opened_keeps c.applications_stand.ensures c.loop-app.app (g.D.Disk.medium c.args.disk.now)
+          (g.D.Disk.medium c.loop-app.disk) (it.opened tells);
       time = it.time;
     })
 
@@ -49,10 +49,10 @@ returns-in_err-open_root g c =
       end = stopped_by g.D.Disk.told old new c.in_err-open_root.field-0.0
           (λ is. rose_before old.faults now.faults new.faults it.time.faults
           (said.cause (ap (λ (s : Stop). Err s) is)));
-      keeps = λ tells. moments_keep old new (stops_at c.applications_stand.ensures c.loop-app.app old now new lt
-          (it.opened tells) said.time
+      keeps = λ tells. stops_at c.applications_stand.ensures g.D.Disk.told c.loop-app.app old now new lt
+          (g.met.D.Disk.lawful c.open_root.new.disk) (it.opened tells) said.time
           (way_at c.in_ok-running.running.app c.loop-app.app now new c.in_ok-running.ensures.app
-          (said.on_the_way tells)));
+          (said.on_the_way tells));
       time = elapses_on it.time said.time;
     })
 
@@ -67,10 +67,10 @@ returns-in_err-push g c =
     let said = c.in_ok-open_root.ensures in
     rw (p.1, p.2) (record {
       end = tt;
-      keeps = λ tells. moments_keep old new (stops_at c.applications_stand.ensures c.loop-app.app old now new lt
-          (it.opened tells) said.time
+      keeps = λ tells. stops_at c.applications_stand.ensures g.D.Disk.told c.loop-app.app old now new lt
+          (g.met.D.Disk.lawful c.open_root.new.disk) (it.opened tells) said.time
           (way_at c.in_ok-running.running.app c.loop-app.app now new c.in_ok-running.ensures.app
-          (said.on_the_way tells)));
+          (said.on_the_way tells));
       time = elapses_on it.time said.time;
     })
 
@@ -94,7 +94,7 @@ returns g c =
     let all : c.loop-app.app ≡ 8 = omega arith in
     let old = g.D.Disk.medium c.args.disk.now in
     let now = g.D.Disk.medium c.loop-app.disk in
-    all_begun g.D.Disk.told c.loop-app.app c.loop-app.apps old now all it
+    all_begun c.applications_stand.ensures g.D.Disk.told c.loop-app.app c.loop-app.apps old now all it
 
 pub open_root-requires-clause-memory : goal.open_root-requires-clause-memory
 open_root-requires-clause-memory g c = c.in_ok-running.ensures.memory g.D.Disk.told

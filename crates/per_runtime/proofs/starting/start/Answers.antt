@@ -13,7 +13,7 @@ returns-clause-memory g c =
 pub returns-clause-starts : goal.returns-clause-starts
 returns-clause-starts g c = λ tells. starts_by g.D.Disk.told c.in_ok-apps.apps.items (g.D.Disk.medium c.args.disk.now)
     (g.D.Disk.medium c.open_all.new.disk) tells
-    c.in_ok-apps.ensures.end
+    c.in_ok-apps.ensures.end (c.in_ok-apps.ensures.keeps tells)
 
 pub returns-clause-fresh : goal.returns-clause-fresh
 returns-clause-fresh g c = fresh_by g.D.Disk.told c.in_ok-apps.apps.items (g.D.Disk.medium c.args.disk.now)

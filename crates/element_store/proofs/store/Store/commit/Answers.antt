@@ -1,4 +1,4 @@
-use Rattle.std.proofs.Common.{◌≡◌, ℕ, List, length, sym, ap, subst, ◌∙◌, arith}
+use Rattle.std.proofs.Common.{◌≡◌, ◌+◌, ◌*◌, ◌≤◌, ℕ, List, length, sym, ap, subst, ◌∙◌, arith}
 use Rattle.disk_model.specs.declared.place.Place.{Place}
 use Rattle.disk_model.specs.Frame.{Spares}
 use Rattle.disk_model.specs.Place.{IsNoSlot}
@@ -20,7 +20,11 @@ use Rattle.element_state.specs.States.{Opens}
 use Rattle.element_state.specs.Changes.{committed_by, after_changes, entry_name}
 use Rattle.element_store.proofs.Around.{both_around}
 use Rattle.element_store.proofs.CommitKept.{commit_keeps, commit_around, commit_in_use, commit_clean, commit_written}
-use Rattle.element_store.proofs.CommitKept.{commit_read, commit_length}
+use Rattle.element_store.proofs.CommitKept.{commit_read, commit_length, commit_differs}
+use Rattle.guarded_cell.specs.Differing.{texts_cost}
+use Rattle.guarded_cell.specs.Register.{own}
+use Rattle.hash_guard.specs.SealedText.{sealed}
+use Rattle.element_store.specs.Stores.{generation_in}
 use Rattle.element_store.proofs.Finished.{alone_still, small_changes, store_ascends, finished_view, finished_used}
 use Rattle.element_store.proofs.Finished.{of_either, contents_within}
 use Rattle.element_store.proofs.InOrder.{ascends_as}
@@ -276,6 +280,24 @@ returns-clause-written g c = (
     (g.D.Disk.medium c.args.disk.now) c.requires.used prep.plan (g.D.Disk.medium c.write_contents.new.disk)
     ready.cost (g.D.Disk.medium c.write_in.new.disk) c.as_slice.result.now (c.as_slice.ensures ∙ prep.spelled)
     c.in-Ok-write_in.ensures.puts.written))
+
+pub returns-clause-differing : goal.returns-clause-differing
+returns-clause-differing g c = λ tells. (
+    let ready = subst (λ (cs : List Change). IsReady g.D.Disk.told c.args.self cs (g.D.Disk.medium c.args.disk.now)
+    (g.D.Disk.medium c.write_contents.new.disk) c.in-Ok.ready.index c.in-Ok.ready.text c.in-Ok.ready.used)
+    c.deref.ensures.value c.in-Ok.ensures.ready in
+    let prep = ready.prepared in
+    subst (λ (i : Index). (g.D.Disk.medium c.write_in.new.disk).written
+    ≤ (g.D.Disk.medium c.args.disk.now).written + c.args.self.shape.place.copies
+    * (commit_cost c.args.self.shape.kind c.args.self.entries.items c.args.changes.items + 44)
+    + texts_cost c.args.self.shape.place (own (generation_in c.args.self + 1))
+    (sealed (generation_in c.args.self + 1) (index_text i)) (g.D.Disk.medium c.args.disk.now).image
+    c.args.self.shape.place.copies)
+    (sym (ap (λ (st : Store). st.index) c.new.ensures))
+    (commit_differs g.D.Disk.told c.args.self c.args.changes.items c.in-Ok.ready.used c.in-Ok.ready.index ready.jobs
+    (g.D.Disk.medium c.args.disk.now) c.requires.used prep.plan (g.D.Disk.medium c.write_contents.new.disk)
+    ready.cost (ready.elsewhere tells) (g.D.Disk.medium c.write_in.new.disk) c.as_slice.result.now
+    (c.as_slice.ensures ∙ prep.spelled) (c.in-Ok-write_in.ensures.puts.differing tells)))
 
 pub returns-clause-time : goal.returns-clause-time
 returns-clause-time g c = elapses_on c.in-Ok.ensures.ready.time c.in-Ok-write_in.ensures.puts.time

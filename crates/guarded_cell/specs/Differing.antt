@@ -1,0 +1,66 @@
+-- A text put over the fronts of slots, of which only the runs are written that differ.
+use Rattle.std.specs.Prelude.{◌≡◌, ◌≢◌, ◌⊎◌, ℕ, zero, suc, ◌+◌, List, length, take, replicate, Bool, true, false, get_or, ◌<◌, if◌then◌else◌}
+use Rattle.std.specs.Str.{bytes_eq}
+use Rattle.disk_model.specs.Image.{Image, put_bytes}
+use Rattle.disk_model.specs.Case.{Case, IsSettledAt}
+use Rattle.disk_model.specs.Medium.{Medium}
+use Rattle.disk_model.specs.Place.{slot}
+use Rattle.disk_model.specs.declared.place.Place.{Place}
+use Rattle.changed_runs.specs.Changed.{changed_len}
+use Rattle.guarded_cell.specs.Register.{IsBlank, own, other}
+use Rattle.guarded_cell.specs.Fronts.{IsChosen}
+
+-- zeros stand where a text has its header, as far as the slot goes
+abbrev pub front_is_blank : List ℕ → Bool
+front_is_blank slot = bytes_eq (take 44 slot) (take (length slot) (replicate 44 0))
+
+-- at most so many bytes are written for a text over the front of a slot: where the front is blank, the runs that differ
+abbrev pub front_cost : List ℕ → List ℕ → ℕ
+front_cost slot bytes = if front_is_blank slot then changed_len slot 0 bytes else length bytes
+
+-- the same for the slots of the first copies
+abbrev pub texts_cost : Place → (parity : ℕ) → List ℕ → Image → (copies : ℕ) → ℕ
+texts_cost place parity bytes image zero = 0
+texts_cost place parity bytes image (suc copy) =
+    texts_cost place parity bytes image copy + front_cost (image (slot place copy parity)) bytes
+
+-- a slot as it was, or with the bytes at its front, or midway: then it holds no text
+abbrev pub IsFront : List ℕ → (old new : List ℕ) → Type 0
+IsFront bytes old new = (new ≡ old) ⊎ (((x : List ℕ) × (new ≡ put_bytes x 0 bytes)) ⊎ IsBlank new)
+
+-- a case while the bytes get over the front of one file
+pub record FrontCase (file : ℕ) (bytes : List ℕ) (old new : Case) : Type 0 where
+  pub base : new.base ≡ old.base
+  pub front : IsFront bytes (old.full file) (new.full file)
+  pub full : (f : ℕ) → f ≢ file → new.full f ≡ old.full f
+  pub left : (f : ℕ) → f ≢ file → new.left f ≡ old.left f
+
+-- a case while they get over the fronts of some files
+pub record TextsCase (Files : ℕ → Type 0) (bytes : List ℕ) (old new : Case) : Type 0 where
+  pub base : new.base ≡ old.base
+  pub each : (f : ℕ) → IsFront bytes (old.full f) (new.full f)
+  pub full : (f : ℕ) → ¬ (Files f) → new.full f ≡ old.full f
+  pub left : (f : ℕ) → ¬ (Files f) → new.left f ≡ old.left f
+
+-- a case while the text is put, or one after it was made durable
+abbrev pub IsTextsCase : Place → (parity : ℕ) → List Bool → List ℕ → (old new : Medium) → (done : Type 0) → Case
+    → Type 0
+IsTextsCase place parity chosen bytes old new done c =
+    ((d : Case) × old.now d × TextsCase (IsChosen place parity chosen) bytes d c) ⊎ (done × IsSettledAt new.image c)
+
+-- just the chosen slots took the text and the zeros at their fronts; behind these they are as they were
+pub record PutsOver (place : Place) (generation : ℕ) (lacking stale : List Bool) (bytes : List ℕ)
+    (old new : Image) : Type 0 where
+  pub own_slots : (copy : ℕ) → copy < place.copies → get_or lacking copy false ≡ true
+      → new (slot place copy (own generation)) ≡ put_bytes (old (slot place copy (own generation))) 0 bytes
+  pub other_slots : (copy : ℕ) → copy < place.copies → get_or stale copy false ≡ true
+      → new (slot place copy (other generation))
+      ≡ put_bytes (old (slot place copy (other generation))) 0 (replicate 44 0)
+
+-- each slot of the generation's parity took the text at its front, and each other one zeros
+pub record IsOver (place : Place) (generation : ℕ) (bytes : List ℕ) (old new : Image) : Type 0 where
+  pub own_slots : (copy : ℕ) → copy < place.copies
+      → new (slot place copy (own generation)) ≡ put_bytes (old (slot place copy (own generation))) 0 bytes
+  pub other_slots : (copy : ℕ) → copy < place.copies
+      → new (slot place copy (other generation))
+      ≡ put_bytes (old (slot place copy (other generation))) 0 (replicate 44 0)
