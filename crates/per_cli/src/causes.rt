@@ -15,6 +15,8 @@ pub(crate) enum Fault {
     System(Failure),
     /// The disk over the flash takes no more.
     Full,
+    /// The file of the flash has more bytes than its blocks.
+    Longer,
 }
 
 impl fmt::Display for Fault {
@@ -22,6 +24,7 @@ impl fmt::Display for Fault {
         match self {
             Fault::System(failure) => write!(f, "{failure}"),
             Fault::Full => write!(f, "its flash takes no more pages"),
+            Fault::Longer => write!(f, "its file flash has more blocks"),
         }
     }
 }
@@ -43,19 +46,25 @@ pub(crate) struct Ended<'a> {
     pub(crate) sink: Option<io::Error>,
 }
 
-/// Says why a run ended where its status is not 0. At status 0 it says why commands were answered by error 4, and that
-/// a folder is not there or was not formatted, since every command but `now` and `wipe` is then refused.
+/// Says why a command was answered by error 4.
+pub(crate) fn say_answered<R: Eprint>(rt: &R, dir: &str, fault: Option<Fault>) -> io::Result<()> {
+    say_failure(rt, "error 4 was answered, since the disk failed", dir, fault)
+}
+
+/// Says why a run ended where its status is not 0. At status 0 it says that a folder is not there or was not formatted,
+/// since every command but `now` and `wipe` is then refused.
 pub(crate) fn say<R: Files + Eprint>(rt: &R, ended: &Ended<'_>) -> io::Result<()> {
     let dir = ended.dir;
     match ended.status {
-        0 => say_of_answers(rt, ended),
+        0 if !ended.takes_lines || ended.has_files => Ok(()),
+        0 => say_of_folder(rt, ended),
         1 => rt.eprintln(USAGE),
         2 => rt.eprintln(
             "per: a line is outside the grammar; the last reply has its number (./per --help lists the lines)",
         ),
         3 if !has_folder(rt, dir) => eprintln!(rt; "per: there is no folder {dir}"),
         3 if is_held(ended) => eprintln!(rt; "per: the folder {dir} is in use by another run"),
-        3 => say_failure(rt, "the disk failed", ended),
+        3 => say_failure(rt, "the disk failed", dir, ended.disk),
         4 => rt.eprintln("per: memory ran out"),
         5 => say_stream(rt, "standard input", ended.source),
         6 => say_stream(rt, "standard output", ended.sink),
@@ -69,10 +78,21 @@ pub(crate) fn say<R: Files + Eprint>(rt: &R, ended: &Ended<'_>) -> io::Result<()
         10 => eprintln!(rt;
             "per: the flash in {dir} cannot be opened: it holds more pages of files than so many blocks may, or no block is spare"
         ),
-        11 => eprintln!(rt;
+        11 => say_of_size(rt, ended),
+        _ => Ok(()),
+    }
+}
+
+/// Says why a flash has the wrong size.
+fn say_of_size<R: Eprint>(rt: &R, ended: &Ended<'_>) -> io::Result<()> {
+    let dir = ended.dir;
+    match (ended.disk, ended.flash) {
+        (Some(Fault::Longer), Some(blocks)) => eprintln!(rt;
+            "per: the flash in {dir} cannot be opened: its file has more than {blocks} blocks"
+        ),
+        _ => eprintln!(rt;
             "per: the flash in {dir} cannot be opened: it has fewer than 4 blocks, or more than 4096"
         ),
-        _ => Ok(()),
     }
 }
 
@@ -84,16 +104,6 @@ fn is_held(ended: &Ended<'_>) -> bool {
         }
         _ => false,
     }
-}
-
-fn say_of_answers<R: Files + Eprint>(rt: &R, ended: &Ended<'_>) -> io::Result<()> {
-    if ended.disk.is_some() {
-        return say_failure(rt, "error 4 was answered, since the disk failed", ended);
-    }
-    if !ended.takes_lines || ended.has_files {
-        return Ok(());
-    }
-    say_of_folder(rt, ended)
 }
 
 /// Says of a folder with no file of the disk or of the flash that it is not formatted, or not there.
@@ -110,10 +120,9 @@ fn say_of_folder<R: Files + Eprint>(rt: &R, ended: &Ended<'_>) -> io::Result<()>
     }
 }
 
-fn say_failure<R: Eprint>(rt: &R, what: &str, ended: &Ended<'_>) -> io::Result<()> {
-    let dir = ended.dir;
-    match ended.disk {
-        Some(failure) => eprintln!(rt; "per: {what}: {failure} in {dir}"),
+fn say_failure<R: Eprint>(rt: &R, what: &str, dir: &str, fault: Option<Fault>) -> io::Result<()> {
+    match fault {
+        Some(fault) => eprintln!(rt; "per: {what}: {fault} in {dir}"),
         None => eprintln!(rt; "per: {what} in {dir}"),
     }
 }

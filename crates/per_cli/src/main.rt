@@ -5,26 +5,33 @@
 //! there is, and `per --demo` shows a first session.
 //!
 //! Where a run did not end well, one line on standard error says why ([`causes`]). Main itself ends with 4 where memory
-//! runs out before the top call, and with 12 where the system does not give the words; help and the demo also with 6
-//! where the output fails, and the demo with 3 where its folder cannot be made.
+//! runs out before the top call, with 6 where a standard stream that was closed cannot be filled, and with 12 where the
+//! system does not give the words; help and the demo also with 6 where the output fails, and the demo with 3 where its
+//! folder cannot be made. The status is 3 or 11 too where the file of a flash cannot be looked at, or has more bytes
+//! than its blocks.
 #![tactic(auto)]
 
 mod causes;
 mod demo;
 mod help;
 mod program;
+mod telling;
 
-use std::fs::File;
-use std::os::fd::AsRawFd;
+use per_system::fill_streams;
 use std::process::{self, ExitCode};
-use std::rt::Files;
 use std::{env, io};
+
+/// The status where the disk failed.
+const NO_DISK: u8 = 3;
 
 /// The status where memory ran out before the top call.
 const NO_MEMORY: u8 = 4;
 
 /// The status where help cannot be written.
 const NO_OUTPUT: u8 = 6;
+
+/// The status where the flash has another size.
+const WRONG_SIZE: u8 = 11;
 
 /// The status where the words cannot be read.
 const NO_WORDS: u8 = 12;
@@ -39,7 +46,13 @@ enum Asked {
 }
 
 fn main(rt: HostRuntime) -> ExitCode {
-    let _streams = [low(&rt), low(&rt), low(&rt)];
+    let _streams = match fill_streams(&rt) {
+        Ok(streams) => streams,
+        Err(error) => {
+            let _ = eprintln!(rt; "per: the standard streams cannot be opened: {error}");
+            return ExitCode::from(NO_OUTPUT);
+        }
+    };
     let words = match words_of(&rt) {
         Ok(words) => words,
         Err(error) => {
@@ -53,15 +66,6 @@ fn main(rt: HostRuntime) -> ExitCode {
         Asked::Run => program::run(&rt, &words, rt.stdin(), rt.stdout()),
     };
     ExitCode::from(status)
-}
-
-/// Takes the lowest descriptor, if it is one of the standard streams, so that no file of the disk gets it where the
-/// stream was closed. A folder can be neither read nor written.
-fn low<R: Files<File = File>>(rt: &R) -> Option<File> {
-    match File::open(rt, "/") {
-        Ok(file) if file.as_raw_fd() <= 2 => Some(file),
-        _ => None,
-    }
 }
 
 /// The words after the program's name.

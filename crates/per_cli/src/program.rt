@@ -1,22 +1,24 @@
 //! A run of the program over a folder, or a flash in it, and two streams.
 
-use crate::NO_MEMORY;
 use crate::causes::{Ended, Fault, say};
+use crate::telling::Telling;
+use crate::{NO_DISK, NO_MEMORY, WRONG_SIZE};
 use migrate_fns::Migrations;
 use number_converters::{WithConverters, with_converters};
 use per_base::{Sink, Source};
 use per_run::{FlashRun, JobKind, WordsError, per_flash, per_run, read_words};
-use per_system::{DirDisk, DirFlash, StdSink, StdSource};
+use per_system::{Access, DirDisk, DirFlash, Notes, StdSink, StdSource};
 use std::alloc::{AllocError, Global};
 use std::fs::File;
 use std::io::{Read, Write};
 use std::rt::Files;
 
-/// The folder that the words name, whether lines are to be handled in it, and how many blocks its flash has, where it
-/// has one.
+/// The folder that the words name, for what it is held, whether lines are to be handled in it, and how many blocks its
+/// flash has, where it has one.
 #[derive(Drop)]
 struct Target {
     dir: String,
+    access: Access,
     takes_lines: bool,
     flash: Option<u32>,
 }
@@ -27,6 +29,7 @@ struct Outcome {
     status: u8,
     /// Whether a file of the disk or of the flash is in the folder.
     has_files: bool,
+    /// Why the device failed, where no call of the system did.
     fault: Option<Fault>,
 }
 
@@ -92,15 +95,22 @@ fn run_with<R: Files<File = File> + Eprint, I: Read + Drop, O: Write + Drop>(
         Ok(parts) => parts,
         Err(_) => return no_memory(rt),
     };
+    let notes = Notes::new();
     let mut source = StdSource::new(input);
-    let mut sink = StdSink::new(output);
+    let mut sink = StdSink::new(Telling {
+        rt,
+        dir: target.dir.as_str(),
+        notes: &notes,
+        otherwise: target.flash.map(|_| Fault::Full),
+        output,
+    });
     let outcome = match target.flash {
         Some(blocks) => {
-            let flash = DirFlash::new(rt, alloc, dir, blocks);
+            let flash = DirFlash::noting(rt, alloc, dir, target.access, blocks, &notes);
             run_over_flash(alloc, words, migrations, &mut source, &mut sink, flash)
         }
         None => {
-            let disk = DirDisk::new(rt, alloc, dir);
+            let disk = DirDisk::noting(rt, alloc, dir, target.access, &notes);
             run_over_folder(alloc, words, migrations, &mut source, &mut sink, disk)
         }
     };
@@ -110,7 +120,7 @@ fn run_with<R: Files<File = File> + Eprint, I: Read + Drop, O: Write + Drop>(
         flash: target.flash,
         takes_lines: target.takes_lines,
         has_files: outcome.has_files,
-        disk: outcome.fault,
+        disk: notes.last().map(Fault::System).or(outcome.fault),
         source: source.failure(),
         sink: sink.failure(),
     };
@@ -132,11 +142,12 @@ fn run_over_folder<'a, R: Files<File = File>, S: Source, K: Sink>(
     Outcome {
         status,
         has_files: disk.has_files(),
-        fault: disk.failure().map(Fault::System),
+        fault: None,
     }
 }
 
-/// Runs the program over the flash in the folder.
+/// Runs the program over the flash in the folder. One whose file has more bytes than its blocks is left as it is: with
+/// too few of them it would open, at what was written earlier.
 fn run_over_flash<'a, R: Files<File = File>, S: Source, K: Sink>(
     alloc: Global,
     words: &[String],
@@ -145,30 +156,41 @@ fn run_over_flash<'a, R: Files<File = File>, S: Source, K: Sink>(
     sink: &mut K,
     flash: DirFlash<'a, R>,
 ) -> Outcome {
+    let mut flash = flash;
+    match flash.is_too_long() {
+        Ok(false) => {}
+        Ok(true) => return outcome_of(WRONG_SIZE, Some(Fault::Longer), &flash),
+        Err(_) => return outcome_of(NO_DISK, None, &flash),
+    }
     match per_flash(alloc, words, migrations, source, sink, flash) {
         FlashRun::Ran(status, disk) => {
-            let is_full = disk.own_faults() > 0;
-            outcome_of(status, is_full, &disk.into_flash())
+            let fault = (disk.own_faults() > 0).then_some(Fault::Full);
+            outcome_of(status, fault, &disk.into_flash())
         }
-        FlashRun::Unopened(status, flash) => outcome_of(status, false, &flash),
+        FlashRun::Unopened(status, flash) => outcome_of(status, None, &flash),
     }
 }
 
 /// What came of a run over a flash.
 fn outcome_of<'a, R: Files<File = File>>(
     status: u8,
-    is_full: bool,
+    fault: Option<Fault>,
     flash: &DirFlash<'a, R>,
 ) -> Outcome {
-    let fault = match flash.failure() {
-        Some(failure) => Some(Fault::System(failure)),
-        None if is_full => Some(Fault::Full),
-        None => None,
-    };
     Outcome {
         status,
         has_files: flash.has_file(),
         fault,
+    }
+}
+
+/// For what a job holds the folder.
+fn access_of(kind: &JobKind) -> Access {
+    match kind {
+        JobKind::Audit | JobKind::Export(_, _) => Access::Read,
+        JobKind::Run | JobKind::Format | JobKind::Generate(_) | JobKind::Import(_, _) => {
+            Access::Write
+        }
     }
 }
 
@@ -182,12 +204,14 @@ fn no_memory<R: Eprint>(rt: &R) -> u8 {
 fn target_of(alloc: Global, words: &[String]) -> Result<(Target, String), AllocError> {
     match read_words(alloc, words) {
         Ok(job) => {
+            let access = access_of(&job.kind);
             let takes_lines = matches!(job.kind, JobKind::Run);
             let flash = job.flash;
             let dir = job.dir.into_string();
             let copy = dir.clone()?;
             let target = Target {
                 dir,
+                access,
                 takes_lines,
                 flash,
             };
@@ -197,6 +221,7 @@ fn target_of(alloc: Global, words: &[String]) -> Result<(Target, String), AllocE
             let dir = String::new(alloc);
             let target = Target {
                 dir: String::new(alloc),
+                access: Access::Read,
                 takes_lines: false,
                 flash: None,
             };

@@ -1,5 +1,6 @@
 //! Calls of the system that failed.
 
+use std::cell::Cell;
 use std::{fmt, io};
 
 /// What was asked of the system.
@@ -40,6 +41,16 @@ pub enum Part {
     Flash,
 }
 
+impl fmt::Display for Part {
+    fn fmt<W: fmt::Write>(&self, f: &mut fmt::Formatter<W>) -> fmt::Result {
+        match self {
+            Part::Folder => write!(f, "the folder"),
+            Part::File(number) => write!(f, "file f{number}"),
+            Part::Flash => write!(f, "file flash"),
+        }
+    }
+}
+
 /// A call of the system that failed: what was asked, of which part of the folder, and why it failed.
 #[derive(Clone, Copy, Debug)]
 pub struct Failure {
@@ -48,14 +59,65 @@ pub struct Failure {
     pub error: io::Error,
 }
 
+impl Failure {
+    pub(crate) fn new(asked: Asked, part: Part, error: io::Error) -> Failure {
+        Failure { asked, part, error }
+    }
+
+    pub(crate) fn of_kind(asked: Asked, part: Part, kind: io::ErrorKind) -> Failure {
+        Failure::new(asked, part, io::Error::from(kind))
+    }
+
+    /// Whether the program or the system has as many files open as it may have.
+    pub(crate) fn is_too_many_files(&self) -> bool {
+        matches!(self.error.raw_os_error(), Some(OPEN_IN_SYSTEM | OPEN_IN_PROGRAM))
+    }
+}
+
+/// The error of the system where it has as many files open as it may have, in all programs.
+const OPEN_IN_SYSTEM: i32 = 23;
+
+/// The same, in this program.
+const OPEN_IN_PROGRAM: i32 = 24;
+
 impl fmt::Display for Failure {
     fn fmt<W: fmt::Write>(&self, f: &mut fmt::Formatter<W>) -> fmt::Result {
-        let asked = self.asked.words();
-        let error = self.error;
-        match self.part {
-            Part::Folder => write!(f, "{asked} the folder: {error}"),
-            Part::File(number) => write!(f, "{asked} file f{number}: {error}"),
-            Part::Flash => write!(f, "{asked} file flash: {error}"),
+        write!(f, "{} {}: {}", self.asked.words(), self.part, self.error)
+    }
+}
+
+/// Where a disk or a flash notes the last call that failed, for the one who is to be told of it.
+#[derive(Drop)]
+pub struct Notes {
+    last: Cell<Option<Failure>>,
+    is_new: Cell<bool>,
+}
+
+impl Notes {
+    /// No call failed yet.
+    pub fn new() -> Notes {
+        Notes {
+            last: Cell::new(None),
+            is_new: Cell::new(false),
         }
+    }
+
+    /// The last call that failed.
+    pub fn last(&self) -> Option<Failure> {
+        self.last.get()
+    }
+
+    /// The same, where it failed since this was asked before.
+    pub fn news(&self) -> Option<Failure> {
+        if self.is_new.replace(false) {
+            self.last.get()
+        } else {
+            None
+        }
+    }
+
+    pub(crate) fn note(&self, failure: Failure) {
+        self.last.set(Some(failure));
+        self.is_new.set(true);
     }
 }

@@ -3,11 +3,12 @@
 ghost use Rattle.std.specs.Prelude.{◌≡◌, ◌*◌, ◌+◌, IfOk, vec_len};
 ghost use Rattle.per_base.specs.Causes.{CountsFaults};
 
-use crate::failures::{Asked, Failure, Part};
-use crate::folder::{hold, of_folder, read_from};
+use crate::failures::{Asked, Failure, Notes, Part};
+use crate::held::{Access, HeldFolder};
+use crate::open_file::read_from;
 use flash_model::{Flash, FlashFailed};
 use std::alloc::{AllocError, Global};
-use std::fs::{File, OpenOptions};
+use std::fs::File;
 use std::io;
 use std::os::unix::fs::FileExt;
 use std::rt::Files;
@@ -25,31 +26,29 @@ const BLANK: u8 = 0xff;
 /// missing of it reads as blank, and so does all where it is not there; it is made by the first call that changes a
 /// page. Where the folder is not there that call fails. It counts its failures and tells nothing of its pages.
 ///
-/// The first call opens the folder and locks it. Where the file is found it is synced before anything of it is read, and
-/// so is the folder.
+/// The first call opens the folder, locks it and syncs it. Where the file is found it is synced before anything of it
+/// is read.
 ///
 /// A program is one write of the system and one sync of the file's data, an erase likewise; both are durable before
 /// they are answered. Where a page lies behind the end of the file, what is missing up to it is written as blank
-/// before.
+/// before. Where the sync fails, what was written is written again at once, so that the next sync is asked of it.
+///
+/// Where that cannot be done, and where the sync of what was found or of the folder fails, no later call succeeds:
+/// nobody can tell which pages are durable.
 #[derive(Drop)]
 pub struct DirFlash<'a, R: Files<File = File>> {
     store: FlashFile<'a, R>,
     blocks: u32,
     faults: u64,
-    failure: Option<Failure>,
+    notes: &'a Notes,
 }
 
 /// The file, as far as it is known.
 #[derive(Drop)]
 struct FlashFile<'a, R: Files<File = File>> {
-    rt: &'a R,
     alloc: Global,
-    dir: String,
-    /// The folder itself, open and locked.
-    held: Option<File>,
+    held: HeldFolder<'a, R>,
     file: Known,
-    /// Why no call succeeds any more: a sync failed, and what it dropped cannot be written again.
-    lost: Option<Failure>,
 }
 
 #[derive(Drop)]
@@ -63,32 +62,39 @@ enum Known {
 }
 
 impl<'a, R: Files<File = File>> DirFlash<'a, R> {
-    /// The flash of so many blocks in this folder. Nothing is opened yet. No clause is needed: all that a caller relies
-    /// on are the laws of the flash.
-    pub fn new(rt: &'a R, alloc: Global, dir: String, blocks: u32) -> DirFlash<'a, R> {
+    /// The flash of so many blocks in this folder, for this access, with its failures noted. Without access to write,
+    /// every change of a page fails. Nothing is opened yet. No clause is needed: all that a caller relies on are the
+    /// laws of the flash.
+    pub fn noting(
+        rt: &'a R,
+        alloc: Global,
+        dir: String,
+        access: Access,
+        blocks: u32,
+        notes: &'a Notes,
+    ) -> DirFlash<'a, R> {
         DirFlash {
             store: FlashFile {
-                rt,
                 alloc,
-                dir,
-                held: None,
+                held: HeldFolder::new(rt, alloc, dir, access),
                 file: Known::Nothing,
-                lost: None,
             },
             blocks,
             faults: 0,
-            failure: None,
+            notes,
         }
-    }
-
-    /// The last call of the system that failed, for the one who is told of it.
-    pub fn failure(&self) -> Option<Failure> {
-        self.failure
     }
 
     /// Whether the file was seen in the folder, or made.
     pub fn has_file(&self) -> bool {
         matches!(self.store.file, Known::Open(_, _))
+    }
+
+    /// Whether the file has more bytes than the blocks: it was made as a flash of more.
+    pub fn is_too_long(&mut self) -> Result<bool, FlashFailed> {
+        let done = self.store.find();
+        self.counted(done)?;
+        Ok(self.store.size() > place_of(self.blocks, 0))
     }
 
     /// The answer of a call, which is counted where the system failed.
@@ -100,7 +106,7 @@ impl<'a, R: Files<File = File>> DirFlash<'a, R> {
             Ok(()) => Ok(()),
             Err(failure) => {
                 self.faults = self.faults.saturating_add(1);
-                self.failure = Some(failure);
+                self.notes.note(failure);
                 Err(FlashFailed)
             }
         }
@@ -161,6 +167,7 @@ impl<'a, R: Files<File = File>> FlashFile<'a, R> {
 
     /// Writes bytes from a place on, durably.
     fn write(&mut self, at: u64, bytes: &[u8]) -> Result<(), Failure> {
+        self.held.check_writing(Part::Flash)?;
         self.find()?;
         self.make_missing()?;
         self.fill_up_to(at)?;
@@ -220,7 +227,7 @@ impl<'a, R: Files<File = File>> FlashFile<'a, R> {
         if let Err(error) = file.sync_data() {
             let failure = failed(Asked::Sync, error);
             if file.write_all_at(bytes, at).is_err() {
-                self.lost = Some(failure);
+                return Err(self.held.lose(failure));
             }
             return Err(failure);
         }
@@ -228,28 +235,12 @@ impl<'a, R: Files<File = File>> FlashFile<'a, R> {
         Ok(())
     }
 
-    /// Opens and locks the folder, if it is there and not open yet, and syncs what it holds.
+    /// Holds the folder, if it is there and not held yet, and syncs what an earlier process may have left in it.
     fn begin(&mut self) -> Result<(), Failure> {
-        if let Some(failure) = self.lost {
-            return Err(failure);
+        match self.held.take()? {
+            Some(folder) => self.held.keep(folder),
+            None => Ok(()),
         }
-        if self.held.is_some() {
-            return Ok(());
-        }
-        let Some(held) = hold(self.rt, self.dir.as_str())? else {
-            return Ok(());
-        };
-        if let Err(error) = held.sync_all() {
-            return Err(self.lose(of_folder(Asked::Sync, error)));
-        }
-        self.held = Some(held);
-        Ok(())
-    }
-
-    /// No call succeeds any more.
-    fn lose(&mut self, failure: Failure) -> Failure {
-        self.lost = Some(failure);
-        failure
     }
 
     /// Opens the file, if it is there and nobody has looked for it yet, and syncs it.
@@ -258,23 +249,15 @@ impl<'a, R: Files<File = File>> FlashFile<'a, R> {
         if !matches!(self.file, Known::Nothing) {
             return Ok(());
         }
-        let path = path_of(self.alloc, self.dir.as_str()).map_err(|_| out_of_memory())?;
-        match OpenOptions::new()
-            .read(true)
-            .write(true)
-            .open(self.rt, path.as_str())
-        {
-            Ok(file) => match file.sync_data() {
-                Ok(()) => self.keep(file),
-                Err(error) => Err(self.lose(failed(Asked::Sync, error))),
-            },
-            Err(error) => match error.kind() {
-                io::ErrorKind::NotFound => {
-                    self.file = Known::Missing;
-                    Ok(())
-                }
-                _ => Err(failed(Asked::Open, error)),
-            },
+        match self.held.open(Part::Flash)? {
+            Some(file) => {
+                self.held.sync_found(Part::Flash, &file)?;
+                self.keep(file)
+            }
+            None => {
+                self.file = Known::Missing;
+                Ok(())
+            }
         }
     }
 
@@ -283,25 +266,9 @@ impl<'a, R: Files<File = File>> FlashFile<'a, R> {
         if !matches!(self.file, Known::Missing) {
             return Ok(());
         }
-        let path = path_of(self.alloc, self.dir.as_str()).map_err(|_| out_of_memory())?;
-        match OpenOptions::new()
-            .read(true)
-            .write(true)
-            .create_new(true)
-            .open(self.rt, path.as_str())
-        {
-            Ok(file) => {
-                let done = match &self.held {
-                    Some(held) => held.sync_all(),
-                    None => Err(io::Error::from(io::ErrorKind::NotFound)),
-                };
-                match done {
-                    Ok(()) => self.keep(file),
-                    Err(error) => Err(self.lose(of_folder(Asked::Sync, error))),
-                }
-            }
-            Err(error) => Err(failed(Asked::Make, error)),
-        }
+        let file = self.held.make(Part::Flash)?;
+        self.held.sync()?;
+        self.keep(file)
     }
 
     /// Keeps the open file, with its length.
@@ -330,17 +297,8 @@ fn blank_block(alloc: Global) -> Result<Vec<u8>, AllocError>
     vec![in alloc; BLANK; BLOCK_BYTES]
 }
 
-/// The name of the file of the folder.
-fn path_of(alloc: Global, dir: &str) -> Result<String, AllocError> {
-    format!(in alloc; "{dir}/flash")
-}
-
 fn failed(asked: Asked, error: io::Error) -> Failure {
-    Failure {
-        asked,
-        part: Part::Flash,
-        error,
-    }
+    Failure::new(asked, Part::Flash, error)
 }
 
 fn out_of_memory() -> Failure {

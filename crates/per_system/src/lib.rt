@@ -10,9 +10,14 @@
 mod failures;
 mod flash_file;
 mod folder;
+mod held;
+mod open_file;
 mod standard;
+mod streams;
 
-pub use failures::{Asked, Failure, Part};
+pub use failures::{Asked, Failure, Notes, Part};
 pub use flash_file::DirFlash;
 pub use folder::DirDisk;
+pub use held::Access;
 pub use standard::{StdSink, StdSource};
+pub use streams::{Streams, fill_streams};

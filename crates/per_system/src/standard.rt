@@ -1,5 +1,7 @@
 //! Standard input as a source, and standard output as a sink.
 
+ghost use Rattle.std.specs.Prelude.{◌≤◌, IfOk, length};
+
 use per_base::{Failed, Sink, Source};
 use std::io::{self, Read, Write};
 
@@ -36,7 +38,7 @@ impl<T: Read + Drop> Source for StdSource<T> {
     ghost faults = { λ s. s.faults };
 
     fn read(&mut self, out: &mut [u8]) -> Result<usize, Failed> {
-        match self.reader.read(out) {
+        match read_once(&mut self.reader, out) {
             Ok(count) => Ok(count),
             Err(error) => {
                 self.faults = self.faults.saturating_add(1);
@@ -81,7 +83,7 @@ impl<T: Write + Drop> Sink for StdSink<T> {
     ghost faults = { λ s. s.faults };
 
     fn write(&mut self, bytes: &[u8]) -> Result<usize, Failed> {
-        match self.writer.write(bytes) {
+        match write_once(&mut self.writer, bytes) {
             Ok(0) => {
                 self.faults = self.faults.saturating_add(1);
                 self.failure = Some(io::Error::from(io::ErrorKind::WriteZero));
@@ -95,4 +97,30 @@ impl<T: Write + Drop> Sink for StdSink<T> {
             }
         }
     }
+}
+
+/// One read, which is asked for again where a signal came in between.
+fn read_once<T: Read>(reader: &mut T, out: &mut [u8]) -> io::Result<usize>
+    ensures { IfOk result (λ count. count ≤ length out.new) }
+{
+    for _ in 0..u64::MAX {
+        match reader.read(out) {
+            Err(error) if error.kind() == io::ErrorKind::Interrupted => {}
+            done => return done,
+        }
+    }
+    Err(io::Error::from(io::ErrorKind::Interrupted))
+}
+
+/// One write, likewise.
+fn write_once<T: Write>(writer: &mut T, bytes: &[u8]) -> io::Result<usize>
+    ensures { IfOk result (λ count. count ≤ length bytes.now) }
+{
+    for _ in 0..u64::MAX {
+        match writer.write(bytes) {
+            Err(error) if error.kind() == io::ErrorKind::Interrupted => {}
+            done => return done,
+        }
+    }
+    Err(io::Error::from(io::ErrorKind::Interrupted))
 }
