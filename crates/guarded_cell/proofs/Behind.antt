@@ -1,21 +1,20 @@
 -- What stands behind a blanked front, and what the next text over it costs.
-use Rattle.std.proofs.Common.{◌≡◌, ◌≢◌, ◌⊎◌, ℕ, zero, suc, ◌+◌, ◌-◌, ◌*◌, ◌<◌, ◌≤◌, min, List, length, take, drop, replicate}
-use Rattle.std.proofs.Common.{cond, Bool, true, false, get_or, refl, sym, ap, ◌∙◌, subst, inl, inr, ⊎_elim, arith}
-use Rattle.std.proofs.lemmas.List.{ext_get_or, length-take, length-drop, get_or-take, get_or-drop, get_or-replicate}
+use Rattle.std.proofs.Common.{◌≡◌, ℕ, zero, suc, ◌+◌, ◌-◌, ◌*◌, ◌<◌, ◌≤◌, min, List, length, take, drop}
+use Rattle.std.proofs.Common.{cond, Bool, true, false, get_or, refl, sym, ap, ◌∙◌, subst, inr, ⊎_elim, arith}
+use Rattle.std.proofs.lemmas.List.{ext_get_or, length-take, length-drop, get_or-take, get_or-drop}
 use Rattle.std.proofs.lemmas.List.{length-replicate, take_all}
 use Rattle.std.proofs.lemmas.Bool.{cases_Bool, cases_eq}
 use Rattle.std.proofs.lemmas.Slice.Eq.{bytes_eq-Decides}
 use Rattle.std.specs.Int.{div_ceil}
 use Rattle.std.specs.Str.{bytes_eq}
 use Rattle.disk_model.specs.Image.{Image, put_bytes}
-use Rattle.disk_model.specs.Written.{put_outside, put_inside, length-put_bytes, length-put_some}
+use Rattle.disk_model.specs.Written.{put_outside, put_inside, length-put_some}
 use Rattle.disk_model.specs.Place.{slot}
 use Rattle.disk_model.specs.declared.place.Place.{Place}
 use Rattle.changed_runs.specs.Changed.{run_of, run_cost, first_cost, changed_len}
-use Rattle.changed_runs.proofs.Costs.{held_costs, other_costs, cost_within}
-use Rattle.changed_runs.proofs.Joins.{length-run}
+use Rattle.changed_runs.specs.lemmas.RunLaws.{held_costs, other_costs, cost_within, length-run}
 use Rattle.guarded_cell.specs.Register.{own, other}
-use Rattle.guarded_cell.specs.Fronts.{IsChosen, FrontsPut}
+use Rattle.guarded_cell.specs.Fronts.{FrontsPut}
 use Rattle.guarded_cell.specs.Differing.{front_is_blank, front_cost, texts_cost, PutsOver, IsOver}
 use Rattle.hash_guard.specs.SealedText.{sealed}
 use Rattle.std.proofs.Math.Nat.{suc-mul}
@@ -69,7 +68,8 @@ module _ (x y bytes : List ℕ) (longer : length x ≤ length y)
       omega (arith, first_no_more n, cost_no_more n some))
       (cases_eq n 0)
 
-put_front_reads : (old bytes : List ℕ) (i : ℕ) → i < length bytes → get_or (put_bytes old 0 bytes) i 0 ≡ get_or bytes i 0
+put_front_reads : (old bytes : List ℕ) (i : ℕ) → i < length bytes → get_or (put_bytes old 0 bytes) i 0 ≡ get_or bytes
+    i 0
 put_front_reads old bytes i inside =
     let e : 0 + i ≡ i = omega arith in
     subst (λ (p : ℕ). get_or (put_bytes old 0 bytes) p 0 ≡ get_or bytes i 0) e (put_inside old 0 bytes i inside)

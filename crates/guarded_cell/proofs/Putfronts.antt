@@ -1,5 +1,23 @@
 -- How a text gets over the fronts of chosen slots, slot by slot, where only what differs is written.
-use Rattle.std.proofs.Common.{◌≡◌, ◌⊎◌, ℕ, zero, suc, ◌+◌, ◌*◌, ◌<◌, ◌≤◌, List, length, get_or, Bool, true, false, IsTrue, refl}
+use Rattle.std.proofs.Common.{
+  ◌≡◌,
+  ◌⊎◌,
+  ℕ,
+  zero,
+  suc,
+  ◌+◌,
+  ◌*◌,
+  ◌<◌,
+  ◌≤◌,
+  List,
+  length,
+  get_or,
+  Bool,
+  true,
+  false,
+  IsTrue,
+  refl,
+}
 use Rattle.std.proofs.Common.{sym, ap, ◌∙◌, subst, inl, inr, ⊎_elim, le_trans, le_refl, add-one, arith}
 use Rattle.std.proofs.lemmas.Bool.{cases_eq, cases_lt, false≢true}
 use Rattle.disk_model.specs.Image.{Image, put_bytes, put_image, TornImage}
@@ -100,7 +118,8 @@ module _ (place : Place) (parity : ℕ) (chosen : List Bool) (bytes : List ℕ) 
       → texts_cost place parity bytes image k ≤ texts_cost place parity bytes image m
   cost_rises image k zero le =
       let e : k ≡ 0 = omega arith in
-      subst (λ (n : ℕ). texts_cost place parity bytes image n ≤ texts_cost place parity bytes image 0) (sym e) (le_refl _)
+      subst (λ (n : ℕ). texts_cost place parity bytes image n ≤ texts_cost place parity bytes image 0) (sym e)
+      (le_refl _)
   cost_rises image k (suc m) le = ⊎_elim
       (λ below.
       let inner : k ≤ m = omega arith in
@@ -160,7 +179,8 @@ module _ (place : Place) (parity : ℕ) (chosen : List Bool) (bytes : List ℕ) 
       ∙ ap (λ (i : Image). i (slot place k parity)) (quiet d was).full
       ∙ sym (still k w tells)
 
-  module _ {told : Bool} {start mid new : Medium} (k : ℕ) (lt : k < place.copies) (is_set : get_or chosen k false ≡ true)
+  module _ {told : Bool} {start mid new : Medium} (k : ℕ) (lt : k < place.copies) (is_set : get_or chosen k false ≡
+      true)
       (law : IsLawful told mid) (w : IsPutting place parity k chosen bytes told start mid)
       (cases : IsTrue told → IsWhole (slot place k parity) mid
       → Follows (FrontCase (slot place k parity) bytes) mid.now (new.since mid.moment))

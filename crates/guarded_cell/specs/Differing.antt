@@ -1,5 +1,23 @@
 -- A text put over the fronts of slots, of which only the runs are written that differ.
-use Rattle.std.specs.Prelude.{◌≡◌, ◌≢◌, ◌⊎◌, ℕ, zero, suc, ◌+◌, List, length, take, replicate, Bool, true, false, get_or, ◌<◌, if◌then◌else◌}
+use Rattle.std.specs.Prelude.{
+  ◌≡◌,
+  ◌≢◌,
+  ◌⊎◌,
+  ℕ,
+  zero,
+  suc,
+  ◌+◌,
+  List,
+  length,
+  take,
+  replicate,
+  Bool,
+  true,
+  false,
+  get_or,
+  ◌<◌,
+  if◌then◌else◌,
+}
 use Rattle.std.specs.Str.{bytes_eq}
 use Rattle.disk_model.specs.Image.{Image, put_bytes}
 use Rattle.disk_model.specs.Case.{Case, IsSettledAt}

@@ -48,7 +48,8 @@ struct Folder<'a, R: Files<File = File>> {
 }
 
 impl<'a, R: Files<File = File>> DirDisk<'a, R> {
-    /// The disk in this folder, which is read and written. Nothing is opened yet. No clause is needed: all that a caller
+    /// The disk in this folder, which is read and written. Nothing is opened yet. No clause is needed: all that a
+    /// caller
     /// relies on are the laws of the disk.
     pub fn new(rt: &'a R, alloc: Global, dir: String) -> DirDisk<'a, R> {
         DirDisk::over(HeldFolder::new(rt, alloc, dir, Access::Write), alloc, None)

@@ -15,7 +15,8 @@ use Rattle.deploy_laws.specs.Stands.{IsRootSpared, Stands, StandsCase, same_root
 use Rattle.deploy_rows.specs.Rows.{reopened}
 use Rattle.run_model.specs.AppLaws.{AppLaws}
 use Rattle.run_model.specs.Endings.{Ending}
-use Rattle.run_model.specs.Moments.{AreImaged, AreSoundDoubts, AtMoment, Between, InDoubt, IsMomentOf, IsSideImaged, IsWorldImaged, OrBefore, last_of}
+use Rattle.run_model.specs.Moments.{AreImaged, AreSoundDoubts, AtMoment, Between, InDoubt, IsMomentOf, IsSideImaged,
+    IsWorldImaged, OrBefore, last_of}
 use Rattle.run_model.specs.RunLaws.{imaged_last}
 use Rattle.run_model.specs.Starting.{at_entry, between_worlds}
 use Rattle.run_model.specs.Lines.{lines_of}
@@ -124,7 +125,8 @@ abbrev pub pairs_of_run : {rules : List Rule} → {answers : Answers} → (app :
     → Ran rules answers app old new → (earlier : List Pair) → List Pair
 pairs_of_run app old new run earlier = pairs_behind app (world_at old.image) run.disk.reached run.disk.next earlier
 
--- A disk that was formatted once, and then run after run. A run ends by itself, by a process that is killed, or by power
+-- A disk that was formatted once, and then run after run. A run ends by itself, by a process that is killed, or by
+-- power
 -- that is lost: as over a disk that fails from then on. The next begins with some of what is pending, over what reads
 -- then give; or behind a stop, with nothing pending and some files damaged.
 pub data Life {D : Type 0} (medium : D → Medium) (rules : List Rule) (answers : Answers) (app : ℕ)

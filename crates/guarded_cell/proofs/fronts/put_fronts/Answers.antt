@@ -18,7 +18,8 @@ returns-in_err-write_front-clause-during g c =
     let new = g.D.Disk.medium c.write_front.new.disk in
     let flag : get_or c.args.chosen.now c.loop-copy.copy false ≡ true = search rules in
     let write = subst (λ (f : ℕ). IsTrue g.D.Disk.told → IsWhole f mid
-    → Follows (FrontCase f c.args.bytes.now) mid.now (new.since mid.moment)) c.slot.ensures c.write_front.ensures.during in
+    → Follows (FrontCase f c.args.bytes.now) mid.now (new.since mid.moment)) c.slot.ensures
+    c.write_front.ensures.during in
     let cost = subst (λ (f : ℕ). IsTrue g.D.Disk.told → new.written
     ≤ mid.written + front_cost (mid.image f) c.args.bytes.now) c.slot.ensures c.write_front.ensures.differing in
     cut_during c.args.place c.args.parity c.args.chosen.now c.args.bytes.now c.loop-copy.copy (omega arith) flag
@@ -31,7 +32,8 @@ returns-in_err-write_front-clause-differing g c =
     let new = g.D.Disk.medium c.write_front.new.disk in
     let flag : get_or c.args.chosen.now c.loop-copy.copy false ≡ true = search rules in
     let write = subst (λ (f : ℕ). IsTrue g.D.Disk.told → IsWhole f mid
-    → Follows (FrontCase f c.args.bytes.now) mid.now (new.since mid.moment)) c.slot.ensures c.write_front.ensures.during in
+    → Follows (FrontCase f c.args.bytes.now) mid.now (new.since mid.moment)) c.slot.ensures
+    c.write_front.ensures.during in
     let cost = subst (λ (f : ℕ). IsTrue g.D.Disk.told → new.written
     ≤ mid.written + front_cost (mid.image f) c.args.bytes.now) c.slot.ensures c.write_front.ensures.differing in
     cut_costs c.args.place c.args.parity c.args.chosen.now c.args.bytes.now c.loop-copy.copy (omega arith) flag
@@ -44,7 +46,8 @@ loop-copy-preserved g c =
     let new = g.D.Disk.medium c.write_front.new.disk in
     let flag : get_or c.args.chosen.now c.loop-copy.copy false ≡ true = search rules in
     let write = subst (λ (f : ℕ). IsTrue g.D.Disk.told → IsWhole f mid
-    → Follows (FrontCase f c.args.bytes.now) mid.now (new.since mid.moment)) c.slot.ensures c.write_front.ensures.during in
+    → Follows (FrontCase f c.args.bytes.now) mid.now (new.since mid.moment)) c.slot.ensures
+    c.write_front.ensures.during in
     let cost = subst (λ (f : ℕ). IsTrue g.D.Disk.told → new.written
     ≤ mid.written + front_cost (mid.image f) c.args.bytes.now) c.slot.ensures c.write_front.ensures.differing in
     putting_puts c.args.place c.args.parity c.args.chosen.now c.args.bytes.now c.loop-copy.copy (omega arith) flag

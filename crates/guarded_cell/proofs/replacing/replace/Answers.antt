@@ -72,7 +72,8 @@ returns-in_err-write_durably-clause-brings g c = record {
         (first_moment c.args.place c.args.generation c.args.text.now old mid new
         c.requires.positive (omega arith) c.requires.short c.args.lacking.now c.args.stale.now c.args.sealed_text.now
         c.requires.text
-        (c.requires.lacking tells) (c.requires.stale tells) _ quiet (λ x. put) (c.in_ok-put_durably.ensures.during tells quiet))
+        (c.requires.lacking tells) (c.requires.stale tells) _ quiet (λ x. put) (c.in_ok-put_durably.ensures.during
+        tells quiet))
         (second_moment c.args.place c.args.generation c.args.text.now old mid new
         c.requires.positive (omega arith) c.requires.short c.args.lacking.now c.args.stale.now c.args.sealed_text.now
         c.requires.text
@@ -131,7 +132,8 @@ returns-clause-brings g c = record {
         (first_moment c.args.place c.args.generation c.args.text.now old mid new
         c.requires.positive (omega arith) c.requires.short c.args.lacking.now c.args.stale.now c.args.sealed_text.now
         c.requires.text
-        (c.requires.lacking tells) (c.requires.stale tells) _ quiet (λ x. put) (c.in_ok-put_durably.ensures.during tells quiet))
+        (c.requires.lacking tells) (c.requires.stale tells) _ quiet (λ x. put) (c.in_ok-put_durably.ensures.during
+        tells quiet))
         (second_moment c.args.place c.args.generation c.args.text.now old mid new
         c.requires.positive (omega arith) c.requires.short c.args.lacking.now c.args.stale.now c.args.sealed_text.now
         c.requires.text

@@ -11,4 +11,5 @@ returns-clause-one g c a less opened opens = open_next c.applications_stand.ensu
     (g.D.Disk.medium c.args.new.now) less opened opens
 
 pub returns-clause-all : goal.returns-clause-all
-returns-clause-all g c opened = opened_keeps c.applications_stand.ensures 8 (g.D.Disk.medium c.args.old.now) (g.D.Disk.medium c.args.new.now) opened
+returns-clause-all g c opened = opened_keeps c.applications_stand.ensures 8 (g.D.Disk.medium c.args.old.now)
+    (g.D.Disk.medium c.args.new.now) opened
