@@ -10,7 +10,7 @@ mod opening;
 mod refusals;
 
 use odometers::Odometer;
-use per_system::DirDisk;
+use per_system::{DirDisk, fill_streams};
 use refusals::Refusal;
 use std::env;
 use std::process::ExitCode;
@@ -28,6 +28,7 @@ fn main(rt: HostRuntime) -> ExitCode {
 
 /// Opens the odometer of the folder, and drives by each line.
 fn run(rt: &HostRuntime) -> Result<(), Refusal> {
+    let _streams = fill_streams(rt).map_err(Refusal::Output)?;
     let alloc = rt.alloc();
     let disk = DirDisk::new(rt, alloc, folder(rt)?);
     let mut odometer = Odometer::open(alloc, disk, seconds(rt))?;

@@ -17,7 +17,7 @@ pub(crate) enum Refusal {
     Words,
     #[error("a line is no number of kilometres, from 0 to 4294967295")]
     NoNumber,
-    #[error("the disk failed: the folder is not there, or cannot be read or written")]
+    #[error("the disk failed: the folder is not there, is in use, or cannot be read or written")]
     Device,
     #[error("memory ran out")]
     OutOfMemory,

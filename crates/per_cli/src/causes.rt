@@ -48,7 +48,12 @@ pub(crate) struct Ended<'a> {
 
 /// Says why a command was answered by error 4.
 pub(crate) fn say_answered<R: Eprint>(rt: &R, dir: &str, fault: Option<Fault>) -> io::Result<()> {
-    say_failure(rt, "error 4 was answered, since the disk failed", dir, fault)
+    say_failure(
+        rt,
+        "error 4 was answered, since the disk failed",
+        dir,
+        fault,
+    )
 }
 
 /// Says why a run ended where its status is not 0. At status 0 it says that a folder is not there or was not formatted,

@@ -108,7 +108,8 @@ Status
   0 all lines were handled and answered, or the job was done
   1 the words are refused
   2 a line is outside the grammar; bad-line and its number are the last reply
-  3 the disk failed while the program started or formatted, or in an audit, an export or an import
+  3 the disk failed while the program started or formatted, or in an audit, an export or an import,
+    or another run holds the folder
   4 memory ran out
   5 the input failed
   6 the output failed
@@ -116,7 +117,7 @@ Status
   8 the audit found something; its lines say what
   9 the export or the import was refused; its line says why
  10 the flash cannot be opened: too many pages of files, or no spare block
- 11 the flash has fewer than 4 blocks, or more than 4096
+ 11 the flash has fewer than 4 blocks, or more than 4096, or its file has more blocks than it
  12 the system does not give the words
  13 the program could not be built";
 

@@ -70,7 +70,10 @@ impl Failure {
 
     /// Whether the program or the system has as many files open as it may have.
     pub(crate) fn is_too_many_files(&self) -> bool {
-        matches!(self.error.raw_os_error(), Some(OPEN_IN_SYSTEM | OPEN_IN_PROGRAM))
+        matches!(
+            self.error.raw_os_error(),
+            Some(OPEN_IN_SYSTEM | OPEN_IN_PROGRAM)
+        )
     }
 }
 

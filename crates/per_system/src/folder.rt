@@ -88,7 +88,8 @@ impl<'a, R: Files<File = File>> DirDisk<'a, R> {
 
     /// Counts a call that failed, and notes why.
     fn fail(&mut self, failure: Failure) -> DiskFailed
-        ensures { Rose self.old.faults self.new.faults }
+        ensures later { self.old.faults ≤ self.new.faults }
+        ensures rose { Rose self.old.faults self.new.faults }
     {
         self.faults = self.faults.saturating_add(1);
         if let Some(notes) = self.notes {
@@ -143,9 +144,11 @@ impl<'a, R: Files<File = File>> Folder<'a, R> {
     {
         self.find(number)?;
         match self.files.get(&number) {
-            Some(open) => open
-                .read(at, out)
-                .map_err(|error| Failure::new(Asked::Read, Part::File(number), error)),
+            Some(open) => open.read(at, out).map_err(|error| Failure::new(
+                Asked::Read,
+                Part::File(number),
+                error,
+            )),
             None => Ok(0),
         }
     }
@@ -163,20 +166,18 @@ impl<'a, R: Files<File = File>> Folder<'a, R> {
             Some(open) => open
                 .write(at, bytes)
                 .map_err(|error| Failure::new(Asked::Write, part, error)),
-            None => Err(Failure::of_kind(
-                Asked::Write,
-                part,
-                io::ErrorKind::NotFound,
-            )),
+            None => Err(Failure::of_kind(Asked::Write, part, io::ErrorKind::NotFound)),
         }
     }
 
     fn size(&mut self, number: u32) -> Result<u64, Failure> {
         self.find(number)?;
         match self.files.get_mut(&number) {
-            Some(open) => open
-                .size()
-                .map_err(|error| Failure::new(Asked::Size, Part::File(number), error)),
+            Some(open) => open.size().map_err(|error| Failure::new(
+                Asked::Size,
+                Part::File(number),
+                error,
+            )),
             None => Ok(0),
         }
     }
@@ -288,10 +289,7 @@ impl<'a, R: Files<File = File>> Folder<'a, R> {
         if self.files.len() >= OPEN_FILES {
             self.close_files()?;
         }
-        match self
-            .files
-            .insert(number, OpenFile::new(self.alloc, file))
-        {
+        match self.files.insert(number, OpenFile::new(self.alloc, file)) {
             Ok(_) => {
                 self.has_files = true;
                 Ok(())

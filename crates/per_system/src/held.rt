@@ -109,10 +109,7 @@ impl<'a, R: Files<File = File>> HeldFolder<'a, R> {
             Err(error) => match error.kind() {
                 io::ErrorKind::InvalidInput if part != Part::Folder => Ok(()),
                 io::ErrorKind::InvalidInput | io::ErrorKind::ReadOnlyFilesystem
-                    if self.access == Access::Read =>
-                {
-                    Ok(())
-                }
+                    if self.access == Access::Read => { Ok(()) }
                 _ => Err(self.lose(Failure::new(Asked::Sync, part, error))),
             },
         }
@@ -149,9 +146,11 @@ impl<'a, R: Files<File = File>> HeldFolder<'a, R> {
 
     /// A file of the folder, opened, if it is there.
     pub(crate) fn open(&self, part: Part) -> Result<Option<File>, Failure> {
-        let path = self
-            .path(part)
-            .map_err(|_| Failure::of_kind(Asked::Open, part, io::ErrorKind::OutOfMemory))?;
+        let path = self.path(part).map_err(|_| Failure::of_kind(
+            Asked::Open,
+            part,
+            io::ErrorKind::OutOfMemory,
+        ))?;
         let can_write = self.access == Access::Write;
         match OpenOptions::new()
             .read(true)
@@ -169,9 +168,11 @@ impl<'a, R: Files<File = File>> HeldFolder<'a, R> {
         if self.folder.is_none() {
             return Err(Failure::of_kind(Asked::Make, part, io::ErrorKind::NotFound));
         }
-        let path = self
-            .path(part)
-            .map_err(|_| Failure::of_kind(Asked::Make, part, io::ErrorKind::OutOfMemory))?;
+        let path = self.path(part).map_err(|_| Failure::of_kind(
+            Asked::Make,
+            part,
+            io::ErrorKind::OutOfMemory,
+        ))?;
         OpenOptions::new()
             .read(true)
             .write(true)
