@@ -17,13 +17,19 @@ use file_storage::{Files, OpenedFiles, open_files};
 use per_base::{Fresh, Holder, Name, OpenKind, OpenMode, PerError, Scope, Sequence, StoreKind};
 use std::alloc::{AllocError, Global};
 
-/// `scope BYTES`: writes the bytes into a new file by a handle that its scope closes, and reads them by another; then
-/// the number of a handle that stays open, what a writer is refused for beside it, that it is closed, and the number of
-/// the next one.
+/// `scope BYTES`: whether a new file may be opened, and may have 61 bytes and 62, where 64 are for it and its name;
+/// writes the bytes into it by a handle that its scope closes, and reads them by another; then the number of a handle
+/// that stays open, what a writer is refused for beside it, that it is closed, and the number of the next one.
 pub fn scope(alloc: Global, word: &str) -> Result<String, Trouble> {
     let bytes = bytes_of(alloc, word)?;
     let name = name_of(alloc, "map")?;
     let mut files = opened(alloc)?;
+    let may = done(
+        alloc,
+        files.can_open(&name, OpenKind::Write, OpenMode::AT_THE_BEGINNING),
+    )?;
+    let fits = done(alloc, files.would_fit(&name, 61))?;
+    let exceeds = done(alloc, files.would_fit(&name, 62))?;
     let first = done(alloc, written(&mut files, &name, &bytes))?;
     let second = shown(alloc, read(&mut files, &name))?;
     let reader = numbered(
@@ -36,7 +42,9 @@ pub fn scope(alloc: Global, word: &str) -> Result<String, Trouble> {
         alloc,
         files.open_write_only(&name, OpenMode::AT_THE_BEGINNING, 0),
     )?;
-    Ok(format!(in alloc; "{first} {second} {reader} {beside} {closed} {writer}")?)
+    Ok(format!(in alloc;
+        "{may} {fits} {exceeds} {first} {second} {reader} {beside} {closed} {writer}"
+    )?)
 }
 
 // Opens the file for writing, writes the bytes, and closes it by the end of the scope.
@@ -81,6 +89,9 @@ fn refusal(alloc: Global, error: PerError) -> Result<String, Trouble> {
         } => Ok(format!(in alloc; "busy:{number}")?),
         PerError::IsEof => text(alloc, "is-eof"),
         PerError::OutOfMemory => Err(Trouble::OutOfMemory),
+        PerError::OutOfStorageSpace { needed, allowed } => {
+            Ok(format!(in alloc; "space:{needed}/{allowed}")?)
+        }
         _ => text(alloc, "refused"),
     }
 }
