@@ -3,7 +3,7 @@
 use crate::anywhere::twice;
 use crate::contents::{content, shared};
 use crate::indexes::index;
-use crate::runs::storage_session;
+use crate::scopes::scope;
 use crate::seals::{hash_of, sealed, verified};
 use crate::sessions::session;
 use crate::sizes::{name, size};
@@ -42,7 +42,7 @@ fn case(alloc: Global, line: &str) -> Result<String, Trouble> {
         "content" => content(alloc, rest),
         "shared" => shared(alloc, rest),
         "index" => index(alloc, rest),
-        "session" => storage_session(alloc, rest),
+        "scope" => scope(alloc, rest),
         "stops" => stops(alloc, rest),
         _ => Err(Trouble::NoCase),
     }

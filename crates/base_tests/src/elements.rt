@@ -9,8 +9,8 @@ use element_store::Shape;
 use per_base::{Bytes, Cause, Change, FileInfo, Fresh, Name, PerError, StoreKind};
 use std::alloc::Global;
 
-/// A name.
-pub fn name_of(alloc: Global, word: &str) -> Result<Name, Trouble> {
+// A name.
+fn name_of(alloc: Global, word: &str) -> Result<Name, Trouble> {
     match Name::new(alloc, word) {
         Ok(name) => Ok(name),
         Err(PerError::BadName) => Err(Trouble::NoCase),
@@ -24,13 +24,8 @@ pub fn element_of(alloc: Global, kind: StoreKind, word: &str) -> Result<Fresh, T
     element(alloc, kind, name, bytes_of(alloc, bytes)?)
 }
 
-/// An element of this name and these bytes, with an info where the kind asks for one.
-pub fn element(
-    alloc: Global,
-    kind: StoreKind,
-    name: &str,
-    bytes: Vec<u8>,
-) -> Result<Fresh, Trouble> {
+// An element of this name and these bytes, with an info where the kind asks for one.
+fn element(alloc: Global, kind: StoreKind, name: &str, bytes: Vec<u8>) -> Result<Fresh, Trouble> {
     let info = match kind {
         StoreKind::Keys => None,
         StoreKind::Files => Some(FileInfo {

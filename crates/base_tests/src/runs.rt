@@ -1,36 +1,25 @@
-//! Sessions, one word after the other.
+//! The words of a course, one after the other.
 
 ghost use Rattle.std.specs.Prelude.{IfOk};
 ghost use Rattle.base_tests.specs.Usage.{IsKept};
 
 use crate::images::{fill, flip, hold};
 use crate::plans::{Plan, plan_of};
-use crate::usage::{Kept, created, disk_of, inspected, opened, rebuilt, salvaged, stopped, used};
-use crate::views::seens_text;
-use case_words::{Trouble, add, cut, number, text};
+use crate::usage::{Kept, created, disk_of, opened, rebuilt, stopped, used};
+use case_words::{Trouble, cut, number, text};
 use disk_model::MemDisk;
-use guarded_cell::{CellError, look};
 use std::alloc::Global;
 
-/// `session PLAN WORD ..`: what each word answers, from a disk of empty files on.
-pub fn storage_session(alloc: Global, words: &str) -> Result<String, Trouble> {
-    let (plan, words) = cut(words, ' ');
-    let (_kept, said) = run(alloc, plan_of(plan)?, words)?;
-    Ok(said)
-}
-
-/// What the words leave, and what each answers.
-pub fn run(alloc: Global, plan: Plan, words: &str) -> Result<(Kept, String), Trouble>
-    ensures { IfOk result (λ next. IsKept next.0) }
+/// What the words leave, from a disk of empty files on.
+pub fn run(alloc: Global, plan: Plan, words: &str) -> Result<Kept, Trouble>
+    ensures { IfOk result IsKept }
 {
     let mut kept = Kept::Closed(MemDisk::new(alloc));
-    let mut said = String::new(alloc);
     for word in words.split(' ') {
-        let (next, answer) = step(alloc, plan, kept, word)?;
-        add(&mut said, answer.as_str())?;
+        let (next, _answer) = step(alloc, plan, kept, word)?;
         kept = next;
     }
-    Ok((kept, said))
+    Ok(kept)
 }
 
 /// One word: what it leaves, and what it answers.
@@ -42,8 +31,7 @@ pub fn step(alloc: Global, plan: Plan, kept: Kept, word: &str) -> Result<(Kept, 
     match verb {
         "create" => created(alloc, plan, disk_of(kept), rest),
         "open" => opened(alloc, plan, disk_of(kept)),
-        "inspect" => inspected(alloc, plan, kept),
-        "put" | "remove" | "within" | "many" | "has" => used(alloc, kept, verb, rest),
+        "put" => used(alloc, kept, rest),
         "stop" => {
             let kept = stopped(kept, number(rest)?);
             Ok((kept, text(alloc, "ok")?))
@@ -80,23 +68,11 @@ fn apart(
     rest: &str,
 ) -> Result<String, Trouble> {
     match verb {
-        "salvage" => return salvaged(alloc, plan, disk),
         "rebuild" => return rebuilt(alloc, plan, disk, rest),
-        "texts" => return texts(alloc, plan, disk),
         "hold" => hold(alloc, disk, rest)?,
         "fill" => fill(alloc, disk, rest)?,
         "flip" => flip(alloc, disk, rest)?,
         _ => return Err(Trouble::NoCase),
     }
     text(alloc, "ok")
-}
-
-// `texts`: the texts that copies hold.
-fn texts(alloc: Global, plan: Plan, disk: &mut MemDisk) -> Result<String, Trouble> {
-    let shape = plan.shape(alloc)?;
-    match look(alloc, disk, shape.place) {
-        Ok(looked) => seens_text(alloc, &looked.seens),
-        Err(CellError::OutOfMemory) => Err(Trouble::OutOfMemory),
-        Err(_) => text(alloc, "failed"),
-    }
 }

@@ -67,8 +67,7 @@ fn cut_part(text: &str) -> (&str, &str) {
 
 // What an opening finds after these words.
 fn state_after(alloc: Global, plan: Plan, words: &str) -> Result<String, Trouble> {
-    let (kept, _said) = run(alloc, plan, words)?;
-    state(alloc, plan, disk_of(kept))
+    state(alloc, plan, disk_of(run(alloc, plan, words)?))
 }
 
 fn follow_all(alloc: Global, course: Course<'_>) -> Result<String, Trouble> {
@@ -102,7 +101,7 @@ fn follow(alloc: Global, course: Course<'_>, way: &str) -> Result<Option<String>
 
 // The disk on which the word is stopped after so many calls, and whether it succeeded.
 fn stopped_at(alloc: Global, course: Course<'_>, passing: u64) -> Result<(MemDisk, bool), Trouble> {
-    let (kept, _said) = run(alloc, course.plan, course.earlier)?;
+    let kept = run(alloc, course.plan, course.earlier)?;
     let (kept, said) = step(alloc, course.plan, stopped(kept, passing), course.word)?;
     Ok((disk_of(kept), said.as_str() != "failed"))
 }

@@ -1,18 +1,17 @@
 //! Storages on a disk in memory, made and changed one element at a time.
 
-ghost use Rattle.std.specs.Prelude.{◌≡◌, IfOk, OnOk};
-ghost use Rattle.disk_model.specs.Memory.{mem_medium};
+ghost use Rattle.std.specs.Prelude.{IfOk};
 ghost use Rattle.element_state.specs.Conditions.{IsShape, AreChanges};
 ghost use Rattle.element_store.specs.Stores.{shape_of, view_in};
 ghost use Rattle.base_tests.specs.Usage.{IsInUse, IsKept};
 
-use crate::elements::{alone, element, element_of, name_of, takes};
+use crate::elements::{alone, element_of, takes};
 use crate::plans::Plan;
-use crate::views::{fault, put_reports, store_text, view_text};
-use case_words::{Trouble, cut, number, small, text};
+use crate::views::fault;
+use case_words::{Trouble, text};
 use disk_model::MemDisk;
-use element_store::{OpenedStore, Shape, Store, create, inspect, open_store, rebuild, salvage};
-use per_base::{Change, Fault, StoreKind};
+use element_store::{OpenedStore, Shape, Store, create, open_store, rebuild, salvage};
+use per_base::{Change, Fault};
 use std::alloc::Global;
 
 /// A storage that is in use on a disk in memory.
@@ -78,7 +77,7 @@ pub fn created(
     }
 }
 
-/// `open`: opens the storage, with what is reported.
+/// `open`: opens the storage.
 pub fn opened(alloc: Global, plan: Plan, mut disk: MemDisk) -> Result<(Kept, String), Trouble>
     ensures { IfOk result (λ next. IsKept next.0) }
 {
@@ -87,62 +86,20 @@ pub fn opened(alloc: Global, plan: Plan, mut disk: MemDisk) -> Result<(Kept, Str
         Ok(
             OpenedStore {
                 store,
-                reports,
+                reports: _,
                 before: _,
             },
-        ) => {
-            let mut said = store_text(alloc, &store)?;
-            put_reports(alloc, &mut said, &reports)?;
-            Ok((Kept::Open(InUse { disk, store, shape }), said))
-        }
+        ) => shown(alloc, InUse { disk, store, shape }),
         Err(error) => Ok((Kept::Closed(disk), fault(alloc, error)?)),
     }
 }
 
-// A storage in use, with what it shows.
+// A storage in use, after a call that was done.
 fn shown(alloc: Global, kept: InUse) -> Result<(Kept, String), Trouble>
     requires { IsInUse kept }
     ensures { IfOk result (λ next. IsKept next.0) }
 {
-    let said = store_text(alloc, &kept.store)?;
-    Ok((Kept::Open(kept), said))
-}
-
-/// `inspect`: what the copies stand for.
-pub fn inspected(alloc: Global, plan: Plan, kept: Kept) -> Result<(Kept, String), Trouble>
-    requires { IsKept kept }
-    ensures { IfOk result (λ next. IsKept next.0) }
-{
-    match kept {
-        Kept::Closed(mut disk) => {
-            let said = seen(alloc, &mut disk, &plan.shape(alloc)?)?;
-            Ok((Kept::Closed(disk), said))
-        }
-        Kept::Open(mut kept) => {
-            let said = kept.inspected(alloc)?;
-            Ok((Kept::Open(kept), said))
-        }
-    }
-}
-
-// What the copies stand for.
-fn seen(alloc: Global, disk: &mut MemDisk, shape: &Shape) -> Result<String, Trouble>
-    requires { IsShape shape.now }
-    ensures { (mem_medium disk.new).image ≡ (mem_medium disk.old).image }
-{
-    match inspect(alloc, disk, shape) {
-        Ok(view) => view_text(alloc, &view),
-        Err(error) => fault(alloc, error),
-    }
-}
-
-/// `salvage`: the same, or else what the first text that fits stands for.
-pub fn salvaged(alloc: Global, plan: Plan, disk: &mut MemDisk) -> Result<String, Trouble> {
-    match salvage(alloc, disk, &plan.shape(alloc)?) {
-        Ok(Some(view)) => view_text(alloc, &view),
-        Ok(None) => text(alloc, "none"),
-        Err(error) => fault(alloc, error),
-    }
+    Ok((Kept::Open(kept), text(alloc, "ok")?))
 }
 
 /// `rebuild:NAME=BYTES`: makes the storage anew with one element, beside what the place holds.
@@ -166,14 +123,6 @@ pub fn rebuilt(
 }
 
 impl InUse {
-    // What the copies stand for.
-    fn inspected(&mut self, alloc: Global) -> Result<String, Trouble>
-        requires { IsInUse self.old }
-        ensures { OnOk result (IsInUse self.new) }
-    {
-        seen(alloc, &mut self.disk, &self.shape)
-    }
-
     // The change alone, where the storage can take it.
     fn single(&self, alloc: Global, change: Change) -> Result<Vec<Change>, Trouble>
         requires { IsInUse self.now }
@@ -206,62 +155,13 @@ impl InUse {
         }
     }
 
-    // `put:NAME=BYTES`, `remove:NAME`: commits another content of an element, or that it goes.
-    fn changed(self, alloc: Global, verb: &str, word: &str) -> Result<Kept, Trouble>
+    // Commits another content of an element.
+    fn changed(self, alloc: Global, word: &str) -> Result<Kept, Trouble>
         requires { IsInUse self }
         ensures { IfOk result IsKept }
     {
-        let change = change_of(alloc, self.shape.kind, verb, word)?;
-        self.commit(alloc, change)
-    }
-
-    // `within:BOUND:VERB:WORD`: the same, which is to write at most so many bytes.
-    fn within(self, alloc: Global, rest: &str) -> Result<(Kept, String), Trouble>
-        requires { IsInUse self }
-        ensures { IfOk result (λ next. IsKept next.0) }
-    {
-        let (bound, rest) = cut(rest, ':');
-        let (verb, word) = cut(rest, ':');
-        let bound = number(bound)?;
-        let before = self.disk.written();
-        let kept = in_use(self.changed(alloc, verb, word)?)?;
-        let written = kept.disk.written().saturating_sub(before);
-        if written > bound {
-            let said = format!(in alloc; "wrote:{written}")?;
-            return Ok((Kept::Open(kept), said));
-        }
-        shown(alloc, kept)
-    }
-
-    // `many:TIMES:NAME`: commits so often the number of the commit, in four bytes.
-    fn changed_often(self, alloc: Global, rest: &str) -> Result<(Kept, String), Trouble>
-        requires { IsInUse self }
-        ensures { IfOk result (λ next. IsKept next.0) }
-    {
-        let (times, name) = cut(rest, ':');
-        let mut kept = self;
-        for count in 0..small(times)? {
-            kept = kept.numbered(alloc, name, count)?;
-        }
-        shown(alloc, kept)
-    }
-
-    fn numbered(self, alloc: Global, name: &str, count: u32) -> Result<InUse, Trouble>
-        requires { IsInUse self }
-        ensures { IfOk result IsInUse }
-    {
-        let bytes = Vec::from_slice(alloc, &count.to_le_bytes())?;
-        let fresh = element(alloc, self.shape.kind, name, bytes)?;
-        in_use(self.commit(alloc, Change::Put(fresh))?)
-    }
-
-    // `has:NAME`: whether there is such an element.
-    fn has(&self, alloc: Global, word: &str) -> Result<String, Trouble>
-        requires { IsInUse self.now }
-    {
-        let name = name_of(alloc, word)?;
-        let is_there = self.store.entry(&name).is_some();
-        text(alloc, if is_there { "yes" } else { "no" })
+        let fresh = element_of(alloc, self.shape.kind, word)?;
+        self.commit(alloc, Change::Put(fresh))
     }
 }
 
@@ -276,32 +176,16 @@ fn in_use(kept: Kept) -> Result<InUse, Trouble>
     }
 }
 
-fn change_of(alloc: Global, kind: StoreKind, verb: &str, word: &str) -> Result<Change, Trouble> {
-    match verb {
-        "put" => Ok(Change::Put(element_of(alloc, kind, word)?)),
-        "remove" => Ok(Change::Remove(name_of(alloc, word)?)),
-        _ => Err(Trouble::NoCase),
-    }
-}
-
-/// A word for a storage in use.
-pub fn used(alloc: Global, kept: Kept, verb: &str, rest: &str) -> Result<(Kept, String), Trouble>
+/// `put:NAME=BYTES`: commits another content of an element of a storage in use.
+pub fn used(alloc: Global, kept: Kept, word: &str) -> Result<(Kept, String), Trouble>
     requires { IsKept kept }
     ensures { IfOk result (λ next. IsKept next.0) }
 {
     let kept = in_use(kept)?;
-    match verb {
-        "within" => kept.within(alloc, rest),
-        "many" => kept.changed_often(alloc, rest),
-        "has" => {
-            let said = kept.has(alloc, rest)?;
-            Ok((Kept::Open(kept), said))
-        }
-        _ => told(alloc, kept.changed(alloc, verb, rest)?),
-    }
+    told(alloc, kept.changed(alloc, word)?)
 }
 
-// With what the storage shows; where it is closed, its disk failed.
+// Whether it is still in use; where it is closed, its disk failed.
 fn told(alloc: Global, kept: Kept) -> Result<(Kept, String), Trouble>
     requires { IsKept kept }
     ensures { IfOk result (λ next. IsKept next.0) }

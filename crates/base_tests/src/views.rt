@@ -2,8 +2,7 @@
 
 use case_words::{Trouble, bytes_text, numbers_text};
 use element_store::{Store, StoreError, View};
-use guarded_cell::Seen;
-use per_base::{Content, Entry, Report, ReportKind};
+use per_base::{Content, Entry};
 use std::alloc::Global;
 use std::fmt::Write;
 
@@ -59,48 +58,6 @@ fn content_text(alloc: Global, content: &Content) -> Result<String, Trouble> {
     };
     let bytes = bytes_text(alloc, bytes.as_slice())?;
     Ok(format!(in alloc; "{sign}{bytes}")?)
-}
-
-/// Adds the reports of an opening, each behind `|`: the kind, the element, and the copies.
-pub fn put_reports(alloc: Global, said: &mut String, reports: &[Report]) -> Result<(), Trouble> {
-    for report in reports {
-        let kind = kind_text(report.kind);
-        let element = match &report.element {
-            Some(name) => name.as_str(),
-            None => "-",
-        };
-        let copies = numbers_text(alloc, report.copies.as_slice())?;
-        write!(said, "|{kind}:{element}~{copies}")?;
-    }
-    Ok(())
-}
-
-fn kind_text(kind: ReportKind) -> &'static str {
-    match kind {
-        ReportKind::KvsRecovered => "kvs-recovered",
-        ReportKind::KvsFailed => "kvs-failed",
-        ReportKind::KeyRecovered => "key-recovered",
-        ReportKind::KeyFailed => "key-failed",
-        ReportKind::FilesRecovered => "files-recovered",
-        ReportKind::FilesFailed => "files-failed",
-        ReportKind::FileRecovered => "file-recovered",
-        ReportKind::FileFailed => "file-failed",
-    }
-}
-
-/// The texts that copies hold: the generation, the copies, and the bytes.
-pub fn seens_text(alloc: Global, seens: &[Seen]) -> Result<String, Trouble> {
-    let mut said = String::new(alloc);
-    for seen in seens {
-        let generation = seen.generation;
-        let copies = numbers_text(alloc, seen.copies.as_slice())?;
-        let bytes = bytes_text(alloc, seen.text.as_slice())?;
-        write!(said, "{generation}@{copies}={bytes};")?;
-    }
-    if said.is_empty() {
-        said.push_str("none")?;
-    }
-    Ok(said)
 }
 
 /// Why a call on a storage did not end well.

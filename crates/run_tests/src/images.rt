@@ -9,7 +9,7 @@ use test_rows::{RowError, number, spelled_bytes};
 const FILES: u32 = 32_768;
 
 /// More than any file of a session has.
-const FILE_BYTES: usize = 65_536;
+const FILE_BYTES: usize = 2_097_152;
 
 /// A disk that failed where no row told it to.
 fn unasked(_failed: DiskFailed) -> RowError {

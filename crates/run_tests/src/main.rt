@@ -9,6 +9,8 @@
 //! | `>hex DIGITS` | bytes of the input, in two digits each |
 //! | `run`, `run WORDS` | runs the program with `--dir d` or these words; `= STATUS`. An output that is no text is shown as `<- hex DIGITS` |
 //! | `fail start`, `fail disk`, `stop disk` | the first call of the disk fails in the next run; among lines, the next one, or every one from here on |
+//! | `stop disk N` | among lines: N calls of the disk from here on pass, and then every one fails |
+//! | `written` | after a run: how many bytes it wrote |
 //! | `fail source N`, `fail sink N` | the call of this number fails in the next run, counted from 0 |
 //! | `flip FILE,..` | between two runs: each byte of these files becomes its complement |
 //! | `put FILE hex DIGITS` | between two runs: the file begins with these bytes, behind which it stays |

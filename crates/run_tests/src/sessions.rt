@@ -20,6 +20,8 @@ pub(crate) struct Session {
     texts: Vec<Named>,
     rows: Vec<String>,
     failing: Failing,
+    /// How many bytes the last run wrote.
+    written: u64,
 }
 
 impl Session {
@@ -31,6 +33,7 @@ impl Session {
             texts: Vec::new(alloc),
             rows: Vec::new(alloc),
             failing: Failing::none(alloc),
+            written: 0,
         }
     }
 
@@ -43,6 +46,7 @@ impl Session {
         let (word, rest) = parted(row, " ");
         match word {
             "run" => self.run(migrations, row, rest),
+            "written" => Ok(Some(format!(in self.alloc; "{row}\n= {} bytes\n", self.written)?)),
             "stops" | "failures" | "cuts" | "rejects" => self.follow(migrations, row, word, rest),
             _ => self.prepare(migrations, row, word, rest),
         }
@@ -128,6 +132,7 @@ impl Session {
         let failing = mem::replace(&mut self.failing, Failing::none(self.alloc));
         let input = input_of(self.alloc, &self.texts, &rows)?;
         let words = words_or_plain(words);
+        let before = self.disk.written();
         let Ran { status, output } = run(
             self.alloc,
             words,
@@ -136,6 +141,7 @@ impl Session {
             failing,
             &mut self.disk,
         )?;
+        self.written = self.disk.written().saturating_sub(before);
         self.restart()?;
         let shown = transcript(self.alloc, &rows, row, output.as_str())?;
         Ok(Some(format!(in self.alloc; "{shown}= {status}\n")?))
@@ -168,10 +174,13 @@ impl Session {
         if let Some((place, failure)) = failure_in(&self.rows) {
             let next = match failure {
                 DiskFailure::Start => 0,
-                DiskFailure::Next | DiskFailure::All => self.calls_before(migrations, place)?,
+                _ => self.calls_before(migrations, place)?,
             };
             match failure {
-                DiskFailure::All => self.disk.stop_after(next),
+                DiskFailure::All(passing) => {
+                    self.disk
+                        .stop_after(next.saturating_add(u64::from(passing)));
+                }
                 DiskFailure::Start | DiskFailure::Next => {
                     self.disk.fail_calls(vec![in self.alloc; next]?);
                 }
@@ -216,8 +225,8 @@ enum DiskFailure {
     Start,
     /// The next one behind the lines before.
     Next,
-    /// Each one behind the lines before.
-    All,
+    /// Each one behind the lines before and so many calls more.
+    All(u32),
 }
 
 /// The first row that tells the disk to fail, and its place.
@@ -226,8 +235,13 @@ fn failure_in(rows: &[String]) -> Option<(usize, DiskFailure)> {
         match row.as_str() {
             "fail start" => return Some((place, DiskFailure::Start)),
             "fail disk" => return Some((place, DiskFailure::Next)),
-            "stop disk" => return Some((place, DiskFailure::All)),
-            _ => {}
+            "stop disk" => return Some((place, DiskFailure::All(0))),
+            row => {
+                if let Some(passing) = row.strip_prefix("stop disk ") {
+                    let passing = passing.parse::<u32>().unwrap_or(0);
+                    return Some((place, DiskFailure::All(passing)));
+                }
+            }
         }
     }
     None

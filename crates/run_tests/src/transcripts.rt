@@ -71,11 +71,14 @@ impl<'a> Tally<'a> {
     fn finish(&mut self, output: &'a str) -> Result<(), AllocError> {
         for line in output.split_inclusive('\n') {
             match line.strip_suffix('\n') {
-                Some(whole) => write!(self.shown, "< {whole}\n")?,
-                None => write!(self.shown, "<- {line}\n")?,
+                Some(whole) => self.count(whole)?,
+                None => {
+                    self.end()?;
+                    write!(self.shown, "<- {line}\n")?;
+                }
             }
         }
-        Ok(())
+        self.end()
     }
 }
 

@@ -1,5 +1,0 @@
-use Rattle.store_tests.specs.KeyStages.{IsInUse}
-use Rattle.store_tests.proofs.key_storages.shown.Given as goal
-
-abbrev pub invariant-loop-call : goal.invariant-loop-call
-invariant-loop-call l = IsInUse l.stage

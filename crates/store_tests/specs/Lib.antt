@@ -1,2 +1,0 @@
-pub mod FileStages
-pub mod KeyStages
