@@ -57,12 +57,12 @@ pub(crate) fn say_answered<R: Eprint>(rt: &R, dir: &str, fault: Option<Fault>) -
 }
 
 /// Says why a run ended where its status is not 0. At status 0 it says that a folder is not there or was not formatted,
-/// since every command but `now` and `wipe` is then refused.
+/// since every command but `now` and `wipe` is then refused, and why commands of an input that was made were answered
+/// by error 4.
 pub(crate) fn say<R: Files + Eprint>(rt: &R, ended: &Ended<'_>) -> io::Result<()> {
     let dir = ended.dir;
     match ended.status {
-        0 if !ended.takes_lines || ended.has_files => Ok(()),
-        0 => say_of_folder(rt, ended),
+        0 => say_of_answers(rt, ended),
         1 => rt.eprintln(USAGE),
         2 => rt.eprintln(
             "per: a line is outside the grammar; the last reply has its number (./per --help lists the lines)",
@@ -85,6 +85,16 @@ pub(crate) fn say<R: Files + Eprint>(rt: &R, ended: &Ended<'_>) -> io::Result<()
         ),
         11 => say_of_size(rt, ended),
         _ => Ok(()),
+    }
+}
+
+fn say_of_answers<R: Files + Eprint>(rt: &R, ended: &Ended<'_>) -> io::Result<()> {
+    if ended.takes_lines && !ended.has_files {
+        say_of_folder(rt, ended)
+    } else if ended.disk.is_some() && !ended.takes_lines {
+        say_answered(rt, ended.dir, ended.disk)
+    } else {
+        Ok(())
     }
 }
 

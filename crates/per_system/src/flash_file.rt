@@ -49,6 +49,8 @@ struct FlashFile<'a, R: Files<File = File>> {
     alloc: Global,
     held: HeldFolder<'a, R>,
     file: Known,
+    /// Whether it was there or was made.
+    was_there: bool,
 }
 
 #[derive(Drop)]
@@ -78,6 +80,7 @@ impl<'a, R: Files<File = File>> DirFlash<'a, R> {
                 alloc,
                 held: HeldFolder::new(rt, alloc, dir, access),
                 file: Known::Nothing,
+                was_there: false,
             },
             blocks,
             faults: 0,
@@ -87,7 +90,7 @@ impl<'a, R: Files<File = File>> DirFlash<'a, R> {
 
     /// Whether the file was seen in the folder, or made.
     pub fn has_file(&self) -> bool {
-        matches!(self.store.file, Known::Open(_, _))
+        self.store.was_there
     }
 
     /// Whether the file has more bytes than the blocks: it was made as a flash of more.
@@ -275,6 +278,7 @@ impl<'a, R: Files<File = File>> FlashFile<'a, R> {
     fn keep(&mut self, file: File) -> Result<(), Failure> {
         match file.metadata() {
             Ok(metadata) => {
+                self.was_there = true;
                 self.file = Known::Open(file, metadata.len());
                 Ok(())
             }
