@@ -319,7 +319,7 @@ module _ (told : Bool) (store : Store) (changes : List Change) (now : List Bool)
         subst (λ (p : Place). new.written ≤ mid.written + texts_cost p (own g) (sealed g text) mid.image p.copies
         + p.copies * 44) used.memory.place then in
         let here : new.written ≤ mid.written + texts_cost store.shape.place (own g) (sealed g (index_text next))
-            mid.image n
+        mid.image n
         + n * 44 =
         subst (λ (t : List ℕ). new.written ≤ mid.written + texts_cost store.shape.place (own g) (sealed g t) mid.image n
         + n * 44) spelled at_place in

@@ -15,8 +15,18 @@ use Rattle.deploy_laws.specs.Stands.{IsRootSpared, Stands, StandsCase, same_root
 use Rattle.deploy_rows.specs.Rows.{reopened}
 use Rattle.run_model.specs.AppLaws.{AppLaws}
 use Rattle.run_model.specs.Endings.{Ending}
-use Rattle.run_model.specs.Moments.{AreImaged, AreSoundDoubts, AtMoment, Between, InDoubt, IsMomentOf, IsSideImaged,
-    IsWorldImaged, OrBefore, last_of}
+use Rattle.run_model.specs.Moments.{
+  AreImaged,
+  AreSoundDoubts,
+  AtMoment,
+  Between,
+  InDoubt,
+  IsMomentOf,
+  IsSideImaged,
+  IsWorldImaged,
+  OrBefore,
+  last_of,
+}
 use Rattle.run_model.specs.RunLaws.{imaged_last}
 use Rattle.run_model.specs.Starting.{at_entry, between_worlds}
 use Rattle.run_model.specs.Lines.{lines_of}

@@ -21,8 +21,16 @@ use Rattle.run_model.specs.Worlds.{world_at, closed}
 use Rattle.run_model.specs.Lasting.{IsWorld, starts_so}
 use Rattle.run_model.specs.Steps.{StepsTo, Leads}
 use Rattle.run_model.specs.Moments.{AtMoment, Between, InDoubt, IsInDoubt, IsMomentOf, StepKeeps, StopKeeps, Stayed}
-use Rattle.run_model.specs.Moments.{last_of, AreImaged, AreSoundDoubts, IsDecided, IsImaged, IsSideImaged,
-    IsWorldImaged, OrBefore}
+use Rattle.run_model.specs.Moments.{
+  last_of,
+  AreImaged,
+  AreSoundDoubts,
+  IsDecided,
+  IsImaged,
+  IsSideImaged,
+  IsWorldImaged,
+  OrBefore,
+}
 use Rattle.disk_model.specs.Image.{Image}
 use Rattle.command_text.specs.declared.calls.Event.TheVariants as event
 use Rattle.run_model.specs.Worlds.{app_of, with_app}
@@ -231,7 +239,7 @@ module _ (rules : List Rule) (answers : Answers) (entry start : World) (calm : s
                     there_imaged app lt new.image memory' s.doubt' s.eight,
                     side_imaged rules answers app (world_of now.image memory doubt) e reply w' now new
                         (subst (λ w. IsWorldImaged app w) going.last (imaged_last app start (worlds_of turns) are.0
-                            are.1))
+                        are.1))
                         s.step,
                   )),
             );

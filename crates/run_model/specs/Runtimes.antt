@@ -68,7 +68,7 @@ IsDoubt memory doubt = is_some doubt ≡ memory.in_doubt
 pub record StartKeeps (old new : Medium) : Type 0 where
   pub always : (app : ℕ) → app < 8 → IsCleanApp app old.image
       → EachCase (OrBefore old (Between app (disks (world_at old.image)) (disks (started (world_at old.image))))) old
-          new
+      new
   -- one that ended before it had synchronised the disk did nothing; behind any other nothing from before it is left
   pub at_exit : OnlyReads old new ⊎ ((app : ℕ) → app < 8 → IsCleanApp app old.image → (c : Case) → new.now c
       → Between app (disks (world_at old.image)) (disks (started (world_at old.image))) c)

@@ -5,8 +5,14 @@ ghost use Rattle.migrate_fns.specs.Stored.{answers_of, rules_of};
 ghost use Rattle.run_model.specs.AppLaws.{AppLaws};
 ghost use Rattle.run_model.specs.Laws.{AlikeLaw, AllOpenedLaw, AnswersLastLaw, BlamedLaw, CallFailsLaw, CallKeepsLaw};
 ghost use Rattle.run_model.specs.Laws.{DoubtStaysLaw, FailedSyncKeepsLaw, FailedSyncLastsLaw, FailureKeepsLaw};
-ghost use Rattle.run_model.specs.Laws.{FailureLastsLaw, IdleKeepsLaw, LifeLaw, NoneOpenedLaw, NotFurtherBackLaw,
-    NowLastsLaw};
+ghost use Rattle.run_model.specs.Laws.{
+  FailureLastsLaw,
+  IdleKeepsLaw,
+  LifeLaw,
+  NoneOpenedLaw,
+  NotFurtherBackLaw,
+  NowLastsLaw,
+};
 ghost use Rattle.run_model.specs.Laws.{OnTheWayLaw, OneOpenedLaw, OpensAsEitherLaw, OthersStayLaw, RootKeepsLaw};
 ghost use Rattle.run_model.specs.Laws.{RootThenLaw, RunBeginsLaw, RunEndsLaw, RunGoesOnLaw, RunStopsLaw};
 ghost use Rattle.run_model.specs.Laws.{SessionEndsLaw, StartStopsLaw, StorageFailureLastsLaw, StorageLaterLaw};

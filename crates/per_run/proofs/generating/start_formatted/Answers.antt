@@ -27,7 +27,7 @@ pub returns-in-Ok-clause-begun : goal.returns-in-Ok-clause-begun
 returns-in-Ok-clause-begun g c = begun_ok g.D.Disk.medium g.D.Disk.told c.start.result c.args.disk.now
     c.format_all.new.disk c.start.new.disk c.format_all.ensures.time.faults
     (λ tells. is_formatted _ (c.in-Ok.ensures.apps tells)) c.in-Ok.ensures.clean c.start.ensures.starts
-        c.start.ensures.time
+    c.start.ensures.time
 
 pub returns-in-Ok-clause-cause : goal.returns-in-Ok-clause-cause
 returns-in-Ok-clause-cause g c = λ failed. rose_before _ _ _ c.format_all.ensures.time.faults
