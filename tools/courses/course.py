@@ -1,4 +1,4 @@
-"""A course: runs of the program over one folder, which are stopped, restarted and damaged between, beside what may be so.
+"""A course: runs of the program over one folder, stops, restarts and damage, beside what may be so.
 
 What may be so is a list of worlds, each of two applications. A command in which the program was stopped leaves the
 world before it and the one after it; a reply rules out the worlds that do not give it.
@@ -49,7 +49,7 @@ class Bench:
     formatted: dict = field(default_factory=dict)
 
     def run(self, folder, text, stop=None, words=()):
-        """Returns the status, the lines of standard output, the calls that were noted, and the text of standard error."""
+        """Returns the status, the lines of standard output, the noted calls, and the text of standard error."""
         notes = f"{self.work}/notes"
         environment = {**os.environ, "LD_PRELOAD": self.stopping, "NOTES": notes}
         if stop:
@@ -201,10 +201,15 @@ def followed(world, lines, replies, was_stopped):
             # Before the first reply the start may have been in progress, too.
             return [closed(it) for it in (world, after, *([unopened] if at == 0 else []))]
         if found != wanted and not (world[number].is_lost() and is_of_loss(found, was_refused)):
-            raise Difference(f"'{spelled(number, command)}' is answered '{found}', and not '{wanted}'")
+            line, found, wanted = map(shortened, (spelled(number, command), found or "nothing", wanted))
+            raise Difference(f"'{line}' is answered '{found}', and not '{wanted}'")
         was_refused = was_refused or found.startswith(LOST)
         world = after
     return [closed(world)]
+
+
+def shortened(text):
+    return text if len(text) <= 60 else f"{text[:60]}.. ({len(text)} characters)"
 
 
 def closed(world):

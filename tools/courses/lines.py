@@ -96,9 +96,8 @@ def stepping(dice):
 
 
 def on_keys(dice, app):
-    word = dice.one_of(
-        "get get set set set set set sync sync sync remove discard remove-all reset-key recover-key exists keys size".split()
-    )
+    often = ["get"] * 2 + ["set"] * 5 + ["sync"] * 3
+    word = dice.one_of(often + "remove discard remove-all reset-key recover-key exists keys size".split())
     if word in ("sync", "discard", "remove-all", "keys", "size"):
         return (word, "keys")
     key = dice.one_of(KEYS)
@@ -113,7 +112,8 @@ def value(dice, app, key):
 
 
 def on_files(dice):
-    word = dice.one_of("cat cat put put put put delete flush reset-file recover-file file-exists files size".split())
+    often = ["cat"] * 2 + ["put"] * 4
+    word = dice.one_of(often + "delete flush reset-file recover-file file-exists files size".split())
     if word in ("files", "size"):
         return (word, "files")
     if word == "flush":

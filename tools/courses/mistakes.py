@@ -95,7 +95,7 @@ def main():
                     bench = kind(program, library, folder)
                     bench.mistake = mistake
                     found = first_found(bench)
-                print(f"{name}: {'not found' if not found else f'course {found[0]}: {str(found[1])[:200]}'}", flush=True)
+                print(f"{name}: course {found[0]}: {found[1]}" if found else f"{name}: not found", flush=True)
                 missed += not found
     return 1 if missed else 0
 

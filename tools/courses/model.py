@@ -69,7 +69,7 @@ def initial(storage, version):
 
 
 def updated(storage, elements, version):
-    """Returns what an update leaves in a storage: what is there stays, in the version's types; what is missing is new."""
+    """Returns what an update leaves in a storage: what is there stays, in the version's types; the rest is new."""
 
     def carried(name, old, new):
         if old is None:

@@ -44,9 +44,10 @@ __attribute__((constructor)) static void begin(void) {
         if (notes < 0) notes = fcntl(low, F_DUPFD_CLOEXEC, 200);
         REAL(close)(low);
     }
-    if (stop && sscanf(stop, "%4s %ld %ld", how, &replies_left, &calls_left) == 3) kills = !strcmp(how, "kill");
-    if (how[0] && !kills) fails = 1;
-    unsetenv("LD_PRELOAD");
+    if (stop && sscanf(stop, "%4s %ld %ld", how, &replies_left, &calls_left) == 3) {
+        kills = !strcmp(how, "kill");
+        fails = !kills;
+    }
 }
 
 static void note(const char *text, const void *bytes, size_t count) {
@@ -69,7 +70,8 @@ static int is_stopped(const char *text, const void *bytes, size_t count) {
     return stops;
 }
 
-static char *name_of(int file) { return file >= 0 && file < FILES && notes >= 0 ? names[file] : ""; }
+/* The name in the folder of what is open there, or an empty one. */
+static const char *name_of(int file) { return file >= 0 && file < FILES && notes >= 0 ? names[file] : ""; }
 
 /* ---- opening */
 
@@ -103,7 +105,10 @@ static int opened(int at, const char *path, int flags, mode_t mode) {
 
 #define MODE(flags) \
     mode_t mode = 0; \
-    if ((flags) & (O_CREAT | O_TMPFILE)) { va_list rest; va_start(rest, flags); mode = va_arg(rest, mode_t); va_end(rest); }
+    va_list rest; \
+    va_start(rest, flags); \
+    if ((flags) & O_CREAT) mode = va_arg(rest, mode_t); \
+    va_end(rest);
 
 int open(const char *path, int flags, ...) { MODE(flags) return opened(AT_FDCWD, path, flags, mode); }
 int open64(const char *path, int flags, ...) { MODE(flags) return opened(AT_FDCWD, path, flags, mode); }
@@ -111,7 +116,7 @@ int openat(int at, const char *path, int flags, ...) { MODE(flags) return opened
 int openat64(int at, const char *path, int flags, ...) { MODE(flags) return opened(at, path, flags, mode); }
 
 int close(int file) {
-    name_of(file)[0] ? (void)(names[file][0] = 0) : (void)0;
+    if (name_of(file)[0]) names[file][0] = 0;
     return REAL(close)(file);
 }
 
