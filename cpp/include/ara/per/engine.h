@@ -4,6 +4,7 @@
 #include <memory>
 #include <mutex>
 #include <string>
+#include <string_view>
 #include <utility>
 
 #include <sys/types.h>
@@ -69,7 +70,7 @@ inline void StopEngine() noexcept { detail::TheSlot().Empty(); }
 /// Why the last call that was refused on this thread was: the engine's own line, `error 7 DataTypeMismatch u8 u16`, or
 /// a sentence of this library. For logs; empty where no call was refused.
 [[nodiscard]] inline ara::core::String LastRefusal() {
-  const std::string& words = detail::Refusal();
+  const std::string_view words = detail::Refusal().Text();
   return ara::core::String(words.data(), words.size());
 }
 

@@ -125,7 +125,9 @@ class KeyValueStorage final {
   /// - `kInitValueNotAvailable`: the manifest has none
   /// - `kLimitReached`: there are 1,024 keys
   /// - `kOutOfStorageSpace`
-  [[nodiscard]] ara::core::Result<void> ResetKey(ara::core::StringView key) noexcept { return Change("reset-key", key); }
+  [[nodiscard]] ara::core::Result<void> ResetKey(ara::core::StringView key) noexcept {
+    return Change("reset-key", key);
+  }
 
   /// Makes all that is pending durable in every copy, as a whole. Where nothing changed nothing is written.
   ///

@@ -90,7 +90,7 @@ class ReadWriteAccessor final : public ReadAccessor {
 
     ara::core::Result<void> done = WriteAt(turn, size.Value(), bytes.substr(over));
     if (!done) {
-      const std::string refusal = detail::Refusal();
+      const detail::RefusalWords refusal = detail::Refusal();
       (void)Ask(turn, "set-size", std::to_string(size.Value()));
       (void)Ask(turn, "seek", std::to_string(position.Value()));
       detail::Refusal() = refusal;

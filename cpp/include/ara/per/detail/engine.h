@@ -1,7 +1,7 @@
 /// The engine as this library sees it: lines that are asked one by one, and the storages that are open.
 #pragma once
 
-#include <atomic>
+#include <algorithm>
 #include <cstdint>
 #include <ctime>
 #include <fstream>
@@ -78,7 +78,7 @@ class Engine final {
 
     /// The same, and the engine learns before what time it is.
     [[nodiscard]] Result<std::string> AskNow(std::string_view call) {
-      const auto now = static_cast<std::int64_t>(std::time(nullptr));
+      const auto now = std::max<std::int64_t>(0, std::time(nullptr));
       std::string moment;
       if (now != engine_.now_) moment = Call("now", std::to_string(now));
       engine_.now_ = now;
@@ -95,11 +95,10 @@ class Engine final {
       lines += static_cast<char>('0' + engine_.application_);
       ((lines += ' ') += call) += '\n';
       if (!engine_.pipe_.IsOpen() || !engine_.pipe_.Write(lines)) return Gone();
-      if (!moment.empty()) {
-        const Result<void> isSet = Done(Answer(nullptr));
-        if (!isSet) return Result<std::string>::FromError(isSet.Error());
-      }
-      return Answer(reports);
+      if (moment.empty()) return Answer(reports);
+      const Result<void> isSet = Done(Answer(nullptr));
+      Result<std::string> answer = Answer(reports);
+      return isSet ? std::move(answer) : Result<std::string>::FromError(isSet.Error());
     }
 
     [[nodiscard]] Result<std::string> Answer(std::vector<Report>* reports) {
@@ -378,7 +377,7 @@ class OpenStorage final {
     if (answer) return answer;
     int number = answer.Error().SupportData();
     if (number == kDiskFailed) {
-      const std::string refusal = Refusal();
+      const RefusalWords refusal = Refusal();
       const Result<std::string> size = turn.Ask(Call("size", name_));
       if (!size) number = size.Error().SupportData();
       Refusal() = refusal;

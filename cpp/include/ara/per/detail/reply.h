@@ -1,6 +1,7 @@
 /// The engine's replies.
 #pragma once
 
+#include <cstddef>
 #include <cstdint>
 #include <cstring>
 #include <string>
@@ -24,9 +25,25 @@ using Result = ara::core::Result<T>;
 /// The engine's number of a call on a storage that is not open.
 inline constexpr int kNotOpen = 24;
 
-/// Why the last call on this thread was refused, in words.
-[[nodiscard]] inline std::string& Refusal() noexcept {
-  static thread_local std::string words;
+/// Why a call was refused, in words, cut to what there is room for. There is nothing to destroy in it, so that a handle
+/// may go when the variables of its thread have gone.
+class RefusalWords final {
+ public:
+  RefusalWords& operator=(std::string_view words) noexcept {
+    size_ = words.copy(text_, sizeof text_);
+    return *this;
+  }
+
+  [[nodiscard]] std::string_view Text() const noexcept { return {text_, size_}; }
+
+ private:
+  std::size_t size_{0};
+  char text_[1'000]{};
+};
+
+/// The words of the last refusal on this thread.
+[[nodiscard]] inline RefusalWords& Refusal() noexcept {
+  static thread_local RefusalWords words;
   return words;
 }
 

@@ -417,7 +417,8 @@ struct Codec<T, std::enable_if_t<kIsVector<T> && !kIsByte<typename T::value_type
 
 /// An array is kept as a list, and a list of another length does not fit it.
 template <class T>
-struct Codec<T, std::enable_if_t<kIsArray<T> && !kIsByte<typename T::value_type>>> : ListCodec<typename T::value_type> {
+struct Codec<T, std::enable_if_t<kIsArray<T> && !kIsByte<typename T::value_type>>>
+    : ListCodec<typename T::value_type> {
   static bool Get(Cursor& in, T& items) {
     std::size_t count = 0;
     const bool fits = ListCodec<typename T::value_type>::Get(in, [&items, &count](typename T::value_type&& item) {
