@@ -3,8 +3,11 @@
 
 #include <cerrno>
 #include <csignal>
+#include <filesystem>
 #include <string>
+#include <system_error>
 #include <utility>
+#include <vector>
 
 #include <fcntl.h>
 #include <spawn.h>
@@ -37,23 +40,22 @@ class Process final {
   Process& operator=(const Process&) = delete;
   ~Process() { (void)Wait(); }
 
-  /// Starts `program --serve --dir folder` and gives the pipe to it; 0, or why it cannot be, as `errno`.
+  /// Starts `program --dir folder` and gives the pipe to it; where nothing lies in the folder, `program --format` makes
+  /// it ready before. 0, or why it cannot be started, as `errno`.
   [[nodiscard]] int Start(const std::string& program, const std::string& folder, Pipe& pipe) {
+    if (IsEmpty(folder)) {
+      const int fault = Format(program, folder);
+      if (fault != 0) return fault;
+    }
     Descriptor lines[2];
     Descriptor replies[2];
     if (!MakePipe(lines[0], lines[1]) || !MakePipe(replies[0], replies[1])) return errno;
     Settings settings;
     ::posix_spawn_file_actions_adddup2(&settings.files, lines[0].Number(), STDIN_FILENO);
     ::posix_spawn_file_actions_adddup2(&settings.files, replies[1].Number(), STDOUT_FILENO);
-    std::string words[] = {program, "--serve", "--dir", folder};
-    char* const arguments[] = {words[0].data(), words[1].data(), words[2].data(), words[3].data(), nullptr};
-    const int fault = ::posix_spawnp(&id_, program.c_str(), &settings.files, &settings.attributes, arguments, environ);
-    if (fault != 0) {
-      id_ = -1;
-      return fault;
-    }
-    pipe = Pipe{std::move(replies[0]), std::move(lines[1])};
-    return 0;
+    const int fault = Spawn({program, "--dir", folder}, settings);
+    if (fault == 0) pipe = Pipe{std::move(replies[0]), std::move(lines[1])};
+    return fault;
   }
 
   [[nodiscard]] pid_t Id() const noexcept { return id_; }
@@ -92,6 +94,31 @@ class Process final {
       ::posix_spawnattr_destroy(&attributes);
     }
   };
+
+  [[nodiscard]] static bool IsEmpty(const std::string& folder) noexcept {
+    std::error_code fault;
+    return std::filesystem::is_empty(folder, fault) && !fault;
+  }
+
+  /// Where the folder cannot be formatted, the run that follows says why.
+  [[nodiscard]] int Format(const std::string& program, const std::string& folder) {
+    Settings settings;
+    ::posix_spawn_file_actions_addopen(&settings.files, STDOUT_FILENO, "/dev/null", O_WRONLY, 0);
+    const int fault = Spawn({program, "--format", "--dir", folder}, settings);
+    if (fault == 0) (void)Wait();
+    return fault;
+  }
+
+  /// Starts a child with these words, the first of which is its program.
+  [[nodiscard]] int Spawn(std::vector<std::string> words, const Settings& settings) {
+    std::vector<char*> arguments;
+    for (std::string& word : words) arguments.push_back(word.data());
+    arguments.push_back(nullptr);
+    const int fault =
+        ::posix_spawnp(&id_, arguments[0], &settings.files, &settings.attributes, arguments.data(), environ);
+    if (fault != 0) id_ = -1;
+    return fault;
+  }
 
   pid_t id_{-1};
 };
