@@ -83,6 +83,17 @@ TEST(AFolderOfSomebodyElseIsRefused) {
   CHECK_REFUSED(kPhysicalStorageFailure, StartEngine(options));
 }
 
+TEST(AFolderHasOneEngine) {
+  const Bed bed;
+  CHECK(bed.Start(kManifest));
+  GET(kvs, OpenKeyValueStorage(Named("k")));
+  const std::string other = "'" + Program() + "' --serve --dir '" + bed.Folder() + "' </dev/null >/dev/null 2>&1";
+  const int status = std::system(other.c_str());
+  CHECK(WIFEXITED(status) && WEXITSTATUS(status) != 0);
+  CHECK(kvs->SetValue("a", true));
+  CHECK(kvs->SyncToStorage());
+}
+
 TEST(OneEngineRunsAtATime) {
   const Bed bed;
   CHECK(bed.Start(kManifest));

@@ -17,7 +17,8 @@ int main(int count, char** words) {
     const long failed = check::TheCounts().failed;
     test.run();
     ara::per::StopEngine();
-    if (check::TheCounts().failed != failed) std::fprintf(stderr, "failed: %s\n", test.name);
+    std::printf("%s: %s\n", check::TheCounts().failed == failed ? "passed" : "FAILED", test.name);
+    std::fflush(stdout);
     ++run;
   }
   const check::Counts& counts = check::TheCounts();

@@ -2,6 +2,7 @@
 #include <array>
 #include <cmath>
 #include <cstdint>
+#include <cstdlib>
 #include <functional>
 #include <limits>
 #include <list>
@@ -84,65 +85,88 @@ using ara::per::ManifestValue;
 
 const char* const kManifest = R"({"version":1,"keyValueStorages":[{"name":"k"}]})";
 
-/// That values of a type, whose text is `type`, come back as they were set, also from a new engine.
-template <class T>
-void GoesThereAndBack(const Bed& bed, const char* type, const std::vector<T>& values) {
-  CHECK(ManifestType<T>() == type);
-  for (const T& value : values) {
-    {
-      GET(kvs, ara::per::OpenKeyValueStorage(Named("k")));
-      CHECK(kvs->RemoveAllKeys());
-      CHECK(kvs->SetValue("value", value));
-      GET(back, kvs->GetValue<T>("value"));
-      CHECK(back == value);
-      CHECK(kvs->SyncToStorage());
-    }
-    CHECK(bed.Start(kManifest));
-    GET(kvs, ara::per::OpenKeyValueStorage(Named("k")));
-    T back{};
-    CHECK(kvs->GetValue("value", back));
-    CHECK(back == value);
+/// Values that come back as they were set: at once, and from the next engine.
+class Kept final {
+ public:
+  Kept() {
+    CHECK(bed_.Start(kManifest));
+    kvs_ = Open();
   }
-}
 
-template <class T>
-void GoesToItsEnds(const Bed& bed, const char* type) {
-  GoesThereAndBack<T>(bed, type, {0, 1, std::numeric_limits<T>::min(), std::numeric_limits<T>::max()});
-}
+  /// Sets values of a type, whose text is `type`.
+  template <class T>
+  void Add(const char* type, const std::vector<T>& values) {
+    CHECK(ManifestType<T>() == type);
+    for (const T& value : values) {
+      const std::string key = "value" + std::to_string(checks_.size());
+      CHECK(kvs_->SetValue(key, value));
+      checks_.push_back([key, value](const KeyValueStorage& kvs) {
+        T read{};
+        return kvs.GetValue(key, read) && read == value;
+      });
+      CHECK(checks_.back()(*kvs_));
+    }
+  }
+
+  template <class T>
+  void AddEnds(const char* type) {
+    Add<T>(type, {0, 1, std::numeric_limits<T>::min(), std::numeric_limits<T>::max()});
+  }
+
+  /// Reads all of them from a new engine.
+  void ReadAgain() {
+    CHECK(kvs_->SyncToStorage());
+    CHECK(bed_.Start(kManifest));
+    kvs_ = Open();
+    for (const auto& check : checks_) CHECK(check(*kvs_));
+  }
+
+  KeyValueStorage& Storage() { return *kvs_; }
+
+ private:
+  static ara::per::SharedHandle<KeyValueStorage> Open() {
+    auto opened = ara::per::OpenKeyValueStorage(Named("k"));
+    if (!CHECK(opened)) std::abort();
+    return std::move(opened).Value();
+  }
+
+  Bed bed_;
+  ara::per::SharedHandle<KeyValueStorage> kvs_;
+  std::vector<std::function<bool(const KeyValueStorage&)>> checks_;
+};
 
 TEST(NumbersGoThereAndBack) {
-  const Bed bed;
-  CHECK(bed.Start(kManifest));
-  GoesThereAndBack<bool>(bed, "bool", {false, true});
-  GoesToItsEnds<std::uint8_t>(bed, "u8");
-  GoesToItsEnds<std::uint16_t>(bed, "u16");
-  GoesToItsEnds<std::uint32_t>(bed, "u32");
-  GoesToItsEnds<std::uint64_t>(bed, "u64");
-  GoesToItsEnds<std::int8_t>(bed, "i8");
-  GoesToItsEnds<std::int16_t>(bed, "i16");
-  GoesToItsEnds<std::int32_t>(bed, "i32");
-  GoesToItsEnds<std::int64_t>(bed, "i64");
-  GoesToItsEnds<long long>(bed, "i64");
-  GoesToItsEnds<unsigned long>(bed, "u64");
-  GoesThereAndBack<car::Gear>(bed, "u8", {car::Gear::kPark, car::Gear::kReverse, static_cast<car::Gear>(255)});
-  GoesThereAndBack<car::Temperature>(bed, "i16", {car::Temperature::kCold, car::Temperature::kWarm});
-  GoesThereAndBack<car::Door>(bed, "u32", {car::kLeft, car::kRight});
+  Kept kept;
+  kept.Add<bool>("bool", {false, true});
+  kept.AddEnds<std::uint8_t>("u8");
+  kept.AddEnds<std::uint16_t>("u16");
+  kept.AddEnds<std::uint32_t>("u32");
+  kept.AddEnds<std::uint64_t>("u64");
+  kept.AddEnds<std::int8_t>("i8");
+  kept.AddEnds<std::int16_t>("i16");
+  kept.AddEnds<std::int32_t>("i32");
+  kept.AddEnds<std::int64_t>("i64");
+  kept.AddEnds<long long>("i64");
+  kept.AddEnds<unsigned long>("u64");
+  kept.Add<car::Gear>("u8", {car::Gear::kPark, car::Gear::kReverse, static_cast<car::Gear>(255)});
+  kept.Add<car::Temperature>("i16", {car::Temperature::kCold, car::Temperature::kWarm});
+  kept.Add<car::Door>("u32", {car::kLeft, car::kRight});
+  kept.ReadAgain();
 }
 
 TEST(FractionsGoThereAndBackBitByBit) {
-  const Bed bed;
-  CHECK(bed.Start(kManifest));
-  GoesThereAndBack<float>(bed, "{u32}", {0.0F, 1.5F, -2.25F, std::numeric_limits<float>::denorm_min(),
-                                         std::numeric_limits<float>::max(), std::numeric_limits<float>::infinity()});
-  GoesThereAndBack<double>(bed, "{u64}", {0.0, 0.1, -1e300, std::numeric_limits<double>::denorm_min(),
-                                          std::numeric_limits<double>::max()});
-  GET(kvs, ara::per::OpenKeyValueStorage(Named("k")));
-  CHECK(kvs->RemoveAllKeys());
-  CHECK(kvs->SetValue("zero", -0.0));
-  GET(zero, kvs->GetValue<double>("zero"));
+  Kept kept;
+  using Float = std::numeric_limits<float>;
+  using Double = std::numeric_limits<double>;
+  kept.Add<float>("{u32}", {0.0F, 1.5F, -2.25F, Float::denorm_min(), Float::max(), Float::infinity()});
+  kept.Add<double>("{u64}", {0.0, 0.1, -1e300, Double::denorm_min(), Double::max(), -Double::infinity()});
+  kept.ReadAgain();
+  KeyValueStorage& kvs = kept.Storage();
+  CHECK(kvs.SetValue("zero", -0.0));
+  GET(zero, kvs.GetValue<double>("zero"));
   CHECK(zero == 0.0 && std::signbit(zero));
-  CHECK(kvs->SetValue("none", std::nanf("")));
-  GET(none, kvs->GetValue<float>("none"));
+  CHECK(kvs.SetValue("none", std::nanf("")));
+  GET(none, kvs.GetValue<float>("none"));
   CHECK(std::isnan(none));
   // The bits of 1.5 are 3fc00000, and those of -2 are c000000000000000.
   CHECK(ManifestValue(1.5F) == "{u32:1069547520}");
@@ -150,74 +174,68 @@ TEST(FractionsGoThereAndBackBitByBit) {
 }
 
 TEST(TextsGoThereAndBack) {
-  const Bed bed;
-  CHECK(bed.Start(kManifest));
+  Kept kept;
   const char all[] = "a\0b\tc\rd\x01\x7f";
-  GoesThereAndBack<String>(bed, "text",
-                           {"", "Home", " two  spaces ", "\"\\\n\\n\\\"", String{all, sizeof all - 1},
+  kept.Add<String>("text", {"", "Home", " two  spaces ", "\"\\\n\\n\\\"", String{all, sizeof all - 1},
                             "\xc3\xa4 \xe2\x82\xac \xf0\x9f\x9a\x97 \xf4\x8f\xbf\xbf", String(65'531, 'x')});
+  kept.ReadAgain();
   CHECK(ManifestValue(String{"a\"\\\n"}) == "text:\"a\\\"\\\\\\n\"");
 }
 
 TEST(BytesGoThereAndBack) {
-  const Bed bed;
-  CHECK(bed.Start(kManifest));
+  Kept kept;
   Vector<std::uint8_t> every;
   for (int byte = 0; byte < 256; ++byte) every.push_back(static_cast<std::uint8_t>(byte));
-  GoesThereAndBack<Vector<std::uint8_t>>(bed, "bytes", {{}, {0, 255}, every, Vector<std::uint8_t>(65'531, 7)});
-  GoesThereAndBack<Vector<ara::core::Byte>>(bed, "bytes", {{}, {ara::core::Byte{1}, ara::core::Byte{254}}});
-  GoesThereAndBack<std::array<std::uint8_t, 3>>(bed, "bytes", {{1, 2, 3}});
+  kept.Add<Vector<std::uint8_t>>("bytes", {{}, {0, 255}, every, Vector<std::uint8_t>(65'531, 7)});
+  kept.Add<Vector<ara::core::Byte>>("bytes", {{}, {ara::core::Byte{1}, ara::core::Byte{254}}});
+  kept.Add<std::array<std::uint8_t, 3>>("bytes", {{1, 2, 3}});
+  kept.ReadAgain();
   CHECK(ManifestValue(Vector<std::uint8_t>{0, 255}) == "bytes:00ff");
 }
 
 TEST(ListsAndMapsGoThereAndBack) {
-  const Bed bed;
-  CHECK(bed.Start(kManifest));
-  GoesThereAndBack<Vector<std::uint16_t>>(bed, "list<u16>", {{}, {1}, {1, 2, 65'535}});
-  GoesThereAndBack<Vector<bool>>(bed, "list<bool>", {{}, {true, false, true}});
-  GoesThereAndBack<Vector<String>>(bed, "list<text>", {{}, {"", ",", "]\"", "b"}});
-  GoesThereAndBack<Vector<Vector<std::int8_t>>>(bed, "list<list<i8>>", {{}, {{}, {-1, 2}, {}}});
-  GoesThereAndBack<Vector<Vector<std::uint8_t>>>(bed, "list<bytes>", {{{}, {9}}});
-  GoesThereAndBack<Vector<car::Gear>>(bed, "list<u8>", {{car::Gear::kDrive, car::Gear::kPark}});
-  GoesThereAndBack<std::list<std::int64_t>>(bed, "list<i64>", {{-5, 6}});
-  GoesThereAndBack<std::array<float, 2>>(bed, "list<{u32}>", {{1.5F, -0.5F}});
-  GoesThereAndBack<std::pair<String, std::uint8_t>>(bed, "{text,u8}", {{"a", std::uint8_t{1}}});
-  GoesThereAndBack<ara::core::Map<String, std::uint32_t>>(bed, "list<{text,u32}>", {{}, {{"a", 1U}, {"b", 2U}}});
-  GoesThereAndBack<std::map<std::uint8_t, Vector<String>>>(bed, "list<{u8,list<text>}>", {{{1, {"x", "y"}}, {2, {}}}});
-  GoesThereAndBack<std::unordered_map<std::string, bool>>(bed, "list<{text,bool}>", {{{"on", true}, {"off", false}}});
+  Kept kept;
+  kept.Add<Vector<std::uint16_t>>("list<u16>", {{}, {1}, {1, 2, 65'535}});
+  kept.Add<Vector<bool>>("list<bool>", {{}, {true, false, true}});
+  kept.Add<Vector<String>>("list<text>", {{}, {"", ",", "]\"", "b"}});
+  kept.Add<Vector<Vector<std::int8_t>>>("list<list<i8>>", {{}, {{}, {-1, 2}, {}}});
+  kept.Add<Vector<Vector<std::uint8_t>>>("list<bytes>", {{{}, {9}}});
+  kept.Add<Vector<car::Gear>>("list<u8>", {{car::Gear::kDrive, car::Gear::kPark}});
+  kept.Add<std::list<std::int64_t>>("list<i64>", {{-5, 6}});
+  kept.Add<std::array<float, 2>>("list<{u32}>", {{1.5F, -0.5F}});
+  kept.Add<std::pair<String, std::uint8_t>>("{text,u8}", {{"a", std::uint8_t{1}}});
+  kept.Add<ara::core::Map<String, std::uint32_t>>("list<{text,u32}>", {{}, {{"a", 1U}, {"b", 2U}}});
+  kept.Add<std::map<std::uint8_t, Vector<String>>>("list<{u8,list<text>}>", {{{1, {"x", "y"}}, {2, {}}}});
+  kept.Add<std::unordered_map<std::string, bool>>("list<{text,bool}>", {{{"on", true}, {"off", false}}});
   // Eight levels are as deep as a type may be.
   using Deep = Vector<Vector<Vector<Vector<Vector<Vector<Vector<std::uint16_t>>>>>>>;
-  GoesThereAndBack<Deep>(bed, "list<list<list<list<list<list<list<u16>>>>>>>", {{{{{{{{1, 2}}}}}}}});
+  kept.Add<Deep>("list<list<list<list<list<list<list<u16>>>>>>>", {{{{{{{{1, 2}}}}}}}});
+  kept.ReadAgain();
 }
 
 TEST(StructsGoThereAndBack) {
-  const Bed bed;
-  CHECK(bed.Start(kManifest));
-  GoesThereAndBack<car::Point>(bed, "{i32,i32}", {{}, {481'351, -115'820}});
+  Kept kept;
+  kept.Add<car::Point>("{i32,i32}", {{}, {481'351, -115'820}});
   const car::Stop stop{{1, -2}, "Caf\xc3\xa9 \"Nord\"", 12.5F};
-  GoesThereAndBack<car::Stop>(bed, "{{i32,i32},text,{u32}}", {{}, stop});
+  kept.Add<car::Stop>("{{i32,i32},text,{u32}}", {{}, stop});
   const car::Tour tour{"North, and back", {stop, {}}, stop,       car::Gear::kDrive,
                        {{"a", {3, 4}}},   {1, 2, 65'535}, {0, 9}};
-  GoesThereAndBack<car::Tour>(bed,
-                              "{text,list<{{i32,i32},text,{u32}}>,{{i32,i32},text,{u32}},u8,list<{text,{i32,i32}}>,"
-                              "list<u16>,bytes}",
-                              {{}, tour});
-  GoesThereAndBack<Vector<car::Tour>>(bed,
-                                      "list<{text,list<{{i32,i32},text,{u32}}>,{{i32,i32},text,{u32}},u8,"
-                                      "list<{text,{i32,i32}}>,list<u16>,bytes}>",
-                                      {{tour, tour}});
+  const String type =
+      "{text,list<{{i32,i32},text,{u32}}>,{{i32,i32},text,{u32}},u8,list<{text,{i32,i32}}>,list<u16>,bytes}";
+  kept.Add<car::Tour>(type.c_str(), {{}, tour});
+  kept.Add<Vector<car::Tour>>(("list<" + type + ">").c_str(), {{tour, tour}});
   CHECK(ManifestValue(car::Point{1, -2}) == "{i32:1,i32:-2}");
 
-  GET(kvs, ara::per::OpenKeyValueStorage(Named("k")));
-  CHECK(kvs->RemoveAllKeys());
-  CHECK(kvs->SetValue("partly", car::Partly{5, 9}));
-  GET(partly, kvs->GetValue<car::Partly>("partly"));
+  kept.ReadAgain();
+  KeyValueStorage& kvs = kept.Storage();
+  CHECK(kvs.SetValue("partly", car::Partly{5, 9}));
+  GET(partly, kvs.GetValue<car::Partly>("partly"));
   CHECK(partly.kept == 5 && partly.made == 7);
   car::Wide wide;
   wide.a0 = 1;
   wide.d7 = 32;
-  CHECK(kvs->SetValue("wide", wide));
-  GET(back, kvs->GetValue<car::Wide>("wide"));
+  CHECK(kvs.SetValue("wide", wide));
+  GET(back, kvs.GetValue<car::Wide>("wide"));
   CHECK(back.a0 == 1 && back.b0 == 0 && back.d7 == 32);
 }
 
