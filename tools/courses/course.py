@@ -21,7 +21,11 @@ DEVICE_FAILED = 3
 
 
 class Difference(Exception):
-    """What the program did that no world allows."""
+    """What the program did that no world allows, and behind how many lines of the run."""
+
+    def __init__(self, text, lines=0):
+        super().__init__(text)
+        self.lines = lines
 
 
 @dataclass
@@ -182,7 +186,8 @@ class Course:
             except Difference as difference:
                 faults.append(difference)
         if not worlds:
-            raise faults[0]
+            # Of several worlds the one is told that went along with the program for longest.
+            raise max(faults, key=lambda difference: difference.lines)
         self.worlds = list(worlds)
 
 
@@ -202,7 +207,7 @@ def followed(world, lines, replies, was_stopped):
             return [closed(it) for it in (world, after, *([unopened] if at == 0 else []))]
         if found != wanted and not (world[number].is_lost() and is_of_loss(found, was_refused)):
             line, found, wanted = map(shortened, (spelled(number, command), found or "nothing", wanted))
-            raise Difference(f"'{line}' is answered '{found}', and not '{wanted}'")
+            raise Difference(f"'{line}' is answered '{found}', and not '{wanted}'", at)
         was_refused = was_refused or found.startswith(LOST)
         world = after
     return [closed(world)]

@@ -3,8 +3,9 @@ import random
 
 from model import FILES, KEYS, NEWEST, PIECE, STORAGES, Value, kind_of, manifest
 
-CHOICES = 12
+CHOICES = 16
 MANIFESTS = {version: manifest(version) for version in range(1, NEWEST + 1)}
+REBUILDING = ("recover-storage", "reset-storage")
 OPENING = {"keys": ("open-kvs", "keys"), "files": ("open-files", "files")}
 
 
@@ -34,7 +35,7 @@ class Dice(random.Random):
         return things[self.below(len(things))]
 
 
-# ---- one command
+# ---- what is done next: a command, or some that belong together
 
 
 def chosen(dice, app):
@@ -42,41 +43,38 @@ def chosen(dice, app):
     if app.files is not None and dice.one_in(6):
         return by_handle(dice)
     if dice.one_in(8):
-        return [any_command(dice, app)]
+        return unfitting(dice, app)
     if not app.active:
         return [("install", dice.below(NEWEST - 1) + 1)]
-    return [stepping(dice) if app.draft else using(dice, app)]
+    return [stepping(dice)] if app.draft else using(dice, app)
 
 
-def any_command(dice, app):
-    """Returns a command that need not fit."""
+def unfitting(dice, app):
+    """Returns commands that need not fit."""
     kind = dice.below(6)
     if kind == 0:
-        word = dice.one_of(
-            "status finish rollback wipe update-next update-commit update-abort install update update-begin".split()
-        )
-        return (word, dice.below(NEWEST) + 1) if word in ("install", "update", "update-begin") else (word,)
+        words = "status finish rollback wipe update-next update-commit update-abort install update update-begin".split()
+        word = dice.one_of(words)
+        return [(word, dice.below(NEWEST) + 1) if word in ("install", "update", "update-begin") else (word,)]
     storage = dice.one_of(STORAGES)
     if kind == 1:
-        return OPENING[storage]
+        return [OPENING[storage]]
     if kind == 2:
-        return ("close", storage)
+        return [("close", storage)]
     if kind == 3:
-        return (dice.one_of(["recover-storage", "reset-storage"]), storage)
+        return [(dice.one_of(REBUILDING), storage)]
     return on_keys(dice, app) if kind == 4 else on_files(dice)
 
 
 def using(dice, app):
-    """Returns a command to what is installed."""
+    """Returns commands to what is installed."""
     if app.keys is None and app.files is None and dice.one_in(3):
-        return changing(dice, app)
+        return [changing(dice, app)]
     storage = dice.one_of(STORAGES)
     if getattr(app, storage) is None:
-        if dice.one_in(10):
-            return (dice.one_of(["recover-storage", "reset-storage"]), storage)
-        return OPENING[storage]
+        return [(dice.one_of(REBUILDING), storage) if dice.one_in(10) else OPENING[storage]]
     if dice.one_in(10):
-        return ("close", storage)
+        return [("close", storage)]
     return on_keys(dice, app) if storage == "keys" else on_files(dice)
 
 
@@ -96,12 +94,28 @@ def stepping(dice):
 
 
 def on_keys(dice, app):
-    often = ["get"] * 2 + ["set"] * 5 + ["sync"] * 3
-    word = dice.one_of(often + "remove discard remove-all reset-key recover-key exists keys size".split())
-    if word in ("sync", "discard", "remove-all", "keys", "size"):
-        return (word, "keys")
     key = dice.one_of(KEYS)
-    return (word, "keys", key, value(dice, app, key)) if word == "set" else (word, "keys", key)
+    change = ("set", "keys", key, value(dice, app, key))
+    looks = [("get", "keys", key)] * 2 + [("exists", "keys", key), ("keys", "keys"), ("size", "keys")]
+    word = dice.one_of(["set"] * 4 + ["sync"] * 3 + "discard remove remove-all reset-key recover-key".split())
+    command = (word, "keys") if word in ("sync", "discard", "remove-all") else (word, "keys", key)
+    return in_sequence(dice, change, change if word == "set" else command, looks)
+
+
+def on_files(dice):
+    file = dice.one_of(FILES)
+    change = ("put", "files", file, content(dice))
+    looks = [("cat", "files", file)] * 2 + [("file-exists", "files", file), ("files", "files"), ("size", "files")]
+    word = dice.one_of(["put"] * 4 + "delete reset-file recover-file flush".split())
+    command = (word, "files", "1") if word == "flush" else (word, "files", file)
+    return in_sequence(dice, change, change if word == "put" else command, looks)
+
+
+def in_sequence(dice, change, command, looks):
+    """Returns a command, at times behind one that gives it something to undo, and before one that looks at it."""
+    before = [change] if command != change and dice.one_in(2) else []
+    after = [dice.one_of(looks)] if dice.one_in(2) else []
+    return [*before, command, *after]
 
 
 def value(dice, app, key):
@@ -109,17 +123,6 @@ def value(dice, app, key):
     version = app.active.number if app.active else 1
     kind = "u16" if key in ("grown", "noted") and dice.one_in(10) else kind_of(key, version)
     return Value(kind, dice.below(256))
-
-
-def on_files(dice):
-    often = ["cat"] * 2 + ["put"] * 4
-    word = dice.one_of(often + "delete flush reset-file recover-file file-exists files size".split())
-    if word in ("files", "size"):
-        return (word, "files")
-    if word == "flush":
-        return (word, "files", "1")
-    file = dice.one_of(FILES)
-    return (word, "files", file, content(dice)) if word == "put" else (word, "files", file)
 
 
 def content(dice):

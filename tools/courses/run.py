@@ -2,7 +2,7 @@
 
 usage: .ci/courses [PROGRAM] [FIRST LAST]
 
-PROGRAM is the built program, which else is crates/per_cli/out/per_cli. The courses of the seeds FIRST to LAST are
+PROGRAM is the built program itself, and else crates/per_cli/out/per_cli. The courses of the seeds FIRST to LAST are
 taken, else 1 to 1200; where it is one, all that was done is told.
 """
 import multiprocessing
