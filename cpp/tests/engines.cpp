@@ -87,7 +87,7 @@ TEST(AFolderHasOneEngine) {
   const Bed bed;
   CHECK(bed.Start(kManifest));
   GET(kvs, OpenKeyValueStorage(Named("k")));
-  const std::string other = "'" + Program() + "' --serve --dir '" + bed.Folder() + "' </dev/null >/dev/null 2>&1";
+  const std::string other = "'" + Program() + "' --dir '" + bed.Folder() + "' </dev/null >/dev/null 2>&1";
   const int status = std::system(other.c_str());
   CHECK(WIFEXITED(status) && WEXITSTATUS(status) != 0);
   CHECK(kvs->SetValue("a", true));
@@ -335,7 +335,7 @@ TEST(AnEngineAtTwoDescriptors) {
   if (child == 0) {
     ::dup2(lines[0], 0);
     ::dup2(replies[1], 1);
-    ::execl(Program().c_str(), "per", "--serve", "--dir", bed.Folder().c_str(), static_cast<char*>(nullptr));
+    ::execl(Program().c_str(), "per", "--dir", bed.Folder().c_str(), static_cast<char*>(nullptr));
     std::_Exit(127);
   }
   ::close(lines[0]);
