@@ -1,0 +1,324 @@
+-- What is known after a sync of a file, and after one that failed.
+use Rattle.std.proofs.Common.{◌≡◌, ◌≢◌, ◌⊎◌, ◌↔◌, ℕ, suc, zero, ◌+◌, ◌-◌, ◌<◌, ◌≤◌, min, Bool, true, false, not, ◌==◌}
+use Rattle.std.proofs.Common.{cond, List, [], ◌∷◌, ◌++◌, length, take, drop, get_or}
+use Rattle.std.proofs.Common.{refl, sym, ◌∙◌, ap, subst, inl, inr, ⊎_elim, le_refl, arith, true≢false, eq-eqb, ne_eqb}
+use Rattle.std.specs.Prelude.{IsTrue, IsFalse, Contains, filter}
+use Rattle.std.proofs.lemmas.Bool.{cases_eq}
+use Rattle.std.proofs.lemmas.List.{drop_more, take_more, length-drop, take_at, get_or-take, get_or-drop}
+use Rattle.disk_model.specs.Medium.{Elapses, OnlyReads}
+use Rattle.system_model.specs.SystemMedium.{SystemMedium, IsSafe, IsWhole, IsStill, InRange, Shows}
+use Rattle.folder_disk.specs.declared.range.Range.{Range}
+use Rattle.folder_disk.specs.declared.held.Held.{Held}
+use Rattle.folder_disk.specs.Knows.{Covered, Knows}
+use Rattle.folder_disk.specs.Held.{IsHeld, ShowsAll, Holds}
+use Rattle.folder_disk.proofs.Noting.{safe_reads, covered_app, covered_old, covered_new}
+use Rattle.folder_disk.specs.Writes.{Writes, WritesAgain}
+use Rattle.disk_model.specs.Laws.{reads_on}
+
+-- ---- lists
+
+contains_tail : (x : ℕ) (xs : List ℕ) (f j : ℕ) → x ≢ f → j < suc (length xs) → get_or (x ∷ xs) j f ≡ f → Contains xs f
+contains_tail x xs f zero ne lt e = absurd (ne e)
+contains_tail x xs f (suc j) ne lt e = (j, omega arith, e)
+
+pub contains_next : (xs : List ℕ) (k f : ℕ) → k < length xs → f ≢ get_or xs k 0 → ¬ (Contains (drop (k + 1) xs) f)
+    → ¬ (Contains (drop k xs) f)
+contains_next xs k f lt ne none some =
+    let h = subst (λ ys. Contains ys f) (drop_more xs k 0 lt) some in
+    none (contains_tail (get_or xs k 0) (drop (k + 1) xs) f h.0 (λ e. ne (sym e)) h.1 h.2)
+
+abbrev pub others_of : ℕ → Range → Bool
+others_of file r = not (r.file == file)
+
+covered_keep_by : (b : Bool) (r : Range) (rs : List Range) (f i : ℕ) → (b ≡ false → f ≢ r.file)
+    → ((f ≡ r.file) × InRange r.at r.len i) ⊎ Covered rs f i → Covered (cond b (r ∷ rs) rs) f i
+covered_keep_by true r rs f i out h = h
+covered_keep_by false r rs f i out h = ⊎_elim (λ here. absurd (out refl here.0)) (λ later. later) h
+
+not_true : (b : Bool) → not b ≡ false → b ≡ true
+not_true true e = refl
+not_true false e = absurd (true≢false e)
+
+test_true : (a b : ℕ) → (a == b) ≡ true → a ≡ b
+test_true a b e = ⊎_elim (λ same. same) (λ ne. absurd (true≢false (sym e ∙ ne_eqb a b ne))) (cases_eq a b)
+
+pub covered_keep : (rs : List Range) (file f i : ℕ) → f ≢ file → Covered rs f i
+    → Covered (filter (others_of file) rs) f i
+covered_keep [] file f i ne h = h
+covered_keep (r ∷ rs) file f i ne h = covered_keep_by (others_of file r) r (filter (others_of file) rs) f i
+    (λ e same. ne (same ∙ test_true r.file file (not_true (r.file == file) e)))
+    (⊎_elim (λ here. inl here) (λ later. inr (covered_keep rs file f i ne later)) h)
+
+covered_less_by : (b : Bool) (r : Range) (rs ts : List Range) (f i : ℕ) → (b ≡ true → f ≡ r.file → ⊥ ⊎ Unit {0})
+    → (Covered ts f i → Covered rs f i) → Covered (cond b (r ∷ ts) ts) f i → Covered (r ∷ rs) f i
+covered_less_by true r rs ts f i out less h = ⊎_elim (λ here. inl here) (λ later. inr (less later)) h
+covered_less_by false r rs ts f i out less h = inr (less h)
+
+pub covered_less : (rs : List Range) (file f i : ℕ) → Covered (filter (others_of file) rs) f i → Covered rs f i
+covered_less [] file f i h = h
+covered_less (r ∷ rs) file f i h = covered_less_by (others_of file r) r rs (filter (others_of file) rs) f i
+    (λ _ _. inr tt) (covered_less rs file f i) h
+
+covered_other_by : (b : Bool) (r : Range) (ts : List Range) (f i : ℕ) → (b ≡ true → f ≢ r.file)
+    → ¬ (Covered ts f i) → ¬ (Covered (cond b (r ∷ ts) ts) f i)
+covered_other_by true r ts f i out none h = ⊎_elim (λ here. out refl here.0) none h
+covered_other_by false r ts f i out none h = none h
+
+not_false : (b : Bool) → not b ≡ true → b ≡ false
+not_false true e = absurd (true≢false (sym e))
+not_false false e = refl
+
+pub covered_other : (rs : List Range) (file i : ℕ) → ¬ (Covered (filter (others_of file) rs) file i)
+covered_other [] file i h = h
+covered_other (r ∷ rs) file i h = covered_other_by (others_of file r) r (filter (others_of file) rs) file i
+    (λ e same. true≢false (sym (eq-eqb r.file file (sym same)) ∙ not_false (r.file == file) e))
+    (covered_other rs file i) h
+
+keep_shorter : (b : Bool) (r : Range) (rs ts : List Range) → length ts ≤ length rs
+    → length (cond b (r ∷ ts) ts) ≤ suc (length rs)
+keep_shorter true r rs ts le = omega arith
+keep_shorter false r rs ts le = omega arith
+
+pub filter_shorter : (rs : List Range) (file : ℕ) → length (filter (others_of file) rs) ≤ length rs
+filter_shorter [] file = le_refl _
+filter_shorter (r ∷ rs) file = keep_shorter (others_of file r) r rs (filter (others_of file) rs) (filter_shorter rs
+    file)
+
+-- ---- syncs
+
+module _ (told : Bool) (a b : SystemMedium) (file : ℕ) (rs : List Range) (fresh grown lost : Bool)
+    (knows : Knows told a rs fresh grown lost) (f_is : IsFalse fresh) (l_is : IsFalse lost)
+    (names : (f : ℕ) → a.named f)
+    (reads : OnlyReads a.disk b.disk) (named : (f : ℕ) → a.named f → b.named f)
+    (others : IsTrue told → (f i : ℕ) → f ≢ file → (b.lost f i → a.lost f i) × (b.free f i ↔ a.free f i)) where
+  -- a good sync
+  pub knows_synced : (IsTrue told → IsWhole a file → a.named file → IsSafe b.disk file)
+      → (IsTrue told → IsWhole a file → IsStill b file)
+      → (IsTrue told → (f i : ℕ) → b.lost f i → a.lost f i)
+      → (IsTrue told → (f i : ℕ) → b.free f i → a.free f i)
+      → Knows told b (filter (others_of file) rs) fresh grown lost
+  knows_synced safe still kept no_more = record {
+    whole = λ t l f i h. knows.whole t l f i (kept t f i h);
+    free = λ t l f i h. ⊎_elim
+        (λ same. absurd (covered_other rs file i (subst (λ k. Covered (filter (others_of file) rs) k i) same h)))
+        (λ ne. ((others t f i ne).1).1 (knows.free t l f i (covered_less rs file f i h)))
+        (cases_eq f file);
+    covers = λ t l s f i h. ⊎_elim
+        (λ same. absurd (still t (knows.whole t l file) i (subst (λ k. b.free k i) same h)))
+        (λ ne. covered_keep rs file f i ne (knows.covers t l s f i (no_more t f i h)))
+        (cases_eq f file);
+    safe = λ t s f none. ⊎_elim
+        (λ same. subst (λ k. IsSafe b.disk k) (sym same) (safe t (knows.whole t l_is file) (names file)))
+        (λ ne. safe_reads a.disk b.disk reads f (knows.safe t s f
+        (λ i h. none i (covered_keep rs file f i ne h))))
+        (cases_eq f file);
+    named = λ s g f. named f (names f);
+  }
+
+  -- a sync that failed, after which what it may have dropped was written again
+  module _ (c : SystemMedium) (held : List Held) (holds : IsTrue told → Holds a file held)
+      (failed : IsTrue told → (i : ℕ) → (b.free file i ↔ a.free file i) × (b.lost file i → a.free file i ⊎ a.lost
+      file i))
+      (again : OnlyReads a.disk c.disk) (named' : (f : ℕ) → b.named f → c.named f)
+      (free' : IsTrue told → (f i : ℕ) → c.free f i ↔ b.free f i) (less : (f i : ℕ) → c.lost f i → b.lost f i) where
+    free_same : IsTrue told → (f i : ℕ) → c.free f i ↔ a.free f i
+    free_same t f i = ⊎_elim
+        (λ same. subst (λ k. c.free k i ↔ a.free k i) (sym same) (
+          λ h. ((failed t i).0).0 ((free' t file i).0 h),
+          λ h. (free' t file i).1 (((failed t i).0).1 h),
+        ))
+        (λ ne. (
+          λ h. ((others t f i ne).1).0 ((free' t f i).0 h),
+          λ h. (free' t f i).1 (((others t f i ne).1).1 h),
+        ))
+        (cases_eq f file)
+
+    pub knows_back : (IsTrue told → (i : ℕ) → IsHeld held i → ¬ (c.lost file i)) → Knows told c rs fresh grown lost
+    knows_back found = record {
+      whole = λ t l f i h. ⊎_elim
+          (λ same.
+          let here = subst (λ k. c.lost k i) same h in
+          ⊎_elim
+          (λ free. found t i ((holds t).all i free) here)
+          (λ was. knows.whole t l file i was)
+          ((failed t i).1 (less file i here)))
+          (λ ne. knows.whole t l f i ((others t f i ne).0 (less f i h)))
+          (cases_eq f file);
+      free = λ t l f i h. (free_same t f i).1 (knows.free t l f i h);
+      covers = λ t l s f i h. knows.covers t l s f i ((free_same t f i).0 h);
+      safe = λ t s f none. safe_reads a.disk c.disk again f (knows.safe t s f none);
+      named = λ s g f. named' f (named f (names f));
+    }
+
+    -- or could not be
+    pub knows_lost : Knows told c rs fresh grown true
+    knows_lost = record {
+      whole = λ t l. absurd (true≢false l);
+      free = λ t l. absurd (true≢false l);
+      covers = λ t l. absurd (true≢false l);
+      safe = λ t s f none. safe_reads a.disk c.disk again f (knows.safe t s f none);
+      named = λ s g f. named' f (named f (names f));
+    }
+
+-- ---- what was held
+
+pub shows_app : (file : List ℕ) (hs : List Held) (h : Held) → ShowsAll file hs → Shows file h.at h.bytes.items
+    → ShowsAll file (hs ++ h ∷ [])
+shows_app file [] h all one = (one, tt)
+shows_app file (x ∷ hs) h all one = (all.0, shows_app file hs h all.1 one)
+
+pub held_app : (hs : List Held) (h : Held) (i : ℕ) → IsHeld (hs ++ h ∷ []) i
+    ↔ (IsHeld hs i ⊎ InRange h.at (length h.bytes.items) i)
+held_app [] h i = (
+  λ x. ⊎_elim (λ y. inr y) (λ y. absurd y) x,
+  λ x. ⊎_elim (λ y. absurd y) (λ y. inl y) x,
+)
+held_app (g ∷ hs) h i = (
+  λ x. ⊎_elim (λ y. inl (inl y)) (λ y. ⊎_elim (λ z. inl (inr z)) (λ z. inr z) ((held_app hs h i).0 y)) x,
+  λ x. ⊎_elim (λ y. ⊎_elim (λ z. inl z) (λ z. inr ((held_app hs h i).1 (inl z))) y)
+      (λ y. inr ((held_app hs h i).1 (inr y))) x,
+)
+
+pub shows_at : (file : List ℕ) (hs : List Held) (k : ℕ) (d : Held) → k < length hs → ShowsAll file hs
+    → Shows file (get_or hs k d).at (get_or hs k d).bytes.items
+shows_at file [] k d lt all = absurd (omega arith)
+shows_at file (h ∷ hs) zero d lt all = all.0
+shows_at file (h ∷ hs) (suc k) d lt all = shows_at file hs k d (omega arith) all.1
+
+pub held_at : (hs : List Held) (k : ℕ) (d : Held) (i : ℕ) → k < length hs
+    → InRange (get_or hs k d).at (length (get_or hs k d).bytes.items) i → IsHeld hs i
+held_at [] k d i lt h = absurd (omega arith)
+held_at (x ∷ hs) zero d i lt h = inl h
+held_at (x ∷ hs) (suc k) d i lt h = inr (held_at hs k d i (omega arith) h)
+
+pub held_next : (hs : List Held) (k : ℕ) (d : Held) (i : ℕ) → k < length hs → IsHeld (take (k + 1) hs) i
+    → IsHeld (take k hs) i ⊎ InRange (get_or hs k d).at (length (get_or hs k d).bytes.items) i
+held_next hs k d i lt h = (held_app (take k hs) (get_or hs k d) i).0
+    (subst (λ xs. IsHeld xs i) (take_more hs k d lt) h)
+
+pub part_of : (file : List ℕ) (hs : List Held) (k : ℕ) (d : Held) (bytes : List ℕ) → k < length hs → d ≡ get_or hs k d
+    → bytes ≡ d.bytes.items → ShowsAll file hs → Shows file d.at bytes
+part_of file hs k d bytes lt is same all =
+    subst (λ xs. Shows file d.at xs) (sym same)
+    (subst (λ (x : Held). Shows file x.at x.bytes.items) (sym is) (shows_at file hs k d lt all))
+
+pub part_held : (hs : List Held) (k : ℕ) (d : Held) (bytes : List ℕ) → k < length hs → d ≡ get_or hs k d
+    → bytes ≡ d.bytes.items → (i : ℕ) → InRange d.at (length bytes) i → IsHeld hs i
+part_held hs k d bytes lt is same i range = held_at hs k d i lt
+    (subst (λ (x : Held). InRange x.at (length x.bytes.items) i) is
+    (subst (λ xs. InRange d.at (length xs) i) same range))
+
+pub part_next : (hs : List Held) (k : ℕ) (d : Held) (bytes : List ℕ) → k < length hs → d ≡ get_or hs k d
+    → bytes ≡ d.bytes.items → (i : ℕ) → IsHeld (take (k + 1) hs) i → IsHeld (take k hs) i ⊎ InRange d.at (length
+    bytes) i
+part_next hs k d bytes lt is same i h = ⊎_elim
+    (λ old. inl old)
+    (λ new. inr (subst (λ xs. InRange d.at (length xs) i) (sym same)
+    (subst (λ (x : Held). InRange x.at (length x.bytes.items) i) (sym is) new)))
+    (held_next hs k d i lt h)
+
+-- a part of what was held is written once more
+module _ (told : Bool) (file : ℕ) (old mid new : SystemMedium) (hs : List Held) (k : ℕ) (d : Held) (bytes : List ℕ)
+    (n : ℕ) (lt : k < length hs) (is : d ≡ get_or hs k d) (same : bytes ≡ d.bytes.items) (le : n ≤ length bytes)
+    (holds : IsTrue told → Holds old file hs)
+    (reads : OnlyReads old.disk mid.disk) (time : Elapses old.disk mid.disk)
+    (free : IsTrue told → (f i : ℕ) → mid.free f i ↔ old.free f i)
+    (writes : Writes told file d.at bytes n mid new) (again : WritesAgain told file d.at bytes mid new) where
+  pub back_reads : OnlyReads old.disk new.disk
+  back_reads = reads_on time reads writes.time
+      (again
+      (λ t i range. (free t file i).1 ((holds t).free i (part_held hs k d bytes lt is same i range)))
+      (λ t. subst (λ image. Shows (image file) d.at bytes) (sym reads.image)
+      (part_of (old.disk.image file) hs k d bytes lt is same (holds t).shows)))
+
+  pub back_free : IsTrue told → (f i : ℕ) → new.free f i ↔ old.free f i
+  back_free t f i = (
+    λ h. ⊎_elim
+        (λ was. (free t f i).0 was)
+        (λ new. subst (λ x. old.free x i) (sym new.0) ((holds t).free i (part_held hs k d bytes lt is same i
+        (new.1.0, omega (arith, new.1.1, le)))))
+        ((writes.frees t f i).0 h),
+    λ h. (writes.frees t f i).1 (inl ((free t f i).1 h)),
+  )
+
+  pub back_found : (IsTrue told → (i : ℕ) → IsHeld (take k hs) i → ¬ (mid.lost file i)) → length bytes ≤ n
+      → IsTrue told → (i : ℕ) → IsHeld (take (k + 1) hs) i → ¬ (new.lost file i)
+  back_found found all t i h lost = ⊎_elim
+      (λ was. found t i was (writes.lost file i lost))
+      (λ here. writes.found t i (here.0, omega (arith, here.1, all)) lost)
+      (part_next hs k d bytes lt is same i h)
+
+keep_suc : (b : Bool) (r : Range) (ts : List Range) → length (cond b (r ∷ ts) ts) ≤ suc (length ts)
+keep_suc true r ts = omega arith
+keep_suc false r ts = omega arith
+
+shorter_by : (b : Bool) (r : Range) (rs ts : List Range) → b ≡ false → length ts ≤ length rs
+    → length (cond b (r ∷ ts) ts) < suc (length rs)
+shorter_by true r rs ts e le = absurd (true≢false e)
+shorter_by false r rs ts e le = omega arith
+
+pub shorter_at : (rs : List Range) (file k : ℕ) (d : Range) → k < length rs → (get_or rs k d).file ≡ file
+    → length (filter (others_of file) rs) < length rs
+shorter_at [] file k d lt e = absurd (omega arith)
+shorter_at (r ∷ rs) file zero d lt e =
+    shorter_by (others_of file r) r rs (filter (others_of file) rs) (ap not (eq-eqb r.file file e)) (filter_shorter
+    rs file)
+shorter_at (r ∷ rs) file (suc k) d lt e =
+    let less = shorter_at rs file k d (omega arith) e in
+    let more = keep_suc (others_of file r) r (filter (others_of file) rs) in
+    omega (arith, less, more)
+
+pub not_in_end : (xs : List ℕ) (k f : ℕ) → length xs ≤ k → ¬ (Contains (drop k xs) f)
+not_in_end xs k f past h = omega (arith, h.1, length-drop k xs)
+
+pub written_back : (n : ℕ) (new rest : List ℕ) → n ≡ length new → take n (new ++ rest) ≡ new
+written_back n new rest e = subst (λ k. take k (new ++ rest) ≡ new) (sym e) (take_at new rest _ refl)
+
+pub shows_read : (file : List ℕ) (at count long : ℕ) (new : List ℕ) → length new ≡ long → long ≤ count
+    → count ≡ min long (length file - at) → take count new ≡ take count (drop at file) → Shows file at new
+shows_read file at count long new same all is bytes = record {
+  within = λ j lt. omega (arith, lt, same, all, is);
+  equal = λ j lt.
+      let l : j < count = omega (arith, lt, same, all) in
+      sym (get_or-drop at file j 0)
+      ∙ sym (get_or-take count (drop at file) j 0 l)
+      ∙ sym (ap (λ xs. get_or xs j 0) bytes)
+      ∙ get_or-take count new j 0 l;
+}
+
+pub covered_next : (rs : List Range) (k : ℕ) (d : Range) (f i : ℕ) → k < length rs → Covered (take (k + 1) rs) f i
+    → Covered (take k rs) f i ⊎ ((f ≡ (get_or rs k d).file) × InRange (get_or rs k d).at (get_or rs k d).len i)
+covered_next rs k d f i lt h = covered_app (take k rs) (get_or rs k d) f i
+    (subst (λ xs. Covered xs f i) (take_more rs k d lt) h)
+
+pub covered_later : (rs : List Range) (k : ℕ) (d : Range) (f i : ℕ) → k < length rs
+    → Covered (take k rs) f i ⊎ ((f ≡ (get_or rs k d).file) × InRange (get_or rs k d).at (get_or rs k d).len i)
+    → Covered (take (k + 1) rs) f i
+covered_later rs k d f i lt h = subst (λ xs. Covered xs f i) (sym (take_more rs k d lt))
+    (⊎_elim (λ old. covered_old (take k rs) (get_or rs k d) f i old) (λ new. covered_new (take k rs) (get_or rs k d)
+    f i new) h)
+
+-- a range of another file holds nothing of this one
+pub held_skip : (rs : List Range) (hs : List Held) (k : ℕ) (d : Range) (file : ℕ) → k < length rs
+    → (get_or rs k d).file ≢ file → ((i : ℕ) → IsHeld hs i ↔ Covered (take k rs) file i)
+    → (i : ℕ) → IsHeld hs i ↔ Covered (take (k + 1) rs) file i
+held_skip rs hs k d file lt ne was i = (
+  λ h. covered_later rs k d file i lt (inl ((was i).0 h)),
+  λ h. ⊎_elim (λ old. (was i).1 old) (λ new. absurd (ne (sym new.0))) (covered_next rs k d file i lt h),
+)
+
+-- and one of this file is held
+pub held_more : (rs : List Range) (hs : List Held) (k : ℕ) (d : Range) (file : ℕ) (part : Held) → k < length rs
+    → (get_or rs k d).file ≡ file → part.at ≡ (get_or rs k d).at → length part.bytes.items ≡ (get_or rs k d).len
+    → ((i : ℕ) → IsHeld hs i ↔ Covered (take k rs) file i)
+    → (i : ℕ) → IsHeld (hs ++ part ∷ []) i ↔ Covered (take (k + 1) rs) file i
+held_more rs hs k d file part lt same at long was i = (
+  λ h. covered_later rs k d file i lt (⊎_elim
+      (λ old. inl ((was i).0 old))
+      (λ new. inr (sym same, (omega (arith, new.0, at), omega (arith, new.1, at, long))))
+      ((held_app hs part i).0 h)),
+  λ h. (held_app hs part i).1 (⊎_elim
+      (λ old. inl ((was i).1 old))
+      (λ new. inr (omega (arith, new.1.0, at), omega (arith, new.1.1, at, long)))
+      (covered_next rs k d file i lt h)),
+)

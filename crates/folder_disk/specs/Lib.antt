@@ -1,0 +1,6 @@
+pub mod Files
+pub mod Writes
+pub mod Held
+pub mod Knows
+pub mod FolderView
+pub mod Laws

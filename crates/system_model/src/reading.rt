@@ -1,0 +1,10 @@
+//! How a read ends that did not fail.
+
+/// What a read gave.
+#[derive(Clone, Copy, Debug, PartialEq, Eq)]
+pub enum Reading {
+    /// So many bytes: none only at the end of the file, or where there was no room.
+    Bytes(usize),
+    /// So many bytes from here on, one at least, cannot be read, though the device answers. They count as zeros.
+    Unreadable(usize),
+}

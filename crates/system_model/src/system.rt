@@ -1,0 +1,149 @@
+//! The trait of a system: the calls for the files of one folder, and what each says of bytes, names and power losses.
+
+ghost use Rattle.std.specs.Prelude.{◌≡◌, ◌≢◌, ◌⊎◌, ◌↔◌, ℕ, ◌≤◌, ◌+◌, Bool, IsTrue, IfOk, OnOk, OnErr, IfSome, IfNone};
+ghost use Rattle.std.specs.Prelude.{length, take, Contains};
+ghost use Rattle.disk_model.specs.Image.{put_image};
+ghost use Rattle.disk_model.specs.Case.{Case, Follows};
+ghost use Rattle.disk_model.specs.Medium.{Quiet, IsLawful, Elapses, OnlyReads, WritesNothing};
+ghost use Rattle.system_model.specs.SystemMedium.{SystemMedium, IsSafe, IsWhole, IsStill, InRange, Shows, Looks};
+ghost use Rattle.system_model.specs.SystemMedium.{AnnounceCase, TearCase, IsAbsent, read_count, Gives};
+
+use crate::reading::Reading;
+use std::alloc::Global;
+use std::io;
+
+/// The files of one folder, named by numbers, as the operating system has them.
+///
+/// What is said of bytes and of power losses holds where the system tells them. A call that fails may be interrupted,
+/// or find no descriptor left: then it did nothing, as any other that fails, but for syncs.
+pub trait System {
+    /// A file that is open.
+    type File: Drop;
+
+    /// Which file it is.
+    ghost number: { Self.File → ℕ };
+
+    /// Whether a system of this type tells its bytes.
+    ghost told: { Bool };
+
+    /// What reads give, what a power loss may leave, and what is not durable yet.
+    ghost medium: { Self → SystemMedium };
+
+    /// The files that the folder has. Of any other a power loss leaves nothing, as reads give nothing of it.
+    fn list(&mut self, alloc: Global) -> io::Result<Vec<u32>>
+        ensures others { IsTrue told → IfOk result (λ files. (f : ℕ) → ¬ (Contains files.items f)
+            → IsAbsent (medium self.new) f) }
+        ensures looks { Looks (medium self.old) (medium self.new) };
+
+    /// Opens the file for reading and writing, if the folder has it.
+    fn open(&mut self, file: u32) -> io::Result<Option<Self::File>>
+        ensures number { IfOk result (λ found. IfSome found (λ it. number it ≡ file)) }
+        ensures absent { IsTrue told → IfOk result (λ found. IfNone found (IsAbsent (medium self.new) file)) }
+        ensures looks { Looks (medium self.old) (medium self.new) };
+
+    /// Makes the file, which the folder does not have, and opens it. Its name is durable after `sync_folder`.
+    fn make(&mut self, file: u32) -> io::Result<Self::File>
+        ensures number { IfOk result (λ it. number it ≡ file) }
+        ensures reads { OnlyReads (medium self.old).disk (medium self.new).disk }
+        ensures time { Elapses (medium self.old).disk (medium self.new).disk }
+        ensures free { (f i : ℕ) → (medium self.new).free f i ↔ (medium self.old).free f i }
+        ensures lost { (f i : ℕ) → (medium self.new).lost f i → (medium self.old).lost f i };
+
+    /// Closes the file. Nothing of it may be free: the error of a later writing back would reach nobody.
+    fn close(&mut self, file: Self::File)
+        requires { IsTrue told → IsStill (medium self.old) (number file) }
+        ensures looks { Looks (medium self.old) (medium self.new) };
+
+    /// Reads some of the bytes from `at` on, and none only at the end of the file or where there is no room.
+    fn read(&mut self, file: &Self::File, at: u64, out: &mut [u8]) -> io::Result<Reading>
+        ensures count { IfOk result (λ reading. read_count reading ≤ length out.old) }
+        ensures gives { IsTrue told → IsWhole (medium self.old) (number file.now) → IfOk result (λ reading.
+            Gives ((medium self.old).disk.image (number file.now)) at (length out.old) out.new reading) }
+        ensures looks { Looks (medium self.old) (medium self.new) };
+
+    /// How many bytes the file has.
+    fn length(&mut self, file: &Self::File) -> io::Result<u64>
+        ensures length { IsTrue told → IfOk result (λ n.
+            n ≡ length ((medium self.old).disk.image (number file.now))) }
+        ensures looks { Looks (medium self.old) (medium self.new) };
+
+    /// Writes the bytes from `at` on, or some of the first of them. Where it fails no byte is written.
+    fn write(&mut self, file: &Self::File, at: u64, bytes: &[u8]) -> io::Result<usize>
+        ensures count { IfOk result (λ n. n ≤ length bytes.now) }
+        ensures image { IsTrue told → IfOk result (λ n. (medium self.new).disk.image
+            ≡ put_image (medium self.old).disk.image (number file.now) at (take n bytes.now)) }
+        ensures now { IfOk result (λ n. Follows (TearCase (number file.now) at n) (medium self.old).disk.now
+            (medium self.new).disk.now) }
+        ensures during { Follows (TearCase (number file.now) at (length bytes.now)) (medium self.old).disk.now
+            ((medium self.new).disk.since (medium self.old).disk.moment) }
+        ensures time { Elapses (medium self.old).disk (medium self.new).disk }
+        ensures named { (f : ℕ) → (medium self.old).named f → (medium self.new).named f }
+        ensures failed { OnErr result (Looks (medium self.old) (medium self.new)) }
+
+        // What is written is free and not lost, and nothing else becomes so.
+        ensures frees { IsTrue told → IfOk result (λ n. (f i : ℕ) → (medium self.new).free f i
+            ↔ ((medium self.old).free f i ⊎ ((f ≡ number file.now) × InRange at n i))) }
+        ensures lost { (f i : ℕ) → (medium self.new).lost f i → (medium self.old).lost f i }
+        ensures found { IsTrue told → IfOk result (λ n. (i : ℕ) → InRange at n i
+            → ¬ ((medium self.new).lost (number file.now) i)) }
+
+        // To write once more what is there, and is free anyway, makes no case.
+        ensures again { (IsTrue told → (i : ℕ) → InRange at (length bytes.now) i
+            → (medium self.old).free (number file.now) i)
+            → (IsTrue told → Shows ((medium self.old).disk.image (number file.now)) at bytes.now)
+            → OnlyReads (medium self.old).disk (medium self.new).disk };
+
+    /// Makes the file durable: what was written to it by whatever process, but for what is lost, and where its name is
+    /// durable. Where it fails, anything of that may be lost.
+    fn sync_file(&mut self, file: &Self::File) -> io::Result<()>
+        ensures safe { IsTrue told → OnOk result (IsWhole (medium self.old) (number file.now)
+            → (medium self.old).named (number file.now) → IsSafe (medium self.new).disk (number file.now)) }
+        ensures still { IsTrue told → OnOk result (IsWhole (medium self.old) (number file.now)
+            → IsStill (medium self.new) (number file.now)) }
+        ensures kept { IsTrue told → OnOk result ((f i : ℕ) → (medium self.new).lost f i
+            → (medium self.old).lost f i) }
+        ensures others { IsTrue told → (f i : ℕ) → f ≢ number file.now
+            → ((medium self.new).lost f i → (medium self.old).lost f i)
+            × ((medium self.new).free f i ↔ (medium self.old).free f i) }
+        ensures failed { IsTrue told → OnErr result ((i : ℕ)
+            → ((medium self.new).free (number file.now) i ↔ (medium self.old).free (number file.now) i)
+            × ((medium self.new).lost (number file.now) i
+            → (medium self.old).free (number file.now) i ⊎ (medium self.old).lost (number file.now) i)) }
+        ensures no_more { IsTrue told → (f i : ℕ) → (medium self.new).free f i → (medium self.old).free f i }
+        ensures named { (f : ℕ) → (medium self.old).named f → (medium self.new).named f }
+        ensures reads { OnlyReads (medium self.old).disk (medium self.new).disk }
+        ensures time { Elapses (medium self.old).disk (medium self.new).disk };
+
+    /// Makes the names of all files of the folder durable. Where it fails, no later call is known to do so, and nothing
+    /// that was written can be relied on.
+    fn sync_folder(&mut self) -> io::Result<()>
+        ensures names { OnOk result ((f : ℕ) → (medium self.new).named f) }
+        ensures looks { OnOk result (Looks (medium self.old) (medium self.new)) }
+        ensures named { (f : ℕ) → (medium self.old).named f → (medium self.new).named f }
+        ensures free { (f i : ℕ) → (medium self.new).free f i ↔ (medium self.old).free f i }
+        ensures reads { OnlyReads (medium self.old).disk (medium self.new).disk }
+        ensures time { Elapses (medium self.old).disk (medium self.new).disk };
+
+    /// Notes that the writes to come serve this one. It changes no byte; an operating system has nothing to do.
+    fn announce(&mut self, file: u32, at: u64, bytes: &[u8])
+        ensures image { (medium self.new).disk.image ≡ (medium self.old).disk.image }
+        ensures now { Follows (AnnounceCase file at bytes.now) (medium self.old).disk.now (medium self.new).disk.now }
+        ensures during { (c : Case) → (medium self.new).disk.since (medium self.old).disk.moment c
+            → (medium self.old).disk.now c ⊎ (medium self.new).disk.now c }
+        ensures time { Elapses (medium self.old).disk (medium self.new).disk }
+        ensures named { (f : ℕ) → (medium self.old).named f → (medium self.new).named f }
+        ensures free { (f i : ℕ) → (medium self.new).free f i ↔ (medium self.old).free f i }
+        ensures lost { (f i : ℕ) → (medium self.new).lost f i → (medium self.old).lost f i };
+
+    /// Notes that all that was announced is durable. It changes no byte; an operating system has nothing to do.
+    fn settle(&mut self)
+        requires { IsTrue told → (f : ℕ) → IsSafe (medium self.old).disk f }
+        ensures quiet { Quiet (medium self.new).disk }
+        ensures writes_nothing { WritesNothing (medium self.old).disk (medium self.new).disk }
+        ensures time { Elapses (medium self.old).disk (medium self.new).disk }
+        ensures named { (f : ℕ) → (medium self.old).named f → (medium self.new).named f }
+        ensures free { (f i : ℕ) → (medium self.new).free f i ↔ (medium self.old).free f i }
+        ensures lost { (f i : ℕ) → (medium self.new).lost f i → (medium self.old).lost f i };
+
+    ghost lawful: { (system : Self) → IsLawful told (medium system).disk };
+}
