@@ -1,6 +1,7 @@
 //! Whole reads, made of the system's reads, which may be short.
 
-ghost use Rattle.std.specs.Prelude.{◌≡◌, ℕ, ◌≤◌, ◌<◌, ◌+◌, ◌-◌, ◌^◌, IsTrue, IfOk, length, take, drop, min, slice_index};
+ghost use Rattle.std.specs.Prelude.{◌≡◌, ℕ, ◌≤◌, ◌<◌, ◌+◌, ◌-◌, ◌^◌, IsTrue, IfOk, length, take, drop, min};
+ghost use Rattle.std.specs.Prelude.{slice_index};
 ghost use Rattle.system_model.specs.SystemMedium.{Looks, IsWhole, GivesBytes, GivesNone, Gives, read_count};
 
 use crate::opened::Opened;
