@@ -96,21 +96,38 @@ fn run_with<R: Files<File = File> + Eprint, I: Read + Drop, O: Write + Drop>(
         Err(_) => return no_memory(rt),
     };
     let notes = Notes::new();
+    run_noting(
+        rt, alloc, migrations, words, input, output, &target, dir, &notes,
+    )
+}
+
+/// The same for this target, with the failures of its device noted.
+fn run_noting<'a, R: Files<File = File> + Eprint, I: Read + Drop, O: Write + Drop>(
+    rt: &'a R,
+    alloc: Global,
+    migrations: &Migrations,
+    words: &[String],
+    input: I,
+    output: O,
+    target: &'a Target,
+    dir: String,
+    notes: &'a Notes,
+) -> u8 {
     let mut source = StdSource::new(input);
     let mut sink = StdSink::new(Telling {
         rt,
         dir: target.dir.as_str(),
-        notes: &notes,
+        notes,
         otherwise: target.flash.map(|_| Fault::Full),
         output,
     });
     let outcome = match target.flash {
         Some(blocks) => {
-            let flash = DirFlash::noting(rt, alloc, dir, target.access, blocks, &notes);
+            let flash = DirFlash::noting(rt, alloc, dir, target.access, blocks, notes);
             run_over_flash(alloc, words, migrations, &mut source, &mut sink, flash)
         }
         None => {
-            let disk = DirDisk::noting(rt, alloc, dir, target.access, &notes);
+            let disk = DirDisk::noting(rt, alloc, dir, target.access, notes);
             run_over_folder(alloc, words, migrations, &mut source, &mut sink, disk)
         }
     };
