@@ -17,6 +17,7 @@ EMPTY = (Application(), Application())
 FAILED = "error 4 PhysicalStorageFailure"
 LOST = "error 5 IntegrityCorrupted "
 KILLED = -9
+SECONDS = 600
 DEVICE_FAILED = 3
 
 
@@ -58,15 +59,18 @@ class Bench:
         environment = {**os.environ, "LD_PRELOAD": self.stopping, "NOTES": notes}
         if stop:
             environment["STOP"] = stop
-        done = subprocess.run(
-            [self.program, *words, "--dir", folder],
-            input=text.encode(),
-            stdout=subprocess.PIPE,
-            stderr=subprocess.PIPE,
-            env=environment,
-            close_fds=False,
-            check=False,
-        )
+        try:
+            done = subprocess.run(
+                [self.program, *words, "--dir", folder],
+                input=text.encode(),
+                capture_output=True,
+                env=environment,
+                close_fds=False,
+                timeout=SECONDS,
+                check=False,
+            )
+        except subprocess.TimeoutExpired as late:
+            raise Difference(f"a run does not end within {SECONDS} seconds") from late
         with open(notes, "rb") as file:
             calls = list(calls_of(file.read()))
         return done.returncode, done.stdout.decode().splitlines(), calls, done.stderr.decode()
