@@ -26,7 +26,7 @@ class Histogram final {
     std::printf("| %s | %.1f | %.1f | %.1f | %.1f |", name_.c_str(), At(50), At(90), At(99), times_.back());
     double bound = 8;
     auto from = times_.begin();
-    for (int column = 0; column < 8; ++column, bound *= 2) {
+    for (int column = 0; column < 10; ++column, bound *= 2) {
       const auto to = std::lower_bound(from, times_.end(), bound);
       std::printf(" %td |", to - from);
       from = to;
