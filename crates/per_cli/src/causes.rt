@@ -69,6 +69,12 @@ pub(crate) fn say<R: Files + Eprint>(rt: &R, ended: &Ended<'_>) -> io::Result<()
         ),
         3 if !has_folder(rt, dir) => eprintln!(rt; "per: there is no folder {dir}"),
         3 if is_held(ended) => eprintln!(rt; "per: the folder {dir} is in use by another run"),
+        3 if is_sync(ended) => say_failure(
+            rt,
+            "the disk failed, and the system is to be restarted before the next run",
+            dir,
+            ended.disk,
+        ),
         3 => say_failure(rt, "the disk failed", dir, ended.disk),
         4 => rt.eprintln("per: memory ran out"),
         5 => say_stream(rt, "standard input", ended.source),
@@ -117,6 +123,14 @@ fn is_held(ended: &Ended<'_>) -> bool {
         Some(Fault::System(failure)) => {
             failure.asked == Asked::Lock && failure.error.kind() == io::ErrorKind::WouldBlock
         }
+        _ => false,
+    }
+}
+
+/// Whether a sync failed, so that the next run may read what the device does not hold.
+fn is_sync(ended: &Ended<'_>) -> bool {
+    match ended.disk {
+        Some(Fault::System(failure)) => failure.asked == Asked::Sync,
         _ => false,
     }
 }

@@ -101,17 +101,14 @@ impl<'a, R: Files<File = File>> HeldFolder<'a, R> {
         self.settled(part, file.sync_data())
     }
 
-    /// What came of a sync that, where it fails, may have dropped what nobody can write again. What the system cannot
-    /// sync holds nothing that is pending: what is no file, and what lies where all may only be read.
+    /// What came of a sync that, where it fails, may have dropped what nobody can write again. What is no file holds
+    /// nothing that is pending, and cannot be synced; some systems cannot sync a folder where all may only be read.
     fn settled(&mut self, part: Part, done: io::Result<()>) -> Result<(), Failure> {
+        let may_be_unsynced = part != Part::Folder || self.access == Access::Read;
         match done {
             Ok(()) => Ok(()),
-            Err(error) => match error.kind() {
-                io::ErrorKind::InvalidInput if part != Part::Folder => Ok(()),
-                io::ErrorKind::InvalidInput | io::ErrorKind::ReadOnlyFilesystem
-                    if self.access == Access::Read => { Ok(()) }
-                _ => Err(self.lose(Failure::new(Asked::Sync, part, error))),
-            },
+            Err(error) if may_be_unsynced && error.kind() == io::ErrorKind::InvalidInput => Ok(()),
+            Err(error) => Err(self.lose(Failure::new(Asked::Sync, part, error))),
         }
     }
 

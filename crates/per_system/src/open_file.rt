@@ -93,18 +93,18 @@ impl OpenFile {
         if self.unsynced.is_empty() {
             return Ok(());
         }
-        let written = self.written(alloc).map_err(lost)?;
+        let written = self.written(alloc);
         match self.file.sync_data() {
             Ok(()) => {
                 self.unsynced.clear();
                 Ok(())
             }
             Err(error) => {
-                self.write_again(&written).map_err(lost)?;
-                Err(SyncFailed {
-                    error,
-                    is_lost: false,
-                })
+                let is_lost = match &written {
+                    Ok(pieces) => self.write_again(pieces).is_err(),
+                    Err(_) => true,
+                };
+                Err(SyncFailed { error, is_lost })
             }
         }
     }
@@ -128,13 +128,6 @@ impl OpenFile {
             self.file.write_all_at(piece.1.as_slice(), piece.0)?;
         }
         Ok(())
-    }
-}
-
-fn lost(error: io::Error) -> SyncFailed {
-    SyncFailed {
-        error,
-        is_lost: true,
     }
 }
 

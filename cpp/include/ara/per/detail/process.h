@@ -43,9 +43,14 @@ class Process final {
   /// Starts `program --dir folder` and gives the pipe to it; where nothing lies in the folder, `program --format` makes
   /// it ready before. 0, or why it cannot be started, as `errno`.
   [[nodiscard]] int Start(const std::string& program, const std::string& folder, Pipe& pipe) {
-    if (IsEmpty(folder)) {
-      const int fault = Format(program, folder);
-      if (fault != 0) return fault;
+    switch (ContentsOf(folder)) {
+      case Contents::kNothing:
+        if (const int fault = Format(program, folder); fault != 0) return fault;
+        break;
+      case Contents::kOthers:
+        return ENOTEMPTY;
+      case Contents::kOurs:
+        break;
     }
     Descriptor lines[2];
     Descriptor replies[2];
@@ -95,9 +100,25 @@ class Process final {
     }
   };
 
-  [[nodiscard]] static bool IsEmpty(const std::string& folder) noexcept {
+  /// What lies in a folder: nothing, a file of the engine, or only what others put there. One that cannot be listed is
+  /// left to the engine, which says why.
+  enum class Contents { kNothing, kOurs, kOthers };
+
+  [[nodiscard]] static Contents ContentsOf(const std::string& folder) {
     std::error_code fault;
-    return std::filesystem::is_empty(folder, fault) && !fault;
+    const std::filesystem::directory_iterator files{folder, fault};
+    if (fault) return Contents::kOurs;
+    Contents found = Contents::kNothing;
+    for (const std::filesystem::directory_entry& file : files) {
+      if (IsOurs(file.path().filename().string())) return Contents::kOurs;
+      found = Contents::kOthers;
+    }
+    return found;
+  }
+
+  /// Whether a file of this name may be one of the engine: `f` and a number.
+  [[nodiscard]] static bool IsOurs(const std::string& name) noexcept {
+    return name.size() > 1 && name[0] == 'f' && name.find_first_not_of("0123456789", 1) == std::string::npos;
   }
 
   /// Where the folder cannot be formatted, the run that follows says why.
