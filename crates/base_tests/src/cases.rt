@@ -3,7 +3,6 @@
 use crate::anywhere::twice;
 use crate::contents::{content, shared};
 use crate::indexes::index;
-use crate::scopes::scope;
 use crate::seals::{hash_of, sealed, verified};
 use crate::sessions::session;
 use crate::sizes::{name, size};
@@ -42,7 +41,6 @@ fn case(alloc: Global, line: &str) -> Result<String, Trouble> {
         "content" => content(alloc, rest),
         "shared" => shared(alloc, rest),
         "index" => index(alloc, rest),
-        "scope" => scope(alloc, rest),
         "stops" => stops(alloc, rest),
         _ => Err(Trouble::NoCase),
     }

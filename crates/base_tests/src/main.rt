@@ -2,10 +2,10 @@
 //! is printed of what came of it.
 //!
 //! A case begins with its kind: names and sizes, streams in memory, hashes and sealed texts, votes, sessions of a disk
-//! in memory and of a register on it, contents in blocks, texts of indexes, courses of a storage that are stopped, and
-//! a handle on a file that its scope closes. Bytes are written as hexadecimal digits, `3*07` for bytes that repeat,
-//! parts joined by `+`, and `empty`. A line that is empty or begins with `#` is printed as it stands, and one that is
-//! no case is answered by `no case`. What is wanted was worked out by hand from the formats, or comes from outside.
+//! in memory and of a register on it, contents in blocks, texts of indexes, and courses of a storage that are stopped.
+//! Bytes are written as hexadecimal digits, `3*07` for bytes that repeat, parts joined by `+`, and `empty`. A line that
+//! is empty or begins with `#` is printed as it stands, and one that is no case is answered by `no case`. What is
+//! wanted was worked out by hand from the formats, or comes from outside.
 //!
 //! `stops PLAN WORD .. / WORD / BEFORE / AFTER` stops the one word after each call of the disk, restarts in five ways,
 //! and says `kept` where an opening then finds what is expected before or after that word. A plan is
@@ -20,7 +20,6 @@ mod images;
 mod indexes;
 mod plans;
 mod runs;
-mod scopes;
 mod seals;
 mod sessions;
 mod sizes;

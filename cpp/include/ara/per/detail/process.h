@@ -43,8 +43,10 @@ class Process final {
   /// Starts `program --dir folder` and gives the pipe to it; where nothing lies in the folder, `program --format` makes
   /// it ready before. 0, or why it cannot be started, as `errno`.
   [[nodiscard]] int Start(const std::string& program, const std::string& folder, Pipe& pipe) {
-    switch (ContentsOf(folder)) {
+    std::error_code unlisted;
+    switch (ContentsOf(folder, unlisted)) {
       case Contents::kNothing:
+        if (unlisted) return unlisted.value();
         if (const int fault = Format(program, folder); fault != 0) return fault;
         break;
       case Contents::kOthers:
@@ -100,16 +102,12 @@ class Process final {
     }
   };
 
-  /// What lies in a folder: nothing, a file of the engine, or only what others put there. One that cannot be listed is
-  /// left to the engine, which says why.
+  /// What lies in a folder: nothing, a file of the engine, or only what others put there.
   enum class Contents { kNothing, kOurs, kOthers };
 
-  [[nodiscard]] static Contents ContentsOf(const std::string& folder) {
-    std::error_code fault;
-    const std::filesystem::directory_iterator files{folder, fault};
-    if (fault) return Contents::kOurs;
+  [[nodiscard]] static Contents ContentsOf(const std::string& folder, std::error_code& unlisted) {
     Contents found = Contents::kNothing;
-    for (const std::filesystem::directory_entry& file : files) {
+    for (const auto& file : std::filesystem::directory_iterator{folder, unlisted}) {
       if (IsOurs(file.path().filename().string())) return Contents::kOurs;
       found = Contents::kOthers;
     }
