@@ -1,0 +1,10 @@
+# Completion of the words of per, for bash: to be sourced.
+_per() {
+    local word=${COMP_WORDS[COMP_CWORD]} before=${COMP_WORDS[COMP_CWORD - 1]}
+    if [ "$before" = --dir ]; then
+        mapfile -t COMPREPLY < <(compgen -d -- "$word")
+    else
+        mapfile -t COMPREPLY < <(compgen -W "--format --dir --generate --audit --export --import --flash --demo --help --version --build" -- "$word")
+    fi
+}
+complete -F _per per ./per
