@@ -152,10 +152,8 @@ pub fn add(
     ensures unchanged { OnErr result (states.new.entries ≡ states.old.entries) }
 {
     let name = name.copy()?;
-    match states.insert(name, state) {
-        Ok(_) => Ok(()),
-        Err(_) => Err(AllocError),
-    }
+    drop(states.insert(name, state)?);
+    Ok(())
 }
 
 /// Adds a state with which nothing is synchronised.
