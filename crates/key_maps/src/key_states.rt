@@ -57,8 +57,8 @@ impl KeyState {
     {
         match mem::replace(&mut self.pending, Pending::Same) {
             Pending::Same => {}
-            Pending::Removed => self.synced = None,
-            Pending::Now(key) => self.synced = Some(key),
+            Pending::Removed => drop(self.synced.take()),
+            Pending::Now(key) => drop(self.synced.replace(key)),
         }
         self.synced.is_some()
     }
@@ -135,7 +135,7 @@ fn mark(states: &mut BTreeMap<Name, KeyState>, name: &Name, pending: Pending) ->
 {
     match states.get_mut(name) {
         Some(state) => {
-            state.pending = pending;
+            drop(mem::replace(&mut state.pending, pending));
             Ok(())
         }
         None => Err(pending),
@@ -152,10 +152,8 @@ pub fn add(
     ensures unchanged { OnErr result (states.new.entries ≡ states.old.entries) }
 {
     let name = name.copy()?;
-    match states.insert(name, state) {
-        Ok(_) => Ok(()),
-        Err(_) => Err(AllocError),
-    }
+    drop(states.insert(name, state)?);
+    Ok(())
 }
 
 /// Adds a state with which nothing is synchronised.
@@ -209,9 +207,9 @@ pub fn remove(states: &mut BTreeMap<Name, KeyState>, name: &Name)
     ensures { IsStep states.old.entries states.new.entries (without (visible_map states.old.entries) name.now) }
 {
     if is_synced(states, name) {
-        mem::drop(mark(states, name, Pending::Removed));
+        drop(mark(states, name, Pending::Removed));
     } else {
-        mem::drop(states.remove(name));
+        drop(states.remove(name));
     }
 }
 
@@ -221,7 +219,7 @@ pub fn clear(states: &mut BTreeMap<Name, KeyState>)
     ensures { IsStep states.old.entries states.new.entries [] }
 {
     states.retain(|_, state| {
-        state.pending = Pending::Removed;
+        drop(mem::replace(&mut state.pending, Pending::Removed));
         state.synced.is_some()
     });
 }
@@ -232,7 +230,7 @@ pub fn discard(states: &mut BTreeMap<Name, KeyState>)
     ensures { IsStep states.old.entries states.new.entries (synced_map states.old.entries) }
 {
     states.retain(|_, state| {
-        state.pending = Pending::Same;
+        drop(mem::replace(&mut state.pending, Pending::Same));
         state.synced.is_some()
     });
 }
