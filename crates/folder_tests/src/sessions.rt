@@ -2,11 +2,10 @@
 
 use crate::runs::run;
 use crate::sweeps::Sweep;
-use mem_system::{MemSystem, Trouble};
+use mem_system::MemSystem;
 use migrate_fns::Migrations;
 use std::alloc::{AllocError, Global};
-use std::io;
-use std::mem;
+use std::{io, mem};
 use system_model::System;
 use test_rows::{RowError, number};
 
@@ -39,8 +38,8 @@ impl Session {
             "spoil" => self.spoil(rest)?,
             "run" => return Ok(self.run(migrations, rest)?),
             "kills" => return self.sweep(migrations, rest)?.kills(),
-            "failures" => return self.sweep(migrations, rest)?.failures(Trouble::Call),
-            "syncs" => return self.sweep(migrations, rest)?.failures(Trouble::Sync),
+            "failures" => return self.sweep(migrations, rest)?.failures(),
+            "syncs" => return self.sweep(migrations, rest)?.syncs(),
             "damages" => return self.sweep(migrations, rest)?.damages(),
             _ => {}
         }

@@ -39,9 +39,16 @@ impl<'a> Sweep<'a> {
     pub(crate) fn kills(&self) -> Result<String, RowError> {
         let states = self.states()?;
         let mut shown = self.shown(&states)?;
-        let (_, whole) = self.ran(self.lines, Trouble::Nothing)?;
-        for call in 0..whole.calls() {
-            if let Some(fault) = self.killed(&states, call)? {
+        let mut last = None;
+        for call in 0..self.whole()?.calls() {
+            let (ran, system) = self.ran(self.lines, Trouble::Kill(call))?;
+            let count = answered(ran.output.as_str());
+            let place = Some((system.changes(), count));
+            if place == last {
+                continue;
+            }
+            last = place;
+            if let Some(fault) = self.killed(&states, count, system)? {
                 write!(shown, "= kill at call {call}: {fault}\n")?;
                 return Ok(shown);
             }
@@ -53,15 +60,23 @@ impl<'a> Sweep<'a> {
     /// What a look finds after each number of lines; then `= kept` where, after each call that fails alone and a power
     /// loss behind the run, it finds what it does after the last line that was handled and changes that, or after a
     /// later one. Else the first call for which it does not.
-    pub(crate) fn failures(&self, trouble: impl Fn(u64) -> Trouble) -> Result<String, RowError> {
+    pub(crate) fn failures(&self) -> Result<String, RowError> {
+        self.failing(self.whole()?.calls(), Trouble::Call)
+    }
+
+    /// The same with each sync failing alone.
+    pub(crate) fn syncs(&self) -> Result<String, RowError> {
+        self.failing(self.whole()?.syncs(), Trouble::Sync)
+    }
+
+    fn failing(&self, count: u64, trouble: impl Fn(u64) -> Trouble) -> Result<String, RowError> {
         let states = self.states()?;
         let mut shown = self.shown(&states)?;
-        let (_, whole) = self.ran(self.lines, Trouble::Nothing)?;
-        for call in 0..whole.calls() {
+        for call in 0..count {
             let (ran, system) = self.ran(self.lines, trouble(call))?;
             let least = handled(&states, &ran);
             let later = states.get(least..).unwrap_or(&[]);
-            if let Some(fault) = self.lost(later, &system, system.changes())? {
+            if let Some(fault) = self.lost_behind(later, &system)? {
                 write!(shown, "= call {call}: {fault}\n")?;
                 return Ok(shown);
             }
@@ -117,6 +132,12 @@ impl<'a> Sweep<'a> {
         self.found(system)
     }
 
+    /// The folder after all lines.
+    fn whole(&self) -> Result<MemSystem, AllocError> {
+        let (_, system) = self.ran(self.lines, Trouble::Nothing)?;
+        Ok(system)
+    }
+
     /// What comes of an input, and the folder.
     fn ran(&self, input: &str, trouble: Trouble) -> Result<(Ran, MemSystem), AllocError> {
         let mut system = self.start.restarted()?;
@@ -126,52 +147,59 @@ impl<'a> Sweep<'a> {
 
     /// What a look finds in a folder.
     fn found(&self, system: MemSystem) -> Result<String, AllocError> {
-        let (ran, _) = run(
-            self.alloc,
-            self.words,
-            self.migrations,
-            self.look,
-            system,
-        )?;
+        let (ran, _) = run(self.alloc, self.words, self.migrations, self.look, system)?;
         ran.answers(self.alloc)
     }
 
-    /// What is wrong after a kill at a call.
-    fn killed(&self, states: &[String], call: u64) -> Result<Option<String>, AllocError> {
-        let (ran, mut system) = self.ran(self.lines, Trouble::Kill(call))?;
-        let count = answered(ran.output.as_str());
+    /// What is wrong after a kill, before which so many lines were answered.
+    fn killed(
+        &self,
+        states: &[String],
+        count: usize,
+        system: MemSystem,
+    ) -> Result<Option<String>, AllocError> {
+        let mut system = system;
         let wanted = states.get(count..).unwrap_or(&[]);
         let wanted = wanted.get(..2).unwrap_or(wanted);
         let first = system.changes();
         system.set_trouble(Trouble::Nothing);
-        let (looked, system) = run(
-            self.alloc,
-            self.words,
-            self.migrations,
-            self.look,
-            system,
-        )?;
+        let (looked, system) = run(self.alloc, self.words, self.migrations, self.look, system)?;
         let found = looked.answers(self.alloc)?;
         if !is_among(wanted, found.as_str()) {
             return Ok(Some(found));
         }
-        for changes in first..system.changes() {
-            if let Some(fault) = self.lost(wanted, &system, changes)? {
+        for seed in SEEDS {
+            if let Some(fault) = self.lost(wanted, &system, first, seed)? {
                 return Ok(Some(fault));
             }
         }
-        self.lost(&[found], &system, system.changes())
+        self.lost_behind(&[found], &system)
     }
 
-    /// What is wrong after a power loss behind the first of the changes.
+    /// What is wrong after a power loss behind the run.
+    fn lost_behind(
+        &self,
+        wanted: &[String],
+        system: &MemSystem,
+    ) -> Result<Option<String>, AllocError> {
+        for seed in SEEDS {
+            if let Some(fault) = self.lost(wanted, system, system.changes(), seed)? {
+                return Ok(Some(fault));
+            }
+        }
+        Ok(None)
+    }
+
+    /// What is wrong after a power loss behind each of the changes from the first one on.
     fn lost(
         &self,
         wanted: &[String],
         system: &MemSystem,
-        changes: usize,
+        first: usize,
+        seed: u64,
     ) -> Result<Option<String>, AllocError> {
         let mut last: Option<MemSystem> = None;
-        for seed in SEEDS {
+        for changes in first..=system.changes() {
             let left = system.power_loss(changes, seed)?;
             if is_same(&last, &left) {
                 continue;
@@ -180,7 +208,7 @@ impl<'a> Sweep<'a> {
             let found = self.found(left)?;
             if !is_among(wanted, found.as_str()) {
                 let fault = format!(in self.alloc;
-                    "power lost after {changes} changes, {seed}: {found}"
+                    "power lost behind change {changes}, {seed}: {found}"
                 )?;
                 return Ok(Some(fault));
             }

@@ -118,8 +118,7 @@ impl Device {
                 put(self.alloc, &mut self.durable, file, stretch.at, bytes)?;
             }
         }
-        self.unsynced
-            .retain(|unsynced| unsynced.stretch.file != file || unsynced.is_dropped);
+        self.unsynced.retain(|unsynced| unsynced.stretch.file != file || unsynced.is_dropped);
         Ok(())
     }
 

@@ -85,7 +85,11 @@ impl MemSystem {
         };
         self.unreadable.push(stretch)?;
         if let Some(bytes) = self.files.get_mut(&file) {
-            for byte in bytes.iter_mut().skip(at as usize).take(stretch.len as usize) {
+            for byte in bytes
+                .iter_mut()
+                .skip(at as usize)
+                .take(stretch.len as usize)
+            {
                 *byte = 0;
             }
         }
@@ -249,11 +253,7 @@ impl System for MemSystem {
         if self.record.push(call).is_err() {
             return Err(no_memory());
         }
-        if is_good {
-            Ok(())
-        } else {
-            Err(device_error())
-        }
+        if is_good { Ok(()) } else { Err(device_error()) }
     }
 
     fn sync_folder(&mut self) -> io::Result<()> {
