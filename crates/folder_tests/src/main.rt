@@ -1,5 +1,5 @@
-//! Sessions with the program over a folder in memory, whose process is killed, whose calls fail, whose power is lost and
-//! whose files become unreadable: rows in, and the same rows out with what the program wrote.
+//! Sessions with the program over a folder in memory: it is killed, its calls fail, its power is lost, and its files
+//! become unreadable. Rows in, and the same rows out with what the program wrote.
 //!
 //! | row | what it does, and what is printed behind it |
 //! |---|---|
