@@ -83,6 +83,13 @@ impl<S: System> FolderDisk<S> {
         }
     }
 
+    /// The system, as the disk left it.
+    pub fn into_system(self) -> S
+        ensures { result ≡ self.system }
+    {
+        self.folder.system.into_system()
+    }
+
     /// The last call of the system that failed, for the one who is told of it.
     pub fn failure(&self) -> Option<Failure> {
         self.folder.failure

@@ -1,0 +1,54 @@
+//! Places that a device cannot read, until they are written.
+
+/// A stretch of a file.
+#[derive(Clone, Copy, Debug, PartialEq, Eq)]
+pub(crate) struct Stretch {
+    pub(crate) file: u32,
+    pub(crate) at: u64,
+    pub(crate) len: u64,
+}
+
+impl Stretch {
+    fn end(self) -> u64 {
+        self.at.saturating_add(self.len)
+    }
+
+    /// Whether both have a byte in common.
+    pub(crate) fn meets(self, other: Stretch) -> bool {
+        self.file == other.file && self.at < other.end() && other.at < self.end()
+    }
+}
+
+/// How many bytes from `at` on cannot be read, one after the other.
+pub(crate) fn unreadable_from(unreadable: &[Stretch], file: u32, at: u64) -> u64 {
+    let mut count = 0u64;
+    for stretch in unreadable {
+        if stretch.file == file && stretch.at <= at {
+            count = count.max(stretch.end().saturating_sub(at));
+        }
+    }
+    count
+}
+
+/// How many bytes from `at` on lie before the next that cannot be read.
+pub(crate) fn readable_from(unreadable: &[Stretch], file: u32, at: u64) -> u64 {
+    let mut count = u64::MAX;
+    for stretch in unreadable {
+        if stretch.file == file && stretch.at > at {
+            count = count.min(stretch.at - at);
+        }
+    }
+    count
+}
+
+/// How many zeros stand from `at` on, and at most `len`.
+pub(crate) fn zeros_from(bytes: &[u8], at: u64, len: u64) -> u64 {
+    let mut count = 0u64;
+    for byte in bytes.iter().skip(at as usize) {
+        if *byte != 0 || count >= len {
+            break;
+        }
+        count = count.saturating_add(1);
+    }
+    count
+}
