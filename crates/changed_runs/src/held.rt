@@ -64,9 +64,11 @@ impl Held {
         let first = j - j % RUNS;
         let end = bytes.len().min(RUN * (j + 1));
         let read = read_runs(disk, file, at + (RUN * first) as u64, end - RUN * first)?;
+        let bytes = read.0;
+        let count = read.1;
         *self = Held {
-            bytes: read.0,
-            count: read.1,
+            bytes,
+            count,
             first,
         };
         Ok(())
