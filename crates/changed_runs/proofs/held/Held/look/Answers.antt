@@ -1,4 +1,4 @@
-use Rattle.std.proofs.Common.{◌≡◌, ◌-◌, ◌%◌, arith}
+use Rattle.std.proofs.Common.{◌-◌, ◌%◌, arith}
 use Rattle.changed_runs.proofs.Looking.{freshly_seen}
 use Rattle.changed_runs.proofs.held.Held.look.Goals as goal
 
