@@ -1,0 +1,111 @@
+//! Bytes as a file held them.
+
+ghost use Rattle.std.specs.Prelude.{◌≡◌, ◌≤◌, ◌-◌, min, length, take, drop, IsTrue, IfOk, OnOk, OnErr};
+ghost use Rattle.per_base.specs.Causes.{Rose};
+ghost use Rattle.disk_model.specs.Medium.{Elapses, OnlyReads};
+
+use crate::changing::RUN;
+use disk_model::{Disk, DiskFailed};
+
+/// How many runs are read at once.
+const RUNS: usize = 16;
+
+/// What a look at a file gave, from the front of a run on.
+#[derive(Drop)]
+pub struct Held {
+    bytes: [u8; RUN * RUNS],
+    count: usize,
+    /// The number of the first run.
+    first: usize,
+    ghost within: { count ≤ 4096 },
+}
+
+impl Held {
+    ghost use Rattle.std.specs.Prelude.{◌<◌, ◌+◌, ◌*◌, ◌^◌, ℕ, List, suc};
+    ghost use Rattle.changed_runs.specs.Held.{HoldsRun, IsSeen, is_seen};
+
+    /// Nothing yet, where the runs before this one are to be looked at.
+    pub fn nothing(first: usize) -> Held
+        ensures { result.first ≡ first }
+    {
+        Held {
+            bytes: [0; RUN * RUNS],
+            count: 0,
+            first,
+        }
+    }
+
+    /// Reads the run with this number and those before it, unless it was read.
+    pub fn look<D: Disk>(
+        &mut self,
+        disk: &mut D,
+        file: u32,
+        at: u64,
+        bytes: &[u8],
+        j: usize,
+    ) -> Result<(), DiskFailed>
+        requires room { at + length bytes.now < 2 ^ 64 }
+        requires inside { 256 * j < length bytes.now }
+        ensures seen { IsTrue D.told → OnOk result ((old : List ℕ)
+            → ((i : ℕ) → i ≤ j → HoldsRun old at bytes.now i → HoldsRun ((D.medium disk.old).image file) at bytes.now i)
+            → IsSeen (take self.old.count self.old.bytes) self.old.first (suc j) at bytes.now old
+            ((D.medium disk.old).image file)
+            → IsSeen (take self.new.count self.new.bytes) self.new.first (suc j) at bytes.now old
+            ((D.medium disk.old).image file)) }
+        ensures from { OnOk result (self.new.first ≤ j) }
+        ensures reads { OnlyReads (D.medium disk.old) (D.medium disk.new) }
+        ensures time { Elapses (D.medium disk.old) (D.medium disk.new) }
+        ensures cause { OnErr result (Rose (D.medium disk.old).faults (D.medium disk.new).faults) }
+        ensures passes { OnOk result ((D.medium disk.new).faults ≡ (D.medium disk.old).faults) }
+    {
+        if self.first <= j {
+            return Ok(());
+        }
+        let first = j - j % RUNS;
+        let end = bytes.len().min(RUN * (j + 1));
+        let read = read_runs(disk, file, at + (RUN * first) as u64, end - RUN * first)?;
+        let bytes = read.0;
+        let count = read.1;
+        *self = Held {
+            bytes,
+            count,
+            first,
+        };
+        Ok(())
+    }
+
+    /// Whether the run with this number is among the bytes.
+    pub fn has(&self, j: usize, run: &[u8]) -> bool
+        requires from { self.now.first ≤ j }
+        requires room { 256 * j < 2 ^ 63 }
+        ensures { result ≡ is_seen (take self.now.count self.now.bytes) self.now.first j run.now }
+    {
+        let held = &self.bytes[..self.count];
+        let start = held.len().min(RUN * (j - self.first));
+        let rest = &held[start..];
+        let front = &rest[..rest.len().min(run.len())];
+        front == run
+    }
+}
+
+/// Reads at most so many bytes, and says how many there were.
+fn read_runs<D: Disk>(
+    disk: &mut D,
+    file: u32,
+    at: u64,
+    room: usize,
+) -> Result<([u8; RUN * RUNS], usize), DiskFailed>
+    requires { room ≤ 4096 }
+    ensures count { IfOk result (λ read. read.1 ≤ room) }
+    ensures bytes { IsTrue D.told → IfOk result (λ read.
+        (read.1 ≡ min room (length ((D.medium disk.old).image file) - at))
+        × (take read.1 read.0 ≡ take read.1 (drop at ((D.medium disk.old).image file)))) }
+    ensures reads { OnlyReads (D.medium disk.old) (D.medium disk.new) }
+    ensures time { Elapses (D.medium disk.old) (D.medium disk.new) }
+    ensures cause { OnErr result (Rose (D.medium disk.old).faults (D.medium disk.new).faults) }
+    ensures passes { OnOk result ((D.medium disk.new).faults ≡ (D.medium disk.old).faults) }
+{
+    let mut held = [0; RUN * RUNS];
+    let count = disk.read(file, at, &mut held[..room])?;
+    Ok((held, count))
+}
