@@ -37,6 +37,7 @@ mod laws;
 mod layer;
 mod opening;
 mod serving;
+mod streams;
 mod table;
 
 pub use disk::{FlashDisk, FlashOpenError, FlashRefused};

@@ -38,9 +38,12 @@ impl Session {
             "full" => self.fill()?,
             ">" => self.script.add_line(rest)?,
             "?" => self.script.add_look(rest)?,
+            "syncs" => self.script.add_syncs(number(rest)?)?,
             "run" => return self.run(migrations, rest),
             "stops" => return Ok(self.script.stops(migrations, rest)?),
             "outages" => return Ok(self.script.outages(migrations, rest)?),
+            "cost" => return Ok(self.script.cost(migrations, rest)?),
+            "losses" => return Ok(self.script.losses(migrations, rest)?),
             "failures" => return Ok(self.script.failures(migrations, rest)?),
             _ => {}
         }
