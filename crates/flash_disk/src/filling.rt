@@ -359,7 +359,7 @@ impl<F: Flash> Layer<F> {
 
 // Whether a page is blank.
 #[tactic(auto, unfolding(flash_model::specs::Pages::blank_page))]
-fn is_blank(page: &[u8]) -> bool
+pub(crate) fn is_blank(page: &[u8]) -> bool
     ensures { IsTrue result → page.now ≡ blank_page }
 {
     page == [0xff; 512].as_slice()

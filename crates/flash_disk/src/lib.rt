@@ -32,6 +32,7 @@
 
 mod calls;
 mod disk;
+mod erasing;
 mod filling;
 mod laws;
 mod layer;
@@ -41,4 +42,5 @@ mod streams;
 mod table;
 
 pub use disk::{FlashDisk, FlashOpenError, FlashRefused};
-pub use laws::{fresh_flashes_open, usable_flashes_are_taken};
+pub use erasing::erase_all;
+pub use laws::{fresh_flashes_open, lost_pages_cost_one_copy, usable_flashes_are_taken};

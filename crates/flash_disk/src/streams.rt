@@ -11,7 +11,7 @@ use std::alloc::{AllocError, Global};
 const COPIES: usize = 8;
 
 /// The least number of blocks of a flash on which copies are kept apart.
-const LEAST_BLOCKS: u32 = 12;
+const LEAST_BLOCKS: u32 = 16;
 
 /// The copy of a block that holds nothing, and of one that holds records of several copies.
 const NONE: u8 = 254;
@@ -72,18 +72,27 @@ impl Streams {
         };
     }
 
-    /// The block whose newest records are fewest, of those that hold records of a file's copy alone or none that count;
-    /// `spare` where none of them leaves a page.
+    /// The block whose newest records are fewest, of those that hold records of a file's copy alone or none that count.
+    /// It is `spare` where there is none, or where it leaves less than a quarter of the pages that another would.
     pub fn lightest(&self, table: &Table, file: u32, spare: u32) -> u32 {
         let copy = self.copy_of(file);
         let mut best = spare;
         let mut least = BLOCK_PAGES;
+        let mut least_of_all = BLOCK_PAGES;
         for block in 0..self.copies.len().min(4096) as u32 {
+            if block == spare {
+                continue;
+            }
             let load = table.load_of(block);
-            if block != spare && load < least && self.may_give(copy, block, load) {
+            least_of_all = load.min(least_of_all);
+            if load < least && self.may_give(copy, block, load) {
                 best = block;
                 least = load;
             }
+        }
+        let leaves = BLOCK_PAGES.saturating_sub(least);
+        if 4 * leaves < BLOCK_PAGES.saturating_sub(least_of_all) {
+            return spare;
         }
         best
     }
