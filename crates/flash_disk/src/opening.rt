@@ -173,6 +173,7 @@ impl<F: Flash> Layer<F> {
         self.state.table.measure();
         self.state.stray_end = self.state.table.stray_end();
         self.state.disputed = self.state.table.is_disputed();
+        self.streams.leave_mixed();
         match self.flash.settle() {
             Ok(()) => Ok(true),
             Err(_) => Err(DiskFailed),

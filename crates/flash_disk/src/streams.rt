@@ -15,6 +15,7 @@ const LEAST_BLOCKS: u32 = 16;
 
 /// The copy of a block that holds nothing, and of one that holds records of several copies.
 const NONE: u8 = 254;
+
 const SEVERAL: u8 = 255;
 
 /// Where the records of each copy go on, and of which copy the records in each block are.
@@ -114,17 +115,35 @@ impl Streams {
         false
     }
 
-    /// A block holds the first records of another, and goes on with those of a file's copy.
+    /// A block holds as many records as were moved from another, and goes on with those of a file's copy.
     pub fn begin(&mut self, file: u32, block: u32, from: u32, moved: u32) {
         let was = self.copies.get(from as usize).copied().unwrap_or(SEVERAL);
-        if let Some(copy) = self.copies.get_mut(block as usize) {
-            *copy = if moved == 0 { NONE } else { was };
-        }
-        if let Some(copy) = self.copies.get_mut(from as usize) {
-            *copy = NONE;
+        self.set(block, if moved == 0 { NONE } else { was });
+        self.set(from, NONE);
+        for other in 0..COPIES {
+            if self.next[other].block == block || self.next[other].block == from {
+                self.next[other].page = BLOCK_PAGES;
+            }
         }
         let copy = self.copy_of(file);
         self.next[copy as usize] = Place { block, page: moved };
+    }
+
+    /// Goes on with no copy in a block that holds records of another too.
+    pub fn leave_mixed(&mut self) {
+        for copy in 0..COPIES {
+            let block = self.next[copy].block;
+            if self.copies.get(block as usize) != Some(&(copy as u8)) {
+                self.next[copy].page = BLOCK_PAGES;
+            }
+        }
+    }
+
+    // What a block is said to hold.
+    fn set(&mut self, block: u32, copy: u8) {
+        if let Some(said) = self.copies.get_mut(block as usize) {
+            *said = copy;
+        }
     }
 
     /// Whether each newest record lies in a block with records of its copy alone.
@@ -149,10 +168,6 @@ impl Streams {
     fn copy_of(&self, file: u32) -> u8
         ensures { result < 8 }
     {
-        if self.apart {
-            (file / 4 % 8) as u8
-        } else {
-            0
-        }
+        if self.apart { (file / 4 % 8) as u8 } else { 0 }
     }
 }

@@ -31,14 +31,26 @@ impl<'a> Losses<'a> {
         let mut shown = String::new(self.alloc);
         write!(shown, "< {}\n", self.found(0, 0)?)?;
         for found in &self.tally(1, 1)? {
-            write!(shown, "= one page, {} times: {}\n", found.times, found.answers)?;
+            write!(
+                shown,
+                "= one page, {} times: {}\n",
+                found.times, found.answers
+            )?;
         }
         for found in &self.tally(2, 1)? {
-            write!(shown, "= two pages, {} times: {}\n", found.times, found.answers)?;
+            write!(
+                shown,
+                "= two pages, {} times: {}\n",
+                found.times, found.answers
+            )?;
         }
         let block = BLOCK_PAGES as usize;
         for found in &self.tally(block, block)? {
-            write!(shown, "= a block, {} times: {}\n", found.times, found.answers)?;
+            write!(
+                shown,
+                "= a block, {} times: {}\n",
+                found.times, found.answers
+            )?;
         }
         Ok(shown)
     }

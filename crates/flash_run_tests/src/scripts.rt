@@ -57,6 +57,17 @@ impl Script {
         Ok(())
     }
 
+    /// The lines so far, so many times.
+    pub(crate) fn repeat(&mut self, count: u32) -> Result<(), AllocError> {
+        let once = self.input()?;
+        self.front = String::new(self.alloc);
+        self.last = String::new(self.alloc);
+        for _ in 0..count {
+            self.front.push_str(once.as_str())?;
+        }
+        Ok(())
+    }
+
     /// One line more that looks.
     pub(crate) fn add_look(&mut self, line: &str) -> Result<(), AllocError> {
         self.look.push_str(line)?;

@@ -38,6 +38,7 @@ impl Session {
             "full" => self.fill()?,
             ">" => self.script.add_line(rest)?,
             "?" => self.script.add_look(rest)?,
+            "times" => self.script.repeat(number(rest)?)?,
             "syncs" => self.script.add_syncs(number(rest)?)?,
             "run" => return self.run(migrations, rest),
             "stops" => return Ok(self.script.stops(migrations, rest)?),
