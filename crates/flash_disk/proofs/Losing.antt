@@ -91,5 +91,5 @@ led_apart pages blocks table led owns block = (
 
 -- what is not there is nothing
 pub none_there : {T : Type 0} (o : Option T) {b : Bool} → b ≡ is_some o → b ≡ false → o ≡ None
-none_there None is no = refl
-none_there (Some x) is no = absurd (true≢false (sym is ∙ no))
+none_there None is none = refl
+none_there (Some x) is none = absurd (true≢false (sym is ∙ none))

@@ -124,7 +124,7 @@ impl Device {
 
     /// Whether so many pages from one on are all blank.
     pub(crate) fn is_blank(&self, first: usize, count: usize) -> bool {
-        let pages = self.pages.iter().skip(first).take(count);
+        let mut pages = self.pages.iter().skip(first).take(count);
         pages.all(|page| *page == BLANK_PAGE)
     }
 

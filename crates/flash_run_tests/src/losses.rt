@@ -85,5 +85,6 @@ fn add(tally: &mut Vec<Found>, answers: String) -> Result<(), AllocError> {
             return Ok(());
         }
     }
-    tally.push(Found { answers, times: 1 })
+    tally.push(Found { answers, times: 1 })?;
+    Ok(())
 }

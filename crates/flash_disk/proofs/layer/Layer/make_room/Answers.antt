@@ -1,4 +1,7 @@
+use Rattle.std.proofs.Common.{ap}
+use Rattle.flash_disk.specs.declared.layer.LayerState.{LayerState}
 use Rattle.flash_disk.proofs.Moving.{look_stands, stands_then}
+use Rattle.flash_disk.proofs.Turning.{turned_fits}
 use Rattle.flash_disk.proofs.layer.Layer.make_room.Goals as goal
 
 pub returns-in_err-fresh-clause-does : goal.returns-in_err-fresh-clause-does
@@ -27,3 +30,10 @@ returns-clause-does g c told =
     (c.free_block.ensures.accounts.time told)
     (look_stands m look (e.only.looks.state told) e.only.blocks (e.only.looks.during told) c.args.self.now.state
     (c.requires.ready.sound told)) (c.free_block.ensures.does told)
+
+pub returns-clause-fits : goal.returns-clause-fits
+returns-clause-fits g c told file page len bytes fits =
+    let e = c.is_fresh.ensures.reads in
+    c.free_block.ensures.fits told file page len bytes (turned_fits (g.F.Flash.medium c.args.self.now.flash)
+    (g.F.Flash.medium c.is_fresh.new.self.flash) (e.only.pages told) e.only.blocks c.args.self.now.state
+    c.is_fresh.new.self.state (ap (λ (q : LayerState). q.table) e.state) file page len bytes fits)

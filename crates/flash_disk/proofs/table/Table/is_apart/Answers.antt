@@ -17,11 +17,11 @@ loop-key-preserved c key entry is =
     owns_more c.args.copies.now key c.in-Some.key.now entry c.in-Some.newest.now c.next.new.self
     c.loop-key.key-iterator
     (rest_more deref_pair _ _ _ (c.in-Some.key, c.in-Some.newest) c.in-Some.is c.next.ensures.steps)
-    (c.is_of.ensures c.if-is_of.false)
+    (c.is_of.ensures c.if-not-is_of.false)
     (c.loop-key.invariant key entry is)
 
 pub returns : goal.returns
-returns c yes key entry is =
+returns c apart key entry is =
     let none : c.loop-key.key-iterator ≡ [] = rest_all deref_pair _ _ _ c.in-None.is c.next.ensures.steps in
     ⊎_elim
     (λ left. absurd (none-some entry (subst (λ l. lookup (same_page key) l ≡ Some entry) none left)))
