@@ -16,3 +16,4 @@ pub mod Answered
 pub mod Caused
 pub mod Reopens
 pub mod FlashRuns
+pub mod Outvoted
