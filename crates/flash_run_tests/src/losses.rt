@@ -2,7 +2,6 @@
 
 use crate::device::Device;
 use crate::runs::run_over_flash;
-use flash_model::BLOCK_PAGES;
 use migrate_fns::Migrations;
 use std::alloc::{AllocError, Global};
 
@@ -25,37 +24,17 @@ struct Found {
 }
 
 impl<'a> Losses<'a> {
-    /// What a look finds with nothing lost; and how often it finds what, with each page lost that is not blank, with
-    /// each two neighbours, and with each block.
-    pub(crate) fn shown(&self) -> Result<String, AllocError> {
+    /// What a look finds with nothing lost; and how often it finds what with so many pages lost, from each on that is a
+    /// multiple of the step, unless all of them are blank.
+    pub(crate) fn shown(&self, count: usize, step: usize) -> Result<String, AllocError> {
         let mut shown = String::new(self.alloc);
         write!(shown, "< {}\n", self.found(0, 0)?)?;
-        for found in &self.tally(1, 1)? {
-            write!(
-                shown,
-                "= one page, {} times: {}\n",
-                found.times, found.answers
-            )?;
-        }
-        for found in &self.tally(2, 1)? {
-            write!(
-                shown,
-                "= two pages, {} times: {}\n",
-                found.times, found.answers
-            )?;
-        }
-        let block = BLOCK_PAGES as usize;
-        for found in &self.tally(block, block)? {
-            write!(
-                shown,
-                "= a block, {} times: {}\n",
-                found.times, found.answers
-            )?;
+        for found in &self.tally(count, step)? {
+            write!(shown, "= {} times: {}\n", found.times, found.answers)?;
         }
         Ok(shown)
     }
 
-    /// What a look finds with so many pages lost, from each on that is a multiple of the step.
     fn tally(&self, count: usize, step: usize) -> Result<Vec<Found>, AllocError> {
         let mut tally = Vec::new(self.alloc);
         for first in 0..self.flash.pages() {

@@ -14,7 +14,7 @@
 //! | `outages WORDS` | the lines so far on such a flash, with power going off in each call that changes pages: `Sweep` says what is expected |
 //! | `failures WORDS` | the same with each call of the flash failing alone |
 //! | `cost WORDS` | the lines so far on such a flash: how many pages were programmed, and how many blocks erased |
-//! | `losses WORDS` | such a flash with each page lost in turn, each two neighbours, and each block: how often the look finds what |
+//! | `losses COUNT STEP WORDS` | such a flash with so many pages lost, from each on that is a multiple of the step: how often the look finds what |
 //! | any other | nothing |
 //!
 //! Between two runs the flash and the disk restart with all that was written.

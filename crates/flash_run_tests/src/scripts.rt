@@ -144,8 +144,10 @@ impl Script {
 
     /// What a look finds where pages of the flash are lost.
     pub(crate) fn losses(
-        &mut self,
+        &self,
         migrations: &Migrations,
+        count: u32,
+        step: u32,
         words: &str,
     ) -> Result<String, AllocError> {
         let losses = Losses {
@@ -155,9 +157,7 @@ impl Script {
             flash: self.replayed(migrations, Device::new(self.alloc, self.blocks)?)?,
             look: self.look.as_str(),
         };
-        let shown = losses.shown()?;
-        self.look = String::new(self.alloc);
-        Ok(shown)
+        losses.shown(count as usize, step as usize)
     }
 
     /// Lines on the flash on which all was run that was run so far.

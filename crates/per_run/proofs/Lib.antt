@@ -16,4 +16,3 @@ pub mod Answered
 pub mod Caused
 pub mod Reopens
 pub mod FlashRuns
-pub mod Outvoted

@@ -1,14 +1,6 @@
 //! The top call over raw flash.
 
-ghost use Rattle.std.specs.Prelude.{◌≡◌, ◌⊎◌, ◌+◌, ◌%◌, ◌<◌, ◌≤◌, ℕ, List, IfSome, IsSomeAnd, false, map};
-ghost use Rattle.std.specs.Prelude.{string_bytes, ◌≢◌};
-ghost use Rattle.disk_model.specs.declared.place.Place.{Place};
-ghost use Rattle.flash_model.specs.Pages.{Pages};
-ghost use Rattle.flash_disk.specs.Apart.{IsApart, LosesPages};
-ghost use Rattle.flash_disk.specs.FlashFiles.{flash_files};
-ghost use Rattle.flash_disk.specs.Newest.{places};
-ghost use Rattle.flash_disk.specs.Standing.{IsAgreed};
-ghost use Rattle.guarded_cell.specs.Register.{IsAlone, IsStanding};
+ghost use Rattle.std.specs.Prelude.{◌≡◌, ◌⊎◌, ◌+◌, IfSome, IsSomeAnd, false, map, string_bytes, ◌≢◌};
 ghost use Rattle.migrate_fns.specs.Stored.{answers_of, rules_of};
 ghost use Rattle.per_base.specs.Causes.{Rose};
 ghost use Rattle.run_model.specs.Lines.{IsWellFormed};
@@ -21,7 +13,7 @@ use crate::endings::{DEVICE, OUT_OF_MEMORY, REFUSED, UNUSABLE, WRONG_SIZE};
 use crate::job::run_job;
 use crate::words::{JobKind, WordsError, read_words};
 use command_text::one_line;
-use flash_disk::{FlashDisk, FlashOpenError, lost_pages_cost_one_copy};
+use flash_disk::{FlashDisk, FlashOpenError};
 use flash_model::Flash;
 use migrate_fns::Migrations;
 use per_base::{Sink, Source};
@@ -134,17 +126,4 @@ fn status_of(error: FlashOpenError) -> u8
         FlashOpenError::Device => DEVICE,
         FlashOpenError::OutOfMemory => OUT_OF_MEMORY,
     }
-}
-
-/// What the loss of pages of one block leaves of a text that was synchronised, so that each copy of its place holds it
-/// alone: it stands, where m copies have to agree, at least 2 and fewer than there are. The flash keeps the copies apart,
-/// as its disk says (`FlashDisk::keeps_copies_apart`), and has no rivals. Roots are such places, with 2 of 3.
-pub fn lost_pages_are_outvoted()
-    ensures { (old new : Pages) (blocks block m generation : ℕ) (text : List ℕ) (place : Place)
-        → IsAgreed old (places blocks) → IsApart old blocks → LosesPages block old new
-        → place.first % 32 ≡ 0 → place.copies ≤ 8 → 2 ≤ m → m < place.copies
-        → IsAlone (flash_files old blocks) place generation text
-        → IsStanding (flash_files new blocks) place m generation text }
-{
-    lost_pages_cost_one_copy();
 }

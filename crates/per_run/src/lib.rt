@@ -36,6 +36,6 @@ mod tally;
 mod words;
 mod writing;
 
-pub use flash::{FlashRun, lost_pages_are_outvoted, per_flash};
+pub use flash::{FlashRun, per_flash};
 pub use job::per_run;
 pub use words::{Job, JobKind, WordsError, read_words};

@@ -1,8 +1,8 @@
 use Rattle.std.proofs.Common.{◌≡◌, ◌+◌, ◌*◌, ◌∙◌, sym, arith}
 use Rattle.flash_disk.specs.Apart.{copy_of}
 use Rattle.flash_disk.specs.FlashFiles.{flash_files}
-use Rattle.per_run.proofs.Outvoted.{outvoted}
-use Rattle.per_run.proofs.flash.lost_pages_are_outvoted.Goals as goal
+use Rattle.flash_laws.proofs.Outvoted.{outvoted}
+use Rattle.flash_laws.proofs.lost_pages_are_outvoted.Goals as goal
 
 pub returns : goal.returns
 returns c old new blocks block m generation text place agreed apart loses at most two few alone =
