@@ -167,8 +167,8 @@ impl<F: Flash> Layer<F> {
         }
     }
 
-    // Finds the page that is to be filled next with a record of a file: the one behind the last of the same copy, or one
-    // of a block that is made free.
+    // Finds the page that is to be filled next with a record of a file: the one behind the last of the same copy, or
+    // one of a block that is made free.
     fn make_room(&mut self, file: u32) -> Result<(), DiskFailed>
         requires ready { IsSure F.told F.medium self.old }
         ensures ready { IsSure F.told F.medium self.new }

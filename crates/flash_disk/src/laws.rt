@@ -7,8 +7,8 @@ ghost use Rattle.flash_disk.specs.Standing.{IsAgreed, HasRivals};
 ghost use Rattle.flash_disk.specs.Fresh.{IsBlankFlash};
 ghost use Rattle.flash_disk.specs.Apart.{copy_of, IsApart, IsOfCopy, LosesPages, CostsOneCopy};
 
-/// A fresh flash can be opened, has no rivals, and keeps the copies apart. No call makes rivals where the records agree,
-/// and where they agree there are none: so on a flash that only such disks wrote, no write fails for rivals.
+/// A fresh flash can be opened, has no rivals, and keeps the copies apart. No call makes rivals where the records
+/// agree, and where they agree there are none: so on a flash that only such disks wrote, no write fails for rivals.
 pub fn fresh_flashes_open()
     ensures usable { (pages : Pages) (blocks : ℕ) → 0 < blocks → IsBlankFlash pages blocks → IsUsable pages blocks }
     ensures agreed { (pages : Pages) (blocks : ℕ) → IsBlankFlash pages blocks → IsAgreed pages (places blocks) }

@@ -8,9 +8,9 @@
 //! with one number it reads the earlier again.
 //!
 //! Some block is spare at all times. When the block that a copy goes on in is full, the spare block is erased, the
-//! records that are needed in another block are copied into it, and that block becomes the spare one. A page that failed
-//! as a record was programmed is read again before the next use; a block that failed as it was erased or filled is
-//! erased again.
+//! records that are needed in another block are copied into it, and that block becomes the spare one. A page that
+//! failed as a record was programmed is read again before the next use; a block that failed as it was erased or filled
+//! is erased again.
 //!
 //! On 16 blocks or more each copy goes on in a block of its own: file f is of copy `f / 4 % 8`. The block whose records
 //! are moved for a copy is one that holds records of that copy alone, or none that count; where no such block leaves as

@@ -13,8 +13,8 @@ ghost use Rattle.guarded_cell.specs.Register.{IsAlone, IsStanding};
 use flash_disk::lost_pages_cost_one_copy;
 
 /// What the loss of pages of one block leaves of a text that was synchronised, so that each copy of its place holds it
-/// alone: it stands, where m copies have to agree, at least 2 and fewer than there are. The flash keeps the copies apart,
-/// as its disk says (`FlashDisk::keeps_copies_apart`), and has no rivals. Roots are such places, with 2 of 3.
+/// alone: it stands, where m copies have to agree, at least 2 and fewer than there are. The flash keeps the copies
+/// apart, as its disk says (`FlashDisk::keeps_copies_apart`), and has no rivals. Roots are such places, with 2 of 3.
 pub fn lost_pages_are_outvoted()
     ensures { (old new : Pages) (blocks block m generation : ℕ) (text : List ℕ) (place : Place)
         → IsAgreed old (places blocks) → IsApart old blocks → LosesPages block old new

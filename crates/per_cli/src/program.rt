@@ -175,8 +175,8 @@ fn run_over_folder<'a, R: Files<File = File>, S: Source, K: Sink>(
 }
 
 /// Runs the program over the flash in the folder. One whose file has more bytes than its blocks is left as it is: with
-/// too few of them it would open, at what was written earlier. Before it is formatted its blocks are erased, so that all
-/// of its room comes back.
+/// too few of them it would open, at what was written earlier. Before it is formatted its blocks are erased, so that
+/// all of its room comes back.
 fn run_over_flash<'a, R: Files<File = File>, S: Source, K: Sink>(
     alloc: Global,
     words: &[String],
