@@ -206,7 +206,7 @@ fn run_over_flash<'a, R: Files<File = File>, S: Source, K: Sink>(
 
 /// Whether a flash of so many blocks is opened.
 fn is_right_size(blocks: u32) -> bool {
-    (4..=4096).contains(&blocks)
+    blocks >= 4 && blocks <= 4096
 }
 
 /// What came of a run over a flash.
