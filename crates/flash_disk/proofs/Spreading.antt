@@ -1,5 +1,5 @@
 -- Some block other than the spare one has room for a record: not all of them can have a whole block of the entries.
-use Rattle.std.proofs.Common.{◌≡◌, ◌≢◌, ℕ, zero, suc, ◌+◌, ◌*◌, ◌<◌, ◌≤◌, Bool, true, false, cond, List, [], ◌∷◌}
+use Rattle.std.proofs.Common.{◌≡◌, ◌≢◌, ◌⊎◌, ℕ, zero, suc, ◌+◌, ◌*◌, ◌<◌, ◌≤◌, Bool, true, false, cond, List, [], ◌∷◌}
 use Rattle.std.proofs.Common.{length, vec_len, Result, Ok, Err, OnErr, refl, sym, ap, subst, ⊎_elim, arith}
 use Rattle.std.specs.Prelude.{Some, is_ok, unwrap_or, option_map, nat_eq, nat_lt, ◌&&◌}
 use Rattle.std.specs.List.{sum_by}
@@ -67,10 +67,11 @@ others_heavy f spare (suc n) heavy = ⊎_elim
     heavy n (omega arith) apart in omega (arith, before, here)))
     (cases_eq n spare)
 
--- the block that is lightest but for the spare one has fewer entries than a block has pages
+-- a block has fewer entries than a block has pages if it is the lightest but for the spare one, or has been seen to
 pub light_enough : (blocks : ℕ) (table : Table) (spare lightest : ℕ) → IsCounted blocks table
     → (lightest ≢ spare → lightest < table.blocks)
-    → ((b : ℕ) → b < table.blocks → b ≢ spare → (lightest ≢ spare) × (load_known table lightest ≤ load_known table b))
+    → ((b : ℕ) → b < table.blocks → b ≢ spare → (lightest ≢ spare)
+    × ((load_known table lightest < 64) ⊎ (load_known table lightest ≤ load_known table b)))
     → (lightest ≢ spare) × (lightest < blocks) × (entries_in table lightest < 64)
 light_enough blocks table spare lightest counted within least =
     let same = counted.blocks_are in
@@ -87,9 +88,10 @@ light_enough blocks table spare lightest counted within least =
           (λ light. light)
           (λ heavy.
           (let all = others_heavy (entries_in table) spare blocks (λ b less apart.
-          (let le = (least b (inside b less) apart).1 in let mine = counted.counts lightest below in let its =
-          counted.counts b less in
-          omega (arith, le, mine, its, heavy))) in
+          (let mine = counted.counts lightest below in let its = counted.counts b less in ⊎_elim
+          (λ light. absurd (omega (arith, light, mine, heavy)))
+          (λ le. omega (arith, le, mine, its, heavy))
+          (least b (inside b less) apart).1)) in
           let sum : sum_below (entries_in table) blocks ≤ length (values table.newest) =
           spread (values table.newest) blocks in
           let long = length-values_of table.newest.entries in

@@ -61,43 +61,70 @@ module _ (pages : Pages) (file page n : ℕ) where
   pub is_newest_of : (x : Placed) → newest pages file page n ≡ Some x → IsNewest pages file page n x
   is_newest_of x is = subst (IsNewestOf pages file page n) is (newest_is pages file page n)
 
--- the newest records of each page say the same
-abbrev pub SaysAlike : (old new : Pages) → ℕ → Type 0
-SaysAlike old new n = (file page : ℕ) → said (newest new file page n) ≡ said (newest old file page n)
+-- the newest records of each page of a file say the same
+abbrev pub FileSaysAlike : (old new : Pages) → (n file : ℕ) → Type 0
+FileSaysAlike old new n file = (page : ℕ) → said (newest new file page n) ≡ said (newest old file page n)
 
-module _ (old new : Pages) (n : ℕ) (alike : SaysAlike old new n) where
-  -- each byte is the same
-  pub same_said_byte : (file i : ℕ) → file_byte new n file i ≡ file_byte old n file i
-  same_said_byte file i = said_byte (newest new file (i / 256) n) (i % 256)
-      ∙ (ap (λ o. record_byte o (i % 256)) (alike file (i / 256))
+module _ (old new : Pages) (n file : ℕ) (alike : FileSaysAlike old new n file) where
+  -- each byte of it is the same
+  pub file_said_byte : (i : ℕ) → file_byte new n file i ≡ file_byte old n file i
+  file_said_byte i = said_byte (newest new file (i / 256) n) (i % 256)
+      ∙ (ap (λ o. record_byte o (i % 256)) (alike (i / 256))
       ∙ sym (said_byte (newest old file (i / 256) n) (i % 256)))
 
   -- a newest record says what one did before
-  pub said_before : (file page : ℕ) (x : Placed) → newest new file page n ≡ Some x
+  file_said_before : (page : ℕ) (x : Placed) → newest new file page n ≡ Some x
       → (y : Placed) × (newest old file page n ≡ Some y) × (y.says ≡ x.says)
-  said_before file page x is = said_some (newest old file page n) x.says (sym (alike file page) ∙ ap said is)
+  file_said_before page x is = said_some (newest old file page n) x.says (sym (alike page) ∙ ap said is)
 
   -- what a newest record said one says now
-  pub said_after : (file page : ℕ) (x : Placed) → newest old file page n ≡ Some x
+  file_said_after : (page : ℕ) (x : Placed) → newest old file page n ≡ Some x
       → (y : Placed) × (newest new file page n ≡ Some y) × (y.says ≡ x.says)
-  said_after file page x is = said_some (newest new file page n) x.says (alike file page ∙ ap said is)
+  file_said_after page x is = said_some (newest new file page n) x.says (alike page ∙ ap said is)
 
-  -- a file of some length still has it
-  pub same_file_len : (file len : ℕ) → IsFileLen old n file len → IsFileLen new n file len
-  same_file_len file len is = record {
-    most = λ page x found. let before = said_before file page x found in
+  -- if it had some length it still has it
+  pub file_keeps_len : (len : ℕ) → IsFileLen old n file len → IsFileLen new n file len
+  file_keeps_len len is = record {
+    most = λ page x found. let before = file_said_before page x found in
         subst (λ (q : PageRecord). q.len ≤ len) before.2 (is.most page before.0 before.1);
     one = ⊎_elim
         (λ none. inl none)
-        (λ some. let after = said_after file some.0 some.1 some.2 in
+        (λ some. let after = file_said_after some.0 some.1 some.2 in
         inr (some.0, after.0, after.1, some.3 ∙ ap (λ q. q.len) (sym after.2)))
         is.one;
   }
 
+  -- it is as long
+  pub file_said_len : file_len new n file ≡ file_len old n file
+  file_said_len = sym (one_len new n file (file_len old n file)
+      (file_keeps_len (file_len old n file) (file_len_is old n file)))
+
+-- the newest records of each page say the same
+abbrev pub SaysAlike : (old new : Pages) → ℕ → Type 0
+SaysAlike old new n = (file : ℕ) → FileSaysAlike old new n file
+
+module _ (old new : Pages) (n : ℕ) (alike : SaysAlike old new n) where
+  -- each byte is the same
+  pub same_said_byte : (file i : ℕ) → file_byte new n file i ≡ file_byte old n file i
+  same_said_byte file = file_said_byte old new n file (alike file)
+
+  -- a newest record says what one did before
+  pub said_before : (file page : ℕ) (x : Placed) → newest new file page n ≡ Some x
+      → (y : Placed) × (newest old file page n ≡ Some y) × (y.says ≡ x.says)
+  said_before file = file_said_before old new n file (alike file)
+
+  -- what a newest record said one says now
+  pub said_after : (file page : ℕ) (x : Placed) → newest old file page n ≡ Some x
+      → (y : Placed) × (newest new file page n ≡ Some y) × (y.says ≡ x.says)
+  said_after file = file_said_after old new n file (alike file)
+
+  -- a file of some length still has it
+  pub same_file_len : (file len : ℕ) → IsFileLen old n file len → IsFileLen new n file len
+  same_file_len file = file_keeps_len old new n file (alike file)
+
   -- each file is as long
   pub same_said_len : (file : ℕ) → file_len new n file ≡ file_len old n file
-  same_said_len file = sym (one_len new n file (file_len old n file)
-      (same_file_len file (file_len old n file) (file_len_is old n file)))
+  same_said_len file = file_said_len old new n file (alike file)
 
   -- no byte past the end of a file came to show
   pub same_said_strayless : (from : ℕ) → IsStrayless old n from → IsStrayless new n from

@@ -1,5 +1,7 @@
 pub mod Newest
 pub mod FlashFiles
+pub mod Apart
+pub mod LedApart
 pub mod Known
 pub mod Counted
 pub mod Learnt

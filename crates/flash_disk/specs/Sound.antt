@@ -30,12 +30,12 @@ LeavesOut table block = (key : FilePage) (entry : Newest) → known table key �
 abbrev pub SameFill : LayerState → LayerState → Type 0
 SameFill old new = (new.fill ≡ old.fill) × (new.unsure ≡ old.unsure) × (new.moved ≡ old.moved)
 
--- the block that is being filled is blank from the next page on, and is not the spare one
+-- the page that is to be filled next is blank, and does not lie in the spare block
 pub record IsFresh (pages : Pages) (blocks : ℕ) (s : LayerState) : Type 0 where
   pub agreed : IsFalse s.disputed
   pub within : s.current < blocks
   pub apart : s.current ≢ s.spare
-  pub blank : (p : ℕ) → s.fill ≤ p → p < 64 → pages s.current p ≡ blank_page
+  pub blank : pages s.current s.fill ≡ blank_page
 
 -- what is kept fits these pages
 pub record Sound (pages : Pages) (blocks : ℕ) (s : LayerState) : Type 0 where

@@ -1,6 +1,7 @@
 //! A disk over a flash.
 
-ghost use Rattle.std.specs.Prelude.{◌≡◌};
+ghost use Rattle.std.specs.Prelude.{◌≡◌, IsTrue};
+ghost use Rattle.flash_disk.specs.Apart.{IsApart};
 
 use crate::layer::Layer;
 use flash_model::Flash;
@@ -58,6 +59,15 @@ impl<F: Flash> FlashDisk<F> {
         ensures { result ≡ self.flash }
     {
         self.layer.flash
+    }
+
+    /// Whether the copies are kept apart on the flash as it is: then no loss of pages of one block costs files of two
+    /// of them. It takes no memory, and no call of the flash.
+    pub fn keeps_copies_apart(&self) -> bool
+        ensures { IsTrue F.told → IsTrue result → IsApart (F.medium self.now.flash).state.pages
+            (F.medium self.now.flash).blocks }
+    {
+        self.layer.is_apart()
     }
 
     /// How many writes since the opening failed though the flash did not, up to the greatest u64: `FailsAlone` says

@@ -4,7 +4,7 @@ ghost use Rattle.std.specs.Prelude.{◌≡◌, ◌⊎◌, ◌+◌, ◌*◌, ◌�
 ghost use Rattle.std.specs.Prelude.{None, length, vec_len};
 ghost use Rattle.flash_model.specs.State.{IsStill};
 ghost use Rattle.flash_model.specs.FlashMedium.{EachFlashCase};
-ghost use Rattle.flash_model.specs.Pages.{Pages};
+ghost use Rattle.flash_model.specs.Pages.{Pages, blank_page};
 ghost use Rattle.flash_record.specs.PageRecord.{PageRecord, record_in};
 ghost use Rattle.flash_record.specs.Stated.{stated};
 ghost use Rattle.flash_disk.specs.Known.{known, page_of};
@@ -24,10 +24,11 @@ use flash_model::{BLANK_PAGE, BLOCK_PAGES, Flash, PAGE_BYTES};
 use flash_record::{RECORD_BYTES, Record, read_record, record_page};
 
 impl<F: Flash> Layer<F> {
-    ghost use Rattle.flash_disk.specs.Sound.{files_of, Sound, IsSound, IsDescribedBy, FitsIn, Enters, LeavesPut};
+    ghost use Rattle.flash_disk.specs.Sound.{files_of, Sound, IsSound, IsDescribedBy, IsFresh, FitsIn, Enters};
+    ghost use Rattle.flash_disk.specs.Sound.{LeavesPut};
     ghost use Rattle.flash_disk.specs.Sound.{ShowsPage, ShowsSame};
     ghost use Rattle.flash_disk.specs.Moving.{IsMoving};
-    ghost use Rattle.flash_disk.specs.Steps.{IsSure, StaysSound, AddsRecords};
+    ghost use Rattle.flash_disk.specs.Steps.{LearnsNothing, IsSure, StaysSound, AddsRecords};
 
     // Reads again what a failed call may have left anything in.
     pub(crate) fn make_sure(&mut self) -> Result<(), DiskFailed>
@@ -92,7 +93,7 @@ impl<F: Flash> Layer<F> {
             (record { file = file; page = page })) }
         ensures calm { IsTrue F.told → OnOk result (IsFalse self.old.state.disputed) }
     {
-        self.make_room()?;
+        self.make_room(file)?;
         self.add(file, page, len, bytes)
     }
 
@@ -121,7 +122,8 @@ impl<F: Flash> Layer<F> {
             block: self.state.current,
             page: self.state.fill,
         };
-        self.state.fill += 1;
+        self.state.fill = BLOCK_PAGES;
+        self.streams.go_on(file, place);
         let record = Record {
             sequence,
             file,
@@ -165,8 +167,9 @@ impl<F: Flash> Layer<F> {
         }
     }
 
-    // Sees to it that the current block has a page that was not tried yet.
-    fn make_room(&mut self) -> Result<(), DiskFailed>
+    // Finds the page that is to be filled next with a record of a file: the one behind the last of the same copy, or
+    // one of a block that is made free.
+    fn make_room(&mut self, file: u32) -> Result<(), DiskFailed>
         requires ready { IsSure F.told F.medium self.old }
         ensures ready { IsSure F.told F.medium self.new }
         ensures room { OnOk result (self.new.state.fill < 64) }
@@ -181,19 +184,60 @@ impl<F: Flash> Layer<F> {
         ensures own { IsTrue F.told → IsFalse self.old.state.disputed → self.new.own ≡ self.old.own }
         ensures entries { IsTrue F.told → OnOk result (SameEntries self.old.state.table self.new.state.table) }
     {
-        if self.state.fill < BLOCK_PAGES {
+        let next = self.streams.next_of(file);
+        let fresh = self.is_fresh(next)?;
+        if fresh {
+            self.state.current = next.block;
+            self.state.fill = next.page;
             return Ok(());
         }
-        self.collect()?;
+        self.free_block(file)
+    }
+
+    // Makes a block free for the records of a file's copy.
+    fn free_block(&mut self, file: u32) -> Result<(), DiskFailed>
+        requires ready { IsSure F.told F.medium self.old }
+        ensures ready { IsSure F.told F.medium self.new }
+        ensures room { OnOk result (self.new.state.fill < 64) }
+        ensures fits { IsTrue F.told → (file page len : ℕ) (bytes : _)
+            → FitsIn (F.medium self.old.flash) self.old.state file page len bytes
+            → FitsIn (F.medium self.new.flash) self.new.state file page len bytes }
+        ensures does { IsTrue F.told → Does (StandsFor (F.medium self.old.flash))
+            (F.medium self.old.flash) (F.medium self.new.flash) }
+        ensures shown { IsTrue F.told → OnOk result (ShowsSame (F.medium self.old.flash) (F.medium self.new.flash)) }
+        ensures sequence { self.new.state.sequence ≡ self.old.state.sequence }
+        ensures accounts { Accounts F.told F.medium 0 self.old self.new result }
+        ensures own { IsTrue F.told → IsFalse self.old.state.disputed → self.new.own ≡ self.old.own }
+        ensures entries { IsTrue F.told → OnOk result (SameEntries self.old.state.table self.new.state.table) }
+    {
+        self.state.fill = BLOCK_PAGES;
+        self.collect(file)?;
         if self.state.fill < BLOCK_PAGES {
             return Ok(());
         }
         Err(self.fault())
     }
 
-    // Moves the newest records of the block where they are fewest into the spare block, which is the current one from
-    // then on.
-    fn collect(&mut self) -> Result<(), DiskFailed>
+    // Whether a page may be filled next: records may be added, it lies outside the spare block, and it is blank.
+    fn is_fresh(&mut self, place: Place) -> Result<bool, DiskFailed>
+        ensures reads { LearnsNothing F.told F.medium self.old self.new result }
+        ensures page { IfOk result (λ fresh. IsTrue fresh → place.page < 64) }
+        ensures fresh { IsTrue F.told → IfOk result (λ fresh. IsTrue fresh → IsFresh
+            (F.medium self.old.flash).state.pages (F.medium self.old.flash).blocks
+            (record self.old.state { current = place.block; fill = place.page })) }
+    {
+        if self.state.disputed || place.block == self.state.spare || !self.has(place) {
+            return Ok(false);
+        }
+        let mut page = BLANK_PAGE;
+        self.read_page(place, &mut page)?;
+        Ok(is_blank(&page))
+    }
+
+    // Moves the newest records of a block into the spare block, which is the current one from then on. It is a block
+    // with records of the same copy as the file's alone, or with none that count; where there is no such block that
+    // leaves a page, it is the one where they are fewest.
+    fn collect(&mut self, file: u32) -> Result<(), DiskFailed>
         requires ready { IsSure F.told F.medium self.old }
         requires full { 64 ≤ self.old.state.fill }
         ensures ready { IsSure F.told F.medium self.new }
@@ -210,7 +254,8 @@ impl<F: Flash> Layer<F> {
         ensures entries { IsTrue F.told → OnOk result (SameEntries self.old.state.table self.new.state.table) }
     {
         let target = self.state.spare;
-        let victim = self.state.table.lightest_but(target);
+        let own = self.streams.lightest(&self.state.table, file, target);
+        let victim = self.state.table.given_up(own, target);
         if self.state.disputed || victim == target {
             return Err(self.fault());
         }
@@ -221,6 +266,7 @@ impl<F: Flash> Layer<F> {
         self.state.fill = self.state.moved.len().min(BLOCK_PAGES as usize) as u32;
         self.state.current = target;
         self.state.spare = victim;
+        self.streams.begin(file, target, victim, self.state.fill);
         Ok(())
     }
 
@@ -309,6 +355,14 @@ impl<F: Flash> Layer<F> {
         let newest = self.state.table.find(key)?;
         Some((key, newest))
     }
+}
+
+// Whether a page is blank.
+#[tactic(auto, unfolding(flash_model::specs::Pages::blank_page))]
+pub(crate) fn is_blank(page: &[u8]) -> bool
+    ensures { IsTrue result → page.now ≡ blank_page }
+{
+    page == [0xff; 512].as_slice()
 }
 
 // The page of flash that is this record.

@@ -8,7 +8,9 @@ ghost use Rattle.flash_model.specs.State.{erased};
 ghost use Rattle.flash_model.specs.FlashMedium.{EachFlashCase};
 ghost use Rattle.flash_disk.specs.Accounts.{Accounts};
 ghost use Rattle.flash_disk.specs.Steps.{LearnsNothing};
+ghost use Rattle.flash_disk.specs.Apart.{IsApart};
 
+use crate::streams::Streams;
 use crate::table::{FilePage, Newest, Place, Table};
 use disk_model::DiskFailed;
 use flash_model::{BLANK_PAGE, BLOCK_PAGES, Flash, PAGE_BYTES};
@@ -18,6 +20,7 @@ use flash_model::{BLANK_PAGE, BLOCK_PAGES, Flash, PAGE_BYTES};
 pub struct Layer<F> {
     pub flash: F,
     pub state: LayerState,
+    pub streams: Streams,
     /// How many writes failed though the flash did not, up to the greatest u64.
     pub own: u64,
 }
@@ -26,7 +29,7 @@ pub struct Layer<F> {
 #[derive(Drop)]
 pub struct LayerState {
     pub table: Table,
-    /// The block that is being filled, and its first page that was not tried yet.
+    /// The block that is to be filled next, and its page for that; no page of it while this is 64.
     pub current: u32,
     pub fill: u32,
     pub spare: u32,
@@ -44,6 +47,8 @@ pub struct LayerState {
 }
 
 impl<F: Flash> Layer<F> {
+    ghost use Rattle.flash_disk.specs.Sound.{IsDescribedBy};
+
     // Counts a failure of its own.
     pub(crate) fn fault(&mut self) -> DiskFailed
         ensures flash { self.new.flash ≡ self.old.flash }
@@ -57,6 +62,17 @@ impl<F: Flash> Layer<F> {
     {
         self.own = self.own.saturating_add(1);
         DiskFailed
+    }
+
+    // Whether nothing is unsure, and each newest record lies in a block with records of its copy alone.
+    pub(crate) fn is_apart(&self) -> bool
+        ensures { IsTrue F.told → IsDescribedBy (F.medium self.now.flash) self.now.state → IsTrue result
+            → IsApart (F.medium self.now.flash).state.pages (F.medium self.now.flash).blocks }
+    {
+        if self.state.unsure.is_some() {
+            return false;
+        }
+        self.streams.are_apart(&self.state.table)
     }
 
     // Reads a page of the flash; one that the flash does not have reads as blank.
@@ -136,7 +152,7 @@ impl<F: Flash> Layer<F> {
     }
 
     // Whether the flash has this page.
-    fn has(&self, place: Place) -> bool
+    pub(crate) fn has(&self, place: Place) -> bool
         ensures { IsTrue result ↔ ((place.block < (F.medium self.now.flash).blocks) × (place.page < 64)) }
     {
         place.block < self.flash.blocks() && place.page < BLOCK_PAGES

@@ -7,10 +7,17 @@
 //! page once, and again the blocks up to the first that is spare, and that one once more; of two records of one page
 //! with one number it reads the earlier again.
 //!
-//! Some block is spare at all times. When the block that is being filled is full, the spare block is erased, the
-//! records that are needed in the block where they are fewest are copied into it, and that block becomes the spare one.
-//! A page that failed as a record was programmed is read again before the next use; a block that failed as it was
-//! erased or filled is erased again.
+//! Some block is spare at all times. When the block that a copy goes on in is full, the spare block is erased, the
+//! records that are needed in another block are copied into it, and that block becomes the spare one. A page that
+//! failed as a record was programmed is read again before the next use; a block that failed as it was erased or filled
+//! is erased again.
+//!
+//! On 16 blocks or more each copy goes on in a block of its own: file f is of copy `f / 4 % 8`. The block whose records
+//! are moved for a copy is one that holds records of that copy alone, or none that count; where no such block leaves as
+//! much as a quarter of the pages that another leaves, it is the one where they are fewest, and copies mix. A disk says
+//! of its flash whether they are apart ([`FlashDisk::keeps_copies_apart`]); then the loss of pages of one block costs
+//! files of one copy ([`lost_pages_cost_one_copy`]). An opening goes on behind the newest record of each copy, but for
+//! one page that a stop may have torn. [`erase_all`] makes a flash blank.
 //!
 //! A flash that another program wrote may hold what this one never writes. Of two records of one page with one number
 //! the first place counts; while two that differ both have the greatest number of their page nothing is erased, and a
@@ -32,12 +39,15 @@
 
 mod calls;
 mod disk;
+mod erasing;
 mod filling;
 mod laws;
 mod layer;
 mod opening;
 mod serving;
+mod streams;
 mod table;
 
 pub use disk::{FlashDisk, FlashOpenError, FlashRefused};
-pub use laws::{fresh_flashes_open, usable_flashes_are_taken};
+pub use erasing::erase_all;
+pub use laws::{fresh_flashes_open, lost_pages_cost_one_copy, usable_flashes_are_taken};

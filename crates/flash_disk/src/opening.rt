@@ -15,6 +15,7 @@ ghost use Rattle.per_base.specs.Causes.{CountsFaults, Rose};
 
 use crate::disk::{FlashDisk, FlashOpenError, FlashRefused};
 use crate::layer::{Layer, LayerState};
+use crate::streams::Streams;
 use crate::table::{FilePage, Newest, Place, Table};
 use disk_model::DiskFailed;
 use flash_model::{BLANK_PAGE, BLOCK_PAGES, Flash};
@@ -82,9 +83,16 @@ impl<F: Flash> FlashDisk<F> {
                 error: FlashOpenError::OutOfMemory,
             });
         };
+        let Ok(streams) = Streams::new(alloc, blocks) else {
+            return Err(FlashRefused {
+                flash,
+                error: FlashOpenError::OutOfMemory,
+            });
+        };
         let mut layer = Layer {
             flash,
             state,
+            streams,
             own: 0,
         };
         match layer.learn(blocks) {
@@ -165,6 +173,7 @@ impl<F: Flash> Layer<F> {
         self.state.table.measure();
         self.state.stray_end = self.state.table.stray_end();
         self.state.disputed = self.state.table.is_disputed();
+        self.streams.leave_mixed();
         match self.flash.settle() {
             Ok(()) => Ok(true),
             Err(_) => Err(DiskFailed),
@@ -342,6 +351,7 @@ impl<F: Flash> Layer<F> {
             return Ok(true);
         };
         self.state.sequence = self.state.sequence.max(record.sequence);
+        self.streams.learn(record.file, record.sequence, place);
         self.learn_record(place, record)
     }
 

@@ -1,9 +1,10 @@
 //! Where the newest record of each page of a file lies, and how long each file is.
 
 ghost use Rattle.std.specs.Prelude.{◌≡◌, ◌≢◌, ◌⊎◌, ◌↔◌, ◌≤◌, ◌<◌, ◌+◌, ◌-◌, ◌*◌, ◌==◌, ℕ, IfOk, IsSome, IsTrue};
-ghost use Rattle.std.specs.Prelude.{IsFalse, Some, None, All, length, max, if◌then◌else◌};
+ghost use Rattle.std.specs.Prelude.{IsFalse, Some, None, All, length, max, slice_index, if◌then◌else◌};
 ghost use Rattle.std.specs.HashMap.{get, hash_map_len, spare};
 ghost use Rattle.flash_disk.specs.Known.{same_page, len_in, HasLenIn, IsLongest, EndsBy};
+ghost use Rattle.flash_disk.specs.Apart.{copy_of};
 ghost use Rattle.flash_disk.specs.Counted.{leads_into, had_in, entries_in, IsInside, IsCounted};
 
 use std::alloc::{AllocError, Global};
@@ -187,6 +188,19 @@ impl Table {
         raise(&mut self.lens, file, len)
     }
 
+    /// The block whose newest records are moved next: `own`, if it is another than `but` and they leave a page of a
+    /// block, and else the lightest.
+    pub fn given_up(&self, own: u32, but: u32) -> u32
+        ensures within { result ≢ but → result < self.now.blocks }
+        ensures light { (block : ℕ) → block < self.now.blocks → block ≢ but → (result ≢ but)
+            × ((load_known self.now result < 64) ⊎ (load_known self.now result ≤ load_known self.now block)) }
+    {
+        if own != but && own < self.blocks && self.load_of(own) < 64 {
+            return own;
+        }
+        self.lightest_but(but)
+    }
+
     /// The block other than this one whose newest records take the fewest pages to move; this one where there is no
     /// other.
     pub fn lightest_but(&self, but: u32) -> u32
@@ -233,6 +247,19 @@ impl Table {
             × IsTrue entry.rivalled }
     {
         self.newest.values().any(|newest| newest.rivalled)
+    }
+
+    /// Whether each newest record lies in a block that is said to be of its file's copy.
+    pub fn is_apart(&self, copies: &[u8]) -> bool
+        ensures { IsTrue result → (key : FilePage) (entry : Newest) → known self.now key ≡ Some entry
+            → slice_index copies.now entry.place.block ≡ copy_of key.file }
+    {
+        for (key, newest) in self.newest.iter() {
+            if !is_of(copies, newest.place.block, key.file) {
+                return false;
+            }
+        }
+        true
     }
 
     /// Where the last byte other than zero ends that lies past the end of its file; 0 where there is none.
@@ -319,6 +346,16 @@ fn raise_known(lens: &mut HashMap<u32, u64>, file: u32, len: u64)
 {
     if let Some(known) = lens.get_mut(&file) {
         *known = len.max(*known);
+    }
+}
+
+// Whether a block is said to be of a file's copy.
+fn is_of(copies: &[u8], block: u32, file: u32) -> bool
+    ensures { IsTrue result → slice_index copies.now block ≡ copy_of file }
+{
+    match copies.get(block as usize) {
+        Some(copy) => *copy as u32 == file / 4 % 8,
+        None => false,
     }
 }
 

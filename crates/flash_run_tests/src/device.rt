@@ -55,6 +55,7 @@ pub(crate) struct Device {
     calls: u64,
     /// Which calls programmed or erased.
     changes: Vec<u64>,
+    erased: u64,
     faults: u64,
 }
 
@@ -68,6 +69,7 @@ impl Device {
             cut: None,
             calls: 0,
             changes: Vec::new(alloc),
+            erased: 0,
             faults: 0,
         })
     }
@@ -80,6 +82,7 @@ impl Device {
             cut,
             calls: 0,
             changes: Vec::new(alloc),
+            erased: 0,
             faults: 0,
         })
     }
@@ -106,6 +109,30 @@ impl Device {
         let Device { changes, pages, .. } = self;
         drop(pages);
         changes
+    }
+
+    /// How many pages were programmed, and how many blocks erased.
+    pub(crate) fn cost(&self) -> (u64, u64) {
+        let changes = self.changes.len() as u64;
+        (changes.saturating_sub(self.erased), self.erased)
+    }
+
+    /// How many pages it has.
+    pub(crate) fn pages(&self) -> usize {
+        self.pages.len()
+    }
+
+    /// Whether so many pages from one on are all blank.
+    pub(crate) fn is_blank(&self, first: usize, count: usize) -> bool {
+        let mut pages = self.pages.iter().skip(first).take(count);
+        pages.all(|page| *page == BLANK_PAGE)
+    }
+
+    /// Loses so many pages from one on: they read as zeros.
+    pub(crate) fn lose(&mut self, first: usize, count: usize) {
+        for page in self.pages.iter_mut().skip(first).take(count) {
+            *page = [0; PAGE_BYTES];
+        }
     }
 
     /// Counts a call. What it leaves, where it does not come to its end.
@@ -183,6 +210,7 @@ impl Flash for Device {
         if self.note().is_err() {
             return Err(self.fail());
         }
+        self.erased = self.erased.saturating_add(1);
         let cut = self.enter();
         erase_part(&mut self.pages, block, cut.unwrap_or(Leaves::All));
         if cut.is_some() {

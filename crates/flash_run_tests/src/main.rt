@@ -6,11 +6,15 @@
 //! | `flash BLOCKS` | begins with a fresh flash of so many blocks, and an empty disk |
 //! | `full` | each page of the flash becomes a record of another page of file 1 |
 //! | `> LINE` | a line of the next run |
+//! | `times COUNT` | the lines so far, so many times |
 //! | `run WORDS` | runs the program with these words: `< REPLY` for each line of its output, and `= STATUS`; `over a disk: STATUS` and that output too, where the disk's are not the same |
 //! | `? LINE` | a line that looks at what is left, for the next row |
+//! | `syncs COUNT` | as many pairs of lines of the next run: application 0 sets the key km of the storage odo to 1, 2 and so on, and synchronises it |
 //! | `stops WORDS` | the lines so far on the flash as the last run left it, the last one stopped at each call of the flash in turn: `= ANSWERS` of the look in a new run, each once in a row |
 //! | `outages WORDS` | the lines so far on such a flash, with power going off in each call that changes pages: `Sweep` says what is expected |
 //! | `failures WORDS` | the same with each call of the flash failing alone |
+//! | `cost WORDS` | the lines so far on such a flash: how many pages were programmed, and how many blocks erased |
+//! | `losses COUNT STEP WORDS` | such a flash with so many pages lost, from each on that is a multiple of the step: how often the look finds what |
 //! | any other | nothing |
 //!
 //! Between two runs the flash and the disk restart with all that was written.
@@ -18,6 +22,7 @@
 
 mod device;
 mod full;
+mod losses;
 mod runs;
 mod scripts;
 mod sessions;

@@ -2,6 +2,7 @@
 //! flash.
 
 use crate::device::Device;
+use crate::losses::Losses;
 use crate::runs::{Ran, run_over_flash};
 use crate::sweeps::Sweep;
 use flash_model::{Flash, MemFlash};
@@ -44,6 +45,26 @@ impl Script {
     pub(crate) fn add_line(&mut self, line: &str) -> Result<(), AllocError> {
         self.front.push_str(self.last.as_str())?;
         self.last = format!(in self.alloc; "{line}\n")?;
+        Ok(())
+    }
+
+    /// Lines that set a key to 1, 2 and so on, and synchronise it each time.
+    pub(crate) fn add_syncs(&mut self, count: u32) -> Result<(), AllocError> {
+        for value in 1..=count {
+            self.add_line(format!(in self.alloc; "0 set odo km u32:{value}")?.as_str())?;
+            self.add_line("0 sync odo")?;
+        }
+        Ok(())
+    }
+
+    /// The lines so far, so many times.
+    pub(crate) fn repeat(&mut self, count: u32) -> Result<(), AllocError> {
+        let once = self.input()?;
+        self.front = String::new(self.alloc);
+        self.last = String::new(self.alloc);
+        for _ in 0..count {
+            self.front.push_str(once.as_str())?;
+        }
         Ok(())
     }
 
@@ -109,6 +130,34 @@ impl Script {
     ) -> Result<String, AllocError> {
         let lines = self.input()?;
         self.sweep(migrations, words, lines.as_str())?.failures()
+    }
+
+    /// What the lines cost.
+    pub(crate) fn cost(&self, migrations: &Migrations, words: &str) -> Result<String, AllocError> {
+        let start = self.replayed(migrations, Device::new(self.alloc, self.blocks)?)?;
+        let input = self.input()?;
+        let flash = start.copy(self.alloc, None)?;
+        let (_, flash) = run_over_flash(self.alloc, words, migrations, input.as_str(), flash)?;
+        let (programmed, erased) = flash.cost();
+        format!(in self.alloc; "= {programmed} pages programmed, {erased} blocks erased\n")
+    }
+
+    /// What a look finds where pages of the flash are lost.
+    pub(crate) fn losses(
+        &self,
+        migrations: &Migrations,
+        count: u32,
+        step: u32,
+        words: &str,
+    ) -> Result<String, AllocError> {
+        let losses = Losses {
+            alloc: self.alloc,
+            migrations,
+            words,
+            flash: self.replayed(migrations, Device::new(self.alloc, self.blocks)?)?,
+            look: self.look.as_str(),
+        };
+        losses.shown(count as usize, step as usize)
     }
 
     /// Lines on the flash on which all was run that was run so far.

@@ -38,9 +38,13 @@ impl Session {
             "full" => self.fill()?,
             ">" => self.script.add_line(rest)?,
             "?" => self.script.add_look(rest)?,
+            "times" => self.script.repeat(number(rest)?)?,
+            "syncs" => self.script.add_syncs(number(rest)?)?,
             "run" => return self.run(migrations, rest),
             "stops" => return Ok(self.script.stops(migrations, rest)?),
             "outages" => return Ok(self.script.outages(migrations, rest)?),
+            "cost" => return Ok(self.script.cost(migrations, rest)?),
+            "losses" => return self.losses(migrations, rest),
             "failures" => return Ok(self.script.failures(migrations, rest)?),
             _ => {}
         }
@@ -88,6 +92,16 @@ impl Session {
             write!(shown, "over a disk:\n")?;
             shown.push_str(other.shown(self.alloc)?.as_str())?;
         }
+        Ok(shown)
+    }
+
+    /// Loses pages of the flash.
+    fn losses(&self, migrations: &Migrations, rest: &str) -> Result<String, RowError> {
+        let (count, rest) = parted(rest);
+        let (step, words) = parted(rest);
+        let shown = self
+            .script
+            .losses(migrations, number(count)?, number(step)?, words)?;
         Ok(shown)
     }
 

@@ -3,6 +3,8 @@
 use crate::causes::{Ended, Fault, say};
 use crate::telling::Telling;
 use crate::{NO_DISK, NO_MEMORY, WRONG_SIZE};
+use flash_disk::erase_all;
+use flash_model::Flash;
 use migrate_fns::Migrations;
 use number_converters::{WithConverters, with_converters};
 use per_base::{Sink, Source};
@@ -13,12 +15,13 @@ use std::fs::File;
 use std::io::{Read, Write};
 use std::rt::Files;
 
-/// The folder that the words name, for what it is held, whether lines are to be handled in it, and how many blocks its
-/// flash has, where it has one.
+/// The folder that the words name, for what it is held, whether it is formatted or lines are to be handled in it, and
+/// how many blocks its flash has, where it has one.
 #[derive(Drop)]
 struct Target {
     dir: String,
     access: Access,
+    formats: bool,
     takes_lines: bool,
     flash: Option<u32>,
 }
@@ -124,7 +127,15 @@ fn run_noting<'a, R: Files<File = File> + Eprint, I: Read + Drop, O: Write + Dro
     let outcome = match target.flash {
         Some(blocks) => {
             let flash = DirFlash::noting(rt, alloc, dir, target.access, blocks, notes);
-            run_over_flash(alloc, words, migrations, &mut source, &mut sink, flash)
+            run_over_flash(
+                alloc,
+                words,
+                migrations,
+                &mut source,
+                &mut sink,
+                flash,
+                target.formats,
+            )
         }
         None => {
             let disk = DirDisk::noting(rt, alloc, dir, target.access, notes);
@@ -164,7 +175,8 @@ fn run_over_folder<'a, R: Files<File = File>, S: Source, K: Sink>(
 }
 
 /// Runs the program over the flash in the folder. One whose file has more bytes than its blocks is left as it is: with
-/// too few of them it would open, at what was written earlier.
+/// too few of them it would open, at what was written earlier. Before it is formatted its blocks are erased, so that
+/// all of its room comes back.
 fn run_over_flash<'a, R: Files<File = File>, S: Source, K: Sink>(
     alloc: Global,
     words: &[String],
@@ -172,12 +184,16 @@ fn run_over_flash<'a, R: Files<File = File>, S: Source, K: Sink>(
     source: &mut S,
     sink: &mut K,
     flash: DirFlash<'a, R>,
+    formats: bool,
 ) -> Outcome {
     let mut flash = flash;
     match flash.is_too_long() {
         Ok(false) => {}
         Ok(true) => return outcome_of(WRONG_SIZE, Some(Fault::Longer), &flash),
         Err(_) => return outcome_of(NO_DISK, None, &flash),
+    }
+    if formats && is_right_size(flash.blocks()) && erase_all(&mut flash).is_err() {
+        return outcome_of(NO_DISK, None, &flash);
     }
     match per_flash(alloc, words, migrations, source, sink, flash) {
         FlashRun::Ran(status, disk) => {
@@ -186,6 +202,11 @@ fn run_over_flash<'a, R: Files<File = File>, S: Source, K: Sink>(
         }
         FlashRun::Unopened(status, flash) => outcome_of(status, None, &flash),
     }
+}
+
+/// Whether a flash of so many blocks is opened.
+fn is_right_size(blocks: u32) -> bool {
+    blocks >= 4 && blocks <= 4096
 }
 
 /// What came of a run over a flash.
@@ -222,6 +243,7 @@ fn target_of(alloc: Global, words: &[String]) -> Result<(Target, String), AllocE
     match read_words(alloc, words) {
         Ok(job) => {
             let access = access_of(&job.kind);
+            let formats = matches!(job.kind, JobKind::Format | JobKind::Generate(_));
             let takes_lines = matches!(job.kind, JobKind::Run);
             let flash = job.flash;
             let dir = job.dir.into_string();
@@ -229,6 +251,7 @@ fn target_of(alloc: Global, words: &[String]) -> Result<(Target, String), AllocE
             let target = Target {
                 dir,
                 access,
+                formats,
                 takes_lines,
                 flash,
             };
@@ -239,6 +262,7 @@ fn target_of(alloc: Global, words: &[String]) -> Result<(Target, String), AllocE
             let target = Target {
                 dir: String::new(alloc),
                 access: Access::Read,
+                formats: false,
                 takes_lines: false,
                 flash: None,
             };

@@ -44,8 +44,8 @@ returns-in-Ok-clause-stays g c = record {
       (sym c.next_sequence.ensures.flash) (c.requires.fits told) in
       let next = c.in_ok-sequence.ensures.next in
       let state : t ≡ record s { sequence = c.in_ok-sequence.sequence } = ap (λ l. l.state) next.1 in
-      let on : u ≡ record s { sequence = c.in_ok-sequence.sequence; fill = s.fill + 1 } =
-      c.program_page.ensures.state ∙ ap (λ (q : LayerState). let z : LayerState = record q { fill = q.fill + 1 } in
+      let on : u ≡ record s { sequence = c.in_ok-sequence.sequence; fill = 64 } =
+      c.program_page.ensures.state ∙ ap (λ (q : LayerState). let z : LayerState = record q { fill = 64 } in
       z)
       state in
       let at = ap (λ (q : LayerState). let p : Place = record { block = q.current; page = q.fill } in p) state in
@@ -80,8 +80,8 @@ returns-in-Ok-clause-put g c told =
     (sym c.next_sequence.ensures.flash) (c.requires.fits told) in
     let next = c.in_ok-sequence.ensures.next in
     let state : t ≡ record s { sequence = c.in_ok-sequence.sequence } = ap (λ l. l.state) next.1 in
-    let on : u ≡ record s { sequence = c.in_ok-sequence.sequence; fill = s.fill + 1 } =
-    c.program_page.ensures.state ∙ ap (λ (q : LayerState). let z : LayerState = record q { fill = q.fill + 1 } in z)
+    let on : u ≡ record s { sequence = c.in_ok-sequence.sequence; fill = 64 } =
+    c.program_page.ensures.state ∙ ap (λ (q : LayerState). let z : LayerState = record q { fill = 64 } in z)
     state in
     let at = ap (λ (q : LayerState). let p : Place = record { block = q.current; page = q.fill } in p) state in
     subst (λ f. PutPart c.args.file (256 * c.args.page) c.args.bytes.now c.args.len (files_of (g.F.Flash.medium f))
@@ -116,8 +116,8 @@ returns-in-Ok-clause-shown g c told =
     (sym c.next_sequence.ensures.flash) (c.requires.fits told) in
     let next = c.in_ok-sequence.ensures.next in
     let state : t ≡ record s { sequence = c.in_ok-sequence.sequence } = ap (λ l. l.state) next.1 in
-    let on : u ≡ record s { sequence = c.in_ok-sequence.sequence; fill = s.fill + 1 } =
-    c.program_page.ensures.state ∙ ap (λ (q : LayerState). let z : LayerState = record q { fill = q.fill + 1 } in z)
+    let on : u ≡ record s { sequence = c.in_ok-sequence.sequence; fill = 64 } =
+    c.program_page.ensures.state ∙ ap (λ (q : LayerState). let z : LayerState = record q { fill = 64 } in z)
     state in
     let at = ap (λ (q : LayerState). let p : Place = record { block = q.current; page = q.fill } in p) state in
     subst (λ f. ShowsPage (g.F.Flash.medium f) (g.F.Flash.medium c.enter.new.self.flash) c.args.file c.args.page
@@ -150,8 +150,8 @@ returns-in-Ok-clause-does g c told =
     (sym c.next_sequence.ensures.flash) (c.requires.fits told) in
     let next = c.in_ok-sequence.ensures.next in
     let state : t ≡ record s { sequence = c.in_ok-sequence.sequence } = ap (λ l. l.state) next.1 in
-    let on : u ≡ record s { sequence = c.in_ok-sequence.sequence; fill = s.fill + 1 } =
-    c.program_page.ensures.state ∙ ap (λ (q : LayerState). let z : LayerState = record q { fill = q.fill + 1 } in z)
+    let on : u ≡ record s { sequence = c.in_ok-sequence.sequence; fill = 64 } =
+    c.program_page.ensures.state ∙ ap (λ (q : LayerState). let z : LayerState = record q { fill = 64 } in z)
     state in
     let at = ap (λ (q : LayerState). let p : Place = record { block = q.current; page = q.fill } in p) state in
     subst (λ f. Does (LeavesPut c.args.file (256 * c.args.page) c.args.bytes.now c.args.len (g.F.Flash.medium f))
@@ -189,8 +189,8 @@ returns-in-Err-clause-stays g c = record {
       (sym c.next_sequence.ensures.flash) (c.requires.fits told) in
       let next = c.in_ok-sequence.ensures.next in
       let state : t ≡ record s { sequence = c.in_ok-sequence.sequence } = ap (λ l. l.state) next.1 in
-      let on : u ≡ record s { sequence = c.in_ok-sequence.sequence; fill = s.fill + 1 } =
-      c.program_page.ensures.state ∙ ap (λ (q : LayerState). let z : LayerState = record q { fill = q.fill + 1 } in
+      let on : u ≡ record s { sequence = c.in_ok-sequence.sequence; fill = 64 } =
+      c.program_page.ensures.state ∙ ap (λ (q : LayerState). let z : LayerState = record q { fill = 64 } in
       z)
       state in
       let at = ap (λ (q : LayerState). let p : Place = record { block = q.current; page = q.fill } in p) state in
@@ -222,8 +222,8 @@ returns-in-Err-clause-does g c told =
     (sym c.next_sequence.ensures.flash) (c.requires.fits told) in
     let next = c.in_ok-sequence.ensures.next in
     let state : t ≡ record s { sequence = c.in_ok-sequence.sequence } = ap (λ l. l.state) next.1 in
-    let on : u ≡ record s { sequence = c.in_ok-sequence.sequence; fill = s.fill + 1 } =
-    c.program_page.ensures.state ∙ ap (λ (q : LayerState). let z : LayerState = record q { fill = q.fill + 1 } in z)
+    let on : u ≡ record s { sequence = c.in_ok-sequence.sequence; fill = 64 } =
+    c.program_page.ensures.state ∙ ap (λ (q : LayerState). let z : LayerState = record q { fill = 64 } in z)
     state in
     let at = ap (λ (q : LayerState). let p : Place = record { block = q.current; page = q.fill } in p) state in
     subst (λ f. Does (LeavesPut c.args.file (256 * c.args.page) c.args.bytes.now c.args.len (g.F.Flash.medium f))
@@ -268,8 +268,8 @@ returns-in-Ok-clause-entries g c told =
     (sym c.next_sequence.ensures.flash) (c.requires.fits told) in
     let next = c.in_ok-sequence.ensures.next in
     let state : t ≡ record s { sequence = c.in_ok-sequence.sequence } = ap (λ l. l.state) next.1 in
-    let on : u ≡ record s { sequence = c.in_ok-sequence.sequence; fill = s.fill + 1 } =
-    c.program_page.ensures.state ∙ ap (λ (q : LayerState). let z : LayerState = record q { fill = q.fill + 1 } in z)
+    let on : u ≡ record s { sequence = c.in_ok-sequence.sequence; fill = 64 } =
+    c.program_page.ensures.state ∙ ap (λ (q : LayerState). let z : LayerState = record q { fill = 64 } in z)
     state in
     let at = ap (λ (q : LayerState). let p : Place = record { block = q.current; page = q.fill } in p) state in
     added_entries m now s u place r c.page_with.result sound c.requires.room fits c.requires.bytes at next.0 on

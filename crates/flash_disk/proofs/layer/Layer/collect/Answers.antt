@@ -76,9 +76,9 @@ copy_needed-requires-clause-moving g c told =
     let t : LayerState = record c.erase_block.new.self.state { moved = c.clear.new.self } in
     let state : t ≡ record s { moved = c.clear.new.self } =
     ap (λ (q : LayerState). let z : LayerState = record q { moved = c.clear.new.self } in z) e.state in
-    let from = c.lightest_but-victim.result in
-    let light = light_enough m.blocks s.table s.spare from sound.counted c.lightest_but-victim.ensures.within
-    c.lightest_but-victim.ensures.lightest in
+    let from = c.given_up-victim.result in
+    let light = light_enough m.blocks s.table s.spare from sound.counted c.given_up-victim.ensures.within
+    c.given_up-victim.ensures.light in
     let within : from < m.blocks = light.1 in
     let same = ap (λ (q : LayerState). vec_capacity q.moved) e.state in
     let kept = c.clear.ensures.capacity in
@@ -147,7 +147,7 @@ returns-clause-ready g c = record {
       (erase_keeps_all m look s sound agreed c.requires.full blank) now.state.pages (n.keeps told) in
       let same_table : t.table ≡ s.table = ap (λ (q : LayerState). q.table) n.state
       ∙ ap (λ (q : LayerState). q.table) e.state in
-      let from = c.lightest_but-victim.result in
+      let from = c.given_up-victim.result in
       let to = s.spare in
       let moving : IsMoving now.state.pages now.blocks t from to 64 = c.in_ok-copy_needed.ensures.moving told in
       let p = c.put_all.ensures in
@@ -182,7 +182,7 @@ returns-clause-fits g c told =
     (erase_keeps_all m look s sound agreed c.requires.full blank) now.state.pages (n.keeps told) in
     let same_table : t.table ≡ s.table = ap (λ (q : LayerState). q.table) n.state
     ∙ ap (λ (q : LayerState). q.table) e.state in
-    let from = c.lightest_but-victim.result in
+    let from = c.given_up-victim.result in
     let to = s.spare in
     let moving : IsMoving now.state.pages now.blocks t from to 64 = c.in_ok-copy_needed.ensures.moving told in
     let p = c.put_all.ensures in
@@ -239,8 +239,8 @@ returns-then-self-clause-own g c told calm =
     let s = c.args.self.now.state in
     let sound : IsSound (g.F.Flash.medium c.args.self.now.flash) s = c.requires.ready.sound told in
     let light = light_enough (g.F.Flash.medium c.args.self.now.flash).blocks s.table s.spare
-    c.lightest_but-victim.result sound.counted
-    c.lightest_but-victim.ensures.within c.lightest_but-victim.ensures.lightest in
+    c.given_up-victim.result sound.counted
+    c.given_up-victim.ensures.within c.given_up-victim.ensures.light in
     ⊎_elim
     (λ disputed. absurd (true≢false (sym disputed ∙ calm)))
     (λ none. absurd (light.0 none.1))
@@ -260,9 +260,9 @@ returns-clause-light g c told =
     let s = c.args.self.now.state in
     let m = g.F.Flash.medium c.args.self.now.flash in
     let sound : IsSound m s = c.requires.ready.sound told in
-    let from = c.lightest_but-victim.result in
-    let light = light_enough m.blocks s.table s.spare from sound.counted c.lightest_but-victim.ensures.within
-    c.lightest_but-victim.ensures.lightest in
+    let from = c.given_up-victim.result in
+    let light = light_enough m.blocks s.table s.spare from sound.counted c.given_up-victim.ensures.within
+    c.given_up-victim.ensures.light in
     let fewest = light.2 in
     let few = c.copy_needed.ensures.few in
     let same : entries_in c.erase_block.new.self.state.table from ≡ entries_in s.table from =
@@ -277,7 +277,7 @@ returns-clause-entries g c told =
     let t = c.copy_needed.new.self.state in
     let same_table : t.table ≡ s.table = ap (λ (q : LayerState). q.table) c.copy_needed.ensures.state
     ∙ ap (λ (q : LayerState). q.table) c.erase_block.ensures.state in
-    let from = c.lightest_but-victim.result in
+    let from = c.given_up-victim.result in
     let to = s.spare in
     let moving : IsMoving now.state.pages now.blocks t from to 64 = c.in_ok-copy_needed.ensures.moving told in
     let p = c.put_all.ensures in

@@ -1,22 +1,39 @@
-use Rattle.std.proofs.Common.{refl, sym, subst, arith}
-use Rattle.flash_disk.specs.Sound.{FitsIn}
-use Rattle.flash_disk.specs.Standing.{StandsFor}
-use Rattle.flash_disk.proofs.Stretches.{does_nothing}
-use Rattle.flash_disk.proofs.Moving.{stands_now}
+use Rattle.std.proofs.Common.{ap}
+use Rattle.flash_disk.specs.declared.layer.LayerState.{LayerState}
+use Rattle.flash_disk.proofs.Moving.{look_stands, stands_then}
+use Rattle.flash_disk.proofs.Turning.{turned_fits}
 use Rattle.flash_disk.proofs.layer.Layer.make_room.Goals as goal
 
-pub returns-then-self-lt-BLOCK_PAGES-clause-does : goal.returns-then-self-lt-BLOCK_PAGES-clause-does
-returns-then-self-lt-BLOCK_PAGES-clause-does g c told =
+pub returns-in_err-fresh-clause-does : goal.returns-in_err-fresh-clause-does
+returns-in_err-fresh-clause-does g c told =
+    let e = c.is_fresh.ensures.reads in
+    look_stands (g.F.Flash.medium c.args.self.now.flash) (g.F.Flash.medium c.is_fresh.new.self.flash)
+    (e.only.looks.state told) e.only.blocks (e.only.looks.during told) c.args.self.now.state
+    (c.requires.ready.sound told)
+
+pub returns-then-fresh-clause-room : goal.returns-then-fresh-clause-room
+returns-then-fresh-clause-room g c = c.in_ok-fresh.ensures.page c.if-fresh.true
+
+pub returns-then-fresh-clause-does : goal.returns-then-fresh-clause-does
+returns-then-fresh-clause-does g c told =
+    let e = c.is_fresh.ensures.reads in
+    look_stands (g.F.Flash.medium c.args.self.now.flash) (g.F.Flash.medium c.is_fresh.new.self.flash)
+    (e.only.looks.state told) e.only.blocks (e.only.looks.during told) c.args.self.now.state
+    (c.requires.ready.sound told)
+
+pub returns-clause-does : goal.returns-clause-does
+returns-clause-does g c told =
+    let e = c.is_fresh.ensures.reads in
     let m = g.F.Flash.medium c.args.self.now.flash in
-    let lawful = g.met.F.Flash.lawful c.args.self.now.flash in
-    does_nothing m m (StandsFor m) refl (λ x past. lawful.only_now x past)
-    (stands_now m c.args.self.now.state (c.requires.ready.sound told))
+    let look = g.F.Flash.medium c.is_fresh.new.self.flash in
+    stands_then m look (g.F.Flash.medium c.free_block.new.self.flash) (e.accounts.time told)
+    (c.free_block.ensures.accounts.time told)
+    (look_stands m look (e.only.looks.state told) e.only.blocks (e.only.looks.during told) c.args.self.now.state
+    (c.requires.ready.sound told)) (c.free_block.ensures.does told)
 
 pub returns-clause-fits : goal.returns-clause-fits
 returns-clause-fits g c told file page len bytes fits =
-    subst (λ f. FitsIn (g.F.Flash.medium f) c.fault.new.self.state file page len bytes) (sym c.fault.ensures.flash)
-    (subst (λ s. FitsIn (g.F.Flash.medium c.collect.new.self.flash) s file page len bytes) (sym c.fault.ensures.state)
-    (c.collect.ensures.fits told file page len bytes fits))
-
-pub returns-clause-own : goal.returns-clause-own
-returns-clause-own g c told calm = absurd (let less = c.in_ok-collect.ensures.light told in omega (arith, less))
+    let e = c.is_fresh.ensures.reads in
+    c.free_block.ensures.fits told file page len bytes (turned_fits (g.F.Flash.medium c.args.self.now.flash)
+    (g.F.Flash.medium c.is_fresh.new.self.flash) (e.only.pages told) e.only.blocks c.args.self.now.state
+    c.is_fresh.new.self.state (ap (λ (q : LayerState). q.table) e.state) file page len bytes fits)

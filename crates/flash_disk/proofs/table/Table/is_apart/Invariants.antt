@@ -1,0 +1,13 @@
+use Rattle.std.proofs.Common.{◌≡◌, ◌⊎◌}
+use Rattle.std.specs.Prelude.{Some, slice_index}
+use Rattle.std.specs.Map.{lookup}
+use Rattle.flash_disk.specs.declared.table.FilePage.{FilePage}
+use Rattle.flash_disk.specs.declared.table.Newest.{Newest}
+use Rattle.flash_disk.specs.Known.{same_page, known}
+use Rattle.flash_disk.specs.Apart.{copy_of}
+use Rattle.flash_disk.proofs.table.Table.is_apart.Given as goal
+
+abbrev pub invariant-loop-key : goal.invariant-loop-key
+invariant-loop-key l = (key : FilePage) (entry : Newest) → known l.self key ≡ Some entry
+    → (lookup (same_page key) l.key-iterator ≡ Some entry)
+    ⊎ (slice_index l.copies entry.place.block ≡ copy_of key.file)

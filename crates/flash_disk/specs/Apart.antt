@@ -1,0 +1,30 @@
+-- Copies that are kept apart: no block holds what counts of two of them, so that the loss of a block costs one.
+use Rattle.std.specs.Prelude.{◌≡◌, ◌≢◌, ◌⊎◌, ℕ, ◌+◌, ◌*◌, ◌/◌, ◌%◌, ◌<◌, None, Some}
+use Rattle.flash_model.specs.Pages.{Pages}
+use Rattle.flash_record.specs.PageRecord.{record_in}
+use Rattle.flash_disk.specs.Newest.{Placed, record_at, newest, places}
+use Rattle.flash_disk.specs.FlashFiles.{flash_files}
+
+-- which copy a file is of: a place has four files for each copy, and begins at a multiple of 32
+abbrev pub copy_of : ℕ → ℕ
+copy_of file = file / 4 % 8
+
+-- a block in which nothing counts but files of one copy: each newest record of another copy, or an equal one, lies in
+-- another block
+abbrev pub IsOfCopy : Pages → (n block copy : ℕ) → Type 0
+IsOfCopy pages n block copy = (file page : ℕ) (x : Placed) → newest pages file page n ≡ Some x → copy_of file ≢ copy
+    → (j : ℕ) × (j < n) × (j / 64 ≢ block) × (record_at pages j ≡ Some x.says)
+
+-- each block of a flash of so many blocks is of one copy
+abbrev pub IsApart : Pages → ℕ → Type 0
+IsApart pages blocks = (block : ℕ) → (copy : ℕ) × IsOfCopy pages (places blocks) block copy
+
+-- pages of a block were lost: each is no record any more, or as it was, and all others are as they were
+pub record LosesPages (block : ℕ) (old new : Pages) : Type 0 where
+  pub elsewhere : (b p : ℕ) → b ≢ block → new b p ≡ old b p
+  pub here : (p : ℕ) → (new block p ≡ old block p) ⊎ (record_in (new block p) ≡ None)
+
+-- every file but those of this copy is as it was
+abbrev pub CostsOneCopy : (copy blocks : ℕ) → (old new : Pages) → Type 0
+CostsOneCopy copy blocks old new = (file : ℕ) → copy_of file ≢ copy
+    → flash_files new blocks file ≡ flash_files old blocks file
