@@ -3,15 +3,18 @@
 use crate::causes::{Ended, Fault, say};
 use crate::telling::Telling;
 use crate::{NO_DISK, NO_MEMORY, WRONG_SIZE};
+use folder_disk::FolderDisk;
+use folder_flash::FolderFlash;
 use migrate_fns::Migrations;
 use number_converters::{WithConverters, with_converters};
 use per_base::{Sink, Source};
 use per_run::{FlashRun, JobKind, WordsError, per_flash, per_run, read_words};
-use per_system::{Access, DirDisk, DirFlash, Notes, StdSink, StdSource};
+use per_system::{Access, Content, HostSystem, Noted, NotedFlash, Notes, StdSink, StdSource};
 use std::alloc::{AllocError, Global};
 use std::fs::File;
 use std::io::{Read, Write};
 use std::rt::Files;
+use system_model::{Failure, System};
 
 /// The folder that the words name, for what it is held, whether lines are to be handled in it, and how many blocks its
 /// flash has, where it has one.
@@ -121,15 +124,15 @@ fn run_noting<'a, R: Files<File = File> + Eprint, I: Read + Drop, O: Write + Dro
         otherwise: target.flash.map(|_| Fault::Full),
         output,
     });
-    let outcome = match target.flash {
-        Some(blocks) => {
-            let flash = DirFlash::noting(rt, alloc, dir, target.access, blocks, notes);
-            run_over_flash(alloc, words, migrations, &mut source, &mut sink, flash)
-        }
-        None => {
-            let disk = DirDisk::noting(rt, alloc, dir, target.access, notes);
-            run_over_folder(alloc, words, migrations, &mut source, &mut sink, disk)
-        }
+    let content = match target.flash {
+        Some(_) => Content::Flash,
+        None => Content::Disk,
+    };
+    let outcome = match HostSystem::hold(rt, alloc, dir, content, target.access) {
+        Ok(system) => run_over(
+            alloc, words, migrations, &mut source, &mut sink, target.flash, system, notes,
+        ),
+        Err(failure) => not_held(notes, Some(failure)),
     };
     let ended = Ended {
         status: outcome.status,
@@ -145,55 +148,75 @@ fn run_noting<'a, R: Files<File = File> + Eprint, I: Read + Drop, O: Write + Dro
     outcome.status
 }
 
-/// Runs the program over the folder as a disk.
-fn run_over_folder<'a, R: Files<File = File>, S: Source, K: Sink>(
+/// Runs the program over the folder: as a disk, or as a flash of so many blocks.
+fn run_over<'a, R: Files<File = File>, S: Source, K: Sink>(
     alloc: Global,
     words: &[String],
     migrations: &Migrations,
     source: &mut S,
     sink: &mut K,
-    disk: DirDisk<'a, R>,
+    flash: Option<u32>,
+    system: HostSystem<'a, R>,
+    notes: &'a Notes,
 ) -> Outcome {
-    let mut disk = disk;
-    let status = per_run(alloc, words, migrations, source, sink, &mut disk);
+    let disk = match FolderDisk::open(alloc, system) {
+        Ok(disk) => disk,
+        Err(refused) => return not_held(notes, refused.failure),
+    };
+    match flash {
+        Some(blocks) => {
+            let flash = NotedFlash::new(FolderFlash::new(alloc, disk, blocks), notes);
+            run_over_flash(alloc, words, migrations, source, sink, flash)
+        }
+        None => {
+            let mut disk = Noted::new(disk, notes);
+            let status = per_run(alloc, words, migrations, source, sink, &mut disk);
+            Outcome {
+                status,
+                has_files: disk.device().has_files(),
+                fault: None,
+            }
+        }
+    }
+}
+
+/// A run whose folder cannot be opened, locked or synced.
+fn not_held(notes: &Notes, failure: Option<Failure>) -> Outcome {
+    notes.note(failure);
     Outcome {
-        status,
-        has_files: disk.has_files(),
+        status: NO_DISK,
+        has_files: false,
         fault: None,
     }
 }
 
 /// Runs the program over the flash in the folder. One whose file has more bytes than its blocks is left as it is: with
 /// too few of them it would open, at what was written earlier.
-fn run_over_flash<'a, R: Files<File = File>, S: Source, K: Sink>(
+fn run_over_flash<'a, Y: System + Drop, S: Source, K: Sink>(
     alloc: Global,
     words: &[String],
     migrations: &Migrations,
     source: &mut S,
     sink: &mut K,
-    flash: DirFlash<'a, R>,
+    flash: NotedFlash<'a, FolderFlash<Y>>,
 ) -> Outcome {
     let mut flash = flash;
-    match flash.is_too_long() {
+    match flash.device_mut().is_too_long() {
         Ok(false) => {}
-        Ok(true) => return outcome_of(WRONG_SIZE, Some(Fault::Longer), &flash),
-        Err(_) => return outcome_of(NO_DISK, None, &flash),
+        Ok(true) => return outcome_of(WRONG_SIZE, Some(Fault::Longer), flash.device()),
+        Err(_) => return outcome_of(NO_DISK, None, flash.device()),
     }
     match per_flash(alloc, words, migrations, source, sink, flash) {
         FlashRun::Ran(status, disk) => {
             let fault = (disk.own_faults() > 0).then_some(Fault::Full);
-            outcome_of(status, fault, &disk.into_flash())
+            outcome_of(status, fault, disk.into_flash().device())
         }
-        FlashRun::Unopened(status, flash) => outcome_of(status, None, &flash),
+        FlashRun::Unopened(status, flash) => outcome_of(status, None, flash.device()),
     }
 }
 
 /// What came of a run over a flash.
-fn outcome_of<'a, R: Files<File = File>>(
-    status: u8,
-    fault: Option<Fault>,
-    flash: &DirFlash<'a, R>,
-) -> Outcome {
+fn outcome_of<Y: System + Drop>(status: u8, fault: Option<Fault>, flash: &FolderFlash<Y>) -> Outcome {
     Outcome {
         status,
         has_files: flash.has_file(),

@@ -1,0 +1,177 @@
+//! The files of a folder, as the operating system has them: a call of the trait is a call of std.
+
+ghost use Rattle.std.specs.Prelude.{◌≡◌, ◌<◌, IfOk};
+
+use crate::held::{Access, Content};
+use std::alloc::Global;
+use std::fs::{self, File, OpenOptions};
+use std::io;
+use std::os::unix::fs::FileExt;
+use std::rt::Files;
+use system_model::{Reading, System};
+
+/// The files of a folder, or none where it is not there. It tells nothing of their bytes: what [`System`] says of them
+/// is what is believed of the operating system.
+#[derive(Drop)]
+pub struct HostSystem<'a, R: Files<File = File>> {
+    pub(crate) rt: &'a R,
+    pub(crate) alloc: Global,
+    pub(crate) dir: String,
+    pub(crate) content: Content,
+    pub(crate) access: Access,
+    /// The folder itself, which is locked.
+    pub(crate) folder: Option<File>,
+}
+
+/// A file of a folder, which is open.
+#[derive(Drop)]
+pub struct HostFile {
+    number: u32,
+    file: File,
+}
+
+impl<'a, R: Files<File = File>> System for HostSystem<'a, R> {
+    ghost use Rattle.std.specs.Prelude.{false};
+    ghost use Rattle.disk_model.specs.Silence.{silent_is_lawful};
+    ghost use Rattle.per_system.specs.Untold.{untold};
+
+    type File = HostFile;
+
+    ghost number = { λ file. file.number };
+
+    ghost told = { false };
+
+    ghost medium = { λ _. untold };
+
+    ghost lawful = { λ _. silent_is_lawful 0 };
+
+    fn list(&mut self, alloc: Global) -> io::Result<Vec<u32>> {
+        let mut numbers = Vec::new(alloc);
+        if self.folder.is_none() {
+            return Ok(numbers);
+        }
+        for entry in fs::read_dir(&(self.rt, alloc), self.dir.as_str())? {
+            match entry {
+                Ok(entry) => {
+                    if let Some(number) = self.content.number_of(entry.file_name()) {
+                        numbers.push(number)?;
+                    }
+                }
+                Err(error) if error.kind() == io::ErrorKind::InvalidFilename => {}
+                Err(error) => return Err(error),
+            }
+        }
+        Ok(numbers)
+    }
+
+    fn open(&mut self, file: u32) -> io::Result<Option<HostFile>> {
+        let mut options = OpenOptions::new();
+        options.read(true).write(self.access == Access::Write);
+        match self.opened(file, &options) {
+            Ok(file) => Ok(Some(file)),
+            Err(error) if is_want(error) => Err(error),
+            Err(_) => Ok(None),
+        }
+    }
+
+    fn make(&mut self, file: u32) -> io::Result<HostFile> {
+        self.opened(file, OpenOptions::new().read(true).write(true).create_new(true))
+    }
+
+    fn close(&mut self, file: HostFile) {
+        drop(file);
+    }
+
+    fn read(&mut self, file: &HostFile, at: u64, out: &mut [u8]) -> io::Result<Reading> {
+        match file.file.read_at(out, at) {
+            Ok(count) => Ok(Reading::Bytes(count)),
+            Err(error) if is_unreadable(error) => Ok(Reading::Unreadable(up_to_next_page(at))),
+            Err(error) => Err(error),
+        }
+    }
+
+    fn length(&mut self, file: &HostFile) -> io::Result<u64> {
+        Ok(file.file.metadata()?.len())
+    }
+
+    fn write(&mut self, file: &HostFile, at: u64, bytes: &[u8]) -> io::Result<usize> {
+        file.file.write_at(bytes, at)
+    }
+
+    fn sync_file(&mut self, file: &HostFile) -> io::Result<()> {
+        file.file.sync_data().or_else(passed_by)
+    }
+
+    fn sync_folder(&mut self) -> io::Result<()> {
+        match (&self.folder, self.access) {
+            (Some(folder), Access::Write) => folder.sync_all(),
+            (Some(folder), Access::Read) => folder.sync_all().or_else(passed_by),
+            (None, _) => Ok(()),
+        }
+    }
+
+    fn announce(&mut self, _file: u32, _at: u64, _bytes: &[u8]) {}
+
+    fn settle(&mut self) {}
+}
+
+impl<'a, R: Files<File = File>> HostSystem<'a, R> {
+    fn opened(&self, number: u32, options: &OpenOptions) -> io::Result<HostFile>
+        ensures { IfOk result (λ file. file.number ≡ number) }
+    {
+        if self.folder.is_none() {
+            return Err(io::Error::from(io::ErrorKind::NotFound));
+        }
+        let path = self.content.path_of(self.alloc, self.dir.as_str(), number)?;
+        let file = options.open(self.rt, path.as_str())?;
+        Ok(HostFile { number, file })
+    }
+}
+
+/// Whether the system lacks descriptors or memory, or was interrupted: a file that cannot be opened for another reason
+/// counts as one that is not there.
+fn is_want(error: io::Error) -> bool {
+    matches!(
+        error.raw_os_error(),
+        Some(EINTR | ENOMEM | ENFILE | EMFILE)
+    ) || error.kind() == io::ErrorKind::OutOfMemory
+}
+
+/// Whether the place cannot be read, though the device answers, or the file is none that has bytes.
+fn is_unreadable(error: io::Error) -> bool {
+    matches!(error.raw_os_error(), Some(EIO | EISDIR | ESPIPE))
+}
+
+/// What is no file holds nothing that is pending, and cannot be synced; nor can, on some systems, a folder in which
+/// nothing may be written.
+fn passed_by(error: io::Error) -> io::Result<()> {
+    match error.raw_os_error() {
+        Some(EINVAL) => Ok(()),
+        _ => Err(error),
+    }
+}
+
+/// How many bytes there are up to the next page of the system's memory, which are read as one.
+fn up_to_next_page(at: u64) -> usize
+    ensures { 0 < result }
+{
+    (PAGE_BYTES - at % PAGE_BYTES) as usize
+}
+
+const PAGE_BYTES: u64 = 4096;
+
+const EINTR: i32 = 4;
+
+const EIO: i32 = 5;
+
+const ENOMEM: i32 = 12;
+
+const EISDIR: i32 = 21;
+
+const EINVAL: i32 = 22;
+
+const ENFILE: i32 = 23;
+
+const EMFILE: i32 = 24;
+
+const ESPIPE: i32 = 29;
