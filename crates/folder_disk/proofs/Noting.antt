@@ -226,9 +226,9 @@ covered_pushed rs r f i = (
 -- a range that goes on where the last one ends is noted with it
 pub covered_joined : (rs : List Range) (last both r : Range)
     → ((f i : ℕ) → ((f ≡ both.file) × InRange both.at both.len i)
-        ↔ (((f ≡ last.file) × InRange last.at last.len i) ⊎ ((f ≡ r.file) × InRange r.at r.len i)))
+    ↔ (((f ≡ last.file) × InRange last.at last.len i) ⊎ ((f ≡ r.file) × InRange r.at r.len i)))
     → (f i : ℕ) → Covered (rs ++ both ∷ []) f i
-        ↔ (Covered (rs ++ last ∷ []) f i ⊎ ((f ≡ r.file) × InRange r.at r.len i))
+    ↔ (Covered (rs ++ last ∷ []) f i ⊎ ((f ≡ r.file) × InRange r.at r.len i))
 covered_joined rs last both r same f i = (
   λ h. ⊎_elim
       (λ old. inl (covered_old rs last f i old))
@@ -236,9 +236,9 @@ covered_joined rs last both r same f i = (
       (covered_app rs both f i h),
   λ h. ⊎_elim
       (λ old. ⊎_elim
-          (λ o. covered_old rs both f i o)
-          (λ l. covered_new rs both f i ((same f i).1 (inl l)))
-          (covered_app rs last f i old))
+      (λ o. covered_old rs both f i o)
+      (λ l. covered_new rs both f i ((same f i).1 (inl l)))
+      (covered_app rs last f i old))
       (λ n. covered_new rs both f i ((same f i).1 (inr n)))
       h,
 )

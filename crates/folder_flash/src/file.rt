@@ -1,6 +1,9 @@
 //! The file of a flash.
 
-ghost use Rattle.std.specs.Prelude.{◌≡◌, ◌*◌, ◌+◌, IfOk, vec_len};
+ghost use Rattle.std.specs.Prelude.{◌≡◌, ◌*◌, ◌+◌, IfOk, OnOk, IsTrue, vec_len};
+ghost use Rattle.disk_model.specs.Image.{put_image};
+ghost use Rattle.disk_model.specs.Medium.{Quiet};
+ghost use Rattle.folder_disk.specs.FolderView.{disk_seen};
 
 use disk_model::{Disk, DiskFailed};
 use flash_model::FlashFailed;
@@ -26,6 +29,8 @@ const FILE: u32 = 0;
 pub(crate) struct FlashFile<S: System> {
     disk: FolderDisk<S>,
     alloc: Global,
+    /// How many bytes it has, where the disk was asked for it and no write failed since: only this flash writes it.
+    size: Option<u64>,
     /// Whether the last call failed for want of memory.
     is_starved: bool,
 }
@@ -35,6 +40,7 @@ impl<S: System> FlashFile<S> {
         FlashFile {
             disk,
             alloc,
+            size: None,
             is_starved: false,
         }
     }
@@ -44,15 +50,7 @@ impl<S: System> FlashFile<S> {
         if self.is_starved {
             return Some(no_memory());
         }
-        let failure = self.disk.failure()?;
-        match failure.part {
-            Part::File(_) => Some(Failure {
-                asked: failure.asked,
-                part: Part::Flash,
-                error: failure.error,
-            }),
-            _ => Some(failure),
-        }
+        self.disk.failure().map(of_flash)
     }
 
     /// Whether the file was seen in the folder, or made.
@@ -62,24 +60,37 @@ impl<S: System> FlashFile<S> {
 
     /// How many bytes it has.
     pub(crate) fn size(&mut self) -> Result<u64, FlashFailed> {
-        self.disk.size(FILE).map_err(failed)
+        if let Some(size) = self.size {
+            return Ok(size);
+        }
+        let size = self.disk.size(FILE).map_err(failed)?;
+        self.size = Some(size);
+        Ok(size)
     }
 
     /// The bytes from a place on; those that the file lacks are blank.
     pub(crate) fn read(&mut self, at: u64, out: &mut [u8; 512]) -> Result<(), FlashFailed> {
+        if self.size()? <= at {
+            *out = [BLANK; 512];
+            return Ok(());
+        }
         let count = self.disk.read(FILE, at, out).map_err(failed)?;
         out[count..].fill(BLANK);
         Ok(())
     }
 
     /// Writes bytes from a place on, durably.
-    pub(crate) fn write(&mut self, at: u64, bytes: &[u8]) -> Result<(), FlashFailed> {
+    pub(crate) fn write(&mut self, at: u64, bytes: &[u8]) -> Result<(), FlashFailed>
+        ensures durable { OnOk result (Quiet (disk_seen S.medium self.new.disk)) }
+    {
         self.fill_up_to(at)?;
         self.put(at, bytes)
     }
 
     /// Writes a blank block from a place on, durably.
-    pub(crate) fn write_blank(&mut self, at: u64) -> Result<(), FlashFailed> {
+    pub(crate) fn write_blank(&mut self, at: u64) -> Result<(), FlashFailed>
+        ensures durable { OnOk result (Quiet (disk_seen S.medium self.new.disk)) }
+    {
         let blank = self.blank_block()?;
         self.write(at, blank.as_slice())
     }
@@ -100,9 +111,17 @@ impl<S: System> FlashFile<S> {
     }
 
     /// A write and a sync.
-    fn put(&mut self, at: u64, bytes: &[u8]) -> Result<(), FlashFailed> {
+    fn put(&mut self, at: u64, bytes: &[u8]) -> Result<(), FlashFailed>
+        ensures image { IsTrue S.told → OnOk result ((S.medium self.new.disk.system).disk.image
+            ≡ put_image (S.medium self.old.disk.system).disk.image 0 at bytes.now) }
+        ensures durable { OnOk result (Quiet (disk_seen S.medium self.new.disk)) }
+    {
+        let known = self.size.take();
         self.disk.write_at(FILE, at, bytes).map_err(failed)?;
-        self.disk.sync().map_err(failed)
+        self.disk.sync().map_err(failed)?;
+        let end = at.saturating_add(bytes.len() as u64);
+        self.size = known.map(|size| size.max(end));
+        Ok(())
     }
 
     /// A block without a byte that was written.
@@ -112,6 +131,19 @@ impl<S: System> FlashFile<S> {
         let made = Vec::from_elem(self.alloc, BLANK, BLOCK_BYTES);
         self.is_starved = made.is_err();
         made.map_err(|_| FlashFailed)
+    }
+}
+
+/// A failure of a file of a folder that holds a flash, as one of the flash.
+pub fn of_flash(failure: Failure) -> Failure {
+    let part = match failure.part {
+        Part::Folder => Part::Folder,
+        Part::File(_) | Part::Flash => Part::Flash,
+    };
+    Failure {
+        asked: failure.asked,
+        part,
+        error: failure.error,
     }
 }
 

@@ -7,4 +7,5 @@
 mod file;
 mod flash;
 
+pub use file::of_flash;
 pub use flash::FolderFlash;

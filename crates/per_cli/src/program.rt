@@ -4,7 +4,7 @@ use crate::causes::{Ended, Fault, say};
 use crate::telling::Telling;
 use crate::{NO_DISK, NO_MEMORY, WRONG_SIZE};
 use folder_disk::FolderDisk;
-use folder_flash::FolderFlash;
+use folder_flash::{FolderFlash, of_flash};
 use migrate_fns::Migrations;
 use number_converters::{WithConverters, with_converters};
 use per_base::{Sink, Source};
@@ -130,7 +130,14 @@ fn run_noting<'a, R: Files<File = File> + Eprint, I: Read + Drop, O: Write + Dro
     };
     let outcome = match HostSystem::hold(rt, alloc, dir, content, target.access) {
         Ok(system) => run_over(
-            alloc, words, migrations, &mut source, &mut sink, target.flash, system, notes,
+            alloc,
+            words,
+            migrations,
+            &mut source,
+            &mut sink,
+            target.flash,
+            system,
+            notes,
         ),
         Err(failure) => not_held(notes, Some(failure)),
     };
@@ -161,6 +168,7 @@ fn run_over<'a, R: Files<File = File>, S: Source, K: Sink>(
 ) -> Outcome {
     let disk = match FolderDisk::open(alloc, system) {
         Ok(disk) => disk,
+        Err(refused) if flash.is_some() => return not_held(notes, refused.failure.map(of_flash)),
         Err(refused) => return not_held(notes, refused.failure),
     };
     match flash {
@@ -216,7 +224,11 @@ fn run_over_flash<'a, Y: System + Drop, S: Source, K: Sink>(
 }
 
 /// What came of a run over a flash.
-fn outcome_of<Y: System + Drop>(status: u8, fault: Option<Fault>, flash: &FolderFlash<Y>) -> Outcome {
+fn outcome_of<Y: System + Drop>(
+    status: u8,
+    fault: Option<Fault>,
+    flash: &FolderFlash<Y>,
+) -> Outcome {
     Outcome {
         status,
         has_files: flash.has_file(),

@@ -1,6 +1,5 @@
 //! A folder that is held: open and locked, until its owner goes.
 
-use crate::host::HostSystem;
 use std::alloc::{AllocError, Global};
 use std::fs::{File, TryLockError};
 use std::io;
@@ -35,12 +34,30 @@ impl Content {
     }
 
     /// Where a file of this number lies.
-    pub(crate) fn path_of(self, alloc: Global, dir: &str, number: u32) -> Result<String, AllocError> {
+    pub(crate) fn path_of(
+        self,
+        alloc: Global,
+        dir: &str,
+        number: u32,
+    ) -> Result<String, AllocError> {
         match self {
             Content::Disk => format!(in alloc; "{dir}/f{number}"),
             Content::Flash => format!(in alloc; "{dir}/flash"),
         }
     }
+}
+
+/// The files of a folder, or none where it is not there. It tells nothing of their bytes: what [`System`] says of them
+/// is what is believed of the operating system.
+#[derive(Drop)]
+pub struct HostSystem<'a, R: Files<File = File>> {
+    pub(crate) rt: &'a R,
+    pub(crate) alloc: Global,
+    pub(crate) dir: String,
+    pub(crate) content: Content,
+    pub(crate) access: Access,
+    /// The folder itself, which is locked.
+    pub(crate) folder: Option<File>,
 }
 
 impl<'a, R: Files<File = File>> HostSystem<'a, R> {
@@ -60,7 +77,14 @@ impl<'a, R: Files<File = File>> HostSystem<'a, R> {
         if let Some(folder) = &folder {
             lock(folder, access)?;
         }
-        Ok(HostSystem { rt, alloc, dir, content, access, folder })
+        Ok(HostSystem {
+            rt,
+            alloc,
+            dir,
+            content,
+            access,
+            folder,
+        })
     }
 }
 
@@ -80,5 +104,9 @@ fn lock(folder: &File, access: Access) -> Result<(), Failure> {
 }
 
 fn of_folder(asked: Asked, error: io::Error) -> Failure {
-    Failure { asked, part: Part::Folder, error }
+    Failure {
+        asked,
+        part: Part::Folder,
+        error,
+    }
 }

@@ -1,27 +1,14 @@
 //! The files of a folder, as the operating system has them: a call of the trait is a call of std.
 
-ghost use Rattle.std.specs.Prelude.{◌≡◌, ◌<◌, IfOk};
+ghost use Rattle.std.specs.Prelude.{◌≡◌, IfOk};
 
-use crate::held::{Access, Content};
+use crate::held::{Access, HostSystem};
 use std::alloc::Global;
 use std::fs::{self, File, OpenOptions};
 use std::io;
 use std::os::unix::fs::FileExt;
 use std::rt::Files;
 use system_model::{Reading, System};
-
-/// The files of a folder, or none where it is not there. It tells nothing of their bytes: what [`System`] says of them
-/// is what is believed of the operating system.
-#[derive(Drop)]
-pub struct HostSystem<'a, R: Files<File = File>> {
-    pub(crate) rt: &'a R,
-    pub(crate) alloc: Global,
-    pub(crate) dir: String,
-    pub(crate) content: Content,
-    pub(crate) access: Access,
-    /// The folder itself, which is locked.
-    pub(crate) folder: Option<File>,
-}
 
 /// A file of a folder, which is open.
 #[derive(Drop)]
@@ -75,17 +62,20 @@ impl<'a, R: Files<File = File>> System for HostSystem<'a, R> {
     }
 
     fn make(&mut self, file: u32) -> io::Result<HostFile> {
-        self.opened(file, OpenOptions::new().read(true).write(true).create_new(true))
+        self.opened(
+            file,
+            OpenOptions::new().read(true).write(true).create_new(true),
+        )
     }
 
-    fn close(&mut self, file: HostFile) {
-        drop(file);
-    }
+    fn close(&mut self, _file: HostFile) {}
 
     fn read(&mut self, file: &HostFile, at: u64, out: &mut [u8]) -> io::Result<Reading> {
         match file.file.read_at(out, at) {
             Ok(count) => Ok(Reading::Bytes(count)),
-            Err(error) if is_unreadable(error) => Ok(Reading::Unreadable(up_to_next_page(at))),
+            Err(error) if is_unreadable(error) => Ok(Reading::Unreadable(
+                (PAGE_BYTES - at % PAGE_BYTES) as usize,
+            )),
             Err(error) => Err(error),
         }
     }
@@ -131,47 +121,36 @@ impl<'a, R: Files<File = File>> HostSystem<'a, R> {
 /// Whether the system lacks descriptors or memory, or was interrupted: a file that cannot be opened for another reason
 /// counts as one that is not there.
 fn is_want(error: io::Error) -> bool {
-    matches!(
-        error.raw_os_error(),
-        Some(EINTR | ENOMEM | ENFILE | EMFILE)
-    ) || error.kind() == io::ErrorKind::OutOfMemory
+    match error.kind() {
+        io::ErrorKind::Interrupted | io::ErrorKind::OutOfMemory => true,
+        _ => matches!(error.raw_os_error(), Some(ENFILE | EMFILE)),
+    }
 }
 
 /// Whether the place cannot be read, though the device answers, or the file is none that has bytes.
 fn is_unreadable(error: io::Error) -> bool {
-    matches!(error.raw_os_error(), Some(EIO | EISDIR | ESPIPE))
+    match error.kind() {
+        io::ErrorKind::IsADirectory | io::ErrorKind::NotSeekable => true,
+        _ => error.raw_os_error() == Some(EIO),
+    }
 }
 
 /// What is no file holds nothing that is pending, and cannot be synced; nor can, on some systems, a folder in which
 /// nothing may be written.
 fn passed_by(error: io::Error) -> io::Result<()> {
-    match error.raw_os_error() {
-        Some(EINVAL) => Ok(()),
+    match error.kind() {
+        io::ErrorKind::InvalidInput => Ok(()),
         _ => Err(error),
     }
 }
 
-/// How many bytes there are up to the next page of the system's memory, which are read as one.
-fn up_to_next_page(at: u64) -> usize
-    ensures { 0 < result }
-{
-    (PAGE_BYTES - at % PAGE_BYTES) as usize
-}
-
+/// How many bytes the system reads as one, and cannot read as one.
 const PAGE_BYTES: u64 = 4096;
 
-const EINTR: i32 = 4;
-
+/// The number of the error where a device cannot give a place.
 const EIO: i32 = 5;
 
-const ENOMEM: i32 = 12;
-
-const EISDIR: i32 = 21;
-
-const EINVAL: i32 = 22;
-
+/// The numbers of the errors where the system, or the process, has no descriptor left.
 const ENFILE: i32 = 23;
 
 const EMFILE: i32 = 24;
-
-const ESPIPE: i32 = 29;

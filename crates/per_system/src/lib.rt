@@ -12,8 +12,8 @@ mod notes;
 mod standard;
 mod streams;
 
-pub use held::{Access, Content};
-pub use host::{HostFile, HostSystem};
+pub use held::{Access, Content, HostSystem};
+pub use host::HostFile;
 pub use notes::{Explains, Noted, NotedFlash, Notes};
 pub use standard::{StdSink, StdSource};
 pub use streams::{Streams, fill_streams};

@@ -1,7 +1,7 @@
 use Rattle.std.proofs.Common.{◌≡◌, ◌⊎◌, ◌↔◌, ◌∙◌, ap, subst, sym, [], ◌∷◌, ◌++◌, option_to_list}
 use Rattle.system_model.specs.SystemMedium.{InRange}
 use Rattle.folder_disk.specs.Knows.{Covered}
-use Rattle.folder_disk.proofs.Noting.{covered_joined, covered_pushed}
+use Rattle.folder_disk.proofs.Noting.{covered_joined, covered_old, covered_pushed}
 use Rattle.folder_disk.proofs.notes.note.Goals as goal
 
 pub returns-in-Some-joined-clause-noted : goal.returns-in-Some-joined-clause-noted
@@ -30,3 +30,17 @@ returns-then-add-clause-noted c = λ ok f i.
     (sym mid)
     (subst (λ ys. Covered ((rs ++ last ∷ []) ++ r ∷ []) f i ↔ (Covered ys f i ⊎ ((f ≡ r.file) × InRange r.at r.len i)))
     (sym was) (covered_pushed (rs ++ last ∷ []) r f i)))
+
+pub returns-in-Some-joined-clause-failed : goal.returns-in-Some-joined-clause-failed
+returns-in-Some-joined-clause-failed c = λ no f i h.
+    let rs = c.pop.new.self.items in
+    let was = c.pop.ensures.items ∙ ap (λ o. rs ++ option_to_list o) c.in-Some.is in
+    subst (λ xs. Covered xs f i) (sym was) (covered_old rs c.in-Some.last f i
+    (subst (λ xs. Covered xs f i) (c.add-in-Some-joined.ensures.failed no) h))
+
+pub returns-else-add-clause-failed : goal.returns-else-add-clause-failed
+returns-else-add-clause-failed c = λ no f i h.
+    let rs = c.pop.new.self.items in
+    let was = c.pop.ensures.items ∙ ap (λ o. rs ++ option_to_list o) c.in-Some.is in
+    subst (λ xs. Covered xs f i) (sym was) (covered_old rs c.in-Some.last f i
+    (subst (λ xs. Covered xs f i) (c.add-in-None.ensures.failed no) h))
