@@ -25,8 +25,15 @@ pub enum Content {
 }
 
 impl Content {
-    /// The number of the file of this name.
-    pub(crate) fn number_of(self, name: &str) -> Option<u32> {
+    /// Lists the number of the file of this name, if it has one.
+    pub(crate) fn list(self, name: &str, numbers: &mut Vec<u32>) -> Result<(), AllocError> {
+        match self.number_of(name) {
+            Some(number) => numbers.push(number),
+            None => Ok(()),
+        }
+    }
+
+    fn number_of(self, name: &str) -> Option<u32> {
         match self {
             Content::Disk => name.strip_prefix("f")?.parse().ok(),
             Content::Flash => (name == "flash").then_some(0),

@@ -39,11 +39,7 @@ impl<'a, R: Files<File = File>> System for HostSystem<'a, R> {
         }
         for entry in fs::read_dir(&(self.rt, alloc), self.dir.as_str())? {
             match entry {
-                Ok(entry) => {
-                    if let Some(number) = self.content.number_of(entry.file_name()) {
-                        numbers.push(number)?;
-                    }
-                }
+                Ok(entry) => self.content.list(entry.file_name(), &mut numbers)?,
                 Err(error) if error.kind() == io::ErrorKind::InvalidFilename => {}
                 Err(error) => return Err(error),
             }
@@ -52,9 +48,8 @@ impl<'a, R: Files<File = File>> System for HostSystem<'a, R> {
     }
 
     fn open(&mut self, file: u32) -> io::Result<Option<HostFile>> {
-        let mut options = OpenOptions::new();
-        options.read(true).write(self.access == Access::Write);
-        match self.opened(file, &options) {
+        let can_write = self.access == Access::Write;
+        match self.opened(file, OpenOptions::new().read(true).write(can_write)) {
             Ok(file) => Ok(Some(file)),
             Err(error) if is_want(error) => Err(error),
             Err(_) => Ok(None),
@@ -62,10 +57,15 @@ impl<'a, R: Files<File = File>> System for HostSystem<'a, R> {
     }
 
     fn make(&mut self, file: u32) -> io::Result<HostFile> {
-        self.opened(
-            file,
-            OpenOptions::new().read(true).write(true).create_new(true),
-        )
+        let mut options = OpenOptions::new();
+        options.read(true).write(true).create_new(true);
+        match self.opened(file, &options) {
+            Err(error) if error.kind() == io::ErrorKind::AlreadyExists => {
+                self.set_aside(file)?;
+                self.opened(file, &options)
+            }
+            done => done,
+        }
     }
 
     fn close(&mut self, _file: HostFile) {}
@@ -73,10 +73,8 @@ impl<'a, R: Files<File = File>> System for HostSystem<'a, R> {
     fn read(&mut self, file: &HostFile, at: u64, out: &mut [u8]) -> io::Result<Reading> {
         match file.file.read_at(out, at) {
             Ok(count) => Ok(Reading::Bytes(count)),
-            Err(error) if is_unreadable(error) => Ok(Reading::Unreadable(
-                (PAGE_BYTES - at % PAGE_BYTES) as usize,
-            )),
-            Err(error) => Err(error),
+            Err(error) if is_want(error) => Err(error),
+            Err(_) => Ok(Reading::Unreadable((PAGE_BYTES - at % PAGE_BYTES) as usize)),
         }
     }
 
@@ -116,22 +114,21 @@ impl<'a, R: Files<File = File>> HostSystem<'a, R> {
         let file = options.open(self.rt, path.as_str())?;
         Ok(HostFile { number, file })
     }
+
+    /// Gives what stands in the place of a file, and cannot be opened, another name.
+    fn set_aside(&self, number: u32) -> io::Result<()> {
+        let path = self.content.path_of(self.alloc, self.dir.as_str(), number)?;
+        let aside = format!(in self.alloc; "{path}.unreadable")?;
+        self.rt.rename(path.as_str(), aside.as_str())
+    }
 }
 
-/// Whether the system lacks descriptors or memory, or was interrupted: a file that cannot be opened for another reason
-/// counts as one that is not there.
+/// Whether the system lacks descriptors or memory, or was interrupted. A file that cannot be opened for another reason
+/// counts as one that is not there, and a place that cannot be read for another one as one of zeros.
 fn is_want(error: io::Error) -> bool {
     match error.kind() {
         io::ErrorKind::Interrupted | io::ErrorKind::OutOfMemory => true,
         _ => matches!(error.raw_os_error(), Some(ENFILE | EMFILE)),
-    }
-}
-
-/// Whether the place cannot be read, though the device answers, or the file is none that has bytes.
-fn is_unreadable(error: io::Error) -> bool {
-    match error.kind() {
-        io::ErrorKind::IsADirectory | io::ErrorKind::NotSeekable => true,
-        _ => error.raw_os_error() == Some(EIO),
     }
 }
 
@@ -146,9 +143,6 @@ fn passed_by(error: io::Error) -> io::Result<()> {
 
 /// How many bytes the system reads as one, and cannot read as one.
 const PAGE_BYTES: u64 = 4096;
-
-/// The number of the error where a device cannot give a place.
-const EIO: i32 = 5;
 
 /// The numbers of the errors where the system, or the process, has no descriptor left.
 const ENFILE: i32 = 23;
