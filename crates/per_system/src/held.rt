@@ -27,10 +27,10 @@ pub enum Content {
 impl Content {
     /// Lists the number of the file of this name, if it has one.
     pub(crate) fn list(self, name: &str, numbers: &mut Vec<u32>) -> Result<(), AllocError> {
-        match self.number_of(name) {
-            Some(number) => numbers.push(number),
-            None => Ok(()),
+        if let Some(number) = self.number_of(name) {
+            numbers.push(number)?;
         }
+        Ok(())
     }
 
     fn number_of(self, name: &str) -> Option<u32> {
