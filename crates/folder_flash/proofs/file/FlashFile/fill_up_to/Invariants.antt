@@ -1,4 +1,4 @@
-use Rattle.std.proofs.Common.{◌-◌, ◌≡◌, vec_len, ℕ}
+use Rattle.std.proofs.Common.{◌-◌, ◌≡◌, vec_len}
 use Rattle.folder_flash.proofs.file.FlashFile.fill_up_to.Given as goal
 
 abbrev pub invariant-loop-size : goal.invariant-loop-size
